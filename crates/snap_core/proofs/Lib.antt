@@ -1,0 +1,16 @@
+pub mod Worked
+mod WorkedCalls
+mod WorkedHistories
+mod WorkedOrders
+mod WorkedRefusals
+pub mod Lists
+pub mod Facts
+pub mod Begun
+pub mod Histories
+pub mod Pushes
+pub mod Picks
+pub mod Recalled
+pub mod Rising
+pub mod Fits
+pub mod Laws
+mod Sending

@@ -1,0 +1,10 @@
+pub mod Entries
+pub mod Events
+pub mod Calls
+pub mod Orders
+pub mod Regular
+pub mod Refusals
+pub mod Tables
+pub mod Laws
+pub mod Counting
+pub mod Sending

@@ -1,0 +1,150 @@
+ghost use Rattle.std.specs.Prelude.{◌≡◌, ◌≤◌, ◌⊎◌, [], ◌∷◌, ◌++◌, length, OnOk, OnErr, IfErr, slice_get};
+ghost use Rattle.std.specs.Option.{option_copied};
+ghost use Rattle.snap_core.specs.Events.{EventFits, IsKept, event_limit};
+ghost use Rattle.snap_core.specs.Refusals.{refusal_of};
+
+use crate::entry::fields_fit;
+use crate::event::Event;
+use crate::tables::Tables;
+use std::alloc::Global;
+use std::marker::Model;
+
+/// How many events a history may have.
+pub const EVENT_LIMIT: usize = 16384;
+
+/// Why an event is refused, in the order in which the reasons are tested.
+#[derive(Clone, Copy, PartialEq, Eq, Debug)]
+pub enum EventRefusal {
+    /// The history has as many events as it may have.
+    TooMany,
+    /// A begin, and the process has an open call.
+    Busy,
+    /// An end, and the process has no open call.
+    Idle,
+    /// An end of the other kind than the open call.
+    OtherOp,
+    /// An update of a component that another process writes.
+    Writer,
+    /// An update whose number is not the next of its component.
+    Number,
+    /// Memory ran out.
+    Memory,
+}
+
+// What the types of an event's fields keep.
+fn event_fits(event: &Event)
+    ensures { EventFits event.now }
+{
+    let _process = event.process();
+    match event {
+        Event::BeginUpdate { process: _, entry } => {
+            fields_fit(entry.component, entry.number, entry.value);
+        }
+        Event::EndView { process: _, view } => {
+            let _entries = view.entries();
+        }
+        _ => {}
+    }
+}
+
+/// A list of events in which each process begins and ends calls in turn, each component has one writer, and the updates
+/// of a component are numbered 1, 2, 3 by their begins.
+#[derive(Drop)]
+pub struct History {
+    events: Vec<Event>,
+    tables: Tables,
+}
+
+impl Model for History {
+    ghost use Rattle.std.specs.Prelude.{List};
+    ghost use Rattle.snap_core.specs.declared.event.Event.{Event};
+
+    ghost Value = { List Event };
+
+    ghost use Rattle.snap_core.specs.Tables.{IsRecalled};
+
+    ghost view = { λ h. h.events.items };
+
+    ghost invariant = { λ h. IsRecalled h.tables h.events.items };
+}
+
+impl History {
+    /// The history without events. It takes no memory.
+    pub fn new(alloc: Global) -> History
+        ensures { result ≡ [] }
+    {
+        History {
+            events: Vec::new(alloc),
+            tables: Tables::new(alloc),
+        }
+    }
+
+    /// How many events it has, at most `EVENT_LIMIT`.
+    pub fn len(&self) -> usize
+        ensures len { result ≡ length self.now }
+        ensures limit { result ≤ event_limit }
+    {
+        self.events.len()
+    }
+
+    /// The event at a place, counted from 0; none past the end.
+    pub fn event(&self, i: usize) -> Option<&Event>
+        ensures { option_copied result ≡ slice_get self.now i }
+    {
+        self.events.get(i)
+    }
+
+    /// The events in order.
+    pub fn events(&self) -> &[Event]
+        ensures events { result.now ≡ self.now }
+        ensures history { IsKept self.now }
+    {
+        &self.events
+    }
+
+    /// Appends an event, in constant time but for the growth of its tables. A refused event comes back with the first
+    /// refusal that applies, and the history is then unchanged.
+    pub fn push(&mut self, event: Event) -> Result<(), (Event, EventRefusal)>
+        ensures ok { OnOk result (self.new ≡ self.old ++ event ∷ []) }
+        ensures accepted { OnOk result (refusal_of self.old event ≡ None) }
+        ensures kept { OnErr result (self.new ≡ self.old) }
+        ensures back { IfErr result (λ e. e.0 ≡ event) }
+        ensures reason { IfErr result (λ e. (refusal_of self.old event ≡ Some e.1) ⊎ (e.1 ≡ EventRefusal.Memory)) }
+    {
+        if let Some(refusal) = self.refusal(&event) {
+            return Err((event, refusal));
+        }
+        event_fits(&event);
+        let process = event.process();
+        let begun = event.begun();
+        if self.tables.make_room(process, begun).is_err() {
+            return Err((event, EventRefusal::Memory));
+        }
+        if let Err(failed) = self.events.push(event) {
+            return Err((failed.value, EventRefusal::Memory));
+        }
+        self.tables.note(process, begun);
+        Ok(())
+    }
+
+    // The first refusal that applies, want of memory aside.
+    fn refusal(&self, event: &Event) -> Option<EventRefusal>
+        ensures { result ≡ refusal_of self.now event.now }
+    {
+        if self.events.len() >= EVENT_LIMIT {
+            Some(EventRefusal::TooMany)
+        } else if self.tables.is_busy(event) {
+            Some(EventRefusal::Busy)
+        } else if self.tables.is_idle(event) {
+            Some(EventRefusal::Idle)
+        } else if self.tables.is_other(event) {
+            Some(EventRefusal::OtherOp)
+        } else if self.tables.has_other_writer(event) {
+            Some(EventRefusal::Writer)
+        } else if self.tables.has_other_number(event) {
+            Some(EventRefusal::Number)
+        } else {
+            None
+        }
+    }
+}

@@ -1,0 +1,22 @@
+//! Events, views and histories of a single-writer board, and what it means that a history is regular or atomic.
+#![tactic(auto)]
+
+mod counted;
+mod entry;
+mod event;
+mod gate;
+mod history;
+mod law;
+mod tables;
+mod view;
+
+pub use counted::Counted;
+pub use entry::Entry;
+pub use event::Event;
+pub use gate::{Gate, OpenGate};
+pub use history::{EVENT_LIMIT, EventRefusal, History};
+pub use law::histories_grow;
+pub use view::{View, ViewRefusal};
+
+#[cfg(test)]
+mod tests;

@@ -1,0 +1,93 @@
+use super::doubles::{Cup, Drip};
+use super::*;
+use std::alloc::Global;
+
+const TEXT: &[u8] = b"twelve bytes";
+
+fn cup(alloc: Global, room: usize, at_once: usize, fails_when_full: bool) -> Cup {
+    Cup {
+        held: Vec::new(alloc),
+        room,
+        at_once,
+        fails_when_full,
+        fails_at_flush: false,
+    }
+}
+
+#[test]
+fn a_failed_read_is_counted_and_not_tried_again(rt: HostRuntime) {
+    let mut reader = Counted::new(Drip {
+        bytes: b"ab",
+        fails_at: 2,
+        reads: 0,
+    });
+    let mut buf = [0; 4];
+    assert!(rt; reader.read(&mut buf).is_ok());
+    assert_eq!(rt; reader.failures(), 0);
+    assert!(rt; reader.read(&mut buf).is_err());
+    assert_eq!(rt; reader.failures(), 1);
+    assert!(rt; reader.read(&mut buf).is_ok());
+    assert_eq!(rt; reader.failures(), 1);
+    assert_eq!(rt; reader.into_inner().reads, 3);
+}
+
+#[test]
+fn an_empty_write_counts_only_where_bytes_were_to_go_out(rt: HostRuntime) {
+    let mut writer = Counted::new(cup(rt.alloc(), 0, 4, false));
+    assert!(rt; writer.write(b"").is_ok());
+    assert_eq!(rt; writer.failures(), 0);
+    assert!(rt; writer.write(TEXT).is_ok());
+    assert_eq!(rt; writer.failures(), 1);
+}
+
+#[test]
+fn a_failed_write_and_a_failed_flush_are_counted(rt: HostRuntime) {
+    let mut full = cup(rt.alloc(), 0, 4, true);
+    full.fails_at_flush = true;
+    let mut writer = Counted::new(full);
+    assert!(rt; writer.write(TEXT).is_err());
+    assert_eq!(rt; writer.failures(), 1);
+    assert!(rt; writer.flush().is_err());
+    assert_eq!(rt; writer.failures(), 2);
+}
+
+#[test]
+fn a_text_is_sent_whole_or_as_far_as_the_writer_takes_it(rt: HostRuntime) {
+    // The room, the bytes a write, whether a full writer fails; the bytes that go out.
+    let cases = [
+        (12, 12, true, 12),
+        (12, 1, true, 12),
+        (10, 4, true, 10),
+        (10, 4, false, 10),
+        (0, 4, false, 0),
+    ];
+    for (room, at_once, fails_when_full, sent) in cases {
+        let mut writer = Counted::new(cup(rt.alloc(), room, at_once, fails_when_full));
+        assert_eq!(rt;
+            writer.send(TEXT).is_ok(),
+            sent == 12,
+            "at {room} by {at_once}"
+        );
+        assert_eq!(rt;
+            writer.failures(),
+            if sent == 12 { 0 } else { 1 },
+            "at {room} by {at_once}"
+        );
+        let cup = writer.into_inner();
+        assert_eq!(rt;
+            cup.held.as_slice(),
+            &TEXT[..sent],
+            "at {room} by {at_once}"
+        );
+    }
+}
+
+#[test]
+fn a_sent_text_is_flushed(rt: HostRuntime) {
+    let mut stuck = cup(rt.alloc(), 12, 12, true);
+    stuck.fails_at_flush = true;
+    let mut writer = Counted::new(stuck);
+    assert!(rt; writer.send(TEXT).is_err());
+    assert_eq!(rt; writer.failures(), 1);
+    assert_eq!(rt; writer.into_inner().held.as_slice(), TEXT);
+}

@@ -1,0 +1,109 @@
+ghost use Rattle.std.specs.Prelude.{◌≡◌, ◌<◌, All, IfOk, IfErr, OnOk};
+ghost use Rattle.snap_core.specs.Entries.{EntryFits, rises as spec_rises, has_zero as spec_has_zero, view_refusal, entry_of, number_in, value_in, AreEntries};
+
+use crate::entry::{Entry, fields_fit};
+use std::marker::Model;
+
+/// Why entries are no view, in the order in which the reasons are tested.
+#[derive(Clone, Copy, PartialEq, Eq, Debug)]
+pub enum ViewRefusal {
+    /// Some component is not above the one before it.
+    NotRising,
+    /// The components rise, and some number is 0.
+    ZeroNumber,
+}
+
+/// What a completed view shows: entries strictly rising by component, each number at least 1.
+#[derive(Debug, Drop)]
+pub struct View {
+    entries: Vec<Entry>,
+}
+
+impl Model for View {
+    ghost use Rattle.std.specs.Prelude.{List};
+    ghost use Rattle.snap_core.specs.declared.entry.Entry.{Entry};
+    ghost use Rattle.snap_core.specs.Entries.{AreEntries};
+
+    ghost Value = { List Entry };
+
+    ghost view = { λ v. v.entries.items };
+
+    ghost invariant = { λ v. AreEntries v.entries.items };
+}
+
+fn entries_fit(entries: &[Entry])
+    ensures { All EntryFits entries.now }
+{
+    for e in entries.iter() {
+        fields_fit(e.component, e.number, e.value);
+    }
+}
+
+fn rises(entries: &[Entry]) -> bool
+    ensures { result ≡ spec_rises entries.now }
+{
+    for i in 1..entries.len() {
+        if entries[i - 1].component >= entries[i].component {
+            return false;
+        }
+    }
+    true
+}
+
+fn has_zero(entries: &[Entry]) -> bool
+    ensures { result ≡ spec_has_zero entries.now }
+{
+    entries.iter().any(|e| e.number == 0)
+}
+
+fn find_entry(entries: &[Entry], k: u8) -> Option<Entry>
+    ensures { result ≡ entry_of k entries.now }
+{
+    entries.iter().copied().find(|e| e.component == k)
+}
+
+impl View {
+    /// The view that shows these entries, or the first refusal that applies; the entries are then dropped.
+    pub fn from_entries(entries: Vec<Entry>) -> Result<View, ViewRefusal>
+        ensures ok { IfOk result (λ view. view ≡ entries.items) }
+        ensures accepted { OnOk result (view_refusal entries.items ≡ None) }
+        ensures refused { IfErr result (λ refusal. view_refusal entries.items ≡ Some refusal) }
+    {
+        if !rises(&entries) {
+            return Err(ViewRefusal::NotRising);
+        }
+        if has_zero(&entries) {
+            return Err(ViewRefusal::ZeroNumber);
+        }
+        entries_fit(&entries);
+        Ok(View { entries })
+    }
+
+    /// The number shown for a component, 0 where it is not listed.
+    pub fn number(&self, k: u8) -> u32
+        ensures { result ≡ number_in (entry_of k self.now) }
+    {
+        match find_entry(&self.entries, k) {
+            Some(e) => e.number,
+            None => 0,
+        }
+    }
+
+    /// The value shown for a component, 0 where it is not listed.
+    pub fn value(&self, k: u8) -> u32
+        ensures { result ≡ value_in (entry_of k self.now) }
+    {
+        match find_entry(&self.entries, k) {
+            Some(e) => e.value,
+            None => 0,
+        }
+    }
+
+    /// The entries, rising by component.
+    pub fn entries(&self) -> &[Entry]
+        ensures entries { result.now ≡ self.now }
+        ensures view { AreEntries self.now }
+    {
+        &self.entries
+    }
+}
