@@ -1,0 +1,13 @@
+pub mod RowFacts
+pub mod NumberFacts
+pub mod FieldFacts
+pub mod PartFacts
+pub mod ReadFacts
+pub mod ByteFacts
+pub mod BackFacts
+pub mod SpellingFacts
+pub mod LineFacts
+pub mod TextFacts
+pub mod Exclusive
+pub mod LengthFacts
+pub mod GrammarFacts

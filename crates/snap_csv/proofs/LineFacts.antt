@@ -1,0 +1,108 @@
+-- The line of a record is what a csv writer writes: no field wants quotes.
+use Rattle.std.proofs.Common.{◌≡◌, ◌<◌, ◌^◌, ◌==◌, ◌++◌, inl, inr, ℕ, false, List, [], ◌∷◌, map, get_or, length, take, append-nil, append_assoc, refl, arith, ◌∙◌, sym, ap, add-one}
+use Rattle.std.specs.Prelude.{codes, decimal, ◌+◌}
+use Rattle.std.specs.Global.{Vec}
+use Rattle.std.specs.List.{All, flat_map, list_any}
+use Rattle.std.proofs.lemmas.Bool.Decides.{nat_tests}
+use Rattle.std.proofs.lemmas.List.{length-map, map-append}
+use Rattle.std.proofs.lemmas.List.Concat.{flat_map-append}
+use Rattle.std.proofs.lemmas.List.Elements.{All-weaker}
+use Rattle.std.proofs.lemmas.List.Folds.{list_any_none}
+use Rattle.std.proofs.Math.Seq.{take-suc}
+use Rattle.csv.specs.Writing.{default_writer, field_text, fields_text, is_blank, needs_byte, row_text}
+use Rattle.snap_core.specs.declared.event.Event.{Event}
+use Rattle.snap_core.specs.declared.event.Event.TheVariants.{BeginUpdate, BeginView, EndUpdate, EndView}
+use Rattle.snap_core.specs.Events.{EventFits}
+use Rattle.snap_csv.specs.Fields.{header}
+use Rattle.snap_csv.specs.Spelling.{entries_text, entry_text, history_text, record_text, spelled}
+use Rattle.snap_csv.proofs.ByteFacts.{IsDataByte, IsDigit, data_bytes, data_entry, digits}
+use Rattle.snap_csv.proofs.BackFacts.{fit_each}
+
+Plain : List ℕ → Type 0
+Plain bs = list_any (needs_byte default_writer) bs ≡ false
+
+plain_byte : (b : ℕ) → IsDataByte b → needs_byte default_writer b ≡ false
+plain_byte b (inl e) = rw e refl
+plain_byte b (inr d) =
+    let low = d.0 in
+    let comma : (b == 44) ≡ false = grind (arith, nat_tests) in
+    let quote : (b == 34) ≡ false = grind (arith, nat_tests) in
+    let return : (b == 13) ≡ false = grind (arith, nat_tests) in
+    let feed : (b == 10) ≡ false = grind (arith, nat_tests) in
+    rw (comma, quote, return, feed) refl
+
+plain_data : (bs : List ℕ) → All IsDataByte bs → Plain bs
+unfolding Plain
+plain_data bs h = list_any_none (needs_byte default_writer) bs (All-weaker IsDataByte (λ b. needs_byte default_writer b ≡ false) plain_byte bs h)
+
+plain_number : (n : ℕ) → n < 2 ^ 64 → Plain (decimal n)
+plain_number n lt = plain_data (decimal n) (All-weaker IsDigit IsDataByte (λ b d. inr (d.0, omega (arith, d.1))) (decimal n) (digits n lt))
+
+bare : (bs : List ℕ) → Plain bs → field_text default_writer bs ≡ bs
+unfolding Plain
+bare bs h = rw h refl
+
+four_bare : (a b c d : List ℕ) → Plain a → Plain b → Plain c → Plain d → row_text default_writer (a ∷ b ∷ c ∷ d ∷ []) ≡ record_text (a ∷ b ∷ c ∷ d ∷ [])
+unfolding fields_text is_blank record_text
+four_bare a b c d pa pb pc pd = rw (bare a pa, bare b pb, bare c pc, bare d pd, append-nil d) refl
+
+plain_begin : Plain (codes "begin")
+unfolding Plain
+plain_begin = refl
+
+plain_end : Plain (codes "end")
+unfolding Plain
+plain_end = refl
+
+plain_update : Plain (codes "update")
+unfolding Plain
+plain_update = refl
+
+plain_view : Plain (codes "view")
+unfolding Plain
+plain_view = refl
+
+plain_empty : Plain []
+unfolding Plain
+plain_empty = refl
+
+pub line_of : (x : Event) → EventFits x → row_text default_writer (spelled x) ≡ record_text (spelled x)
+line_of (BeginUpdate p e) f =
+    four_bare (codes "begin") (decimal p) (codes "update") (entry_text e) plain_begin (plain_number p (omega (arith, f.0))) plain_update (plain_data (entry_text e) (data_entry e f.1))
+line_of (BeginView p) f = four_bare (codes "begin") (decimal p) (codes "view") [] plain_begin (plain_number p (omega (arith, f))) plain_view plain_empty
+line_of (EndUpdate p) f = four_bare (codes "end") (decimal p) (codes "update") [] plain_end (plain_number p (omega (arith, f))) plain_update plain_empty
+line_of (EndView p es) f =
+    four_bare (codes "end") (decimal p) (codes "view") (entries_text es) plain_end (plain_number p (omega (arith, f.0))) plain_view (plain_data (entries_text es) (data_bytes es (fit_each es f.1.fit)))
+
+pub header_line : row_text default_writer header ≡ history_text []
+unfolding fields_text is_blank record_text history_text
+header_line = refl
+
+pub history_more : (xs : List Event) (i : ℕ) (d : Event) → i < length xs → history_text (take (i + 1) xs) ≡ history_text (take i xs) ++ record_text (spelled (get_or xs i d))
+unfolding history_text
+history_more xs i d lt =
+    rw (add-one, take-suc xs i d lt, map-append spelled (take i xs) (get_or xs i d ∷ []), flat_map-append record_text (map spelled (take i xs)) (spelled (get_or xs i d) ∷ []), append-nil (record_text (spelled (get_or xs i d))))
+    (sym (append_assoc (record_text header) (flat_map record_text (map spelled (take i xs))) (record_text (spelled (get_or xs i d)))))
+
+-- ---- four fields out of an array
+
+four_long : (x : Event) → length (spelled x) ≡ 4
+four_long (BeginUpdate p e) = refl
+four_long (BeginView p) = refl
+four_long (EndUpdate p) = refl
+four_long (EndView p es) = refl
+
+four_in : (fs : List (Vec ℕ)) (v w y z : List ℕ) (a b c d : Vec ℕ) → length fs ≡ 4 → v ≡ (get_or fs 0 a).items → w ≡ (get_or fs 1 b).items → y ≡ (get_or fs 2 c).items → z ≡ (get_or fs 3 d).items
+    → v ∷ w ∷ y ∷ z ∷ [] ≡ map (λ f. f.items) fs
+four_in [] v w y z a b c d len ev ew ey ez = absurd (omega arith)
+four_in (f ∷ []) v w y z a b c d len ev ew ey ez = absurd (omega arith)
+four_in (f ∷ g ∷ []) v w y z a b c d len ev ew ey ez = absurd (omega arith)
+four_in (f ∷ g ∷ h ∷ []) v w y z a b c d len ev ew ey ez = absurd (omega arith)
+four_in (f ∷ g ∷ h ∷ i ∷ []) v w y z a b c d len ev ew ey ez = rw (ev, ew, ey, ez) refl
+four_in (f ∷ g ∷ h ∷ i ∷ j ∷ more) v w y z a b c d len ev ew ey ez = absurd (omega arith)
+
+pub four_items : (fs : List (Vec ℕ)) (x : Event) (v w y z : List ℕ) (a b c d : Vec ℕ) → map (λ f. f.items) fs ≡ spelled x
+    → v ≡ (get_or fs 0 a).items → w ≡ (get_or fs 1 b).items → y ≡ (get_or fs 2 c).items → z ≡ (get_or fs 3 d).items → v ∷ w ∷ y ∷ z ∷ [] ≡ spelled x
+four_items fs x v w y z a b c d is ev ew ey ez =
+    let len : length fs ≡ 4 = sym (length-map fs (λ f. f.items)) ∙ ap length is ∙ four_long x in
+    four_in fs v w y z a b c d len ev ew ey ez ∙ is

@@ -1,0 +1,139 @@
+-- Reading the records under the header in turn.
+use Rattle.std.proofs.Common.{Bor, ◌≡◌, ◌<◌, ◌≤◌, ◌+◌, ◌++◌, inl, inr, ℕ, suc, true, false, List, [], ◌∷◌, length, get_or, take, drop, Some, None, Result, Ok, Err, refl, arith, ◌∙◌, sym, ap, add-one}
+use Rattle.std.specs.Prelude.{◌==◌, ◌≢◌, nat_le}
+use borrow.Author.Count.{below_more}
+use Rattle.std.proofs.lemmas.Bool.{cases_lt, le-leb}
+use Rattle.std.proofs.lemmas.Bool.Decides.{nat_tests}
+use Rattle.std.proofs.lemmas.List.{drop_all, length-append, length-drop, take_all}
+use Rattle.std.proofs.lemmas.List.Elements.{filter_map-append}
+use Rattle.std.proofs.Math.Seq.{drop-cons, take-suc}
+use Rattle.csv.specs.declared.reader.Reader.{Reader}
+use Rattle.snap_core.specs.declared.event.Event.{Event}
+use Rattle.snap_csv.specs.declared.refusal.TextFault.TheVariants as faults
+use Rattle.snap_csv.specs.declared.refusal.ReadRefusal.{ReadRefusal}
+use Rattle.snap_csv.specs.declared.refusal.ReadRefusal.TheVariants as refusals
+use Rattle.snap_csv.specs.Rows.{Fields, Stands}
+use Rattle.snap_csv.specs.Fields.{event_of, is_header_row}
+use Rattle.snap_csv.specs.Faults.{event_in, events_in, fault_with, fault_at, row_event, row_fault}
+use Rattle.snap_csv.specs.Texts.{RowsFault, RowsRead}
+use Rattle.snap_csv.specs.Answers.{FailsEvent, RefusesRow, RefusesRows, TakesEvent, TakesRow}
+
+-- the reader stands before the record at place i under the header, and the history is that of those before it
+pub record Midway (rows : List Fields) (r : Reader (Bor (List ℕ))) (events : List Event) (i : ℕ) : Type 0 where
+  pub head : Fields
+  pub later : List Fields
+  pub whole : rows ≡ head ∷ later
+  pub header : is_header_row head ≡ true
+  pub stands : Stands r (drop i later)
+  pub within : i ≤ length later
+  pub fine : (j : ℕ) → j < i → fault_at later j ≡ None
+  pub history : events ≡ events_in (take i later)
+  pub count : length events ≡ i
+
+-- ---- one record
+
+pub row_short : (old : List Event) (r : Fields) → length r ≢ 4 → row_fault old r ≡ Some faults.Fields
+unfolding row_fault
+row_short old r h = let test : (length r == 4) ≡ false = grind (arith, nat_tests) in rw test refl
+
+four_long : (r : Fields) (a p o d : List ℕ) → r ≡ a ∷ p ∷ o ∷ d ∷ [] → (length r == 4) ≡ true
+four_long r a p o d e = rw e refl
+
+pub row_full : (old : List Event) (r : Fields) (a p o d : List ℕ) → r ≡ a ∷ p ∷ o ∷ d ∷ [] → 16384 ≤ length old → row_fault old r ≡ Some faults.TooMany
+unfolding row_fault
+row_full old r a p o d e h =
+    let test : nat_le 16384 (length old) ≡ true = le-leb _ _ h in
+    rw (four_long r a p o d e, test) refl
+
+pub row_fits : (old : List Event) (r : Fields) (a p o d : List ℕ) → r ≡ a ∷ p ∷ o ∷ d ∷ [] → length old < 16384 → row_fault old r ≡ fault_with old (event_of a p o d)
+unfolding row_fault row_event
+row_fits old r a p o d e h =
+    let test : nat_le 16384 (length old) ≡ false = grind (arith, nat_tests) in
+    rw (four_long r a p o d e, test, e) refl
+
+event_is : (r : Fields) (a p o d : List ℕ) → r ≡ a ∷ p ∷ o ∷ d ∷ [] → row_event r ≡ event_of a p o d
+unfolding row_event
+event_is r a p o d e = rw e refl
+
+pub row_fails : (place : ℕ) (old : List Event) (r : Fields) (a p o d : List ℕ) (e : ReadRefusal) → r ≡ a ∷ p ∷ o ∷ d ∷ [] → length old < 16384
+    → FailsEvent place e (event_of a p o d) → RefusesRow place old r e
+row_fails place old r a p o d (refusals.Text q f) e h g = (g.0, row_fits old r a p o d e h ∙ rw g.1 refl)
+row_fails place old r a p o d refusals.Device e h g = g
+row_fails place old r a p o d refusals.Memory e h g = tt
+
+pub row_pushed : (place : ℕ) (old new : List Event) (r : Fields) (a p o d : List ℕ) (x : Event) (res : Result (Unit {0}) ReadRefusal) → r ≡ a ∷ p ∷ o ∷ d ∷ [] → length old < 16384
+    → event_of a p o d ≡ Ok x → TakesEvent place old new x res → TakesRow place old new r res
+row_pushed place old new r a p o d x (Ok u) e h is t = (row_fits old r a p o d e h ∙ rw is t.0, x, event_is r a p o d e ∙ is, t.1)
+row_pushed place old new r a p o d x (Err (refusals.Text q f)) e h is t = (t.0, row_fits old r a p o d e h ∙ rw is t.1)
+row_pushed place old new r a p o d x (Err refusals.Device) e h is t = t
+row_pushed place old new r a p o d x (Err refusals.Memory) e h is t = tt
+
+-- ---- one record after the other
+
+at_drop : (xs : List Fields) (i : ℕ) (r : Fields) (rest : List Fields) → drop i xs ≡ r ∷ rest → (i < length xs) × (get_or xs i [] ≡ r) × (drop (i + 1) xs ≡ rest)
+at_drop xs i r rest e = elim (cases_lt i (length xs)) [
+  | inl lt ↦
+      let here = drop-cons xs i [] lt in
+      let both : get_or xs i [] ∷ drop (suc i) xs ≡ r ∷ rest = sym here ∙ e in
+      let next : drop (i + 1) xs ≡ rest = rw add-one (cc) in
+      (lt, cc, next)
+  | inr le ↦ let none = drop_all i xs le in absurd (cc)
+]
+
+pub begun : (rows : List Fields) (r : Reader (Bor (List ℕ))) (head : Fields) (events : List Event) → (rest : List Fields) × (rows ≡ head ∷ rest) × Stands r rest → is_header_row head ≡ true → events ≡ [] → Midway rows r events 0
+begun rows r head events (rest, e, s) h none = record {
+  head = head;
+  later = rest;
+  whole = e;
+  header = h;
+  stands = s;
+  within = omega arith;
+  fine = λ j lt. absurd (omega arith);
+  history = none;
+  count = rw none refl;
+}
+
+pub done : (rows : List Fields) (r : Reader (Bor (List ℕ))) (events : List Event) (i : ℕ) (m : Midway rows r events i) → drop i m.later ≡ [] → RowsRead rows events
+done rows r events i m e =
+    let len : length m.later ≤ i = omega (arith, length-drop i m.later, ap length e) in
+    let all : take i m.later ≡ m.later = take_all i m.later len in
+    rw m.whole (m.header, λ j lt. m.fine j (omega (arith, m.within)), rw all at m.history)
+
+fault_here : (rows : List Fields) (r : Reader (Bor (List ℕ))) (events : List Event) (i : ℕ) (m : Midway rows r events i) (row : Fields) → get_or m.later i [] ≡ row
+    → fault_at m.later i ≡ row_fault events row
+fault_here rows r events i m row e = rw (e, ← m.history) refl
+
+pub stopped : (rows : List Fields) (r : Reader (Bor (List ℕ))) (events : List Event) (i : ℕ) (m : Midway rows r events i) (row : Fields) (rest : List Fields) (e : ReadRefusal)
+    → drop i m.later ≡ row ∷ rest → RefusesRow (i + 2) events row e → RefusesRows rows e
+stopped rows r events i m row rest (refusals.Text p f) d t =
+    let (lt, here, next) = at_drop m.later i row rest d in
+    rw m.whole (inr (m.header, i, t.0, record { place = lt; fault = fault_here rows r events i m row here ∙ t.1; first = m.fine }))
+stopped rows r events i m row rest refusals.Device d t = t
+stopped rows r events i m row rest refusals.Memory d t = tt
+
+fine_more : (later : List Fields) (i : ℕ) → ((j : ℕ) → j < i → fault_at later j ≡ None) → fault_at later i ≡ None → (j : ℕ) → j < i + 1 → fault_at later j ≡ None
+fine_more later i h here = below_more (λ j. fault_at later j ≡ None) i h here
+
+pub more : (rows : List Fields) (a b : Reader (Bor (List ℕ))) (old new : List Event) (i : ℕ) (m : Midway rows a old i) (row : Fields)
+    → (rest : List Fields) × (drop i m.later ≡ row ∷ rest) × Stands b rest → TakesRow (i + 2) old new row (Ok tt) → Midway rows b new (i + 1)
+more rows a b old new i m row (rest, d, s) (none, x, is, longer) =
+    let (lt, here, next) = at_drop m.later i row rest d in
+    let taken : take (i + 1) m.later ≡ take i m.later ++ row ∷ [] = rw (add-one, take-suc m.later i [] lt, here) refl in
+    let events : new ≡ events_in (take (i + 1) m.later) = rw (longer, taken, filter_map-append (λ r. event_in (row_event r)) (take i m.later) (row ∷ []), m.history, is) refl in
+    record {
+      head = m.head;
+      later = m.later;
+      whole = m.whole;
+      header = m.header;
+      stands = rw next s;
+      within = omega arith;
+      fine = fine_more m.later i m.fine (fault_here rows a old i m row here ∙ none);
+      history = events;
+      count = rw longer (omega (arith, length-append old (x ∷ []), m.count));
+    }
+
+pub no_rows : (rows : List Fields) → rows ≡ [] → RowsFault rows 1 faults.Header
+no_rows rows e = rw e (refl, refl)
+
+pub no_header : (rows : List Fields) (head : Fields) (rest : List Fields) → rows ≡ head ∷ rest → is_header_row head ≡ false → RowsFault rows 1 faults.Header
+no_header rows head rest e h = rw e (inl (h, refl, refl))

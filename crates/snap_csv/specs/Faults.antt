@@ -1,0 +1,62 @@
+-- The faults of a text's records, each record with those before it.
+use Rattle.std.specs.Prelude.{◌≡◌, ◌<◌, ◌==◌, not, nat_le, if◌then◌else◌, slice_index_or, ℕ, List, [], ◌∷◌, length, take, Option, Some, None, option_and_then, Result, Ok, Err}
+use Rattle.std.specs.List.{filter_map}
+use Rattle.snap_core.specs.declared.event.Event.{Event}
+use Rattle.snap_core.specs.declared.history.EventRefusal.{EventRefusal}
+use Rattle.snap_core.specs.declared.history.EventRefusal.TheVariants as refusals
+use Rattle.snap_core.specs.Refusals.{refusal_of}
+use Rattle.snap_core.specs.Events.{event_limit}
+use Rattle.snap_csv.specs.declared.refusal.TextFault.{TextFault}
+use Rattle.snap_csv.specs.declared.refusal.TextFault.TheVariants as faults
+use Rattle.snap_csv.specs.Rows.{Fields}
+use Rattle.snap_csv.specs.Fields.{event_of}
+
+-- the event of a record, or the first fault in its fields
+unfoldable pub row_event : Fields → Result Event TextFault
+row_event (a ∷ p ∷ o ∷ d ∷ []) = event_of a p o d
+row_event others = Err faults.Fields
+
+abbrev pub event_in : Result Event TextFault → Option Event
+event_in (Ok x) = Some x
+event_in (Err f) = None
+
+-- the events of records, those without an event left out
+abbrev pub events_in : List Fields → List Event
+events_in rows = filter_map (λ r. event_in (row_event r)) rows
+
+-- the fault that a refusal of a history stands for; want of memory is none
+abbrev pub fault_of : EventRefusal → Option TextFault
+fault_of refusals.TooMany = Some faults.TooMany
+fault_of refusals.Busy = Some faults.Busy
+fault_of refusals.Idle = Some faults.Idle
+fault_of refusals.OtherOp = Some faults.OtherOp
+fault_of refusals.Writer = Some faults.Writer
+fault_of refusals.Number = Some faults.Number
+fault_of refusals.Memory = None
+
+-- the fault in a record's fields, or else the first refusal of its event behind the events before it
+abbrev pub fault_with : List Event → Result Event TextFault → Option TextFault
+fault_with before (Err f) = Some f
+fault_with before (Ok x) = option_and_then fault_of (refusal_of before x)
+
+-- the first fault of a record under the header, with the events before it: how many fields it has, whether the history is full,
+-- what the fields spell, and what the event is after those events
+unfoldable pub row_fault : List Event → Fields → Option TextFault
+row_fault before r =
+    if not (length r == 4) then Some faults.Fields
+    else if nat_le event_limit (length before) then Some faults.TooMany
+    else fault_with before (row_event r)
+
+-- the same of the record at a place among those under the header
+abbrev pub fault_at : List Fields → ℕ → Option TextFault
+fault_at rows i = row_fault (events_in (take i rows)) (slice_index_or rows i [])
+
+-- no record under the header has a fault
+abbrev pub NoFault : List Fields → Type 0
+NoFault rows = (i : ℕ) → i < length rows → fault_at rows i ≡ None
+
+-- the first record with a fault, and its first fault
+pub record FirstFault (rows : List Fields) (i : ℕ) (f : TextFault) : Type 0 where
+  pub place : i < length rows
+  pub fault : fault_at rows i ≡ Some f
+  pub first : (j : ℕ) → j < i → fault_at rows j ≡ None

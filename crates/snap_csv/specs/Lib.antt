@@ -1,0 +1,9 @@
+pub mod Rows
+pub mod Words
+pub mod Fields
+pub mod Faults
+pub mod Texts
+pub mod Answers
+pub mod Spelling
+pub mod Writing
+pub mod Laws

@@ -1,0 +1,34 @@
+-- When a byte text is one of a history, and where else its first fault is.
+use Rattle.std.specs.Prelude.{◌≡◌, ◌≤◌, ◌<◌, ◌+◌, ◌⊎◌, ℕ, true, false, List, [], ◌∷◌, length}
+use Rattle.snap_core.specs.declared.event.Event.{Event}
+use Rattle.snap_csv.specs.declared.refusal.TextFault.{TextFault}
+use Rattle.snap_csv.specs.declared.refusal.TextFault.TheVariants as faults
+use Rattle.snap_csv.specs.Rows.{Fields, rows_of}
+use Rattle.snap_csv.specs.Fields.{is_header_row}
+use Rattle.snap_csv.specs.Faults.{events_in, NoFault, FirstFault}
+
+-- how many bytes a text may have
+abbrev pub byte_limit : ℕ
+byte_limit = 67108864
+
+-- what records are a history of: none where the first is not the header
+abbrev pub RowsRead : List Fields → List Event → Type 0
+RowsRead [] events = ⊥
+RowsRead (head ∷ rows) events = (is_header_row head ≡ true) × NoFault rows × (events ≡ events_in rows)
+
+-- where records have their first fault
+abbrev pub RowsFault : List Fields → ℕ → TextFault → Type 0
+RowsFault [] place f = (place ≡ 1) × (f ≡ faults.Header)
+RowsFault (head ∷ rows) place f =
+    ((is_header_row head ≡ false) × (place ≡ 1) × (f ≡ faults.Header))
+    ⊎ ((is_header_row head ≡ true) × (i : ℕ) × (place ≡ i + 2) × FirstFault rows i f)
+
+-- a text without a fault, and its history
+abbrev pub IsText : List ℕ → List Event → Type 0
+IsText text events = (length text ≤ byte_limit) × RowsRead (rows_of text) events
+
+-- the first fault of a text, and its place
+abbrev pub HasFault : List ℕ → ℕ → TextFault → Type 0
+HasFault text place f =
+    ((byte_limit < length text) × (place ≡ 0) × (f ≡ faults.TooLong))
+    ⊎ ((length text ≤ byte_limit) × RowsFault (rows_of text) place f)

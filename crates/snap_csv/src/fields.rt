@@ -1,0 +1,166 @@
+ghost use Rattle.std.specs.Prelude.{◌≡◌, ◌≢◌, ◌∷◌, [], length, MatchOption, option_map, IfOk, Ok, Err, Some, None};
+ghost use Rattle.csv.specs.Records.{fields_of};
+ghost use Rattle.snap_csv.specs.Fields.{entry_at, entries_at, event_of, is_header_row, parts, three, update_at, view_at};
+ghost use Rattle.snap_csv.specs.Answers.{GivesEvent};
+
+use crate::number::{component_of, number_of, process_of};
+use crate::refusal::{ReadRefusal, TextFault};
+use csv::ByteRecord;
+use snap_core::{Entry, Event, View};
+use std::alloc::{AllocError, Global};
+
+// The three parts of a text with colons between, where it has three.
+fn three_parts(text: &[u8]) -> Option<(&[u8], &[u8], &[u8])>
+    ensures { option_map (λ x. (x.0.now, x.1.now, x.2.now)) result ≡ three (parts 58 text.now) }
+{
+    let mut parts = text.split(|b| *b == b':');
+    match (parts.next(), parts.next(), parts.next(), parts.next()) {
+        (Some(first), Some(second), Some(third), None) => Some((first, second, third)),
+        _ => None,
+    }
+}
+
+// The entry that is spelled by its component, number and value, with colons between.
+#[tactic(auto, unfolding(crate::specs::Fields::entry_at))]
+fn entry_of(text: &[u8]) -> Option<Entry>
+    ensures { result ≡ entry_at text.now }
+{
+    let (component, number, value) = three_parts(text)?;
+    Some(Entry {
+        component: component_of(component)?,
+        number: number_of(number)?,
+        value: number_of(value)?,
+    })
+}
+
+// The entry of an update.
+#[tactic(auto, unfolding(crate::specs::Fields::update_at))]
+fn update_of(text: &[u8]) -> Option<Entry>
+    ensures { result ≡ update_at text.now }
+{
+    let entry = entry_of(text)?;
+    if entry.number == 0 { None } else { Some(entry) }
+}
+
+// The entries that are spelled with one space between two.
+fn entries_of(alloc: Global, text: &[u8]) -> Result<Option<Vec<Entry>>, AllocError>
+    ensures { IfOk result (λ o. option_map (λ v. v.items) o ≡ entries_at text.now) }
+{
+    let mut entries = Vec::new(alloc);
+    if text.is_empty() {
+        return Ok(Some(entries));
+    }
+    for part in text.split(|b| *b == b' ') {
+        let Some(entry) = entry_of(part) else {
+            return Ok(None);
+        };
+        entries.push(entry)?;
+    }
+    Ok(Some(entries))
+}
+
+/// The view whose entries are spelled.
+#[tactic(auto, unfolding(crate::specs::Fields::view_at))]
+fn view_of(alloc: Global, text: &[u8]) -> Result<Option<View>, AllocError>
+    ensures { IfOk result (λ o. o ≡ view_at text.now) }
+{
+    let Some(entries) = entries_of(alloc, text)? else {
+        return Ok(None);
+    };
+    match View::from_entries(entries) {
+        Ok(view) => Ok(Some(view)),
+        Err(_) => Ok(None),
+    }
+}
+
+/// The fields of a record that has four.
+pub fn four_fields(row: &ByteRecord) -> Option<(&[u8], &[u8], &[u8], &[u8])>
+    ensures { MatchOption result (length (fields_of row.now) ≢ 4) (λ x. fields_of row.now ≡ x.0.now ∷ x.1.now ∷ x.2.now ∷ x.3.now ∷ []) }
+{
+    if row.len() != 4 {
+        return None;
+    }
+    let Some(a) = row.get(0) else {
+        return None;
+    };
+    let Some(b) = row.get(1) else {
+        return None;
+    };
+    let Some(c) = row.get(2) else {
+        return None;
+    };
+    let Some(d) = row.get(3) else {
+        return None;
+    };
+    Some((a, b, c, d))
+}
+
+/// Whether a record is the header.
+pub fn is_header(row: &ByteRecord) -> bool
+    ensures { result ≡ is_header_row (fields_of row.now) }
+{
+    let Some((a, b, c, d)) = four_fields(row) else {
+        return false;
+    };
+    a == b"event".as_slice()
+        && b == b"process".as_slice()
+        && c == b"op".as_slice()
+        && d == b"data".as_slice()
+}
+
+fn bad<T>(place: u32, fault: TextFault) -> Result<T, ReadRefusal>
+    ensures { result ≡ Err (ReadRefusal.Text place fault) }
+{
+    Err(ReadRefusal::Text { place, fault })
+}
+
+/// The event that four fields spell, or the first fault in them.
+#[tactic(auto, unfolding(crate::specs::Fields::event_of))]
+pub fn event_of_fields(
+    alloc: Global,
+    place: u32,
+    event: &[u8],
+    process: &[u8],
+    op: &[u8],
+    text: &[u8],
+) -> Result<Event, ReadRefusal>
+    ensures { GivesEvent place result (event_of event.now process.now op.now text.now) }
+{
+    let begins = if event == b"begin".as_slice() {
+        true
+    } else if event == b"end".as_slice() {
+        false
+    } else {
+        return bad(place, TextFault::BadEvent);
+    };
+    let Some(process) = process_of(process) else {
+        return bad(place, TextFault::BadProcess);
+    };
+    let updates = if op == b"update".as_slice() {
+        true
+    } else if op == b"view".as_slice() {
+        false
+    } else {
+        return bad(place, TextFault::BadOp);
+    };
+    if begins && updates {
+        let Some(entry) = update_of(text) else {
+            return bad(place, TextFault::BadData);
+        };
+        return Ok(Event::BeginUpdate { process, entry });
+    }
+    if !begins && !updates {
+        let Some(view) = view_of(alloc, text)? else {
+            return bad(place, TextFault::BadData);
+        };
+        return Ok(Event::EndView { process, view });
+    }
+    if !text.is_empty() {
+        return bad(place, TextFault::BadData);
+    }
+    if begins {
+        Ok(Event::BeginView { process })
+    } else {
+        Ok(Event::EndUpdate { process })
+    }
+}

@@ -1,0 +1,26 @@
+ghost use Rattle.snap_csv.specs.Laws.{FieldsAreOneEvents, RecordsAreSpelled, TextsAreShort, TextsHaveNoFault, TextsReadBack};
+
+/// No two events have the same four fields.
+pub fn fields_are_one_events()
+    ensures { FieldsAreOneEvents }
+{}
+
+/// The text of a history has no fault and is that of this history.
+pub fn texts_read_back()
+    ensures { TextsReadBack }
+{}
+
+/// No text is one of a history and has a fault.
+pub fn texts_have_no_fault()
+    ensures { TextsHaveNoFault }
+{}
+
+/// The text of every history is within the limit of bytes.
+pub fn texts_are_short()
+    ensures { TextsAreShort }
+{}
+
+/// A record is read as an event only where it has the event's four fields.
+pub fn records_are_spelled()
+    ensures { RecordsAreSpelled }
+{}

@@ -1,0 +1,112 @@
+ghost use Rattle.std.specs.Prelude.{◌≡◌, IfSome};
+ghost use Rattle.snap_core.specs.Counting.{inner_of, failures_in};
+ghost use Rattle.snap_csv.specs.Answers.{AnswersRows, AnswersText, Counts, TakesEvent, TakesRow};
+ghost use Rattle.snap_csv.specs.Faults.{fault_of};
+ghost use Rattle.snap_csv.specs.Rows.{rows_of};
+ghost use Rattle.csv.specs.Records.{fields_of};
+
+use crate::fields::{event_of_fields, four_fields, is_header};
+use crate::intake::take_in;
+use crate::refusal::{ReadRefusal, TextFault};
+use crate::rows::{next_row, reader_of};
+use csv::ByteRecord;
+use snap_core::{Counted, EVENT_LIMIT, Event, EventRefusal, History};
+use std::alloc::Global;
+use std::io::Read;
+
+// One record more than a history has events: that one has a fault.
+const ROW_LIMIT: u32 = 16385;
+
+// The fault that a refusal of a history stands for; memory aside.
+fn fault_for(refusal: EventRefusal) -> Option<TextFault>
+    ensures { result ≡ fault_of refusal }
+{
+    match refusal {
+        EventRefusal::TooMany => Some(TextFault::TooMany),
+        EventRefusal::Busy => Some(TextFault::Busy),
+        EventRefusal::Idle => Some(TextFault::Idle),
+        EventRefusal::OtherOp => Some(TextFault::OtherOp),
+        EventRefusal::Writer => Some(TextFault::Writer),
+        EventRefusal::Number => Some(TextFault::Number),
+        EventRefusal::Memory => None,
+    }
+}
+
+// Adds the event of a record to a history.
+fn take_row(
+    alloc: Global,
+    history: &mut History,
+    place: u32,
+    row: &ByteRecord,
+) -> Result<(), ReadRefusal>
+    ensures { TakesRow place history.old history.new (fields_of row.now) result }
+{
+    let Some((event, process, op, entries)) = four_fields(row) else {
+        return Err(ReadRefusal::Text {
+            place,
+            fault: TextFault::Fields,
+        });
+    };
+    if history.len() >= EVENT_LIMIT {
+        return Err(ReadRefusal::Text {
+            place,
+            fault: TextFault::TooMany,
+        });
+    }
+    let event = event_of_fields(alloc, place, event, process, op, entries)?;
+    push_event(history, place, event)
+}
+
+fn push_event(history: &mut History, place: u32, event: Event) -> Result<(), ReadRefusal>
+    ensures { TakesEvent place history.old history.new event result }
+{
+    match history.push(event) {
+        Ok(()) => Ok(()),
+        Err((_, refusal)) => match fault_for(refusal) {
+            Some(fault) => Err(ReadRefusal::Text { place, fault }),
+            None => Err(ReadRefusal::Memory),
+        },
+    }
+}
+
+// The history of a text, or its first fault.
+fn history_of(alloc: Global, text: &[u8]) -> Result<History, ReadRefusal>
+    ensures { AnswersRows (rows_of text.now) result }
+{
+    let mut reader = reader_of(alloc, text);
+    let mut row = ByteRecord::new(alloc);
+    if !next_row(&mut reader, &mut row)? {
+        return Err(ReadRefusal::Text {
+            place: 1,
+            fault: TextFault::Header,
+        });
+    }
+    if !is_header(&row) {
+        return Err(ReadRefusal::Text {
+            place: 1,
+            fault: TextFault::Header,
+        });
+    }
+    let mut history = History::new(alloc);
+    for i in 0..ROW_LIMIT {
+        if !next_row(&mut reader, &mut row)? {
+            return Ok(history);
+        }
+        take_row(alloc, &mut history, i + 2, &row)?;
+    }
+    let _len = history.len();
+    unreachable!()
+}
+
+/// Reads a history: the whole text first, at most 67,108,864 bytes, and then its records in order. The answer is the
+/// history of the text exactly where the text has no fault, else the first fault with the place of its record, counted
+/// from 1, or place 0 for a text that is too long. `Device` is the answer at the first read that fails, of whatever
+/// kind: it is not tried again, and the reader's count of failures rose. `Memory` is answered where memory ran out. After
+/// an error a part of the text is taken from the reader.
+pub fn read_history<R: Read>(alloc: Global, reader: &mut Counted<R>) -> Result<History, ReadRefusal>
+    ensures text { IfSome (R.remaining (inner_of reader.old)) (λ text. AnswersText text result) }
+    ensures counts { Counts (failures_in reader.old) (failures_in reader.new) result }
+{
+    let text = take_in(alloc, reader)?;
+    history_of(alloc, &text)
+}

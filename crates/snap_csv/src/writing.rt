@@ -1,0 +1,89 @@
+ghost use Rattle.std.specs.Prelude.{◌≡◌, ◌++◌, [], List, ℕ, map, IfOk, OnOk};
+ghost use Rattle.csv.specs.Writing.{default_writer, row_text};
+ghost use Rattle.snap_core.specs.Counting.{inner_of, failures_in};
+ghost use Rattle.snap_csv.specs.Spelling.{history_text, spelled};
+ghost use Rattle.snap_csv.specs.Writing.{CountsWrite, Holds, Writes};
+
+use crate::refusal::WriteRefusal;
+use crate::spelling::fields_of;
+use csv::{Writer, WriterBuilder};
+use snap_core::{Counted, Event, History};
+use std::alloc::{AllocError, Global};
+use std::io::Write;
+
+// Writes one record to memory.
+fn write_record(writer: &mut Writer<Vec<u8>>, fields: &[&[u8]]) -> Result<(), AllocError>
+    ensures { OnOk result ((text : List ℕ) → Holds writer.old text → Holds writer.new (text ++ row_text default_writer (map (λ f. f.now) fields.now))) }
+{
+    let Ok(()) = writer.write_fields(fields) else {
+        return Err(AllocError);
+    };
+    Ok(())
+}
+
+// Writes the record of an event to memory.
+fn write_event(alloc: Global, writer: &mut Writer<Vec<u8>>, event: &Event) -> Result<(), AllocError>
+    ensures { OnOk result ((text : List ℕ) → Holds writer.old text → Holds writer.new (text ++ row_text default_writer (spelled event.now))) }
+{
+    let fields = fields_of(alloc, event)?;
+    write_record(
+        writer,
+        &[
+            fields[0].as_slice(),
+            fields[1].as_slice(),
+            fields[2].as_slice(),
+            fields[3].as_slice(),
+        ],
+    )?;
+    Ok(())
+}
+
+// A writer to memory that has written the header.
+fn begin_text(alloc: Global) -> Result<Writer<Vec<u8>>, AllocError>
+    ensures { IfOk result (λ writer. Holds writer (history_text [])) }
+{
+    let mut writer = WriterBuilder::new().from_writer(Vec::new(alloc));
+    write_record(
+        &mut writer,
+        &[
+            b"event".as_slice(),
+            b"process".as_slice(),
+            b"op".as_slice(),
+            b"data".as_slice(),
+        ],
+    )?;
+    Ok(writer)
+}
+
+// The text of a history.
+fn text_of(alloc: Global, history: &History) -> Result<Vec<u8>, AllocError>
+    ensures { IfOk result (λ text. text.items ≡ history_text history.now) }
+{
+    let mut writer = begin_text(alloc)?;
+    let events = history.events();
+    for event in events {
+        write_event(alloc, &mut writer, event)?;
+    }
+    match writer.into_inner() {
+        Ok(text) => Ok(text),
+        Err(_) => Err(AllocError),
+    }
+}
+
+/// Writes a history: the header, and then the record of each event, each ended by one newline. The whole text is built
+/// before its first byte goes out, and the writer is flushed once at the end. After `Memory` nothing was written; after
+/// `Device` a front of the text went out, perhaps all of it, and the writer's count of failures rose.
+pub fn write_history<W: Write>(
+    alloc: Global,
+    writer: &mut Counted<W>,
+    history: &History,
+) -> Result<(), WriteRefusal>
+    ensures text { Writes (W.contents (inner_of writer.old)) (W.contents (inner_of writer.new)) (history_text history.now) result }
+    ensures counts { CountsWrite (failures_in writer.old) (failures_in writer.new) result }
+{
+    let text = text_of(alloc, history)?;
+    match writer.send(&text) {
+        Ok(()) => Ok(()),
+        Err(_) => Err(WriteRefusal::Device),
+    }
+}
