@@ -1,0 +1,158 @@
+-- What a bare call says of its call, and where calls are found.
+use Rattle.std.proofs.Common.{rules, ◌≡◌, ◌<◌, ◌≤◌, ℕ, suc, Bool, true, false, cond, List, [], ◌∷◌, length, map, get_or, find, slice_get, Option, Some, None, refl, sym, ap, ◌∙◌, subst, inl, inr, arith, Fits, w32, Bor}
+use Rattle.std.specs.Prelude.{is_some, nat_lt, filter}
+use Rattle.std.specs.List.{Contains}
+use Rattle.std.specs.Option.{option_map, option_copied, IfSome}
+use Rattle.std.proofs.lemmas.Bool.{ltb-true, ltb-false}
+use Rattle.std.proofs.lemmas.List.{get_or-map, length-map}
+use Rattle.std.proofs.lemmas.List.Elements.{Contains-get_or}
+use Rattle.std.proofs.lemmas.List.Sums.{length-filter, count_by-le-length}
+use Rattle.std.proofs.lemmas.Option.{slice_get-get_or, slice_get_within, slice_get_past, slice_get_read, get_or_from_slice_get}
+use Rattle.snap_core.specs.declared.entry.Entry.{Entry}
+use Rattle.snap_core.specs.declared.event.Event.{Event}
+use Rattle.snap_core.specs.declared.event.Event.TheVariants.{BeginUpdate, BeginView, EndUpdate, EndView}
+use Rattle.snap_core.specs.Events.{IsHistory}
+use Rattle.snap_core.specs.Calls.{Operation, Updates, Views, calls_from, calls_of, views_of, nobody, call_numbered, is_view, is_answer, is_before, precedes}
+use Rattle.snap_core.specs.Calls.{Call as SpecCall}
+use Rattle.snap_core.proofs.Lists.{In, Contains-from_In, In-get_or, In-from_filter}
+use Rattle.snap_core.proofs.Histories.{view_end, are_calls, numbered_calls}
+use Rattle.snap_index.specs.declared.call.CallOp.TheVariants.{Update, View}
+use Rattle.snap_index.specs.declared.call.Call.{Call}
+use Rattle.snap_index.specs.Bare.{bare, bare_op, number_of}
+
+-- there are no more calls than events
+from_count : (n place : ℕ) (es : List Event) → length (calls_from n place es) ≤ length es
+from_count n place [] = omega arith
+from_count n place (BeginUpdate p e ∷ es) = omega (arith, from_count (suc n) (suc place) es)
+from_count n place (BeginView p ∷ es) = omega (arith, from_count (suc n) (suc place) es)
+from_count n place (EndUpdate p ∷ es) = omega (arith, from_count n (suc place) es)
+from_count n place (EndView p s ∷ es) = omega (arith, from_count n (suc place) es)
+
+pub call_count_within : (es : List Event) → length (calls_of es) ≤ length es
+unfolding calls_of
+call_count_within es = from_count 0 0 es
+
+pub word_fits : (n : ℕ) → n ≤ 16384 → Fits w32 n
+word_fits n l = search (rules, l)
+
+pub count_is : (es : List Event) (calls : List Call) → calls ≡ map bare (calls_of es) → length calls ≡ length (calls_of es)
+count_is es calls h = ap length h ∙ length-map (calls_of es) bare
+
+pub bare_read : (es : List Event) (calls : List Call) (n : ℕ) (d : Call) → calls ≡ map bare (calls_of es) → n < length calls → get_or calls n d ≡ bare (call_numbered (calls_of es) n)
+bare_read es calls n d h l = ap (λ z. get_or z n d) h ∙ get_or-map bare (calls_of es) n nobody d (omega (arith, count_is es calls h))
+
+-- the call of a number is one of the calls
+pub numbered_there : (calls : List SpecCall) (n : ℕ) → n < length calls → Contains calls (call_numbered calls n)
+numbered_there calls n l = Contains-get_or calls n nobody l
+
+-- a call stands at its number
+pub at_own_number : (es : List Event) (c : SpecCall) → In c (calls_of es) → slice_get (calls_of es) c.number ≡ Some c
+at_own_number es c i =
+    let k = Contains-from_In (calls_of es) c i in
+    let n : c.number ≡ k.0 = ap number_of (sym k.2) ∙ numbered_calls es k.0 c k.1 in
+    ap (slice_get (calls_of es)) n ∙ slice_get-get_or (calls_of es) k.0 c k.1 ∙ ap Some k.2
+
+-- what is found is there, and passes
+pub find_there : {X : Type 0} (p : X → Bool) (xs : List X) (x : X) → find p xs ≡ Some x → In x xs × (p x ≡ true)
+find_there p [] x h = absurd (cc h)
+find_there {X} p (y ∷ ys) x h = go (p y) refl h (find_there p ys x)
+  where
+    go : (b : Bool) → p y ≡ b → cond b (Some y) (find p ys) ≡ Some x → (find p ys ≡ Some x → In x ys × (p x ≡ true)) → In x (y ∷ ys) × (p x ≡ true)
+    go true t g rest = let same : y ≡ x = cc in (inl same, ap p (sym same) ∙ t)
+    go false t g rest = let r = rest g in (inr r.0, r.1)
+
+pub got_there : {X : Type 0} (xs : List X) (i : ℕ) (x : X) → slice_get xs i ≡ Some x → In x xs
+got_there xs i x h = subst (λ z. In z xs) (get_or_from_slice_get xs i x x h) (In-get_or xs i x (slice_get_within xs i x h))
+
+-- what an option that was mapped came from
+pub record Mapped {X Y : Type 0} (f : X → Y) (o : Option X) (y : Y) : Type 0 where
+  pub from : X
+  pub is : o ≡ Some from
+  pub to : f from ≡ y
+
+pub mapped_some : {X Y : Type 0} (f : X → Y) (o : Option X) (y : Y) → option_map f o ≡ Some y → Mapped f o y
+mapped_some f None y h = absurd (cc h)
+mapped_some f (Some x) y h = let e : f x ≡ y = cc in record { from = x; is = refl; to = e }
+
+pub mapped_none : {X Y : Type 0} (f : X → Y) (o : Option X) → option_map f o ≡ None → o ≡ None
+mapped_none f None h = refl
+mapped_none f (Some x) h = absurd (cc h)
+
+-- what an operation is, by its bare form
+pub update_from : (o : Operation) (e : Entry) → bare_op o ≡ Update e → o ≡ Updates e
+update_from (Updates d) e h = let g : d ≡ e = cc in ap Updates g
+update_from (Views a) e h = absurd (cc)
+
+pub view_from : (o : Operation) → bare_op o ≡ View → (a : Option (List Entry)) × (o ≡ Views a)
+view_from (Updates d) h = absurd (cc)
+view_from (Views a) h = (a, refl)
+
+-- a completed view, by its bare call
+pub view_of_update : (c : SpecCall) (e : Entry) → bare_op c.operation ≡ Update e → is_view c ≡ false
+unfolding is_view
+view_of_update c e h = ap is_answer (update_from c.operation e h)
+
+pub view_of_view : (es : List Event) (c : SpecCall) → IsHistory es → Contains (calls_of es) c → bare_op c.operation ≡ View → is_view c ≡ is_some c.ended
+unfolding is_view
+view_of_view es c h i o = go c.ended refl (view_from c.operation o)
+  where
+    go : (e : Option ℕ) → c.ended ≡ e → (a : Option (List Entry)) × (c.operation ≡ Views a) → is_answer c.operation ≡ is_some c.ended
+    go (Some place) e v = ap is_answer (view_end es h c v.0 place i v.1 e).answer ∙ sym (ap is_some e)
+    go None e v = answer v.0 v.1 ∙ sym (ap is_some e)
+      where
+        answer : (a : Option (List Entry)) → c.operation ≡ Views a → is_answer c.operation ≡ false
+        answer None w = ap is_answer w
+        answer (Some s) w = absurd (let x = (are_calls es h).answered c (record { there = i; completed = ap is_answer w }) in let g : None ≡ Some x.place = sym e ∙ x.ends in cc)
+
+-- precedence by the end of the first call
+pub precedes_at : (a b : SpecCall) (place : ℕ) → a.ended ≡ Some place → precedes a b ≡ nat_lt place b.begun
+unfolding precedes
+precedes_at a b place h = ap (λ o. is_before o b.begun) h
+
+pub precedes_none : (a b : SpecCall) → a.ended ≡ None → precedes a b ≡ false
+unfolding precedes
+precedes_none a b h = ap (λ o. is_before o b.begun) h
+
+-- a completed view, and the event that ends it
+pub record ViewAt (es : List Event) (c : ℕ) (r : SpecCall) : Type 0 where
+  pub place : ℕ
+  pub process : ℕ
+  pub entries : List Entry
+  pub within : c < length (calls_of es)
+  pub there : call_numbered (calls_of es) c ≡ r
+  pub ends : r.ended ≡ Some place
+  pub shows : r.operation ≡ Views (Some entries)
+  pub event : slice_get es place ≡ Some (EndView process entries)
+
+viewing : (o : Operation) → is_answer o ≡ true → (a : Option (List Entry)) × (o ≡ Views a)
+viewing (Updates e) h = absurd (cc h)
+viewing (Views a) h = (a, refl)
+
+pub view_at : (es : List Event) → IsHistory es → (i c : ℕ) (r : SpecCall) → slice_get (views_of (calls_of es)) i ≡ Some r → r.number ≡ c → ViewAt es c r
+unfolding views_of is_view
+view_at es h i c r at n =
+    let f = In-from_filter is_view (calls_of es) r (got_there (filter is_view (calls_of es)) i r at) in
+    let there : Contains (calls_of es) r = Contains-from_In (calls_of es) r f.0 in
+    let x = (are_calls es h).answered r (record { there = there; completed = f.1 }) in
+    let v = viewing r.operation f.1 in
+    let e = view_end es h r v.0 x.place there v.1 x.ends in
+    let own : slice_get (calls_of es) c ≡ Some r = ap (slice_get (calls_of es)) (sym n) ∙ at_own_number es r f.0 in
+    record {
+      place = x.place;
+      process = e.process;
+      entries = e.entries;
+      within = slice_get_within (calls_of es) c r own;
+      there = get_or_from_slice_get (calls_of es) c r nobody own;
+      ends = x.ends;
+      shows = e.answer;
+      event = slice_get-get_or es x.place (EndView e.process e.entries) e.within ∙ ap Some (e.at_place (EndView e.process e.entries));
+    }
+
+pub view_count_within : (calls : List SpecCall) → length (views_of calls) ≤ length calls
+unfolding views_of
+view_count_within calls = omega (arith, length-filter is_view calls, count_by-le-length is_view calls)
+
+-- what a slice gives at a place
+pub got : (xs : List ℕ) (r : Option (Bor ℕ)) (i : ℕ) → is_some r ≡ nat_lt i (length xs) → IfSome r (λ x. x.now ≡ get_or xs i x.now) → option_copied r ≡ slice_get xs i
+got xs None i t e = sym (slice_get_past xs i (ltb-false i (length xs) (sym t)))
+got xs (Some x) i t e = sym (slice_get_read xs (length xs) i x.now refl (ltb-true i (length xs) (sym t)) e)

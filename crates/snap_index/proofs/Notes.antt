@@ -1,0 +1,153 @@
+-- What one call more adds to the tables.
+use Rattle.std.proofs.Common.{◌≡◌, ◌<◌, ◌≤◌, ◌+◌, ℕ, Bool, true, false, cond, List, [], ◌∷◌, ◌++◌, append-nil, length, map, take, get_or, set, replicate, Option, refl, sym, ap, ◌∙◌, inl, inr, arith, get_or-set_same, get_or-set_other, length-set, length-take-le}
+use Rattle.std.specs.Prelude.{is_some, not, filter, ◌==◌}
+use Rattle.std.specs.List.{count_by}
+use Rattle.std.proofs.lemmas.Bool.{eq-eqb, ne_eqb, cases_eq}
+use Rattle.std.proofs.lemmas.List.{take_more, map-append, get_or-replicate, length-replicate}
+use Rattle.std.proofs.lemmas.List.Elements.{filter-append}
+use Rattle.std.proofs.lemmas.List.Sums.{sum_by-append, count_by-le-length}
+use Rattle.snap_core.specs.declared.entry.Entry.{Entry}
+use Rattle.snap_core.specs.declared.event.Event.{Event}
+use Rattle.snap_core.specs.Events.{IsHistory, IsKept}
+use Rattle.snap_core.specs.Calls.{Operation, Updates, Views, calls_of, views_of, nobody, call_numbered, is_view}
+use Rattle.snap_core.specs.Calls.{Call as SpecCall}
+use Rattle.snap_core.specs.Orders.{is_completed}
+use Rattle.snap_core.proofs.Lists.{count-cons}
+use Rattle.snap_core.proofs.Histories.{numbered_calls, byte_components}
+use Rattle.snap_core.proofs.Fits.{bytes_of_events}
+use Rattle.snap_index.specs.declared.call.CallOp.{CallOp}
+use Rattle.snap_index.specs.declared.call.CallOp.TheVariants.{Update, View}
+use Rattle.snap_index.specs.declared.call.Call.{Call}
+use Rattle.snap_index.specs.Bare.{bare, bare_op, number_of}
+use Rattle.snap_index.specs.Updates.{is_update_of, updates_of, is_pending}
+use Rattle.snap_index.specs.Tables.{AreTables}
+use Rattle.snap_index.proofs.BareCalls.{numbered_there, view_of_update, view_of_view, update_from}
+
+-- a list with n at its end where a test holds
+abbrev pub put_where : Bool → ℕ → List ℕ → List ℕ
+put_where true n xs = xs ++ n ∷ []
+put_where false n xs = xs
+
+-- what is put of a call among the views, and among the updates of component k
+abbrev pub is_bare_view : CallOp → Option ℕ → Bool
+is_bare_view (Update e) ended = false
+is_bare_view View ended = is_some ended
+
+abbrev pub is_bare_update : CallOp → ℕ → Bool
+is_bare_update (Update e) k = e.component == k
+is_bare_update View k = false
+
+filter_more : (p : SpecCall → Bool) (calls : List SpecCall) (c : ℕ) → c < length calls → (b : Bool) → p (call_numbered calls c) ≡ b → (call_numbered calls c).number ≡ c → map number_of (filter p (take (c + 1) calls)) ≡ put_where b c (map number_of (filter p (take c calls)))
+filter_more p calls c l b e n =
+    ap (λ z. map number_of (filter p z)) (take_more calls c nobody l)
+    ∙ ap (map number_of) (filter-append p (take c calls) (call_numbered calls c ∷ []))
+    ∙ ap (λ t. map number_of (filter p (take c calls) ++ cond t (call_numbered calls c ∷ []) [])) e
+    ∙ map-append number_of (filter p (take c calls)) (cond b (call_numbered calls c ∷ []) [])
+    ∙ put b
+  where
+    put : (b : Bool) → map number_of (filter p (take c calls)) ++ map number_of (cond b (call_numbered calls c ∷ []) []) ≡ put_where b c (map number_of (filter p (take c calls)))
+    put true = ap (λ z. map number_of (filter p (take c calls)) ++ z ∷ []) n
+    put false = append-nil _
+
+bare_update_is : (o : Operation) (k n p b : ℕ) (e : Option ℕ) → is_update_of k (record { number = n; process = p; operation = o; begun = b; ended = e }) ≡ is_bare_update (bare_op o) k
+unfolding is_update_of
+bare_update_is (Updates d) k n p b e = refl
+bare_update_is (Views a) k n p b e = refl
+
+view_is : (es : List Event) → IsHistory es → (c : ℕ) → c < length (calls_of es) → (x : Call) → x ≡ bare (call_numbered (calls_of es) c) → is_view (call_numbered (calls_of es) c) ≡ is_bare_view x.op x.ended
+view_is es h c l x e = go (bare_op r.operation) refl ∙ ap (λ (z : Call). is_bare_view z.op z.ended) (sym e)
+  where
+    r : SpecCall
+    r = call_numbered (calls_of es) c
+
+    go : (o : CallOp) → bare_op r.operation ≡ o → is_view r ≡ is_bare_view (bare_op r.operation) r.ended
+    go (Update d) w = view_of_update r d w ∙ sym (ap (λ z. is_bare_view z r.ended) w)
+    go View w = view_of_view es r h (numbered_there (calls_of es) c l) w ∙ sym (ap (λ z. is_bare_view z r.ended) w)
+
+pub noted : (es : List Event) → IsHistory es → (c : ℕ) → c < length (calls_of es) → (x : Call) → x ≡ bare (call_numbered (calls_of es) c) →
+    (views new_views : List ℕ) (updates new_updates : List (List ℕ)) (pending new_pending : ℕ) →
+    new_views ≡ put_where (is_bare_view x.op x.ended) c views →
+    length new_updates ≡ length updates → ((k : ℕ) → k < 256 → get_or new_updates k [] ≡ put_where (is_bare_update x.op k) c (get_or updates k [])) →
+    new_pending ≡ pending + cond (is_some x.ended) 0 1 →
+    AreTables (take c (calls_of es)) views updates pending → AreTables (take (c + 1) (calls_of es)) new_views new_updates new_pending
+unfolding views_of updates_of is_pending is_completed
+noted es h c l x e views new_views updates new_updates pending new_pending v s u p t =
+    let calls = calls_of es in
+    let r = call_numbered (calls_of es) c in
+    let number : r.number ≡ c = numbered_calls es c nobody l in
+    record {
+      size = s ∙ t.size;
+      of_views = v ∙ ap (put_where (is_bare_view x.op x.ended) c) t.of_views ∙ sym (filter_more is_view calls c l (is_bare_view x.op x.ended) (view_is es h c l x e) number);
+      of_updates = λ k m.
+          u k m ∙ ap (put_where (is_bare_update x.op k) c) (t.of_updates k m)
+          ∙ sym (filter_more (is_update_of k) calls c l (is_bare_update x.op k)
+          (bare_update_is r.operation k r.number r.process r.begun r.ended ∙ ap (λ (z : Call). is_bare_update z.op k) (sym e)) number);
+      of_pending =
+          let more = ap (count_by is_pending) (take_more calls c nobody l) ∙ sum_by-append (λ y. cond (is_pending y) 1 0) (take c calls) (r ∷ []) in
+          let one = count-cons is_pending r [] in
+          let flip : cond (is_some x.ended) 0 1 ≡ cond (not (is_some r.ended)) 1 0 = ap {B = ℕ} (λ (z : Call). cond (is_some z.ended) 0 1) e ∙ flipped (is_some r.ended) in
+          omega (arith, p, t.of_pending, more, one, flip);
+    }
+  where
+    flipped : (b : Bool) → ◌≡◌ {A = ℕ} (cond b 0 1) (cond (not b) 1 0)
+    flipped true = refl
+    flipped false = refl
+
+pub none_noted : (calls : List SpecCall) (updates : List (List ℕ)) → updates ≡ replicate 256 [] → AreTables (take 0 calls) [] updates 0
+unfolding views_of updates_of
+none_noted calls updates e = record {
+  size = ap length e ∙ length-replicate {A = List ℕ} 256 [];
+  of_views = refl;
+  of_updates = λ k l. ap (λ z. get_or z k []) e ∙ get_or-replicate 256 k [] [] l;
+  of_pending = refl;
+}
+
+-- a row that was put to
+pub row_put : (updates : List (List ℕ)) (j c k : ℕ) → j < length updates → get_or (set updates j (get_or updates j [] ++ c ∷ [])) k [] ≡ put_where (j == k) c (get_or updates k [])
+row_put updates j c k l = elim (cases_eq j k) [
+  | inl same ↦
+      ap (λ z. get_or (set updates j (get_or updates j [] ++ c ∷ [])) z []) (sym same)
+      ∙ get_or-set_same updates j (get_or updates j [] ++ c ∷ []) [] l
+      ∙ ap (λ z. get_or updates z [] ++ c ∷ []) same
+      ∙ sym (ap (λ t. put_where t c (get_or updates k [])) (eq-eqb j k same))
+  | inr other ↦
+      get_or-set_other updates j k (get_or updates j [] ++ c ∷ []) [] (λ h. other (sym h))
+      ∙ sym (ap (λ t. put_where t c (get_or updates k [])) (ne_eqb j k other))
+]
+
+pub pending_few : (calls : List SpecCall) (c : ℕ) (views : List ℕ) (updates : List (List ℕ)) (pending : ℕ) → c ≤ length calls → AreTables (take c calls) views updates pending → pending ≤ c
+pending_few calls c views updates pending l t = omega (arith, t.of_pending, count_by-le-length is_pending (take c calls), length-take-le {A = SpecCall})
+
+-- what a call puts among the views, by its kind
+pub views_of_update : (x : Call) (e : Entry) (c : ℕ) (views new_views : List ℕ) → x.op ≡ Update e → new_views ≡ views → new_views ≡ put_where (is_bare_view x.op x.ended) c views
+views_of_update x e c views new_views h v = v ∙ sym (ap (λ o. put_where (is_bare_view o x.ended) c views) h)
+
+pub views_of_view : (x : Call) (b : Bool) (c : ℕ) (views new_views : List ℕ) → x.op ≡ View → b ≡ is_some x.ended → new_views ≡ put_where b c views → new_views ≡ put_where (is_bare_view x.op x.ended) c views
+views_of_view x b c views new_views h e v = v ∙ ap (λ z. put_where z c views) e ∙ sym (ap (λ o. put_where (is_bare_view o x.ended) c views) h)
+
+-- what a call puts among the updates
+pub record Puts (x : Call) (c : ℕ) (updates new_updates : List (List ℕ)) : Type 0 where
+  pub size : length new_updates ≡ length updates
+  pub rows : (k : ℕ) → k < 256 → get_or new_updates k [] ≡ put_where (is_bare_update x.op k) c (get_or updates k [])
+
+pub updates_of_update : (x : Call) (e : Entry) (c : ℕ) (updates new_updates : List (List ℕ)) → e.component < length updates → x.op ≡ Update e → new_updates ≡ set updates e.component (get_or updates e.component [] ++ c ∷ []) → Puts x c updates new_updates
+updates_of_update x e c updates new_updates l h u = record {
+  size = ap length u ∙ length-set updates e.component (get_or updates e.component [] ++ c ∷ []);
+  rows = λ k m. ap (λ z. get_or z k []) u ∙ row_put updates e.component c k l ∙ sym (ap (λ o. put_where (is_bare_update o k) c (get_or updates k [])) h);
+}
+
+pub updates_of_view : (x : Call) (c : ℕ) (updates new_updates : List (List ℕ)) → x.op ≡ View → new_updates ≡ updates → Puts x c updates new_updates
+updates_of_view x c updates new_updates h u = record {
+  size = ap length u;
+  rows = λ k m. ap (λ z. get_or z k []) u ∙ sym (ap (λ o. put_where (is_bare_update o k) c (get_or updates k [])) h);
+}
+
+-- an update's component is a byte
+pub component_fits : (es : List Event) → IsKept es → (c : ℕ) → c < length (calls_of es) → (x : Call) → x ≡ bare (call_numbered (calls_of es) c) → (e : Entry) → x.op ≡ Update e → e.component < 256
+component_fits es h c l x is e op =
+    byte_components es (bytes_of_events es h.fit) (call_numbered (calls_of es) c) e
+    (record { there = numbered_there (calls_of es) c l; writes = update_from _ e (sym (ap (λ (z : Call). z.op) is) ∙ op) })
+
+-- what a call adds to the pending ones
+pub pending_at : (pending new_pending : ℕ) (ended : Option ℕ) (b : Bool) → is_some ended ≡ b → new_pending ≡ pending + cond b 0 1 → new_pending ≡ pending + cond (is_some ended) 0 1
+pending_at pending new_pending ended b e p = p ∙ ap {B = ℕ} (λ z. pending + cond z 0 1) (sym e)

@@ -1,0 +1,16 @@
+use Rattle.std.proofs.Common.{◌≡◌, ◌≤◌, ◌<◌, ℕ, length, map, drop, reverse, get_or, None}
+use Rattle.snap_core.specs.Calls.{calls_from, next_place}
+use Rattle.snap_index.specs.Bare.{bare}
+use Rattle.snap_index.proofs.listing.list_calls.Given as goal
+
+-- the calls begun from i on, and the place of each process's next event there
+abbrev pub invariant-loop-i : goal.invariant-loop-i
+invariant-loop-i l = record {
+  within : l.i ≤ length l.events;
+  size : length l.next.items ≡ 65536;
+  places : (p : ℕ) → p < 65536 → get_or l.next.items p None ≡ next_place p l.i (drop l.i l.events);
+  so_far : reverse l.calls.items ≡ map bare (calls_from 0 l.i (drop l.i l.events));
+}
+
+abbrev pub decreases-loop-i : goal.decreases-loop-i
+decreases-loop-i l = l.i

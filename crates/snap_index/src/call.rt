@@ -1,0 +1,17 @@
+use snap_core::Entry;
+
+/// What a call does.
+#[derive(Clone, Copy, PartialEq, Eq, Debug)]
+pub enum CallOp {
+    Update(Entry),
+    View,
+}
+
+/// A call with the places, counted from 0, of the events that begin and end it. A pending call has no end.
+#[derive(Clone, Copy, PartialEq, Eq, Debug)]
+pub struct Call {
+    pub process: u16,
+    pub op: CallOp,
+    pub begun: u32,
+    pub ended: Option<u32>,
+}

@@ -1,0 +1,176 @@
+ghost use Rattle.std.specs.Prelude.{◌≡◌, ◌<◌, length, map, count_by, find, IfOk, slice_get};
+ghost use Rattle.std.specs.Option.{option_copied, option_map};
+ghost use Rattle.snap_core.specs.Calls.{calls_of, views_of, is_update_numbered, call_numbered, precedes as spec_precedes};
+ghost use Rattle.snap_core.specs.Events.{IsKept};
+ghost use Rattle.snap_index.specs.Bare.{bare, number_of, entries_shown};
+ghost use Rattle.snap_index.specs.Updates.{is_update_of, updates_of, is_pending};
+
+use crate::call::{Call, CallOp};
+use crate::listing::list_calls;
+use crate::table::UpdateTable;
+use snap_core::{Event, History, View};
+use std::alloc::{AllocError, Global};
+use std::marker::Model;
+
+/// The calls of a history, with look-ups by number. A call's number counts the begins before its own.
+#[derive(Drop)]
+pub struct Index<'h> {
+    history: &'h History,
+    calls: Vec<Call>,
+    // the call numbers of the completed views
+    views: Vec<u32>,
+    updates: UpdateTable,
+    pending: u32,
+}
+
+impl<'h> Model for Index<'h> {
+    ghost use Rattle.std.specs.Prelude.{List};
+    ghost use Rattle.snap_core.specs.declared.event.Event.{Event};
+
+    ghost Value = { List Event };
+
+    ghost use Rattle.snap_index.specs.Tables.{IsIndex};
+
+    ghost view = { λ a. a.history.now };
+
+    ghost invariant = { λ a. IsIndex a.history.now a.calls.items a.views.items a.updates a.pending };
+}
+
+impl<'h> Index<'h> {
+    /// The index of a history, which it borrows, by one pass over its events. The error is want of memory.
+    pub fn build(alloc: Global, history: &'h History) -> Result<Index<'h>, AllocError>
+        ensures { IfOk result (λ index. index ≡ history.now) }
+    {
+        let calls = list_calls(alloc, history.events())?;
+        let mut views = Vec::new(alloc);
+        let mut updates = UpdateTable::new(alloc)?;
+        let mut pending = 0;
+        for (c, call) in calls.iter().enumerate() {
+            match call.op {
+                CallOp::Update(entry) => updates.put(entry.component, c as u32)?,
+                CallOp::View => {
+                    if call.ended.is_some() {
+                        views.push(c as u32)?;
+                    }
+                }
+            }
+            if call.ended.is_none() {
+                pending += 1;
+            }
+        }
+        Ok(Index {
+            history,
+            calls,
+            views,
+            updates,
+            pending,
+        })
+    }
+
+    /// The events of the history, in order.
+    pub fn events(&self) -> &[Event]
+        ensures events { result.now ≡ self.now }
+        ensures kept { IsKept self.now }
+    {
+        self.history.events()
+    }
+
+    /// How many events the history has.
+    pub fn event_count(&self) -> u32
+        ensures count { result ≡ length self.now }
+        ensures kept { IsKept self.now }
+    {
+        self.events().len() as u32
+    }
+
+    /// How many calls it has.
+    pub fn call_count(&self) -> u32
+        ensures { result ≡ length (calls_of self.now) }
+    {
+        self.calls.len() as u32
+    }
+
+    /// How many calls have no end, updates and views alike.
+    pub fn pending_count(&self) -> u32
+        ensures { result ≡ count_by is_pending (calls_of self.now) }
+    {
+        self.pending
+    }
+
+    /// How many completed views it has.
+    pub fn view_count(&self) -> u32
+        ensures { result ≡ length (views_of (calls_of self.now)) }
+    {
+        self.views.len() as u32
+    }
+
+    /// The call of a number, if there is one.
+    pub fn call(&self, c: u32) -> Option<&Call>
+        ensures { option_copied result ≡ option_map bare (slice_get (calls_of self.now) c) }
+    {
+        self.calls.get(c as usize)
+    }
+
+    /// The call number of the `i`-th completed view by call number, counted from 0.
+    pub fn view_call(&self, i: u32) -> Option<u32>
+        ensures { result ≡ option_map number_of (slice_get (views_of (calls_of self.now)) i) }
+    {
+        self.views.get(i as usize).copied()
+    }
+
+    /// What the `i`-th completed view by call number shows, counted from 0.
+    pub fn view(&self, i: u32) -> Option<&View>
+        ensures { option_copied result ≡ option_map entries_shown (slice_get (views_of (calls_of self.now)) i) }
+    {
+        let c = self.view_call(i)?;
+        let ended = self.calls[c as usize].ended?;
+        match self.history.event(ended as usize)? {
+            Event::EndView { view, .. } => Some(view),
+            _ => None,
+        }
+    }
+
+    /// The call number of update `n` of component `k`, pending or not. Updates are numbered from 1.
+    pub fn update_call(&self, k: u8, n: u32) -> Option<u32>
+        ensures { result ≡ option_map number_of (find (is_update_numbered k n) (calls_of self.now)) }
+    {
+        let numbers = self.updates(k);
+        let place = n.checked_sub(1)?;
+        numbers.get(place as usize).copied()
+    }
+
+    /// Update `n` of component `k`, pending or not. Updates are numbered from 1.
+    pub fn update(&self, k: u8, n: u32) -> Option<&Call>
+        ensures { option_copied result ≡ option_map bare (find (is_update_numbered k n) (calls_of self.now)) }
+    {
+        let c = self.update_call(k, n)?;
+        self.call(c)
+    }
+
+    /// The call numbers of the updates of component `k`: that of update `n` is the `n`-th of them.
+    pub fn updates(&self, k: u8) -> &[u32]
+        ensures updates { result.now ≡ map number_of (updates_of k (calls_of self.now)) }
+        ensures kept { IsKept self.now }
+    {
+        self.updates.of(k)
+    }
+
+    /// How many updates component `k` has, pending ones among them.
+    pub fn update_count(&self, k: u8) -> u32
+        ensures { result ≡ count_by (is_update_of k) (calls_of self.now) }
+    {
+        self.updates(k).len() as u32
+    }
+
+    /// Whether call `a` ended before call `b` began.
+    pub fn precedes(&self, a: u32, b: u32) -> bool
+        requires a { a < length (calls_of self.now) }
+        requires b { b < length (calls_of self.now) }
+        ensures { result ≡ spec_precedes (call_numbered (calls_of self.now) a) (call_numbered (calls_of self.now) b) }
+    {
+        match self.calls[a as usize].ended {
+            Some(ended) => ended < self.calls[b as usize].begun,
+            None => false,
+        }
+    }
+}

@@ -1,0 +1,12 @@
+//! The calls of a history, with look-ups by number.
+#![tactic(auto)]
+
+mod call;
+mod index;
+mod listing;
+mod table;
+#[cfg(test)]
+mod tests;
+
+pub use call::{Call, CallOp};
+pub use index::Index;

@@ -1,0 +1,48 @@
+ghost use Rattle.std.specs.Prelude.{◌≡◌, ◌≤◌, length, map, IfOk};
+ghost use Rattle.snap_core.specs.Calls.{calls_of};
+ghost use Rattle.snap_core.specs.Events.{event_limit};
+ghost use Rattle.snap_index.specs.Bare.{bare, begun_by as spec_begun_by};
+
+use crate::call::{Call, CallOp};
+use snap_core::Event;
+use std::alloc::{AllocError, Global};
+
+const PROCESS_COUNT: usize = 65536;
+
+fn begun_by(event: &Event) -> Option<CallOp>
+    ensures { result ≡ spec_begun_by event.now }
+{
+    match event {
+        Event::BeginUpdate { entry, .. } => Some(CallOp::Update(*entry)),
+        Event::BeginView { .. } => Some(CallOp::View),
+        _ => None,
+    }
+}
+
+// The calls in the order of their begins, by one pass from the end.
+pub(crate) fn list_calls(alloc: Global, events: &[Event]) -> Result<Vec<Call>, AllocError>
+    requires { length events.now ≤ event_limit }
+    ensures { IfOk result (λ calls. calls.items ≡ map bare (calls_of events.now)) }
+{
+    // the place of each process's next event
+    let mut next: Vec<Option<u32>> = vec![in alloc; None; PROCESS_COUNT]?;
+    let mut calls = Vec::new(alloc);
+    let mut i = events.len();
+    while i > 0 {
+        i -= 1;
+        let event = &events[i];
+        let p = event.process();
+        let ended = next[p as usize];
+        if let Some(op) = begun_by(event) {
+            calls.push(Call {
+                process: p,
+                op,
+                begun: i as u32,
+                ended,
+            })?;
+        }
+        next[p as usize] = Some(i as u32);
+    }
+    calls.reverse();
+    Ok(calls)
+}
