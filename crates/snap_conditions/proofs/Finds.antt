@@ -1,0 +1,151 @@
+-- What is found of a view at one entry, at one component and against one other view.
+use Rattle.std.proofs.Common.{◌≡◌, ℕ, suc, ◌<◌, Bool, true, false, not, ◌&&◌, ◌||◌, List, length, get_or, Option, Some, None, refl, sym, ap, ◌∙◌, [], ◌∷◌, inl, inr, subst, arith}
+use Rattle.std.specs.Prelude.{is_some, if◌then◌else◌, unwrap_or}
+use Rattle.std.specs.Bool.{then_some}
+use Rattle.std.proofs.lemmas.List.{length-map, get_or-map}
+use Rattle.snap_core.proofs.Lists.{In}
+use Rattle.snap_core.specs.declared.entry.Entry.{Entry}
+use Rattle.snap_core.specs.declared.event.Event.{Event}
+use Rattle.snap_core.specs.Entries.{AreEntries, value_in}
+use Rattle.snap_core.specs.Events.{IsKept}
+use Rattle.snap_core.specs.Calls.{Call, calls_of, entries_of, is_before, precedes, shown, shown_number}
+use Rattle.snap_core.proofs.Facts.{shown_number_at}
+use Rattle.snap_core.proofs.Histories.{are_calls}
+use Rattle.snap_conditions.specs.declared.fault.IntegrityFault.{IntegrityFault}
+use Rattle.snap_conditions.specs.declared.fault.ProximityFault.{ProximityFault}
+use Rattle.snap_conditions.specs.declared.fault.WriteFault.{WriteFault}
+use Rattle.snap_conditions.specs.declared.fault.Side.{Side}
+use Rattle.snap_conditions.specs.declared.fault.Side.TheVariants.{Old, Early}
+use Rattle.snap_conditions.specs.Excess.{first_excess}
+use Rattle.snap_conditions.specs.Faults.{integrity_fault, old_fault, early_fault, read_fault, write_fault, listed, missed_at, exceeds}
+use Rattle.snap_conditions.specs.Parts.{no_part, part_of, found_at}
+use Rattle.snap_conditions.specs.Places.{update_of, end_of, begin_of, begins_behind, begin_of_shown, is_written, IsNoLater}
+use Rattle.snap_conditions.specs.Tally.{reported_integrity, reported_proximity, reported_read, reported_write}
+use Rattle.snap_conditions.proofs.Excess.{sorted, nothing}
+use Rattle.snap_conditions.proofs.Leasts.{exceeds_by_entries, least_by_entries}
+use Rattle.snap_conditions.proofs.Places.{integrity_by_update, old_by_place, early_by_place, write_by_place, behind_none}
+use Rattle.snap_conditions.proofs.OneView.{missed_part}
+use Rattle.snap_conditions.proofs.Tallies.{filter_none}
+use Rattle.snap_conditions.proofs.Rows.{entry_at}
+
+-- what a view shows of a component that it lists
+pub shown_at : (r : Call) (i : ℕ) (x : Entry) → AreEntries (entries_of r.operation) → i < length (entries_of r.operation) → shown r (get_or (entries_of r.operation) i x).component ≡ Some (get_or (entries_of r.operation) i x)
+unfolding shown
+shown_at r i x h l = entry_at (entries_of r.operation) i x (sorted (entries_of r.operation) h) l
+
+pub integrity_found : (es : List Event) → IsKept es → (r : Call) (e : Entry) → shown r e.component ≡ Some e →
+    found_at (λ k. reported_integrity (r, k)) (integrity_fault (calls_of es) r) e.component ≡ then_some (not (is_written (update_of (calls_of es) e.component e.number) e)) (record { view = r.number; entry = e })
+integrity_found es kept r e s =
+    let E : ℕ → ℕ → Entry = λ n v. record { component = e.component; number = n; value = v } in
+    let F : Entry → IntegrityFault = λ d. record { view = r.number; entry = d } in
+    ap (λ b. then_some b (reported_integrity (r, e.component))) (integrity_by_update (calls_of es) (are_calls es kept.history) r e.component e s)
+    ∙ ap (λ d. then_some (not (is_written (update_of (calls_of es) e.component e.number) e)) (F d))
+    (ap (λ n. E n (value_in (shown r e.component))) (shown_number_at r e.component e s) ∙ ap (λ o. E e.number (value_in o)) s)
+
+-- a view at a component, by the tests of its two sides
+
+abbrev pub proximity_at : List Call → Call → ℕ → Option ProximityFault
+proximity_at calls r k = found_at (λ k. reported_proximity calls (r, k)) (λ k. old_fault calls r k || early_fault calls r k) k
+
+abbrev pub sided : Call → ℕ → Side → ProximityFault
+sided r k side = record { view = r.number; component = k; number = shown_number r k; side = side }
+
+found_old : (calls : List Call) (r : Call) (k : ℕ) → old_fault calls r k ≡ true → proximity_at calls r k ≡ Some (sided r k Old)
+found_old calls r k t = ap (λ b. then_some (b || early_fault calls r k) (sided r k (if b then Old else Early))) t
+
+found_early : (calls : List Call) (r : Call) (k : ℕ) → old_fault calls r k ≡ false → early_fault calls r k ≡ true → proximity_at calls r k ≡ Some (sided r k Early)
+found_early calls r k f t = ap (λ b. then_some (b || early_fault calls r k) (sided r k (if b then Old else Early))) f ∙ ap (λ b. then_some b (sided r k Early)) t
+
+found_neither : (calls : List Call) (r : Call) (k : ℕ) → old_fault calls r k ≡ false → early_fault calls r k ≡ false → proximity_at calls r k ≡ None
+found_neither calls r k f g = ap (λ b. then_some (b || early_fault calls r k) (sided r k (if b then Old else Early))) f ∙ ap (λ b. then_some b (sided r k Early)) g
+
+-- the tests by places of a view of which n is shown
+
+pub old_here : (es : List Event) → IsKept es → (r : Call) (k n : ℕ) → n ≡ shown_number r k → old_fault (calls_of es) r k ≡ is_before (end_of (update_of (calls_of es) k (suc n))) r.begun
+old_here es kept r k n s = old_by_place (calls_of es) (are_calls es kept.history) r k ∙ ap (λ m. is_before (end_of (update_of (calls_of es) k (suc m))) r.begun) (sym s)
+
+pub early_here : (es : List Event) → IsKept es → (r : Call) (k n : ℕ) → n ≡ shown_number r k → early_fault (calls_of es) r k ≡ begins_behind r.ended (begin_of (update_of (calls_of es) k n))
+early_here es kept r k n s = early_by_place (calls_of es) (are_calls es kept.history) r k ∙ ap (λ m. begins_behind r.ended (begin_of (update_of (calls_of es) k m))) (sym s)
+
+pub old_found : (es : List Event) → IsKept es → (r : Call) (k n : ℕ) → n ≡ shown_number r k → is_before (end_of (update_of (calls_of es) k (suc n))) r.begun ≡ true →
+    proximity_at (calls_of es) r k ≡ Some (record { view = r.number; component = k; number = n; side = Old })
+old_found es kept r k n s t =
+    found_old (calls_of es) r k (old_here es kept r k n s ∙ t) ∙ ap (λ m. Some (record { view = r.number; component = k; number = m; side = Old })) (sym s)
+
+pub early_found : (es : List Event) → IsKept es → (r : Call) (k n : ℕ) → n ≡ shown_number r k → is_before (end_of (update_of (calls_of es) k (suc n))) r.begun ≡ false →
+    begins_behind r.ended (begin_of (update_of (calls_of es) k n)) ≡ true → proximity_at (calls_of es) r k ≡ Some (record { view = r.number; component = k; number = n; side = Early })
+early_found es kept r k n s f t =
+    found_early (calls_of es) r k (old_here es kept r k n s ∙ f) (early_here es kept r k n s ∙ t) ∙ ap (λ m. Some (record { view = r.number; component = k; number = m; side = Early })) (sym s)
+
+pub neither_found : (es : List Event) → IsKept es → (r : Call) (k n : ℕ) → n ≡ shown_number r k → is_before (end_of (update_of (calls_of es) k (suc n))) r.begun ≡ false →
+    begins_behind r.ended (begin_of (update_of (calls_of es) k n)) ≡ false → proximity_at (calls_of es) r k ≡ None
+neither_found es kept r k n s f g = found_neither (calls_of es) r k (old_here es kept r k n s ∙ f) (early_here es kept r k n s ∙ g)
+
+-- a view against another
+
+pub no_excess_found : (r s : Call) → AreEntries (entries_of r.operation) → first_excess (entries_of r.operation) (entries_of s.operation) ≡ None → found_at (λ s. reported_read (r, s)) (read_fault r) s ≡ None
+unfolding read_fault
+no_excess_found r s h none =
+    let no_more : exceeds r s ≡ false = exceeds_by_entries r s h ∙ ap is_some none in
+    ap (λ b. then_some (b && (precedes r s || exceeds s r)) (reported_read (r, s))) no_more
+
+pub excess_found : (r s : Call) (k : ℕ) → AreEntries (entries_of r.operation) → AreEntries (entries_of s.operation) → first_excess (entries_of r.operation) (entries_of s.operation) ≡ Some k →
+    found_at (λ s. reported_read (r, s)) (read_fault r) s ≡ then_some (is_before r.ended s.begun || is_some (first_excess (entries_of s.operation) (entries_of r.operation))) (record { view = r.number; other = s.number; component = k })
+unfolding read_fault precedes
+excess_found r s k h g found =
+    let more : exceeds r s ≡ true = exceeds_by_entries r s h ∙ ap is_some found in
+    ap (λ b. then_some (b && (is_before r.ended s.begun || exceeds s r)) (reported_read (r, s))) more
+    ∙ ap (λ b. then_some (is_before r.ended s.begun || b) (reported_read (r, s))) (exceeds_by_entries s r g)
+    ∙ ap (λ o. then_some (is_before r.ended s.begun || is_some (first_excess (entries_of s.operation) (entries_of r.operation))) (record { view = r.number; other = s.number; component = unwrap_or o 0 })) (least_by_entries r s k h found)
+
+-- an update that a view misses, against those that it shows
+
+never : (o : Option ℕ) → begins_behind None o ≡ false
+never None = refl
+never (Some b) = refl
+
+pub none_missed : (es : List Event) → IsKept es → (r : Call) (j : ℕ) → end_of (update_of (calls_of es) j (suc (shown_number r j))) ≡ None → part_of reported_write (missed_at (calls_of es) r j) ≡ no_part
+none_missed es kept r j none =
+    let calls = calls_of es in
+    let shown_begin : ℕ → Option ℕ = λ k. begin_of (update_of calls k (shown_number r k)) in
+    missed_part calls r j
+    ∙ ap (part_of (λ k. reported_write (r, j, k))) (filter_none (write_fault calls r j) (listed r) (λ k i. write_by_place calls (are_calls es kept.history) r j k ∙ ap (λ o. begins_behind o (shown_begin k)) none ∙ never (shown_begin k)))
+
+in_place : {X : Type 0} (xs : List X) (x d : X) → In x xs → (i : ℕ) × (i < length xs) × (get_or xs i d ≡ x)
+in_place [] x d h = absurd h
+in_place (y ∷ ys) x d (inl e) = (0, omega arith, e)
+in_place (y ∷ ys) x d (inr h) = let r = in_place ys x d h in (suc r.0, omega (arith, r.1), r.2)
+
+-- where no update that the view shows begins behind the end of the update that it misses
+pub none_behind : (es : List Event) → IsKept es → (r : Call) (j : ℕ) (latest : Option ℕ) → AreEntries (entries_of r.operation) →
+    ((i : ℕ) → i < length (entries_of r.operation) → IsNoLater (begin_of_shown (calls_of es) (entries_of r.operation) i) latest) →
+    begins_behind (end_of (update_of (calls_of es) j (suc (shown_number r j)))) latest ≡ false → part_of reported_write (missed_at (calls_of es) r j) ≡ no_part
+none_behind es kept r j latest shape no_later none = missed_part calls r j ∙ ap (part_of (λ k. reported_write (r, j, k))) (filter_none (write_fault calls r j) (listed r) not)
+  where
+    calls : List Call
+    calls = calls_of es
+
+    entries : List Entry
+    entries = entries_of r.operation
+
+    not : (k : ℕ) → In k (listed r) → write_fault calls r j k ≡ false
+    not k i =
+        let p = in_place (listed r) k 0 i in
+        let within : p.0 < length entries = omega (arith, p.1, length-map entries (λ (e : Entry). e.component)) in
+        let e = get_or entries p.0 nothing in
+        let same : e.component ≡ k = sym (get_or-map (λ (d : Entry). d.component) entries p.0 nothing 0 within) ∙ p.2 in
+        let number : e.number ≡ shown_number r k = sym (shown_number_at r e.component e (shown_at r p.0 nothing shape within)) ∙ ap (shown_number r) same in
+        write_by_place calls (are_calls es kept.history) r j k
+        ∙ behind_none _ (begin_of (update_of calls k (shown_number r k))) latest (subst (λ n. IsNoLater (begin_of (update_of calls k n)) latest) number (subst (λ c. IsNoLater (begin_of (update_of calls c e.number)) latest) same (no_later p.0 within))) none
+
+pub missed_found : (es : List Event) → IsKept es → (r : Call) (j m : ℕ) (e : Entry) → m ≡ suc (shown_number r j) → shown r e.component ≡ Some e →
+    found_at (λ k. reported_write (r, j, k)) (write_fault (calls_of es) r j) e.component
+    ≡ then_some (begins_behind (end_of (update_of (calls_of es) j m)) (begin_of (update_of (calls_of es) e.component e.number))) (record { view = r.number; missed_component = j; missed_number = m; shown_component = e.component; shown_number = e.number })
+missed_found es kept r j m e next s =
+    let calls = calls_of es in
+    let number = shown_number_at r e.component e s in
+    let fault : ℕ → ℕ → WriteFault = λ a b. record { view = r.number; missed_component = j; missed_number = a; shown_component = e.component; shown_number = b } in
+    let test : ℕ → ℕ → Bool = λ a b. begins_behind (end_of (update_of calls j a)) (begin_of (update_of calls e.component b)) in
+    ap (λ b. then_some b (reported_write (r, j, e.component))) (write_by_place calls (are_calls es kept.history) r j e.component)
+    ∙ ap (λ a. then_some (test a (shown_number r e.component)) (fault a (shown_number r e.component))) (sym next)
+    ∙ ap (λ b. then_some (test m b) (fault m b)) number

@@ -1,0 +1,62 @@
+-- Calls of a history by number, and numbers that no update has.
+use Rattle.std.proofs.Common.{◌≡◌, ℕ, ◌<◌, ◌≤◌, Bool, false, cond, List, [], ◌∷◌, length, Some, None, refl, sym, ap, ◌∙◌, subst, inl, inr, arith}
+use Rattle.std.specs.Prelude.{find, slice_get}
+use Rattle.std.specs.List.{All, Contains}
+use Rattle.std.proofs.lemmas.Bool.{false_from_ne_true}
+use Rattle.std.proofs.lemmas.List.Elements.{All-contains}
+use Rattle.std.proofs.lemmas.Option.{slice_get-get_or}
+use Rattle.snap_core.specs.declared.entry.Entry.{Entry}
+use Rattle.snap_core.specs.declared.event.Event.{Event}
+use Rattle.snap_core.specs.declared.event.Event.TheVariants.{BeginUpdate, BeginView, EndUpdate, EndView}
+use Rattle.snap_core.specs.Entries.{EntryFits}
+use Rattle.snap_core.specs.Events.{EventFits, IsKept}
+use Rattle.snap_core.specs.Calls.{Call, Updates, calls_of, views_of, is_update_numbered, nobody}
+use Rattle.snap_core.specs.Regular.{IsUpdateOf}
+use Rattle.snap_core.proofs.Lists.{In, In-get_or}
+use Rattle.snap_core.proofs.Begun.{Begun, operation_at}
+use Rattle.snap_core.proofs.Histories.{begun_of, in_history, numbered_calls}
+use Rattle.snap_conditions.specs.Places.{update_of}
+use Rattle.snap_conditions.specs.Seen.{view_in}
+use Rattle.snap_conditions.proofs.Local.{numbered_to}
+use Rattle.snap_conditions.proofs.Tallies.{from_views}
+
+-- the place of a call is its number
+pub call_at_number : (es : List Event) (c : Call) → Contains (calls_of es) c → slice_get (calls_of es) c.number ≡ Some c
+call_at_number es c i =
+    let n : c.number ≡ i.0 = ap (λ (z : Call). z.number) (sym i.2) ∙ numbered_calls es i.0 c i.1 in
+    ap (slice_get (calls_of es)) n ∙ slice_get-get_or (calls_of es) i.0 c i.1 ∙ ap Some i.2
+
+pub view_there : (es : List Event) (place : ℕ) → place < length (views_of (calls_of es)) → In (view_in (calls_of es) place) (views_of (calls_of es))
+view_there es place l = In-get_or (views_of (calls_of es)) place nobody l
+
+pub view_at_number : (es : List Event) (place : ℕ) → place < length (views_of (calls_of es)) → slice_get (calls_of es) (view_in (calls_of es) place).number ≡ Some (view_in (calls_of es) place)
+view_at_number es place l = call_at_number es (view_in (calls_of es) place) (from_views (calls_of es) (view_in (calls_of es) place) (view_there es place l)).there
+
+-- the entry of an update fits the types of its fields
+update_fits : (es : List Event) → All EventFits es → (c : Call) (e : Entry) → IsUpdateOf (calls_of es) c e → EntryFits e
+update_fits es f c e u = at x.event refl (sym (ap (λ (z : Call). z.operation) x.is) ∙ u.writes)
+  where
+    x : Begun 0 0 es c
+    x = begun_of es c u.there
+
+    fits : EventFits x.event
+    fits = All-contains EventFits es x.event f (in_history es x.event x.before x.after x.split)
+
+    at : (y : Event) → x.event ≡ y → operation_at x.event x.after ≡ Updates e → EntryFits e
+    at (BeginUpdate p d) h o =
+        let same : d ≡ e = (let g : Updates d ≡ Updates e = ap (λ z. operation_at z x.after) (sym h) ∙ o in cc) in
+        subst EntryFits same (subst EventFits h fits).1
+    at (BeginView p) h o = absurd (let g = ap (λ z. operation_at z x.after) (sym h) ∙ o in cc)
+    at (EndUpdate p) h o = absurd (let g = ap (λ z. operation_at z x.after) (sym h) ∙ o in cc)
+    at (EndView p s) h o = absurd (let g = ap (λ z. operation_at z x.after) (sym h) ∙ o in cc)
+
+find_none : {X : Type 0} (p : X → Bool) (xs : List X) → ((x : X) → In x xs → p x ≡ false) → find p xs ≡ None
+find_none p [] h = refl
+find_none p (x ∷ xs) h = ap (λ b. cond b (Some x) (find p xs)) (h x (inl refl)) ∙ find_none p xs (λ y i. h y (inr i))
+
+-- no update has a number past the largest of its type
+pub no_update_past : (es : List Event) → IsKept es → (k n : ℕ) → 4294967296 ≤ n → update_of (calls_of es) k n ≡ None
+no_update_past es kept k n l = find_none (is_update_numbered k n) (calls_of es) (λ c i. false_from_ne_true _ (λ t.
+    let x = numbered_to (calls_of es) k n c i t in
+    let f = update_fits es kept.fit c x.entry x.update in
+    omega (arith, f.1, x.number, l)))

@@ -1,0 +1,52 @@
+use Rattle.std.proofs.Common.{◌≡◌, ℕ, ◌<◌, not, Some, length, get_or, sym, ap, ◌∙◌, subst, arith}
+use Rattle.std.proofs.lemmas.List.{take_all, length-map, get_or-map}
+use Rattle.std.specs.Prelude.{filter}
+use Rattle.std.specs.Bool.{then_some}
+use Rattle.snap_core.specs.declared.entry.Entry.{Entry}
+use Rattle.snap_core.specs.Calls.{calls_of, entries_of, shown}
+use Rattle.snap_conditions.specs.Faults.{integrity_fault, listed}
+use Rattle.snap_conditions.specs.Parts.{part_of, found_at}
+use Rattle.snap_conditions.specs.PartValue.{PartValue}
+use Rattle.snap_conditions.specs.Places.{update_of, is_written}
+use Rattle.snap_conditions.specs.declared.fault.IntegrityFault.{IntegrityFault}
+use Rattle.snap_conditions.specs.Seen.{view_in}
+use Rattle.snap_conditions.specs.Tally.{reported_integrity}
+use Rattle.snap_conditions.proofs.Excess.{nothing}
+use Rattle.snap_conditions.proofs.Finds.{shown_at, integrity_found}
+use Rattle.snap_conditions.proofs.Parts.{next_noted}
+use Rattle.snap_conditions.proofs.Ranges.{few_listed}
+use Rattle.snap_conditions.proofs.Viewed.{view_there}
+use Rattle.snap_conditions.proofs.OneView.{integrity_alone, found_few}
+use Rattle.snap_conditions.proofs.integrity.integrity_part.Goals as goal
+
+pub note-part-requires : goal.note-part-requires
+note-part-requires c =
+    let calls = calls_of c.args.index.now in
+    let r = view_in calls c.args.place in
+    let count = ap (λ (p : PartValue IntegrityFault). p.count) c.loop-entry.invariant in
+    let few = few_listed c.args.index.now c.requires.kept r (view_there c.args.index.now c.args.place c.requires.place) in
+    omega (arith, count, found_few (integrity_fault calls r) (listed r) c.loop-entry.entry-index, few, length-map (entries_of r.operation) (λ e. e.component), ap length c.view_at-view.ensures.entries)
+
+pub loop-entry-preserved : goal.loop-entry-preserved
+loop-entry-preserved c =
+    let es = c.args.index.now in
+    let calls = calls_of es in
+    let r = view_in calls c.args.place in
+    let i = c.loop-entry.entry-index in
+    let shape = c.view_at-view.ensures.entries in
+    let e = get_or c.view_at-view.result.entries.now i nothing in
+    let within : i < length (entries_of r.operation) = subst (λ z. i < length z) shape c.loop-entry-test.true in
+    let is_shown : shown r e.component ≡ Some e = subst (λ z. shown r (get_or z i nothing).component ≡ Some (get_or z i nothing)) (sym shape) (shown_at r i nothing c.view_at-view.ensures.shape within) in
+    let at : get_or (listed r) i 0 ≡ e.component = get_or-map (λ (d : Entry). d.component) (entries_of r.operation) i nothing 0 within ∙ ap (λ z. (get_or z i nothing).component) (sym shape) in
+    let fault : ℕ → IntegrityFault = λ n. record { view = n; entry = e } in
+    let found =
+    c.then_some.ensures ∙ ap (λ b. then_some (not b) (fault c.view_at-view.result.number)) c.is_written-written.ensures
+    ∙ ap (λ n. then_some (not (is_written (update_of calls e.component e.number) e)) (fault n)) c.view_at-view.ensures.number ∙ sym (integrity_found es c.requires.kept r e is_shown) in
+    next_noted (λ k. reported_integrity (r, k)) (integrity_fault calls r) (listed r) i 0 (omega (arith, within, length-map (entries_of r.operation) (λ d. d.component))) _ _ _ c.loop-entry.invariant c.note-part.ensures
+    (found ∙ ap (found_at (λ k. reported_integrity (r, k)) (integrity_fault calls r)) (sym at))
+
+pub returns : goal.returns
+returns c =
+    let calls = calls_of c.args.index.now in
+    let r = view_in calls c.args.place in
+    c.loop-entry.invariant ∙ ap (λ xs. part_of (λ k. reported_integrity (r, k)) (filter (integrity_fault calls r) xs)) (take_all c.loop-entry.entry-index (listed r) (omega (arith, c.loop-entry-test.false, length-map (entries_of r.operation) (λ e. e.component), ap length c.view_at-view.ensures.entries))) ∙ sym (integrity_alone calls r)

@@ -1,0 +1,40 @@
+use Rattle.std.proofs.Common.{◌≡◌, ◌||◌, get_or, sym, ap, ◌∙◌, arith}
+use Rattle.std.proofs.lemmas.List.{take_all}
+use Rattle.std.proofs.lemmas.List.FromFn.{get_or-range_with_len}
+use Rattle.std.specs.Prelude.{filter}
+use Rattle.snap_core.specs.Calls.{calls_of, shown_number}
+use Rattle.snap_conditions.specs.Faults.{old_fault, early_fault, components}
+use Rattle.snap_conditions.specs.Parts.{part_of}
+use Rattle.snap_conditions.specs.PartValue.{PartValue}
+use Rattle.snap_conditions.specs.declared.fault.ProximityFault.{ProximityFault}
+use Rattle.snap_conditions.specs.Excess.{number_among}
+use Rattle.snap_conditions.specs.Seen.{view_in}
+use Rattle.snap_conditions.specs.Tally.{reported_proximity}
+use Rattle.snap_conditions.proofs.Finds.{proximity_at}
+use Rattle.snap_conditions.proofs.Leasts.{among_is_shown}
+use Rattle.snap_conditions.proofs.Parts.{next_noted}
+use Rattle.snap_conditions.proofs.OneView.{proximity_alone, found_few}
+use Rattle.snap_conditions.proofs.proximity.proximity_part.Goals as goal
+
+pub note-part-requires : goal.note-part-requires
+note-part-requires c =
+    let calls = calls_of c.args.index.now in
+    let r = view_in calls c.args.place in
+    let count = ap (λ (p : PartValue ProximityFault). p.count) c.loop-k.invariant in
+    omega (arith, count, found_few (λ k. old_fault calls r k || early_fault calls r k) components c.loop-k.k)
+
+pub loop-k-preserved : goal.loop-k-preserved
+loop-k-preserved c =
+    let calls = calls_of c.args.index.now in
+    let r = view_in calls c.args.place in
+    let shows : get_or c.numbers_of-numbers.result c.loop-k.k 0 ≡ shown_number r c.loop-k.k =
+    c.numbers_of-numbers.ensures c.loop-k.k c.loop-k-test.true ∙ ap (λ es. number_among es c.loop-k.k) c.view_at-view.ensures.entries ∙ among_is_shown r c.loop-k.k in
+    let at : get_or components c.loop-k.k 0 ≡ c.loop-k.k = omega (arith, get_or-range_with_len 0 256 c.loop-k.k 0 c.loop-k-test.true) in
+    next_noted (λ k. reported_proximity calls (r, k)) (λ k. old_fault calls r k || early_fault calls r k) components c.loop-k.k 0 c.loop-k-test.true _ _ _ c.loop-k.invariant c.note-part.ensures
+    (c.proximity_fault.ensures r c.view_at-view.ensures shows ∙ ap (proximity_at calls r) (sym at))
+
+pub returns : goal.returns
+returns c =
+    let calls = calls_of c.args.index.now in
+    let r = view_in calls c.args.place in
+    c.loop-k.invariant ∙ ap (λ xs. part_of (λ k. reported_proximity calls (r, k)) (filter (λ k. old_fault calls r k || early_fault calls r k) xs)) (take_all c.loop-k.k components c.loop-k-test.false) ∙ sym (proximity_alone calls r)

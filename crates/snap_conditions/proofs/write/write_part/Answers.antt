@@ -1,0 +1,50 @@
+use Rattle.std.proofs.Common.{◌≡◌, take, get_or, sym, ap, ◌∙◌, arith}
+use Rattle.std.proofs.lemmas.List.{take_all}
+use Rattle.std.proofs.lemmas.List.FromFn.{get_or-range_with_len}
+use Rattle.std.specs.Prelude.{flat_map}
+use Rattle.snap_core.specs.Calls.{calls_of}
+use Rattle.snap_conditions.specs.declared.fault.WriteFault.{WriteFault}
+use Rattle.snap_conditions.specs.Excess.{number_among}
+use Rattle.snap_conditions.specs.Faults.{components, missed_at}
+use Rattle.snap_conditions.specs.Parts.{part_of, merged_part}
+use Rattle.snap_conditions.specs.PartValue.{PartValue}
+use Rattle.snap_conditions.specs.Seen.{view_in}
+use Rattle.snap_conditions.specs.Tally.{reported_write}
+use Rattle.snap_conditions.proofs.Leasts.{among_is_shown}
+use Rattle.snap_conditions.proofs.OneView.{write_alone, missed_few, all_missed_few}
+use Rattle.snap_conditions.proofs.Parts.{merge_step}
+use Rattle.snap_conditions.proofs.Viewed.{view_there}
+use Rattle.snap_conditions.proofs.write.write_part.Goals as goal
+
+pub missed_part-requires-clause-number : goal.missed_part-requires-clause-number
+missed_part-requires-clause-number c =
+    let r = view_in (calls_of c.args.index.now) c.args.place in
+    c.numbers_of-numbers.ensures c.loop-j.j c.loop-j-test.true ∙ ap (λ es. number_among es c.loop-j.j) c.view_at-view.ensures.entries ∙ among_is_shown r c.loop-j.j
+
+pub merge-part-requires : goal.merge-part-requires
+merge-part-requires c =
+    let es = c.args.index.now in
+    let r = view_in (calls_of es) c.args.place in
+    let there = view_there es c.args.place c.requires.place in
+    omega (
+      arith,
+      ap (λ (p : PartValue WriteFault). p.count) c.loop-j.invariant,
+      ap (λ (p : PartValue WriteFault). p.count) c.missed_part.ensures,
+      missed_few es c.requires.kept r there c.loop-j.j,
+      all_missed_few es c.requires.kept r there c.loop-j.j,
+    )
+
+pub loop-j-preserved : goal.loop-j-preserved
+loop-j-preserved c =
+    let calls = calls_of c.args.index.now in
+    let r = view_in calls c.args.place in
+    let at : get_or components c.loop-j.j 0 ≡ c.loop-j.j = omega (arith, get_or-range_with_len 0 256 c.loop-j.j 0 c.loop-j-test.true) in
+    c.merge-part.ensures ∙ ap (λ p. merged_part p c.missed_part.result) c.loop-j.invariant
+    ∙ ap (merged_part (part_of reported_write (flat_map (missed_at calls r) (take c.loop-j.j components)))) (c.missed_part.ensures ∙ ap (λ j. part_of reported_write (missed_at calls r j)) (sym at))
+    ∙ sym (merge_step reported_write (missed_at calls r) components c.loop-j.j 0 c.loop-j-test.true)
+
+pub returns : goal.returns
+returns c =
+    let calls = calls_of c.args.index.now in
+    let r = view_in calls c.args.place in
+    c.loop-j.invariant ∙ ap (λ xs. part_of reported_write (flat_map (missed_at calls r) xs)) (take_all c.loop-j.j components c.loop-j-test.false) ∙ sym (write_alone calls r)

@@ -1,0 +1,6 @@
+-- What contracts see of a part: how many faults of a kind there are, and the first of them.
+use Rattle.std.specs.Prelude.{ℕ, Option}
+
+pub record PartValue (F : Type 0) : Type 0 where
+  pub count : ℕ
+  pub first : Option F

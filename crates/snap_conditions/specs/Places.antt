@@ -1,0 +1,39 @@
+-- Where updates begin and end, and the tests of faults by these places.
+use Rattle.std.specs.Prelude.{ℕ, ◌≤◌, ⊤, Bool, false, List, Option, Some, None, find, get_or}
+use Rattle.snap_core.specs.declared.entry.Entry.{Entry}
+use Rattle.snap_core.specs.Calls.{Call, is_update_numbered, is_before}
+use Rattle.snap_conditions.specs.Faults.{writes_entry}
+
+-- update n of component k, if there is one
+abbrev pub update_of : List Call → ℕ → ℕ → Option Call
+update_of calls k n = find (is_update_numbered k n) calls
+
+-- where a call ended, if there is one and it did
+abbrev pub end_of : Option Call → Option ℕ
+end_of None = None
+end_of (Some a) = a.ended
+
+-- where a call began, if there is one
+abbrev pub begin_of : Option Call → Option ℕ
+begin_of None = None
+begin_of (Some a) = Some a.begun
+
+-- a begin that stands behind an end
+abbrev pub begins_behind : Option ℕ → Option ℕ → Bool
+begins_behind ended None = false
+begins_behind ended (Some begun) = is_before ended begun
+
+-- whether a call is the update that writes an entry
+abbrev pub is_written : Option Call → Entry → Bool
+is_written None e = false
+is_written (Some c) e = writes_entry c.operation e
+
+-- a begin that stands no later than another, if there is one at all
+abbrev pub IsNoLater : Option ℕ → Option ℕ → Type 0
+IsNoLater None latest = ⊤
+IsNoLater (Some begun) None = ⊥
+IsNoLater (Some begun) (Some latest) = begun ≤ latest
+
+-- where the update that an entry shows began, if there is one
+abbrev pub begin_of_shown : List Call → List Entry → ℕ → Option ℕ
+begin_of_shown calls entries i = let e = get_or entries i (record { component = 0; number = 0; value = 0 }) in begin_of (update_of calls e.component e.number)

@@ -1,0 +1,36 @@
+ghost use Rattle.std.specs.Prelude.{List};
+ghost use Rattle.snap_core.specs.Calls.{Call};
+ghost use Rattle.snap_conditions.specs.Laws.{RegularExactly, ConditionsExactly, FaultsJoin, ReadFaultHasComponent, TalliesJoin, TalliesFit, RegularByTally, ConditionsByTally, NoFaultByTally};
+
+/// A history is regular exactly where no view has a fault of its own.
+pub fn regular_by_local_faults()
+    ensures { RegularExactly }
+{}
+
+/// The four conditions hold exactly where there is no fault.
+pub fn conditions_by_faults()
+    ensures { ConditionsExactly }
+{}
+
+/// The faults of two ranges of views are those of the one and then of the other; a read fault has a least component.
+pub fn faults_join()
+    ensures join { (calls rs ss : List Call) → FaultsJoin calls rs ss }
+    ensures component { ReadFaultHasComponent }
+{}
+
+/// The tally of no view has no fault; that of two adjoining ranges is both merged, and their counts fit.
+pub fn tallies_join()
+    ensures join { (calls : List Call) → TalliesJoin calls }
+    ensures fit { TalliesFit }
+{}
+
+/// A history is regular exactly where the tally of all its completed views has no integrity and no proximity fault.
+pub fn regular_by_tally()
+    ensures { RegularByTally }
+{}
+
+/// The four conditions hold exactly where the tally of all completed views has no fault, and exactly there no view has one.
+pub fn conditions_by_tally()
+    ensures conditions { ConditionsByTally }
+    ensures faults { NoFaultByTally }
+{}

@@ -1,0 +1,42 @@
+ghost use Rattle.std.specs.Prelude.{◌≡◌, ◌<◌, ◌≤◌, ◌-◌, ◌∷◌, [], length, take, drop};
+ghost use Rattle.snap_core.specs.Calls.{calls_of, views_of};
+ghost use Rattle.snap_core.specs.Events.{IsKept};
+ghost use Rattle.snap_conditions.specs.Seen.{view_in};
+ghost use Rattle.snap_conditions.specs.Tally.{tally_of};
+
+use crate::integrity::integrity_part;
+use crate::proximity::proximity_part;
+use crate::read::read_part;
+use crate::tally::{Tally, merge};
+use crate::write::write_part;
+use snap_index::Index;
+
+// The faults of the view at a place.
+fn view_tally(index: &Index<'_>, place: u32) -> Tally
+    requires place { place < length (views_of (calls_of index.now)) }
+    requires kept { IsKept index.now }
+    ensures { result ≡ tally_of (calls_of index.now) (view_in (calls_of index.now) place ∷ []) }
+{
+    Tally {
+        integrity: integrity_part(index, place),
+        proximity: proximity_part(index, place),
+        read: read_part(index, place),
+        write: write_part(index, place),
+    }
+}
+
+/// The faults whose first view is one of the completed views from `from` to `to - 1`, counted from 0 in the order of call
+/// numbers, each against all views and all updates of the history. It takes no memory.
+pub fn tally_range(index: &Index<'_>, from: u32, to: u32) -> Tally
+    requires order { from ≤ to }
+    requires views { to ≤ length (views_of (calls_of index.now)) }
+    ensures { result ≡ tally_of (calls_of index.now) (take (to - from) (drop from (views_of (calls_of index.now)))) }
+{
+    // what is known of the history that the index is of
+    let _events = index.event_count();
+    let mut tally = Tally::none();
+    for place in from..to {
+        tally = merge(tally, view_tally(index, place));
+    }
+    tally
+}

@@ -1,0 +1,81 @@
+ghost use Rattle.std.specs.Prelude.{◌<◌, ◌≡◌, suc, length};
+ghost use Rattle.snap_core.specs.Events.{IsKept};
+ghost use Rattle.snap_core.specs.Calls.{calls_of, views_of, is_before as spec_is_before};
+ghost use Rattle.snap_conditions.specs.Places.{update_of, end_of, begin_of, begins_behind as spec_begins_behind};
+ghost use Rattle.snap_conditions.specs.Seen.{IsSeen, view_in};
+
+use snap_core::Entry;
+use snap_index::{Call, Index};
+
+// A completed view of an index.
+#[derive(Clone, Copy)]
+pub(crate) struct SeenView<'i> {
+    pub(crate) number: u32,
+    pub(crate) call: Call,
+    pub(crate) entries: &'i [Entry],
+}
+
+// The completed view at a place in the order of call numbers.
+pub(crate) fn view_at<'i>(index: &'i Index<'_>, place: u32) -> SeenView<'i>
+    requires { place < length (views_of (calls_of index.now)) }
+    ensures { IsSeen (view_in (calls_of index.entry.now) place) result }
+{
+    let Some(number) = index.view_call(place) else {
+        unreachable!()
+    };
+    let Some(call) = index.call(number) else {
+        unreachable!()
+    };
+    let Some(view) = index.view(place) else {
+        unreachable!()
+    };
+    SeenView {
+        number,
+        call: *call,
+        entries: view.entries(),
+    }
+}
+
+// Whether an end stands before a place.
+pub(crate) fn is_before(ended: Option<u32>, place: u32) -> bool
+    ensures { result ≡ spec_is_before ended place }
+{
+    match ended {
+        Some(ended) => ended < place,
+        None => false,
+    }
+}
+
+// Whether a begin stands behind an end.
+pub(crate) fn begins_behind(ended: Option<u32>, begun: Option<u32>) -> bool
+    ensures { result ≡ spec_begins_behind ended begun }
+{
+    match begun {
+        Some(begun) => is_before(ended, begun),
+        None => false,
+    }
+}
+
+// Where update n of component k began, if there is one.
+pub(crate) fn begin_of_update(index: &Index<'_>, k: u8, n: u32) -> Option<u32>
+    ensures { result ≡ begin_of (update_of (calls_of index.now) k n) }
+{
+    let update = index.update(k, n)?;
+    Some(update.begun)
+}
+
+// Where update n of component k ended, if there is one and it did.
+pub(crate) fn end_of_update(index: &Index<'_>, k: u8, n: u32) -> Option<u32>
+    ensures { result ≡ end_of (update_of (calls_of index.now) k n) }
+{
+    let update = index.update(k, n)?;
+    update.ended
+}
+
+// Where the update after number n of component k ended, if there is one and it did.
+pub(crate) fn end_of_next(index: &Index<'_>, k: u8, n: u32) -> Option<u32>
+    requires { IsKept index.now }
+    ensures { result ≡ end_of (update_of (calls_of index.now) k (suc n)) }
+{
+    end_of_update(index, k, n.checked_add(1)?)
+}
