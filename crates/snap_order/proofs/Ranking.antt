@@ -1,0 +1,59 @@
+-- The rank of a printed call, by its bare operation and its views.
+use Rattle.std.proofs.Common.{rules, ◌≡◌, ◌≤◌, ◌+◌, ◌*◌, ◌&&◌, ◌||◌, ℕ, Bool, true, false, cond, List, length, Option, Some, None, Fits, w32, sym, ap, ◌∙◌, arith}
+use Rattle.std.specs.Prelude.{is_some, not, nat_le, count_by}
+use Rattle.std.specs.List.{list_any}
+use Rattle.snap_core.specs.declared.entry.Entry.{Entry}
+use Rattle.snap_core.specs.declared.event.Event.{Event}
+use Rattle.snap_core.specs.Calls.{Call, Views, calls_of, views_of, entries_of, is_view, shown, shown_number}
+use Rattle.snap_core.specs.Events.{IsKept}
+use Rattle.snap_conditions.specs.Faults.{exceeds}
+use Rattle.snap_index.specs.Bare.{bare_op}
+use Rattle.snap_index.specs.declared.call.CallOp.TheVariants.{Update, View}
+use Rattle.snap_index.proofs.BareCalls.{update_from, view_from, call_count_within, view_count_within}
+use Rattle.snap_order.specs.Levels.{update_level, view_level, rank_by, rank, stands_by, is_printed}
+use Rattle.snap_order.specs.Keys.{rank_of}
+use Rattle.snap_order.specs.Viewing.{answered_by, answer_of, shows_more}
+use Rattle.snap_order.proofs.Places.{count_views, any_views}
+
+pub rank_fits : (es : List Event) (level : ℕ) → IsKept es → level ≤ length (views_of (calls_of es)) → 2 * level + 1 ≤ 32769
+rank_fits es level k l = omega (arith, l, view_count_within (calls_of es), call_count_within es, k.short)
+
+pub word_fits : (n : ℕ) → n ≤ 32769 → Fits w32 n
+word_fits n l = search (rules, l)
+
+pub update_rank : (calls : List Call) (c : Call) (e : Entry) (b : Bool) → bare_op c.operation ≡ Update e → (is_some c.ended || list_any (λ r. nat_le e.number (shown_number r e.component)) (views_of calls)) ≡ b →
+    cond b (Some (2 * update_level calls e)) None ≡ rank_of calls c
+unfolding rank is_printed
+update_rank calls c e b o h =
+    let w = update_from c.operation e o in
+    let shown : stands_by calls c.ended c.operation ≡ b =
+    ap (stands_by calls c.ended) w ∙ ap (λ z. is_some c.ended || z) (sym (any_views calls (λ r. nat_le e.number (shown_number r e.component)))) ∙ h in
+    sym (ap (λ z. cond z (Some (rank_by calls c c.operation)) None) shown ∙ ap (λ z. cond b (Some (rank_by calls c z)) None) w)
+
+pub view_rank : (calls : List Call) (c : Call) (es : List Entry) (level : ℕ) → bare_op c.operation ≡ View → Some es ≡ answer_of c →
+    level ≡ count_by (λ s. shows_more es (entries_of s.operation) && not (shows_more (entries_of s.operation) es)) (views_of calls) → Some (2 * level + 1) ≡ rank_of calls c
+unfolding rank is_printed view_level exceeds shown_number shown shows_more
+view_rank calls c es level o h l =
+    let v = view_from c.operation o in
+    let a : v.0 ≡ Some es = sym (h ∙ ap answered_by v.1) in
+    let w : c.operation ≡ Views (Some es) = v.1 ∙ ap Views a in
+    let same : level ≡ view_level calls c =
+    l ∙ count_views calls (λ s. shows_more es (entries_of s.operation) && not (shows_more (entries_of s.operation) es))
+    ∙ ap (λ z. count_by (λ s. is_view s && (shows_more (entries_of z) (entries_of s.operation) && not (shows_more (entries_of s.operation) (entries_of z)))) calls) (sym w) in
+    ap (λ z. Some (2 * z + 1)) same
+    ∙ sym (ap (λ z. cond (stands_by calls c.ended z) (Some (rank_by calls c c.operation)) None) w ∙ ap (λ z. Some (rank_by calls c z)) w)
+
+pub no_rank : (calls : List Call) (c : Call) → bare_op c.operation ≡ View → None ≡ answer_of c → None ≡ rank_of calls c
+unfolding rank is_printed
+no_rank calls c o h =
+    let v = view_from c.operation o in
+    let a : v.0 ≡ None = sym (h ∙ ap answered_by v.1) in
+    let w : c.operation ≡ Views None = v.1 ∙ ap Views a in
+    sym (ap (λ z. cond (stands_by calls c.ended z) (Some (rank_by calls c c.operation)) None) w)
+
+-- the test of an update, by its two ways
+pub by_end : (ended o : Option ℕ) (any value result : Bool) → ended ≡ o → result ≡ is_some ended → result ≡ true → value ≡ result → (is_some o || any) ≡ value
+by_end ended o any value result e r t v = ap (λ z. z || any) (sym (ap is_some e) ∙ sym r ∙ t) ∙ sym (v ∙ t)
+
+pub by_view : (ended o : Option ℕ) (any value result shown : Bool) → ended ≡ o → result ≡ is_some ended → result ≡ false → shown ≡ any → value ≡ shown → (is_some o || any) ≡ value
+by_view ended o any value result shown e r t s v = ap (λ z. z || any) (sym (ap is_some e) ∙ sym r ∙ t) ∙ sym (v ∙ s)

@@ -1,0 +1,9 @@
+use Rattle.std.proofs.Common.{◌≡◌, map, take}
+use Rattle.std.specs.List.{filter}
+use Rattle.snap_core.specs.Calls.{calls_of}
+use Rattle.snap_order.specs.Levels.{is_printed}
+use Rattle.snap_order.specs.Keys.{key_of}
+use Rattle.snap_order.proofs.printing.keys.Given as goal
+
+abbrev pub invariant-loop-number : goal.invariant-loop-number
+invariant-loop-number l = l.keys.items ≡ map (key_of (calls_of l.index)) (filter (is_printed (calls_of l.index)) (take l.number (calls_of l.index)))

@@ -1,0 +1,8 @@
+pub mod Levels
+pub mod Starts
+pub mod Keys
+pub mod Numbers
+pub mod Shown
+pub mod Stands
+pub mod Viewing
+pub mod Laws
