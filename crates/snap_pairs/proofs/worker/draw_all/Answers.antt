@@ -1,0 +1,41 @@
+use Rattle.std.proofs.Common.{◌≡◌, ◌+◌, ◌++◌, ◌∷◌, [], All, rules, arith, length, map, vec_items, sym, ap, ◌∙◌, subst}
+use Rattle.std.proofs.lemmas.List.{map_push, length-map}
+use Rattle.snap_core.specs.Calls.{calls_of, views_of}
+use Rattle.snap_conditions.specs.Tally.{tally_of, views_between}
+use Rattle.snap_pairs.specs.Claiming.{pieces_of}
+use Rattle.snap_pairs.specs.Pieces.{IsPieceTally, piece_start, views_in_piece}
+use Rattle.snap_pairs.specs.declared.worker.Drawn.{Drawn}
+use Rattle.snap_pairs.proofs.Finishing.{few_pieces, pieces_more}
+use Rattle.snap_pairs.proofs.Gathering.{All_snoc}
+use Rattle.snap_pairs.proofs.worker.draw_all.Goals as goal
+
+pub overflow_cast-len : goal.overflow_cast-len
+overflow_cast-len g c =
+    let i = c.loop-piece.invariant in
+    let a = few_pieces c.loop-piece.claim.pieces c.loop-piece.claim.drawn in
+    let b = ap length i.covers in
+    let m = length-map (vec_items c.loop-piece.pairs) (λ (pair : Drawn). pair.piece) in
+    omega (arith, a, b, m, i.few, c.requires.pieces, c.args.cutting.pieces_fit.1, c.len.ensures)
+
+pub loop-piece-preserved : goal.loop-piece-preserved
+loop-piece-preserved g c =
+    let calls = calls_of c.args.index.now in
+    let views = length (views_of calls) in
+    let n = c.args.counter.now.pieces in
+    let i = c.loop-piece.invariant in
+    let drawn = c.in-Some.ensures in
+    let old = c.loop-piece.claim in
+    let p = c.in-Some.piece in
+    let t = c.tally_range-tally.result in
+    let pushed : vec_items c.push.new.self ≡ vec_items c.loop-piece.pairs ++ record { piece = p; tally = t } ∷ [] = search rules in
+    let same = c.view_count-views.ensures in
+    let from : c.start_of-from.result ≡ piece_start n p views = c.start_of-from.ensures.start ∙ (λ j. piece_start (sym c.requires.pieces j) p (same j)) in
+    let to : c.start_of-to.result ≡ piece_start n (p + 1) views = c.start_of-to.ensures.start ∙ (λ j. piece_start (sym c.requires.pieces j) (p + 1) (same j)) in
+    let tallied : t ≡ tally_of calls (views_in_piece calls n p) = c.tally_range-tally.ensures ∙ (λ j. tally_of calls (views_between calls (from j) (to j))) in
+    record {
+      of_counter = drawn.same.0;
+      few = drawn.few;
+      tallied = subst (All (λ (pair : Drawn). IsPieceTally calls n pair.piece pair.tally)) (sym pushed) (All_snoc (λ (pair : Drawn). IsPieceTally calls n pair.piece pair.tally) (vec_items c.loop-piece.pairs) (record { piece = p; tally = t }) i.tallied (drawn.piece.0, tallied));
+      covers = ap pieces_of drawn.piece.1 ∙ pieces_more old.pieces p old.drawn (omega (arith, i.of_counter.1, drawn.piece.0)) ∙ ap (λ ps. ps ++ p ∷ []) i.covers
+          ∙ sym (map_push (λ (pair : Drawn). pair.piece) (vec_items c.loop-piece.pairs) (record { piece = p; tally = t })) ∙ ap (map (λ (pair : Drawn). pair.piece)) (sym pushed);
+    }

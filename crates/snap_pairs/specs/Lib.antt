@@ -1,0 +1,5 @@
+pub mod Claiming
+pub mod Cuttings
+pub mod Draws
+pub mod Inside
+pub mod Pieces

@@ -1,0 +1,52 @@
+ghost use Rattle.std.specs.Prelude.{◌≡◌, IfOk, OnOk, IsErrOf};
+ghost use Rattle.snap_pairs.specs.Cuttings.{IsPieces, IsWorkers};
+
+/// Why there is no such cutting, in the order in which the reasons are tested.
+#[derive(Clone, Copy, PartialEq, Eq, Debug)]
+pub enum CuttingRefusal {
+    /// Not 1 to 1,024 pieces.
+    Pieces,
+    /// Not 1 to 8 workers.
+    Workers,
+}
+
+/// Into how many pieces the views are cut, and how many workers share the pieces.
+#[derive(Clone, Copy, PartialEq, Eq, Debug)]
+pub struct Cutting {
+    pieces: u32,
+    workers: u32,
+    ghost pieces_fit: { IsPieces pieces },
+    ghost workers_fit: { IsWorkers workers },
+}
+
+impl Cutting {
+    /// The cutting into 1 to 1,024 pieces for 1 to 8 workers.
+    pub fn new(pieces: u32, workers: u32) -> Result<Cutting, CuttingRefusal>
+        ensures ok { IfOk result (λ cutting. (cutting.pieces ≡ pieces) × (cutting.workers ≡ workers)) }
+        ensures accepted { OnOk result (IsPieces pieces × IsWorkers workers) }
+        ensures pieces { IsErrOf result CuttingRefusal.Pieces → ¬ IsPieces pieces }
+        ensures workers { IsErrOf result CuttingRefusal.Workers → IsPieces pieces × ¬ IsWorkers workers }
+    {
+        if !(1..=1024).contains(&pieces) {
+            return Err(CuttingRefusal::Pieces);
+        }
+        if !(1..=8).contains(&workers) {
+            return Err(CuttingRefusal::Workers);
+        }
+        Ok(Cutting { pieces, workers })
+    }
+
+    /// How many pieces there are, 1 to 1,024.
+    pub fn pieces(&self) -> u32
+        ensures { result ≡ self.now.pieces }
+    {
+        self.pieces
+    }
+
+    /// How many workers there are, 1 to 8.
+    pub fn workers(&self) -> u32
+        ensures { result ≡ self.now.workers }
+    {
+        self.workers
+    }
+}

@@ -1,0 +1,18 @@
+//! The tally of all views of a history, by workers that draw pieces of the views from one counter.
+#![tactic(auto)]
+
+mod claims;
+mod counter;
+mod cutting;
+mod gather;
+mod pieces;
+mod whole;
+mod worker;
+mod workers;
+
+pub use claims::{Claim, Claims};
+pub use cutting::{Cutting, CuttingRefusal};
+pub use whole::tally;
+
+#[cfg(test)]
+mod tests;

@@ -1,0 +1,47 @@
+ghost use Rattle.std.specs.Prelude.{◌≡◌, [], IfOk};
+ghost use Rattle.snap_core.specs.Calls.{calls_of, views_of};
+ghost use Rattle.snap_conditions.specs.Tally.{tally_of};
+ghost use Rattle.snap_pairs.specs.Claiming.{IsClaimOf};
+ghost use Rattle.snap_pairs.specs.Pieces.{IsAnswer};
+
+use crate::claims::{Claim, Claims};
+use crate::cutting::Cutting;
+use crate::gather::{gather, merge_slots};
+use crate::worker::{Answer, draw_all};
+use crate::workers::each_job;
+use snap_conditions::Tally;
+use snap_core::Gate;
+use snap_index::Index;
+use std::alloc::{AllocError, Global};
+use std::thread::Threads;
+
+/// The tally of all completed views, whatever the cutting and the gate are. The workers draw pieces of the views from
+/// one counter until all are drawn. A worker calls `gate.at` with its own number, from 0, and the count of pieces that
+/// it got before, when it has got a piece and before it works on it. The work of a worker that cannot be started is
+/// done on the calling thread under that worker's number. It waits for the workers, and so for the gate.
+pub fn tally<R: Threads + Sync, G: Gate>(
+    rt: &R,
+    alloc: Global,
+    index: &Index<'_>,
+    cutting: Cutting,
+    gate: &G,
+) -> Result<Tally, AllocError>
+    ensures { IfOk result (λ all. all ≡ tally_of (calls_of index.now) (views_of (calls_of index.now))) }
+{
+    let (counter, claims) = Claims::start(alloc, cutting)?;
+    let shared = &counter;
+    let answers = each_job(
+        rt,
+        alloc,
+        claims,
+        &|claim: Claim| -> Result<Answer, AllocError>
+            requires { (shared.now.pieces ≡ cutting.pieces) × IsClaimOf shared.now claim × (claim.drawn ≡ []) }
+            ensures { IfOk result (IsAnswer (calls_of index.entry.now) shared.entry.now) }
+        { draw_all(alloc, index, cutting, shared, claim, gate) },
+    )?;
+    let (claims, slots) = gather(alloc, index, cutting, &counter, answers)?;
+    let Ok(()) = counter.close(claims) else {
+        unreachable!()
+    };
+    Ok(merge_slots(index, cutting, &slots))
+}

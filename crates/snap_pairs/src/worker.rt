@@ -1,0 +1,52 @@
+//! The work of one worker.
+ghost use Rattle.std.specs.Prelude.{◌≡◌, [], IfOk};
+ghost use Rattle.snap_core.specs.Calls.{calls_of};
+ghost use Rattle.snap_pairs.specs.Claiming.{IsClaimOf};
+ghost use Rattle.snap_pairs.specs.Pieces.{IsAnswer};
+
+use crate::claims::{Claim, Claims};
+use crate::cutting::Cutting;
+use crate::pieces::start_of;
+use snap_conditions::{Tally, tally_range};
+use snap_core::Gate;
+use snap_index::Index;
+use std::alloc::{AllocError, Global};
+
+/// A piece that was drawn, and its tally.
+#[derive(Clone, Copy)]
+pub(crate) struct Drawn {
+    pub piece: u32,
+    pub tally: Tally,
+}
+
+/// The claim of a worker, and the tally of each piece that it drew.
+#[derive(Drop)]
+pub(crate) struct Answer {
+    pub claim: Claim,
+    pub pairs: Vec<Drawn>,
+}
+
+// Draws pieces until none is left.
+pub(crate) fn draw_all<G: Gate>(
+    alloc: Global,
+    index: &Index<'_>,
+    cutting: Cutting,
+    counter: &Claims,
+    mut claim: Claim,
+    gate: &G,
+) -> Result<Answer, AllocError>
+    requires pieces { counter.now.pieces ≡ cutting.pieces }
+    requires claim { IsClaimOf counter.now claim × (claim.drawn ≡ []) }
+    ensures { IfOk result (IsAnswer (calls_of index.now) counter.now) }
+{
+    let views = index.view_count();
+    let mut pairs = Vec::new(alloc);
+    while let Some(piece) = counter.draw(&mut claim) {
+        gate.at(claim.worker(), pairs.len() as u32);
+        let from = start_of(cutting, piece, views);
+        let to = start_of(cutting, piece + 1, views);
+        let tally = tally_range(index, from, to);
+        pairs.push(Drawn { piece, tally })?;
+    }
+    Ok(Answer { claim, pairs })
+}
