@@ -1,0 +1,5 @@
+pub mod Lines
+pub mod Refusals
+pub mod Faults
+pub mod Orders
+pub mod Reports

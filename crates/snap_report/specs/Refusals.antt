@@ -1,0 +1,9 @@
+-- The line of a text that is no history.
+use Rattle.std.specs.Prelude.{ℕ, [], ◌∷◌, ◌++◌, codes, decimal}
+use Rattle.snap_csv.specs.declared.refusal.TextFault.{TextFault}
+use Rattle.snap_csv.specs.Words.{word_of}
+use Rattle.snap_report.specs.Lines.{Line}
+
+-- refused record R: WORD
+abbrev pub refusal_line : ℕ → TextFault → Line
+refusal_line place fault = codes "refused" ∷ codes "record" ∷ (decimal place ++ codes ":") ∷ word_of fault ∷ []

@@ -1,0 +1,14 @@
+//! The text of a report: lines of words, with the numbers of a history, the verdicts, and an order or the faults.
+#![tactic(auto)]
+
+mod faults;
+mod order;
+mod refusal;
+mod text;
+mod words;
+
+pub use refusal::refusal_text;
+pub use text::report;
+
+#[cfg(test)]
+mod tests;

@@ -1,0 +1,37 @@
+use super::*;
+use snap_conditions::{is_atomic, tally_range};
+use snap_core::{Entry, Event, History, View};
+use snap_csv::TextFault;
+use snap_index::Index;
+use std::test::Fail;
+
+#[test]
+fn a_refusal_names_the_record_and_its_fault(rt: HostRuntime) -> Result<(), Fail> {
+    let text = refusal_text(rt.alloc(), 3, TextFault::Busy)?;
+    assert_eq!(rt; text.as_slice(), b"refused record 3: busy\n".as_slice());
+    Ok(())
+}
+
+#[test]
+fn a_stale_view_is_reported_with_the_number_that_it_shows(rt: HostRuntime) -> Result<(), Fail> {
+    let alloc = rt.alloc();
+    let entry = Entry {
+        component: 0,
+        number: 1,
+        value: 7,
+    };
+    let view = View::from_entries(Vec::new(alloc))?;
+    let mut history = History::new(alloc);
+    history.push(Event::BeginUpdate { process: 0, entry })?;
+    history.push(Event::EndUpdate { process: 0 })?;
+    history.push(Event::BeginView { process: 1 })?;
+    history.push(Event::EndView { process: 1, view })?;
+    let index = Index::build(alloc, &history)?;
+    let tally = tally_range(&index, 0, index.view_count());
+    assert!(rt; !is_atomic(&tally));
+    let text = report(alloc, &index, &tally, None)?;
+    let expected =
+        b"events 4 calls 2 pending 0 views 1\nregular no\natomic no\nproximity 1 first view 2 entry 0:0 old\n";
+    assert_eq!(rt; text.as_slice(), expected.as_slice());
+    Ok(())
+}

@@ -1,0 +1,62 @@
+ghost use Rattle.std.specs.Prelude.{◌≡◌, ◌++◌, All, IfOk, OnOk, is_some};
+ghost use Rattle.std.specs.Option.{ForSome, option_copied, option_map};
+ghost use Rattle.snap_core.specs.Calls.{calls_of};
+ghost use Rattle.snap_core.specs.Events.{IsKept};
+ghost use Rattle.snap_report.specs.Lines.{line_text};
+ghost use Rattle.snap_report.specs.Orders.{HasLine, calls_numbered};
+ghost use Rattle.snap_report.specs.Reports.{count_line, has_no_fault, report_text, verdict_line};
+
+use crate::faults::put_faults;
+use crate::order::put_order;
+use crate::words::put_number;
+use snap_conditions::{Tally, is_atomic, is_regular};
+use snap_index::Index;
+use std::alloc::{AllocError, Global};
+
+// Adds the line with the numbers of a history.
+fn put_counts(out: &mut Vec<u8>, index: &Index<'_>) -> Result<(), AllocError>
+    ensures text { OnOk result (out.new.items ≡ out.old.items ++ line_text (count_line index.now)) }
+    ensures kept { IsKept index.now }
+{
+    put_number(out, b"events ", u64::from(index.event_count()))?;
+    put_number(out, b" calls ", u64::from(index.call_count()))?;
+    put_number(out, b" pending ", u64::from(index.pending_count()))?;
+    put_number(out, b" views ", u64::from(index.view_count()))?;
+    out.extend_from_slice(b"\n")
+}
+
+// Adds the line of a verdict.
+fn put_verdict(out: &mut Vec<u8>, word: &[u8], holds: bool) -> Result<(), AllocError>
+    ensures { OnOk result (out.new.items ≡ out.old.items ++ line_text (verdict_line word.now holds)) }
+{
+    out.extend_from_slice(word)?;
+    if holds {
+        out.extend_from_slice(b" yes\n")
+    } else {
+        out.extend_from_slice(b" no\n")
+    }
+}
+
+/// The report of a history by the tally of its faults, one line for each kind that has some, or by an order of its calls,
+/// which is given by their numbers.
+pub fn report(
+    alloc: Global,
+    index: &Index<'_>,
+    tally: &Tally,
+    order: Option<&[u32]>,
+) -> Result<Vec<u8>, AllocError>
+    requires order { is_some order ≡ has_no_fault tally.now }
+    requires calls { ForSome order (λ numbers. All (HasLine (calls_of index.now)) numbers.now) }
+    ensures { IfOk result (λ text. text.items ≡ report_text index.now tally.now
+        (option_map (calls_numbered (calls_of index.now)) (option_copied order.entry))) }
+{
+    let mut out = Vec::new(alloc);
+    put_counts(&mut out, index)?;
+    put_verdict(&mut out, b"regular", is_regular(tally))?;
+    put_verdict(&mut out, b"atomic", is_atomic(tally))?;
+    match order {
+        Some(order) => put_order(&mut out, index, order)?,
+        None => put_faults(&mut out, tally)?,
+    }
+    Ok(out)
+}
