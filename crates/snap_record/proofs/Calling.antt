@@ -1,0 +1,103 @@
+-- What the steps of a call leave in the desk's seat.
+use Rattle.std.proofs.Common.{◌≡◌, ℕ, ◌+◌, ◌<◌, false, length, List, [], ◌∷◌, ◌++◌, sym, refl, ap, ◌∙◌, inl, arith}
+use Rattle.atomic_table.specs.Table.{Me}
+use Rattle.snap_record.specs.declared.account.Account.{Account}
+use Rattle.snap_record.specs.declared.account.Answered.{Answered}
+use Rattle.snap_record.specs.declared.account.Answer.TheVariants.{Stored, Viewed}
+use Rattle.snap_record.specs.declared.account.Doing.TheVariants.{Begun, Written, Viewing}
+use Rattle.snap_record.proofs.Lists.{mem_left, mem_right}
+use Rattle.snap_record.specs.Calls.{Mem, Look, look, looks_in, stamps_in, begun_store, begun_view, wrote, read, ended}
+use Rattle.snap_record.specs.Rule.{code, first_step}
+use Rattle.snap_record.specs.Plays.{entry_of, Above, ReadAll}
+use Rattle.snap_record.specs.Hands.{idle, records_of, viewing, shown_of}
+use Rattle.snap_record.proofs.Accounts.{acct, rec}
+use Rattle.snap_record.proofs.Moves.{code_number}
+use Rattle.snap_record.proofs.Reading.{looks_over}
+
+abbrev Seated : Type 0
+Seated = Me (Unit {0}) (List Account)
+
+abbrev pub at_desk : Account → Seated
+at_desk a = (a ∷ [], [])
+
+pub alone_of : (me : Seated) (d : ℕ) (rs : List Answered) (t u : ℕ) → me ≡ at_desk (idle d rs t) → t ≡ u → (me ≡ at_desk (idle d (records_of me.0) u)) × (records_of me.0 ≡ rs)
+alone_of me d rs t u is same = let r : records_of me.0 ≡ rs = ap (λ (m : Seated). records_of m.0) is in (is ∙ (λ i. at_desk (idle d (sym r i) (same i))), r)
+
+pub begun_after : (me now : Seated) (d : ℕ) (rs : List Answered) (t b : ℕ) → me ≡ at_desk (idle d rs t) → now ≡ (first_step (begun_store b) me.0, me.1) → now ≡ at_desk (acct d rs (Begun b) (t + 1))
+begun_after me now d rs t b is told = told ∙ ap (λ (m : Seated). (first_step (begun_store b) m.0, m.1)) is
+
+pub viewing_after : (me now : Seated) (d : ℕ) (rs : List Answered) (t b : ℕ) → me ≡ at_desk (idle d rs t) → now ≡ (first_step (begun_view b) me.0, me.1) → now ≡ at_desk (acct d rs (Viewing b []) (t + 1))
+viewing_after me now d rs t b is told = told ∙ ap (λ (m : Seated). (first_step (begun_view b) m.0, m.1)) is
+
+pub written_after : (me now : Seated) (d : ℕ) (rs : List Answered) (t b m v word : ℕ) → me ≡ at_desk (acct d rs (Begun b) t) → word ≡ code (m, v) → v < 4294967296 → now ≡ (first_step (wrote (entry_of word)) me.0, me.1)
+    → now ≡ at_desk (acct d rs (Written b m v) t)
+written_after me now d rs t b m v word is words fits told =
+    let e : entry_of word ≡ (m, v) = ap entry_of words ∙ code_number (m, v) fits in
+    told ∙ ap (λ (x : Seated). (first_step (wrote (entry_of word)) x.0, x.1)) is ∙ (λ i. at_desk (acct d rs (Written b (e i).0 (e i).1) t))
+
+pub stored_after : (me now : Seated) (d : ℕ) (rs : List Answered) (t b e m v : ℕ) → me ≡ at_desk (acct d rs (Written b m v) t) → now ≡ (first_step (ended e) me.0, me.1) → now ≡ at_desk (idle d (rs ++ rec b e (Stored m v) ∷ []) (t + 1))
+stored_after me now d rs t b e m v is told = told ∙ ap (λ (x : Seated). (first_step (ended e) x.0, x.1)) is
+
+pub viewed_after : (me now : Seated) (d : ℕ) (rs : List Answered) (t b e : ℕ) (xs : List (ℕ × ℕ)) → me ≡ at_desk (acct d rs (Viewing b xs) t) → now ≡ (first_step (ended e) me.0, me.1) → now ≡ at_desk (idle d (rs ++ rec b e (Viewed xs) ∷ []) (t + 1))
+viewed_after me now d rs t b e xs is told = told ∙ ap (λ (x : Seated). (first_step (ended e) x.0, x.1)) is
+
+pub read_after : (me now : Seated) (d : ℕ) (rs : List Answered) (t b : ℕ) (xs : List (ℕ × ℕ)) (p : ℕ × ℕ) → me ≡ at_desk (acct d rs (Viewing b xs) t) → now ≡ (first_step (read p) me.0, me.1) → now ≡ at_desk (acct d rs (Viewing b (xs ++ p ∷ [])) t)
+read_after me now d rs t b xs p is told = told ∙ ap (λ (x : Seated). (first_step (read p) x.0, x.1)) is
+
+-- a view has been opened
+pub opened : (me : Seated) (d : ℕ) (rs : List Answered) (t b : ℕ) → me ≡ at_desk (acct d rs (Viewing b []) t) → me ≡ viewing me []
+opened me d rs t b is = is ∙ ap (λ (x : Seated). viewing x []) (sym is)
+
+-- and it has read xs
+pub grew : (me now : Seated) (d : ℕ) (rs : List Answered) (t b : ℕ) (xs : List (ℕ × ℕ)) → me ≡ at_desk (acct d rs (Viewing b []) t) → now ≡ viewing me xs → now ≡ at_desk (acct d rs (Viewing b xs) t)
+grew me now d rs t b xs is told = told ∙ ap (λ (x : Seated). viewing x xs) is
+
+-- the stamps of a call are above those of the calls before it
+pub above_old : (me : Seated) (d : ℕ) (rs : List Answered) (t b : ℕ) → me ≡ at_desk (idle d rs t) → Above b me → (x : ℕ) → Mem x (stamps_in rs) → x < b
+above_old me d rs t b is above x m = above (idle d rs t) (ap (λ (z : Seated). z.0) is) x (mem_left (stamps_in rs) [] x m)
+
+pub above_begun : (me : Seated) (d : ℕ) (rs : List Answered) (t b m v e : ℕ) → me ≡ at_desk (acct d rs (Written b m v) t) → Above e me → b < e
+above_begun me d rs t b m v e is above = above (acct d rs (Written b m v) t) (ap (λ (z : Seated). z.0) is) b (mem_right (stamps_in rs) (b ∷ []) b (inl refl))
+
+pub above_view : (me : Seated) (d : ℕ) (rs : List Answered) (t b e : ℕ) (xs : List (ℕ × ℕ)) → me ≡ at_desk (acct d rs (Viewing b xs) t) → Above e me → b < e
+above_view me d rs t b e xs is above = above (acct d rs (Viewing b xs) t) (ap (λ (z : Seated). z.0) is) b (mem_right (stamps_in rs) (b ∷ []) b (inl refl))
+
+-- what a store leaves
+pub record StoreDone (d : ℕ) (rs : List Answered) (t begun ended m v : ℕ) (last : Seated) : Type 0 where
+  pub me : last ≡ at_desk (idle d (rs ++ rec begun ended (Stored m v) ∷ []) (t + 2))
+  pub in_turn : begun < ended
+  pub above : (x : ℕ) → Mem x (stamps_in rs) → x < begun
+
+pub store_done : (me0 me1 me2 me3 : Seated) (d : ℕ) (rs : List Answered) (t b e m v word : ℕ) → me0 ≡ at_desk (idle d rs t) → word ≡ code (m, v) → v < 4294967296
+    → (me1 ≡ (first_step (begun_store b) me0.0, me0.1)) × Above b me0 → me2 ≡ (first_step (wrote (entry_of word)) me1.0, me1.1) → (me3 ≡ (first_step (ended e) me2.0, me2.1)) × Above e me2 × ReadAll me2 → StoreDone d rs t b e m v me3
+store_done me0 me1 me2 me3 d rs t b e m v word is words fits first second third =
+    let at1 = begun_after me0 me1 d rs t b is first.0 in
+    let at2 = written_after me1 me2 d rs (t + 1) b m v word at1 words fits second in
+    let two : t + 1 + 1 ≡ t + 2 = omega arith in
+    record {
+      me = stored_after me2 me3 d rs (t + 1) b e m v at2 third.0 ∙ ap (λ z. at_desk (idle d (rs ++ rec b e (Stored m v) ∷ []) z)) two;
+      in_turn = above_begun me2 d rs (t + 1) b m v e at2 third.1;
+      above = above_old me0 d rs t b is first.1;
+    }
+
+-- what a collect leaves
+pub record CollectDone (d : ℕ) (rs : List Answered) (t begun ended : ℕ) (xs : List (ℕ × ℕ)) (last : Seated) : Type 0 where
+  pub me : last ≡ at_desk (idle d (rs ++ rec begun ended (Viewed xs) ∷ []) (t + 2))
+  pub in_turn : begun < ended
+  pub above : (x : ℕ) → Mem x (stamps_in rs) → x < begun
+  pub whole : (v : Look) → Mem v (looks_in rs) → length v.shown ≡ length xs
+
+pub collect_done : (me0 me1 me2 me3 : Seated) (d : ℕ) (rs : List Answered) (t b e : ℕ) → me0 ≡ at_desk (idle d rs t)
+    → (me1 ≡ (first_step (begun_view b) me0.0, me0.1)) × Above b me0 → me2 ≡ viewing me1 (shown_of me2.0) → (me3 ≡ (first_step (ended e) me2.0, me2.1)) × Above e me2 × ReadAll me2
+    → CollectDone d rs t b e (shown_of me2.0) me3
+collect_done me0 me1 me2 me3 d rs t b e is first second third =
+    let xs = shown_of me2.0 in
+    let at1 = viewing_after me0 me1 d rs t b is first.0 in
+    let at2 = grew me1 me2 d rs (t + 1) b xs at1 second in
+    let two : t + 1 + 1 ≡ t + 2 = omega arith in
+    record {
+      me = viewed_after me2 me3 d rs (t + 1) b e xs at2 third.0 ∙ ap (λ z. at_desk (idle d (rs ++ rec b e (Viewed xs) ∷ []) z)) two;
+      in_turn = above_view me2 d rs (t + 1) b e xs at2 third.1;
+      above = above_old me0 d rs t b is first.1;
+      whole = λ v m. third.2 (acct d rs (Viewing b xs) (t + 1)) (ap (λ (z : Seated). z.0) at2) b xs refl v (mem_left (looks_in rs) (look b 0 false xs ∷ []) v m) (looks_over rs v m);
+    }

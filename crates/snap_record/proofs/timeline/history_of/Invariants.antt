@@ -1,0 +1,10 @@
+use Rattle.std.proofs.Common.{◌≡◌, ◌++◌, length}
+use Rattle.std.specs.Vec.Iter.{into_iter_items, into_iter_len}
+use Rattle.snap_record.specs.History.{events_in}
+use Rattle.snap_record.proofs.timeline.history_of.Given as goal
+
+abbrev pub invariant-each : goal.invariant-each
+invariant-each l = record {
+  whole : l.history ++ events_in (into_iter_items l.event-iterator) ≡ events_in l.fn.events.items;
+  left : into_iter_len l.event-iterator ≡ length (into_iter_items l.event-iterator);
+}

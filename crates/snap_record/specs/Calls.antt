@@ -1,0 +1,151 @@
+-- The calls of an account.
+use Rattle.std.specs.Prelude.{◌≡◌, ℕ, ◌+◌, ◌<◌, ◌⊎◌, Bool, true, false, cond, ◌==◌, List, [], ◌∷◌, ◌++◌}
+use Rattle.snap_record.specs.declared.account.Account.{Account}
+use Rattle.snap_record.specs.declared.account.Answered.{Answered}
+use Rattle.snap_record.specs.declared.account.Answer.{Answer}
+use Rattle.snap_record.specs.declared.account.Answer.TheVariants.{Stored, Viewed}
+use Rattle.snap_record.specs.declared.account.Doing.{Doing}
+use Rattle.snap_record.specs.declared.account.Doing.TheVariants.{Idle, Begun, Written, Viewing}
+
+-- x stands in the list
+abbrev pub Mem : {A : Type 0} → A → List A → Type 0
+Mem x [] = ⊥
+Mem x (y ∷ ys) = (y ≡ x) ⊎ Mem x ys
+
+abbrev pub total : {A : Type 0} → (A → ℕ) → List A → ℕ
+total f [] = 0
+total f (x ∷ xs) = f x + total f xs
+
+abbrev pub one_if : Bool → ℕ
+one_if b = cond b 1 0
+
+-- how often x stands in the list
+abbrev pub times : ℕ → List ℕ → ℕ
+times x xs = total (λ y. one_if (y == x)) xs
+
+-- a store that is written: `over` where it is answered, and `ended` is 0 where it is not
+pub record Write : Type 0 where
+  pub number : ℕ
+  pub value : ℕ
+  pub begun : ℕ
+  pub ended : ℕ
+  pub over : Bool
+
+-- a view, completed (`over`) or open, and the entries read, of component 0 first
+pub record Look : Type 0 where
+  pub begun : ℕ
+  pub ended : ℕ
+  pub over : Bool
+  pub shown : List (ℕ × ℕ)
+
+abbrev pub write : ℕ → ℕ → ℕ → ℕ → Bool → Write
+write n v b e o = record { number = n; value = v; begun = b; ended = e; over = o }
+
+-- no store has number 0
+abbrev pub AllNumbered : List Write → Type 0
+AllNumbered ws = (w : Write) → Mem w ws → 0 < w.number
+
+abbrev pub look : ℕ → ℕ → Bool → List (ℕ × ℕ) → Look
+look b e o xs = record { begun = b; ended = e; over = o; shown = xs }
+
+abbrev pub op_writes : ℕ → ℕ → Answer → List Write
+op_writes b e (Stored n v) = write n v b e true ∷ []
+op_writes b e (Viewed xs) = []
+
+abbrev pub op_looks : ℕ → ℕ → Answer → List Look
+op_looks b e (Stored n v) = []
+op_looks b e (Viewed xs) = look b e true xs ∷ []
+
+abbrev pub writes_in : List Answered → List Write
+writes_in [] = []
+writes_in (r ∷ rs) = op_writes r.begun r.ended r.op ++ writes_in rs
+
+abbrev pub looks_in : List Answered → List Look
+looks_in [] = []
+looks_in (r ∷ rs) = op_looks r.begun r.ended r.op ++ looks_in rs
+
+abbrev pub open_writes : Doing → List Write
+open_writes Idle = []
+open_writes (Begun b) = []
+open_writes (Written b n v) = write n v b 0 false ∷ []
+open_writes (Viewing b xs) = []
+
+abbrev pub open_looks : Doing → List Look
+open_looks Idle = []
+open_looks (Begun b) = []
+open_looks (Written b n v) = []
+open_looks (Viewing b xs) = look b 0 false xs ∷ []
+
+abbrev pub open_stamps : Doing → List ℕ
+open_stamps Idle = []
+open_stamps (Begun b) = b ∷ []
+open_stamps (Written b n v) = b ∷ []
+open_stamps (Viewing b xs) = b ∷ []
+
+abbrev pub stamps_in : List Answered → List ℕ
+stamps_in [] = []
+stamps_in (r ∷ rs) = r.begun ∷ r.ended ∷ stamps_in rs
+
+-- the stores of an account that are written, in order
+abbrev pub writes_of : Account → List Write
+writes_of a = writes_in a.records ++ open_writes a.doing
+
+abbrev pub looks_of : Account → List Look
+looks_of a = looks_in a.records ++ open_looks a.doing
+
+-- all stamps of an account, in the order of its calls
+abbrev pub stamps_of : Account → List ℕ
+stamps_of a = stamps_in a.records ++ open_stamps a.doing
+
+abbrev pub op_entry : ℕ × ℕ → Answer → ℕ × ℕ
+op_entry p (Stored n v) = (n, v)
+op_entry p (Viewed xs) = p
+
+-- the entry of the last store among the records, p where there is none
+abbrev pub latest : ℕ × ℕ → List Answered → ℕ × ℕ
+latest p [] = p
+latest p (r ∷ rs) = latest (op_entry p r.op) rs
+
+abbrev pub open_entry : ℕ × ℕ → Doing → ℕ × ℕ
+open_entry p Idle = p
+open_entry p (Begun b) = p
+open_entry p (Written b n v) = (n, v)
+open_entry p (Viewing b xs) = p
+
+-- what the desk's word has: number and value of the last store that was written, (0, 0) where there is none
+abbrev pub in_word : Account → ℕ × ℕ
+in_word a = open_entry (latest (0, 0) a.records) a.doing
+
+-- the steps of a call, kinds 1 to 6. A step that does not fit the open call changes nothing
+abbrev pub begun_store : ℕ → Account → Account
+begun_store t a = record { desk = a.desk; records = a.records; doing = Begun t; ticks = a.ticks + 1 }
+
+abbrev pub begun_view : ℕ → Account → Account
+begun_view t a = record { desk = a.desk; records = a.records; doing = Viewing t []; ticks = a.ticks + 1 }
+
+abbrev pub write_open : ℕ × ℕ → Doing → Doing
+write_open p Idle = Idle
+write_open p (Begun b) = Written b p.0 p.1
+write_open p (Written b n v) = Written b n v
+write_open p (Viewing b xs) = Viewing b xs
+
+abbrev pub wrote : ℕ × ℕ → Account → Account
+wrote p a = record { desk = a.desk; records = a.records; doing = write_open p a.doing; ticks = a.ticks }
+
+abbrev pub read_open : ℕ × ℕ → Doing → Doing
+read_open p Idle = Idle
+read_open p (Begun b) = Begun b
+read_open p (Written b n v) = Written b n v
+read_open p (Viewing b xs) = Viewing b (xs ++ p ∷ [])
+
+abbrev pub read : ℕ × ℕ → Account → Account
+read p a = record { desk = a.desk; records = a.records; doing = read_open p a.doing; ticks = a.ticks }
+
+abbrev pub closing : ℕ → Doing → List Answered
+closing t Idle = []
+closing t (Begun b) = []
+closing t (Written b n v) = record { begun = b; ended = t; op = Stored n v } ∷ []
+closing t (Viewing b xs) = record { begun = b; ended = t; op = Viewed xs } ∷ []
+
+abbrev pub ended : ℕ → Account → Account
+ended t a = record { desk = a.desk; records = a.records ++ closing t a.doing; doing = Idle; ticks = a.ticks + 1 }

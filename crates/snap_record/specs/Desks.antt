@@ -1,0 +1,85 @@
+-- Desks of a board, and their records.
+use Rattle.std.specs.Prelude.{◌≡◌, ℕ, ◌<◌, ◌≤◌, suc, cond, nat_lt, List, [], ◌∷◌, ◌++◌, map, Option, Some, Contains}
+use Rattle.snap_core.specs.declared.entry.Entry.{Entry}
+use Rattle.snap_core.specs.Entries.{entry_of, number_in}
+use Rattle.snap_record.specs.declared.account.Account.{Account}
+use Rattle.snap_record.specs.declared.account.Answered.{Answered}
+use Rattle.snap_record.specs.declared.account.Answer.{Answer}
+use Rattle.snap_record.specs.declared.account.Answer.TheVariants.{Stored, Viewed}
+use Rattle.snap_record.specs.declared.board.Board.{Board}
+use Rattle.snap_record.specs.declared.board.Desk.{Desk}
+use Rattle.snap_record.specs.declared.board.Gathered.{Gathered}
+use Rattle.snap_record.specs.declared.record.Record.{Record}
+use Rattle.snap_record.specs.declared.record.RecordedOp.{RecordedOp}
+use Rattle.snap_record.specs.declared.record.RecordedOp.TheVariants as Kind
+use Rattle.snap_record.specs.Hands.{records_of}
+
+-- a desk of the board
+abbrev pub IsDeskOf : Board → Desk → Type 0
+IsDeskOf b d = (d.seat.table_id ≡ b.table.shared.table_id) × (d.desk < b.desks)
+
+-- the desks of the board that are in
+abbrev pub IsGatheredOf : Board → Gathered → Type 0
+IsGatheredOf b g = (g.seat.table_id ≡ b.table.shared.table_id) × (g.desks ≡ b.desks)
+
+-- the entry of component k with a number and a value, nothing for number 0
+abbrev pub shown_entry : ℕ → ℕ × ℕ → List Entry
+shown_entry k p = cond (nat_lt 0 p.0) (record { component = k; number = p.0; value = p.1 } ∷ []) []
+
+-- what was read, from component k on, without the initial states
+abbrev pub listed : ℕ → List (ℕ × ℕ) → List Entry
+listed k [] = []
+listed k (p ∷ xs) = shown_entry k p ++ listed (suc k) xs
+
+abbrev pub recorded_op : ℕ → Answer → RecordedOp
+recorded_op d (Stored n v) = Kind.Stored (record { component = d; number = n; value = v })
+recorded_op d (Viewed xs) = Kind.Viewed (listed 0 xs)
+
+-- the record of an answered call of desk d
+abbrev pub record_of : ℕ → Answered → Record
+record_of d r = record { process = d; begun = r.begun; ended = r.ended; op = recorded_op d r.op }
+
+-- the records of an account
+abbrev pub records_in : Account → List Record
+records_in a = map (record_of a.desk) a.records
+
+-- the records of a desk, in its order
+abbrev pub records : Desk → List Record
+records d = map (record_of d.desk) (records_of d.seat.me.0)
+
+-- how many ticks a desk has drawn
+abbrev pub ticks : Desk → ℕ
+ticks d = d.kept.ticks
+
+-- the accounts of the desks that are in, the highest desk first
+abbrev pub accounts : Gathered → List Account
+accounts g = g.seat.me.0
+
+-- the call began after all earlier calls of the desk had ended
+abbrev pub IsLater : List Record → Record → Type 0
+IsLater earlier r = (q : Record) → Contains earlier q → (q.begun < r.begun) × (q.ended < r.begun)
+
+abbrev pub entry_after : RecordedOp → Option Entry → Option Entry
+entry_after (Kind.Stored e) last = Some e
+entry_after (Kind.Viewed es) last = last
+
+-- the entry of the last store among the records, or what stood before them
+abbrev pub last_stored : Option Entry → List Record → Option Entry
+last_stored last [] = last
+last_stored last (r ∷ rs) = last_stored (entry_after r.op last) rs
+
+abbrev pub entries_shown : RecordedOp → List Entry
+entries_shown (Kind.Stored e) = []
+entries_shown (Kind.Viewed es) = es
+
+-- what a view's record shows, nothing for a store's
+abbrev pub shown_by : Record → List Entry
+shown_by r = entries_shown r.op
+
+-- the number that a record shows of component k, 0 where it shows none
+abbrev pub number_shown : Record → ℕ → ℕ
+number_shown r k = number_in (entry_of k (shown_by r))
+
+-- no component is older in the record than in one before it
+abbrev pub IsNoOlder : List Record → Record → Type 0
+IsNoOlder earlier r = (q : Record) → Contains earlier q → (k : ℕ) → number_shown q k ≤ number_shown r k

@@ -1,0 +1,13 @@
+pub mod Calls
+pub mod Rule
+pub mod Plays
+pub mod Hands
+pub mod Desks
+pub mod Slots
+pub mod Regular
+pub mod History
+pub mod Refusals
+pub mod Placed
+pub mod Plans
+pub mod Scripts
+pub mod Recording

@@ -1,0 +1,132 @@
+ghost use Rattle.std.specs.Prelude.{◌≡◌, ◌+◌, ◌<◌, ◌≤◌, [], ◌∷◌, ◌++◌, None, length, vec_capacity, IfOk, IfErr, OnOk, OnErr};
+ghost use Rattle.snap_core.specs.Entries.{view_refusal, entry_of, number_in};
+ghost use Rattle.snap_record.specs.Rule.{tick_limit};
+ghost use Rattle.snap_record.specs.Refusals.{IsNotCollected};
+ghost use Rattle.snap_record.specs.Desks.{records, ticks, IsDeskOf, listed, IsLater, last_stored, shown_by, IsNoOlder};
+ghost use Rattle.snap_record.specs.Hands.{viewing, shown_of, desk_of, records_of, Told};
+
+use crate::account::Hand;
+use crate::board::{Board, Desk};
+use crate::kept::Kept;
+use crate::record::{Record, RecordedOp};
+use crate::refusals::{CollectRefusal, StoreRefusal};
+use crate::rule::{BeginStore, BeginView, EndCall, ReadWord, WriteWord};
+use atomic_table::Seat;
+use snap_core::{Entry, View};
+use std::alloc::Global;
+
+/// How many ticks a desk may draw.
+const TICK_LIMIT: u32 = 1_048_576;
+
+/// A component's word is the number times this, and the value.
+const NUMBER_UNIT: u64 = 4_294_967_296;
+
+impl Board {
+    /// Writes a value to the desk's component, in three steps: a begin tick, the store of the component's word, and an
+    /// end tick. It waits for nobody. After a refusal no step was made and the desk is unchanged.
+    pub fn store(&self, desk: &mut Desk, value: u32) -> Result<Record, StoreRefusal>
+        requires { IsDeskOf self.now desk.old }
+        ensures desk { IsDeskOf self.now desk.new × (desk.new.desk ≡ desk.old.desk) }
+        ensures room { OnOk result (ticks desk.old + 2 ≤ tick_limit) }
+        ensures spent { OnErr result (tick_limit < ticks desk.old + 2) }
+        ensures kept { OnErr result (desk.new ≡ desk.old) }
+        ensures recorded { IfOk result (λ r. records desk.new ≡ records desk.old ++ r ∷ []) }
+        ensures ticks { OnOk result (ticks desk.new ≡ ticks desk.old + 2) }
+        ensures stamps { IfOk result (λ r. r.begun < r.ended) }
+        ensures later { IfOk result (IsLater (records desk.old)) }
+        ensures process { IfOk result (λ r. r.process ≡ desk.old.desk) }
+        ensures entry { IfOk result (λ r. r.op ≡ RecordedOp.Stored (record { component = desk.old.desk; number = number_in (last_stored None (records desk.old)) + 1; value = value })) }
+    {
+        if desk.kept.ticks > TICK_LIMIT - 2 {
+            return Err(StoreRefusal::Spent);
+        }
+        let shared = &self.table.shared;
+        let begun = shared.fetch_add::<BeginStore>(&mut desk.seat, 0, 1);
+        let number = desk.kept.stores + 1;
+        let word = u64::from(number) * NUMBER_UNIT + u64::from(value);
+        shared.store::<WriteWord>(&mut desk.seat, usize::from(desk.desk) + 1, word);
+        let ended = shared.fetch_add::<EndCall>(&mut desk.seat, 0, 1);
+        desk.kept = Kept {
+            ticks: desk.kept.ticks + 2,
+            stores: number,
+            value,
+        };
+        let component = desk.desk;
+        Ok(Record {
+            process: u16::from(component),
+            begun,
+            ended,
+            op: RecordedOp::Stored(Entry {
+                component,
+                number,
+                value,
+            }),
+        })
+    }
+
+    // Loads the word of each component, and lists those that were stored.
+    fn read_all(&self, seat: &mut Seat<(), Hand>, entries: &mut Vec<Entry>)
+        requires seat { (seat.old.table_id ≡ self.now.table.shared.table_id) × (seat.old.me ≡ viewing seat.old.me []) }
+        requires room { (entries.old.items ≡ []) × (self.now.desks ≤ vec_capacity entries.old) }
+        ensures seat { (seat.new.table_id ≡ seat.old.table_id) × (seat.new.me ≡ viewing seat.old.me (shown_of seat.new.me.0)) }
+        ensures all { length (shown_of seat.new.me.0) ≡ self.now.desks }
+        ensures entries { (entries.new.items ≡ listed 0 (shown_of seat.new.me.0)) × (view_refusal entries.new.items ≡ None) }
+        ensures told { Told (desk_of seat.old.me.0) (records_of seat.old.me.0) (shown_of seat.new.me.0) }
+    {
+        'words: for k in 0..self.desks {
+            let word = self.table.shared.load::<ReadWord>(seat, usize::from(k) + 1);
+            let number = (word / NUMBER_UNIT) as u32;
+            let value = (word % NUMBER_UNIT) as u32;
+            if number > 0 {
+                entries.push_reserved(Entry {
+                    component: k,
+                    number,
+                    value,
+                });
+            }
+        }
+    }
+
+    /// Reads each component, from 0 on, between a begin tick and an end tick. It waits for nobody. Memory is taken
+    /// before the first step. After a refusal no step was made and the desk is unchanged.
+    pub fn collect(&self, alloc: Global, desk: &mut Desk) -> Result<Record, CollectRefusal>
+        requires { IsDeskOf self.now desk.old }
+        ensures desk { IsDeskOf self.now desk.new × (desk.new.desk ≡ desk.old.desk) }
+        ensures room { OnOk result (ticks desk.old + 2 ≤ tick_limit) }
+        ensures refused { IfErr result (IsNotCollected (ticks desk.old)) }
+        ensures kept { OnErr result (desk.new ≡ desk.old) }
+        ensures recorded { IfOk result (λ r. records desk.new ≡ records desk.old ++ r ∷ []) }
+        ensures ticks { OnOk result (ticks desk.new ≡ ticks desk.old + 2) }
+        ensures stamps { IfOk result (λ r. r.begun < r.ended) }
+        ensures later { IfOk result (IsLater (records desk.old)) }
+        ensures process { IfOk result (λ r. r.process ≡ desk.old.desk) }
+        ensures view { IfOk result (λ r. r.op ≡ RecordedOp.Viewed (shown_by r)) }
+        ensures own { IfOk result (λ r. entry_of desk.old.desk (shown_by r) ≡ last_stored None (records desk.old)) }
+        ensures no_older { IfOk result (IsNoOlder (records desk.old)) }
+    {
+        if desk.kept.ticks > TICK_LIMIT - 2 {
+            return Err(CollectRefusal::Spent);
+        }
+        let Ok(mut entries) = Vec::with_capacity(alloc, usize::from(self.desks)) else {
+            return Err(CollectRefusal::Memory);
+        };
+        let shared = &self.table.shared;
+        let begun = shared.fetch_add::<BeginView>(&mut desk.seat, 0, 1);
+        self.read_all(&mut desk.seat, &mut entries);
+        let ended = shared.fetch_add::<EndCall>(&mut desk.seat, 0, 1);
+        desk.kept = Kept {
+            ticks: desk.kept.ticks + 2,
+            stores: desk.kept.stores,
+            value: desk.kept.value,
+        };
+        let Ok(view) = View::from_entries(entries) else {
+            unreachable!()
+        };
+        Ok(Record {
+            process: u16::from(desk.desk),
+            begun,
+            ended,
+            op: RecordedOp::Viewed(view),
+        })
+    }
+}

@@ -1,0 +1,24 @@
+/// Why no board was opened, in the order in which the reasons are tested.
+#[derive(Clone, Copy, PartialEq, Eq, Debug)]
+pub enum OpenRefusal {
+    /// The number of desks is not 1 to 8.
+    Desks,
+    /// Memory ran out.
+    Memory,
+}
+
+/// Why a store was refused.
+#[derive(Clone, Copy, PartialEq, Eq, Debug)]
+pub enum StoreRefusal {
+    /// The desk has drawn so many ticks that the call could bring it past its limit.
+    Spent,
+}
+
+/// Why a collect was refused, in the order in which the reasons are tested.
+#[derive(Clone, Copy, PartialEq, Eq, Debug)]
+pub enum CollectRefusal {
+    /// The desk has drawn so many ticks that the call could bring it past its limit.
+    Spent,
+    /// Memory ran out.
+    Memory,
+}
