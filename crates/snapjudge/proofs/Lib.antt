@@ -1,0 +1,5 @@
+pub mod OnWords
+pub mod Numbers
+pub mod Verdicts
+pub mod Runs
+pub mod Recordings

@@ -1,0 +1,43 @@
+-- What a recording writes and answers.
+use Rattle.std.proofs.Common.{◌≡◌, ◌⊎◌, ◌∙◌, ℕ, Bool, true, false, List, Option, Result, Ok, Err, ap, inl, inr}
+use Rattle.snap_core.specs.declared.event.Event.{Event}
+use Rattle.snap_csv.specs.Spelling.{history_text}
+use Rattle.snap_csv.proofs.LengthFacts.{text_short}
+use Rattle.snap_csv.proofs.TextFacts.{text_reads}
+use Rattle.snap_record.specs.declared.plan.Step.{Step}
+use Rattle.snapjudge.specs.declared.fault.RunFault.{RunFault}
+use Rattle.snapjudge.specs.declared.fault.RunFault.TheVariants as faults
+use Rattle.snapjudge.specs.declared.status.Status.{Status}
+use Rattle.snapjudge.specs.declared.status.Status.TheVariants.{Atomic, Recorded, Regular}
+use Rattle.snapjudge.specs.RecordRuns.{IsRecorded, IsRecordingOf, IsRecordingReport, IsRecordingText, WroteAs}
+use Rattle.snapjudge.specs.Statuses.{status_of}
+use Rattle.snapjudge.specs.Verdicts.{IsVerdict}
+
+wrote_also : (Is Also : Status → List ℕ → Type 0) → ((status : Status) (out : List ℕ) → Is status out → Also status out) → (old new : Option (List ℕ)) (answer : Result Status RunFault) → WroteAs Is old new answer → WroteAs Also old new answer
+wrote_also Is Also then old new (Ok status) h = (h.0, then status h.0 h.1, h.2)
+wrote_also Is Also then old new (Err faults.Read) h = absurd h
+wrote_also Is Also then old new (Err faults.Write) h = (h.0, h.1, then h.0 h.1 h.2, h.3)
+wrote_also Is Also then old new (Err faults.Memory) h = h
+
+regular_status : (regular atomic : Bool) (status : Status) → regular ≡ true → status ≡ status_of regular atomic → (status ≡ Atomic) ⊎ (status ≡ Regular)
+regular_status regular true status is_true e = inl e
+regular_status regular false status is_true e = inr (e ∙ ap (λ b. status_of b false) is_true)
+
+report_of : (scripts : List (List Step)) (events : List Event) → IsRecordingOf scripts events → (status : Status) (out : List ℕ) → IsVerdict events status out → IsRecordingReport scripts status out
+report_of scripts events recording status out v =
+    record {
+      events = events;
+      recording = recording;
+      answers = regular_status v.regular v.atomic status (v.regular_exactly.1 recording.regular) v.answers;
+      report = inr (record { events = events; history = text_reads events recording.kept (text_short events recording.kept); verdict = v });
+    }
+
+pub text_written : (scripts : List (List Step)) (events : List Event) → IsRecordingOf scripts events → (old new : Option (List ℕ)) (answer : Result Status RunFault) →
+    WroteAs (λ status out. (status ≡ Recorded) × (out ≡ history_text events)) old new answer → WroteAs (IsRecorded false scripts) old new answer
+text_written scripts events recording old new answer h =
+    wrote_also (λ status out. (status ≡ Recorded) × (out ≡ history_text events)) (IsRecorded false scripts)
+    (λ status out w. record { events = events; recording = recording; answers = w.0; writes = w.1 }) old new answer h
+
+pub report_written : (scripts : List (List Step)) (events : List Event) → IsRecordingOf scripts events → (old new : Option (List ℕ)) (answer : Result Status RunFault) →
+    WroteAs (IsVerdict events) old new answer → WroteAs (IsRecorded true scripts) old new answer
+report_written scripts events recording old new answer h = wrote_also (IsVerdict events) (IsRecorded true scripts) (report_of scripts events recording) old new answer h

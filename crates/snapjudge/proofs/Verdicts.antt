@@ -1,0 +1,135 @@
+-- The verdict on a history, by the tally of its completed views.
+use Rattle.std.proofs.Common.{◌≡◌, ◌≢◌, ◌⊎◌, ◌==◌, ◌&&◌, ◌<◌, ◌∙◌, ◌↔◌, ℕ, Bool, true, false, List, [], ◌∷◌, Option, Some, None, length, map, refl, sym, ap, subst, inl, inr}
+use Rattle.std.specs.Prelude.{IsTrue, is_some}
+use Rattle.std.specs.List.{All, Contains}
+use Rattle.std.proofs.lemmas.Bool.{and_from, and_parts, cases_Bool, eq-eqb, eqb-true}
+use Rattle.std.proofs.lemmas.List.Elements.{All-map}
+use Rattle.snap_core.specs.declared.event.Event.{Event}
+use Rattle.snap_core.specs.Calls.{Call, Operation, Updates, Views, call_numbered, calls_of, is_view, views_of}
+use Rattle.snap_core.specs.Events.{HasByteComponents, IsHistory, IsKept}
+use Rattle.snap_core.specs.Orders.{IsAtomic, is_update}
+use Rattle.snap_core.specs.Regular.{IsRegular}
+use Rattle.snap_core.proofs.Fits.{bytes_of_events}
+use Rattle.snap_core.proofs.Histories.{numbered_calls}
+use Rattle.snap_core.proofs.Lists.{Contains-from_In, In, In-from_Contains, In-get_or}
+use Rattle.snap_conditions.specs.declared.tally.Tally.{Tally}
+use Rattle.snap_conditions.specs.Faults.{HasNoFault}
+use Rattle.snap_conditions.specs.Tally.{CountsNoFault, CountsNoLocalFault, tally_of}
+use Rattle.snap_conditions.proofs.Ranges.{no_fault_by_tally, regular_by_tally}
+use Rattle.snap_index.proofs.Known.{number_within, own_number}
+use Rattle.snap_order.specs.Levels.{is_printed, printed_order, stands_by}
+use Rattle.snap_order.specs.Numbers.{picked}
+use Rattle.snap_order.proofs.Laws.{atomic_exactly, prints_legal_order}
+use Rattle.snap_order.proofs.Numbers.{order_picked}
+use Rattle.snap_order.proofs.Printed.{in_printed}
+use Rattle.snap_report.specs.Orders.{HasLine, calls_numbered}
+use Rattle.snap_report.specs.Reports.{finding_lines, has_no_fault, has_no_local_fault, report_lines, report_text}
+use Rattle.snap_report.specs.Lines.{Line, text_of}
+use Rattle.snapjudge.specs.declared.status.Status.{Status}
+use Rattle.snapjudge.specs.declared.status.Status.TheVariants.{Atomic, Regular, Irregular}
+use Rattle.snapjudge.specs.Statuses.{status_of}
+use Rattle.snapjudge.specs.Verdicts.{IsVerdict, findings}
+
+-- ---- counts and tests
+
+local_to : (t : Tally) → CountsNoLocalFault t → has_no_local_fault t ≡ true
+local_to t h = and_from _ _ (eq-eqb _ _ h.integrity) (eq-eqb _ _ h.proximity)
+
+local_from : (t : Tally) → has_no_local_fault t ≡ true → CountsNoLocalFault t
+local_from t e = let p = and_parts _ _ e in record { integrity = eqb-true _ _ p.0; proximity = eqb-true _ _ p.1 }
+
+pub all_to : (t : Tally) → CountsNoFault t → has_no_fault t ≡ true
+all_to t h = and_from _ _ (local_to t h.local) (and_from _ _ (eq-eqb _ _ h.read) (eq-eqb _ _ h.write))
+
+all_from : (t : Tally) → has_no_fault t ≡ true → CountsNoFault t
+all_from t e = let p = and_parts _ _ e in let q = and_parts _ _ p.1 in record { local = local_from t p.0; read = eqb-true _ _ q.0; write = eqb-true _ _ q.1 }
+
+not_true : (b : Bool) → (b ≡ true → ⊥) → b ≡ false
+not_true true h = absurd (h refl)
+not_true false h = refl
+
+-- ---- the printed order, by its numbers
+
+printed_kind : (calls : List Call) (o : Operation) (ended : Option ℕ) (c : Call) → c.operation ≡ o → stands_by calls ended o ≡ true → (is_update c ≡ true) ⊎ (is_view c ≡ true)
+unfolding is_update is_view
+printed_kind calls (Updates e) ended c h s = inl (rw h refl)
+printed_kind calls (Views answer) ended c h s = inr (rw h s)
+
+printed_line : (es : List Event) (c : Call) → In c (printed_order (calls_of es)) → HasLine (calls_of es) c.number
+unfolding is_printed
+printed_line es c i =
+    let p = in_printed (calls_of es) c i in
+    let own = own_number es c p.0 in
+    record { below = number_within es c p.0; kind = rw own (printed_kind (calls_of es) c.operation c.ended c refl p.1) }
+
+pub lines_of_order : (es : List Event) (numbers : List ℕ) → numbers ≡ map (λ c. c.number) (printed_order (calls_of es)) → All (HasLine (calls_of es)) numbers
+lines_of_order es numbers e =
+    rw e (All-map (HasLine (calls_of es)) (λ c. c.number) (printed_order (calls_of es)) (λ k d l. printed_line es _ (In-get_or (printed_order (calls_of es)) k d l)))
+
+calls_of_order : (es : List Event) (numbers : List ℕ) → numbers ≡ map (λ c. c.number) (printed_order (calls_of es)) → calls_numbered (calls_of es) numbers ≡ printed_order (calls_of es)
+unfolding picked
+calls_of_order es numbers e =
+    ap (calls_numbered (calls_of es)) e
+    ∙ sym (order_picked (calls_of es) (printed_order (calls_of es)) (numbered_calls es) (λ c i. Contains-from_In (calls_of es) c (in_printed (calls_of es) c i).0))
+
+-- ---- the verdict
+
+pub record IsTallied (es : List Event) (t : Tally) : Type 0 where
+  pub kept : IsKept es
+  pub whole : t ≡ tally_of (calls_of es) (views_of (calls_of es))
+
+pub no_fault_then : (es : List Event) (t : Tally) → IsTallied es t → CountsNoFault t → HasNoFault (calls_of es)
+no_fault_then es t w h = (no_fault_by_tally (calls_of es)).0 (subst CountsNoFault w.whole h)
+
+bytes_in : (es : List Event) → IsKept es → HasByteComponents es
+bytes_in es k = bytes_of_events es k.fit
+
+regular_is : (es : List Event) (t : Tally) → IsTallied es t → IsTrue (has_no_local_fault t) ↔ IsRegular (calls_of es)
+regular_is es t w =
+    let law = regular_by_tally es w.kept.history (bytes_in es w.kept) in
+    (λ e. law.0 (subst CountsNoLocalFault w.whole (local_from t e)), λ r. local_to t (subst CountsNoLocalFault (sym w.whole) (law.1 r)))
+
+atomic_is : (es : List Event) (t : Tally) → IsTallied es t → IsTrue (has_no_fault t) ↔ IsAtomic (calls_of es)
+atomic_is es t w =
+    let law = atomic_exactly es w.kept.history (bytes_in es w.kept) in (
+      λ e. law.1 (no_fault_then es t w (all_from t e)),
+      λ a. all_to t (subst CountsNoFault (sym w.whole) ((no_fault_by_tally (calls_of es)).1 (law.0 a))),
+    )
+
+finding_is : (es : List Event) (t : Tally) → IsTallied es t → (order : Option (List Call)) (b : Bool) → has_no_fault t ≡ b → (b ≡ true → order ≡ Some (printed_order (calls_of es))) → (b ≡ false → order ≡ None) →
+    finding_lines t order ≡ findings b (calls_of es)
+finding_is es t w order true e f g = ap (finding_lines t) (f refl)
+finding_is es t w order false e f g = rw (g refl, w.whole) refl
+
+pub verdict_is : (es : List Event) (t : Tally) → IsTallied es t → (order : Option (List Call)) → (has_no_fault t ≡ true → order ≡ Some (printed_order (calls_of es))) → (has_no_fault t ≡ false → order ≡ None) →
+    (status : Status) (out : List ℕ) → status ≡ status_of (has_no_local_fault t) (has_no_fault t) → out ≡ report_text es t order → IsVerdict es status out
+verdict_is es t w order f g status out s o =
+    record {
+      regular = has_no_local_fault t;
+      atomic = has_no_fault t;
+      regular_exactly = regular_is es t w;
+      atomic_exactly = atomic_is es t w;
+      legal = λ e. prints_legal_order es w.kept.history (bytes_in es w.kept) (no_fault_then es t w (all_from t e));
+      answers = s;
+      writes = o ∙ ap (λ (lines : List Line). text_of (report_lines es (has_no_local_fault t) (has_no_fault t) lines)) (finding_is es t w order (has_no_fault t) refl f g);
+    }
+
+pub atomic_verdict : (es : List Event) (t : Tally) → IsTallied es t → CountsNoFault t → (numbers : List ℕ) → numbers ≡ map (λ c. c.number) (printed_order (calls_of es)) →
+    (out : List ℕ) → out ≡ report_text es t (Some (calls_numbered (calls_of es) numbers)) → IsVerdict es Atomic out
+atomic_verdict es t w h numbers e out o =
+    let yes_all = all_to t h in
+    verdict_is es t w (Some (calls_numbered (calls_of es) numbers)) (λ u. ap Some (calls_of_order es numbers e)) (λ u. absurd (cc)) Atomic out (rw yes_all refl) o
+
+pub other_verdict : (es : List Event) (t : Tally) → IsTallied es t → (CountsNoFault t → ⊥) → (out : List ℕ) → out ≡ report_text es t None → (status : Status) → status ≡ status_of (has_no_local_fault t) false → IsVerdict es status out
+other_verdict es t w h out o status s =
+    let no_all : has_no_fault t ≡ false = not_true _ (λ e. h (all_from t e)) in
+    verdict_is es t w None (λ u. absurd (cc)) (λ u. refl) status out (s ∙ ap (status_of (has_no_local_fault t)) (sym no_all)) o
+
+pub regular_status : (t : Tally) → CountsNoLocalFault t → Regular ≡ status_of (has_no_local_fault t) false
+regular_status t h = let yes_local = local_to t h in rw yes_local refl
+
+pub irregular_status : (t : Tally) → (CountsNoLocalFault t → ⊥) → Irregular ≡ status_of (has_no_local_fault t) false
+irregular_status t h = let no_local : has_no_local_fault t ≡ false = not_true _ (λ e. h (local_from t e)) in rw no_local refl
+
+pub no_order_then : (t : Tally) → (CountsNoFault t → ⊥) → false ≡ has_no_fault t
+no_order_then t h = sym (not_true _ (λ e. h (all_from t e)))

@@ -1,0 +1,43 @@
+-- The command line, as the parser sees it.
+use Rattle.std.specs.Prelude.{Some, true, codes, pos, [], ◌∷◌}
+use Rattle.clap.specs.Words.{App, Rule, new_app, new_rule, with_rule, with_subcommand}
+use Rattle.clap.specs.declared.builder.action.ArgAction.TheVariants.{SetTrue}
+use Rattle.clap.specs.declared.builder.value_parser.ValueParser.TheVariants.{Signed}
+
+-- --pieces P, from 1 to 1,024, 8 where it is not given
+abbrev pub pieces_rule : Rule
+pieces_rule = record (new_rule (codes "pieces")) { long = Some (codes "pieces"); value_names = 1; parser = Some (Signed (pos 1) (pos 1024)); defaults = codes "8" ∷ [] }
+
+-- --workers W, from 1 to 8, 2 where it is not given
+abbrev pub workers_rule : Rule
+workers_rule = record (new_rule (codes "workers")) { long = Some (codes "workers"); value_names = 1; parser = Some (Signed (pos 1) (pos 8)); defaults = codes "2" ∷ [] }
+
+-- check [--pieces P] [--workers W]
+abbrev pub check_app : App
+check_app = with_rule (with_rule (new_app (codes "check")) pieces_rule) workers_rule
+
+-- --workers W, which is 2
+abbrev pub two_workers_rule : Rule
+two_workers_rule = record (new_rule (codes "workers")) { long = Some (codes "workers"); value_names = 1; parser = Some (Signed (pos 2) (pos 2)); defaults = codes "2" ∷ [] }
+
+-- --rounds R, from 1 to 2,048, 16 where it is not given
+abbrev pub rounds_rule : Rule
+rounds_rule = record (new_rule (codes "rounds")) { long = Some (codes "rounds"); value_names = 1; parser = Some (Signed (pos 1) (pos 2048)); defaults = codes "16" ∷ [] }
+
+-- --judge
+abbrev pub judge_rule : Rule
+judge_rule = record (new_rule (codes "judge")) { long = Some (codes "judge"); action = Some SetTrue }
+
+-- record [--workers W] [--rounds R] ..
+abbrev pub rounds_app : App
+rounds_app = with_rule (with_rule (new_app (codes "record")) two_workers_rule) rounds_rule
+
+-- .. [--judge]
+abbrev pub record_app : App
+record_app = with_rule rounds_app judge_rule
+
+abbrev pub needs_subcommand : App → App
+needs_subcommand app = record app { top = record app.top { subcommand_required = true } }
+
+abbrev pub program_app : App
+program_app = with_subcommand (with_subcommand (needs_subcommand (new_app (codes "snapjudge"))) check_app.top) record_app.top

@@ -1,0 +1,67 @@
+-- What a recording answers, writes and counts.
+use Rattle.std.specs.Prelude.{◌≡◌, ◌⊎◌, ℕ, Bool, true, false, List, Option, Result, Ok, Err}
+use Rattle.std.specs.Io.KnownBytes.{Appends, Keeps}
+use Rattle.snap_core.specs.declared.event.Event.{Event}
+use Rattle.snap_core.specs.Calls.{calls_of}
+use Rattle.snap_core.specs.Counting.{Rose}
+use Rattle.snap_core.specs.Events.{IsKept}
+use Rattle.snap_core.specs.Regular.{IsRegular}
+use Rattle.snap_core.specs.Sending.{SendsFront}
+use Rattle.snap_csv.specs.Spelling.{history_text}
+use Rattle.snap_record.specs.declared.plan.Step.{Step}
+use Rattle.snap_record.specs.History.{AllCompleted}
+use Rattle.snap_record.specs.Plans.{HasScripts}
+use Rattle.snapjudge.specs.declared.fault.RunFault.{RunFault}
+use Rattle.snapjudge.specs.declared.fault.RunFault.TheVariants as faults
+use Rattle.snapjudge.specs.declared.status.Status.{Status}
+use Rattle.snapjudge.specs.declared.status.Status.TheVariants.{Atomic, Recorded, Regular}
+use Rattle.snapjudge.specs.Runs.{IsReport}
+
+-- a history that a board's run of these scripts has: regular, without a pending call, and with the calls of each worker's script, as
+-- the process of its number, in their order, each once, and no other
+pub record IsRecordingOf (scripts : List (List Step)) (events : List Event) : Type 0 where
+  pub kept : IsKept events
+  pub regular : IsRegular (calls_of events)
+  pub completed : AllCompleted (calls_of events)
+  pub calls : HasScripts scripts events
+
+-- the text of such a history
+pub record IsRecordingText (scripts : List (List Step)) (status : Status) (out : List ℕ) : Type 0 where
+  pub events : List Event
+  pub recording : IsRecordingOf scripts events
+  pub answers : status ≡ Recorded
+  pub writes : out ≡ history_text events
+
+-- the report of such a text
+pub record IsRecordingReport (scripts : List (List Step)) (status : Status) (out : List ℕ) : Type 0 where
+  pub events : List Event
+  pub recording : IsRecordingOf scripts events
+  pub answers : (status ≡ Atomic) ⊎ (status ≡ Regular)
+  pub report : IsReport (history_text events) status out
+
+-- the status and the text of a recording, or where it is judged its status and report
+abbrev pub IsRecorded : Bool → List (List Step) → Status → List ℕ → Type 0
+IsRecorded false scripts status out = IsRecordingText scripts status out
+IsRecorded true scripts status out = IsRecordingReport scripts status out
+
+-- what a writer holds before and after a run, by what may go out with a status: a whole text of that kind, a front of one, or nothing
+
+abbrev pub FailedAs : (Status → List ℕ → Type 0) → Option (List ℕ) → Option (List ℕ) → RunFault → Type 0
+FailedAs Is old new faults.Read = ⊥
+FailedAs Is old new faults.Write = (status : Status) × (out : List ℕ) × Is status out × SendsFront old new out
+FailedAs Is old new faults.Memory = Keeps old new
+
+abbrev pub WroteAs : (Status → List ℕ → Type 0) → Option (List ℕ) → Option (List ℕ) → Result Status RunFault → Type 0
+WroteAs Is old new (Ok status) = (out : List ℕ) × Is status out × Appends old new out
+WroteAs Is old new (Err fault) = FailedAs Is old new fault
+
+-- the writer's count of failures before and after a run: it rose exactly where writing failed, or stands at its last value
+
+abbrev pub WriteFaultCounts : ℕ → ℕ → RunFault → Type 0
+WriteFaultCounts old new faults.Read = ⊥
+WriteFaultCounts old new faults.Write = Rose old new
+WriteFaultCounts old new faults.Memory = new ≡ old
+
+abbrev pub WriteCounts : ℕ → ℕ → Result Status RunFault → Type 0
+WriteCounts old new (Ok status) = new ≡ old
+WriteCounts old new (Err fault) = WriteFaultCounts old new fault

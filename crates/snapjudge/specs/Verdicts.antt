@@ -1,0 +1,33 @@
+-- What is said of a history: the status and the report.
+use Rattle.std.specs.Prelude.{ℕ, Bool, true, false, List, ◌≡◌, ◌↔◌, IsTrue}
+use Rattle.snap_core.specs.declared.event.Event.{Event}
+use Rattle.snap_core.specs.Calls.{Call, calls_of, views_of}
+use Rattle.snap_core.specs.Orders.{IsAtomic, IsLegalOrder}
+use Rattle.snap_core.specs.Regular.{IsRegular}
+use Rattle.snap_conditions.specs.Tally.{tally_of}
+use Rattle.snap_order.specs.Levels.{printed_order}
+use Rattle.snap_report.specs.Faults.{fault_lines}
+use Rattle.snap_report.specs.Lines.{Line, text_of}
+use Rattle.snap_report.specs.Reports.{order_lines, report_lines}
+use Rattle.snapjudge.specs.declared.status.Status.{Status}
+use Rattle.snapjudge.specs.Statuses.{status_of}
+
+-- what a report ends with: the printed order of an atomic history, or else the faults of all completed views
+abbrev pub findings : Bool → List Call → List Line
+findings true calls = order_lines (printed_order calls)
+findings false calls = fault_lines (tally_of calls (views_of calls))
+
+-- the status and the report of a history
+pub record IsVerdict (events : List Event) (status : Status) (out : List ℕ) : Type 0 where
+  pub regular : Bool
+  pub atomic : Bool
+  -- regular exactly where each completed view gives each component a value neither older than its last update ended before the
+  -- view nor begun after it
+  pub regular_exactly : IsTrue regular ↔ IsRegular (calls_of events)
+  -- atomic exactly where some order of all completed calls and some pending updates keeps precedence and gives each view the
+  -- latest updates (Herlihy and Wing 1990)
+  pub atomic_exactly : IsTrue atomic ↔ IsAtomic (calls_of events)
+  -- the order that is printed is such an order
+  pub legal : IsTrue atomic → IsLegalOrder (calls_of events) (printed_order (calls_of events))
+  pub answers : status ≡ status_of regular atomic
+  pub writes : out ≡ text_of (report_lines events regular atomic (findings atomic (calls_of events)))

@@ -1,0 +1,91 @@
+ghost use Rattle.std.specs.Prelude.{IfOk};
+ghost use Rattle.snap_core.specs.Counting.{failures_in, inner_of};
+ghost use Rattle.snapjudge.specs.Runs.{JudgeCounts, Judges, RunCounts, Wrote};
+ghost use Rattle.snapjudge.specs.Verdicts.{IsVerdict};
+
+use crate::fault::RunFault;
+use crate::status::Status;
+use snap_conditions::{is_atomic, is_regular};
+use snap_core::{Counted, Gate, History};
+use snap_csv::{ReadRefusal, read_history};
+use snap_index::Index;
+use snap_order::build;
+use snap_pairs::{Cutting, tally};
+use snap_report::{refusal_text, report};
+use std::alloc::{AllocError, Global};
+use std::io::{Read, Write};
+use std::sync::Wait;
+use std::thread::Threads;
+
+// The status and the report of a history.
+pub(crate) fn verdict<Rt: Threads + Wait + Sync, G: Gate>(
+    rt: &Rt,
+    alloc: Global,
+    history: &History,
+    cutting: Cutting,
+    gate: &G,
+) -> Result<(Status, Vec<u8>), AllocError>
+    ensures { IfOk result (λ answer. IsVerdict history.now answer.0 answer.1.items) }
+{
+    let index = Index::build(alloc, history)?;
+    let _events = index.event_count();
+    let tally = tally(rt, alloc, &index, cutting, gate)?;
+    if is_atomic(&tally) {
+        let order = build(rt, alloc, &index)?;
+        let text = report(alloc, &index, &tally, Some(&order))?;
+        return Ok((Status::Atomic, text));
+    }
+    let text = report(alloc, &index, &tally, None)?;
+    if is_regular(&tally) {
+        Ok((Status::Regular, text))
+    } else {
+        Ok((Status::Irregular, text))
+    }
+}
+
+// The status and the report of the text that a reader has.
+fn judge<Rt: Threads + Wait + Sync, R: Read, G: Gate>(
+    rt: &Rt,
+    alloc: Global,
+    reader: &mut Counted<R>,
+    cutting: Cutting,
+    gate: &G,
+) -> Result<(Status, Vec<u8>), RunFault>
+    ensures answer { Judges (R.remaining (inner_of reader.old)) result }
+    ensures counts { JudgeCounts (failures_in reader.old) (failures_in reader.new) result }
+{
+    match read_history(alloc, reader) {
+        Ok(history) => Ok(verdict(rt, alloc, &history, cutting, gate)?),
+        Err(ReadRefusal::Text { place, fault }) => Ok((
+            Status::Refused,
+            refusal_text(alloc, place, fault)?,
+        )),
+        Err(ReadRefusal::Device) => Err(RunFault::Read),
+        Err(ReadRefusal::Memory) => Err(RunFault::Memory),
+    }
+}
+
+/// Reads a history and writes its report, or the line of its first fault. Where it answers a status, what went out is the
+/// report of the text that the reader had, and the status is that report's, whatever the cutting and the gate are.
+///
+/// Nothing is written until the whole report is built: after `Read` or `Memory` nothing went out, after `Write` a front of
+/// the report, perhaps all of it. The first error of a device ends the run, and `Read` and `Write` come only where the count
+/// of that device rose, or stood at its last value. The writer is flushed once at the end. The run waits for its workers, and
+/// so for the gate.
+pub fn check_run<Rt: Threads + Wait + Sync, R: Read, W: Write, G: Gate>(
+    rt: &Rt,
+    alloc: Global,
+    reader: &mut Counted<R>,
+    writer: &mut Counted<W>,
+    cutting: Cutting,
+    gate: &G,
+) -> Result<Status, RunFault>
+    ensures wrote { Wrote (R.remaining (inner_of reader.old)) (W.contents (inner_of writer.old)) (W.contents (inner_of writer.new)) result }
+    ensures counts { RunCounts (failures_in reader.old) (failures_in reader.new) (failures_in writer.old) (failures_in writer.new) result }
+{
+    let (status, text) = judge(rt, alloc, reader, cutting, gate)?;
+    match writer.send(&text) {
+        Ok(()) => Ok(status),
+        Err(_) => Err(RunFault::Write),
+    }
+}

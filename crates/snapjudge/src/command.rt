@@ -1,0 +1,92 @@
+//! The words that the program takes, and its help.
+ghost use Rattle.std.specs.Prelude.{◌≡◌, IfOk, false};
+ghost use Rattle.clap.specs.Words.{app_of, rule_of};
+ghost use Rattle.clap.specs.declared.builder.command.Command.TheViews.{out-Command as fields_of};
+ghost use Rattle.snapjudge.specs.CommandLine.{check_app, pieces_rule, program_app, workers_rule};
+
+use crate::record_command::record_command;
+use clap::{Arg, Command};
+use std::alloc::{AllocError, Global};
+
+const ABOUT: &str =
+    "Judges a recorded history of a single-writer board: is it regular, is it atomic, and why not?";
+
+const CHECK_ABOUT: &str =
+    "Reads a history from standard input and writes its report to standard output";
+
+const EXAMPLE: &str = "\
+A history is a text of records, one event each, under a header:
+
+    event,process,op,data
+    begin,0,update,0:1:7
+    end,0,update,
+    begin,1,view,
+    end,1,view,0:1:7
+
+Process 0 writes the value 7 into component 0, as its update 1; process 1 then takes a
+view, and sees it. An update begins with COMPONENT:NUMBER:VALUE, a view ends with what it
+shows, entries of the same form with spaces between. `snapjudge check < history.csv` prints:
+
+    events 4 calls 2 pending 0 views 1
+    regular yes
+    atomic yes
+    order 2
+    1 p0 update 0:1:7
+    2 p1 view 0:1:7
+
+An atomic history's report ends with an order of its calls that explains every view. Any
+other history's report ends with a line for each kind of fault: how many there are, and
+the first one.
+
+Exit status:
+    0  the history is atomic
+    1  it is regular, and not atomic
+    2  it is not regular
+    3  the text is no history: the one line of the report names the record and its fault
+    4  reading, writing or memory failed
+    5  the words of the command line were not taken";
+
+fn pieces_argument<'a>(alloc: Global) -> Arg<'a>
+    ensures rule { rule_of result ≡ pieces_rule }
+    ensures own { result.global ≡ false }
+{
+    Arg::new(alloc, "pieces")
+        .long("pieces")
+        .value_name("P")
+        .help("Into how many pieces the views are cut, from 1 to 1024")
+        .value_parser(clap::value_parser!(u32).range(1..1025))
+        .default_value("8")
+}
+
+fn workers_argument<'a>(alloc: Global) -> Arg<'a>
+    ensures rule { rule_of result ≡ workers_rule }
+    ensures own { result.global ≡ false }
+{
+    Arg::new(alloc, "workers")
+        .long("workers")
+        .value_name("W")
+        .help("How many threads share the pieces, from 1 to 8")
+        .value_parser(clap::value_parser!(u32).range(1..9))
+        .default_value("2")
+}
+
+fn check_command<'a>(alloc: Global) -> Result<Command<'a>, AllocError>
+    ensures { IfOk result (λ command. (app_of command ≡ check_app) × ((fields_of command).has_globals ≡ false)) }
+{
+    Command::new(alloc, "check")
+        .about(CHECK_ABOUT)
+        .after_help(EXAMPLE)
+        .arg(pieces_argument(alloc))?
+        .arg(workers_argument(alloc))
+}
+
+/// The program, with its commands and their options.
+pub fn program<'a>(alloc: Global) -> Result<Command<'a>, AllocError>
+    ensures { IfOk result (λ command. app_of command ≡ program_app) }
+{
+    Command::new(alloc, "snapjudge")
+        .about(ABOUT)
+        .subcommand_required(true)
+        .subcommand(check_command(alloc)?)?
+        .subcommand(record_command(alloc)?)
+}

@@ -1,0 +1,156 @@
+//! What the words of a command line ask for.
+ghost use Rattle.std.specs.Prelude.{◌≡◌, ◌∷◌, [], ℕ, List, Some, true, false, codes, IfOk, IfSome, IsSomeAnd, MatchResult, map, string_bytes};
+ghost use Rattle.clap.specs.Words.{Row, found_of, kind_of, one_of, rows_of, subcommand_rows_of};
+ghost use Rattle.snap_pairs.specs.Cuttings.{IsPieces, IsWorkers};
+ghost use Rattle.snapjudge.specs.Jobs.{IsCheck, IsInRange, IsRecord};
+
+use crate::command::program;
+use clap::error::ErrorKind;
+use clap::{ArgMatches, Error};
+use snap_pairs::Cutting;
+use std::alloc::{AllocError, Global};
+
+/// What the program is asked to do.
+#[derive(Clone, Copy)]
+pub enum Job {
+    /// Judge the history on standard input.
+    Check {
+        cutting: Cutting,
+    },
+    /// Record so many workers in so many rounds, and judge the history where that is asked for.
+    Record {
+        workers: u32,
+        rounds: u32,
+        judge: bool,
+    },
+}
+
+/// Why the words name no job.
+#[derive(Debug, Drop)]
+pub enum JobFault {
+    /// The words were not taken, or ask for help; the text is for the user.
+    Usage(String),
+    /// Memory ran out.
+    Memory,
+}
+
+impl From<AllocError> for JobFault {
+    ghost use Rattle.snapjudge.specs.declared.job.JobFault.TheVariants.{Memory};
+
+    ghost from_gives = { λ _ fault. fault ≡ Memory };
+
+    fn from(_error: AllocError) -> JobFault {
+        JobFault::Memory
+    }
+}
+
+// The number that an option has.
+fn number_in(matches: &ArgMatches<'_>, id: &str) -> Option<u32>
+    ensures eight { one_of id.now (rows_of (found_of matches.now)) ≡ Some (codes "8") → result ≡ Some 8 }
+    ensures two { one_of id.now (rows_of (found_of matches.now)) ≡ Some (codes "2") → result ≡ Some 2 }
+    ensures five { one_of id.now (rows_of (found_of matches.now)) ≡ Some (codes "5") → result ≡ Some 5 }
+    ensures sixteen { one_of id.now (rows_of (found_of matches.now)) ≡ Some (codes "16") → result ≡ Some 16 }
+{
+    matches.get_one::<u32>(id)
+}
+
+// The check that the options of `check` ask for.
+fn check_in(matches: &ArgMatches<'_>) -> Option<Job>
+    ensures job { IfSome result IsInRange }
+    ensures alone { one_of (codes "pieces") (rows_of (found_of matches.now)) ≡ Some (codes "8")
+        → one_of (codes "workers") (rows_of (found_of matches.now)) ≡ Some (codes "2") → IsSomeAnd result (IsCheck 8 2) }
+{
+    let pieces = number_in(matches, "pieces")?;
+    let workers = number_in(matches, "workers")?;
+    let cutting = Cutting::new(pieces, workers).ok()?;
+    Some(Job::Check { cutting })
+}
+
+// Whether a flag was given.
+fn flag_in(matches: &ArgMatches<'_>, id: &str) -> bool
+    ensures given { one_of id.now (rows_of (found_of matches.now)) ≡ Some (codes "true") → result ≡ true }
+    ensures absent { one_of id.now (rows_of (found_of matches.now)) ≡ Some (codes "false") → result ≡ false }
+{
+    matches.get_flag(id)
+}
+
+// The recording that the options of `record` ask for.
+fn record_in(matches: &ArgMatches<'_>) -> Option<Job>
+    ensures job { IfSome result IsInRange }
+    ensures alone { one_of (codes "workers") (rows_of (found_of matches.now)) ≡ Some (codes "2")
+        → one_of (codes "rounds") (rows_of (found_of matches.now)) ≡ Some (codes "16")
+        → one_of (codes "judge") (rows_of (found_of matches.now)) ≡ Some (codes "false") → IsSomeAnd result (IsRecord 2 16 false) }
+    ensures judged { one_of (codes "workers") (rows_of (found_of matches.now)) ≡ Some (codes "2")
+        → one_of (codes "rounds") (rows_of (found_of matches.now)) ≡ Some (codes "5")
+        → one_of (codes "judge") (rows_of (found_of matches.now)) ≡ Some (codes "true") → IsSomeAnd result (IsRecord 2 5 true) }
+{
+    let workers = number_in(matches, "workers")?;
+    let rounds = number_in(matches, "rounds")?;
+    let judge = flag_in(matches, "judge");
+    if workers != 2 || rounds == 0 || rounds > 2048 {
+        return None;
+    }
+    Some(Job::Record {
+        workers,
+        rounds,
+        judge,
+    })
+}
+
+// The job that the words ask for, where each number is there and in its range.
+fn job_in(matches: &ArgMatches<'_>) -> Option<Job>
+    ensures job { IfSome result IsInRange }
+    ensures check { (rows : List Row) → subcommand_rows_of matches.now ≡ Some (codes "check", rows)
+        → one_of (codes "pieces") rows ≡ Some (codes "8") → one_of (codes "workers") rows ≡ Some (codes "2")
+        → IsSomeAnd result (IsCheck 8 2) }
+    ensures record_alone { (rows : List Row) → subcommand_rows_of matches.now ≡ Some (codes "record", rows)
+        → one_of (codes "workers") rows ≡ Some (codes "2") → one_of (codes "rounds") rows ≡ Some (codes "16")
+        → one_of (codes "judge") rows ≡ Some (codes "false") → IsSomeAnd result (IsRecord 2 16 false) }
+    ensures record_judged { (rows : List Row) → subcommand_rows_of matches.now ≡ Some (codes "record", rows)
+        → one_of (codes "workers") rows ≡ Some (codes "2") → one_of (codes "rounds") rows ≡ Some (codes "5")
+        → one_of (codes "judge") rows ≡ Some (codes "true") → IsSomeAnd result (IsRecord 2 5 true) }
+{
+    let (name, inner) = matches.subcommand()?;
+    if name == "check" {
+        check_in(inner)
+    } else {
+        record_in(inner)
+    }
+}
+
+fn fault_of(alloc: Global, error: &Error) -> JobFault
+    ensures { kind_of error.now ≡ ErrorKind.OutOfMemory → result ≡ JobFault.Memory }
+{
+    if error.kind() == ErrorKind::OutOfMemory {
+        return JobFault::Memory;
+    }
+    match error.to_string(alloc) {
+        Ok(text) => JobFault::Usage(text),
+        Err(_) => JobFault::Memory,
+    }
+}
+
+/// The job that the words of a command line ask for, the program's name first.
+pub fn job_of(alloc: Global, words: Vec<String>) -> Result<Job, JobFault>
+    ensures job { IfOk result IsInRange }
+    ensures check_alone { (name : List ℕ) → map string_bytes words.items ≡ name ∷ codes "check" ∷ []
+        → MatchResult result (IsCheck 8 2) (λ fault. fault ≡ JobFault.Memory) }
+    ensures record_alone { (name : List ℕ) → map string_bytes words.items ≡ name ∷ codes "record" ∷ []
+        → MatchResult result (IsRecord 2 16 false) (λ fault. fault ≡ JobFault.Memory) }
+    ensures record_judged { (name : List ℕ)
+        → map string_bytes words.items ≡ name ∷ codes "record" ∷ codes "--rounds" ∷ codes "5" ∷ codes "--judge" ∷ []
+        → MatchResult result (IsRecord 2 5 true) (λ fault. fault ≡ JobFault.Memory) }
+{
+    let command = program(alloc)?;
+    match command.try_get_matches_from(words.as_slice()) {
+        Err(error) => Err(fault_of(alloc, &error)),
+        Ok(matches) => match job_in(&matches) {
+            Some(job) => Ok(job),
+            // The parser tests each number, so no words lead here.
+            None => Err(JobFault::Usage(String::from_str(
+                alloc,
+                "error: a number is out of range\n",
+            )?)),
+        },
+    }
+}

@@ -1,0 +1,89 @@
+//! The words of `record`, and its help.
+ghost use Rattle.std.specs.Prelude.{◌≡◌, IfOk, false};
+ghost use Rattle.clap.specs.Words.{app_of, rule_of};
+ghost use Rattle.clap.specs.declared.builder.command.Command.TheViews.{out-Command as fields_of};
+ghost use Rattle.snapjudge.specs.CommandLine.{judge_rule, record_app, rounds_app, rounds_rule, two_workers_rule};
+
+use clap::{Arg, ArgAction, Command};
+use std::alloc::{AllocError, Global};
+
+const ABOUT: &str =
+    "Records the history of a running board and writes it, or its report, to standard output";
+
+const EXAMPLE: &str = "\
+Two threads work on a board of atomic words, one word for each. Worker w does in each round
+i, counted from 1, a store of the value w * 65536 + i to its word, and then a view, which
+reads the words one by one. The history has a begin and an end of each of these calls, in
+the order in which they were stamped: it is always regular, and atomic or not as the run
+went. `snapjudge record --rounds 1` prints, in one of its runs:
+
+    event,process,op,data
+    begin,0,update,0:1:1
+    end,0,update,
+    begin,0,view,
+    begin,1,update,1:1:65537
+    end,0,view,0:1:1
+    end,1,update,
+    begin,1,view,
+    end,1,view,0:1:1 1:1:65537
+
+With --judge it prints the history's report in place of the history: see
+`snapjudge check --help`.
+
+Exit status:
+    0  the history was written, or with --judge it is atomic
+    1  with --judge: it is regular, and not atomic
+    4  writing or memory failed
+    5  the words of the command line were not taken";
+
+fn workers_argument<'a>(alloc: Global) -> Arg<'a>
+    ensures rule { rule_of result ≡ two_workers_rule }
+    ensures own { result.global ≡ false }
+{
+    Arg::new(alloc, "workers")
+        .long("workers")
+        .value_name("W")
+        .help("How many threads work on the board: 2")
+        .value_parser(clap::value_parser!(u32).range(2..3))
+        .default_value("2")
+}
+
+fn rounds_argument<'a>(alloc: Global) -> Arg<'a>
+    ensures rule { rule_of result ≡ rounds_rule }
+    ensures own { result.global ≡ false }
+{
+    Arg::new(alloc, "rounds")
+        .long("rounds")
+        .value_name("R")
+        .help("In how many rounds each of them stores and views, from 1 to 2048")
+        .value_parser(clap::value_parser!(u32).range(1..2049))
+        .default_value("16")
+}
+
+fn judge_argument<'a>(alloc: Global) -> Arg<'a>
+    ensures rule { rule_of result ≡ judge_rule }
+    ensures own { result.global ≡ false }
+{
+    Arg::new(alloc, "judge")
+        .long("judge")
+        .help("Write the report of the history, and not the history")
+        .action(ArgAction::SetTrue)
+}
+
+// `record` with its help and its two numbers.
+fn rounds_command<'a>(alloc: Global) -> Result<Command<'a>, AllocError>
+    ensures { IfOk result (λ command. (app_of command ≡ rounds_app) × ((fields_of command).has_globals ≡ false)) }
+{
+    Command::new(alloc, "record")
+        .about(ABOUT)
+        .after_help(EXAMPLE)
+        .arg(workers_argument(alloc))?
+        .arg(rounds_argument(alloc))
+}
+
+/// The command `record` with its options.
+pub fn record_command<'a>(alloc: Global) -> Result<Command<'a>, AllocError>
+    ensures { IfOk result (λ command. (app_of command ≡ record_app) × ((fields_of command).has_globals ≡ false)) }
+{
+    rounds_command(alloc)?.arg(judge_argument(alloc))
+}

@@ -1,0 +1,125 @@
+ghost use Rattle.std.specs.Prelude.{◌≡◌, ◌<◌, ◌≤◌, IfOk};
+ghost use Rattle.snap_core.specs.Counting.{failures_in, inner_of};
+ghost use Rattle.snap_csv.specs.Spelling.{history_text};
+ghost use Rattle.snap_record.specs.Plans.{rounds_scripts};
+ghost use Rattle.snapjudge.specs.RecordRuns.{IsRecorded, IsRecordingOf, WriteCounts, WroteAs};
+ghost use Rattle.snapjudge.specs.Verdicts.{IsVerdict};
+ghost use Rattle.snapjudge.specs.declared.status.Status.TheVariants.{Recorded};
+
+use crate::check::verdict;
+use crate::fault::RunFault;
+use crate::status::Status;
+use snap_core::{Counted, Gate, History, OpenGate};
+use snap_csv::{WriteRefusal, write_history};
+use snap_pairs::Cutting;
+use snap_record::{Plan, PlanRefusal, record_plan, rounds_plan};
+use std::alloc::{AllocError, Global};
+use std::io::Write;
+use std::sync::Wait;
+use std::thread::Threads;
+
+// The history of a run of the plan.
+fn recorded<Rt: Threads + Sync, G: Gate>(
+    rt: &Rt,
+    alloc: Global,
+    plan: &Plan,
+    gate: &G,
+) -> Result<History, AllocError>
+    ensures { IfOk result (IsRecordingOf plan.now) }
+{
+    let Ok(recording) = record_plan(rt, alloc, plan, gate) else {
+        return Err(AllocError);
+    };
+    let history = recording.history;
+    let _events = history.events();
+    Ok(history)
+}
+
+// Writes the text of a history.
+fn write_text<W: Write>(
+    alloc: Global,
+    history: &History,
+    writer: &mut Counted<W>,
+) -> Result<Status, RunFault>
+    ensures wrote { WroteAs (λ status out. (status ≡ Recorded) × (out ≡ history_text history.now))
+        (W.contents (inner_of writer.old)) (W.contents (inner_of writer.new)) result }
+    ensures counts { WriteCounts (failures_in writer.old) (failures_in writer.new) result }
+{
+    match write_history(alloc, writer, history) {
+        Ok(()) => Ok(Status::Recorded),
+        Err(WriteRefusal::Device) => Err(RunFault::Write),
+        Err(WriteRefusal::Memory) => Err(RunFault::Memory),
+    }
+}
+
+// Judges a history, and writes its report.
+fn write_report<Rt: Threads + Wait + Sync, W: Write>(
+    rt: &Rt,
+    alloc: Global,
+    history: &History,
+    writer: &mut Counted<W>,
+    cutting: Cutting,
+) -> Result<Status, RunFault>
+    ensures wrote { WroteAs (IsVerdict history.now) (W.contents (inner_of writer.old)) (W.contents (inner_of writer.new)) result }
+    ensures counts { WriteCounts (failures_in writer.old) (failures_in writer.new) result }
+{
+    let (status, text) = verdict(rt, alloc, history, cutting, &OpenGate)?;
+    match writer.send(&text) {
+        Ok(()) => Ok(status),
+        Err(_) => Err(RunFault::Write),
+    }
+}
+
+/// Records a run of the plan on a board, and writes its history as text, with the status `Recorded`. Where it is to be
+/// judged, it writes the history's report in place of the text, and the status is that report's, `Atomic` or `Regular`. The
+/// workers call the gate; the judge has the cutting, and no gate.
+///
+/// The history is regular, has no pending call, and has for each worker, as the process of its number, the calls of its
+/// script in their order, each once, and no other. It is one run's: another run may give another.
+///
+/// Nothing is written until the whole text or report is built: after `Memory` nothing went out and the writer's count of
+/// failures is unchanged, after `Write` a front of it, perhaps all of it, and that count rose, or stood at its last value.
+/// `Read` is never answered. The writer is flushed once at the end. The run waits for its workers, and so for the gate.
+pub fn record_run<Rt: Threads + Wait + Sync, W: Write, G: Gate>(
+    rt: &Rt,
+    alloc: Global,
+    plan: &Plan,
+    judge: bool,
+    writer: &mut Counted<W>,
+    cutting: Cutting,
+    gate: &G,
+) -> Result<Status, RunFault>
+    ensures wrote { WroteAs (IsRecorded judge plan.now) (W.contents (inner_of writer.old)) (W.contents (inner_of writer.new)) result }
+    ensures counts { WriteCounts (failures_in writer.old) (failures_in writer.new) result }
+{
+    let history = recorded(rt, alloc, plan, gate)?;
+    if judge {
+        write_report(rt, alloc, &history, writer, cutting)
+    } else {
+        write_text(alloc, &history, writer)
+    }
+}
+
+/// Records two workers in so many rounds of a store and a view each, and judges with 8 pieces and 2 workers where that is
+/// asked for. Otherwise as `record_run`.
+pub fn record_rounds<Rt: Threads + Wait + Sync, W: Write>(
+    rt: &Rt,
+    alloc: Global,
+    workers: u32,
+    rounds: u32,
+    judge: bool,
+    writer: &mut Counted<W>,
+) -> Result<Status, RunFault>
+    requires { (workers ≡ 2) × (0 < rounds) × (rounds ≤ 2048) }
+    ensures wrote { WroteAs (IsRecorded judge (rounds_scripts rounds)) (W.contents (inner_of writer.old)) (W.contents (inner_of writer.new)) result }
+    ensures counts { WriteCounts (failures_in writer.old) (failures_in writer.new) result }
+{
+    let Ok(cutting) = Cutting::new(8, 2) else {
+        unreachable!()
+    };
+    match rounds_plan(alloc, workers, rounds) {
+        Ok(plan) => record_run(rt, alloc, &plan, judge, writer, cutting, &OpenGate),
+        Err(PlanRefusal::Memory) => Err(RunFault::Memory),
+        Err(_) => unreachable!(),
+    }
+}
