@@ -1,13 +1,14 @@
 -- The calls of a history are what `AreCalls` says.
 use Rattle.std.proofs.Common.{◌≡◌, ◌≢◌, ℕ, suc, ◌+◌, ◌-◌, ◌<◌, ◌≤◌, Bool, true, false, cond, List, [], ◌∷◌, ◌++◌, append_assoc, length, Option, Some, None, refl, sym, ap, ◌∙◌, subst, inl, inr, arith, get_or}
-use Rattle.std.specs.Prelude.{◌==◌}
+use Rattle.std.specs.Prelude.{◌==◌, ⊤, slice_get}
 use Rattle.std.specs.List.{Contains, count_by}
 use Rattle.std.proofs.lemmas.Bool.{false≢true, eqb-true, cases_order}
 use Rattle.std.proofs.lemmas.List.{length-append, get_or_at}
 use Rattle.std.proofs.lemmas.List.Elements.{All-contains}
+use Rattle.std.proofs.lemmas.Option.{slice_get-get_or}
 use Rattle.snap_core.specs.declared.entry.Entry.{Entry}
 use Rattle.snap_core.specs.Events.{Event, BeginUpdate, BeginView, EndUpdate, EndView, process_of, IsBegin, Ends, events_of, begins_update_of, IsHistory, HasByteComponents, IsByteEvent}
-use Rattle.snap_core.specs.Calls.{Call, Updates, Views, next_place, next_answer, answer_at, calls_from, calls_of, precedes, is_view, is_answer}
+use Rattle.snap_core.specs.Calls.{Call, Operation, Updates, Views, next_place, next_answer, answer_at, calls_from, calls_of, precedes, is_view, is_answer}
 use Rattle.snap_core.specs.Regular.{IsViewOf, IsUpdateOf}
 use Rattle.snap_core.proofs.Lists.{In, In-from_Contains, Contains-from_In, In-append_right, Pairs, count-cons}
 use Rattle.snap_core.proofs.Facts.{AreCalls, EarlierUpdate, Ended, precedes_from}
@@ -295,7 +296,7 @@ unanswered_part es h c i w = go c.ended refl
     go None e = e
     go (Some end) e = let x = ended_at es c end b e in absurd (at b.event x.event b.after (end_is es h c end b x) silent x.answer)
 
-answered_part : (es : List Event) → (r : Call) → IsViewOf (calls_of es) r → Ended r
+pub answered_part : (es : List Event) (r : Call) → IsViewOf (calls_of es) r → Ended r
 unfolding is_view
 answered_part es r v = at b.event refl
   where
@@ -342,16 +343,24 @@ are_calls es h = record {
 pub byte_components : (es : List Event) → HasByteComponents es → (c : Call) (e : Entry) → IsUpdateOf (calls_of es) c e → e.component < 256
 byte_components es b c e u = let o = opened es c e u in All-contains IsByteEvent es (BeginUpdate o.process e) b (in_history es (BeginUpdate o.process e) o.before o.after o.split)
 
--- the event that ends a completed view has what the view shows
-pub record ViewEnd (es : List Event) (c : Call) (place : ℕ) : Type 0 where
-  pub process : ℕ
-  pub entries : List Entry
-  pub within : place < length es
-  pub at_place : (d : Event) → get_or es place d ≡ EndView process entries
-  pub answer : c.operation ≡ Views (Some entries)
+-- an event ends what a call does: of a view it has what the view shows
+abbrev pub IsEndOf : Operation → Event → Type 0
+IsEndOf (Updates d) (EndUpdate q) = ⊤
+IsEndOf (Views answer) (EndView q s) = answer ≡ Some s
+IsEndOf _ _ = ⊥
 
-pub view_end : (es : List Event) → IsHistory es → (c : Call) (o : Option (List Entry)) (place : ℕ) → Contains (calls_of es) c → c.operation ≡ Views o → c.ended ≡ Some place → ViewEnd es c place
-view_end es h c o place i v e = at b.event x.event refl refl (end_is es h c place b x)
+-- the event that ends a call
+pub record CallEnd (es : List Event) (c : Call) (place : ℕ) : Type 0 where
+  pub event : Event
+  pub there : slice_get es place ≡ Some event
+  pub ends : IsEndOf c.operation event
+
+pub call_end : (es : List Event) → IsHistory es → (c : Call) (place : ℕ) → Contains (calls_of es) c → c.ended ≡ Some place → CallEnd es c place
+call_end es h c place i e = record {
+  event = x.event;
+  there = slice_get-get_or es place x.event within ∙ ap Some (ap (λ w. get_or w place x.event) split ∙ get_or_at (b.before ++ b.event ∷ x.mid) x.event x.rest x.event place size);
+  ends = subst (λ o. IsEndOf o x.event) (sym (ap (λ (z : Call). z.operation) b.is)) (at b.event x.event b.opens (end_is es h c place b x) x.answer);
+}
   where
     b : Begun 0 0 es c
     b = begun_of es c i
@@ -365,25 +374,20 @@ view_end es h c o place i v e = at b.event x.event refl refl (end_is es h c plac
     size : length (b.before ++ b.event ∷ x.mid) ≡ place
     size = omega (arith, length-append b.before (b.event ∷ x.mid), b.at_place, x.at_end)
 
-    asks : operation_at b.event b.after ≡ Views o
-    asks = sym (ap (λ (z : Call). z.operation) b.is) ∙ v
+    within : place < length es
+    within = let l = ap length split ∙ length-append (b.before ++ b.event ∷ x.mid) (x.event ∷ x.rest) in omega (arith, l, size)
 
-    at : (y z : Event) → b.event ≡ y → x.event ≡ z → Ends b.event x.event → ViewEnd es c place
-    at (BeginUpdate p d) z j k t = absurd (let g : Updates d ≡ Views o = sym (ap (λ w. operation_at w b.after) j) ∙ asks in cc)
-    at (EndUpdate p) z j k t = absurd (subst IsBegin j b.opens)
-    at (EndView p s) z j k t = absurd (subst IsBegin j b.opens)
-    at (BeginView p) (BeginUpdate q d) j k t = absurd (not_end b.event x.event t (subst IsBegin (sym k) tt))
-    at (BeginView p) (BeginView q) j k t = absurd (not_end b.event x.event t (subst IsBegin (sym k) tt))
-    at (BeginView p) (EndUpdate q) j k t = absurd (subst (λ w. Ends w (EndUpdate q)) j (subst (λ w. Ends b.event w) k t))
-    at (BeginView p) (EndView q s) j k t = record {
-      process = q;
-      entries = s;
-      within = let l = ap length split ∙ length-append (b.before ++ b.event ∷ x.mid) (x.event ∷ x.rest) in omega (arith, l, size);
-      at_place = λ d. ap (λ w. get_or w place d) split ∙ get_or_at (b.before ++ b.event ∷ x.mid) x.event x.rest d place size ∙ k;
-      answer =
-          ap (λ (w : Call). w.operation) b.is ∙ ap (λ w. operation_at w b.after) j
-          ∙ ap Views (ap (λ w. next_answer w b.after) (sym (ap process_of j)) ∙ x.answer ∙ ap answer_at k);
-    }
+    at : (y z : Event) → IsBegin y → Ends y z → next_answer (process_of y) b.after ≡ answer_at z → IsEndOf (operation_at y b.after) z
+    at (BeginUpdate p d) (BeginUpdate q f) o t n = t
+    at (BeginUpdate p d) (BeginView q) o t n = t
+    at (BeginUpdate p d) (EndUpdate q) o t n = tt
+    at (BeginUpdate p d) (EndView q s) o t n = absurd t
+    at (BeginView p) (BeginUpdate q f) o t n = t
+    at (BeginView p) (BeginView q) o t n = t
+    at (BeginView p) (EndUpdate q) o t n = t
+    at (BeginView p) (EndView q s) o t n = n
+    at (EndUpdate p) z o t n = absurd o
+    at (EndView p s) z o t n = absurd o
 
 pub numbered_calls : (es : List Event) (j : ℕ) (d : Call) → j < length (calls_of es) → (get_or (calls_of es) j d).number ≡ j
 unfolding calls_of

@@ -4,6 +4,7 @@ mod WorkedHistories
 mod WorkedOrders
 mod WorkedRefusals
 pub mod Lists
+pub mod Sums
 pub mod Facts
 pub mod Begun
 pub mod Histories

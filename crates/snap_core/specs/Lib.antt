@@ -8,3 +8,4 @@ pub mod Tables
 pub mod Laws
 pub mod Counting
 pub mod Sending
+pub mod Sums

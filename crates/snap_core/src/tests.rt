@@ -1,8 +1,6 @@
 use super::*;
 use std::test::Fail;
 
-mod counts;
-mod doubles;
 mod histories;
 mod views;
 

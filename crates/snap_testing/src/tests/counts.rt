@@ -1,26 +1,18 @@
-use super::doubles::{Cup, Drip};
-use super::*;
+//! What a counted reader or writer passes on and counts.
+use crate::{Cup, Drip};
+use snap_core::Counted;
 use std::alloc::Global;
+use std::io::{Read, Write};
 
 const TEXT: &[u8] = b"twelve bytes";
 
 fn cup(alloc: Global, room: usize, at_once: usize, fails_when_full: bool) -> Cup {
-    Cup {
-        held: Vec::new(alloc),
-        room,
-        at_once,
-        fails_when_full,
-        fails_at_flush: false,
-    }
+    Cup::new(alloc, room, at_once, fails_when_full, false)
 }
 
 #[test]
 fn a_failed_read_is_counted_and_not_tried_again(rt: HostRuntime) {
-    let mut reader = Counted::new(Drip {
-        bytes: b"ab",
-        fails_at: 2,
-        reads: 0,
-    });
+    let mut reader = Counted::new(Drip::new(b"ab", 2));
     let mut buf = [0; 4];
     assert!(rt; reader.read(&mut buf).is_ok());
     assert_eq!(rt; reader.failures(), 0);

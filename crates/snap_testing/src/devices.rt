@@ -1,15 +1,27 @@
-// Readers and writers in memory that fail, stop, or take little at a time.
+//! Readers and writers in memory that fail, stop, or take little at a time.
 ghost use Rattle.std.specs.Prelude.{Some};
 
+use std::alloc::Global;
 use std::io;
 use std::io::{ErrorKind, Read, Write};
 
 /// Gives one byte a read, and fails at the read with one number, counted from 1.
 #[derive(Drop)]
-pub(super) struct Drip<'a> {
-    pub(super) bytes: &'a [u8],
-    pub(super) fails_at: u32,
-    pub(super) reads: u32,
+pub struct Drip<'a> {
+    pub bytes: &'a [u8],
+    pub fails_at: u64,
+    pub reads: u64,
+}
+
+impl<'a> Drip<'a> {
+    /// Gives these bytes; at 0 no read fails.
+    pub fn new(bytes: &'a [u8], fails_at: u64) -> Drip<'a> {
+        Drip {
+            bytes,
+            fails_at,
+            reads: 0,
+        }
+    }
 }
 
 impl Read for Drip<'_> {
@@ -29,14 +41,48 @@ impl Read for Drip<'_> {
     }
 }
 
+/// Gives a number of newlines.
+#[derive(Drop)]
+pub struct Newlines {
+    pub left: usize,
+}
+
+impl Read for Newlines {
+    fn read(&mut self, buf: &mut [u8]) -> io::Result<usize> {
+        let n = buf.len().min(self.left);
+        buf[..n].fill(b'\n');
+        self.left -= n;
+        Ok(n)
+    }
+}
+
 /// Takes so many bytes a write until it is full. A full cup fails, or takes nothing.
 #[derive(Drop)]
-pub(super) struct Cup {
-    pub(super) held: Vec<u8>,
-    pub(super) room: usize,
-    pub(super) at_once: usize,
-    pub(super) fails_when_full: bool,
-    pub(super) fails_at_flush: bool,
+pub struct Cup {
+    pub held: Vec<u8>,
+    pub room: usize,
+    pub at_once: usize,
+    pub fails_when_full: bool,
+    pub fails_at_flush: bool,
+}
+
+impl Cup {
+    /// An empty cup.
+    pub fn new(
+        alloc: Global,
+        room: usize,
+        at_once: usize,
+        fails_when_full: bool,
+        fails_at_flush: bool,
+    ) -> Cup {
+        Cup {
+            held: Vec::new(alloc),
+            room,
+            at_once,
+            fails_when_full,
+            fails_at_flush,
+        }
+    }
 }
 
 impl Write for Cup {

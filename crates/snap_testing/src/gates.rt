@@ -1,0 +1,76 @@
+//! What shows that threads run at the same time.
+use snap_core::Gate;
+use std::sync::atomic::{AtomicU64, Ordering};
+use std::thread;
+
+// How often a wait looks before it gives up.
+const TURNS: u32 = 100_000_000;
+
+/// Counts those who came, and those who waited in vain for others to come.
+#[derive(Drop)]
+pub struct Arrivals {
+    came: AtomicU64,
+    missed: AtomicU64,
+}
+
+impl Arrivals {
+    /// Nobody has come.
+    pub fn none() -> Arrivals {
+        Arrivals {
+            came: AtomicU64::new(0),
+            missed: AtomicU64::new(0),
+        }
+    }
+
+    /// One more has come.
+    pub fn come(&self) {
+        self.came.fetch_add(1, Ordering::SeqCst);
+    }
+
+    /// Waits until so many have come, for 100,000,000 turns at most.
+    pub fn wait_for(&self, least: u64) {
+        for _ in 0..TURNS {
+            if self.came.load(Ordering::SeqCst) >= least {
+                return;
+            }
+            thread::yield_now();
+        }
+        self.missed.fetch_add(1, Ordering::SeqCst);
+    }
+
+    /// Whether just so many came, and no wait was in vain.
+    pub fn were(&self, number: u64) -> bool {
+        self.came.load(Ordering::SeqCst) == number && self.missed.load(Ordering::SeqCst) == 0
+    }
+}
+
+/// A gate at one turn of which each of two workers waits until both have come.
+#[derive(Drop)]
+pub struct Meeting {
+    pub turn: u32,
+    pub arrivals: Arrivals,
+}
+
+impl Meeting {
+    /// A gate for two workers who meet at a turn.
+    pub fn at_turn(turn: u32) -> Meeting {
+        Meeting {
+            turn,
+            arrivals: Arrivals::none(),
+        }
+    }
+
+    /// Whether both came, and neither waited in vain.
+    pub fn was_held(&self) -> bool {
+        self.arrivals.were(2)
+    }
+}
+
+impl Gate for Meeting {
+    fn at(&self, _worker: u32, turn: u32) {
+        if turn == self.turn {
+            self.arrivals.come();
+            self.arrivals.wait_for(2);
+        }
+    }
+}

@@ -1,0 +1,15 @@
+//! What the tests of the other crates share: worked histories, readers and writers that fail, and a gate at which workers meet.
+//! No code but tests uses it.
+#![tactic(auto)]
+
+mod devices;
+mod gates;
+mod steps;
+pub mod worked;
+
+pub use devices::{Cup, Drip, Newlines};
+pub use gates::{Arrivals, Meeting};
+pub use steps::{Refused, Shown, Step, entry, history_of};
+
+#[cfg(test)]
+mod tests;
