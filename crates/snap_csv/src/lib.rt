@@ -21,6 +21,4 @@ pub use spelling::fields_of;
 pub use writing::write_history;
 
 #[cfg(test)]
-mod doubles;
-#[cfg(test)]
 mod tests;

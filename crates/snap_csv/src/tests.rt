@@ -1,6 +1,6 @@
-use crate::doubles::{Cup, Drip, Newlines};
 use crate::*;
 use snap_core::{Counted, Entry, Event, History, View};
+use snap_testing::{Cup, Drip, Newlines};
 use std::alloc::Global;
 use std::io::Read;
 use std::test::*;
@@ -243,12 +243,7 @@ fn a_failed_write_or_flush_is_the_answer(rt: HostRuntime) -> Result<(), Fail> {
     let mut history = History::new(rt.alloc());
     assert!(rt; history.push(Event::BeginView { process: 0 }).is_ok());
     for (room, fails_at_flush) in [(0, false), (10, false), (36, true)] {
-        let mut writer = Counted::new(Cup {
-            held: Vec::new(rt.alloc()),
-            room,
-            at_once: 3,
-            fails_at_flush,
-        });
+        let mut writer = Counted::new(Cup::new(rt.alloc(), room, 3, false, fails_at_flush));
         let answer = write_history(rt.alloc(), &mut writer, &history);
         assert_eq!(rt; answer, Err(WriteRefusal::Device));
         assert_eq!(rt; writer.failures(), 1);
