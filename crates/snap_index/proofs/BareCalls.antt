@@ -1,6 +1,6 @@
 -- What a bare call says of its call, and where calls are found.
 use Rattle.std.proofs.Common.{rules, ◌≡◌, ◌<◌, ◌≤◌, ℕ, suc, Bool, true, false, cond, List, [], ◌∷◌, length, map, get_or, find, slice_get, Option, Some, None, refl, sym, ap, ◌∙◌, subst, inl, inr, arith, Fits, w32, Bor}
-use Rattle.std.specs.Prelude.{is_some, nat_lt, filter}
+use Rattle.std.specs.Prelude.{is_some, nat_lt}
 use Rattle.std.specs.List.{Contains}
 use Rattle.std.specs.Option.{option_map, option_copied, IfSome}
 use Rattle.std.proofs.lemmas.Bool.{ltb-true, ltb-false}
@@ -11,11 +11,10 @@ use Rattle.std.proofs.lemmas.Option.{slice_get-get_or, slice_get_within, slice_g
 use Rattle.snap_core.specs.declared.entry.Entry.{Entry}
 use Rattle.snap_core.specs.declared.event.Event.{Event}
 use Rattle.snap_core.specs.declared.event.Event.TheVariants.{BeginUpdate, BeginView, EndUpdate, EndView}
-use Rattle.snap_core.specs.Events.{IsHistory}
 use Rattle.snap_core.specs.Calls.{Operation, Updates, Views, calls_from, calls_of, views_of, nobody, call_numbered, is_view, is_answer, is_before, precedes}
 use Rattle.snap_core.specs.Calls.{Call as SpecCall}
-use Rattle.snap_core.proofs.Lists.{In, Contains-from_In, In-get_or, In-from_filter}
-use Rattle.snap_core.proofs.Histories.{view_end, are_calls, numbered_calls}
+use Rattle.snap_core.proofs.Lists.{In, Contains-from_In, In-get_or}
+use Rattle.snap_core.proofs.Histories.{numbered_calls}
 use Rattle.snap_index.specs.declared.call.CallOp.TheVariants.{Update, View}
 use Rattle.snap_index.specs.declared.call.Call.{Call}
 use Rattle.snap_index.specs.Bare.{bare, bare_op, number_of}
@@ -92,18 +91,6 @@ pub view_of_update : (c : SpecCall) (e : Entry) → bare_op c.operation ≡ Upda
 unfolding is_view
 view_of_update c e h = ap is_answer (update_from c.operation e h)
 
-pub view_of_view : (es : List Event) (c : SpecCall) → IsHistory es → Contains (calls_of es) c → bare_op c.operation ≡ View → is_view c ≡ is_some c.ended
-unfolding is_view
-view_of_view es c h i o = go c.ended refl (view_from c.operation o)
-  where
-    go : (e : Option ℕ) → c.ended ≡ e → (a : Option (List Entry)) × (c.operation ≡ Views a) → is_answer c.operation ≡ is_some c.ended
-    go (Some place) e v = ap is_answer (view_end es h c v.0 place i v.1 e).answer ∙ sym (ap is_some e)
-    go None e v = answer v.0 v.1 ∙ sym (ap is_some e)
-      where
-        answer : (a : Option (List Entry)) → c.operation ≡ Views a → is_answer c.operation ≡ false
-        answer None w = ap is_answer w
-        answer (Some s) w = absurd (let x = (are_calls es h).answered c (record { there = i; completed = ap is_answer w }) in let g : None ≡ Some x.place = sym e ∙ x.ends in cc)
-
 -- precedence by the end of the first call
 pub precedes_at : (a b : SpecCall) (place : ℕ) → a.ended ≡ Some place → precedes a b ≡ nat_lt place b.begun
 unfolding precedes
@@ -112,41 +99,6 @@ precedes_at a b place h = ap (λ o. is_before o b.begun) h
 pub precedes_none : (a b : SpecCall) → a.ended ≡ None → precedes a b ≡ false
 unfolding precedes
 precedes_none a b h = ap (λ o. is_before o b.begun) h
-
--- a completed view, and the event that ends it
-pub record ViewAt (es : List Event) (c : ℕ) (r : SpecCall) : Type 0 where
-  pub place : ℕ
-  pub process : ℕ
-  pub entries : List Entry
-  pub within : c < length (calls_of es)
-  pub there : call_numbered (calls_of es) c ≡ r
-  pub ends : r.ended ≡ Some place
-  pub shows : r.operation ≡ Views (Some entries)
-  pub event : slice_get es place ≡ Some (EndView process entries)
-
-viewing : (o : Operation) → is_answer o ≡ true → (a : Option (List Entry)) × (o ≡ Views a)
-viewing (Updates e) h = absurd (cc h)
-viewing (Views a) h = (a, refl)
-
-pub view_at : (es : List Event) → IsHistory es → (i c : ℕ) (r : SpecCall) → slice_get (views_of (calls_of es)) i ≡ Some r → r.number ≡ c → ViewAt es c r
-unfolding views_of is_view
-view_at es h i c r at n =
-    let f = In-from_filter is_view (calls_of es) r (got_there (filter is_view (calls_of es)) i r at) in
-    let there : Contains (calls_of es) r = Contains-from_In (calls_of es) r f.0 in
-    let x = (are_calls es h).answered r (record { there = there; completed = f.1 }) in
-    let v = viewing r.operation f.1 in
-    let e = view_end es h r v.0 x.place there v.1 x.ends in
-    let own : slice_get (calls_of es) c ≡ Some r = ap (slice_get (calls_of es)) (sym n) ∙ at_own_number es r f.0 in
-    record {
-      place = x.place;
-      process = e.process;
-      entries = e.entries;
-      within = slice_get_within (calls_of es) c r own;
-      there = get_or_from_slice_get (calls_of es) c r nobody own;
-      ends = x.ends;
-      shows = e.answer;
-      event = slice_get-get_or es x.place (EndView e.process e.entries) e.within ∙ ap Some (e.at_place (EndView e.process e.entries));
-    }
 
 pub view_count_within : (calls : List SpecCall) → length (views_of calls) ≤ length calls
 unfolding views_of

@@ -2,22 +2,23 @@
 use Rattle.std.proofs.Common.{◌≡◌, ◌<◌, ◌≤◌, ◌-◌, ◌&&◌, ℕ, suc, Bool, true, false, List, length, find, slice_get, Some, None, refl, sym, ap, ◌∙◌, subst, inl, inr, arith}
 use Rattle.std.specs.Prelude.{filter, ◌==◌}
 use Rattle.std.specs.List.{count_by}
-use Rattle.std.specs.Option.{option_map}
+use Rattle.std.specs.Option.{option_map, option_and_then}
 use Rattle.std.proofs.lemmas.Bool.{eqb-true, false≢true, cases_order}
 use Rattle.std.proofs.lemmas.List.Elements.{All-contains}
 use Rattle.std.proofs.lemmas.Option.{slice_get-get_or, slice_get_within, slice_get_past, get_or_from_slice_get}
 use Rattle.snap_core.specs.declared.entry.Entry.{Entry}
 use Rattle.snap_core.specs.declared.event.Event.{Event}
-use Rattle.snap_core.specs.declared.event.Event.TheVariants.{EndView}
+use Rattle.snap_core.specs.declared.event.Event.TheVariants.{BeginUpdate, BeginView, EndUpdate, EndView}
 use Rattle.snap_core.specs.Entries.{AreEntries}
 use Rattle.snap_core.specs.Events.{IsHistory, IsKept, EventFits, event_limit}
-use Rattle.snap_core.specs.Calls.{Call, Operation, Updates, Views, calls_of, views_of, nobody, call_numbered, is_view, is_update_numbered, writes_number, entries_of}
+use Rattle.snap_core.specs.Calls.{Call, Operation, Updates, Views, calls_of, views_of, nobody, call_numbered, is_view, is_answer, is_update_numbered, writes_number, entries_of}
 use Rattle.snap_core.specs.Regular.{IsUpdateOf}
-use Rattle.snap_core.proofs.Lists.{In, Contains-from_In, In-get_or, In-from_filter, Pairs-filter, AllPairs-from_Pairs}
-use Rattle.snap_core.proofs.Histories.{are_calls}
-use Rattle.snap_index.specs.Bare.{bare}
+use Rattle.snap_core.proofs.Lists.{In, Contains-from_In, In-get_or, In-from_filter}
+use Rattle.snap_core.proofs.Histories.{IsEndOf, call_end, answered_part}
+use Rattle.snap_index.specs.Bare.{bare, answer_of}
 use Rattle.snap_index.specs.Updates.{is_update_of, updates_of}
-use Rattle.snap_index.proofs.BareCalls.{call_count_within, find_there, at_own_number, got_there, view_at}
+use Rattle.snap_index.proofs.BareCalls.{call_count_within, find_there, at_own_number, got_there}
+use Rattle.snap_index.proofs.Ends.{shown_by}
 use Rattle.snap_index.proofs.Numbers.{nth_update, no_update_zero, update_count_is}
 
 -- a call number fits, and there is a call at each below the count
@@ -29,6 +30,11 @@ call_within calls c l = slice_get-get_or calls c nobody l
 
 pub bare_within : (calls : List Call) (c : ℕ) → c < length calls → option_map bare (slice_get calls c) ≡ Some (bare (call_numbered calls c))
 bare_within calls c l = ap (option_map bare) (call_within calls c l)
+
+-- what a completed view shows is its answer
+pub answer_within : (calls : List Call) (c : ℕ) → c < length calls → is_view (call_numbered calls c) ≡ true → option_and_then answer_of (slice_get calls c) ≡ Some (entries_of (call_numbered calls c).operation)
+unfolding is_view
+answer_within calls c l v = ap (option_and_then answer_of) (call_within calls c l) ∙ shown_by (call_numbered calls c).operation v
 
 -- a call of the calls stands at its number
 pub own_number : (es : List Event) (c : Call) → In c (calls_of es) → call_numbered (calls_of es) c.number ≡ c
@@ -58,18 +64,24 @@ view_within es i l =
       own = own_number es r f.0;
     }
 
--- the numbers of the views rise
-pub views_rise : (es : List Event) → IsHistory es → (i j : ℕ) → i < j → j < length (views_of (calls_of es)) → (call_numbered (views_of (calls_of es)) i).number < (call_numbered (views_of (calls_of es)) j).number
-unfolding views_of
-views_rise es h i j l m = AllPairs-from_Pairs (λ a b. a.number < b.number) (filter is_view (calls_of es)) (Pairs-filter (λ a b. a.number < b.number) is_view (calls_of es) (are_calls es h).numbered) i j nobody l m
-
 -- what a completed view shows is what a `View` keeps
+view_fits : (o : Operation) (x : Event) → is_answer o ≡ true → IsEndOf o x → EventFits x → AreEntries (entries_of o)
+view_fits (Updates e) x t i f = absurd (false≢true t)
+view_fits (Views None) x t i f = absurd (false≢true t)
+view_fits (Views (Some s)) (BeginUpdate p e) t i f = absurd i
+view_fits (Views (Some s)) (BeginView p) t i f = absurd i
+view_fits (Views (Some s)) (EndUpdate p) t i f = absurd i
+view_fits (Views (Some s)) (EndView p q) t i f = let same : s ≡ q = cc in subst AreEntries (sym same) f.1
+
 pub view_entries : (es : List Event) → IsKept es → (i : ℕ) (r : Call) → slice_get (views_of (calls_of es)) i ≡ Some r → AreEntries (entries_of r.operation)
+unfolding views_of is_view
 view_entries es h i r is =
-    let v = view_at es h.history i r.number r is refl in
-    let c = Contains-from_In es (EndView v.process v.entries) (got_there es v.place (EndView v.process v.entries) v.event) in
-    let fits : EventFits (EndView v.process v.entries) = All-contains EventFits es (EndView v.process v.entries) h.fit c in
-    subst (λ z. AreEntries (entries_of z)) (sym v.shows) fits.1
+    let v = In-from_filter is_view (calls_of es) r (got_there (views_of (calls_of es)) i r is) in
+    let there = Contains-from_In (calls_of es) r v.0 in
+    let e = answered_part es r (record { there = there; completed = v.1 }) in
+    let x = call_end es h.history r e.place there e.ends in
+    let fits = All-contains EventFits es x.event h.fit (Contains-from_In es x.event (got_there es e.place x.event x.there)) in
+    view_fits r.operation x.event v.1 x.ends fits
 
 -- the update of a number
 pub record IsUpdateAt (es : List Event) (k n : ℕ) (c : Call) : Type 0 where

@@ -1,5 +1,6 @@
 pub mod Back
 pub mod BareCalls
+pub mod Ends
 pub mod Numbers
 pub mod Notes
 pub mod LookUps

@@ -21,7 +21,8 @@ use Rattle.snap_index.specs.declared.call.Call.{Call}
 use Rattle.snap_index.specs.Bare.{bare, bare_op, number_of}
 use Rattle.snap_index.specs.Updates.{is_update_of, updates_of, is_pending}
 use Rattle.snap_index.specs.Tables.{AreTables}
-use Rattle.snap_index.proofs.BareCalls.{numbered_there, view_of_update, view_of_view, update_from}
+use Rattle.snap_index.proofs.BareCalls.{numbered_there, view_of_update, update_from}
+use Rattle.snap_index.proofs.Ends.{view_of_view}
 
 -- a list with n at its end where a test holds
 abbrev pub put_where : Bool → ℕ → List ℕ → List ℕ

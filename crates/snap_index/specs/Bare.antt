@@ -29,3 +29,11 @@ number_of c = c.number
 -- the entries that a view shows
 abbrev pub entries_shown : SpecCall → List Entry
 entries_shown c = entries_of c.operation
+
+abbrev pub answered_by : Operation → Option (List Entry)
+answered_by (Updates e) = None
+answered_by (Views answer) = answer
+
+-- what a call answered, if it is a completed view
+abbrev pub answer_of : SpecCall → Option (List Entry)
+answer_of c = answered_by c.operation

@@ -1,8 +1,8 @@
 ghost use Rattle.std.specs.Prelude.{◌≡◌, ◌<◌, length, map, count_by, find, IfOk, slice_get};
-ghost use Rattle.std.specs.Option.{option_copied, option_map};
+ghost use Rattle.std.specs.Option.{option_and_then, option_copied, option_map};
 ghost use Rattle.snap_core.specs.Calls.{calls_of, views_of, is_update_numbered, call_numbered, precedes as spec_precedes};
 ghost use Rattle.snap_core.specs.Events.{IsKept};
-ghost use Rattle.snap_index.specs.Bare.{bare, number_of, entries_shown};
+ghost use Rattle.snap_index.specs.Bare.{bare, number_of, entries_shown, answer_of};
 ghost use Rattle.snap_index.specs.Updates.{is_update_of, updates_of, is_pending};
 
 use crate::call::{Call, CallOp};
@@ -111,6 +111,17 @@ impl<'h> Index<'h> {
         self.calls.get(c as usize)
     }
 
+    /// What call `c` answered, if it is a completed view; none for an update, a pending view and a number that is no call.
+    pub fn answer(&self, c: u32) -> Option<&View>
+        ensures { option_copied result ≡ option_and_then answer_of (slice_get (calls_of self.now) c) }
+    {
+        let ended = self.call(c)?.ended?;
+        match self.history.event(ended as usize)? {
+            Event::EndView { view, .. } => Some(view),
+            _ => None,
+        }
+    }
+
     /// The call number of the `i`-th completed view by call number, counted from 0.
     pub fn view_call(&self, i: u32) -> Option<u32>
         ensures { result ≡ option_map number_of (slice_get (views_of (calls_of self.now)) i) }
@@ -123,11 +134,7 @@ impl<'h> Index<'h> {
         ensures { option_copied result ≡ option_map entries_shown (slice_get (views_of (calls_of self.now)) i) }
     {
         let c = self.view_call(i)?;
-        let ended = self.calls[c as usize].ended?;
-        match self.history.event(ended as usize)? {
-            Event::EndView { view, .. } => Some(view),
-            _ => None,
-        }
+        self.answer(c)
     }
 
     /// The call number of update `n` of component `k`, pending or not. Updates are numbered from 1.

@@ -1,60 +1,8 @@
 use super::*;
-use snap_core::{Entry, Event, History, View};
+use snap_core::History;
+use snap_testing::{entry, history_of, worked};
 use std::alloc::Global;
 use std::test::Fail;
-
-fn entry(component: u8, number: u32, value: u32) -> Entry {
-    Entry {
-        component,
-        number,
-        value,
-    }
-}
-
-fn begin(process: u16, entry: Entry) -> Event {
-    Event::BeginUpdate { process, entry }
-}
-
-fn end_view(alloc: Global, process: u16, entries: &[Entry]) -> Result<Event, Fail> {
-    let view = View::from_entries(entries.to_vec(alloc)?)?;
-    Ok(Event::EndView { process, view })
-}
-
-// Of two pending updates one is shown.
-fn seen_pending(alloc: Global) -> Result<History, Fail> {
-    let mut history = History::new(alloc);
-    history.push(begin(0, entry(0, 1, 3)))?;
-    history.push(begin(1, entry(1, 1, 4)))?;
-    history.push(Event::BeginView { process: 2 })?;
-    history.push(end_view(alloc, 2, &[entry(0, 1, 3)])?)?;
-    Ok(history)
-}
-
-// Five calls of four processes, all ended.
-fn five_calls(alloc: Global) -> Result<History, Fail> {
-    let mut history = History::new(alloc);
-    history.push(begin(0, entry(0, 1, 10)))?;
-    history.push(Event::EndUpdate { process: 0 })?;
-    history.push(begin(1, entry(1, 1, 20)))?;
-    history.push(Event::BeginView { process: 2 })?;
-    history.push(begin(0, entry(0, 2, 11)))?;
-    history.push(end_view(alloc, 2, &[entry(0, 1, 10)])?)?;
-    history.push(Event::EndUpdate { process: 0 })?;
-    history.push(Event::BeginView { process: 3 })?;
-    history.push(end_view(alloc, 3, &[entry(0, 2, 11), entry(1, 1, 20)])?)?;
-    history.push(Event::EndUpdate { process: 1 })?;
-    Ok(history)
-}
-
-// Two updates and two views, none ended.
-fn all_pending(alloc: Global) -> Result<History, Fail> {
-    let mut history = History::new(alloc);
-    history.push(begin(0, entry(0, 1, 1)))?;
-    history.push(begin(1, entry(255, 1, 1)))?;
-    history.push(Event::BeginView { process: 2 })?;
-    history.push(Event::BeginView { process: 65535 })?;
-    Ok(history)
-}
 
 fn counts(alloc: Global, history: &History) -> Result<[u32; 4], Fail> {
     let index = Index::build(alloc, history)?;
@@ -72,15 +20,24 @@ fn counts_are_of_events_calls_pending_calls_and_completed_views(
 ) -> Result<(), Fail> {
     let alloc = rt.alloc();
     assert_eq!(rt; counts(alloc, &History::new(alloc))?, [0, 0, 0, 0]);
-    assert_eq!(rt; counts(alloc, &seen_pending(alloc)?)?, [4, 3, 2, 1]);
-    assert_eq!(rt; counts(alloc, &five_calls(alloc)?)?, [10, 5, 0, 2]);
-    assert_eq!(rt; counts(alloc, &all_pending(alloc)?)?, [4, 4, 4, 0]);
+    assert_eq!(rt;
+        counts(alloc, &history_of(alloc, worked::SEEN_PENDING)?)?,
+        [4, 3, 2, 1]
+    );
+    assert_eq!(rt;
+        counts(alloc, &history_of(alloc, worked::ATOMIC_RUN)?)?,
+        [10, 5, 0, 2]
+    );
+    assert_eq!(rt;
+        counts(alloc, &history_of(alloc, worked::PENDING_AT_THE_LIMITS)?)?,
+        [4, 4, 4, 0]
+    );
     Ok(())
 }
 
 #[test]
 fn a_pending_update_is_found_and_there_is_none_after_it(rt: HostRuntime) -> Result<(), Fail> {
-    let history = seen_pending(rt.alloc())?;
+    let history = history_of(rt.alloc(), worked::SEEN_PENDING)?;
     let index = Index::build(rt.alloc(), &history)?;
     let pending = Call {
         process: 1,
@@ -102,7 +59,7 @@ fn a_pending_update_is_found_and_there_is_none_after_it(rt: HostRuntime) -> Resu
 
 #[test]
 fn a_call_precedes_those_that_begin_after_its_end(rt: HostRuntime) -> Result<(), Fail> {
-    let history = five_calls(rt.alloc())?;
+    let history = history_of(rt.alloc(), worked::ATOMIC_RUN)?;
     let index = Index::build(rt.alloc(), &history)?;
     assert!(rt; index.call_count() == 5);
     // The end of call 0 and the begin of call 1 are neighbours.
@@ -119,7 +76,7 @@ fn a_call_precedes_those_that_begin_after_its_end(rt: HostRuntime) -> Result<(),
 
 #[test]
 fn calls_have_the_places_of_their_begins_and_ends(rt: HostRuntime) -> Result<(), Fail> {
-    let history = five_calls(rt.alloc())?;
+    let history = history_of(rt.alloc(), worked::ATOMIC_RUN)?;
     let index = Index::build(rt.alloc(), &history)?;
     let calls = [
         (0, 0, CallOp::Update(entry(0, 1, 10)), 0, 1),
@@ -145,7 +102,7 @@ fn calls_have_the_places_of_their_begins_and_ends(rt: HostRuntime) -> Result<(),
 
 #[test]
 fn views_are_the_completed_ones_by_call_number(rt: HostRuntime) -> Result<(), Fail> {
-    let history = five_calls(rt.alloc())?;
+    let history = history_of(rt.alloc(), worked::ATOMIC_RUN)?;
     let index = Index::build(rt.alloc(), &history)?;
     assert_eq!(rt; index.view_call(0), Some(2));
     assert_eq!(rt; index.view_call(1), Some(4));
@@ -155,7 +112,7 @@ fn views_are_the_completed_ones_by_call_number(rt: HostRuntime) -> Result<(), Fa
     let second = [entry(0, 2, 11), entry(1, 1, 20)];
     assert_eq!(rt; index.view(1).map(|v| v.entries()), Some(second.as_slice()));
     assert!(rt; index.view(2).is_none());
-    let history = all_pending(rt.alloc())?;
+    let history = history_of(rt.alloc(), worked::PENDING_AT_THE_LIMITS)?;
     let index = Index::build(rt.alloc(), &history)?;
     assert!(rt; index.view_call(0).is_none());
     assert!(rt; index.view(0).is_none());
@@ -163,8 +120,34 @@ fn views_are_the_completed_ones_by_call_number(rt: HostRuntime) -> Result<(), Fa
 }
 
 #[test]
+fn only_completed_views_have_answers(rt: HostRuntime) -> Result<(), Fail> {
+    let history = history_of(rt.alloc(), worked::ATOMIC_RUN)?;
+    let index = Index::build(rt.alloc(), &history)?;
+    let first = [entry(0, 1, 10)];
+    let second = [entry(0, 2, 11), entry(1, 1, 20)];
+    let answers = [
+        (0, None),
+        (1, None),
+        (2, Some(first.as_slice())),
+        (3, None),
+        (4, Some(second.as_slice())),
+        (5, None),
+        (u32::MAX, None),
+    ];
+    for (c, answer) in answers {
+        assert_eq!(rt; index.answer(c).map(|v| v.entries()), answer, "of call {c}");
+    }
+    let history = history_of(rt.alloc(), worked::PENDING_AT_THE_LIMITS)?;
+    let index = Index::build(rt.alloc(), &history)?;
+    for c in 0..5 {
+        assert!(rt; index.answer(c).is_none(), "of pending call {c}");
+    }
+    Ok(())
+}
+
+#[test]
 fn updates_are_told_apart_by_component(rt: HostRuntime) -> Result<(), Fail> {
-    let history = five_calls(rt.alloc())?;
+    let history = history_of(rt.alloc(), worked::ATOMIC_RUN)?;
     let index = Index::build(rt.alloc(), &history)?;
     let cases = [
         (0, &[0, 3][..]),
