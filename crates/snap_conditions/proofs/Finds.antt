@@ -1,8 +1,9 @@
 -- What is found of a view at one entry, at one component and against one other view.
-use Rattle.std.proofs.Common.{◌≡◌, ℕ, suc, ◌<◌, Bool, true, false, not, ◌&&◌, ◌||◌, List, length, get_or, Option, Some, None, refl, sym, ap, ◌∙◌, [], ◌∷◌, inl, inr, subst, arith}
-use Rattle.std.specs.Prelude.{is_some, if◌then◌else◌, unwrap_or}
+use Rattle.std.proofs.Common.{◌≡◌, ℕ, suc, ◌<◌, Bool, true, false, not, ◌↔◌, ◌&&◌, ◌||◌, List, length, get_or, Option, Some, None, refl, sym, ap, ◌∙◌, [], ◌∷◌, inl, inr, subst, arith}
+use Rattle.std.specs.Prelude.{IsTrue, if◌then◌else◌, nat_lt}
 use Rattle.std.specs.Bool.{then_some}
 use Rattle.std.proofs.lemmas.List.{length-map, get_or-map}
+use Rattle.std.proofs.lemmas.Bool.{false≢true, false_from_ne_true}
 use Rattle.snap_core.proofs.Lists.{In}
 use Rattle.snap_core.specs.declared.entry.Entry.{Entry}
 use Rattle.snap_core.specs.declared.event.Event.{Event}
@@ -16,17 +17,19 @@ use Rattle.snap_conditions.specs.declared.fault.ProximityFault.{ProximityFault}
 use Rattle.snap_conditions.specs.declared.fault.WriteFault.{WriteFault}
 use Rattle.snap_conditions.specs.declared.fault.Side.{Side}
 use Rattle.snap_conditions.specs.declared.fault.Side.TheVariants.{Old, Early}
-use Rattle.snap_conditions.specs.Excess.{first_excess}
-use Rattle.snap_conditions.specs.Faults.{integrity_fault, old_fault, early_fault, read_fault, write_fault, listed, missed_at, exceeds}
+use Rattle.snap_conditions.specs.Rows.{IsLessSomewhere, first_less}
+use Rattle.snap_conditions.specs.Faults.{integrity_fault, old_fault, early_fault, read_fault, write_fault, listed, missed_at, exceeds, least_exceeding}
 use Rattle.snap_conditions.specs.Parts.{no_part, part_of, found_at}
 use Rattle.snap_conditions.specs.Places.{update_of, end_of, begin_of, begins_behind, begin_of_shown, is_written, IsNoLater}
-use Rattle.snap_conditions.specs.Tally.{reported_integrity, reported_proximity, reported_read, reported_write}
-use Rattle.snap_conditions.proofs.Excess.{sorted, nothing}
-use Rattle.snap_conditions.proofs.Leasts.{exceeds_by_entries, least_by_entries}
+use Rattle.snap_conditions.specs.Tally.{reported_integrity, reported_proximity, reported_write}
+use Rattle.snap_conditions.proofs.Entries.{sorted, nothing}
+use Rattle.snap_conditions.proofs.Compared.{is_listed}
+use Rattle.snap_conditions.proofs.Exceeding.{exceeds_from, exceeds_to}
+use Rattle.snap_conditions.proofs.Leasts.{find_same}
 use Rattle.snap_conditions.proofs.Places.{integrity_by_update, old_by_place, early_by_place, write_by_place, behind_none}
 use Rattle.snap_conditions.proofs.OneView.{missed_part}
 use Rattle.snap_conditions.proofs.Tallies.{filter_none}
-use Rattle.snap_conditions.proofs.Rows.{entry_at}
+use Rattle.snap_conditions.proofs.Rows.{entry_at, among_is_shown}
 
 -- what a view shows of a component that it lists
 pub shown_at : (r : Call) (i : ℕ) (x : Entry) → AreEntries (entries_of r.operation) → i < length (entries_of r.operation) → shown r (get_or (entries_of r.operation) i x).component ≡ Some (get_or (entries_of r.operation) i x)
@@ -83,20 +86,27 @@ neither_found es kept r k n s f g = found_neither (calls_of es) r k (old_here es
 
 -- a view against another
 
-pub no_excess_found : (r s : Call) → AreEntries (entries_of r.operation) → first_excess (entries_of r.operation) (entries_of s.operation) ≡ None → found_at (λ s. reported_read (r, s)) (read_fault r) s ≡ None
-unfolding read_fault
-no_excess_found r s h none =
-    let no_more : exceeds r s ≡ false = exceeds_by_entries r s h ∙ ap is_some none in
-    ap (λ b. then_some (b && (precedes r s || exceeds s r)) (reported_read (r, s))) no_more
+-- a component of which a view shows a number
+small : (r : Call) (k : ℕ) → AreEntries (entries_of r.operation) → 0 < shown_number r k → k < 256
+small r k h l = let d = is_listed (entries_of r.operation) h k (omega (arith, l, among_is_shown r k)) in omega (arith, d.component, d.fits.0)
 
-pub excess_found : (r s : Call) (k : ℕ) → AreEntries (entries_of r.operation) → AreEntries (entries_of s.operation) → first_excess (entries_of r.operation) (entries_of s.operation) ≡ Some k →
-    found_at (λ s. reported_read (r, s)) (read_fault r) s ≡ then_some (is_before r.ended s.begun || is_some (first_excess (entries_of s.operation) (entries_of r.operation))) (record { view = r.number; other = s.number; component = k })
+exceeds_by_number : (r s : Call) (b : Bool) → AreEntries (entries_of r.operation) → IsTrue b ↔ IsLessSomewhere (shown_number s) (shown_number r) → exceeds r s ≡ b
+exceeds_by_number r s true h d = let m = d.0 refl in exceeds_from r s m.0 m.2
+exceeds_by_number r s false h d = false_from_ne_true (exceeds r s) (λ t. let m = exceeds_to r s t in false≢true (d.1 (m.component, small r m.component h (omega (arith, m.more)), m.more)))
+
+pub read_fault_is : (r s : Call) (more less before : Bool) → AreEntries (entries_of r.operation) → AreEntries (entries_of s.operation) → IsTrue more ↔ IsLessSomewhere (shown_number s) (shown_number r) →
+    IsTrue less ↔ IsLessSomewhere (shown_number r) (shown_number s) → before ≡ is_before r.ended s.begun → read_fault r s ≡ (more && (before || less))
 unfolding read_fault precedes
-excess_found r s k h g found =
-    let more : exceeds r s ≡ true = exceeds_by_entries r s h ∙ ap is_some found in
-    ap (λ b. then_some (b && (is_before r.ended s.begun || exceeds s r)) (reported_read (r, s))) more
-    ∙ ap (λ b. then_some (is_before r.ended s.begun || b) (reported_read (r, s))) (exceeds_by_entries s r g)
-    ∙ ap (λ o. then_some (is_before r.ended s.begun || is_some (first_excess (entries_of s.operation) (entries_of r.operation))) (record { view = r.number; other = s.number; component = unwrap_or o 0 })) (least_by_entries r s k h found)
+read_fault_is r s more less before h g m l b =
+    ap (λ z. z && (precedes r s || exceeds s r)) (exceeds_by_number r s more h m)
+    ∙ ap (λ z. more && (precedes r s || z)) (exceeds_by_number s r less g l)
+    ∙ ap (λ z. more && (z || less)) (sym b)
+
+-- the component of a read fault, by the numbers of both views
+pub least_by_numbers : (r s : Call) (f g : ℕ → ℕ) → ((k : ℕ) → k < 256 → f k ≡ shown_number r k) → ((k : ℕ) → k < 256 → g k ≡ shown_number s k) → first_less g f ≡ least_exceeding r s
+unfolding least_exceeding first_less
+least_by_numbers r s f g x y =
+    find_same (λ k. nat_lt (g k) (f k)) (λ k. nat_lt (shown_number s k) (shown_number r k)) 256 0 (λ j l m. ap (λ n. nat_lt n (f j)) (y j m) ∙ ap (nat_lt (shown_number s j)) (x j m))
 
 -- an update that a view misses, against those that it shows
 

@@ -1,5 +1,5 @@
 pub mod Exceeding
-pub mod Excess
+pub mod Entries
 pub mod Leasts
 pub mod Finds
 pub mod Local
@@ -10,6 +10,10 @@ pub mod Laws
 pub mod Parts
 pub mod OneView
 pub mod Rows
+pub mod Sums
+pub mod Compared
 pub mod Places
 pub mod Ranges
+pub mod Listed
+pub mod Lookups
 mod Worked

@@ -32,7 +32,7 @@ pub record PassesAll (calls : List Call) : Type 0 where
   pub read : (r s : Call) → IsViewOf calls r → IsViewOf calls s → read_fault r s ≡ false
   pub write : (r : Call) (j k : ℕ) → IsViewOf calls r → write_fault calls r j k ≡ false
 
-same_entry : (d e : Entry) → d.component ≡ e.component → d.number ≡ e.number → d.value ≡ e.value → d ≡ e
+pub same_entry : (d e : Entry) → d.component ≡ e.component → d.number ≡ e.number → d.value ≡ e.value → d ≡ e
 same_entry d e p q r =
     let P : ℕ → ℕ → ℕ → Entry = λ k n v. record { component = k; number = n; value = v } in
     ap (λ k. P k d.number d.value) p ∙ ap (λ n. P e.component n d.value) q ∙ ap (λ v. P e.component e.number v) r

@@ -1,6 +1,6 @@
 -- Tallies of ranges of views: how they join, that their counts fit, and what no fault in them says.
-use Rattle.std.proofs.Common.{◌≡◌, ℕ, zero, suc, ◌+◌, ◌-◌, ◌*◌, ◌<◌, ◌≤◌, true, List, [], ◌∷◌, ◌++◌, take, drop, length, get_or, refl, ap, ◌∙◌, inl, inr, arith}
-use Rattle.std.specs.Prelude.{◌||◌, nat_lt, filter}
+use Rattle.std.proofs.Common.{◌≡◌, ℕ, zero, suc, ◌+◌, ◌-◌, ◌*◌, ◌<◌, ◌≤◌, true, List, [], ◌∷◌, ◌++◌, take, drop, length, get_or, refl, ap, ◌∙◌, subst, inl, inr, arith}
+use Rattle.std.specs.Prelude.{◌^◌, ◌||◌, nat_lt, filter}
 use Rattle.std.specs.List.{All}
 use Rattle.std.proofs.lemmas.List.{take_all, length-take, drop-drop, drop_more, length-map}
 use Rattle.std.proofs.lemmas.List.Elements.{All-head, All-tail}
@@ -14,9 +14,10 @@ use Rattle.snap_core.specs.declared.event.Event.TheVariants.{BeginUpdate, BeginV
 use Rattle.snap_core.specs.Calls.{Call, calls_of, calls_from, is_view, entries_of, views_of, nobody}
 use Rattle.snap_core.proofs.Lists.{In}
 use Rattle.snap_conditions.specs.declared.tally.Tally.{Tally}
-use Rattle.snap_conditions.specs.Parts.{part_of}
+use Rattle.snap_conditions.specs.Parts.{part_of, merged_part}
+use Rattle.snap_conditions.specs.PartValue.{PartValue}
 use Rattle.snap_conditions.specs.Faults.{integrity_fault, old_fault, early_fault, read_fault, write_fault, components, listed, integrity_faults, proximity_faults, read_faults, write_faults, missed_at, HasNoLocalFault}
-use Rattle.snap_conditions.specs.Tally.{tally_of, reported_integrity, reported_proximity, reported_read, reported_write, merged, no_fault, views_between, CountsNoLocalFault}
+use Rattle.snap_conditions.specs.Tally.{tally_of, reported_integrity, reported_proximity, reported_read, reported_write, merged, no_fault, views_between, SumsFit, CountsNoLocalFault}
 use Rattle.snap_conditions.specs.Laws.{TalliesJoin, TalliesFit, RegularByTally, ConditionsByTally, NoFaultByTally}
 use Rattle.snap_conditions.proofs.Laws.{regular_exactly, conditions_exactly}
 use Rattle.snap_conditions.proofs.Parts.{part-append, filter_short, flat_map_short}
@@ -77,7 +78,7 @@ rising_short d (e ∷ es) n r b l =
     let p = and_parts (nat_lt d.component e.component) (rises (e ∷ es)) r in
     omega (arith, rising_short e es (n + 1) p.1 (All-tail HasByteComponent d (e ∷ es) b) (omega (arith, ltb-true _ _ p.0)))
 
-rising_few : (es : List Entry) → rises es ≡ true → All HasByteComponent es → length es ≤ 256
+pub rising_few : (es : List Entry) → rises es ≡ true → All HasByteComponent es → length es ≤ 256
 rising_few [] r b = omega arith
 rising_few (d ∷ es) r b = omega (arith, rising_short d es 0 r b (omega arith))
 
@@ -146,6 +147,36 @@ ranges_fit es k from middle to l m n =
       read = omega (arith, a.read, b.read, x, y, v);
       write = omega (arith, a.write, b.write, x, y, v);
     }
+
+-- a range that grows by one view, kind by kind
+
+pub record Grows {F : Type 0} (more part one : PartValue F) : Type 0 where
+  pub fit : part.count + one.count < 2 ^ 64
+  pub joined : more ≡ merged_part part one
+
+pub record RangeGrows (more range one : Tally) : Type 0 where
+  pub integrity : Grows more.integrity range.integrity one.integrity
+  pub proximity : Grows more.proximity range.proximity one.proximity
+  pub read : Grows more.read range.read one.read
+  pub write : Grows more.write range.write one.write
+
+pub range_grows : (es : List Event) → IsKept es → (from place : ℕ) → from ≤ place → place < length (views_of (calls_of es)) →
+    RangeGrows (tally_of (calls_of es) (views_between (calls_of es) from (place + 1))) (tally_of (calls_of es) (views_between (calls_of es) from place)) (tally_of (calls_of es) (get_or (views_of (calls_of es)) place nobody ∷ []))
+range_grows es k from place l m =
+    let calls = calls_of es in
+    let range = tally_of calls (views_between calls from place) in
+    let here = ap (tally_of calls) (one_between calls place m) in
+    let joined = (tallies_join calls).adjoining from place (place + 1) l (omega arith) ∙ ap (merged range) here in
+    let fit = subst (SumsFit range) here (ranges_fit es k from place (place + 1) l (omega arith) (omega (arith, m))) in
+    record {
+      integrity = record { fit = fit.integrity; joined = ap (λ (t : Tally). t.integrity) joined };
+      proximity = record { fit = fit.proximity; joined = ap (λ (t : Tally). t.proximity) joined };
+      read = record { fit = fit.read; joined = ap (λ (t : Tally). t.read) joined };
+      write = record { fit = fit.write; joined = ap (λ (t : Tally). t.write) joined };
+    }
+
+pub range_starts : (calls : List Call) (from : ℕ) → tally_of calls (views_between calls from from) ≡ no_fault
+range_starts calls from = ap (tally_of calls) (empty_between calls from) ∙ (tallies_join calls).nothing
 
 -- no fault by the counts, and by the lists
 

@@ -11,7 +11,7 @@ use Rattle.snap_core.specs.declared.event.Event.{Event}
 use Rattle.snap_core.specs.declared.event.Event.TheVariants.{BeginUpdate, BeginView, EndUpdate, EndView}
 use Rattle.snap_core.specs.Events.{HasByteComponents, IsByteEvent, EventFits}
 use Rattle.snap_core.specs.Calls.{Call, Operation, Views, calls_of, next_answer, answer_at, entries_of, shown_number}
-use Rattle.snap_conditions.specs.Faults.{read_fault, least_exceeding, integrity_faults, proximity_faults, read_faults, write_faults}
+use Rattle.snap_conditions.specs.Faults.{exceeds, read_fault, least_exceeding, integrity_faults, proximity_faults, read_faults, write_faults}
 use Rattle.snap_conditions.specs.Laws.{FaultsJoin, IsLeastExceeding, ReadFaultHasComponent}
 use Rattle.snap_core.proofs.Lists.{Contains-from_In}
 use Rattle.snap_core.proofs.Begun.{Begun, Next, nothing, found, next, operation_at}
@@ -51,15 +51,20 @@ first_in p (suc n) a k l m h = go (p a) refl (first_in p n (a + 1) k)
           least = λ j x y. elim (cases_eq j a) [ inl e ↦ ap p e ∙ t | inr e ↦ r.least j (omega (arith, e)) y ];
         }
 
-pub least_there : (r s : Call) → All HasByteComponent (entries_of r.operation) → read_fault r s ≡ true → (k : ℕ) × (least_exceeding r s ≡ Some k) × IsLeastExceeding r s k
-unfolding read_fault least_exceeding
-least_there r s b h =
-    let x = exceeds_to r s (and_parts _ _ h).0 in
+-- a view that shows more of some component than another does so of a least one
+pub least_exceeded : (r s : Call) → All HasByteComponent (entries_of r.operation) → exceeds r s ≡ true → (k : ℕ) × (least_exceeding r s ≡ Some k) × IsLeastExceeding r s k
+unfolding least_exceeding
+least_exceeded r s b h =
+    let x = exceeds_to r s h in
     let e = shows_positive r x.component (omega (arith, x.more)) in
     let i = shown_in r x.component e.entry e.is in
-    let small = All-contains HasByteComponent (entries_of r.operation) e.entry b (Contains-from_In _ _ i.0) in
+    let small = All-contains HasByteComponent (entries_of r.operation) e.entry b (Contains-from_In (entries_of r.operation) e.entry i.0) in
     let f = first_in (λ k. nat_lt (shown_number s k) (shown_number r k)) 256 0 x.component (omega arith) (omega (arith, small, i.1)) (lt-ltb _ _ x.more) in
     (f.number, f.found, record { more = ltb-true _ _ f.passes; least = λ j l. ltb-false _ _ (f.least j (omega arith) l) })
+
+pub least_there : (r s : Call) → All HasByteComponent (entries_of r.operation) → read_fault r s ≡ true → (k : ℕ) × (least_exceeding r s ≡ Some k) × IsLeastExceeding r s k
+unfolding read_fault
+least_there r s b h = least_exceeded r s b (and_parts _ _ h).0
 
 -- what holds of no entries and of what each event answers holds of what each call shows
 pub shown_by_calls : (P : List Entry → Type 0) → P [] → (es : List Event) → ((x : Event) → Contains es x → P (entries_of (Views (answer_at x)))) → (c : Call) → Contains (calls_of es) c → P (entries_of c.operation)

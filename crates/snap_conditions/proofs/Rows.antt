@@ -7,9 +7,10 @@ use Rattle.std.proofs.lemmas.List.Folds.{find-append}
 use Rattle.std.proofs.lemmas.Bool.{cases_eq, eq-eqb, ne_eqb}
 use Rattle.snap_core.specs.declared.entry.Entry.{Entry}
 use Rattle.snap_core.specs.Entries.{entry_of, number_in}
+use Rattle.snap_core.specs.Calls.{Call, entries_of, shown, shown_number}
 use Rattle.snap_core.proofs.Lists.{In, In-get_or}
-use Rattle.snap_conditions.specs.Excess.{number_among}
-use Rattle.snap_conditions.proofs.Excess.{AreSorted, sorted_tail, above, unlisted, listed_first, listed_behind}
+use Rattle.snap_conditions.specs.Rows.{number_among}
+use Rattle.snap_conditions.proofs.Entries.{AreSorted, sorted_tail, above, unlisted, listed_first, listed_behind}
 
 -- entries in front of one have lower components
 in_front : (es : List Entry) (i : ℕ) (x d : Entry) → AreSorted es → i < length es → In d (take i es) → d.component < (get_or es i x).component
@@ -67,3 +68,7 @@ entry_at (e ∷ es) zero x s l = listed_first e es
 entry_at (e ∷ es) (suc i) x s l =
     let higher = above e es s (get_or es i x) (In-get_or es i x (omega arith)) in
     listed_behind (get_or es i x).component e es (λ q. omega (arith, higher, q)) ∙ entry_at es i x (sorted_tail e es s) (omega arith)
+
+pub among_is_shown : (r : Call) (k : ℕ) → number_among (entries_of r.operation) k ≡ shown_number r k
+unfolding shown_number shown
+among_is_shown r k = refl

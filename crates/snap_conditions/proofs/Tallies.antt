@@ -8,7 +8,7 @@ use Rattle.snap_core.specs.Regular.{IsViewOf, IsUpdateOf}
 use Rattle.snap_core.specs.Calls.{is_update_numbered, views_of}
 use Rattle.snap_conditions.specs.Faults.{is_unwritten, integrity_fault, old_fault, early_fault, read_fault, write_fault, components, listed, integrity_faults, proximity_faults, read_faults, write_faults, HasNoLocalFault, HasNoFault}
 use Rattle.snap_core.proofs.Lists.{In, In-from_Contains, Contains-from_In, In-filter, In-from_filter, any_to}
-use Rattle.snap_core.proofs.Facts.{AreCalls, shown_in, shows_positive}
+use Rattle.snap_core.proofs.Facts.{AreCalls, ShowsEntry, shown_in, shows_positive}
 use Rattle.snap_conditions.proofs.Local.{PassesLocal, PassesAll, numbered_to}
 
 filter_fails : {X : Type 0} (p : X → Bool) (xs : List X) → filter p xs ≡ [] → (x : X) → In x xs → p x ≡ false
@@ -35,12 +35,12 @@ flat_map_none : {X Y : Type 0} (f : X → List Y) (xs : List X) → ((x : X) →
 flat_map_none f [] h = refl
 flat_map_none f (x ∷ xs) h = ap (λ z. z ++ flat_map f xs) (h x (inl refl)) ∙ flat_map_none f xs (λ y i. h y (inr i))
 
-in_map : {X Y : Type 0} (f : X → Y) (xs : List X) (x : X) → In x xs → In (f x) (map f xs)
+pub in_map : {X Y : Type 0} (f : X → Y) (xs : List X) (x : X) → In x xs → In (f x) (map f xs)
 in_map f [] x i = absurd i
 in_map f (y ∷ xs) x (inl i) = inl (ap f i)
 in_map f (y ∷ xs) x (inr i) = inr (in_map f xs x i)
 
-in_range : (n a k : ℕ) → a ≤ k → k < a + n → In k (range_with_len a n)
+pub in_range : (n a k : ℕ) → a ≤ k → k < a + n → In k (range_with_len a n)
 in_range zero a k l m = absurd (omega arith)
 in_range (suc n) a k l m = elim (cases_eq a k) [
   | inl e ↦ inl e
@@ -64,7 +64,7 @@ in_listed r k e s =
     let i = shown_in r k e s in
     subst (λ z. In z (listed r)) i.1 (in_map (λ (d : Entry). d.component) (entries_of r.operation) e i.0)
 
-nothing_unwritten : (calls : List Call) (r : Call) (k : ℕ) → shown r k ≡ None → integrity_fault calls r k ≡ false
+pub nothing_unwritten : (calls : List Call) (r : Call) (k : ℕ) → shown r k ≡ None → integrity_fault calls r k ≡ false
 unfolding integrity_fault
 nothing_unwritten calls r k s = ap (is_unwritten calls) s
 
@@ -118,6 +118,16 @@ write_at calls e r j k v l i =
     (flat_map_nil (λ j. map (λ k. (r, j, k)) (filter (write_fault calls r j) (listed r))) components
     (flat_map_nil (λ r. flat_map (λ j. map (λ k. (r, j, k)) (filter (write_fault calls r j) (listed r))) components) (views_of calls) e r (in_views calls r v)) j (in_range 256 0 j (omega arith) l))) k i
 
+-- a view shows the component of which it has a write fault
+pub write_shows : (calls : List Call) → AreCalls calls → (r : Call) (j k : ℕ) → write_fault calls r j k ≡ true → ShowsEntry r k
+unfolding write_fault
+write_shows calls f r j k h =
+    let x = any_to (λ a. is_update_numbered j (suc (shown_number r j)) a && list_any (λ b. is_update_numbered k (shown_number r k) b && precedes a b) calls) calls h in
+    let p = and_parts (is_update_numbered j (suc (shown_number r j)) x.it) (list_any (λ b. is_update_numbered k (shown_number r k) b && precedes x.it b) calls) x.passes in
+    let y = any_to (λ b. is_update_numbered k (shown_number r k) b && precedes x.it b) calls p.1 in
+    let n = numbered_to calls k (shown_number r k) y.it y.there (and_parts (is_update_numbered k (shown_number r k) y.it) (precedes x.it y.it) y.passes).0 in
+    shows_positive r k (omega (arith, f.positive y.it n.entry n.update, n.number))
+
 -- the components that a write fault is of
 record WriteAt (r : Call) (j k : ℕ) : Type 0 where
   missed : j < 256
@@ -128,10 +138,8 @@ unfolding write_fault
 write_components calls f b r j k h =
     let x = any_to (λ a. is_update_numbered j (suc (shown_number r j)) a && list_any (λ b. is_update_numbered k (shown_number r k) b && precedes a b) calls) calls h in
     let p = and_parts _ _ x.passes in
-    let y = any_to (λ b. is_update_numbered k (shown_number r k) b && precedes x.it b) calls p.1 in
     let m = numbered_to calls j (suc (shown_number r j)) x.it x.there p.0 in
-    let n = numbered_to calls k (shown_number r k) y.it y.there (and_parts _ _ y.passes).0 in
-    let s = shows_positive r k (omega (arith, f.positive y.it n.entry n.update, n.number)) in
+    let s = write_shows calls f r j k h in
     record { missed = omega (arith, b x.it m.entry m.update, m.component); lists = in_listed r k s.entry s.is }
 
 pub tests_from_none : (calls : List Call) → AreCalls calls → HaveByteComponents calls → HasNoFault calls → PassesAll calls

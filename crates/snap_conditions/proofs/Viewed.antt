@@ -50,7 +50,7 @@ update_fits es f c e u = at x.event refl (sym (ap (λ (z : Call). z.operation) x
     at (EndUpdate p) h o = absurd (let g = ap (λ z. operation_at z x.after) (sym h) ∙ o in cc)
     at (EndView p s) h o = absurd (let g = ap (λ z. operation_at z x.after) (sym h) ∙ o in cc)
 
-find_none : {X : Type 0} (p : X → Bool) (xs : List X) → ((x : X) → In x xs → p x ≡ false) → find p xs ≡ None
+pub find_none : {X : Type 0} (p : X → Bool) (xs : List X) → ((x : X) → In x xs → p x ≡ false) → find p xs ≡ None
 find_none p [] h = refl
 find_none p (x ∷ xs) h = ap (λ b. cond b (Some x) (find p xs)) (h x (inl refl)) ∙ find_none p xs (λ y i. h y (inr i))
 

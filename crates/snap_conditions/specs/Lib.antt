@@ -1,9 +1,9 @@
 pub mod Conditions
-pub mod Excess
 pub mod Faults
 pub mod Laws
 pub mod PartValue
 pub mod Parts
 pub mod Places
+pub mod Rows
 pub mod Seen
 pub mod Tally

@@ -1,7 +1,6 @@
 //! The faults of the four conditions, their tally over a range of views, and what they say of regular histories.
 #![tactic(auto)]
 
-mod compare;
 mod fault;
 mod integrity;
 mod law;

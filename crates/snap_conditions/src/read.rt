@@ -1,32 +1,52 @@
-ghost use Rattle.std.specs.Prelude.{◌≡◌, ◌<◌, ◌∷◌, [], ℕ, length};
+ghost use Rattle.std.specs.Prelude.{◌≡◌, ◌<◌, ◌∷◌, [], ◌+◌, ◌^◌, Some, length};
 ghost use Rattle.snap_core.specs.Calls.{Call as SpecCall, calls_of, views_of};
 ghost use Rattle.snap_core.specs.Entries.{AreEntries};
 ghost use Rattle.snap_core.specs.Events.{IsKept};
-ghost use Rattle.snap_conditions.specs.Faults.{read_faults, read_fault as is_read_fault};
-ghost use Rattle.snap_conditions.specs.Parts.{part_of, found_at};
+ghost use Rattle.snap_conditions.specs.Rows.{AreNumbersOf};
+ghost use Rattle.snap_conditions.specs.Faults.{read_faults, read_fault};
+ghost use Rattle.snap_conditions.specs.Parts.{noted, part_of};
 ghost use Rattle.snap_conditions.specs.Seen.{IsSeen, view_in};
 ghost use Rattle.snap_conditions.specs.Tally.{reported_read};
 
-use crate::compare::compare;
 use crate::fault::ReadFault;
 use crate::part::Part;
+use crate::row::Row;
 use crate::seen::{SeenView, is_before, view_at};
 use snap_index::Index;
 
-// The read fault of a view and another.
-fn read_fault(view: &SeenView<'_>, other: &SeenView<'_>) -> Option<ReadFault>
+// Whether a view, which has this row, and another are a read fault.
+fn is_read_fault(view: &SeenView<'_>, row: &Row, other: &SeenView<'_>) -> bool
     requires view { AreEntries view.now.entries.now }
+    requires row { AreNumbersOf view.now.entries.now row.now }
     requires other { AreEntries other.now.entries.now }
-    ensures { (r s : SpecCall) → IsSeen r view.now → IsSeen s other.now → result ≡ found_at (λ s. reported_read (r, s)) (is_read_fault r) s }
+    ensures { (r s : SpecCall) → IsSeen r view.now → IsSeen s other.now → result ≡ read_fault r s }
 {
-    let excess = compare(view.entries, other.entries);
-    let component = excess.first?;
-    let precedes = is_before(view.call.ended, other.call.begun);
-    (precedes || excess.second).then_some(ReadFault {
-        view: view.number,
-        other: other.number,
-        component,
-    })
+    let excess = row.compare(other.entries);
+    excess.first && (excess.second || is_before(view.call.ended, other.call.begun))
+}
+
+// The part with the read fault of a view, which has this row, and another behind the others. The component is looked for
+// only where the fault is the first.
+fn note_fault(
+    part: Part<ReadFault>,
+    view: &SeenView<'_>,
+    row: &Row,
+    other: &SeenView<'_>,
+) -> Part<ReadFault>
+    requires count { part.count + 1 < 2 ^ 64 }
+    requires row { AreNumbersOf view.now.entries.now row.now }
+    requires other { AreEntries other.now.entries.now }
+    ensures { (r s : SpecCall) → IsSeen r view.now → IsSeen s other.now → result ≡ noted part (Some (reported_read (r, s))) }
+{
+    let first = match part.first() {
+        Some(first) => first,
+        None => ReadFault {
+            view: view.number,
+            other: other.number,
+            component: row.first_excess(other.entries).unwrap_or(0),
+        },
+    };
+    part.note(Some(first))
 }
 
 // The read faults whose first view is the one at a place.
@@ -36,9 +56,13 @@ pub(crate) fn read_part(index: &Index<'_>, place: u32) -> Part<ReadFault>
     ensures { result ≡ part_of reported_read (read_faults (calls_of index.now) (view_in (calls_of index.now) place ∷ [])) }
 {
     let view = view_at(index, place);
+    let row = Row::of(view.entries);
     let mut part = Part::none();
     for other in 0..index.view_count() {
-        part = part.note(read_fault(&view, &view_at(index, other)));
+        let other = view_at(index, other);
+        if is_read_fault(&view, &row, &other) {
+            part = note_fault(part, &view, &row, &other);
+        }
     }
     part
 }

@@ -26,7 +26,7 @@ pub(crate) fn view_at<'i>(index: &'i Index<'_>, place: u32) -> SeenView<'i>
     let Some(call) = index.call(number) else {
         unreachable!()
     };
-    let Some(view) = index.view(place) else {
+    let Some(view) = index.answer(number) else {
         unreachable!()
     };
     SeenView {

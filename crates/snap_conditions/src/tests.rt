@@ -1,109 +1,68 @@
+//! The tallies of worked histories, against faults known from outside and against plain programs.
+ghost use Rattle.std.specs.Prelude.{◌≡◌, Some};
+ghost use Rattle.snap_conditions.specs.Tally.{no_fault};
+
 use super::*;
-use snap_core::{Entry, Event, History, View};
+use histories::WORKED;
 use snap_index::Index;
+use snap_testing::worked::{
+    ATOMIC_RUN, CROSSED_VIEWS, LARGEST_NUMBER, MISSED_UPDATE, NEVER_WRITTEN, NEW_THEN_OLD,
+    SHOWN_TOO_EARLY, STALE_AND_WRONG, STALE_VIEW, WRONG_VALUE,
+};
+use snap_testing::{Step, entry, history_of};
 use std::alloc::Global;
+use std::process::Abort;
 use std::test::Fail;
 
-fn entry(component: u8, number: u32, value: u32) -> Entry {
-    Entry {
-        component,
-        number,
-        value,
+mod comparisons;
+mod histories;
+mod slow;
+
+// The tallies of ranges of views of a history, each with the places where its range begins and ends.
+fn expect(
+    rt: &impl Abort,
+    alloc: Global,
+    steps: &[Step<'_>],
+    known: &[(u32, u32, Tally)],
+) -> Result<(), Fail> {
+    let history = history_of(alloc, steps)?;
+    let index = Index::build(alloc, &history)?;
+    for &(from, to, tally) in known {
+        assert!(rt; from <= to && to <= index.view_count());
+        assert_eq!(rt; tally_range(&index, from, to), tally, "{from}..{to}");
+    }
+    Ok(())
+}
+
+fn one<F: Copy>(fault: F) -> Part<F>
+    ensures { result ≡ record { count = 1; first = Some fault } }
+{
+    Part::none().note(Some(fault))
+}
+
+// The tally of one read fault.
+fn one_read(fault: ReadFault) -> Tally
+    ensures { result ≡ record no_fault { read = record { count = 1; first = Some fault } } }
+{
+    Tally {
+        read: one(fault),
+        ..Tally::none()
     }
 }
 
-fn begin(process: u16, entry: Entry) -> Event {
-    Event::BeginUpdate { process, entry }
+// The tally of one integrity fault.
+fn one_integrity(fault: IntegrityFault) -> Tally {
+    Tally {
+        integrity: one(fault),
+        ..Tally::none()
+    }
 }
 
-fn end_view(alloc: Global, process: u16, entries: &[Entry]) -> Result<Event, Fail> {
-    let view = View::from_entries(entries.to_vec(alloc)?)?;
-    Ok(Event::EndView { process, view })
-}
-
-// Two views disagree about the order of two updates.
-fn crossed_views(alloc: Global) -> Result<History, Fail> {
-    let mut history = History::new(alloc);
-    history.push(begin(0, entry(0, 1, 1)))?;
-    history.push(begin(1, entry(1, 1, 1)))?;
-    history.push(Event::BeginView { process: 2 })?;
-    history.push(Event::BeginView { process: 3 })?;
-    history.push(end_view(alloc, 2, &[entry(0, 1, 1)])?)?;
-    history.push(end_view(alloc, 3, &[entry(1, 1, 1)])?)?;
-    history.push(Event::EndUpdate { process: 0 })?;
-    history.push(Event::EndUpdate { process: 1 })?;
-    Ok(history)
-}
-
-// After an update one view shows nothing, and the next a value that was never written.
-fn stale_and_wrong(alloc: Global) -> Result<History, Fail> {
-    let mut history = History::new(alloc);
-    history.push(begin(0, entry(0, 1, 7)))?;
-    history.push(Event::EndUpdate { process: 0 })?;
-    history.push(Event::BeginView { process: 1 })?;
-    history.push(end_view(alloc, 1, &[])?)?;
-    history.push(Event::BeginView { process: 2 })?;
-    history.push(end_view(alloc, 2, &[entry(0, 1, 9)])?)?;
-    Ok(history)
-}
-
-// A view shows an update and not the one that ended before it began.
-fn missed_update(alloc: Global) -> Result<History, Fail> {
-    let mut history = History::new(alloc);
-    history.push(Event::BeginView { process: 2 })?;
-    history.push(begin(0, entry(0, 1, 5)))?;
-    history.push(Event::EndUpdate { process: 0 })?;
-    history.push(begin(1, entry(1, 1, 6)))?;
-    history.push(Event::EndUpdate { process: 1 })?;
-    history.push(end_view(alloc, 2, &[entry(1, 1, 6)])?)?;
-    Ok(history)
-}
-
-// Beside an open update one view shows it, and a later view does not.
-fn new_then_old(alloc: Global) -> Result<History, Fail> {
-    let mut history = History::new(alloc);
-    history.push(begin(0, entry(0, 1, 7)))?;
-    history.push(Event::BeginView { process: 1 })?;
-    history.push(end_view(alloc, 1, &[entry(0, 1, 7)])?)?;
-    history.push(Event::BeginView { process: 2 })?;
-    history.push(end_view(alloc, 2, &[])?)?;
-    history.push(Event::EndUpdate { process: 0 })?;
-    Ok(history)
-}
-
-// A view shows an entry before the first update of its component begins.
-fn shown_too_early(alloc: Global, shown: Entry) -> Result<History, Fail> {
-    let mut history = History::new(alloc);
-    history.push(Event::BeginView { process: 1 })?;
-    history.push(end_view(alloc, 1, &[shown])?)?;
-    history.push(begin(0, entry(0, 1, 7)))?;
-    history.push(Event::EndUpdate { process: 0 })?;
-    Ok(history)
-}
-
-// Five calls of four processes with a legal order.
-fn atomic_run(alloc: Global) -> Result<History, Fail> {
-    let mut history = History::new(alloc);
-    history.push(begin(0, entry(0, 1, 10)))?;
-    history.push(Event::EndUpdate { process: 0 })?;
-    history.push(begin(1, entry(1, 1, 20)))?;
-    history.push(Event::BeginView { process: 2 })?;
-    history.push(begin(0, entry(0, 2, 11)))?;
-    history.push(end_view(alloc, 2, &[entry(0, 1, 10)])?)?;
-    history.push(Event::EndUpdate { process: 0 })?;
-    history.push(Event::BeginView { process: 3 })?;
-    history.push(end_view(alloc, 3, &[entry(0, 2, 11), entry(1, 1, 20)])?)?;
-    history.push(Event::EndUpdate { process: 1 })?;
-    Ok(history)
-}
-
-// The tally of the views from one place to before another, where there are so many.
-fn tally_between(alloc: Global, history: &History, from: u32, to: u32) -> Result<Tally, Fail> {
-    let index = Index::build(alloc, history)?;
-    if from <= to && to <= index.view_count() {
-        Ok(tally_range(&index, from, to))
-    } else {
-        Err(Fail::from("no such range"))
+// The tally of one proximity fault.
+fn one_proximity(fault: ProximityFault) -> Tally {
+    Tally {
+        proximity: one(fault),
+        ..Tally::none()
     }
 }
 
@@ -117,9 +76,19 @@ fn counts(tally: &Tally) -> [u64; 4] {
 }
 
 #[test]
-fn each_of_two_crossed_views_has_a_read_fault(rt: HostRuntime) -> Result<(), Fail> {
+fn each_worked_history_has_the_faults_that_are_known_of_it(rt: HostRuntime) -> Result<(), Fail> {
     let alloc = rt.alloc();
-    let history = crossed_views(alloc)?;
+    for &(name, steps, known) in WORKED {
+        let history = history_of(alloc, steps)?;
+        let index = Index::build(alloc, &history)?;
+        let tally = tally_range(&index, 0, index.view_count());
+        assert_eq!(rt; counts(&tally), known, "{name}");
+    }
+    Ok(())
+}
+
+#[test]
+fn each_of_two_crossed_views_has_a_read_fault(rt: HostRuntime) -> Result<(), Fail> {
     let of_first = ReadFault {
         view: 2,
         other: 3,
@@ -130,116 +99,96 @@ fn each_of_two_crossed_views_has_a_read_fault(rt: HostRuntime) -> Result<(), Fai
         other: 2,
         component: 1,
     };
-    let first = tally_between(alloc, &history, 0, 1)?;
-    assert_eq!(rt; counts(&first), [0, 0, 1, 0]);
-    assert_eq!(rt; first.read.first(), Some(of_first));
-    let second = tally_between(alloc, &history, 1, 2)?;
-    assert_eq!(rt; counts(&second), [0, 0, 1, 0]);
-    assert_eq!(rt; second.read.first(), Some(of_second));
-    let both = tally_between(alloc, &history, 0, 2)?;
-    assert_eq!(rt; counts(&both), [0, 0, 2, 0]);
+    let known = [(0, 1, one_read(of_first)), (1, 2, one_read(of_second))];
+    expect(&rt, rt.alloc(), CROSSED_VIEWS, &known)?;
+    let both = merge(one_read(of_first), one_read(of_second));
+    assert_eq!(rt; both.read.count(), 2);
     assert_eq!(rt; both.read.first(), Some(of_first));
-    Ok(())
+    expect(&rt, rt.alloc(), CROSSED_VIEWS, &[(0, 2, both)])
 }
 
 #[test]
 fn a_stale_view_and_a_wrong_value_are_told_apart(rt: HostRuntime) -> Result<(), Fail> {
-    let alloc = rt.alloc();
-    let history = stale_and_wrong(alloc)?;
-    let stale = tally_between(alloc, &history, 0, 1)?;
-    assert_eq!(rt; counts(&stale), [0, 1, 0, 0]);
-    assert_eq!(rt;
-        stale.proximity.first(),
-        Some(ProximityFault {
-            view: 1,
-            component: 0,
-            number: 0,
-            side: Side::Old,
-        })
-    );
-    let wrong = tally_between(alloc, &history, 1, 2)?;
-    assert_eq!(rt; counts(&wrong), [1, 0, 0, 0]);
-    assert_eq!(rt;
-        wrong.integrity.first(),
-        Some(IntegrityFault {
-            view: 2,
-            entry: entry(0, 1, 9),
-        })
-    );
+    let stale = ProximityFault {
+        view: 1,
+        component: 0,
+        number: 0,
+        side: Side::Old,
+    };
+    let wrong = IntegrityFault {
+        view: 2,
+        entry: entry(0, 1, 9),
+    };
+    let known = [
+        (0, 1, one_proximity(stale)),
+        (1, 2, one_integrity(wrong)),
+        (1, 1, Tally::none()),
+    ];
+    expect(&rt, rt.alloc(), STALE_AND_WRONG, &known)?;
+    expect(&rt, rt.alloc(), STALE_VIEW, &[(0, 1, one_proximity(stale))])
+}
+
+#[test]
+fn an_entry_that_was_never_written_is_one_fault(rt: HostRuntime) -> Result<(), Fail> {
+    for (steps, view, shown) in [
+        (WRONG_VALUE, 1, entry(0, 1, 8)),
+        (LARGEST_NUMBER, 1, entry(0, u32::MAX, 7)),
+        (NEVER_WRITTEN, 0, entry(0, u32::MAX, 7)),
+    ] {
+        let wrong = one_integrity(IntegrityFault { view, entry: shown });
+        assert!(rt; !is_regular(&wrong));
+        expect(&rt, rt.alloc(), steps, &[(0, 1, wrong)])?;
+    }
     Ok(())
 }
 
 #[test]
 fn a_missed_update_is_regular_and_not_atomic(rt: HostRuntime) -> Result<(), Fail> {
-    let alloc = rt.alloc();
-    let tally = tally_between(alloc, &missed_update(alloc)?, 0, 1)?;
-    assert_eq!(rt; counts(&tally), [0, 0, 0, 1]);
-    assert_eq!(rt;
-        tally.write.first(),
-        Some(WriteFault {
+    let missed = Tally {
+        write: one(WriteFault {
             view: 0,
             missed_component: 0,
             missed_number: 1,
             shown_component: 1,
             shown_number: 1,
-        })
-    );
-    assert!(rt; is_regular(&tally));
-    assert!(rt; !is_atomic(&tally));
-    Ok(())
+        }),
+        ..Tally::none()
+    };
+    assert!(rt; is_regular(&missed));
+    assert!(rt; !is_atomic(&missed));
+    expect(&rt, rt.alloc(), MISSED_UPDATE, &[(0, 1, missed)])
 }
 
 #[test]
 fn a_view_after_a_newer_one_has_no_fault_of_its_own(rt: HostRuntime) -> Result<(), Fail> {
-    let alloc = rt.alloc();
-    let history = new_then_old(alloc)?;
-    let newer = tally_between(alloc, &history, 0, 1)?;
-    assert_eq!(rt; counts(&newer), [0, 0, 1, 0]);
-    assert_eq!(rt;
-        newer.read.first(),
-        Some(ReadFault {
-            view: 1,
-            other: 2,
-            component: 0,
-        })
-    );
-    assert_eq!(rt;
-        counts(&tally_between(alloc, &history, 1, 2)?),
-        [0, 0, 0, 0]
-    );
-    Ok(())
+    let newer = ReadFault {
+        view: 1,
+        other: 2,
+        component: 0,
+    };
+    let known = [(0, 1, one_read(newer)), (1, 2, Tally::none())];
+    expect(&rt, rt.alloc(), NEW_THEN_OLD, &known)
 }
 
 #[test]
 fn an_update_that_begins_after_the_view_is_early(rt: HostRuntime) -> Result<(), Fail> {
-    let alloc = rt.alloc();
-    let early = tally_between(alloc, &shown_too_early(alloc, entry(0, 1, 7))?, 0, 1)?;
-    assert_eq!(rt; counts(&early), [0, 1, 0, 0]);
-    assert_eq!(rt;
-        early.proximity.first(),
-        Some(ProximityFault {
-            view: 0,
-            component: 0,
-            number: 1,
-            side: Side::Early,
-        })
-    );
-    let never = shown_too_early(alloc, entry(0, u32::MAX, 7))?;
-    let never = tally_between(alloc, &never, 0, 1)?;
-    assert_eq!(rt; counts(&never), [1, 0, 0, 0]);
-    assert!(rt; !is_regular(&never));
-    Ok(())
+    let early = ProximityFault {
+        view: 0,
+        component: 0,
+        number: 1,
+        side: Side::Early,
+    };
+    expect(
+        &rt,
+        rt.alloc(),
+        SHOWN_TOO_EARLY,
+        &[(0, 1, one_proximity(early))],
+    )
 }
 
 #[test]
 fn an_atomic_run_and_an_empty_range_have_no_fault(rt: HostRuntime) -> Result<(), Fail> {
-    let alloc = rt.alloc();
-    let tally = tally_between(alloc, &atomic_run(alloc)?, 0, 2)?;
-    assert_eq!(rt; tally, Tally::none());
-    assert!(rt; is_atomic(&tally));
-    assert_eq!(rt;
-        tally_between(alloc, &crossed_views(alloc)?, 1, 1)?,
-        Tally::none()
-    );
-    Ok(())
+    assert!(rt; is_atomic(&Tally::none()));
+    expect(&rt, rt.alloc(), ATOMIC_RUN, &[(0, 2, Tally::none())])?;
+    expect(&rt, rt.alloc(), CROSSED_VIEWS, &[(1, 1, Tally::none())])
 }

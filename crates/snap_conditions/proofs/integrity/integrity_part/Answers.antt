@@ -11,7 +11,7 @@ use Rattle.snap_conditions.specs.Places.{update_of, is_written}
 use Rattle.snap_conditions.specs.declared.fault.IntegrityFault.{IntegrityFault}
 use Rattle.snap_conditions.specs.Seen.{view_in}
 use Rattle.snap_conditions.specs.Tally.{reported_integrity}
-use Rattle.snap_conditions.proofs.Excess.{nothing}
+use Rattle.snap_conditions.proofs.Entries.{nothing}
 use Rattle.snap_conditions.proofs.Finds.{shown_at, integrity_found}
 use Rattle.snap_conditions.proofs.Parts.{next_noted}
 use Rattle.snap_conditions.proofs.Ranges.{few_listed}

@@ -7,11 +7,11 @@ use Rattle.snap_conditions.specs.Faults.{old_fault, early_fault, components}
 use Rattle.snap_conditions.specs.Parts.{part_of}
 use Rattle.snap_conditions.specs.PartValue.{PartValue}
 use Rattle.snap_conditions.specs.declared.fault.ProximityFault.{ProximityFault}
-use Rattle.snap_conditions.specs.Excess.{number_among}
+use Rattle.snap_conditions.specs.Rows.{number_among}
 use Rattle.snap_conditions.specs.Seen.{view_in}
 use Rattle.snap_conditions.specs.Tally.{reported_proximity}
 use Rattle.snap_conditions.proofs.Finds.{proximity_at}
-use Rattle.snap_conditions.proofs.Leasts.{among_is_shown}
+use Rattle.snap_conditions.proofs.Rows.{among_is_shown}
 use Rattle.snap_conditions.proofs.Parts.{next_noted}
 use Rattle.snap_conditions.proofs.OneView.{proximity_alone, found_few}
 use Rattle.snap_conditions.proofs.proximity.proximity_part.Goals as goal

@@ -11,7 +11,7 @@ use Rattle.snap_conditions.specs.PartValue.{PartValue}
 use Rattle.snap_conditions.specs.Places.{update_of, end_of, begin_of, begins_behind, begin_of_shown, IsNoLater}
 use Rattle.snap_conditions.specs.Seen.{view_in}
 use Rattle.snap_conditions.specs.Tally.{reported_write}
-use Rattle.snap_conditions.proofs.Excess.{nothing}
+use Rattle.snap_conditions.proofs.Entries.{nothing}
 use Rattle.snap_conditions.proofs.Finds.{shown_at, none_missed, none_behind, missed_found}
 use Rattle.snap_conditions.proofs.OneView.{found_few, missed_part}
 use Rattle.snap_conditions.proofs.Parts.{next_noted}

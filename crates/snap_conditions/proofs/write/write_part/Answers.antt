@@ -4,13 +4,13 @@ use Rattle.std.proofs.lemmas.List.FromFn.{get_or-range_with_len}
 use Rattle.std.specs.Prelude.{flat_map}
 use Rattle.snap_core.specs.Calls.{calls_of}
 use Rattle.snap_conditions.specs.declared.fault.WriteFault.{WriteFault}
-use Rattle.snap_conditions.specs.Excess.{number_among}
+use Rattle.snap_conditions.specs.Rows.{number_among}
 use Rattle.snap_conditions.specs.Faults.{components, missed_at}
 use Rattle.snap_conditions.specs.Parts.{part_of, merged_part}
 use Rattle.snap_conditions.specs.PartValue.{PartValue}
 use Rattle.snap_conditions.specs.Seen.{view_in}
 use Rattle.snap_conditions.specs.Tally.{reported_write}
-use Rattle.snap_conditions.proofs.Leasts.{among_is_shown}
+use Rattle.snap_conditions.proofs.Rows.{among_is_shown}
 use Rattle.snap_conditions.proofs.OneView.{write_alone, missed_few, all_missed_few}
 use Rattle.snap_conditions.proofs.Parts.{merge_step}
 use Rattle.snap_conditions.proofs.Viewed.{view_there}
