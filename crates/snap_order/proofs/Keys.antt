@@ -6,13 +6,9 @@ use Rattle.snap_order.specs.Levels.{is_printed, printed_order}
 use Rattle.snap_order.specs.Keys.{key_of, KeyLess, AreSortedKeys}
 use Rattle.snap_core.proofs.Lists.{In, In-from_Contains, Contains-from_In, Pairs, Pairs-from_AllPairs, In-filter, In-from_filter}
 use Rattle.snap_core.proofs.Facts.{AreCalls}
+use Rattle.snap_conditions.proofs.Tallies.{in_map}
 use Rattle.snap_order.proofs.Printed.{in_printed, to_printed, printed_pairs}
 use Rattle.snap_order.proofs.Unique.{same_list}
-
-pub in_map : {X Y : Type 0} (f : X → Y) (xs : List X) (x : X) → In x xs → In (f x) (map f xs)
-in_map f [] x i = absurd i
-in_map f (y ∷ xs) x (inl e) = inl (ap f e)
-in_map f (y ∷ xs) x (inr i) = inr (in_map f xs x i)
 
 pub in_map_from : {X Y : Type 0} (f : X → Y) (xs : List X) (y : Y) → In y (map f xs) → (x : X) × In x xs × (f x ≡ y)
 in_map_from f [] y i = absurd i

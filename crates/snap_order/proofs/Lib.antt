@@ -12,6 +12,9 @@ pub mod Matching
 pub mod State
 pub mod Sorting
 pub mod Places
+pub mod Counts
+pub mod Sums
+pub mod Searches
 pub mod Ranking
 pub mod Standing
 pub mod Checked

@@ -76,7 +76,7 @@ none_counts (o ∷ os) h =
     let q : count_by is_some (o ∷ os) ≡ 0 + count_by is_some os = count-cons is_some o os ∙ ap (λ z. cond (is_some z) 1 0 + count_by is_some os) first in
     omega (arith, q, rest)
 
-not_shown : (es : List Entry) (k : ℕ) → ((d : Entry) → In d es → k < d.component) → entry_of k es ≡ None
+pub not_shown : (es : List Entry) (k : ℕ) → ((d : Entry) → In d es → k < d.component) → entry_of k es ≡ None
 not_shown [] k h = refl
 not_shown (d ∷ es) k h = at (d.component == k) refl (not_shown es k (λ c i. h c (inr i)))
   where

@@ -2,7 +2,7 @@
 use Rattle.std.proofs.Common.{◌≡◌, ◌≢◌, ℕ, ◌<◌, false, Less, Equal, List, map, length, get_or, eqb, Ordering, sym, ap, ◌∙◌, inl, inr, arith}
 use Rattle.std.specs.Cmp.{IsTotalOrder, nat_cmp_is}
 use Rattle.std.specs.List.{filter, AllPairs, IsDistinct}
-use Rattle.std.specs.List.Sorted.{IsPermutation, IsSorted}
+use Rattle.std.specs.List.Sorted.{IsPermutation, IsSorted, IsNonDecreasingBy}
 use Rattle.std.specs.Ordering.{nat_cmp, is_lt, ordering_then}
 use Rattle.std.proofs.lemmas.Bool.{false≢true, cases_eq, cases_order, eqb-false, eq-eqb, ne_eqb}
 use Rattle.std.proofs.lemmas.Cmp.{then_total, on_total, nat_cmp_total}
@@ -69,6 +69,17 @@ sorted_apart calls f keys p i j d l m e =
 
 key_total : IsTotalOrder key_cmp
 key_total = then_total (on_total (λ (k : ℕ × ℕ). k.0) nat_cmp_total) (on_total (λ (k : ℕ × ℕ). k.1) nat_cmp_total)
+
+-- of sorted keys the first parts do not fall
+pub firsts_rise : (keys : List (ℕ × ℕ)) → IsSorted key_cmp keys → IsNonDecreasingBy (λ k. k.0) keys
+firsts_rise keys s i j d l m = elim (cases_order (get_or keys j d).0 (get_or keys i d).0) [
+  | inl same ↦ omega (arith, same)
+  | inr (inl less) ↦ absurd (false≢true (sym up ∙ ap is_lt (ap (λ o. ordering_then o (nat_cmp (get_or keys j d).1 (get_or keys i d).1)) (cmp_less (get_or keys j d).0 (get_or keys i d).0 less))))
+  | inr (inr more) ↦ omega (arith, more)
+]
+  where
+    up : is_lt (key_cmp (get_or keys j d) (get_or keys i d)) ≡ false
+    up = sorted_far (λ x y. is_lt (key_cmp x y)) (ranks_by key_total (λ x. x)) keys s i j d l m
 
 pub sorted_keys : (calls : List Call) → AreCalls calls → (keys : List (ℕ × ℕ)) → IsPermutation (printed_keys calls) keys → IsSorted key_cmp keys → AreSortedKeys calls keys
 sorted_keys calls f keys p s = record {

@@ -8,12 +8,11 @@ use Rattle.snap_core.specs.Events.{IsHistory}
 use Rattle.snap_core.specs.Calls.{Call, Views, calls_of, is_before, is_view, is_answer, entries_of}
 use Rattle.snap_core.specs.Orders.{is_completed, is_update, is_writing}
 use Rattle.snap_core.proofs.Histories.{are_calls}
-use Rattle.snap_index.specs.Bare.{bare_op}
+use Rattle.snap_index.specs.Bare.{bare_op, answer_of, answered_by}
 use Rattle.snap_index.specs.declared.call.CallOp.TheVariants.{Update, View}
 use Rattle.snap_index.proofs.BareCalls.{update_from, view_from}
 use Rattle.snap_order.specs.Shown.{ShowsLast}
 use Rattle.snap_order.specs.Stands.{MayStand}
-use Rattle.snap_order.specs.Viewing.{answer_of, answered_by}
 
 pub update_stands : (c : Call) (e : Entry) (last : List (Option Entry)) (latest : ℕ) → bare_op c.operation ≡ Update e → is_before c.ended latest ≡ false → MayStand c last latest
 unfolding is_update is_view

@@ -4,5 +4,5 @@ pub mod Keys
 pub mod Numbers
 pub mod Shown
 pub mod Stands
-pub mod Viewing
+pub mod Chains
 pub mod Laws

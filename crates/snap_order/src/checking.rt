@@ -7,7 +7,6 @@ ghost use Rattle.snap_order.specs.Numbers.{IsLegalList};
 ghost use Rattle.snap_order.specs.Stands.{MayStand, SeesCompleted};
 
 use crate::last_entries::LastEntries;
-use crate::viewing::answer;
 use snap_index::{CallOp, Index};
 use std::alloc::{AllocError, Global};
 
@@ -56,7 +55,7 @@ fn may_stand(index: &Index<'_>, number: u32, last: &LastEntries, latest: u32) ->
     }
     match call.op {
         CallOp::Update(_) => true,
-        CallOp::View => match answer(index, number) {
+        CallOp::View => match index.answer(number) {
             Some(view) => last.are_shown_by(view),
             None => false,
         },

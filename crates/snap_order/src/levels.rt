@@ -1,67 +1,82 @@
-ghost use Rattle.std.specs.Prelude.{◌≡◌, ◌<◌, ◌≤◌, ◌+◌, ◌*◌, ◌&&◌, not, nat_lt, nat_le, length, count_by};
-ghost use Rattle.std.specs.List.{list_any};
-ghost use Rattle.snap_core.specs.Entries.{AreEntries};
-ghost use Rattle.snap_core.specs.Events.{IsKept};
-ghost use Rattle.snap_core.specs.Calls.{calls_of, call_numbered, views_of, entries_of, shown_number};
+ghost use Rattle.std.specs.Prelude.{◌≡◌, ◌<◌, ◌≤◌, length, nat_lt, count_by, IfOk};
+ghost use Rattle.std.specs.List.Sorted.{IsNonDecreasingBy};
+ghost use Rattle.snap_core.specs.Events.{IsKept, event_limit};
+ghost use Rattle.snap_core.specs.Calls.{calls_of, call_numbered, views_of, shown_number};
+ghost use Rattle.snap_conditions.specs.Faults.{HasNoFault};
 ghost use Rattle.snap_order.specs.Keys.{rank_of};
 ghost use Rattle.snap_order.specs.Levels.{update_level as spec_update_level};
-ghost use Rattle.snap_order.specs.Viewing.{view_at, shows_more as spec_shows_more};
+ghost use Rattle.snap_order.specs.Chains.{view_at, sum_shown, IsChain};
 
-use crate::viewing::answer;
 use snap_core::{Entry, View};
 use snap_index::{CallOp, Index};
+use std::alloc::{AllocError, Global};
+
+// The completed views as a chain, each by the sum of its numbers and its place. Without a fault one of any two views
+// shows no more than the other, so a sort by the sums makes it.
+pub(crate) fn chain(alloc: Global, index: &Index<'_>) -> Result<Vec<(u64, u32)>, AllocError>
+    requires kept { IsKept index.now }
+    requires no_fault { HasNoFault (calls_of index.now) }
+    ensures { IfOk result (λ chain. IsChain (calls_of index.now) chain.items) }
+{
+    let mut chain = Vec::new(alloc);
+    for place in 0..index.view_count() {
+        if let Some(view) = index.view(place) {
+            chain.push((view_sum(view), place))?;
+        }
+    }
+    chain.sort_unstable();
+    Ok(chain)
+}
+
+// The sum of the numbers that a view shows.
+fn view_sum(view: &View) -> u64
+    ensures { result ≡ sum_shown view.now }
+{
+    view.entries()
+        .iter()
+        .map(|entry| u64::from(entry.number))
+        .sum()
+}
 
 // The rank of a printed call: twice its level, and one more for a view.
-pub(crate) fn printed_rank(index: &Index<'_>, number: u32) -> Option<u32>
+pub(crate) fn printed_rank(index: &Index<'_>, chain: &[(u64, u32)], number: u32) -> Option<u32>
     requires kept { IsKept index.now }
+    requires chain { IsChain (calls_of index.now) chain.now }
     requires number { number < length (calls_of index.now) }
     ensures { let calls = calls_of index.now in result ≡ rank_of calls (call_numbered calls number) }
 {
     let call = index.call(number)?;
     match call.op {
         CallOp::Update(entry) => {
-            if call.ended.is_some() || is_shown(index, entry) {
-                Some(2 * update_level(index, entry))
-            } else {
-                None
-            }
+            let level = update_level(index, chain, entry);
+            // a pending update is printed where some completed view shows its number or a later one
+            let is_printed = call.ended.is_some() || level < index.view_count();
+            is_printed.then_some(2 * level)
         }
-        CallOp::View => match answer(index, number) {
-            Some(view) => Some(2 * view_level(index, view) + 1),
-            None => None,
-        },
+        CallOp::View => {
+            let view = index.answer(number)?;
+            Some(2 * view_level(chain, view) + 1)
+        }
     }
 }
 
 // How many completed views show an earlier number than the entry's of its component, or none.
-fn update_level(index: &Index<'_>, entry: Entry) -> u32
+fn update_level(index: &Index<'_>, chain: &[(u64, u32)], entry: Entry) -> u32
+    requires kept { IsKept index.now }
+    requires chain { IsChain (calls_of index.now) chain.now }
     ensures level { result ≡ spec_update_level (calls_of index.now) entry }
     ensures few { result ≤ length (views_of (calls_of index.now)) }
 {
-    let mut level = 0;
-    for place in 0..index.view_count() {
-        if shown_at(index, place, entry.component) < entry.number {
-            level += 1;
-        }
-    }
-    level
-}
-
-// Whether some completed view shows the entry's number of its component, or a later one.
-fn is_shown(index: &Index<'_>, entry: Entry) -> bool
-    ensures { result ≡ list_any (λ r. nat_le entry.number (shown_number r entry.component)) (views_of (calls_of index.now)) }
-{
-    for place in 0..index.view_count() {
-        if shown_at(index, place, entry.component) >= entry.number {
-            return true;
-        }
-    }
-    false
+    let Entry {
+        component,
+        number,
+        ..
+    } = entry;
+    chain.partition_point(|(_, place)| shown_at(index, *place, component) < number) as u32
 }
 
 // The number that the completed view at a place shows of a component, 0 where it shows none.
 fn shown_at(index: &Index<'_>, place: u32, component: u8) -> u32
-    requires { place < length (views_of (calls_of index.now)) }
     ensures { result ≡ shown_number (view_at (calls_of index.now) place) component }
 {
     match index.view(place) {
@@ -70,43 +85,12 @@ fn shown_at(index: &Index<'_>, place: u32, component: u8) -> u32
     }
 }
 
-// How many completed views show other numbers than this one, and no greater ones.
-fn view_level(index: &Index<'_>, view: &View) -> u32
-    ensures level { result ≡ count_by (λ s. spec_shows_more view.now (entries_of s.operation)
-        && not (spec_shows_more (entries_of s.operation) view.now)) (views_of (calls_of index.now)) }
-    ensures few { result ≤ length (views_of (calls_of index.now)) }
+// How many views of a chain have a smaller sum than this one.
+fn view_level(chain: &[(u64, u32)], view: &View) -> u32
+    requires few { length chain.now ≤ event_limit }
+    requires sorted { IsNonDecreasingBy (λ at. at.0) chain.now }
+    ensures { result ≡ count_by (λ at. nat_lt at.0 (sum_shown view.now)) chain.now }
 {
-    let mut level = 0;
-    for place in 0..index.view_count() {
-        if is_below(index, place, view) {
-            level += 1;
-        }
-    }
-    level
-}
-
-// Whether the completed view at a place shows other numbers than this one, and no greater ones.
-fn is_below(index: &Index<'_>, place: u32, view: &View) -> bool
-    requires { place < length (views_of (calls_of index.now)) }
-    ensures { let s = view_at (calls_of index.now) place in
-        result ≡ (spec_shows_more view.now (entries_of s.operation)
-        && not (spec_shows_more (entries_of s.operation) view.now)) }
-{
-    match index.view(place) {
-        Some(other) => shows_more(view.entries(), other) && !shows_more(other.entries(), view),
-        None => false,
-    }
-}
-
-// Whether entries show of some component a greater number than a view.
-fn shows_more(entries: &[Entry], other: &View) -> bool
-    requires { AreEntries entries.now }
-    ensures { result ≡ spec_shows_more entries.now other.now }
-{
-    for entry in entries {
-        if other.number(entry.component) < entry.number {
-            return true;
-        }
-    }
-    false
+    let sum = view_sum(view);
+    chain.partition_point(|(other, _)| *other < sum) as u32
 }

@@ -6,7 +6,6 @@ mod last_entries;
 mod law;
 mod levels;
 mod printing;
-mod viewing;
 
 pub use checking::check_order;
 pub use law::{

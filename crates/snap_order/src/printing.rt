@@ -2,11 +2,12 @@ ghost use Rattle.std.specs.Prelude.{◌≡◌, ◌<◌, length, map, IfOk};
 ghost use Rattle.snap_core.specs.Events.{IsKept};
 ghost use Rattle.snap_core.specs.Calls.{calls_of, call_numbered};
 ghost use Rattle.snap_conditions.specs.Faults.{HasNoFault};
+ghost use Rattle.snap_order.specs.Chains.{IsChain};
 ghost use Rattle.snap_order.specs.Keys.{printed_keys, rank_of};
 ghost use Rattle.snap_order.specs.Levels.{printed_order};
 ghost use Rattle.snap_order.specs.Numbers.{IsLegalList};
 
-use crate::levels::printed_rank;
+use crate::levels::{chain, printed_rank};
 use rayon::prelude::*;
 use snap_index::Index;
 use std::alloc::{AllocError, Global};
@@ -16,7 +17,8 @@ use std::thread::Threads;
 /// updates those of which some completed view shows the number or a later one. It is sorted by level; within a level
 /// updates come before views, and then calls by their numbers. It is a legal order.
 ///
-/// The levels are counted side by side in as many threads as the runtime has processors.
+/// The views are sorted once; then each level is a search among them. The searches run side by side in as many threads
+/// as the runtime has processors.
 pub fn build<R: Threads + Sync>(
     rt: &R,
     alloc: Global,
@@ -29,7 +31,8 @@ pub fn build<R: Threads + Sync>(
 {
     // that the events are a history
     let _events = index.event_count();
-    let ranks = ranks(rt, alloc, index)?;
+    let chain = chain(alloc, index)?;
+    let ranks = ranks(rt, alloc, index, &chain)?;
     let mut keys = keys(alloc, index, &ranks)?;
     keys.sort_unstable();
     numbers(alloc, &keys)
@@ -40,17 +43,21 @@ fn ranks<R: Threads + Sync>(
     rt: &R,
     alloc: Global,
     index: &Index<'_>,
+    chain: &[(u64, u32)],
 ) -> Result<Vec<Option<u32>>, AllocError>
-    requires { IsKept index.now }
+    requires kept { IsKept index.now }
+    requires chain { IsChain (calls_of index.now) chain.now }
     ensures { IfOk result (λ ranks. ranks.items ≡ map (rank_of (calls_of index.now)) (calls_of index.now)) }
 {
     (0..index.call_count())
         .into_par_iter()
         .map(
             |number: u32| -> Option<u32>
-                requires { IsKept index.now × (number < length (calls_of index.now)) }
+                requires kept { IsKept index.now }
+                requires chain { IsChain (calls_of index.now) chain.now }
+                requires number { number < length (calls_of index.now) }
                 ensures { result ≡ rank_of (calls_of index.entry.now) (call_numbered (calls_of index.entry.now) number) }
-            { printed_rank(index, number) },
+            { printed_rank(index, chain, number) },
         )
         .with_min_len(1)
         .collect(rt, alloc)

@@ -1,61 +1,10 @@
 use super::*;
-use snap_core::{Entry, Event, History, View};
+use snap_core::{Entry, View};
 use snap_index::{Call, CallOp, Index};
+use snap_testing::worked::{ATOMIC_RUN, SEEN_PENDING, VIEW_BESIDE_UPDATE};
+use snap_testing::{Step, history_of};
 use std::alloc::Global;
 use std::test::Fail;
-
-fn entry(component: u8, number: u32, value: u32) -> Entry {
-    Entry {
-        component,
-        number,
-        value,
-    }
-}
-
-fn begin(process: u16, entry: Entry) -> Event {
-    Event::BeginUpdate { process, entry }
-}
-
-fn end_view(alloc: Global, process: u16, entries: &[Entry]) -> Result<Event, Fail> {
-    let view = View::from_entries(entries.to_vec(alloc)?)?;
-    Ok(Event::EndView { process, view })
-}
-
-// Of two pending updates one is shown.
-fn seen_pending(alloc: Global) -> Result<History, Fail> {
-    let mut history = History::new(alloc);
-    history.push(begin(0, entry(0, 1, 3)))?;
-    history.push(begin(1, entry(1, 1, 4)))?;
-    history.push(Event::BeginView { process: 2 })?;
-    history.push(end_view(alloc, 2, &[entry(0, 1, 3)])?)?;
-    Ok(history)
-}
-
-// A view beside an update that it does not show.
-fn view_before_update(alloc: Global) -> Result<History, Fail> {
-    let mut history = History::new(alloc);
-    history.push(begin(0, entry(0, 1, 3)))?;
-    history.push(Event::BeginView { process: 1 })?;
-    history.push(end_view(alloc, 1, &[])?)?;
-    history.push(Event::EndUpdate { process: 0 })?;
-    Ok(history)
-}
-
-// Five calls of four processes, all ended.
-fn atomic_run(alloc: Global) -> Result<History, Fail> {
-    let mut history = History::new(alloc);
-    history.push(begin(0, entry(0, 1, 10)))?;
-    history.push(Event::EndUpdate { process: 0 })?;
-    history.push(begin(1, entry(1, 1, 20)))?;
-    history.push(Event::BeginView { process: 2 })?;
-    history.push(begin(0, entry(0, 2, 11)))?;
-    history.push(end_view(alloc, 2, &[entry(0, 1, 10)])?)?;
-    history.push(Event::EndUpdate { process: 0 })?;
-    history.push(Event::BeginView { process: 3 })?;
-    history.push(end_view(alloc, 3, &[entry(0, 2, 11), entry(1, 1, 20)])?)?;
-    history.push(Event::EndUpdate { process: 1 })?;
-    Ok(history)
-}
 
 // What the definition of a legal order says, part by part.
 fn is_legal(index: &Index<'_>, order: &[u32]) -> bool {
@@ -134,11 +83,6 @@ fn last_update(index: &Index<'_>, order: &[u32], component: u8) -> Option<Entry>
     last
 }
 
-// The place of a call among the completed views.
-fn view_place(index: &Index<'_>, number: u32) -> Option<u32> {
-    (0..index.view_count()).find(|place| index.view_call(*place) == Some(number))
-}
-
 fn shown_entry(view: &View, component: u8) -> Option<Entry> {
     view.entries()
         .iter()
@@ -146,15 +90,21 @@ fn shown_entry(view: &View, component: u8) -> Option<Entry> {
         .find(|entry| entry.component == component)
 }
 
+// Whether a view shows of each component the last update of an order.
+fn shows_board(index: &Index<'_>, view: &View, before: &[u32]) -> bool {
+    for component in 0..3 {
+        if shown_entry(view, component) != last_update(index, before, component) {
+            return false;
+        }
+    }
+    true
+}
+
 fn shows_last_updates(index: &Index<'_>, order: &[u32]) -> bool {
-    for i in 0..order.len() {
-        if let Some(place) = view_place(index, order[i]) {
-            if let Some(view) = index.view(place) {
-                for component in 0..3 {
-                    if shown_entry(view, component) != last_update(index, &order[..i], component) {
-                        return false;
-                    }
-                }
+    for place in 0..order.len() {
+        if let Some(view) = index.answer(order[place]) {
+            if !shows_board(index, view, &order[..place]) {
+                return false;
             }
         }
     }
@@ -163,7 +113,7 @@ fn shows_last_updates(index: &Index<'_>, order: &[u32]) -> bool {
 
 #[test]
 fn of_two_pending_updates_the_one_that_was_seen_is_printed(rt: HostRuntime) -> Result<(), Fail> {
-    let history = seen_pending(rt.alloc())?;
+    let history = history_of(rt.alloc(), SEEN_PENDING)?;
     let index = Index::build(rt.alloc(), &history)?;
     assert!(rt; check_order(rt.alloc(), &index, &[0, 2])?);
     assert_eq!(rt;
@@ -175,7 +125,7 @@ fn of_two_pending_updates_the_one_that_was_seen_is_printed(rt: HostRuntime) -> R
 
 #[test]
 fn a_view_is_printed_before_an_update_that_it_does_not_show(rt: HostRuntime) -> Result<(), Fail> {
-    let history = view_before_update(rt.alloc())?;
+    let history = history_of(rt.alloc(), VIEW_BESIDE_UPDATE)?;
     let index = Index::build(rt.alloc(), &history)?;
     assert!(rt; check_order(rt.alloc(), &index, &[1, 0])?);
     assert_eq!(rt;
@@ -187,7 +137,7 @@ fn a_view_is_printed_before_an_update_that_it_does_not_show(rt: HostRuntime) -> 
 
 #[test]
 fn five_calls_are_printed_by_level_kind_and_number(rt: HostRuntime) -> Result<(), Fail> {
-    let history = atomic_run(rt.alloc())?;
+    let history = history_of(rt.alloc(), ATOMIC_RUN)?;
     let index = Index::build(rt.alloc(), &history)?;
     assert!(rt; check_order(rt.alloc(), &index, &[0, 2, 1, 3, 4])?);
     assert_eq!(rt;
@@ -201,7 +151,7 @@ fn five_calls_are_printed_by_level_kind_and_number(rt: HostRuntime) -> Result<()
 fn an_order_has_each_completed_call_once_and_pending_updates_at_will(
     rt: HostRuntime,
 ) -> Result<(), Fail> {
-    let history = seen_pending(rt.alloc())?;
+    let history = history_of(rt.alloc(), SEEN_PENDING)?;
     let index = Index::build(rt.alloc(), &history)?;
     assert!(rt; check_order(rt.alloc(), &index, &[0, 2])?);
     assert!(rt; check_order(rt.alloc(), &index, &[0, 2, 1])?);
@@ -217,7 +167,7 @@ fn an_order_has_each_completed_call_once_and_pending_updates_at_will(
 fn a_view_stands_where_the_updates_before_it_are_those_that_it_shows(
     rt: HostRuntime,
 ) -> Result<(), Fail> {
-    let history = view_before_update(rt.alloc())?;
+    let history = history_of(rt.alloc(), VIEW_BESIDE_UPDATE)?;
     let index = Index::build(rt.alloc(), &history)?;
     assert!(rt; check_order(rt.alloc(), &index, &[1, 0])?);
     assert!(rt; !check_order(rt.alloc(), &index, &[0, 1])?);
@@ -226,7 +176,7 @@ fn a_view_stands_where_the_updates_before_it_are_those_that_it_shows(
 
 #[test]
 fn orders_of_all_calls_are_checked_by_precedence_and_views(rt: HostRuntime) -> Result<(), Fail> {
-    let history = atomic_run(rt.alloc())?;
+    let history = history_of(rt.alloc(), ATOMIC_RUN)?;
     let index = Index::build(rt.alloc(), &history)?;
     let orders = [
         ([0, 2, 1, 3, 4], true),
@@ -255,8 +205,9 @@ fn digits(alloc: Global, number: u32, length: usize) -> Result<Vec<u32>, Fail> {
 }
 
 // How many lists of up to four numbers below 6 are legal by the check; none where the definition says otherwise of one.
-fn legal_lists(alloc: Global, history: &History) -> Result<Option<u32>, Fail> {
-    let index = Index::build(alloc, history)?;
+fn legal_lists(alloc: Global, steps: &[Step<'_>]) -> Result<Option<u32>, Fail> {
+    let history = history_of(alloc, steps)?;
+    let index = Index::build(alloc, &history)?;
     let mut legal = 0u32;
     for (length, count) in [(0, 1), (1, 6), (2, 36), (3, 216), (4, 1296)] {
         for number in 0..count {
@@ -274,8 +225,8 @@ fn legal_lists(alloc: Global, history: &History) -> Result<Option<u32>, Fail> {
 #[test]
 fn the_check_agrees_with_the_definition_on_all_short_lists(rt: HostRuntime) -> Result<(), Fail> {
     let alloc = rt.alloc();
-    assert_eq!(rt; legal_lists(alloc, &seen_pending(alloc)?)?, Some(2));
-    assert_eq!(rt; legal_lists(alloc, &view_before_update(alloc)?)?, Some(1));
-    assert_eq!(rt; legal_lists(alloc, &atomic_run(alloc)?)?, Some(0));
+    assert_eq!(rt; legal_lists(alloc, SEEN_PENDING)?, Some(2));
+    assert_eq!(rt; legal_lists(alloc, VIEW_BESIDE_UPDATE)?, Some(1));
+    assert_eq!(rt; legal_lists(alloc, ATOMIC_RUN)?, Some(0));
     Ok(())
 }

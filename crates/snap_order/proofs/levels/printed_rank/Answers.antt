@@ -1,55 +1,60 @@
-use Rattle.std.proofs.Common.{◌≡◌, ◌||◌, ◌+◌, ◌*◌, true, false, Some, sym, ap, ◌∙◌, arith}
-use Rattle.std.specs.Prelude.{is_some, nat_le}
+use Rattle.std.proofs.Common.{◌≡◌, ◌≤◌, ◌||◌, ◌+◌, ◌*◌, cond, Some, None, length, sym, ap, ◌∙◌, arith}
+use Rattle.std.specs.Prelude.{is_some, nat_lt, nat_le}
 use Rattle.std.specs.List.{list_any}
 use Rattle.snap_core.specs.Calls.{calls_of, call_numbered, views_of, shown_number, nobody}
+use Rattle.snap_conditions.proofs.Ranges.{few_views}
 use Rattle.snap_index.specs.Bare.{bare}
 use Rattle.snap_index.specs.declared.call.Call.{Call}
-use Rattle.snap_order.proofs.Places.{found}
-use Rattle.snap_order.proofs.Ranking.{rank_fits, word_fits, update_rank, view_rank, no_rank, by_end, by_view}
+use Rattle.snap_index.proofs.BareCalls.{numbered_there}
+use Rattle.snap_order.proofs.Places.{found, answer_at}
+use Rattle.snap_order.proofs.Ranking.{rank_fits, word_fits, update_rank, view_rank, answered_view, no_rank, by_end, by_view, then_some_is}
+use Rattle.snap_order.proofs.Searches.{chained, chain_length, place_within, shown_by_level, view_place}
 use Rattle.snap_order.proofs.levels.printed_rank.Goals as goal
-use Rattle.snap_order.proofs.levels.printed_rank.Goals.{then-is_some, else-is_some}
+use Rattle.snap_order.proofs.levels.printed_rank.Goals.{After-view_level, then-is_some, else-is_some}
+
+pub overflow_mul-level : goal.overflow_mul-level
+overflow_mul-level c = word_fits (2 * c.update_level-level.result) (let l = rank_fits c.args.index.now c.update_level-level.result c.requires.kept c.update_level-level.ensures.few in omega (arith, l))
+
+pub returns-after-is_some : goal.returns-after-is_some
+returns-after-is_some c =
+    let calls = calls_of c.args.index.now in
+    let call = call_numbered calls c.args.number in
+    let entry = c.in-Update.entry in
+    let bare_call = found bare calls c.args.number nobody c.in_ok-call.call.now c.requires.number c.in_ok-call.ensures in
+    let ended = ap (λ (z : Call). z.ended) bare_call in
+    let any = list_any (λ r. nat_le entry.number (shown_number r entry.component)) (views_of calls) in
+    let printed : (is_some call.ended || any) ≡ c.if-is_some.is_printed = elim c.if-is_some.branch [
+      | then-is_some w ↦ by_end c.in_ok-call.call.now.ended call.ended any c.if-is_some.is_printed c.is_some.result ended c.is_some.ensures w.if-is_some.true w.is_printed-is
+      | else-is_some w ↦
+          let seen = ap (λ n. nat_lt n w.view_count.result) c.update_level-level.ensures.level ∙ ap (nat_lt _) w.view_count.ensures ∙ sym (shown_by_level calls entry) in
+          by_view c.in_ok-call.call.now.ended call.ended any c.if-is_some.is_printed c.is_some.result ended c.is_some.ensures w.if-is_some.false (w.is_printed-is ∙ seen)
+    ] in
+    c.then_some.ensures ∙ then_some_is c.if-is_some.is_printed (2 * c.update_level-level.result)
+    ∙ ap (λ z. cond c.if-is_some.is_printed (Some (2 * z)) None) c.update_level-level.ensures.level
+    ∙ update_rank calls call entry c.if-is_some.is_printed (sym (ap (λ (z : Call). z.op) bare_call) ∙ c.in-Update.is) printed
+
+pub view_level-requires-clause-few : goal.view_level-requires-clause-few
+view_level-requires-clause-few c = omega (arith, chain_length (calls_of c.args.index.now) c.args.chain.now c.requires.chain, few_views c.args.index.now c.requires.kept)
+
+few : (c : After-view_level) → c.view_level.result ≤ length (views_of (calls_of c.args.index.now))
+few c = place_within (calls_of c.args.index.now) c.args.chain.now c.requires.chain _ c.view_level.result c.view_level.ensures
 
 pub overflow_mul-result : goal.overflow_mul-result
-overflow_mul-result c = word_fits (2 * c.update_level.result) (let l = rank_fits c.args.index.now c.update_level.result c.requires.kept c.update_level.ensures.few in omega (arith, l))
-
-pub overflow_mul-result-in-Some : goal.overflow_mul-result-in-Some
-overflow_mul-result-in-Some c = word_fits (2 * c.view_level.result) (let l = rank_fits c.args.index.now c.view_level.result c.requires.kept c.view_level.ensures.few in omega (arith, l))
+overflow_mul-result c = word_fits (2 * c.view_level.result) (let l = rank_fits c.args.index.now c.view_level.result c.requires.kept (few c) in omega (arith, l))
 
 pub overflow_add-result : goal.overflow_add-result
-overflow_add-result c = word_fits (2 * c.view_level.result + 1) (rank_fits c.args.index.now c.view_level.result c.requires.kept c.view_level.ensures.few)
+overflow_add-result c = word_fits (2 * c.view_level.result + 1) (rank_fits c.args.index.now c.view_level.result c.requires.kept (few c))
 
-pub returns-then-is_shown : goal.returns-then-is_shown
-returns-then-is_shown c =
+pub returns-in_ok-view-in-View : goal.returns-in_ok-view-in-View
+returns-in_ok-view-in-View c =
     let calls = calls_of c.args.index.now in
     let call = call_numbered calls c.args.number in
     let bare_call = found bare calls c.args.number nobody c.in_ok-call.call.now c.requires.number c.in_ok-call.ensures in
-    let ended = ap (λ (z : Call). z.ended) bare_call in
-    let any = list_any (λ r. nat_le c.in-Update.entry.number (shown_number r c.in-Update.entry.component)) (views_of calls) in
-    let shown : (is_some call.ended || any) ≡ c.if-is_some.value = elim c.if-is_some.branch [
-      | then-is_some w ↦ by_end c.in_ok-call.call.now.ended call.ended any c.if-is_some.value c.is_some.result ended c.is_some.ensures w.if-is_some.true w.value-is
-      | else-is_some w ↦ by_view c.in_ok-call.call.now.ended call.ended any c.if-is_some.value c.is_some.result w.is_shown.result ended c.is_some.ensures w.if-is_some.false w.is_shown.ensures w.value-is
-    ] in
-    ap (λ z. Some (2 * z)) c.update_level.ensures.level ∙ update_rank calls call c.in-Update.entry true (sym (ap (λ (z : Call). z.op) bare_call) ∙ c.in-Update.is) (shown ∙ c.if-is_shown.true)
+    let shows = answered_view call c.in_ok-view-in-View.view.now (sym (ap (λ (z : Call). z.op) bare_call) ∙ c.in-View.is) (c.in_ok-view-in-View.ensures ∙ answer_at calls c.args.number c.requires.number) in
+    view_rank calls call c.in_ok-view-in-View.view.now c.view_level.result shows
+    (c.view_level.ensures ∙ view_place calls c.args.chain.now (chained c.args.index.now c.requires.kept c.args.chain.now c.requires.chain) c.requires.chain call c.in_ok-view-in-View.view.now (numbered_there calls c.args.number c.requires.number) shows)
 
-pub returns-else-is_shown : goal.returns-else-is_shown
-returns-else-is_shown c =
-    let calls = calls_of c.args.index.now in
-    let call = call_numbered calls c.args.number in
-    let bare_call = found bare calls c.args.number nobody c.in_ok-call.call.now c.requires.number c.in_ok-call.ensures in
-    let ended = ap (λ (z : Call). z.ended) bare_call in
-    let any = list_any (λ r. nat_le c.in-Update.entry.number (shown_number r c.in-Update.entry.component)) (views_of calls) in
-    let shown : (is_some call.ended || any) ≡ c.if-is_some.value = elim c.if-is_some.branch [
-      | then-is_some w ↦ by_end c.in_ok-call.call.now.ended call.ended any c.if-is_some.value c.is_some.result ended c.is_some.ensures w.if-is_some.true w.value-is
-      | else-is_some w ↦ by_view c.in_ok-call.call.now.ended call.ended any c.if-is_some.value c.is_some.result w.is_shown.result ended c.is_some.ensures w.if-is_some.false w.is_shown.ensures w.value-is
-    ] in
-    update_rank calls call c.in-Update.entry false (sym (ap (λ (z : Call). z.op) bare_call) ∙ c.in-Update.is) (shown ∙ c.if-is_shown.false)
-
-pub returns-in-Some : goal.returns-in-Some
-returns-in-Some c =
+pub returns-in_err-view-in-View : goal.returns-in_err-view-in-View
+returns-in_err-view-in-View c =
     let bare_call = found bare (calls_of c.args.index.now) c.args.number nobody c.in_ok-call.call.now c.requires.number c.in_ok-call.ensures in
-    view_rank (calls_of c.args.index.now) (call_numbered (calls_of c.args.index.now) c.args.number) c.in-Some.view.now c.view_level.result (sym (ap (λ (z : Call). z.op) bare_call) ∙ c.in-View.is) c.in-Some.ensures c.view_level.ensures.level
-
-pub returns-in-None : goal.returns-in-None
-returns-in-None c =
-    let bare_call = found bare (calls_of c.args.index.now) c.args.number nobody c.in_ok-call.call.now c.requires.number c.in_ok-call.ensures in
-    no_rank (calls_of c.args.index.now) (call_numbered (calls_of c.args.index.now) c.args.number) (sym (ap (λ (z : Call). z.op) bare_call) ∙ c.in-View.is) c.in-None.ensures
+    c.from_residual-in_err-view-in-View.ensures ∙ no_rank (calls_of c.args.index.now) (call_numbered (calls_of c.args.index.now) c.args.number) (sym (ap (λ (z : Call). z.op) bare_call) ∙ c.in-View.is) (c.in_err-view-in-View.ensures ∙ answer_at (calls_of c.args.index.now) c.args.number c.requires.number)

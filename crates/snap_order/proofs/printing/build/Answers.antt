@@ -16,7 +16,7 @@ returns-clause-printed g c =
     let f = are_calls c.args.index.now c.event_count-events.ensures.kept.history in
     let same = subst (λ z. IsPermutation z c.sort_unstable.new.self.items) c.in_ok-keys.ensures c.sort_unstable.ensures.permutation in
     let given = keys_give_order calls f c.sort_unstable.new.self.items (sorted_keys calls f c.sort_unstable.new.self.items same c.sort_unstable.ensures.sorted) in
-    IfOk-then c.numbers.result _ _ c.numbers.ensures (λ v h. h ∙ ap (map (λ (k : ℕ × ℕ). k.1)) c.deref-2.ensures.value ∙ given)
+    IfOk-then c.numbers.result _ _ c.numbers.ensures (λ v h. h ∙ ap (map (λ (k : ℕ × ℕ). k.1)) c.deref-3.ensures.value ∙ given)
 
 pub returns-clause-legal : goal.returns-clause-legal
 returns-clause-legal g c =

@@ -22,7 +22,7 @@ collect-requires-clause-ready g c κs within =
     let ends = c.into_par_iter.ensures in
     let n = length (calls_of c.args.index.now) in
     let inside = nat_range-All (λ i. i < n) 0 n (λ i low high. high) in
-    rw (c.with_min_len.ensures.base, c.map.ensures.base, c.map.ensures.f, ends.0, ends.1, c.call_count.ensures) (λ k d lt. ((c.requires, inside k d lt), λ y p. tt))
+    rw (c.with_min_len.ensures.base, c.map.ensures.base, c.map.ensures.f, ends.0, ends.1, c.call_count.ensures) (λ k d lt. ((c.requires.kept, (c.requires.chain, inside k d lt)), λ y p. tt))
 
 pub returns : goal.returns
 returns g c =
