@@ -1,7 +1,7 @@
 -- What the claims that were joined had drawn.
 use Rattle.std.proofs.Common.{◌≡◌, ℕ, zero, suc, ◌+◌, ◌<◌, ◌≤◌, List, [], ◌∷◌, ◌++◌, length, get_or, All, refl, ap, arith}
-use Rattle.snap_pairs.specs.Draws.{total}
-use Rattle.snap_pairs.proofs.Totals.{total-append}
+use Rattle.snap_core.specs.Sums.{total}
+use Rattle.snap_core.proofs.Sums.{total-append}
 
 module _ {A : Type 0} where
   pub all_front : (P : A → Type 0) (xs : List A) (x : A) → All P (xs ++ x ∷ []) → All P xs

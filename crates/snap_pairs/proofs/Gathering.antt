@@ -2,12 +2,12 @@
 use Rattle.std.proofs.Common.{◌≡◌, ℕ, zero, suc, ◌<◌, Bool, true, false, cond, List, [], ◌∷◌, ◌++◌, Option, Some, None, All, MatchOption, length, get_or, set, sym, refl, ap, ◌∙◌, subst, ⊎_elim, inl, inr, arith, take, drop}
 use Rattle.std.specs.Prelude.{map, is_some, filter, nat_lt, Any}
 use Rattle.std.proofs.lemmas.List.{take-append-le, take_all, get_or-set_same, get_or-set_other, length-set}
-use Rattle.std.proofs.lemmas.List.Elements.{All-append, All-head, All-tail}
+use Rattle.std.proofs.lemmas.List.Elements.{All-push, All-weaker, All-head, All-tail}
 use Rattle.std.proofs.lemmas.Bool.{cases_eq, cases_lt, ne_eqb}
 use Rattle.std.proofs.lemmas.Bool.Decides.{eqb_tells, nat_tests}
 use Rattle.snap_core.specs.Calls.{Call}
 use Rattle.snap_conditions.specs.declared.tally.Tally.{Tally}
-use Rattle.snap_pairs.specs.Draws.{total, times, one_if}
+use Rattle.snap_core.specs.Sums.{one_if, times, total}
 use Rattle.snap_pairs.specs.Claiming.{ClaimView, CounterView, IsClaimOf, IsFinished, pieces_of}
 use Rattle.snap_pairs.specs.Pieces.{IsPieceTally, FitSlots, IsFull, IsAnswer}
 use Rattle.snap_pairs.specs.declared.worker.Answer.{Answer}
@@ -49,16 +49,6 @@ full_set p q t slots lt full = ⊎_elim
 pub take_whole : {X : Type 0} (n : ℕ) (xs ys : List X) → length xs ≡ n → take n (xs ++ drop (length xs) ys) ≡ xs
 take_whole n xs ys e = take-append-le n xs (drop (length xs) ys) (omega arith) ∙ take_all n xs (omega arith)
 
-All_one : {X : Type 0} (P : X → Type 0) (x : X) → P x → All P (x ∷ [])
-All_one P x p zero d lt = p
-All_one P x p (suc k) d lt = absurd (omega arith)
-
-pub All_snoc : {X : Type 0} (P : X → Type 0) (xs : List X) (x : X) → All P xs → P x → All P (xs ++ x ∷ [])
-All_snoc P xs x h p = All-append P xs (x ∷ []) h (All_one P x p)
-
-All_weak : {X : Type 0} (P Q : X → Type 0) (xs : List X) → ((x : X) → P x → Q x) → All P xs → All Q xs
-All_weak P Q xs f h k d lt = f (get_or xs k d) (h k d lt)
-
 map_full : (slots : List (Option Tally)) (pairs : List Drawn) → All (λ q. IsFull slots q.piece) pairs → All (IsFull slots) (map (λ (q : Drawn). q.piece) pairs)
 map_full slots [] full k d lt = absurd (omega arith)
 map_full slots (x ∷ xs) full zero d lt = full 0 x (omega arith)
@@ -77,11 +67,11 @@ pub gathered_more : (calls : List Call) (counter : CounterView) (claims : List C
     → FitSlots calls counter.pieces now → ((p : ℕ) → IsFull slots p → IsFull now p) → All (λ q. IsFull now q.piece) a.pairs.items
     → AreGathered calls counter (claims ++ a.claim ∷ []) now
 gathered_more calls counter claims slots now a h is fit kept full = record {
-  of_counter = All_snoc (IsClaimOf counter) claims a.claim h.of_counter is.of_counter;
-  finished = All_snoc IsFinished claims a.claim h.finished is.finished;
+  of_counter = All-push (IsClaimOf counter) claims a.claim h.of_counter is.of_counter;
+  finished = All-push IsFinished claims a.claim h.finished is.finished;
   fit = fit;
-  full = All_snoc (λ claim. All (IsFull now) (pieces_of claim)) claims a.claim
-      (All_weak (λ claim. All (IsFull slots) (pieces_of claim)) (λ claim. All (IsFull now) (pieces_of claim)) claims (λ claim g. All_weak (IsFull slots) (IsFull now) (pieces_of claim) kept g) h.full)
+  full = All-push (λ claim. All (IsFull now) (pieces_of claim)) claims a.claim
+      (All-weaker (λ claim. All (IsFull slots) (pieces_of claim)) (λ claim. All (IsFull now) (pieces_of claim)) (λ claim. All-weaker (IsFull slots) (IsFull now) kept (pieces_of claim)) claims h.full)
       (subst (All (IsFull now)) (sym is.covers) (map_full now a.pairs.items full));
 }
 

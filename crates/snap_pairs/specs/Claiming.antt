@@ -2,7 +2,7 @@
 use Rattle.std.specs.Prelude.{◌≡◌, ◌<◌, ◌≤◌, ◌++◌, ◌∷◌, [], ℕ, List, Any, nat_lt, filter, map}
 use Rattle.std.specs.List.{range_with_len}
 use Rattle.atomic_table.specs.Seated.{TableId}
-use Rattle.snap_pairs.specs.Draws.{total, times}
+use Rattle.snap_core.specs.Sums.{times, total}
 
 -- a counter, and how many pieces and workers its start was given
 pub record CounterView : Type 0 where

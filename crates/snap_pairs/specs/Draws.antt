@@ -1,28 +1,13 @@
 -- Numbers that claims draw from one counter, and the rule of the counter's table.
-use Rattle.std.specs.Prelude.{◌≡◌, ℕ, ◌+◌, ◌-◌, ◌≤◌, ◌==◌, zero, suc, cond, nat_lt, List, [], ◌∷◌, ◌++◌, length, slice_index, Bool}
+use Rattle.std.specs.Prelude.{◌≡◌, ℕ, ◌-◌, ◌≤◌, zero, suc, nat_lt, List, [], ◌∷◌, ◌++◌, length, slice_index}
 use mathlib.Core.Option.{some}
 use lib.ListN.{get_elem?}
 use Rattle.atomic_table.specs.Table.{State, Me, Step}
-
--- f of each element, added up
-abbrev pub total : {A : Type 0} → (A → ℕ) → List A → ℕ
-total f [] = 0
-total f (x ∷ xs) = f x + total f xs
-
-abbrev pub one_if : Bool → ℕ
-one_if b = cond b 1 0
-
--- how often x stands in the list
-abbrev pub times : ℕ → List ℕ → ℕ
-times x xs = total (λ y. one_if (y == x)) xs
+use Rattle.snap_core.specs.Sums.{total, one_if, times, once_below}
 
 -- how many numbers of the list are at or above p
 abbrev pub past : ℕ → List ℕ → ℕ
 past p xs = total (λ y. one_if (nat_lt p (suc y))) xs
-
--- 1 where x is below n, and else 0
-abbrev pub once_below : ℕ → ℕ → ℕ
-once_below x n = one_if (nat_lt x n)
 
 -- the numbers that each of a seat's claims drew, in the order in which it drew them
 abbrev pub Hand : Type 0

@@ -1,7 +1,8 @@
 -- What the fields of a counter and of a claim keep.
 use Rattle.std.specs.Prelude.{◌≡◌, [], ◌∷◌}
 use Rattle.snap_pairs.specs.Claiming.{ClaimView, CounterView}
-use Rattle.snap_pairs.specs.Draws.{past, one_if, first_of}
+use Rattle.snap_core.specs.Sums.{one_if}
+use Rattle.snap_pairs.specs.Draws.{past, first_of}
 use Rattle.snap_pairs.specs.declared.claims.Claim.TheInside as claim
 use Rattle.snap_pairs.specs.declared.claims.Claims.TheInside as claims
 

@@ -1,5 +1,5 @@
 use Rattle.std.proofs.Common.{◌≡◌, ◌+◌, [], length, All}
-use Rattle.snap_pairs.specs.Draws.{total}
+use Rattle.snap_core.specs.Sums.{total}
 use Rattle.snap_pairs.proofs.claims.join_all.Given as goal
 
 abbrev pub invariant-loop-claim : goal.invariant-loop-claim

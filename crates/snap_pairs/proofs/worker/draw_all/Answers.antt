@@ -2,11 +2,11 @@ use Rattle.std.proofs.Common.{◌≡◌, ◌+◌, ◌++◌, ◌∷◌, [], All, 
 use Rattle.std.proofs.lemmas.List.{map_push, length-map}
 use Rattle.snap_core.specs.Calls.{calls_of, views_of}
 use Rattle.snap_conditions.specs.Tally.{tally_of, views_between}
+use Rattle.std.proofs.lemmas.List.Elements.{All-push}
 use Rattle.snap_pairs.specs.Claiming.{pieces_of}
 use Rattle.snap_pairs.specs.Pieces.{IsPieceTally, piece_start, views_in_piece}
 use Rattle.snap_pairs.specs.declared.worker.Drawn.{Drawn}
 use Rattle.snap_pairs.proofs.Finishing.{few_pieces, pieces_more}
-use Rattle.snap_pairs.proofs.Gathering.{All_snoc}
 use Rattle.snap_pairs.proofs.worker.draw_all.Goals as goal
 
 pub overflow_cast-len : goal.overflow_cast-len
@@ -35,7 +35,7 @@ loop-piece-preserved g c =
     record {
       of_counter = drawn.same.0;
       few = drawn.few;
-      tallied = subst (All (λ (pair : Drawn). IsPieceTally calls n pair.piece pair.tally)) (sym pushed) (All_snoc (λ (pair : Drawn). IsPieceTally calls n pair.piece pair.tally) (vec_items c.loop-piece.pairs) (record { piece = p; tally = t }) i.tallied (drawn.piece.0, tallied));
+      tallied = subst (All (λ (pair : Drawn). IsPieceTally calls n pair.piece pair.tally)) (sym pushed) (All-push (λ (pair : Drawn). IsPieceTally calls n pair.piece pair.tally) (vec_items c.loop-piece.pairs) (record { piece = p; tally = t }) i.tallied (drawn.piece.0, tallied));
       covers = ap pieces_of drawn.piece.1 ∙ pieces_more old.pieces p old.drawn (omega (arith, i.of_counter.1, drawn.piece.0)) ∙ ap (λ ps. ps ++ p ∷ []) i.covers
           ∙ sym (map_push (λ (pair : Drawn). pair.piece) (vec_items c.loop-piece.pairs) (record { piece = p; tally = t })) ∙ ap (map (λ (pair : Drawn). pair.piece)) (sym pushed);
     }
