@@ -1,8 +1,7 @@
 //! The lines of an order.
-ghost use Rattle.std.specs.Prelude.{true, ◌≡◌, ◌<◌, ◌++◌, All, OnOk, Some, codes, length, map, slice_get};
+ghost use Rattle.std.specs.Prelude.{true, ◌≡◌, ◌<◌, ◌++◌, All, OnOk, codes, length, map};
 ghost use Rattle.std.specs.List.{flat_map};
-ghost use Rattle.snap_core.specs.Calls.{call_numbered, calls_of, entries_of, is_view, views_of};
-ghost use Rattle.snap_core.specs.Events.{IsKept};
+ghost use Rattle.snap_core.specs.Calls.{call_numbered, calls_of, entries_of, is_view};
 ghost use Rattle.snap_index.specs.Bare.{bare_op};
 ghost use Rattle.snap_report.specs.Lines.{entry_word, line_text, text_of};
 ghost use Rattle.snap_report.specs.Orders.{HasLine, calls_numbered};
@@ -12,29 +11,6 @@ use crate::words::{put_call, put_entry, put_number};
 use snap_core::Entry;
 use snap_index::{CallOp, Index};
 use std::alloc::AllocError;
-
-// The place of a completed view among the completed views.
-fn view_place(index: &Index<'_>, call: u32) -> u32
-    requires kept { IsKept index.now }
-    requires below { call < length (calls_of index.now) }
-    requires view { is_view (call_numbered (calls_of index.now) call) ≡ true }
-    ensures { slice_get (views_of (calls_of index.now)) result ≡ Some (call_numbered (calls_of index.now) call) }
-{
-    let mut low = 0;
-    let mut high = index.view_count();
-    while low < high {
-        let middle = low + (high - low) / 2;
-        let Some(other) = index.view_call(middle) else {
-            unreachable!()
-        };
-        if other < call {
-            low = middle + 1;
-        } else {
-            high = middle;
-        }
-    }
-    low
-}
 
 // Adds the entries of a view, each behind a space.
 fn put_entries(out: &mut Vec<u8>, entries: &[Entry]) -> Result<(), AllocError>
@@ -48,14 +24,13 @@ fn put_entries(out: &mut Vec<u8>, entries: &[Entry]) -> Result<(), AllocError>
 
 // Adds a completed view, from its first word behind the process on.
 fn put_view(out: &mut Vec<u8>, index: &Index<'_>, call: u32) -> Result<(), AllocError>
-    requires kept { IsKept index.now }
     requires below { call < length (calls_of index.now) }
     requires view { is_view (call_numbered (calls_of index.now) call) ≡ true }
     ensures { OnOk result (out.new.items ≡ out.old.items ++ codes " view"
         ++ flat_map (λ entry. codes " " ++ entry_word entry) (entries_of (call_numbered (calls_of index.now) call).operation)) }
 {
     out.extend_from_slice(b" view")?;
-    let Some(view) = index.view(view_place(index, call)) else {
+    let Some(view) = index.answer(call) else {
         unreachable!()
     };
     put_entries(out, view.entries())
@@ -68,7 +43,6 @@ fn put_operation(
     number: u32,
     op: CallOp,
 ) -> Result<(), AllocError>
-    requires kept { IsKept index.now }
     requires line { HasLine (calls_of index.now) number }
     requires op { op ≡ bare_op (call_numbered (calls_of index.now) number).operation }
     ensures { OnOk result (out.new.items ≡ out.old.items
@@ -82,8 +56,7 @@ fn put_operation(
 
 // Adds the line of a call.
 fn put_call_line(out: &mut Vec<u8>, index: &Index<'_>, number: u32) -> Result<(), AllocError>
-    requires kept { IsKept index.now }
-    requires line { HasLine (calls_of index.now) number }
+    requires { HasLine (calls_of index.now) number }
     ensures { OnOk result (out.new.items ≡ out.old.items ++ line_text (call_line (call_numbered (calls_of index.now) number))) }
 {
     let Some(call) = index.call(number) else {
@@ -101,8 +74,7 @@ pub(crate) fn put_order(
     index: &Index<'_>,
     order: &[u32],
 ) -> Result<(), AllocError>
-    requires kept { IsKept index.now }
-    requires lines { All (HasLine (calls_of index.now)) order.now }
+    requires { All (HasLine (calls_of index.now)) order.now }
     ensures { OnOk result (out.new.items ≡ out.old.items ++ text_of (order_lines (calls_numbered (calls_of index.now) order.now))) }
 {
     put_number(out, b"order ", order.len() as u64)?;

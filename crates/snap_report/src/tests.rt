@@ -1,8 +1,8 @@
 use super::*;
 use snap_conditions::{is_atomic, tally_range};
-use snap_core::{Entry, Event, History, View};
 use snap_csv::TextFault;
 use snap_index::Index;
+use snap_testing::{history_of, worked};
 use std::test::Fail;
 
 #[test]
@@ -15,17 +15,7 @@ fn a_refusal_names_the_record_and_its_fault(rt: HostRuntime) -> Result<(), Fail>
 #[test]
 fn a_stale_view_is_reported_with_the_number_that_it_shows(rt: HostRuntime) -> Result<(), Fail> {
     let alloc = rt.alloc();
-    let entry = Entry {
-        component: 0,
-        number: 1,
-        value: 7,
-    };
-    let view = View::from_entries(Vec::new(alloc))?;
-    let mut history = History::new(alloc);
-    history.push(Event::BeginUpdate { process: 0, entry })?;
-    history.push(Event::EndUpdate { process: 0 })?;
-    history.push(Event::BeginView { process: 1 })?;
-    history.push(Event::EndView { process: 1, view })?;
+    let history = history_of(alloc, worked::STALE_VIEW)?;
     let index = Index::build(alloc, &history)?;
     let tally = tally_range(&index, 0, index.view_count());
     assert!(rt; !is_atomic(&tally));

@@ -1,7 +1,6 @@
 ghost use Rattle.std.specs.Prelude.{◌≡◌, ◌++◌, All, IfOk, OnOk, is_some};
 ghost use Rattle.std.specs.Option.{ForSome, option_copied, option_map};
 ghost use Rattle.snap_core.specs.Calls.{calls_of};
-ghost use Rattle.snap_core.specs.Events.{IsKept};
 ghost use Rattle.snap_report.specs.Lines.{line_text};
 ghost use Rattle.snap_report.specs.Orders.{HasLine, calls_numbered};
 ghost use Rattle.snap_report.specs.Reports.{count_line, has_no_fault, report_text, verdict_line};
@@ -15,8 +14,7 @@ use std::alloc::{AllocError, Global};
 
 // Adds the line with the numbers of a history.
 fn put_counts(out: &mut Vec<u8>, index: &Index<'_>) -> Result<(), AllocError>
-    ensures text { OnOk result (out.new.items ≡ out.old.items ++ line_text (count_line index.now)) }
-    ensures kept { IsKept index.now }
+    ensures { OnOk result (out.new.items ≡ out.old.items ++ line_text (count_line index.now)) }
 {
     put_number(out, b"events ", u64::from(index.event_count()))?;
     put_number(out, b" calls ", u64::from(index.call_count()))?;

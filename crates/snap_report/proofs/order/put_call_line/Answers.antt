@@ -14,8 +14,8 @@ returns c =
     let es = c.args.index.now in
     let n = c.args.number in
     let call = call_numbered (calls_of es) n in
-    let is = op_is es n c.in-Some.call.now c.requires.line.below c.in-Some.ensures in
+    let is = op_is es n c.in-Some.call.now c.requires.below c.in-Some.ensures in
     piece_added c.extend_from_slice.result c.extend_from_slice.new.self.items c.put_operation.new.out.items (codes "\n")
     (out ++ line_text (call_line call)) c.extend_from_slice.ensures.items
     (rw (c.in_ok-put_operation.ensures, c.in_ok-put_number.ensures, c.in_ok-put_call.ensures, c.from.ensures)
-    (line_of_call out call n c.in-Some.call.now.process (numbered_calls es n nobody c.requires.line.below) (ap (λ (b : Call). b.process) is)))
+    (line_of_call out call n c.in-Some.call.now.process (numbered_calls es n nobody c.requires.below) (ap (λ (b : Call). b.process) is)))
