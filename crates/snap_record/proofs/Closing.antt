@@ -10,8 +10,9 @@ use Rattle.snap_record.specs.declared.account.Answered.{Answered}
 use Rattle.snap_record.specs.declared.account.Doing.{Doing}
 use Rattle.snap_record.specs.declared.account.Doing.TheVariants.{Idle, Begun, Written, Viewing}
 use Rattle.snap_record.specs.declared.kept.Kept.{Kept}
-use Rattle.snap_record.specs.Calls.{Mem, total, one_if, times, Write, Look, writes_in, looks_in, stamps_in, writes_of, looks_of, stamps_of, latest, in_word}
-use Rattle.snap_record.specs.Rule.{tick_limit, Own, Sees, Core, Held, Boarded, clock, code, words_of, of_desk, once_below, newcomer, newcomers}
+use Rattle.snap_core.specs.Sums.{once_below, one_if, times, total}
+use Rattle.snap_record.specs.Calls.{Mem, Write, Look, writes_in, looks_in, stamps_in, writes_of, looks_of, stamps_of, latest, in_word}
+use Rattle.snap_record.specs.Rule.{tick_limit, Own, Sees, Core, Held, Boarded, clock, code, words_of, of_desk, newcomer, newcomers}
 use Rattle.snap_record.specs.Hands.{Brief, brief, is_idle}
 use Rattle.snap_record.specs.Slots.{ins, slot_brief, brief_of}
 use Rattle.snap_record.specs.Regular.{falling, Settled, AllIn}

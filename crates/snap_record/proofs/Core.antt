@@ -4,9 +4,11 @@ use mathlib.Core.Option.{some}
 use lib.ListN.{get_elem?}
 use Rattle.atomic_table.proofs.Lists.{at_set}
 use Rattle.snap_record.specs.declared.account.Account.{Account}
-use Rattle.snap_record.specs.Calls.{Mem, total, one_if, times, Write, Look, writes_of, looks_of, stamps_of, in_word}
+use Rattle.snap_core.specs.Sums.{one_if, times, total}
+use Rattle.snap_core.proofs.Sums.{total-set}
+use Rattle.snap_record.specs.Calls.{Mem, Write, Look, writes_of, looks_of, stamps_of, in_word}
 use Rattle.snap_record.specs.Rule.{Own, Sees, After, Core, clock}
-use Rattle.snap_record.proofs.Lists.{mem_split, mem_one, total-set, total-none, one_same, one_least, times_none, times-push}
+use Rattle.snap_record.proofs.Lists.{mem_split, mem_one, total-none, one_same, one_least, times_none, times-push}
 use Rattle.snap_record.proofs.Accounts.{look_stamp}
 
 -- the view sees what it saw, where the stores and the word are the same

@@ -17,6 +17,9 @@ pub mod Merging
 pub mod Ordering
 pub mod Pushing
 pub mod Sorting
+pub mod ByWorker
+pub mod Delivering
+pub mod Finishing
 pub mod Scripting
 pub mod Planning
 pub mod Telling

@@ -1,10 +1,12 @@
 -- Lists: what stands in them, sums over them, and what is rising.
-use Rattle.std.proofs.Common.{◌≡◌, ℕ, zero, suc, ◌+◌, ◌<◌, ◌≤◌, ◌≢◌, ◌⊎◌, ◌==◌, List, [], ◌∷◌, ◌++◌, length, set, sym, refl, ap, ◌∙◌, inl, inr, ⊎_elim, arith}
+use Rattle.std.proofs.Common.{◌≡◌, ℕ, zero, suc, ◌+◌, ◌<◌, ◌≤◌, ◌≢◌, ◌⊎◌, ◌==◌, List, [], ◌∷◌, ◌++◌, length, sym, refl, ap, ◌∙◌, inl, inr, ⊎_elim, arith}
 use mathlib.Core.Option.{some, some-injective, some-ne-none}
 use lib.ListN.{get_elem?}
 use Rattle.std.proofs.lemmas.Bool.Decides.{nat_tests}
-use Rattle.snap_record.specs.Calls.{Mem, total, one_if, times, Write, AllNumbered}
-use Rattle.snap_record.specs.Rule.{Rising, Numbered, once_below}
+use Rattle.snap_core.specs.Sums.{once_below, one_if, times, total}
+use Rattle.snap_core.proofs.Sums.{total-append, total-at}
+use Rattle.snap_record.specs.Calls.{Mem, Write, AllNumbered}
+use Rattle.snap_record.specs.Rule.{Rising, Numbered}
 
 module _ {A : Type 0} where
   pub mem_split : (xs ys : List A) (x : A) → Mem x (xs ++ ys) → Mem x xs ⊎ Mem x ys
@@ -27,20 +29,6 @@ module _ {A : Type 0} where
   mem_at (x ∷ xs) zero a e = inl (some-injective _ _ e)
   mem_at (x ∷ xs) (suc i) a e = inr (mem_at xs i a e)
 
-  pub total-append : (f : A → ℕ) (xs ys : List A) → total f (xs ++ ys) ≡ total f xs + total f ys
-  total-append f [] ys = omega arith
-  total-append f (x ∷ xs) ys = let r = total-append f xs ys in omega arith
-
-  pub total-set : (f : A → ℕ) (l : List A) (i : ℕ) (v w : A) → get_elem? l i ≡ some v → total f (set l i w) + f v ≡ total f l + f w
-  total-set f [] i v w e = absurd (some-ne-none v (sym e))
-  total-set f (x ∷ xs) zero v w e = let is : f x ≡ f v = ap f (some-injective x v e) in omega arith
-  total-set f (x ∷ xs) (suc i) v w e = let r = total-set f xs i v w e in omega arith
-
-  pub total-at : (f : A → ℕ) (l : List A) (i : ℕ) (v : A) → get_elem? l i ≡ some v → f v ≤ total f l
-  total-at f [] i v e = absurd (some-ne-none v (sym e))
-  total-at f (x ∷ xs) zero v e = let is : f x ≡ f v = ap f (some-injective x v e) in omega arith
-  total-at f (x ∷ xs) (suc i) v e = let r = total-at f xs i v e in omega arith
-
   -- two places
   pub total-two : (f : A → ℕ) (l : List A) (i j : ℕ) (v w : A) → i ≢ j → get_elem? l i ≡ some v → get_elem? l j ≡ some w → f v + f w ≤ total f l
   total-two f [] i j v w apart e e' = absurd (some-ne-none v (sym e))
@@ -52,10 +40,6 @@ module _ {A : Type 0} where
   pub total-none : (f : A → ℕ) (l : List A) → ((i : ℕ) (v : A) → get_elem? l i ≡ some v → f v ≡ 0) → total f l ≡ 0
   total-none f [] none = refl
   total-none f (x ∷ xs) none = let a = none 0 x refl in let r = total-none f xs (λ i v e. none (suc i) v e) in omega arith
-
-  pub total-le : (f g : A → ℕ) (l : List A) → ((i : ℕ) (v : A) → get_elem? l i ≡ some v → f v ≤ g v) → total f l ≤ total g l
-  total-le f g [] le = omega arith
-  total-le f g (x ∷ xs) le = let a = le 0 x refl in let b = total-le f g xs (λ i v e. le (suc i) v e) in omega arith
 
   -- an element of a list that is one longer
   pub at_push : (xs : List A) (p q : A) (j : ℕ) → get_elem? (xs ++ p ∷ []) j ≡ some q → (get_elem? xs j ≡ some q) ⊎ ((j ≡ length xs) × (p ≡ q))

@@ -10,11 +10,13 @@ use Rattle.snap_record.specs.Rule.{clock}
 use Rattle.snap_record.specs.declared.account.Account.{Account}
 use Rattle.snap_record.specs.declared.account.Answered.{Answered}
 use Rattle.snap_record.specs.declared.record.Record.{Record}
-use Rattle.snap_record.specs.Calls.{Mem, total, one_if, times, stamps_in}
+use Rattle.snap_core.specs.Sums.{one_if, times, total}
+use Rattle.snap_core.proofs.Sums.{total-append}
+use Rattle.snap_record.specs.Calls.{Mem, stamps_in}
 use Rattle.snap_record.specs.Regular.{Settled}
 use Rattle.snap_record.specs.Desks.{record_of, records_in}
 use Rattle.snap_record.specs.History.{stamped_events, put, in_order, Stamped, Merged, all_records, events_in, history_of, AllCompleted, stamps_of_records, HasEachStamp}
-use Rattle.snap_record.proofs.Lists.{mem_split, mem_left, mem_right, one_here, total-append}
+use Rattle.snap_record.proofs.Lists.{mem_split, mem_left, mem_right, one_here}
 use Rattle.snap_record.proofs.Stamps.{Stamp}
 use Rattle.snap_record.proofs.DeskEvents.{desk_events}
 use Rattle.snap_record.proofs.Merging.{InOrder, history, completed, regular}

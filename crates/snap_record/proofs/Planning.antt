@@ -1,5 +1,5 @@
 -- Plans, and what a script leaves in a history.
-use Rattle.std.proofs.Common.{◌≡◌, ℕ, zero, suc, ◌+◌, ◌*◌, ◌≤◌, if◌then◌else◌, List, [], ◌∷◌, length, None, Some, Result, Ok, IfOk, refl, sym, ap, subst, arith, length-append, le-ltb}
+use Rattle.std.proofs.Common.{◌≡◌, ℕ, zero, suc, ◌+◌, ◌*◌, ◌≤◌, if◌then◌else◌, List, [], ◌∷◌, length, get_or, None, Some, refl, sym, ap, subst, arith, length-append, le-ltb}
 use Rattle.snap_core.specs.declared.event.Event.{Event}
 use Rattle.snap_core.specs.Events.{event_limit}
 use Rattle.snap_record.specs.declared.plan.Step.{Step}
@@ -12,7 +12,9 @@ use Rattle.snap_record.specs.declared.record.RecordedOp.TheVariants as Kind
 use Rattle.snap_record.specs.Plans.{steps_in, plan_refusal, round_script, rounds_scripts, IsRun, HasScripts}
 use Rattle.snap_record.specs.Scripts.{IsOpOf, DidScript}
 use Rattle.snap_record.specs.History.{stamped_events, events_in, begin_of, end_of}
-use Rattle.snap_record.specs.Recording.{IsTold}
+use Rattle.snap_record.specs.Delivery.{of_worker}
+use Rattle.snap_record.specs.Recording.{AreFrom, DidScripts, IsTold}
+use Rattle.snap_record.proofs.ByWorker.{counted}
 
 pub none_some : (r : PlanRefusal) → None ≡ Some r → ⊥
 none_some r e = cc
@@ -46,14 +48,20 @@ did_length d [] (r ∷ rs) did = absurd did
 did_length d (s ∷ steps) [] did = absurd did
 did_length d (s ∷ steps) (r ∷ rs) did = ap suc (did_length d steps rs did.1)
 
-pub has_scripts : (plan : List (List Step)) (first second : List Step) (fs ss : List Record) (history : List Event) → plan ≡ first ∷ second ∷ [] → IsTold fs ss history → DidScript 0 first fs → DidScript 1 second ss → HasScripts plan history
-has_scripts plan first second fs ss history is told did did' = subst (λ (p : List (List Step)). HasScripts p history) (sym is) each
-  where
-    each : HasScripts (first ∷ second ∷ []) history
-    each zero = subst (IsRun 0 first) (sym told.zero) (did_run 0 first fs did)
-    each (suc zero) = subst (IsRun 1 second) (sym told.one) (did_run 1 second ss did')
-    each (suc (suc w)) = subst (IsRun (suc (suc w)) []) (sym (told.no_other (suc (suc w)) (omega arith))) tt
+pub has_scripts : (scripts : List (List Step)) (rs : List Record) (history : List Event) → IsTold rs history → DidScripts scripts rs → HasScripts scripts history
+has_scripts scripts rs history told did w = subst (IsRun w (get_or scripts w [])) (sym (told w)) (did_run w (get_or scripts w []) (of_worker w rs) (did w))
 
--- what is known of the value of an `Ok`
-pub ok_of : {T E : Type 0} (P : T → Type 0) (r : Result T E) (x : T) → r ≡ Ok x → IfOk r P → P x
-ok_of P r x is known = subst (λ z. IfOk z P) is known
+-- two workers that did their scripts
+pub did_both : (scripts : List (List Step)) (steps steps' : List Step) (first second rs : List Record) → scripts ≡ steps ∷ steps' ∷ [] → DidScript 0 steps first → DidScript 1 steps' second → AreFrom first second rs → DidScripts scripts rs
+did_both scripts steps steps' first second rs is did did' from = subst (λ (s : List (List Step)). DidScripts s rs) (sym is) each
+  where
+    each : DidScripts (steps ∷ steps' ∷ []) rs
+    each zero = subst (DidScript 0 steps) (sym from.zero) did
+    each (suc zero) = subst (DidScript 1 steps') (sym from.one) did'
+    each (suc (suc w)) = subst (DidScript (suc (suc w)) []) (sym (from.no_other (suc (suc w)) (omega arith))) tt
+
+-- have as many records as steps
+pub both_short : (d d' : ℕ) (steps steps' : List Step) (first second rs : List Record) → DidScript d steps first → DidScript d' steps' second → AreFrom first second rs → 2 * (length steps + length steps') ≤ event_limit → 2 * length rs ≤ event_limit
+both_short d d' steps steps' first second rs did did' from short =
+    let a = did_length d steps first did in let b = did_length d' steps' second did' in
+    let c = counted 2 rs from.no_other in omega (arith, short, a, b, c, ap length from.zero, ap length from.one)

@@ -7,10 +7,12 @@ use Rattle.std.specs.Prelude.{slice_index}
 use Rattle.atomic_table.proofs.Lists.{at_set, at_snoc, set_here, set_else, set_again, at_map}
 use Rattle.atomic_table.specs.Table.{State, Splits, Joins}
 use Rattle.snap_record.specs.declared.account.Account.{Account}
-use Rattle.snap_record.specs.Calls.{Mem, total, one_if, in_word}
+use Rattle.snap_core.specs.Sums.{one_if, total}
+use Rattle.snap_core.proofs.Sums.{total-append, total-at, total-set}
+use Rattle.snap_record.specs.Calls.{Mem, in_word}
 use Rattle.snap_record.specs.Rule.{tick_limit, Core, Held, Boarded, clock, code, words_of, of_desk}
 use Rattle.snap_record.specs.Plays.{only_first, but_first, insert, merge}
-use Rattle.snap_record.proofs.Lists.{mem_one, total-append, total-set, total-at, total-two, at_below, one_here, once_least}
+use Rattle.snap_record.proofs.Lists.{mem_one, total-two, at_below, one_here, once_least}
 
 abbrev pub St : Type 0
 St = State (Unit {0}) (List Account)

@@ -1,12 +1,13 @@
 -- Events that were sorted by their stamps.
-use Rattle.std.proofs.Common.{◌≡◌, ℕ, zero, suc, ◌<◌, ◌≤◌, ◌==◌, List, [], ◌∷◌, length, map, refl, sym, ap, ◌∙◌, subst, inl, inr, arith}
+use Rattle.std.proofs.Common.{◌≡◌, ℕ, zero, suc, ◌+◌, ◌<◌, ◌≤◌, ◌==◌, ◌⊎◌, List, [], ◌∷◌, map, refl, sym, ap, ◌∙◌, subst, inl, inr, arith}
 use Rattle.std.specs.List.{Contains, sum_by}
 use Rattle.std.specs.List.Sorted.{IsPermutation, IsNonDecreasingBy}
 use Rattle.std.proofs.lemmas.List.Sums.{sum_by-cons}
 use Rattle.std.proofs.lemmas.List.Sorted.{Contains-permutation, IsPermutation-sym, sum_by-IsPermutation}
 use Rattle.snap_record.specs.declared.record.Record.{Record}
-use Rattle.snap_record.specs.Calls.{Mem, total, one_if, times}
-use Rattle.snap_record.specs.History.{Stamped, Merged, AreApart, stamped_events}
+use Rattle.snap_core.specs.Sums.{one_if, times, total}
+use Rattle.snap_record.specs.Calls.{Mem}
+use Rattle.snap_record.specs.History.{begin_of, end_of, Stamped, Merged, AreApart, stamped_events}
 use Rattle.snap_record.proofs.Lists.{one_here}
 use Rattle.snap_record.proofs.Listing.{mem_contains}
 use Rattle.snap_record.proofs.Stamps.{Stamp}
@@ -63,12 +64,48 @@ sorted_merged rs es p up few = record {
   only = λ x m. mem_contains (stamped_events rs) x (Contains-permutation es (stamped_events rs) x (IsPermutation-sym (stamped_events rs) es p) (contains_mem es x m));
 }
 
-ones : (es : List Stamp) → total (λ (x : Stamp). 1) es ≡ length es
-ones [] = refl
-ones (x ∷ es) = let r = ones es in omega arith
+-- the events of records in another order
+abbrev begin_stamp : Record → Stamp
+begin_stamp r = (r.begun, begin_of r.process r.op)
 
-pub permuted_length : (xs ys : List Stamp) → IsPermutation xs ys → length ys ≡ length xs
-permuted_length xs ys p =
-    let a = ones xs in let b = ones ys in
-    let c = total_is (λ (x : Stamp). 1) xs in let d = total_is (λ (x : Stamp). 1) ys in
-    let e = sum_by-IsPermutation (λ (x : Stamp). 1) xs ys p in omega arith
+abbrev end_stamp : Record → Stamp
+end_stamp r = (r.ended, end_of r.process r.op)
+
+record_of_event : (rs : List Record) (x : Stamp) → Mem x (stamped_events rs) → (r : Record) × Mem r rs × ((begin_stamp r ≡ x) ⊎ (end_stamp r ≡ x))
+record_of_event [] x m = absurd m
+record_of_event (r ∷ rs) x (inl e) = (r, inl refl, inl e)
+record_of_event (r ∷ rs) x (inr (inl e)) = (r, inl refl, inr e)
+record_of_event (r ∷ rs) x (inr (inr m)) = let k = record_of_event rs x m in (k.0, inr k.1, k.2)
+
+event_of_record : (rs : List Record) (r : Record) (x : Stamp) → Mem r rs → (begin_stamp r ≡ x) ⊎ (end_stamp r ≡ x) → Mem x (stamped_events rs)
+event_of_record [] r x m e = absurd m
+event_of_record (q ∷ rs) r x (inl is) (inl e) = inl (ap begin_stamp is ∙ e)
+event_of_record (q ∷ rs) r x (inl is) (inr e) = inr (inl (ap end_stamp is ∙ e))
+event_of_record (q ∷ rs) r x (inr m) e = inr (inr (event_of_record rs r x m e))
+
+event_moves : (rs qs : List Record) → IsPermutation rs qs → (x : Stamp) → Mem x (stamped_events rs) → Mem x (stamped_events qs)
+event_moves rs qs p x m =
+    let k = record_of_event rs x m in
+    event_of_record qs k.0 x (mem_contains qs k.0 (Contains-permutation rs qs k.0 p (contains_mem rs k.0 k.1))) k.2
+
+pub merged_permuted : (rs qs : List Record) (es : List Stamp) → IsPermutation rs qs → Merged rs es → Merged qs es
+merged_permuted rs qs es p m = record {
+  stamped = m.stamped;
+  all = λ x k. m.all x (event_moves qs rs (IsPermutation-sym rs qs p) x k);
+  only = λ x k. event_moves rs qs p x (m.only x k);
+}
+
+-- how often a stamp stands at the ends of a record
+abbrev at_ends : ℕ → Record → ℕ
+at_ends s r = one_if (r.begun == s) + one_if (r.ended == s)
+
+times_ends : (s : ℕ) (rs : List Record) → times s (map (λ (x : Stamp). x.0) (stamped_events rs)) ≡ total (at_ends s) rs
+times_ends s [] = refl
+times_ends s (r ∷ rs) = let k = times_ends s rs in omega arith
+
+pub apart_permuted : (rs qs : List Record) → IsPermutation rs qs → AreApart (stamped_events qs) → AreApart (stamped_events rs)
+apart_permuted rs qs p few s =
+    let f = few s in
+    let a = times_ends s rs in let b = times_ends s qs in
+    let c = total_is (at_ends s) rs in let d = total_is (at_ends s) qs in
+    let e = sum_by-IsPermutation (at_ends s) rs qs p in omega arith

@@ -1,48 +1,51 @@
 -- The history of two desks' records.
-use Rattle.std.proofs.Common.{◌≡◌, ◌+◌, ◌*◌, ◌≤◌, List, [], ◌∷◌, ◌++◌, length, refl, sym, ap, ◌∙◌, subst, inl, inr, arith, append-nil, length-append}
-use Rattle.snap_core.specs.Events.{events_of, IsHistory, event_limit}
+use Rattle.std.proofs.Common.{◌≡◌, zero, suc, ◌*◌, List, [], ◌∷◌, ◌++◌, length, refl, sym, ap, ◌∙◌, subst, inl, inr, arith}
+use Rattle.std.specs.List.Sorted.{IsPermutation}
+use Rattle.snap_core.specs.Events.{events_of, IsHistory}
 use Rattle.snap_core.specs.Calls.{calls_of}
 use Rattle.snap_core.specs.Regular.{IsRegular}
 use Rattle.snap_record.specs.declared.account.Account.{Account}
 use Rattle.snap_record.specs.declared.record.Record.{Record}
+use Rattle.snap_record.specs.Delivery.{of_worker, AreBelow}
 use Rattle.snap_record.specs.History.{stamped_events, events_in, Merged, AreApart, AllCompleted, all_records}
 use Rattle.snap_record.specs.Recording.{AreSettled, IsTold}
+use Rattle.snap_record.proofs.ByWorker.{by_worker, sorted_out}
 use Rattle.snap_record.proofs.Stamps.{Stamp}
 use Rattle.snap_record.proofs.Merging.{InOrder, history, completed, regular, of_process, of_no_process}
 use Rattle.snap_record.proofs.Ordering.{few_stamps, in_order_of}
+use Rattle.snap_record.proofs.Sorting.{apart_permuted, merged_permuted}
 
-module _ (first second : List Record) (s : AreSettled first second) where
+module _ (all : List Record) (s : AreSettled (of_worker 0 all) (of_worker 1 all)) (below : AreBelow 2 all) where
   abbrev hand : List Account
   hand = s.one_account ∷ s.zero_account ∷ []
 
-  all_are : all_records hand ≡ second ++ first
-  all_are = (λ i. s.one_records i ++ (s.zero_records i ++ [])) ∙ ap (λ l. second ++ l) (append-nil first)
+  by_desk : by_worker 2 all ≡ all_records hand
+  unfolding by_worker
+  by_desk = λ i. sym s.one_records i ++ (sym s.zero_records i ++ [])
 
-  pub apart : AreApart (stamped_events (second ++ first))
-  apart = subst (λ (rs : List Record). AreApart (stamped_events rs)) all_are (few_stamps 2 hand s.settled)
+  permuted : IsPermutation all (all_records hand)
+  permuted = subst (IsPermutation all) by_desk (sorted_out 2 all below)
 
-  pub in_hand : (es : List Stamp) → Merged (second ++ first) es → InOrder hand es
-  in_hand es m = in_order_of hand es (subst (λ (rs : List Record). Merged rs es) (sym all_are) m)
+  pub apart : AreApart (stamped_events all)
+  apart = apart_permuted all (all_records hand) permuted (few_stamps 2 hand s.settled)
 
-  pub told_history : (es : List Stamp) → Merged (second ++ first) es → IsHistory (events_in es)
+  in_hand : (es : List Stamp) → Merged all es → InOrder hand es
+  in_hand es m = in_order_of hand es (merged_permuted all (all_records hand) es permuted m)
+
+  pub told_history : (es : List Stamp) → Merged all es → IsHistory (events_in es)
   told_history es m = history 2 hand es s.settled (in_hand es m)
 
-  pub told_completed : (es : List Stamp) → Merged (second ++ first) es → AllCompleted (calls_of (events_in es))
+  pub told_completed : (es : List Stamp) → Merged all es → AllCompleted (calls_of (events_in es))
   told_completed es m = completed 2 hand es s.settled (in_hand es m)
 
-  pub told_regular : (es : List Stamp) → Merged (second ++ first) es → IsRegular (calls_of (events_in es))
+  pub told_regular : (es : List Stamp) → Merged all es → IsRegular (calls_of (events_in es))
   told_regular es m = regular 2 hand es s.settled (in_hand es m)
 
-  pub told : (es : List Stamp) → Merged (second ++ first) es → IsTold first second (events_in es)
-  told es m = record {
-    zero = ap (λ p. events_of p (events_in es)) (sym s.zero_desk) ∙ of_process 2 hand es s.settled (in_hand es m) s.zero_account (inr (inl refl)) ∙ ap (λ rs. events_in (stamped_events rs)) s.zero_records;
-    one = ap (λ p. events_of p (events_in es)) (sym s.one_desk) ∙ of_process 2 hand es s.settled (in_hand es m) s.one_account (inl refl) ∙ ap (λ rs. events_in (stamped_events rs)) s.one_records;
-    no_other = λ p high. of_no_process 2 hand es s.settled (in_hand es m) p high;
-  }
+  pub told : (es : List Stamp) → Merged all es → IsTold all (events_in es)
+  told es m zero = ap (λ p. events_of p (events_in es)) (sym s.zero_desk) ∙ of_process 2 hand es s.settled (in_hand es m) s.zero_account (inr (inl refl)) ∙ ap (λ rs. events_in (stamped_events rs)) s.zero_records
+  told es m (suc zero) = ap (λ p. events_of p (events_in es)) (sym s.one_desk) ∙ of_process 2 hand es s.settled (in_hand es m) s.one_account (inl refl) ∙ ap (λ rs. events_in (stamped_events rs)) s.one_records
+  told es m (suc (suc p)) = of_no_process 2 hand es s.settled (in_hand es m) (suc (suc p)) (omega arith) ∙ sym (ap (λ rs. events_in (stamped_events rs)) (below (suc (suc p)) (omega arith)))
 
-stamped_length : (rs : List Record) → length (stamped_events rs) ≡ 2 * length rs
+pub stamped_length : (rs : List Record) → length (stamped_events rs) ≡ 2 * length rs
 stamped_length [] = refl
 stamped_length (r ∷ rs) = let l = stamped_length rs in omega arith
-
-pub short_events : (first second : List Record) → 2 * (length first + length second) ≤ event_limit → length (stamped_events (second ++ first)) ≤ event_limit
-short_events first second le = let l = stamped_length (second ++ first) in let a = length-append second first in omega arith

@@ -1,5 +1,5 @@
 -- The calls of an account.
-use Rattle.std.specs.Prelude.{◌≡◌, ℕ, ◌+◌, ◌<◌, ◌⊎◌, Bool, true, false, cond, ◌==◌, List, [], ◌∷◌, ◌++◌}
+use Rattle.std.specs.Prelude.{◌≡◌, ℕ, ◌+◌, ◌<◌, ◌⊎◌, Bool, true, false, List, [], ◌∷◌, ◌++◌}
 use Rattle.snap_record.specs.declared.account.Account.{Account}
 use Rattle.snap_record.specs.declared.account.Answered.{Answered}
 use Rattle.snap_record.specs.declared.account.Answer.{Answer}
@@ -11,17 +11,6 @@ use Rattle.snap_record.specs.declared.account.Doing.TheVariants.{Idle, Begun, Wr
 abbrev pub Mem : {A : Type 0} → A → List A → Type 0
 Mem x [] = ⊥
 Mem x (y ∷ ys) = (y ≡ x) ⊎ Mem x ys
-
-abbrev pub total : {A : Type 0} → (A → ℕ) → List A → ℕ
-total f [] = 0
-total f (x ∷ xs) = f x + total f xs
-
-abbrev pub one_if : Bool → ℕ
-one_if b = cond b 1 0
-
--- how often x stands in the list
-abbrev pub times : ℕ → List ℕ → ℕ
-times x xs = total (λ y. one_if (y == x)) xs
 
 -- a store that is written: `over` where it is answered, and `ended` is 0 where it is not
 pub record Write : Type 0 where

@@ -8,7 +8,8 @@ use Rattle.snap_record.specs.declared.account.Account.{Account}
 use Rattle.snap_record.specs.declared.record.Record.{Record}
 use Rattle.snap_record.specs.declared.record.RecordedOp.{RecordedOp}
 use Rattle.snap_record.specs.declared.record.RecordedOp.TheVariants as Kind
-use Rattle.snap_record.specs.Calls.{Mem, times}
+use Rattle.snap_core.specs.Sums.{times}
+use Rattle.snap_record.specs.Calls.{Mem}
 use Rattle.snap_record.specs.Desks.{records_in}
 
 abbrev pub begin_of : ℕ → RecordedOp → Event

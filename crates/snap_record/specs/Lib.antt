@@ -6,8 +6,12 @@ pub mod Desks
 pub mod Slots
 pub mod Regular
 pub mod History
+pub mod Delivery
+pub mod Relays
+pub mod Ends
 pub mod Refusals
 pub mod Placed
 pub mod Plans
 pub mod Scripts
+pub mod Workers
 pub mod Recording

@@ -8,7 +8,8 @@ use Rattle.snap_record.specs.declared.kept.Kept.{Kept}
 use Rattle.snap_record.specs.declared.board.Closed.{Closed}
 use Rattle.snap_core.specs.declared.entry.Entry.{Entry}
 use Rattle.snap_record.specs.Desks.{records_in, last_stored}
-use Rattle.snap_record.specs.Calls.{Mem, total, times, Write, Look, writes_in, looks_in, stamps_in}
+use Rattle.snap_core.specs.Sums.{times, total}
+use Rattle.snap_record.specs.Calls.{Mem, Write, Look, writes_in, looks_in, stamps_in}
 use Rattle.snap_record.specs.Rule.{Rising, Numbered, clock}
 
 -- n - 1, .., 0

@@ -1,11 +1,12 @@
 -- What holds of the board between any two steps.
-use Rattle.std.specs.Prelude.{◌≡◌, ℕ, ◌+◌, ◌*◌, ◌<◌, ◌≤◌, ◌==◌, zero, suc, true, nat_lt, List, [], ◌∷◌, length, map}
+use Rattle.std.specs.Prelude.{◌≡◌, ℕ, ◌+◌, ◌*◌, ◌<◌, ◌≤◌, ◌==◌, zero, suc, true, List, [], ◌∷◌, length, map}
 use mathlib.Core.Option.{some}
 use lib.ListN.{get_elem?}
 use Rattle.atomic_table.specs.Table.{State}
 use Rattle.snap_record.specs.declared.account.Account.{Account}
 use Rattle.snap_record.specs.declared.account.Doing.TheVariants.{Idle}
-use Rattle.snap_record.specs.Calls.{Mem, total, one_if, times, Write, Look, writes_of, looks_of, stamps_of, in_word}
+use Rattle.snap_core.specs.Sums.{total, one_if, times, once_below}
+use Rattle.snap_record.specs.Calls.{Mem, Write, Look, writes_of, looks_of, stamps_of, in_word}
 
 abbrev pub tick_limit : ℕ
 tick_limit = 1048576
@@ -67,9 +68,6 @@ code p = p.0 * 4294967296 + p.1
 -- the words of the table: the clock, and a word for each desk
 abbrev pub words_of : List Account → List ℕ
 words_of b = clock b ∷ map (λ a. code (in_word a)) b
-
-abbrev pub once_below : ℕ → ℕ → ℕ
-once_below x n = one_if (nat_lt x n)
 
 abbrev pub of_desk : ℕ → List Account → ℕ
 of_desk d v = total (λ a. one_if (a.desk == d)) v

@@ -1,16 +1,20 @@
-//! A board of atomic words whose desks store and collect, and a recorder of what two threads did on it.
+//! A board of atomic words whose desks store and collect, a relay that carries the records of several threads to one, and a
+//! recorder of what two threads did on a board.
 #![tactic(auto)]
 
 mod account;
 mod board;
 mod calls;
+mod delivery;
 mod gather;
 mod kept;
 mod plan;
 mod record;
 mod recorder;
 mod refusals;
+mod relay;
 mod rule;
+mod taking;
 mod timeline;
 mod worker;
 
@@ -21,6 +25,7 @@ pub use plan::{Plan, PlanRefusal, Step, rounds_plan};
 pub use record::{Record, RecordedOp};
 pub use recorder::{RecordRefusal, Recording, record_plan};
 pub use refusals::{CollectRefusal, OpenRefusal, StoreRefusal};
+pub use relay::{Relay, Sender, Taker};
 pub use rule::{BoardRule, Size};
 
 #[cfg(test)]

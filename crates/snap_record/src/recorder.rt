@@ -1,20 +1,25 @@
-ghost use Rattle.std.specs.Prelude.{◌≡◌, ◌+◌, ◌*◌, ◌<◌, ◌≤◌, ◌++◌, [], IfOk, length};
+ghost use Rattle.std.specs.Prelude.{◌≡◌, ◌*◌, ◌≤◌, [], IfOk, length};
 ghost use Rattle.snap_core.specs.Events.{event_limit};
 ghost use Rattle.snap_core.specs.Calls.{calls_of};
 ghost use Rattle.snap_core.specs.Regular.{IsRegular};
+ghost use Rattle.snap_record.specs.Delivery.{of_worker, AreBelow};
 ghost use Rattle.snap_record.specs.Desks.{records, ticks, accounts, IsDeskOf, IsGatheredOf};
 ghost use Rattle.snap_record.specs.History.{AllCompleted};
 ghost use Rattle.snap_record.specs.Plans.{HasScripts};
-ghost use Rattle.snap_record.specs.Scripts.{DidScript};
-ghost use Rattle.snap_record.specs.Recording.{AreSettled, IsTold};
+ghost use Rattle.snap_record.specs.Recording.{AreSettled, DidScripts, IsTold};
+ghost use Rattle.snap_record.specs.Relays.{IsSenderOf, IsTakerOf};
+ghost use Rattle.snap_record.specs.Workers.{IsWorkerOf, IsUnused, HasRun, IsTakenOf};
 
 use crate::board::{Board, Desk, Gathered};
 use crate::plan::{Plan, Step};
 use crate::record::Record;
+use crate::relay::{Relay, Sender, Taker};
+use crate::taking::{Taken, take_all, take_some};
 use crate::timeline::{history_of, in_order};
-use crate::worker::{Ran, run_script};
+use crate::worker::{Ran, Recorder, Worker, run_script};
 use snap_core::{Gate, History};
 use std::alloc::{AllocError, Global};
+use std::sync::Wait;
 use std::thread::{Threads, join};
 
 /// A history that was recorded, and how many scans were left out of it.
@@ -64,65 +69,138 @@ fn close_two(board: Board, gathered: Gathered, zero: Desk, one: Desk)
     };
 }
 
-// Runs both scripts at the same time, the first on the calling thread.
-fn run_both<R: Threads + Sync, G: Gate>(
+/// A relay with its two senders and its taker.
+pub(crate) fn start_two<R: Wait>(
     rt: &R,
     alloc: Global,
-    board: &Board,
-    desks: (Desk, Desk),
+) -> Result<(Relay, Sender, Sender, Taker), AllocError>
+    ensures relay { IfOk result (λ r. r.0.workers ≡ 2) }
+    ensures zero { IfOk result (λ r. IsSenderOf r.0 r.1 × (r.1.place ≡ 0) × (r.1.sent ≡ [])) }
+    ensures one { IfOk result (λ r. IsSenderOf r.0 r.2 × (r.2.place ≡ 1) × (r.2.sent ≡ [])) }
+    ensures taker { IfOk result (λ r. IsTakerOf r.0 r.3 × (r.3.taken ≡ [])) }
+{
+    let (relay, mut senders, taker) = Relay::start(rt, alloc, 2)?;
+    let Some(one) = senders.pop() else {
+        unreachable!()
+    };
+    let Some(zero) = senders.pop() else {
+        unreachable!()
+    };
+    Ok((relay, zero, one, taker))
+}
+
+// Runs the script of worker 0, and then takes records until none comes.
+fn run_first<R: Wait, G: Gate>(
+    rt: &R,
+    alloc: Global,
+    recorder: &Recorder,
+    worker: Worker,
+    taker: Taker,
+    script: &[Step],
+    gate: &G,
+) -> (Ran, Result<Taken, AllocError>)
+    requires worker { IsWorkerOf recorder.now worker × IsUnused worker }
+    requires taker { IsTakerOf recorder.now.relay taker × (taker.taken ≡ []) }
+    requires short { 2 * (length script.now) ≤ event_limit }
+    ensures ran { HasRun recorder.now worker.desk.desk script.now result.0 }
+    ensures taken { IfOk result.1 (IsTakenOf recorder.now.relay) }
+{
+    let ran = run_script(rt, alloc, recorder, worker, script, gate);
+    let taken = take_some(rt, alloc, &recorder.relay, taker);
+    (ran, taken)
+}
+
+// Runs both scripts at the same time, the first on the calling thread, which then takes records until none comes.
+fn run_both<R: Threads + Wait + Sync, G: Gate>(
+    rt: &R,
+    alloc: Global,
+    recorder: &Recorder,
+    workers: (Worker, Worker),
+    taker: Taker,
     scripts: (&[Step], &[Step]),
     gate: &G,
-) -> (Ran, Ran)
-    requires zero { IsDeskOf board.now desks.0 × (records desks.0 ≡ []) × (ticks desks.0 ≡ 0) }
-    requires one { IsDeskOf board.now desks.1 × (records desks.1 ≡ []) × (ticks desks.1 ≡ 0) }
+) -> (Ran, Ran, Result<Taken, AllocError>)
+    requires zero { IsWorkerOf recorder.now workers.0 × IsUnused workers.0 }
+    requires one { IsWorkerOf recorder.now workers.1 × IsUnused workers.1 }
+    requires taker { IsTakerOf recorder.now.relay taker × (taker.taken ≡ []) }
     requires short { (2 * (length scripts.0.now) ≤ event_limit) × (2 * (length scripts.1.now) ≤ event_limit) }
-    ensures zero { IsDeskOf board.now result.0.desk × (result.0.desk.desk ≡ desks.0.desk) }
-    ensures one { IsDeskOf board.now result.1.desk × (result.1.desk.desk ≡ desks.1.desk) }
-    ensures recorded_zero { IfOk result.0.records (λ made. records result.0.desk ≡ made.items) }
-    ensures recorded_one { IfOk result.1.records (λ made. records result.1.desk ≡ made.items) }
-    ensures script_zero { IfOk result.0.records (λ made. DidScript desks.0.desk scripts.entry.0.now made.items) }
-    ensures script_one { IfOk result.1.records (λ made. DidScript desks.1.desk scripts.entry.1.now made.items) }
+    ensures zero { HasRun recorder.now workers.0.desk.desk scripts.entry.0.now result.0 }
+    ensures one { HasRun recorder.now workers.1.desk.desk scripts.entry.1.now result.1 }
+    ensures taken { IfOk result.2 (IsTakenOf recorder.now.relay) }
 {
-    let (zero, one) = desks;
+    let (zero, one) = workers;
     let (first, second) = scripts;
-    let (there, here) = join(
+    let (there, (here, taken)) = join(
         rt,
         move || -> Ran
-            requires { IsDeskOf board.now one × (records one ≡ []) × (ticks one ≡ 0) × (2 * (length second.now) ≤ event_limit) }
-            ensures desk { IsDeskOf board.entry.now result.desk × (result.desk.desk ≡ one.desk) }
-            ensures recorded { IfOk result.records (λ made. records result.desk ≡ made.items) }
-            ensures script { IfOk result.records (λ made. DidScript one.desk second.entry.now made.items) }
-        { run_script(alloc, board, one, second, gate) },
-        move || -> Ran
-            requires { IsDeskOf board.now zero × (records zero ≡ []) × (ticks zero ≡ 0) × (2 * (length first.now) ≤ event_limit) }
-            ensures desk { IsDeskOf board.entry.now result.desk × (result.desk.desk ≡ zero.desk) }
-            ensures recorded { IfOk result.records (λ made. records result.desk ≡ made.items) }
-            ensures script { IfOk result.records (λ made. DidScript zero.desk first.entry.now made.items) }
-        { run_script(alloc, board, zero, first, gate) },
+            requires { IsWorkerOf recorder.now one × IsUnused one × (2 * (length second.now) ≤ event_limit) }
+            ensures { HasRun recorder.entry.now one.desk.desk second.entry.now result }
+        { run_script(rt, alloc, recorder, one, second, gate) },
+        move || -> (Ran, Result<Taken, AllocError>)
+            requires worker { IsWorkerOf recorder.now zero × IsUnused zero × (2 * (length first.now) ≤ event_limit) }
+            requires taker { IsTakerOf recorder.now.relay taker × (taker.taken ≡ []) }
+            ensures ran { HasRun recorder.entry.now zero.desk.desk first.entry.now result.0 }
+            ensures taken { IfOk result.1 (IsTakenOf recorder.entry.now.relay) }
+        { run_first(rt, alloc, recorder, zero, taker, first, gate) },
     );
-    (here, there)
+    (here, there, taken)
+}
+
+// Runs a plan on a new board, and gives the records of all its calls.
+fn run_plan<R: Threads + Wait + Sync, G: Gate>(
+    rt: &R,
+    alloc: Global,
+    plan: &Plan,
+    gate: &G,
+) -> Result<Vec<Record>, AllocError>
+    ensures settled { IfOk result (λ all. AreSettled (of_worker 0 all.items) (of_worker 1 all.items)) }
+    ensures no_other { IfOk result (λ all. AreBelow 2 all.items) }
+    ensures scripts { IfOk result (λ all. DidScripts plan.now all.items) }
+    ensures short { IfOk result (λ all. 2 * length all.items ≤ event_limit) }
+{
+    let (board, gathered, zero, one) = open_two(alloc)?;
+    let (relay, first, second, taker) = start_two(rt, alloc)?;
+    let recorder = Recorder { board, relay };
+    let zero = Worker {
+        desk: zero,
+        sender: first,
+    };
+    let one = Worker {
+        desk: one,
+        sender: second,
+    };
+    let scripts = plan.scripts();
+    let (here, there, taken) = run_both(rt, alloc, &recorder, (zero, one), taker, scripts, gate);
+    let Recorder { board, relay } = recorder;
+    let (zero, one) = (here.worker, there.worker);
+    close_two(board, gathered, zero.desk, one.desk);
+    here.outcome?;
+    there.outcome?;
+    take_all(rt, alloc, relay, (zero.sender, one.sender), taken?)
 }
 
 // The history of the records of both desks of a closed board.
-fn tell(alloc: Global, first: Vec<Record>, second: Vec<Record>) -> Result<History, AllocError>
-    requires settled { AreSettled first.items second.items }
-    requires short { 2 * (length first.items + length second.items) ≤ event_limit }
+fn tell(alloc: Global, all: Vec<Record>) -> Result<History, AllocError>
+    requires settled { AreSettled (of_worker 0 all.items) (of_worker 1 all.items) }
+    requires no_other { AreBelow 2 all.items }
+    requires short { 2 * length all.items ≤ event_limit }
     ensures regular { IfOk result (λ history. IsRegular (calls_of history)) }
     ensures completed { IfOk result (λ history. AllCompleted (calls_of history)) }
-    ensures told { IfOk result (IsTold first.items second.items) }
+    ensures told { IfOk result (IsTold all.items) }
 {
-    let events = in_order(alloc, second, first)?;
+    let events = in_order(alloc, all)?;
     history_of(alloc, events)
 }
 
 /// Records what two workers do on a board of two desks, each the script of its number. Worker 0 runs on the calling
 /// thread, and worker 1 too where no thread can be started. The gate is called as `at(w, t)` when t of worker w's calls
 /// have answered, for t from 0 to the script's length. A worker in which memory is refused ends its script there, and
-/// the answer is then `Memory`.
+/// the answer is then `Memory`. The records come to the calling thread through a relay, so the call may wait for the
+/// relay's queue, as it waits for the workers.
 ///
 /// The history is regular and has no pending call. Worker w is process w in it, with the calls of its script in their
 /// order, each once, and there is no other call.
-pub fn record_plan<R: Threads + Sync, G: Gate>(
+pub fn record_plan<R: Threads + Wait + Sync, G: Gate>(
     rt: &R,
     alloc: Global,
     plan: &Plan,
@@ -133,15 +211,10 @@ pub fn record_plan<R: Threads + Sync, G: Gate>(
     ensures scripts { IfOk result (λ r. HasScripts plan.now r.history) }
     ensures interfered { IfOk result (λ r. r.interfered ≡ 0) }
 {
-    let Ok((board, gathered, zero, one)) = open_two(alloc) else {
+    let Ok(all) = run_plan(rt, alloc, plan, gate) else {
         return Err(RecordRefusal::Memory);
     };
-    let (here, there) = run_both(rt, alloc, &board, (zero, one), plan.scripts(), gate);
-    close_two(board, gathered, here.desk, there.desk);
-    let (Ok(first), Ok(second)) = (here.records, there.records) else {
-        return Err(RecordRefusal::Memory);
-    };
-    match tell(alloc, first, second) {
+    match tell(alloc, all) {
         Ok(history) => Ok(Recording {
             history,
             interfered: 0,

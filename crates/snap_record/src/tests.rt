@@ -1,34 +1,11 @@
 use super::*;
 use snap_core::{Entry, Event, Gate, OpenGate};
+use snap_testing::{Meeting, entry};
 use std::alloc::Global;
 use std::sync::atomic::{AtomicU64, Ordering};
 use std::test::Fail;
-use std::thread;
 
-const TURNS: u32 = 100_000_000;
-
-/// A gate at whose second turn each of two workers waits until both have come.
-#[derive(Drop)]
-struct Meeting {
-    came: AtomicU64,
-    missed: AtomicU64,
-}
-
-impl Gate for Meeting {
-    fn at(&self, _worker: u32, turn: u32) {
-        if turn != 1 {
-            return;
-        }
-        self.came.fetch_add(1, Ordering::SeqCst);
-        for _ in 0..TURNS {
-            if self.came.load(Ordering::SeqCst) >= 2 {
-                return;
-            }
-            thread::yield_now();
-        }
-        self.missed.fetch_add(1, Ordering::SeqCst);
-    }
-}
+mod relay;
 
 /// A gate that counts its calls, each weighed by its worker and its turn.
 #[derive(Drop)]
@@ -43,12 +20,7 @@ impl Gate for Count {
 }
 
 /// Whether the record is of a store of this entry.
-fn is_store(record: &Record, component: u8, number: u32, value: u32) -> bool {
-    let want = Entry {
-        component,
-        number,
-        value,
-    };
+fn is_store(record: &Record, want: Entry) -> bool {
     match &record.op {
         RecordedOp::Stored(entry) => *entry == want,
         RecordedOp::Viewed(_) => false,
@@ -56,12 +28,7 @@ fn is_store(record: &Record, component: u8, number: u32, value: u32) -> bool {
 }
 
 /// Whether the record is of a view that shows just this entry.
-fn is_view(record: &Record, component: u8, number: u32, value: u32) -> bool {
-    let want = Entry {
-        component,
-        number,
-        value,
-    };
+fn is_view(record: &Record, want: Entry) -> bool {
     match &record.op {
         RecordedOp::Stored(_) => false,
         RecordedOp::Viewed(view) => view.entries().len() == 1 && view.entries()[0] == want,
@@ -83,12 +50,12 @@ fn desks_go_out_and_come_in(rt: HostRuntime) -> Result<(), Fail> {
         panic!(rt; "spent")
     };
     assert!(rt; stored.process == 1 && stored.begun == 0 && stored.ended == 1);
-    assert!(rt; is_store(&stored, 1, 1, 9));
+    assert!(rt; is_store(&stored, entry(1, 1, 9)));
     let Ok(viewed) = board.collect(alloc, &mut one) else {
         panic!(rt; "not collected")
     };
     assert!(rt; viewed.process == 1 && viewed.begun == 2 && viewed.ended == 3);
-    assert!(rt; is_view(&viewed, 1, 1, 9));
+    assert!(rt; is_view(&viewed, entry(1, 1, 9)));
     let Err((board, mut gathered)) = board.close(gathered) else {
         panic!(rt; "closed with a desk out")
     };
@@ -105,11 +72,7 @@ fn desks_go_out_and_come_in(rt: HostRuntime) -> Result<(), Fail> {
         panic!(rt; "not closed")
     };
     assert_eq!(rt; closed.desks(), 2);
-    let want = Entry {
-        component: 1,
-        number: 1,
-        value: 9,
-    };
+    let want = entry(1, 1, 9);
     assert!(rt; closed.entry(1) == Some(want));
     assert!(rt; closed.entry(0).is_none() && closed.entry(2).is_none());
     Ok(())
@@ -141,7 +104,7 @@ fn a_desk_is_spent_after_its_last_tick(rt: HostRuntime) -> Result<(), Fail> {
         let Ok(stored) = board.store(&mut desk, 0) else {
             panic!(rt; "spent early")
         };
-        assert!(rt; is_store(&stored, 0, before + 1, 0));
+        assert!(rt; is_store(&stored, entry(0, before + 1, 0)));
     }
     let Err(refusal) = board.store(&mut desk, 0) else {
         panic!(rt; "not spent")
@@ -155,11 +118,7 @@ fn a_desk_is_spent_after_its_last_tick(rt: HostRuntime) -> Result<(), Fail> {
     let Ok(closed) = board.close(gathered) else {
         panic!(rt; "not closed")
     };
-    let want = Entry {
-        component: 0,
-        number: 524_288,
-        value: 0,
-    };
+    let want = entry(0, 524_288, 0);
     assert!(rt; closed.entry(0) == Some(want));
     Ok(())
 }
@@ -214,11 +173,7 @@ fn shows(recording: &Recording, of: u16) -> (bool, bool) {
 
 /// Whether the process begins an update of this entry.
 fn updates(recording: &Recording, of: u16, component: u8, value: u32) -> bool {
-    let want = Entry {
-        component,
-        number: 1,
-        value,
-    };
+    let want = entry(component, 1, value);
     recording.history.events().iter().any(|event| match event {
         Event::BeginUpdate { process, entry } => *process == of && *entry == want,
         _ => false,
@@ -246,15 +201,11 @@ fn two_workers_meet_behind_their_stores(rt: HostRuntime) -> Result<(), Fail> {
     let Some(plan) = two_stores(alloc)? else {
         panic!(rt; "no plan")
     };
-    let gate = Meeting {
-        came: AtomicU64::new(0),
-        missed: AtomicU64::new(0),
-    };
+    let gate = Meeting::at_turn(1);
     let Ok(recording) = record_plan(&rt, alloc, &plan, &gate) else {
         panic!(rt; "no memory")
     };
-    assert_eq!(rt; gate.came.load(Ordering::SeqCst), 2);
-    assert_eq!(rt; gate.missed.load(Ordering::SeqCst), 0);
+    assert!(rt; gate.was_held());
     for process in 0..2 {
         let seen = shows(&recording, process);
         assert!(rt; seen.0 && seen.1);

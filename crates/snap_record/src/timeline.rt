@@ -1,4 +1,4 @@
-ghost use Rattle.std.specs.Prelude.{◌≡◌, ◌≤◌, ◌++◌, ◌∷◌, [], IfOk, OnOk, length};
+ghost use Rattle.std.specs.Prelude.{◌≡◌, ◌≤◌, IfOk, length};
 ghost use Rattle.snap_core.specs.Events.{IsHistory, event_limit};
 ghost use Rattle.snap_record.specs.History.{begin_of, end_of, stamped_events, events_in, Merged, AreApart};
 
@@ -6,17 +6,17 @@ use crate::record::{Record, RecordedOp};
 use snap_core::{Event, EventRefusal, History};
 use std::alloc::{AllocError, Global};
 
-// The begin and the end of a record, each with its stamp.
-fn ends_of(record: Record) -> ((u64, Event), (u64, Event))
-    ensures begin { result.0 ≡ (record.begun, begin_of record.process record.op) }
-    ensures end { result.1 ≡ (record.ended, end_of record.process record.op) }
+// The begin and the end of a call, each with its stamp.
+fn ends_of(call: Record) -> ((u64, Event), (u64, Event))
+    ensures begin { result.0 ≡ (call.begun, begin_of call.process call.op) }
+    ensures end { result.1 ≡ (call.ended, end_of call.process call.op) }
 {
     let Record {
         process,
         begun,
         ended,
         op,
-    } = record;
+    } = call;
     let (begin, end) = match op {
         RecordedOp::Stored(entry) => (
             Event::BeginUpdate { process, entry },
@@ -30,31 +30,26 @@ fn ends_of(record: Record) -> ((u64, Event), (u64, Event))
     ((begun, begin), (ended, end))
 }
 
-// Puts the begins and ends of records behind the events, each with its stamp.
-fn add_events(events: &mut Vec<(u64, Event)>, records: Vec<Record>) -> Result<(), AllocError>
-    ensures { OnOk result (events.new.items ≡ events.old.items ++ stamped_events records.items) }
+// The begins and ends of the records, each with its stamp.
+fn stamped(alloc: Global, all: Vec<Record>) -> Result<Vec<(u64, Event)>, AllocError>
+    ensures { IfOk result (λ events. events.items ≡ stamped_events all.items) }
 {
-    'each: for record in records {
-        let (begin, end) = ends_of(record);
+    let mut events = Vec::new(alloc);
+    'each: for call in all {
+        let (begin, end) = ends_of(call);
         events.push(begin)?;
         events.push(end)?;
     }
-    Ok(())
+    Ok(events)
 }
 
-/// The begins and ends of the records of two workers, in the order of their stamps.
-pub(crate) fn in_order(
-    alloc: Global,
-    first: Vec<Record>,
-    second: Vec<Record>,
-) -> Result<Vec<(u64, Event)>, AllocError>
-    requires { AreApart (stamped_events (first.items ++ second.items)) }
-    ensures merged { IfOk result (λ events. Merged (first.items ++ second.items) events.items) }
-    ensures len { IfOk result (λ events. length events.items ≡ length (stamped_events (first.items ++ second.items))) }
+/// The begins and ends of the records, in the order of their stamps.
+pub(crate) fn in_order(alloc: Global, all: Vec<Record>) -> Result<Vec<(u64, Event)>, AllocError>
+    requires { AreApart (stamped_events all.items) }
+    ensures merged { IfOk result (λ events. Merged all.items events.items) }
+    ensures len { IfOk result (λ events. length events.items ≡ length (stamped_events all.items)) }
 {
-    let mut events = Vec::new(alloc);
-    add_events(&mut events, first)?;
-    add_events(&mut events, second)?;
+    let mut events = stamped(alloc, all)?;
     events.sort_unstable_by_key(
         |event| -> u64
             ensures { result ≡ event.now.0 }

@@ -1,0 +1,96 @@
+ghost use Rattle.std.specs.Prelude.{◌≡◌, [], IfOk, OnOk, length};
+ghost use Rattle.snap_record.specs.Recording.{AreFrom};
+ghost use Rattle.snap_record.specs.Relays.{IsSenderOf, IsTakerOf};
+ghost use Rattle.snap_record.specs.Workers.{IsTakenOf};
+
+use crate::record::Record;
+use crate::relay::{Relay, Sender, Taker, count_all};
+use std::alloc::{AllocError, Global};
+use std::sync::Wait;
+
+/// The taker, and the records that it took.
+#[derive(Drop)]
+pub(crate) struct Taken {
+    pub(crate) taker: Taker,
+    pub(crate) records: Vec<Record>,
+}
+
+// Takes one record, and tells whether there was one.
+fn take_one<R: Wait>(rt: &R, relay: &Relay, taken: &mut Taken) -> Result<bool, AllocError>
+    requires { IsTakenOf relay.now taken.old }
+    ensures { OnOk result (IsTakenOf relay.now taken.new) }
+{
+    let Some(call) = relay.next(rt, &mut taken.taker) else {
+        return Ok(false);
+    };
+    taken.records.push(call)?;
+    Ok(true)
+}
+
+/// Takes records until none comes.
+pub(crate) fn take_some<R: Wait>(
+    rt: &R,
+    alloc: Global,
+    relay: &Relay,
+    taker: Taker,
+) -> Result<Taken, AllocError>
+    requires { IsTakerOf relay.now taker × (taker.taken ≡ []) }
+    ensures { IfOk result (IsTakenOf relay.now) }
+{
+    let mut taken = Taken {
+        taker,
+        records: Vec::new(alloc),
+    };
+    'turns: for _ in rt.forever() {
+        if !take_one(rt, relay, &mut taken)? {
+            break;
+        }
+    }
+    Ok(taken)
+}
+
+// Takes records until there are so many.
+fn take_until<R: Wait>(
+    rt: &R,
+    relay: &Relay,
+    mut taken: Taken,
+    count: u128,
+) -> Result<Taken, AllocError>
+    requires { IsTakenOf relay.now taken }
+    ensures taken { IfOk result (IsTakenOf relay.now) }
+    ensures count { IfOk result (λ all. length all.taker.taken ≡ count) }
+{
+    'turns: for _ in rt.forever() {
+        if u128::from(taken.taker.count()) == count {
+            return Ok(taken);
+        }
+        take_one(rt, relay, &mut taken)?;
+    }
+    unreachable!()
+}
+
+/// Takes what two workers sent and is not yet taken, and ends the relay. An answer of `next` that there is nothing would
+/// tell nothing of what they sent, so it goes by their counts.
+pub(crate) fn take_all<R: Wait>(
+    rt: &R,
+    alloc: Global,
+    relay: Relay,
+    senders: (Sender, Sender),
+    taken: Taken,
+) -> Result<Vec<Record>, AllocError>
+    requires relay { relay.workers ≡ 2 }
+    requires zero { IsSenderOf relay senders.0 × (senders.0.place ≡ 0) }
+    requires one { IsSenderOf relay senders.1 × (senders.1.place ≡ 1) }
+    requires taken { IsTakenOf relay taken }
+    ensures { IfOk result (λ all. AreFrom senders.0.sent senders.1.sent all.items) }
+{
+    let senders = vec![in alloc; senders.0, senders.1]?;
+    let Some(sent) = count_all(2, &senders) else {
+        unreachable!()
+    };
+    let Taken { taker, records } = take_until(rt, &relay, taken, sent)?;
+    let Ok(()) = relay.finish(rt, senders, taker) else {
+        unreachable!()
+    };
+    Ok(records)
+}
