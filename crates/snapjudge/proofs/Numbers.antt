@@ -1,20 +1,28 @@
--- What a getter reads of the text of a number.
-use Rattle.std.proofs.Common.{◌≡◌, ℕ, ◌<◌, ◌^◌, List, Option, Some, None, Result, Ok, Err, codes, refl, ap, rules, lit<, ◌∙◌}
-use Rattle.std.specs.Str.Parse.{ParsesUnsigned, IsNumeral, digits_value, without_leading_plus}
+-- What a getter reads of the text of a number, and the texts of the numbers that are spelled out.
+use Rattle.std.proofs.Common.{◌≡◌, ℕ, ◌<◌, ◌^◌, ◌++◌, List, Option, Some, None, Result, Ok, Err, [], ◌∷◌, codes, refl, ap, arith, ◌∙◌}
+use Rattle.std.specs.Prelude.{decimal}
+use Rattle.std.specs.Str.Parse.{ParsesUnsigned}
+use Rattle.std.proofs.lemmas.Fmt.{decimal_digit, decimal_step, parse-decimal}
 use Rattle.clap.specs.Words.{ReadsOne}
 
-pub eight_reads : (E : Type 0) (G : List ℕ → Result ℕ E → Type 0) → ((u : List ℕ) (x : Result ℕ E) → G u x → ParsesUnsigned 32 10 u x) → (r : Option ℕ) → ReadsOne G (codes "8") r → r ≡ Some 8
-eight_reads E G only (Some v) h = ap Some (only (codes "8") (Ok v) h).1
-eight_reads E G only None h = absurd (only (codes "8") (Err h.0) h.1 (search rules))
+pub decimal_reads : (E : Type 0) (G : List ℕ → Result ℕ E → Type 0) → ((u : List ℕ) (x : Result ℕ E) → G u x → ParsesUnsigned 32 10 u x) → (n : ℕ) → n < 2 ^ 32 → (r : Option ℕ) → ReadsOne G (decimal n) r → r ≡ Some n
+decimal_reads E G only n lt (Some v) h =
+    let found : Result ℕ E = Ok v in
+    let read : found ≡ Ok n = parse-decimal 32 n (decimal n) found lt (omega arith) refl (only (decimal n) found h) in
+    cc
+decimal_reads E G only n lt None h =
+    let found : Result ℕ E = Err h.0 in
+    let read : found ≡ Ok n = parse-decimal 32 n (decimal n) found lt (omega arith) refl (only (decimal n) found h.1) in
+    absurd cc
 
-pub two_reads : (E : Type 0) (G : List ℕ → Result ℕ E → Type 0) → ((u : List ℕ) (x : Result ℕ E) → G u x → ParsesUnsigned 32 10 u x) → (r : Option ℕ) → ReadsOne G (codes "2") r → r ≡ Some 2
-two_reads E G only (Some v) h = ap Some (only (codes "2") (Ok v) h).1
-two_reads E G only None h = absurd (only (codes "2") (Err h.0) h.1 (search rules))
+pub two_text : decimal 2 ≡ codes "2"
+two_text = decimal_digit 2 (omega arith)
 
-pub five_reads : (E : Type 0) (G : List ℕ → Result ℕ E → Type 0) → ((u : List ℕ) (x : Result ℕ E) → G u x → ParsesUnsigned 32 10 u x) → (r : Option ℕ) → ReadsOne G (codes "5") r → r ≡ Some 5
-five_reads E G only (Some v) h = ap Some (only (codes "5") (Ok v) h).1
-five_reads E G only None h = absurd (only (codes "5") (Err h.0) h.1 (search rules))
+pub five_text : decimal 5 ≡ codes "5"
+five_text = decimal_digit 5 (omega arith)
 
-pub sixteen_reads : (E : Type 0) (G : List ℕ → Result ℕ E → Type 0) → ((u : List ℕ) (x : Result ℕ E) → G u x → ParsesUnsigned 32 10 u x) → (r : Option ℕ) → ReadsOne G (codes "16") r → r ≡ Some 16
-sixteen_reads E G only (Some v) h = ap Some (only (codes "16") (Ok v) h).1
-sixteen_reads E G only None h = absurd (only (codes "16") (Err h.0) h.1 (search rules))
+pub eight_text : decimal 8 ≡ codes "8"
+eight_text = decimal_digit 8 (omega arith)
+
+pub sixteen_text : decimal 16 ≡ codes "16"
+sixteen_text = decimal_step 16 (omega arith) (omega arith) ∙ ap (λ (t : List ℕ). t ++ (54 ∷ [])) (decimal_digit 1 (omega arith))

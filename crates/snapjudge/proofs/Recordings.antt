@@ -9,7 +9,7 @@ use Rattle.snapjudge.specs.declared.fault.RunFault.{RunFault}
 use Rattle.snapjudge.specs.declared.fault.RunFault.TheVariants as faults
 use Rattle.snapjudge.specs.declared.status.Status.{Status}
 use Rattle.snapjudge.specs.declared.status.Status.TheVariants.{Atomic, Recorded, Regular}
-use Rattle.snapjudge.specs.RecordRuns.{IsRecorded, IsRecordingOf, IsRecordingReport, IsRecordingText, WroteAs}
+use Rattle.snapjudge.specs.RecordRuns.{IsRecorded, IsRecordingOf, IsRecordingReport, WroteAs}
 use Rattle.snapjudge.specs.Statuses.{status_of}
 use Rattle.snapjudge.specs.Verdicts.{IsVerdict}
 

@@ -1,17 +1,17 @@
 -- The verdict on a history, by the tally of its completed views.
-use Rattle.std.proofs.Common.{◌≡◌, ◌≢◌, ◌⊎◌, ◌==◌, ◌&&◌, ◌<◌, ◌∙◌, ◌↔◌, ℕ, Bool, true, false, List, [], ◌∷◌, Option, Some, None, length, map, refl, sym, ap, subst, inl, inr}
-use Rattle.std.specs.Prelude.{IsTrue, is_some}
-use Rattle.std.specs.List.{All, Contains}
-use Rattle.std.proofs.lemmas.Bool.{and_from, and_parts, cases_Bool, eq-eqb, eqb-true}
+use Rattle.std.proofs.Common.{◌≡◌, ◌⊎◌, ◌∙◌, ◌↔◌, ℕ, Bool, true, false, List, Option, Some, None, map, refl, sym, ap, subst, inl, inr}
+use Rattle.std.specs.Prelude.{IsTrue}
+use Rattle.std.specs.List.{All}
+use Rattle.std.proofs.lemmas.Bool.{and_from, and_parts, eq-eqb, eqb-true}
 use Rattle.std.proofs.lemmas.List.Elements.{All-map}
 use Rattle.snap_core.specs.declared.event.Event.{Event}
-use Rattle.snap_core.specs.Calls.{Call, Operation, Updates, Views, call_numbered, calls_of, is_view, views_of}
-use Rattle.snap_core.specs.Events.{HasByteComponents, IsHistory, IsKept}
+use Rattle.snap_core.specs.Calls.{Call, Operation, Updates, Views, calls_of, is_view, views_of}
+use Rattle.snap_core.specs.Events.{HasByteComponents, IsKept}
 use Rattle.snap_core.specs.Orders.{IsAtomic, is_update}
 use Rattle.snap_core.specs.Regular.{IsRegular}
 use Rattle.snap_core.proofs.Fits.{bytes_of_events}
 use Rattle.snap_core.proofs.Histories.{numbered_calls}
-use Rattle.snap_core.proofs.Lists.{Contains-from_In, In, In-from_Contains, In-get_or}
+use Rattle.snap_core.proofs.Lists.{Contains-from_In, In, In-get_or}
 use Rattle.snap_conditions.specs.declared.tally.Tally.{Tally}
 use Rattle.snap_conditions.specs.Faults.{HasNoFault}
 use Rattle.snap_conditions.specs.Tally.{CountsNoFault, CountsNoLocalFault, tally_of}

@@ -1,5 +1,6 @@
 -- What the words of a command line ask for.
-use Rattle.std.specs.Prelude.{◌≡◌, ◌<◌, ◌≤◌, ℕ, Bool}
+use Rattle.std.specs.Prelude.{◌≡◌, ◌<◌, ◌≤◌, ℕ, Bool, true, false, List, Some, codes, decimal}
+use Rattle.clap.specs.Words.{Row, one_of}
 use Rattle.snap_pairs.specs.Cuttings.{IsPieces, IsWorkers}
 use Rattle.snapjudge.specs.declared.job.Job.{Job}
 use Rattle.snapjudge.specs.declared.job.Job.TheVariants.{Check, Record}
@@ -18,3 +19,23 @@ IsCheck pieces workers (Record w rounds judge) = ⊥
 abbrev pub IsRecord : ℕ → ℕ → Bool → Job → Type 0
 IsRecord workers rounds judge (Check cutting) = ⊥
 IsRecord workers rounds judge (Record w r j) = (w ≡ workers) × (r ≡ rounds) × (j ≡ judge)
+
+-- the text of a flag that was given or not
+abbrev pub flag_text : Bool → List ℕ
+flag_text true = codes "true"
+flag_text false = codes "false"
+
+-- the options of `check` have these numbers, which are in their ranges
+pub record AsksCheck (rows : List Row) (pieces : ℕ) (workers : ℕ) : Type 0 where
+  pub pieces_fit : IsPieces pieces
+  pub workers_fit : IsWorkers workers
+  pub pieces_are : one_of (codes "pieces") rows ≡ Some (decimal pieces)
+  pub workers_are : one_of (codes "workers") rows ≡ Some (decimal workers)
+
+-- the options of `record` have two workers and this number of rounds, which is in its range, and judge is given or not
+pub record AsksRecord (rows : List Row) (rounds : ℕ) (judge : Bool) : Type 0 where
+  pub some_rounds : 0 < rounds
+  pub rounds_fit : rounds ≤ 2048
+  pub workers_are : one_of (codes "workers") rows ≡ Some (decimal 2)
+  pub rounds_are : one_of (codes "rounds") rows ≡ Some (decimal rounds)
+  pub judge_is : one_of (codes "judge") rows ≡ Some (flag_text judge)

@@ -1,11 +1,14 @@
-ghost use Rattle.std.specs.Prelude.{IfOk};
+ghost use Rattle.std.specs.Prelude.{◌≡◌, IfOk};
+ghost use Rattle.snap_core.specs.Calls.{calls_of, views_of};
 ghost use Rattle.snap_core.specs.Counting.{failures_in, inner_of};
+ghost use Rattle.snap_core.specs.Events.{IsKept};
+ghost use Rattle.snap_conditions.specs.Tally.{tally_of};
 ghost use Rattle.snapjudge.specs.Runs.{JudgeCounts, Judges, RunCounts, Wrote};
 ghost use Rattle.snapjudge.specs.Verdicts.{IsVerdict};
 
 use crate::fault::RunFault;
 use crate::status::Status;
-use snap_conditions::{is_atomic, is_regular};
+use snap_conditions::{Tally, is_atomic, is_regular};
 use snap_core::{Counted, Gate, History};
 use snap_csv::{ReadRefusal, read_history};
 use snap_index::Index;
@@ -16,6 +19,30 @@ use std::alloc::{AllocError, Global};
 use std::io::{Read, Write};
 use std::sync::Wait;
 use std::thread::Threads;
+
+// The status and the report of a history, from the tally of all its completed views.
+fn answer<Rt: Threads + Wait + Sync>(
+    rt: &Rt,
+    alloc: Global,
+    index: &Index<'_>,
+    tally: &Tally,
+) -> Result<(Status, Vec<u8>), AllocError>
+    requires history { IsKept index.now }
+    requires tally { tally.now ≡ tally_of (calls_of index.now) (views_of (calls_of index.now)) }
+    ensures { IfOk result (λ answer. IsVerdict index.now answer.0 answer.1.items) }
+{
+    if is_atomic(tally) {
+        let order = build(rt, alloc, index)?;
+        let text = report(alloc, index, tally, Some(&order))?;
+        return Ok((Status::Atomic, text));
+    }
+    let text = report(alloc, index, tally, None)?;
+    if is_regular(tally) {
+        Ok((Status::Regular, text))
+    } else {
+        Ok((Status::Irregular, text))
+    }
+}
 
 // The status and the report of a history.
 pub(crate) fn verdict<Rt: Threads + Wait + Sync, G: Gate>(
@@ -30,17 +57,7 @@ pub(crate) fn verdict<Rt: Threads + Wait + Sync, G: Gate>(
     let index = Index::build(alloc, history)?;
     let _events = index.event_count();
     let tally = tally(rt, alloc, &index, cutting, gate)?;
-    if is_atomic(&tally) {
-        let order = build(rt, alloc, &index)?;
-        let text = report(alloc, &index, &tally, Some(&order))?;
-        return Ok((Status::Atomic, text));
-    }
-    let text = report(alloc, &index, &tally, None)?;
-    if is_regular(&tally) {
-        Ok((Status::Regular, text))
-    } else {
-        Ok((Status::Irregular, text))
-    }
+    answer(rt, alloc, &index, &tally)
 }
 
 // The status and the report of the text that a reader has.

@@ -1,8 +1,7 @@
 //! What the words of a command line ask for.
-ghost use Rattle.std.specs.Prelude.{◌≡◌, ◌∷◌, [], ℕ, List, Some, true, false, codes, IfOk, IfSome, IsSomeAnd, MatchResult, map, string_bytes};
+ghost use Rattle.std.specs.Prelude.{◌≡◌, ◌<◌, ◌^◌, ◌∷◌, [], ℕ, Bool, List, Some, None, true, false, codes, decimal, IfOk, IfSome, IsSomeAnd, MatchResult, map, string_bytes};
 ghost use Rattle.clap.specs.Words.{Row, found_of, kind_of, one_of, rows_of, subcommand_rows_of};
-ghost use Rattle.snap_pairs.specs.Cuttings.{IsPieces, IsWorkers};
-ghost use Rattle.snapjudge.specs.Jobs.{IsCheck, IsInRange, IsRecord};
+ghost use Rattle.snapjudge.specs.Jobs.{AsksCheck, AsksRecord, IsCheck, IsInRange, IsRecord, flag_text};
 
 use crate::command::program;
 use clap::error::ErrorKind;
@@ -46,10 +45,8 @@ impl From<AllocError> for JobFault {
 
 // The number that an option has.
 fn number_in(matches: &ArgMatches<'_>, id: &str) -> Option<u32>
-    ensures eight { one_of id.now (rows_of (found_of matches.now)) ≡ Some (codes "8") → result ≡ Some 8 }
-    ensures two { one_of id.now (rows_of (found_of matches.now)) ≡ Some (codes "2") → result ≡ Some 2 }
-    ensures five { one_of id.now (rows_of (found_of matches.now)) ≡ Some (codes "5") → result ≡ Some 5 }
-    ensures sixteen { one_of id.now (rows_of (found_of matches.now)) ≡ Some (codes "16") → result ≡ Some 16 }
+    ensures given { (n : ℕ) → n < 2 ^ 32 → one_of id.now (rows_of (found_of matches.now)) ≡ Some (decimal n) → result ≡ Some n }
+    ensures absent { one_of id.now (rows_of (found_of matches.now)) ≡ None → result ≡ None }
 {
     matches.get_one::<u32>(id)
 }
@@ -57,8 +54,7 @@ fn number_in(matches: &ArgMatches<'_>, id: &str) -> Option<u32>
 // The check that the options of `check` ask for.
 fn check_in(matches: &ArgMatches<'_>) -> Option<Job>
     ensures job { IfSome result IsInRange }
-    ensures alone { one_of (codes "pieces") (rows_of (found_of matches.now)) ≡ Some (codes "8")
-        → one_of (codes "workers") (rows_of (found_of matches.now)) ≡ Some (codes "2") → IsSomeAnd result (IsCheck 8 2) }
+    ensures asked { (pieces workers : ℕ) → AsksCheck (rows_of (found_of matches.now)) pieces workers → IsSomeAnd result (IsCheck pieces workers) }
 {
     let pieces = number_in(matches, "pieces")?;
     let workers = number_in(matches, "workers")?;
@@ -68,8 +64,8 @@ fn check_in(matches: &ArgMatches<'_>) -> Option<Job>
 
 // Whether a flag was given.
 fn flag_in(matches: &ArgMatches<'_>, id: &str) -> bool
-    ensures given { one_of id.now (rows_of (found_of matches.now)) ≡ Some (codes "true") → result ≡ true }
-    ensures absent { one_of id.now (rows_of (found_of matches.now)) ≡ Some (codes "false") → result ≡ false }
+    ensures given { (flag : Bool) → one_of id.now (rows_of (found_of matches.now)) ≡ Some (flag_text flag) → result ≡ flag }
+    ensures absent { one_of id.now (rows_of (found_of matches.now)) ≡ None → result ≡ false }
 {
     matches.get_flag(id)
 }
@@ -77,12 +73,7 @@ fn flag_in(matches: &ArgMatches<'_>, id: &str) -> bool
 // The recording that the options of `record` ask for.
 fn record_in(matches: &ArgMatches<'_>) -> Option<Job>
     ensures job { IfSome result IsInRange }
-    ensures alone { one_of (codes "workers") (rows_of (found_of matches.now)) ≡ Some (codes "2")
-        → one_of (codes "rounds") (rows_of (found_of matches.now)) ≡ Some (codes "16")
-        → one_of (codes "judge") (rows_of (found_of matches.now)) ≡ Some (codes "false") → IsSomeAnd result (IsRecord 2 16 false) }
-    ensures judged { one_of (codes "workers") (rows_of (found_of matches.now)) ≡ Some (codes "2")
-        → one_of (codes "rounds") (rows_of (found_of matches.now)) ≡ Some (codes "5")
-        → one_of (codes "judge") (rows_of (found_of matches.now)) ≡ Some (codes "true") → IsSomeAnd result (IsRecord 2 5 true) }
+    ensures asked { (rounds : ℕ) (judge : Bool) → AsksRecord (rows_of (found_of matches.now)) rounds judge → IsSomeAnd result (IsRecord 2 rounds judge) }
 {
     let workers = number_in(matches, "workers")?;
     let rounds = number_in(matches, "rounds")?;
@@ -100,15 +91,10 @@ fn record_in(matches: &ArgMatches<'_>) -> Option<Job>
 // The job that the words ask for, where each number is there and in its range.
 fn job_in(matches: &ArgMatches<'_>) -> Option<Job>
     ensures job { IfSome result IsInRange }
-    ensures check { (rows : List Row) → subcommand_rows_of matches.now ≡ Some (codes "check", rows)
-        → one_of (codes "pieces") rows ≡ Some (codes "8") → one_of (codes "workers") rows ≡ Some (codes "2")
-        → IsSomeAnd result (IsCheck 8 2) }
-    ensures record_alone { (rows : List Row) → subcommand_rows_of matches.now ≡ Some (codes "record", rows)
-        → one_of (codes "workers") rows ≡ Some (codes "2") → one_of (codes "rounds") rows ≡ Some (codes "16")
-        → one_of (codes "judge") rows ≡ Some (codes "false") → IsSomeAnd result (IsRecord 2 16 false) }
-    ensures record_judged { (rows : List Row) → subcommand_rows_of matches.now ≡ Some (codes "record", rows)
-        → one_of (codes "workers") rows ≡ Some (codes "2") → one_of (codes "rounds") rows ≡ Some (codes "5")
-        → one_of (codes "judge") rows ≡ Some (codes "true") → IsSomeAnd result (IsRecord 2 5 true) }
+    ensures check { (rows : List Row) (pieces workers : ℕ) → subcommand_rows_of matches.now ≡ Some (codes "check", rows)
+        → AsksCheck rows pieces workers → IsSomeAnd result (IsCheck pieces workers) }
+    ensures recording { (rows : List Row) (rounds : ℕ) (judge : Bool) → subcommand_rows_of matches.now ≡ Some (codes "record", rows)
+        → AsksRecord rows rounds judge → IsSomeAnd result (IsRecord 2 rounds judge) }
 {
     let (name, inner) = matches.subcommand()?;
     if name == "check" {

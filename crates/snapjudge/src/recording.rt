@@ -19,7 +19,7 @@ use std::sync::Wait;
 use std::thread::Threads;
 
 // The history of a run of the plan.
-fn recorded<Rt: Threads + Sync, G: Gate>(
+fn recorded<Rt: Threads + Wait + Sync, G: Gate>(
     rt: &Rt,
     alloc: Global,
     plan: &Plan,

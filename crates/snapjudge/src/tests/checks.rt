@@ -1,20 +1,20 @@
-//! A check of a text from memory.
+//! Checks of texts from memory against what is wanted of them.
 use crate::{RunFault, Status, check_run};
 use snap_core::{Counted, Gate, OpenGate};
 use snap_pairs::Cutting;
 use std::alloc::{AllocError, Global};
+use std::fmt::Debug;
 use std::io::{Read, Write};
 use std::sync::Wait;
 use std::test::Fail;
 use std::thread::Threads;
 
-const HEADER: &str = "event,process,op,data\n";
+/// Records under the header, how the check of that text ends, and its report.
+pub(super) type Worked = (&'static str, &'static str, &'static str);
 
 /// The text of a history with these records under the header.
-pub(super) fn history(alloc: Global, records: &str) -> Result<Vec<u8>, AllocError> {
-    let mut text = Vec::from_slice(alloc, HEADER.as_bytes())?;
-    text.extend_from_slice(records.as_bytes())?;
-    Ok(text)
+pub(super) fn history(alloc: Global, records: &str) -> Result<String, AllocError> {
+    format!(in alloc; "event,process,op,data\n{records}")
 }
 
 /// How a run ended.
@@ -31,19 +31,24 @@ pub(super) fn end_of(answer: Result<Status, RunFault>) -> &'static str {
     }
 }
 
+/// The cutting into so many pieces for so many workers.
+pub(super) fn cutting(pieces: u32, workers: u32) -> Result<Cutting, Fail> {
+    Ok(Cutting::new(pieces, workers)?)
+}
+
 /// How a run from a reader to a writer ends.
 pub(super) fn run<Rt: Threads + Wait + Sync, R: Read, W: Write>(
     rt: &Rt,
     alloc: Global,
     reader: &mut Counted<R>,
     writer: &mut Counted<W>,
-) -> Result<&'static str, Fail> {
-    let cutting = Cutting::new(2, 2).ok().ok_or("a cutting")?;
-    Ok(end_of(check_run(rt, alloc, reader, writer, cutting, &OpenGate)))
+    cutting: Cutting,
+) -> &'static str {
+    end_of(check_run(rt, alloc, reader, writer, cutting, &OpenGate))
 }
 
 /// How the check of a text ends, and what it writes.
-pub(super) fn check<Rt: Threads + Wait + Sync, G: Gate>(
+fn check<Rt: Threads + Wait + Sync, G: Gate>(
     rt: &Rt,
     alloc: Global,
     text: &[u8],
@@ -54,4 +59,40 @@ pub(super) fn check<Rt: Threads + Wait + Sync, G: Gate>(
     let mut writer = Counted::new(Vec::new(alloc));
     let answer = check_run(rt, alloc, &mut reader, &mut writer, cutting, gate);
     (end_of(answer), writer.into_inner())
+}
+
+/// The two are the same; else the failure tells both.
+pub(super) fn same<T: PartialEq + Debug + Drop>(found: T, wanted: T) -> Result<(), Fail> {
+    if found == wanted {
+        return Ok(());
+    }
+    Err(Fail::new(format_args!("{found:?} is not {wanted:?}")))
+}
+
+/// The check of a text ends so, and writes this report.
+pub(super) fn expect<Rt: Threads + Wait + Sync, G: Gate>(
+    rt: &Rt,
+    alloc: Global,
+    text: &[u8],
+    cutting: Cutting,
+    gate: &G,
+    end: &str,
+    report: &str,
+) -> Result<(), Fail> {
+    let (found, out) = check(rt, alloc, text, cutting, gate);
+    same(found, end)?;
+    same(str::from_utf8(&out)?, report)
+}
+
+/// The check of a worked history ends and reports as it is to.
+pub(super) fn expect_worked<Rt: Threads + Wait + Sync, G: Gate>(
+    rt: &Rt,
+    alloc: Global,
+    worked: Worked,
+    cutting: Cutting,
+    gate: &G,
+) -> Result<(), Fail> {
+    let (records, end, report) = worked;
+    let text = history(alloc, records)?;
+    expect(rt, alloc, text.as_bytes(), cutting, gate, end, report)
 }

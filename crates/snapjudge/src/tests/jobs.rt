@@ -1,91 +1,106 @@
 //! The jobs that words ask for.
+use super::checks::same;
 use crate::{Job, JobFault, job_of};
 use std::alloc::{AllocError, Global};
 use std::test::Fail;
 
-// The words of a command line with the program's name before these.
+// The words of a command line.
 fn words(alloc: Global, line: &str) -> Result<Vec<String>, AllocError> {
     let mut words = Vec::new(alloc);
-    words.push(String::from_str(alloc, "snapjudge")?)?;
     for word in line.split_whitespace() {
         words.push(String::from_str(alloc, word)?)?;
     }
     Ok(words)
 }
 
+// The pieces and workers of the check that each line asks for.
+const CHECKS: &[(&str, u32, u32)] = &[
+    ("snapjudge check", 8, 2),
+    ("snapjudge check --pieces 3 --workers 4", 3, 4),
+    ("snapjudge check --workers=8 --pieces=1024", 1024, 8),
+    ("snapjudge check --pieces 1 --workers 1", 1, 1),
+];
+
+// The pieces and workers of the check that a line asks for.
+fn check_of(alloc: Global, line: &str) -> Result<(u32, u32), Fail> {
+    match job_of(alloc, words(alloc, line)?) {
+        Ok(Job::Check { cutting }) => Ok((cutting.pieces(), cutting.workers())),
+        _ => Err(Fail::from(line)),
+    }
+}
+
 #[test]
 fn check_takes_pieces_and_workers(rt: HostRuntime) -> Result<(), Fail> {
-    let alloc = rt.alloc();
-    let cases = [
-        ("check", 8, 2),
-        ("check --pieces 3 --workers 4", 3, 4),
-        ("check --workers=8 --pieces=1024", 1024, 8),
-        ("check --pieces 1 --workers 1", 1, 1),
-    ];
-    for (line, pieces, workers) in cases {
-        let Ok(Job::Check { cutting }) = job_of(alloc, words(alloc, line)?) else {
-            return Err(Fail::from(line));
-        };
-        assert_eq!(rt; cutting.pieces(), pieces, "{line}");
-        assert_eq!(rt; cutting.workers(), workers, "{line}");
+    for (line, pieces, workers) in CHECKS {
+        same(check_of(rt.alloc(), line)?, (*pieces, *workers))?;
     }
     Ok(())
 }
 
-#[test]
-fn record_takes_workers_rounds_and_judge(rt: HostRuntime) -> Result<(), Fail> {
-    let alloc = rt.alloc();
-    let cases = [
-        ("record", 16, false),
-        ("record --rounds 5 --judge", 5, true),
-        ("record --workers 2 --rounds=2048", 2048, false),
-        ("record --judge --rounds 1", 1, true),
-    ];
-    for (line, wanted, judged) in cases {
-        let Ok(
+// The rounds of the recording that each line asks for, and whether to judge.
+const RECORDS: &[(&str, u32, bool)] = &[
+    ("snapjudge record", 16, false),
+    ("snapjudge record --rounds 5 --judge", 5, true),
+    ("snapjudge record --workers 2 --rounds=2048", 2048, false),
+    ("snapjudge record --judge --rounds 1", 1, true),
+];
+
+// The workers, the rounds and whether to judge of the recording that a line asks for.
+fn record_of(alloc: Global, line: &str) -> Result<(u32, u32, bool), Fail> {
+    match job_of(alloc, words(alloc, line)?) {
+        Ok(
             Job::Record {
                 workers,
                 rounds,
                 judge,
             },
-        ) = job_of(alloc, words(alloc, line)?)
-        else {
-            return Err(Fail::from(line));
-        };
-        assert_eq!(rt; workers, 2, "{line}");
-        assert_eq!(rt; rounds, wanted, "{line}");
-        assert_eq!(rt; judge, judged, "{line}");
+        ) => Ok((workers, rounds, judge)),
+        _ => Err(Fail::from(line)),
+    }
+}
+
+#[test]
+fn record_takes_workers_rounds_and_judge(rt: HostRuntime) -> Result<(), Fail> {
+    for (line, rounds, judge) in RECORDS {
+        same(record_of(rt.alloc(), line)?, (2, *rounds, *judge))?;
     }
     Ok(())
 }
 
+const OTHER_LINES: &[&str] = &[
+    "snapjudge",
+    "snapjudge judge",
+    "snapjudge check --pieces 0",
+    "snapjudge check --pieces 1025",
+    "snapjudge check --pieces x",
+    "snapjudge check --pieces",
+    "snapjudge check --workers 0",
+    "snapjudge check --workers 9",
+    "snapjudge check --rounds 3",
+    "snapjudge check more",
+    "snapjudge record --workers 3",
+    "snapjudge record --rounds 0",
+    "snapjudge record --rounds 2049",
+    "snapjudge record --pieces 8",
+    "snapjudge record --judge=yes",
+    "snapjudge --help",
+    "snapjudge check --help",
+    "snapjudge record --help",
+];
+
+// Whether a line gets a text on the usage.
+fn gets_usage(alloc: Global, line: &str) -> Result<bool, AllocError> {
+    match job_of(alloc, words(alloc, line)?) {
+        Err(JobFault::Usage(text)) => Ok(!text.is_empty()),
+        _ => Ok(false),
+    }
+}
+
 #[test]
 fn other_words_get_the_usage(rt: HostRuntime) -> Result<(), Fail> {
-    let alloc = rt.alloc();
-    let lines = [
-        "",
-        "judge",
-        "check --pieces 0",
-        "check --pieces 1025",
-        "check --pieces x",
-        "check --pieces",
-        "check --workers 0",
-        "check --workers 9",
-        "check --rounds 3",
-        "check more",
-        "record --workers 3",
-        "record --rounds 0",
-        "record --rounds 2049",
-        "record --pieces 8",
-        "record --judge=yes",
-        "--help",
-        "check --help",
-        "record --help",
-    ];
-    for line in lines {
-        match job_of(alloc, words(alloc, line)?) {
-            Err(JobFault::Usage(text)) => assert!(rt; !text.is_empty(), "{line}"),
-            _ => return Err(Fail::from(line)),
+    for line in OTHER_LINES {
+        if !gets_usage(rt.alloc(), line)? {
+            return Err(Fail::from(*line));
         }
     }
     Ok(())

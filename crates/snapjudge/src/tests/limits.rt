@@ -1,76 +1,120 @@
 //! Texts at the limits, and the forms of text that the reader of records takes.
-use super::checks::{check, history};
+use super::checks::{cutting, expect, history};
 use snap_core::OpenGate;
-use snap_pairs::Cutting;
+use std::alloc::{AllocError, Global};
 use std::test::Fail;
+
+// Whole texts, how their checks end, and their reports.
+const TEXTS: &[(&str, &str, &str)] = &[
+    ("", "refused", "refused record 1: header\n"),
+    (
+        "event,process,op\n",
+        "refused",
+        "refused record 1: header\n",
+    ),
+    (
+        "\"event\",\"process\",\"op\",\"data\"\r\n\"begin\",\"0\",\"view\",\"\"\r\n",
+        "atomic",
+        "events 1 calls 1 pending 1 views 0\nregular yes\natomic yes\norder 0\n",
+    ),
+];
+
+// The text with so many updates of component 0, each ended at once.
+fn updates_text(alloc: Global, updates: u32) -> Result<String, AllocError> {
+    let mut text = history(alloc, "")?;
+    for i in 0..updates {
+        let records = format!(in alloc; "begin,0,update,0:{}:0\nend,0,update,\n", i + 1)?;
+        text.push_str(&records)?;
+    }
+    Ok(text)
+}
+
+// The lines of the order of so many updates.
+fn updates_order(alloc: Global, updates: u32) -> Result<String, AllocError> {
+    let mut lines = String::new(alloc);
+    for i in 0..updates {
+        let line = format!(in alloc; "{} p0 update 0:{}:0\n", i + 1, i + 1)?;
+        lines.push_str(&line)?;
+    }
+    Ok(lines)
+}
 
 #[test]
 fn a_history_may_have_16384_events(rt: HostRuntime) -> Result<(), Fail> {
-    let alloc = rt.alloc();
-    let cutting = Cutting::new(8, 2).ok().ok_or("a cutting")?;
-    let mut text = history(alloc, "")?;
-    let mut report = Vec::from_slice(
-        alloc,
-        b"events 16384 calls 8192 pending 0 views 0\nregular yes\natomic yes\norder 8192\n",
-    )?;
-    for i in 1..8193u32 {
-        let records = format!(in alloc; "begin,0,update,0:{i}:0\nend,0,update,\n")?;
-        text.extend_from_slice(records.as_bytes())?;
-        let line = format!(in alloc; "{i} p0 update 0:{i}:0\n")?;
-        report.extend_from_slice(line.as_bytes())?;
-    }
-    let (found, out) = check(&rt, alloc, &text, cutting, &OpenGate);
-    assert_eq!(rt; found, "atomic");
-    assert_eq!(rt; out.as_slice(), report.as_slice());
+    let text = updates_text(rt.alloc(), 8192)?;
+    let order = updates_order(rt.alloc(), 8192)?;
+    let head = "events 16384 calls 8192 pending 0 views 0\nregular yes\natomic yes\norder 8192\n";
+    let report = format!(in rt.alloc(); "{head}{order}")?;
+    let cutting = cutting(8, 2)?;
+    expect(
+        &rt,
+        rt.alloc(),
+        text.as_bytes(),
+        cutting,
+        &OpenGate,
+        "atomic",
+        &report,
+    )
+}
 
-    text.extend_from_slice(b"begin,0,view,\n")?;
-    let (found, out) = check(&rt, alloc, &text, cutting, &OpenGate);
-    assert_eq!(rt; found, "refused");
-    assert_eq!(rt;
-        out.as_slice(),
-        b"refused record 16386: toomany\n".as_slice()
-    );
-    Ok(())
+#[test]
+fn a_history_may_not_have_16385_events(rt: HostRuntime) -> Result<(), Fail> {
+    let mut text = updates_text(rt.alloc(), 8192)?;
+    text.push_str("begin,0,view,\n")?;
+    let report = "refused record 16386: toomany\n";
+    let cutting = cutting(8, 2)?;
+    expect(
+        &rt,
+        rt.alloc(),
+        text.as_bytes(),
+        cutting,
+        &OpenGate,
+        "refused",
+        report,
+    )
 }
 
 #[test]
 fn a_text_may_have_67108864_bytes(rt: HostRuntime) -> Result<(), Fail> {
     let alloc = rt.alloc();
-    let cutting = Cutting::new(8, 2).ok().ok_or("a cutting")?;
     let mut text = vec![in alloc; b'\n'; 67_108_864]?;
-    let (found, out) = check(&rt, alloc, &text, cutting, &OpenGate);
-    assert_eq!(rt; found, "refused");
-    assert_eq!(rt; out.as_slice(), b"refused record 1: header\n".as_slice());
+    let report = "refused record 1: header\n";
+    expect(
+        &rt,
+        alloc,
+        &text,
+        cutting(8, 2)?,
+        &OpenGate,
+        "refused",
+        report,
+    )?;
 
     text.push(b'\n')?;
-    let (found, out) = check(&rt, alloc, &text, cutting, &OpenGate);
-    assert_eq!(rt; found, "refused");
-    assert_eq!(rt; out.as_slice(), b"refused record 0: toolong\n".as_slice());
-    Ok(())
+    let report = "refused record 0: toolong\n";
+    expect(
+        &rt,
+        alloc,
+        &text,
+        cutting(8, 2)?,
+        &OpenGate,
+        "refused",
+        report,
+    )
 }
 
 #[test]
 fn the_header_decides_and_quotes_and_crlf_are_read(rt: HostRuntime) -> Result<(), Fail> {
-    let alloc = rt.alloc();
-    let cutting = Cutting::new(8, 2).ok().ok_or("a cutting")?;
-    let quoted = "\"event\",\"process\",\"op\",\"data\"\r\n\"begin\",\"0\",\"view\",\"\"\r\n";
-    let cases = [
-        ("", "refused", "refused record 1: header\n"),
-        (
-            "event,process,op\n",
-            "refused",
-            "refused record 1: header\n",
-        ),
-        (
-            quoted,
-            "atomic",
-            "events 1 calls 1 pending 1 views 0\nregular yes\natomic yes\norder 0\n",
-        ),
-    ];
-    for (text, end, report) in cases {
-        let (found, out) = check(&rt, alloc, text.as_bytes(), cutting, &OpenGate);
-        assert_eq!(rt; found, end, "{text}");
-        assert_eq!(rt; out.as_slice(), report.as_bytes(), "{text}");
+    for (text, end, report) in TEXTS {
+        let cutting = cutting(8, 2)?;
+        expect(
+            &rt,
+            rt.alloc(),
+            text.as_bytes(),
+            cutting,
+            &OpenGate,
+            end,
+            report,
+        )?;
     }
     Ok(())
 }

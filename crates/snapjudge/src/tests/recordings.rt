@@ -1,14 +1,19 @@
 //! Histories that a board's run leaves, and their reports.
-use super::checks::end_of;
-use super::devices::{Cup, Meeting};
+use super::checks::{cutting, end_of, same};
 use crate::record_run;
 use snap_core::{Counted, Gate, OpenGate};
 use snap_pairs::Cutting;
 use snap_record::{Plan, Step, rounds_plan};
+use snap_testing::{Cup, Meeting};
 use std::alloc::Global;
 use std::sync::Wait;
 use std::test::Fail;
 use std::thread::Threads;
+
+// Two workers, each of which stores one value and then takes a view.
+fn one_round(alloc: Global) -> Result<Plan, Fail> {
+    Ok(rounds_plan(alloc, 2, 1)?)
+}
 
 // How the recording of a plan ends, and what it writes.
 fn record<Rt: Threads + Wait + Sync, G: Gate>(
@@ -16,90 +21,102 @@ fn record<Rt: Threads + Wait + Sync, G: Gate>(
     alloc: Global,
     plan: &Plan,
     judge: bool,
+    cutting: Cutting,
     gate: &G,
-) -> Result<(&'static str, String), Fail> {
-    let cutting = Cutting::new(8, 2).ok().ok_or("a cutting")?;
+) -> (&'static str, Vec<u8>) {
     let mut writer = Counted::new(Vec::new(alloc));
     let answer = record_run(rt, alloc, plan, judge, &mut writer, cutting, gate);
-    let text = String::from_utf8(writer.into_inner()).ok().ok_or("a text")?;
-    Ok((end_of(answer), text))
+    (end_of(answer), writer.into_inner())
 }
 
-// The plan in which each of two workers stores one value and then takes a view.
-fn store_then_view(alloc: Global, first: u32, second: u32) -> Result<Plan, Fail> {
-    let mut scripts = Vec::new(alloc);
-    for value in [first, second] {
-        let mut script = Vec::new(alloc);
-        script.push(Step::Store(value))?;
-        script.push(Step::View)?;
-        scripts.push(script)?;
+// The text has the header, so many records under it, and each of these lines.
+fn expect_text(text: &[u8], records: usize, wanted: &[&str]) -> Result<(), Fail> {
+    let text = str::from_utf8(text)?;
+    same(text.lines().next(), Some("event,process,op,data"))?;
+    same(text.lines().skip(1).count(), records)?;
+    for line in wanted {
+        if !text.lines().any(|found| found == *line) {
+            return Err(Fail::from(*line));
+        }
     }
-    let plan = Plan::new(scripts).ok().ok_or("a plan")?;
-    Ok(plan)
+    Ok(())
 }
 
 #[test]
 fn one_round_of_two_workers_has_nine_lines(rt: HostRuntime) -> Result<(), Fail> {
-    let plan = rounds_plan(rt.alloc(), 2, 1).ok().ok_or("a plan")?;
-    let (end, text) = record(&rt, rt.alloc(), &plan, false, &OpenGate)?;
-    assert_eq!(rt; end, "recorded");
-    assert!(rt; text.starts_with("event,process,op,data\n"));
-    assert_eq!(rt; text.lines().count(), 9);
-    assert!(rt; text.contains("begin,0,update,0:1:1\n"));
-    assert!(rt; text.contains("begin,1,update,1:1:65537\n"));
-    Ok(())
+    let plan = one_round(rt.alloc())?;
+    let (end, text) = record(&rt, rt.alloc(), &plan, false, cutting(8, 2)?, &OpenGate);
+    same(end, "recorded")?;
+    expect_text(
+        &text,
+        8,
+        &["begin,0,update,0:1:1", "begin,1,update,1:1:65537"],
+    )
+}
+
+// A regular history of the plan of one round gets such a report.
+fn is_regular_report(end: &str, report: &[u8]) -> bool {
+    (end == "atomic" || end == "regular")
+        && report.starts_with(b"events 8 calls 4 pending 0 views 2\nregular yes\n")
 }
 
 #[test]
 fn a_judged_recording_is_regular_in_every_run(rt: HostRuntime) -> Result<(), Fail> {
-    let plan = rounds_plan(rt.alloc(), 2, 1).ok().ok_or("a plan")?;
+    let plan = one_round(rt.alloc())?;
+    let cutting = cutting(8, 2)?;
     for _ in 0..20 {
-        let (end, text) = record(&rt, rt.alloc(), &plan, true, &OpenGate)?;
-        assert!(rt; end == "atomic" || end == "regular", "{end}");
-        assert!(rt;
-            text.starts_with("events 8 calls 4 pending 0 views 2\nregular yes\n"),
-            "{text}"
-        );
+        let (end, report) = record(&rt, rt.alloc(), &plan, true, cutting, &OpenGate);
+        if !is_regular_report(end, &report) {
+            return Err(Fail::from(end));
+        }
     }
     Ok(())
+}
+
+// Worker 0 stores 5 and then takes a view, worker 1 stores 6 and then takes a view.
+fn store_five_and_six(alloc: Global) -> Result<Plan, Fail> {
+    let first = vec![in alloc; Step::Store(5), Step::View]?;
+    let second = vec![in alloc; Step::Store(6), Step::View]?;
+    Ok(Plan::new(vec![in alloc; first, second]?)?)
 }
 
 #[test]
 fn views_that_wait_for_both_stores_show_both(rt: HostRuntime) -> Result<(), Fail> {
-    let plan = store_then_view(rt.alloc(), 5, 6)?;
+    let plan = store_five_and_six(rt.alloc())?;
     let gate = Meeting::at_turn(1);
-    let (end, text) = record(&rt, rt.alloc(), &plan, false, &gate)?;
+    let (end, text) = record(&rt, rt.alloc(), &plan, false, cutting(8, 2)?, &gate);
     assert!(rt; gate.was_held());
-    assert_eq!(rt; end, "recorded");
-    assert!(rt; text.contains("end,0,view,0:1:5 1:1:6\n"), "{text}");
-    assert!(rt; text.contains("end,1,view,0:1:5 1:1:6\n"), "{text}");
-    Ok(())
+    same(end, "recorded")?;
+    expect_text(
+        &text,
+        8,
+        &["end,0,view,0:1:5 1:1:6", "end,1,view,0:1:5 1:1:6"],
+    )
+}
+
+// The recording of a plan into a cup for ten bytes fails, and this is in the cup.
+fn expect_front<Rt: Threads + Wait + Sync>(
+    rt: &Rt,
+    alloc: Global,
+    plan: &Plan,
+    judge: bool,
+    cutting: Cutting,
+    front: &[u8],
+) -> Result<(), Fail> {
+    let mut writer = Counted::new(Cup::new(alloc, 10, 100, true, false));
+    let answer = record_run(rt, alloc, plan, judge, &mut writer, cutting, &OpenGate);
+    let failures = writer.failures();
+    let is_front = writer.into_inner().held.as_slice() == front;
+    same(
+        (end_of(answer), failures, is_front),
+        ("write failed", 1, true),
+    )
 }
 
 #[test]
 fn a_recording_whose_writer_fails_has_a_front_of_its_text(rt: HostRuntime) -> Result<(), Fail> {
-    let plan = store_then_view(rt.alloc(), 5, 6)?;
-    let cutting = Cutting::new(8, 2).ok().ok_or("a cutting")?;
-    for (judge, front) in [(false, "event,proc"), (true, "events 8 c")] {
-        let mut writer = Counted::new(Cup {
-            held: Vec::new(rt.alloc()),
-            room: 10,
-            at_once: 100,
-            fails_when_full: true,
-            fails_at_flush: false,
-        });
-        let answer = record_run(
-            &rt,
-            rt.alloc(),
-            &plan,
-            judge,
-            &mut writer,
-            cutting,
-            &OpenGate,
-        );
-        assert_eq!(rt; end_of(answer), "write failed");
-        assert_eq!(rt; writer.failures(), 1);
-        assert_eq!(rt; writer.into_inner().held.as_slice(), front.as_bytes());
-    }
-    Ok(())
+    let plan = one_round(rt.alloc())?;
+    let cutting = cutting(8, 2)?;
+    expect_front(&rt, rt.alloc(), &plan, false, cutting, b"event,proc")?;
+    expect_front(&rt, rt.alloc(), &plan, true, cutting, b"events 8 c")
 }

@@ -1,15 +1,14 @@
 //! The whole reports of worked histories, as the format gives them.
-use super::checks::{check, history};
-use super::devices::Meeting;
+use super::checks::{Worked, cutting, expect_worked};
 use snap_core::OpenGate;
-use snap_pairs::Cutting;
+use snap_testing::Meeting;
 use std::alloc::Global;
 use std::sync::Wait;
 use std::test::Fail;
 use std::thread::Threads;
 
 // Two views disagree about the order of two updates.
-const VIEWS_DISAGREE: (&str, &str, &str) = (
+const VIEWS_DISAGREE: Worked = (
     "begin,0,update,0:1:1\nbegin,1,update,1:1:1\nbegin,2,view,\nbegin,3,view,\nend,2,view,0:1:1\n\
      end,3,view,1:1:1\nend,0,update,\nend,1,update,\n",
     "regular",
@@ -17,7 +16,7 @@ const VIEWS_DISAGREE: (&str, &str, &str) = (
      read 2 first view 3 view 4 component 0\n",
 );
 
-const ATOMIC_RUN: (&str, &str, &str) = (
+const ATOMIC_RUN: Worked = (
     "begin,0,update,0:1:10\nend,0,update,\nbegin,1,update,1:1:20\nbegin,2,view,\n\
      begin,0,update,0:2:11\nend,2,view,0:1:10\nend,0,update,\nbegin,3,view,\n\
      end,3,view,0:2:11 1:1:20\nend,1,update,\n",
@@ -28,7 +27,7 @@ const ATOMIC_RUN: (&str, &str, &str) = (
 );
 
 // A stale view, and a view of a value that nobody wrote.
-const STALE_AND_WRONG: (&str, &str, &str) = (
+const STALE_AND_WRONG: Worked = (
     "begin,0,update,0:1:7\nend,0,update,\nbegin,1,view,\nend,1,view,\nbegin,2,view,\n\
      end,2,view,0:1:9\n",
     "irregular",
@@ -36,18 +35,169 @@ const STALE_AND_WRONG: (&str, &str, &str) = (
      integrity 1 first view 3 entry 0:1:9\nproximity 1 first view 2 entry 0:0 old\n",
 );
 
-// Each history gets this end and this report.
-fn expect<Rt: Threads + Wait + Sync>(
+// Atomic histories, with an order that explains each.
+const ATOMIC: &[Worked] = &[
+    (
+        "",
+        "atomic",
+        "events 0 calls 0 pending 0 views 0\nregular yes\natomic yes\norder 0\n",
+    ),
+    // one pending update was seen, the other is left out
+    (
+        "begin,0,update,0:1:3\nbegin,1,update,1:1:4\nbegin,2,view,\nend,2,view,0:1:3\n",
+        "atomic",
+        "events 4 calls 3 pending 2 views 1\nregular yes\natomic yes\norder 2\n\
+         1 p0 update 0:1:3\n3 p2 view 0:1:3\n",
+    ),
+    // a view that misses the update beside it stands before it
+    (
+        "begin,0,update,0:1:3\nbegin,1,view,\nend,1,view,\nend,0,update,\n",
+        "atomic",
+        "events 4 calls 2 pending 0 views 1\nregular yes\natomic yes\norder 2\n\
+         2 p1 view\n1 p0 update 0:1:3\n",
+    ),
+    ATOMIC_RUN,
+    // four pending calls, none of which need have taken effect
+    (
+        "begin,0,update,0:1:1\nbegin,1,update,1:1:1\nbegin,2,view,\nbegin,3,view,\n",
+        "atomic",
+        "events 4 calls 4 pending 4 views 0\nregular yes\natomic yes\norder 0\n",
+    ),
+];
+
+// Regular histories that are not atomic, with their read or write faults.
+const REGULAR: &[Worked] = &[
+    (
+        "begin,0,update,0:1:7\nbegin,1,view,\nend,1,view,0:1:7\nbegin,2,view,\nend,2,view,\n\
+         end,0,update,\n",
+        "regular",
+        "events 6 calls 3 pending 0 views 2\nregular yes\natomic no\n\
+         read 1 first view 2 view 3 component 0\n",
+    ),
+    VIEWS_DISAGREE,
+    (
+        "begin,2,view,\nbegin,0,update,0:1:5\nend,0,update,\nbegin,1,update,1:1:6\n\
+         end,1,update,\nend,2,view,1:1:6\n",
+        "regular",
+        "events 6 calls 3 pending 0 views 1\nregular yes\natomic no\n\
+         write 1 first view 1 misses 0:1 shows 1:1\n",
+    ),
+];
+
+// Histories that are not regular, with their integrity or proximity faults.
+const IRREGULAR: &[Worked] = &[
+    (
+        "begin,0,update,0:1:7\nend,0,update,\nbegin,1,view,\nend,1,view,\n",
+        "irregular",
+        "events 4 calls 2 pending 0 views 1\nregular no\natomic no\n\
+         proximity 1 first view 2 entry 0:0 old\n",
+    ),
+    (
+        "begin,1,view,\nend,1,view,0:1:7\nbegin,0,update,0:1:7\nend,0,update,\n",
+        "irregular",
+        "events 4 calls 2 pending 0 views 1\nregular no\natomic no\n\
+         proximity 1 first view 1 entry 0:1 early\n",
+    ),
+    (
+        "begin,0,update,0:1:7\nend,0,update,\nbegin,1,view,\nend,1,view,0:1:8\n",
+        "irregular",
+        "events 4 calls 2 pending 0 views 1\nregular no\natomic no\n\
+         integrity 1 first view 2 entry 0:1:8\n",
+    ),
+    (
+        "begin,0,update,0:1:7\nend,0,update,\nbegin,1,view,\nend,1,view,0:4294967295:7\n",
+        "irregular",
+        "events 4 calls 2 pending 0 views 1\nregular no\natomic no\n\
+         integrity 1 first view 2 entry 0:4294967295:7\n",
+    ),
+    STALE_AND_WRONG,
+];
+
+// Texts that are no histories, with their first faults.
+const REFUSED: &[Worked] = &[
+    (
+        "begin,0,view,\nbegin,0,view,\n",
+        "refused",
+        "refused record 3: busy\n",
+    ),
+    ("end,0,view,\n", "refused", "refused record 2: idle\n"),
+    (
+        "begin,0,view,\nend,0,update,\n",
+        "refused",
+        "refused record 3: otherop\n",
+    ),
+    (
+        "begin,0,update,0:2:1\n",
+        "refused",
+        "refused record 2: number\n",
+    ),
+    (
+        "begin,0,update,0:1:1\nend,0,update,\nbegin,0,update,0:1:1\n",
+        "refused",
+        "refused record 4: number\n",
+    ),
+    (
+        "begin,0,update,0:1:1\nend,0,update,\nbegin,1,update,0:2:1\n",
+        "refused",
+        "refused record 4: writer\n",
+    ),
+    ("begin,0,view\n", "refused", "refused record 2: fields\n"),
+    (
+        "start,65536,scan,x\n",
+        "refused",
+        "refused record 2: event\n",
+    ),
+    (
+        "begin,65536,scan,x\n",
+        "refused",
+        "refused record 2: process\n",
+    ),
+    ("begin,00,view,\n", "refused", "refused record 2: process\n"),
+    ("begin,0,scan,x\n", "refused", "refused record 2: op\n"),
+    (
+        "begin,0,update,0:01:1\n",
+        "refused",
+        "refused record 2: data\n",
+    ),
+    (
+        "begin,0,update,256:1:1\n",
+        "refused",
+        "refused record 2: data\n",
+    ),
+    (
+        "begin,0,update,0:0:1\n",
+        "refused",
+        "refused record 2: data\n",
+    ),
+    ("begin,0,view,x\n", "refused", "refused record 2: data\n"),
+    (
+        "begin,1,view,\nend,1,view,1:1:1 0:1:1\n",
+        "refused",
+        "refused record 3: data\n",
+    ),
+];
+
+// Each history ends and reports as it is to.
+fn expect_all<Rt: Threads + Wait + Sync>(
     rt: &Rt,
     alloc: Global,
-    cases: &[(&str, &str, &str)],
+    cases: &[Worked],
 ) -> Result<(), Fail> {
-    let cutting = Cutting::new(8, 2).ok().ok_or("a cutting")?;
-    for (records, end, report) in cases {
-        let text = history(alloc, records)?;
-        let (found, out) = check(rt, alloc, &text, cutting, &OpenGate);
-        if found != *end || out.as_slice() != report.as_bytes() {
-            return Err(Fail::from(*records));
+    for worked in cases {
+        expect_worked(rt, alloc, *worked, cutting(8, 2)?, &OpenGate)?;
+    }
+    Ok(())
+}
+
+// The history ends and reports so by every cutting.
+fn expect_by_every_cutting<Rt: Threads + Wait + Sync>(
+    rt: &Rt,
+    alloc: Global,
+    worked: Worked,
+) -> Result<(), Fail> {
+    for pieces in [1, 2, 1024] {
+        for workers in [1, 2, 8] {
+            expect_worked(rt, alloc, worked, cutting(pieces, workers)?, &OpenGate)?;
         }
     }
     Ok(())
@@ -55,191 +205,39 @@ fn expect<Rt: Threads + Wait + Sync>(
 
 #[test]
 fn an_atomic_history_gets_an_order_that_explains_it(rt: HostRuntime) -> Result<(), Fail> {
-    let cases = [
-        (
-            "",
-            "atomic",
-            "events 0 calls 0 pending 0 views 0\nregular yes\natomic yes\norder 0\n",
-        ),
-        // one pending update was seen, the other is left out
-        (
-            "begin,0,update,0:1:3\nbegin,1,update,1:1:4\nbegin,2,view,\nend,2,view,0:1:3\n",
-            "atomic",
-            "events 4 calls 3 pending 2 views 1\nregular yes\natomic yes\norder 2\n\
-             1 p0 update 0:1:3\n3 p2 view 0:1:3\n",
-        ),
-        // a view that misses the update beside it stands before it
-        (
-            "begin,0,update,0:1:3\nbegin,1,view,\nend,1,view,\nend,0,update,\n",
-            "atomic",
-            "events 4 calls 2 pending 0 views 1\nregular yes\natomic yes\norder 2\n\
-             2 p1 view\n1 p0 update 0:1:3\n",
-        ),
-        ATOMIC_RUN,
-        // four pending calls, none of which need have taken effect
-        (
-            "begin,0,update,0:1:1\nbegin,1,update,1:1:1\nbegin,2,view,\nbegin,3,view,\n",
-            "atomic",
-            "events 4 calls 4 pending 4 views 0\nregular yes\natomic yes\norder 0\n",
-        ),
-    ];
-    expect(&rt, rt.alloc(), &cases)
+    expect_all(&rt, rt.alloc(), ATOMIC)
 }
 
 #[test]
 fn a_regular_history_that_is_not_atomic_gets_its_read_or_write_faults(
     rt: HostRuntime,
 ) -> Result<(), Fail> {
-    let cases = [
-        (
-            "begin,0,update,0:1:7\nbegin,1,view,\nend,1,view,0:1:7\nbegin,2,view,\nend,2,view,\n\
-             end,0,update,\n",
-            "regular",
-            "events 6 calls 3 pending 0 views 2\nregular yes\natomic no\n\
-             read 1 first view 2 view 3 component 0\n",
-        ),
-        VIEWS_DISAGREE,
-        (
-            "begin,2,view,\nbegin,0,update,0:1:5\nend,0,update,\nbegin,1,update,1:1:6\n\
-             end,1,update,\nend,2,view,1:1:6\n",
-            "regular",
-            "events 6 calls 3 pending 0 views 1\nregular yes\natomic no\n\
-             write 1 first view 1 misses 0:1 shows 1:1\n",
-        ),
-    ];
-    expect(&rt, rt.alloc(), &cases)
+    expect_all(&rt, rt.alloc(), REGULAR)
 }
 
 #[test]
 fn an_irregular_history_gets_its_integrity_or_proximity_faults(
     rt: HostRuntime,
 ) -> Result<(), Fail> {
-    let cases = [
-        (
-            "begin,0,update,0:1:7\nend,0,update,\nbegin,1,view,\nend,1,view,\n",
-            "irregular",
-            "events 4 calls 2 pending 0 views 1\nregular no\natomic no\n\
-             proximity 1 first view 2 entry 0:0 old\n",
-        ),
-        (
-            "begin,1,view,\nend,1,view,0:1:7\nbegin,0,update,0:1:7\nend,0,update,\n",
-            "irregular",
-            "events 4 calls 2 pending 0 views 1\nregular no\natomic no\n\
-             proximity 1 first view 1 entry 0:1 early\n",
-        ),
-        (
-            "begin,0,update,0:1:7\nend,0,update,\nbegin,1,view,\nend,1,view,0:1:8\n",
-            "irregular",
-            "events 4 calls 2 pending 0 views 1\nregular no\natomic no\n\
-             integrity 1 first view 2 entry 0:1:8\n",
-        ),
-        (
-            "begin,0,update,0:1:7\nend,0,update,\nbegin,1,view,\nend,1,view,0:4294967295:7\n",
-            "irregular",
-            "events 4 calls 2 pending 0 views 1\nregular no\natomic no\n\
-             integrity 1 first view 2 entry 0:4294967295:7\n",
-        ),
-        STALE_AND_WRONG,
-    ];
-    expect(&rt, rt.alloc(), &cases)
+    expect_all(&rt, rt.alloc(), IRREGULAR)
 }
 
 #[test]
 fn a_text_that_is_no_history_gets_its_first_fault(rt: HostRuntime) -> Result<(), Fail> {
-    let cases = [
-        (
-            "begin,0,view,\nbegin,0,view,\n",
-            "refused",
-            "refused record 3: busy\n",
-        ),
-        ("end,0,view,\n", "refused", "refused record 2: idle\n"),
-        (
-            "begin,0,view,\nend,0,update,\n",
-            "refused",
-            "refused record 3: otherop\n",
-        ),
-        (
-            "begin,0,update,0:2:1\n",
-            "refused",
-            "refused record 2: number\n",
-        ),
-        (
-            "begin,0,update,0:1:1\nend,0,update,\nbegin,0,update,0:1:1\n",
-            "refused",
-            "refused record 4: number\n",
-        ),
-        (
-            "begin,0,update,0:1:1\nend,0,update,\nbegin,1,update,0:2:1\n",
-            "refused",
-            "refused record 4: writer\n",
-        ),
-        ("begin,0,view\n", "refused", "refused record 2: fields\n"),
-        (
-            "start,65536,scan,x\n",
-            "refused",
-            "refused record 2: event\n",
-        ),
-        (
-            "begin,65536,scan,x\n",
-            "refused",
-            "refused record 2: process\n",
-        ),
-        ("begin,00,view,\n", "refused", "refused record 2: process\n"),
-        ("begin,0,scan,x\n", "refused", "refused record 2: op\n"),
-        (
-            "begin,0,update,0:01:1\n",
-            "refused",
-            "refused record 2: data\n",
-        ),
-        (
-            "begin,0,update,256:1:1\n",
-            "refused",
-            "refused record 2: data\n",
-        ),
-        (
-            "begin,0,update,0:0:1\n",
-            "refused",
-            "refused record 2: data\n",
-        ),
-        ("begin,0,view,x\n", "refused", "refused record 2: data\n"),
-        (
-            "begin,1,view,\nend,1,view,1:1:1 0:1:1\n",
-            "refused",
-            "refused record 3: data\n",
-        ),
-    ];
-    expect(&rt, rt.alloc(), &cases)
+    expect_all(&rt, rt.alloc(), REFUSED)
 }
 
 #[test]
 fn every_cutting_gives_the_same_report(rt: HostRuntime) -> Result<(), Fail> {
-    for (records, end, report) in [VIEWS_DISAGREE, ATOMIC_RUN, STALE_AND_WRONG] {
-        let text = history(rt.alloc(), records)?;
-        for pieces in [1, 2, 1024] {
-            for workers in [1, 2, 8] {
-                let cutting = Cutting::new(pieces, workers).ok().ok_or("a cutting")?;
-                let (found, out) = check(&rt, rt.alloc(), &text, cutting, &OpenGate);
-                assert_eq!(rt; found, end, "{pieces} pieces, {workers} workers");
-                assert_eq!(rt;
-                    out.as_slice(),
-                    report.as_bytes(),
-                    "{pieces} pieces, {workers} workers"
-                );
-            }
-        }
-    }
-    Ok(())
+    expect_by_every_cutting(&rt, rt.alloc(), VIEWS_DISAGREE)?;
+    expect_by_every_cutting(&rt, rt.alloc(), ATOMIC_RUN)?;
+    expect_by_every_cutting(&rt, rt.alloc(), STALE_AND_WRONG)
 }
 
 #[test]
 fn two_workers_that_wait_for_each_other_both_come(rt: HostRuntime) -> Result<(), Fail> {
-    let (records, end, report) = VIEWS_DISAGREE;
-    let text = history(rt.alloc(), records)?;
-    let cutting = Cutting::new(2, 2).ok().ok_or("a cutting")?;
     let gate = Meeting::at_turn(0);
-    let (found, out) = check(&rt, rt.alloc(), &text, cutting, &gate);
-    assert_eq!(rt; found, end);
-    assert_eq!(rt; out.as_slice(), report.as_bytes());
+    expect_worked(&rt, rt.alloc(), VIEWS_DISAGREE, cutting(2, 2)?, &gate)?;
     assert!(rt; gate.was_held());
     Ok(())
 }

@@ -1,7 +1,6 @@
-use Rattle.std.proofs.Common.{◌≡◌, ◌∙◌, ap, ap₂, map, codes, true, List, ℕ, [], ◌∷◌}
+use Rattle.std.proofs.Common.{◌∙◌, ap, ap₂, map, true, false}
 use Rattle.std.specs.Prelude.{string_bytes}
-use Rattle.clap.specs.Words.{is_simple, takes, subcommand_of, subcommand_rows_of}
-use Rattle.snapjudge.specs.CommandLine.{program_app}
+use Rattle.clap.specs.Words.{is_simple, takes, subcommand_of}
 use Rattle.snapjudge.proofs.OnWords.{program_is_simple, check_is_taken, check_alone, record_is_taken, record_alone, judged_is_taken, record_judged}
 use Rattle.snapjudge.proofs.job.job_of.Goals as goal
 
@@ -15,14 +14,14 @@ returns-in-Some-clause-check_alone c = λ name e.
     let words_are = ap (map string_bytes) c.as_slice.ensures.value ∙ e in
     let matches = c.in-Ok.ensures.matches (ap is_simple c.in_ok-command.ensures ∙ program_is_simple) in
     let found = check_alone name in
-    c.in-Some.ensures.check found.0 (matches.1 ∙ ap₂ subcommand_of c.in_ok-command.ensures words_are ∙ found.1) found.2 found.3
+    c.in-Some.ensures.check found.0 8 2 (matches.1 ∙ ap₂ subcommand_of c.in_ok-command.ensures words_are ∙ found.1) found.2
 
 pub returns-clause-check_alone : goal.returns-clause-check_alone
 returns-clause-check_alone c = λ name e.
     let words_are = ap (map string_bytes) c.as_slice.ensures.value ∙ e in
     let matches = c.in-Ok.ensures.matches (ap is_simple c.in_ok-command.ensures ∙ program_is_simple) in
     let found = check_alone name in
-    absurd (c.in-None.ensures.check found.0 (matches.1 ∙ ap₂ subcommand_of c.in_ok-command.ensures words_are ∙ found.1) found.2 found.3)
+    absurd (c.in-None.ensures.check found.0 8 2 (matches.1 ∙ ap₂ subcommand_of c.in_ok-command.ensures words_are ∙ found.1) found.2)
 
 pub returns-in-Err-clause-record_alone : goal.returns-in-Err-clause-record_alone
 returns-in-Err-clause-record_alone c = λ name e.
@@ -34,14 +33,14 @@ returns-in-Some-clause-record_alone c = λ name e.
     let words_are = ap (map string_bytes) c.as_slice.ensures.value ∙ e in
     let matches = c.in-Ok.ensures.matches (ap is_simple c.in_ok-command.ensures ∙ program_is_simple) in
     let found = record_alone name in
-    c.in-Some.ensures.record_alone found.0 (matches.1 ∙ ap₂ subcommand_of c.in_ok-command.ensures words_are ∙ found.1) found.2 found.3 found.4
+    c.in-Some.ensures.recording found.0 16 false (matches.1 ∙ ap₂ subcommand_of c.in_ok-command.ensures words_are ∙ found.1) found.2
 
 pub returns-clause-record_alone : goal.returns-clause-record_alone
 returns-clause-record_alone c = λ name e.
     let words_are = ap (map string_bytes) c.as_slice.ensures.value ∙ e in
     let matches = c.in-Ok.ensures.matches (ap is_simple c.in_ok-command.ensures ∙ program_is_simple) in
     let found = record_alone name in
-    absurd (c.in-None.ensures.record_alone found.0 (matches.1 ∙ ap₂ subcommand_of c.in_ok-command.ensures words_are ∙ found.1) found.2 found.3 found.4)
+    absurd (c.in-None.ensures.recording found.0 16 false (matches.1 ∙ ap₂ subcommand_of c.in_ok-command.ensures words_are ∙ found.1) found.2)
 
 pub returns-in-Err-clause-record_judged : goal.returns-in-Err-clause-record_judged
 returns-in-Err-clause-record_judged c = λ name e.
@@ -53,11 +52,11 @@ returns-in-Some-clause-record_judged c = λ name e.
     let words_are = ap (map string_bytes) c.as_slice.ensures.value ∙ e in
     let matches = c.in-Ok.ensures.matches (ap is_simple c.in_ok-command.ensures ∙ program_is_simple) in
     let found = record_judged name in
-    c.in-Some.ensures.record_judged found.0 (matches.1 ∙ ap₂ subcommand_of c.in_ok-command.ensures words_are ∙ found.1) found.2 found.3 found.4
+    c.in-Some.ensures.recording found.0 5 true (matches.1 ∙ ap₂ subcommand_of c.in_ok-command.ensures words_are ∙ found.1) found.2
 
 pub returns-clause-record_judged : goal.returns-clause-record_judged
 returns-clause-record_judged c = λ name e.
     let words_are = ap (map string_bytes) c.as_slice.ensures.value ∙ e in
     let matches = c.in-Ok.ensures.matches (ap is_simple c.in_ok-command.ensures ∙ program_is_simple) in
     let found = record_judged name in
-    absurd (c.in-None.ensures.record_judged found.0 (matches.1 ∙ ap₂ subcommand_of c.in_ok-command.ensures words_are ∙ found.1) found.2 found.3 found.4)
+    absurd (c.in-None.ensures.recording found.0 5 true (matches.1 ∙ ap₂ subcommand_of c.in_ok-command.ensures words_are ∙ found.1) found.2)

@@ -1,4 +1,4 @@
-use Rattle.std.proofs.Common.{◌≡◌, subst, sym}
+use Rattle.std.proofs.Common.{subst, sym}
 use Rattle.snap_core.specs.Counting.{inner_of}
 use Rattle.snapjudge.specs.RecordRuns.{IsRecorded, WroteAs}
 use Rattle.snapjudge.proofs.Recordings.{report_written}
