@@ -110,7 +110,7 @@ least_by_numbers r s f g x y =
 
 -- an update that a view misses, against those that it shows
 
-never : (o : Option ℕ) → begins_behind None o ≡ false
+pub never : (o : Option ℕ) → begins_behind None o ≡ false
 never None = refl
 never (Some b) = refl
 

@@ -27,6 +27,7 @@ use Rattle.snap_conditions.proofs.Parts.{next_noted, merge_step}
 use Rattle.snap_conditions.proofs.Reports.{fit_views}
 use Rattle.snap_conditions.proofs.Tallies.{from_views, nothing_unwritten, write_shows}
 
+-- the components are the numbers below 256
 component_at : (k : ℕ) → k < 256 → get_or components k 0 ≡ k
 component_at k l = omega (arith, get_or-range_with_len 0 256 k 0 l)
 
@@ -109,6 +110,7 @@ next_first_of p k l first next found h n g =
 pub all_taken : (k : ℕ) → 256 ≤ k → take k components ≡ components
 all_taken k past = take_all k components past
 
+-- a view shows the component of which it has an integrity fault
 integrity_shows : (calls : List Call) (r : Call) (k : ℕ) → integrity_fault calls r k ≡ true → ShowsEntry r k
 integrity_shows calls r k t = go (shown r k) refl
   where
@@ -116,6 +118,7 @@ integrity_shows calls r k t = go (shown r k) refl
     go None s = absurd (false≢true (sym (nothing_unwritten calls r k s) ∙ t))
     go (Some e) s = record { entry = e; is = s }
 
+-- the parts of one view, by all components
 pub integrity_by_components : (es : List Event) → IsKept es → (r : Call) → In r (views_of (calls_of es)) →
     part_of reported_integrity (integrity_faults (calls_of es) (r ∷ [])) ≡ part_of (λ k. reported_integrity (r, k)) (filter (integrity_fault (calls_of es) r) components)
 integrity_by_components es kept r i =

@@ -23,6 +23,7 @@ use Rattle.snap_conditions.specs.Parts.{found_at}
 use Rattle.snap_conditions.specs.Seen.{view_in}
 use Rattle.snap_conditions.specs.Tally.{shown_entry, reported_read}
 use Rattle.snap_conditions.proofs.Exceeding.{exceeds_not}
+use Rattle.snap_conditions.proofs.Finds.{never}
 use Rattle.snap_conditions.proofs.Local.{same_entry}
 use Rattle.snap_conditions.proofs.Places.{integrity_by_update, old_by_place, early_by_place, write_by_place}
 use Rattle.snap_conditions.proofs.Reports.{least_exceeded}
@@ -48,14 +49,14 @@ asked es k m n u same h = subst (λ z. IsAsked es k z u) same record { update = 
 pub not_asked : (es : List Event) (k m n : ℕ) → m ≡ n → option_map number_of (update_of (calls_of es) k m) ≡ None → update_of (calls_of es) k n ≡ None
 not_asked es k m n same h = ap (update_of (calls_of es) k) (sym same) ∙ mapped_none number_of (update_of (calls_of es) k m) h
 
+-- what the view at a place shows is a view's entries
+pub view_shape : (es : List Event) → IsKept es → (place : ℕ) → place < length (views_of (calls_of es)) → AreEntries (entries_of (view_in (calls_of es) place).operation)
+view_shape es kept place l = view_entries es kept place (view_in (calls_of es) place) (view_within es place l).is
+
 -- whether a bare operation writes an entry
 abbrev pub writes_bare : CallOp → Entry → Bool
 writes_bare (Update d) e = (d.component == e.component) && ((d.number == e.number) && (d.value == e.value))
 writes_bare View e = false
-
-never : (o : Option ℕ) → begins_behind None o ≡ false
-never None = refl
-never (Some b) = refl
 
 -- whether the next update of a component precedes a view
 
@@ -107,6 +108,7 @@ integrity_none calls r k shape zero = go (shown r k) refl
         let none : e.number ≡ 0 = sym (shown_number_at r k e s) ∙ zero in
         absurd (false≢true (sym shape.positive ∙ any_from (λ d. d.number == 0) (entries_of r.operation) e (shown_in r k e s).0 (eq-eqb e.number 0 none)))
 
+-- by the update of the number that the view shows
 by_update : (es : List Event) → IsKept es → (r : Call) (k : ℕ) (e : Entry) → e ≡ shown_entry r k → 0 < e.number → integrity_fault (calls_of es) r k ≡ not (is_written (update_of (calls_of es) k e.number) e)
 by_update es kept r k e same positive =
     let s = shows_positive r k (omega (arith, positive, ap (λ (d : Entry). d.number) same)) in
@@ -128,9 +130,6 @@ integrity_update es kept r k e same positive u op h is =
     at : (o : Operation) (op : CallOp) → bare_op o ≡ op → writes_entry o e ≡ writes_bare op e
     at o (Update d) h = ap (λ z. writes_entry z e) (update_from o d h)
     at o View h = let v = view_from o h in ap (λ z. writes_entry z e) v.1
-
-pub view_shape : (es : List Event) → IsKept es → (place : ℕ) → place < length (views_of (calls_of es)) → AreEntries (entries_of (view_in (calls_of es) place).operation)
-view_shape es kept place l = view_entries es kept place (view_in (calls_of es) place) (view_within es place l).is
 
 -- whether a view shows more of some component than another, by the least such component
 

@@ -18,7 +18,7 @@ mod comparisons;
 mod histories;
 mod slow;
 
-// The tallies of ranges of views of a history, each with the places where its range begins and ends.
+// Each of these ranges of views of a history, from one place to before another, has this tally.
 fn expect(
     rt: &impl Abort,
     alloc: Global,
@@ -34,6 +34,7 @@ fn expect(
     Ok(())
 }
 
+// The part of one fault.
 fn one<F: Copy>(fault: F) -> Part<F>
     ensures { result ≡ record { count = 1; first = Some fault } }
 {

@@ -4,7 +4,10 @@ ghost use Rattle.snap_core.specs.Calls.{calls_of, views_of};
 ghost use Rattle.snap_conditions.specs.Tally.{tally_of, views_between};
 
 use super::histories::WORKED;
-use super::slow::{slow_integrity, slow_proximity, slow_read, slow_write};
+use super::slow::integrity::slow_integrity;
+use super::slow::proximity::slow_proximity;
+use super::slow::read::slow_read;
+use super::slow::write::slow_write;
 use crate::{Tally, merge, tally_range};
 use snap_index::Index;
 use snap_testing::history_of;

@@ -5,17 +5,13 @@ ghost use Rattle.snap_core.specs.Calls.{calls_of, views_of, call_numbered};
 ghost use Rattle.snap_conditions.specs.Seen.{view_in};
 ghost use Rattle.snap_conditions.specs.Tally.{shown_entry};
 
-mod integrity;
-mod proximity;
-mod read;
-mod write;
-
-pub(super) use integrity::slow_integrity;
-pub(super) use proximity::slow_proximity;
-pub(super) use read::slow_read;
 use snap_core::Entry;
 use snap_index::Index;
-pub(super) use write::slow_write;
+
+pub(super) mod integrity;
+pub(super) mod proximity;
+pub(super) mod read;
+pub(super) mod write;
 
 // The call number of the view at a place.
 fn number_of(index: &Index<'_>, place: u32) -> u32
