@@ -2,7 +2,9 @@
 use super::checks::{cutting, expect, history};
 use snap_core::OpenGate;
 use std::alloc::{AllocError, Global};
+use std::sync::Wait;
 use std::test::Fail;
+use std::thread::Threads;
 
 // Whole texts, how their checks end, and their reports.
 const TEXTS: &[(&str, &str, &str)] = &[
@@ -18,6 +20,17 @@ const TEXTS: &[(&str, &str, &str)] = &[
         "events 1 calls 1 pending 1 views 0\nregular yes\natomic yes\norder 0\n",
     ),
 ];
+
+// The check of a text in 8 pieces by 2 workers ends so, and writes this report.
+fn expect_default<Rt: Threads + Wait + Sync>(
+    rt: &Rt,
+    alloc: Global,
+    text: &[u8],
+    end: &str,
+    report: &str,
+) -> Result<(), Fail> {
+    expect(rt, alloc, text, cutting(8, 2)?, &OpenGate, end, report)
+}
 
 // The text with so many updates of component 0, each ended at once.
 fn updates_text(alloc: Global, updates: u32) -> Result<String, AllocError> {
@@ -45,16 +58,7 @@ fn a_history_may_have_16384_events(rt: HostRuntime) -> Result<(), Fail> {
     let order = updates_order(rt.alloc(), 8192)?;
     let head = "events 16384 calls 8192 pending 0 views 0\nregular yes\natomic yes\norder 8192\n";
     let report = format!(in rt.alloc(); "{head}{order}")?;
-    let cutting = cutting(8, 2)?;
-    expect(
-        &rt,
-        rt.alloc(),
-        text.as_bytes(),
-        cutting,
-        &OpenGate,
-        "atomic",
-        &report,
-    )
+    expect_default(&rt, rt.alloc(), text.as_bytes(), "atomic", &report)
 }
 
 #[test]
@@ -62,16 +66,7 @@ fn a_history_may_not_have_16385_events(rt: HostRuntime) -> Result<(), Fail> {
     let mut text = updates_text(rt.alloc(), 8192)?;
     text.push_str("begin,0,view,\n")?;
     let report = "refused record 16386: toomany\n";
-    let cutting = cutting(8, 2)?;
-    expect(
-        &rt,
-        rt.alloc(),
-        text.as_bytes(),
-        cutting,
-        &OpenGate,
-        "refused",
-        report,
-    )
+    expect_default(&rt, rt.alloc(), text.as_bytes(), "refused", report)
 }
 
 #[test]
@@ -79,42 +74,17 @@ fn a_text_may_have_67108864_bytes(rt: HostRuntime) -> Result<(), Fail> {
     let alloc = rt.alloc();
     let mut text = vec![in alloc; b'\n'; 67_108_864]?;
     let report = "refused record 1: header\n";
-    expect(
-        &rt,
-        alloc,
-        &text,
-        cutting(8, 2)?,
-        &OpenGate,
-        "refused",
-        report,
-    )?;
+    expect_default(&rt, alloc, &text, "refused", report)?;
 
     text.push(b'\n')?;
     let report = "refused record 0: toolong\n";
-    expect(
-        &rt,
-        alloc,
-        &text,
-        cutting(8, 2)?,
-        &OpenGate,
-        "refused",
-        report,
-    )
+    expect_default(&rt, alloc, &text, "refused", report)
 }
 
 #[test]
 fn the_header_decides_and_quotes_and_crlf_are_read(rt: HostRuntime) -> Result<(), Fail> {
     for (text, end, report) in TEXTS {
-        let cutting = cutting(8, 2)?;
-        expect(
-            &rt,
-            rt.alloc(),
-            text.as_bytes(),
-            cutting,
-            &OpenGate,
-            end,
-            report,
-        )?;
+        expect_default(&rt, rt.alloc(), text.as_bytes(), end, report)?;
     }
     Ok(())
 }
