@@ -87,7 +87,7 @@ neither_found es kept r k n s f g = found_neither (calls_of es) r k (old_here es
 -- a view against another
 
 -- a component of which a view shows a number
-small : (r : Call) (k : ℕ) → AreEntries (entries_of r.operation) → 0 < shown_number r k → k < 256
+pub small : (r : Call) (k : ℕ) → AreEntries (entries_of r.operation) → 0 < shown_number r k → k < 256
 small r k h l = let d = is_listed (entries_of r.operation) h k (omega (arith, l, among_is_shown r k)) in omega (arith, d.component, d.fits.0)
 
 exceeds_by_number : (r s : Call) (b : Bool) → AreEntries (entries_of r.operation) → IsTrue b ↔ IsLessSomewhere (shown_number s) (shown_number r) → exceeds r s ≡ b

@@ -16,4 +16,9 @@ pub mod Places
 pub mod Ranges
 pub mod Listed
 pub mod Lookups
+pub mod Quick
+pub mod Missed
+pub mod EntrySums
+pub mod Grids
+pub mod Counted
 mod Worked

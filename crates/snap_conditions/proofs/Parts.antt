@@ -71,3 +71,11 @@ filter_short p (x ∷ xs) = shorter (p x) (filter_short p xs)
 pub flat_map_short : {X Y : Type 0} (g : X → List Y) (n : ℕ) (xs : List X) → ((x : X) → In x xs → length (g x) ≤ n) → length (flat_map g xs) ≤ length xs * n
 flat_map_short g n [] h = omega arith
 flat_map_short g n (x ∷ xs) h = omega (arith, length-append (g x) (flat_map g xs), h x (inl refl), flat_map_short g n xs (λ y i. h y (inr i)))
+
+-- a part with no part behind it
+pub merged_none : {F : Type 0} (p : PartValue F) → merged_part p no_part ≡ p
+merged_none p = part_is (merged_part p no_part) p (omega arith) (keeps p.first)
+  where
+    keeps : {F : Type 0} (o : Option F) → option_or o None ≡ o
+    keeps None = refl
+    keeps (Some x) = refl

@@ -105,7 +105,7 @@ tests_from_local calls b h = record {
   early = λ r k v. false_from_ne_true _ (λ t. false≢true (sym (proximity_from calls h.proximity r k v (early_component calls b r k t)).1 ∙ t));
 }
 
-read_from : (calls : List Call) → read_faults calls (views_of calls) ≡ [] → (r s : Call) → IsViewOf calls r → IsViewOf calls s → read_fault r s ≡ false
+pub read_from : (calls : List Call) → read_faults calls (views_of calls) ≡ [] → (r s : Call) → IsViewOf calls r → IsViewOf calls s → read_fault r s ≡ false
 unfolding read_faults
 read_from calls e r s v w =
     filter_fails (read_fault r) (views_of calls) (map_nil (λ s. (r, s)) (filter (read_fault r) (views_of calls))
@@ -156,10 +156,14 @@ local_from_passes calls t = record {
   proximity = flat_map_none _ (views_of calls) (λ r i. ap (map (λ k. (r, k))) (filter_none (λ k. old_fault calls r k || early_fault calls r k) components (λ k j. or_from _ _ (t.old r k (from_views calls r i)) (t.early r k (from_views calls r i)))));
 }
 
+pub read_none : (calls : List Call) → ((r s : Call) → IsViewOf calls r → IsViewOf calls s → read_fault r s ≡ false) → read_faults calls (views_of calls) ≡ []
+unfolding read_faults
+read_none calls h = flat_map_none _ (views_of calls) (λ r i. ap (map (λ s. (r, s))) (filter_none (read_fault r) (views_of calls) (λ s j. h r s (from_views calls r i) (from_views calls s j))))
+
 pub none_from_passes : (calls : List Call) → PassesAll calls → HasNoFault calls
-unfolding read_faults write_faults
+unfolding write_faults
 none_from_passes calls t = record {
   local = local_from_passes calls t.local;
-  read = flat_map_none _ (views_of calls) (λ r i. ap (map (λ s. (r, s))) (filter_none (read_fault r) (views_of calls) (λ s j. t.read r s (from_views calls r i) (from_views calls s j))));
+  read = read_none calls t.read;
   write = flat_map_none _ (views_of calls) (λ r i. flat_map_none _ components (λ j l. ap (map (λ k. (r, j, k))) (filter_none (write_fault calls r j) (listed r) (λ k m. t.write r j k (from_views calls r i)))));
 }

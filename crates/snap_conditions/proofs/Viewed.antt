@@ -17,6 +17,10 @@ use Rattle.snap_core.proofs.Begun.{Begun, operation_at}
 use Rattle.snap_core.proofs.Histories.{begun_of, in_history, numbered_calls}
 use Rattle.snap_conditions.specs.Places.{update_of}
 use Rattle.snap_conditions.specs.Seen.{view_in}
+use Rattle.std.specs.Prelude.{count_by}
+use Rattle.std.proofs.lemmas.Bool.{cases_eq}
+use Rattle.snap_index.specs.Updates.{is_update_of}
+use Rattle.snap_index.proofs.Known.{no_update_0, update_beyond}
 use Rattle.snap_conditions.proofs.Local.{numbered_to}
 use Rattle.snap_conditions.proofs.Tallies.{from_views}
 
@@ -60,3 +64,10 @@ no_update_past es kept k n l = find_none (is_update_numbered k n) (calls_of es) 
     let x = numbered_to (calls_of es) k n c i t in
     let f = update_fits es kept.fit c x.entry x.update in
     omega (arith, f.1, x.number, l)))
+
+-- a component without an update
+pub none_of_none : (es : List Event) → IsKept es → (k n : ℕ) → count_by (is_update_of k) (calls_of es) ≡ 0 → update_of (calls_of es) k n ≡ None
+none_of_none es kept k n z = elim (cases_eq n 0) [
+  | inl same ↦ ap (update_of (calls_of es) k) same ∙ no_update_0 es kept.history k
+  | inr other ↦ update_beyond es kept.history k n (omega (arith, z, other))
+]

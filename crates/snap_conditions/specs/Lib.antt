@@ -1,9 +1,11 @@
+pub mod Grids
 pub mod Conditions
 pub mod Faults
 pub mod Laws
 pub mod PartValue
 pub mod Parts
 pub mod Places
+pub mod Quick
 pub mod Rows
 pub mod Seen
 pub mod Tally

@@ -1,5 +1,5 @@
 -- Where updates begin and end, and the tests of faults by these places.
-use Rattle.std.specs.Prelude.{ℕ, ◌≤◌, ⊤, Bool, false, List, Option, Some, None, find, get_or}
+use Rattle.std.specs.Prelude.{ℕ, ◌≤◌, ⊤, Bool, false, List, Option, Some, None, find, get_or, unwrap_or}
 use Rattle.snap_core.specs.declared.entry.Entry.{Entry}
 use Rattle.snap_core.specs.Calls.{Call, is_update_numbered, is_before}
 use Rattle.snap_conditions.specs.Faults.{writes_entry}
@@ -37,3 +37,7 @@ IsNoLater (Some begun) (Some latest) = begun ≤ latest
 -- where the update that an entry shows began, if there is one
 abbrev pub begin_of_shown : List Call → List Entry → ℕ → Option ℕ
 begin_of_shown calls entries i = let e = get_or entries i (record { component = 0; number = 0; value = 0 }) in begin_of (update_of calls e.component e.number)
+
+-- a begin, or 0 where there is none
+abbrev pub begin_or_0 : Option ℕ → ℕ
+begin_or_0 begun = unwrap_or begun 0

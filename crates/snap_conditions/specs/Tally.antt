@@ -55,6 +55,10 @@ views_between calls from to = take (to - from) (drop from (views_of calls))
 abbrev pub no_fault : Tally
 no_fault = record { integrity = no_part; proximity = no_part; read = no_part; write = no_part }
 
+-- a tally with no read fault counted
+abbrev pub without_read : Tally → Tally
+without_read t = record t { read = no_part }
+
 -- part by part
 abbrev pub merged : Tally → Tally → Tally
 merged a b =

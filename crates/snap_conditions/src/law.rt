@@ -1,5 +1,6 @@
 ghost use Rattle.std.specs.Prelude.{List};
 ghost use Rattle.snap_core.specs.Calls.{Call};
+ghost use Rattle.snap_conditions.specs.Quick.{NoReadFaultExactly};
 ghost use Rattle.snap_conditions.specs.Laws.{RegularExactly, ConditionsExactly, FaultsJoin, ReadFaultHasComponent, TalliesJoin, TalliesFit, RegularByTally, ConditionsByTally, NoFaultByTally};
 
 /// A history is regular exactly where no view has a fault of its own.
@@ -33,4 +34,10 @@ pub fn regular_by_tally()
 pub fn conditions_by_tally()
     ensures conditions { ConditionsByTally }
     ensures faults { NoFaultByTally }
+{}
+
+/// There is no read fault exactly where of any two completed views one shows no component above the other's, and none
+/// precedes one with a smaller sum.
+pub fn no_read_fault_by_sums()
+    ensures { NoReadFaultExactly }
 {}

@@ -6,6 +6,7 @@ mod integrity;
 mod law;
 mod part;
 mod proximity;
+mod quick_test;
 mod range;
 mod read;
 mod row;
@@ -13,13 +14,16 @@ mod seen;
 mod tally;
 #[cfg(test)]
 mod tests;
+mod view_grid;
 mod write;
 
 pub use fault::{IntegrityFault, ProximityFault, ReadFault, Side, WriteFault};
 pub use law::{
-    conditions_by_faults, conditions_by_tally, faults_join, regular_by_local_faults,
-    regular_by_tally, tallies_join,
+    conditions_by_faults, conditions_by_tally, faults_join, no_read_fault_by_sums,
+    regular_by_local_faults, regular_by_tally, tallies_join,
 };
 pub use part::Part;
-pub use range::tally_range;
+pub use quick_test::view_sum;
+pub use range::{tally_range, tally_without_read};
 pub use tally::{Tally, is_atomic, is_regular, merge};
+pub use view_grid::ViewGrid;

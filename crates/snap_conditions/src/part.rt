@@ -76,4 +76,16 @@ impl<F: Copy> Part<F> {
             first: self.first.or(second.first),
         }
     }
+
+    // As many faults, of which the first is the same.
+    pub(crate) fn counted(self, count: u64) -> Part<F>
+        requires some { 0 < self.count }
+        requires count { 0 < count }
+        ensures { result ≡ record { count = count; first = self.first } }
+    {
+        Part {
+            count,
+            first: self.first,
+        }
+    }
 }

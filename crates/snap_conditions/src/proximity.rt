@@ -48,7 +48,10 @@ pub(crate) fn proximity_part(index: &Index<'_>, place: u32) -> Part<ProximityFau
     let numbers = numbers_of(view.entries);
     let mut part = Part::none();
     for k in 0..COMPONENT_COUNT {
-        part = part.note(proximity_fault(index, &view, k as u8, numbers[k]));
+        // a component without an update has no fault
+        if index.update_count(k as u8) > 0 {
+            part = part.note(proximity_fault(index, &view, k as u8, numbers[k]));
+        }
     }
     part
 }

@@ -2,9 +2,10 @@ ghost use Rattle.std.specs.Prelude.{◌≡◌, ◌<◌, ◌≤◌, ◌-◌, ◌�
 ghost use Rattle.snap_core.specs.Calls.{calls_of, views_of};
 ghost use Rattle.snap_core.specs.Events.{IsKept};
 ghost use Rattle.snap_conditions.specs.Seen.{view_in};
-ghost use Rattle.snap_conditions.specs.Tally.{tally_of};
+ghost use Rattle.snap_conditions.specs.Tally.{tally_of, without_read};
 
 use crate::integrity::integrity_part;
+use crate::part::Part;
 use crate::proximity::proximity_part;
 use crate::read::read_part;
 use crate::tally::{Tally, merge};
@@ -37,6 +38,36 @@ pub fn tally_range(index: &Index<'_>, from: u32, to: u32) -> Tally
     let mut tally = Tally::none();
     for place in from..to {
         tally = merge(tally, view_tally(index, place));
+    }
+    tally
+}
+
+// The faults of the view at a place but for its read faults.
+fn view_without_read(index: &Index<'_>, place: u32) -> Tally
+    requires place { place < length (views_of (calls_of index.now)) }
+    requires kept { IsKept index.now }
+    ensures { result ≡ without_read (tally_of (calls_of index.now) (view_in (calls_of index.now) place ∷ [])) }
+{
+    Tally {
+        integrity: integrity_part(index, place),
+        proximity: proximity_part(index, place),
+        read: Part::none(),
+        write: write_part(index, place),
+    }
+}
+
+/// The tally of the completed views from `from` to `to - 1` as `tally_range` gives it, but without read faults: for a history
+/// that has none, or where they are counted elsewhere. It takes no memory.
+pub fn tally_without_read(index: &Index<'_>, from: u32, to: u32) -> Tally
+    requires order { from ≤ to }
+    requires views { to ≤ length (views_of (calls_of index.now)) }
+    ensures { result ≡ without_read (tally_of (calls_of index.now) (take (to - from) (drop from (views_of (calls_of index.now))))) }
+{
+    // what is known of the history that the index is of
+    let _events = index.event_count();
+    let mut tally = Tally::none();
+    for place in from..to {
+        tally = merge(tally, view_without_read(index, place));
     }
     tally
 }

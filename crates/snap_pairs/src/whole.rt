@@ -9,7 +9,7 @@ use crate::cutting::Cutting;
 use crate::gather::{gather, merge_slots};
 use crate::worker::{Answer, draw_all};
 use crate::workers::each_job;
-use snap_conditions::Tally;
+use snap_conditions::{Tally, ViewGrid};
 use snap_core::Gate;
 use snap_index::Index;
 use std::alloc::{AllocError, Global};
@@ -28,6 +28,8 @@ pub fn tally<R: Threads + Sync, G: Gate>(
 ) -> Result<Tally, AllocError>
     ensures { IfOk result (λ all. all ≡ tally_of (calls_of index.now) (views_of (calls_of index.now))) }
 {
+    let grid = ViewGrid::build(alloc, index)?;
+    let views = &grid;
     let (counter, claims) = Claims::start(alloc, cutting)?;
     let shared = &counter;
     let answers = each_job(
@@ -35,9 +37,9 @@ pub fn tally<R: Threads + Sync, G: Gate>(
         alloc,
         claims,
         &|claim: Claim| -> Result<Answer, AllocError>
-            requires { (shared.now.pieces ≡ cutting.pieces) × IsClaimOf shared.now claim × (claim.drawn ≡ []) }
+            requires { (views.now ≡ index.now) × (shared.now.pieces ≡ cutting.pieces) × IsClaimOf shared.now claim × (claim.drawn ≡ []) }
             ensures { IfOk result (IsAnswer (calls_of index.entry.now) shared.entry.now) }
-        { draw_all(alloc, index, cutting, shared, claim, gate) },
+        { draw_all(alloc, index, views, cutting, shared, claim, gate) },
     )?;
     let (claims, slots) = gather(alloc, index, cutting, &counter, answers)?;
     let Ok(()) = counter.close(claims) else {

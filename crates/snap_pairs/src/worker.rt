@@ -7,7 +7,7 @@ ghost use Rattle.snap_pairs.specs.Pieces.{IsAnswer};
 use crate::claims::{Claim, Claims};
 use crate::cutting::Cutting;
 use crate::pieces::start_of;
-use snap_conditions::{Tally, tally_range};
+use snap_conditions::{Tally, ViewGrid};
 use snap_core::Gate;
 use snap_index::Index;
 use std::alloc::{AllocError, Global};
@@ -30,11 +30,13 @@ pub(crate) struct Answer {
 pub(crate) fn draw_all<G: Gate>(
     alloc: Global,
     index: &Index<'_>,
+    grid: &ViewGrid<'_, '_>,
     cutting: Cutting,
     counter: &Claims,
     mut claim: Claim,
     gate: &G,
 ) -> Result<Answer, AllocError>
+    requires grid { grid.now ≡ index.now }
     requires pieces { counter.now.pieces ≡ cutting.pieces }
     requires claim { IsClaimOf counter.now claim × (claim.drawn ≡ []) }
     ensures { IfOk result (IsAnswer (calls_of index.now) counter.now) }
@@ -45,7 +47,7 @@ pub(crate) fn draw_all<G: Gate>(
         gate.at(claim.worker(), pairs.len() as u32);
         let from = start_of(cutting, piece, views);
         let to = start_of(cutting, piece + 1, views);
-        let tally = tally_range(index, from, to);
+        let tally = grid.tally(alloc, from, to)?;
         pairs.push(Drawn { piece, tally })?;
     }
     Ok(Answer { claim, pairs })

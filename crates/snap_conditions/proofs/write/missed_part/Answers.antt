@@ -17,6 +17,14 @@ use Rattle.snap_conditions.proofs.OneView.{found_few, missed_part}
 use Rattle.snap_conditions.proofs.Parts.{next_noted}
 use Rattle.snap_conditions.proofs.Ranges.{few_listed}
 use Rattle.snap_conditions.proofs.Viewed.{view_there, no_update_past}
+use Rattle.std.specs.Prelude.{count_by, nat_lt, option_map, not}
+use Rattle.std.specs.List.{position_or_len}
+use Rattle.std.proofs.lemmas.List.Sums.{prefix_len-le-length}
+use Rattle.snap_conditions.specs.Faults.{first_of}
+use Rattle.snap_conditions.proofs.Missed.{are_tested, missed_none, missed_some, some_counted, reported_at, next_end}
+use Rattle.snap_conditions.proofs.Ranges.{rising_few}
+use Rattle.snap_conditions.specs.Parts.{noted}
+use Rattle.snap_conditions.proofs.Parts.{part_is}
 use Rattle.snap_conditions.proofs.write.missed_part.Goals as goal
 
 pub returns-in_default : goal.returns-in_default
@@ -37,40 +45,45 @@ returns-then-not-begins_behind c =
     let none_later = subst (λ z. (i : ℕ) → i < length z → IsNoLater (begin_of_shown calls z i) c.args.latest) c.requires.view.entries c.requires.latest in
     c.none-part.ensures ∙ sym (none_behind c.args.index.now c.requires.kept r c.args.j c.args.latest c.requires.view.shape none_later none)
 
-pub note-part-requires : goal.note-part-requires
-note-part-requires c =
-    let calls = calls_of c.args.index.now in
-    let r = view_in calls c.args.place in
-    let count = ap (λ (p : PartValue WriteFault). p.count) c.loop-entry.invariant in
-    let few = few_listed c.args.index.now c.requires.kept r (view_there c.args.index.now c.args.place c.requires.place) in
-    omega (arith, count, found_few (write_fault calls r c.args.j) (listed r) c.loop-entry.entry-index, few, length-map (entries_of r.operation) (λ e. e.component), ap length c.requires.view.entries)
+pub count_behind-count-requires : goal.count_behind-count-requires
+count_behind-count-requires c = omega (arith, c.requires.count, ap length c.requires.view.entries, rising_few _ c.requires.view.shape.rising (λ j d l. (c.requires.view.shape.fit j d l).0))
 
-pub loop-entry-preserved : goal.loop-entry-preserved
-loop-entry-preserved c =
+pub returns-then-first-begins : goal.returns-then-first-begins
+returns-then-first-begins c =
     let es = c.args.index.now in
     let calls = calls_of es in
     let r = view_in calls c.args.place in
-    let i = c.loop-entry.entry-index in
-    let m = c.in-Some.missed_number in
-    let shape = c.requires.view.entries in
-    let e = get_or c.args.view.now.entries.now i nothing in
-    let within : i < length (entries_of r.operation) = subst (λ z. i < length z) shape c.loop-entry-test.true in
-    let is_shown : shown r e.component ≡ Some e = subst (λ z. shown r (get_or z i nothing).component ≡ Some (get_or z i nothing)) (sym shape) (shown_at r i nothing c.requires.view.shape within) in
-    let at : get_or (listed r) i 0 ≡ e.component = get_or-map (λ (d : Entry). d.component) (entries_of r.operation) i nothing 0 within ∙ ap (λ z. (get_or z i nothing).component) (sym shape) in
-    let next : m ≡ suc (shown_number r c.args.j) = (let x = c.in-Some.ensures in omega (arith, x.1, c.requires.number)) in
-    let fault : ℕ → WriteFault = λ n. record { view = n; missed_component = c.args.j; missed_number = m; shown_component = e.component; shown_number = e.number } in
-    let test : c.begins_behind-is_fault.result ≡ begins_behind (end_of (update_of calls c.args.j m)) (begin_of (update_of calls e.component e.number)) =
-    c.begins_behind-is_fault.ensures ∙ ap (λ o. begins_behind o c.begin_of_update-begun.result) c.end_of_update-ended.ensures ∙ ap (begins_behind (end_of (update_of calls c.args.j m))) c.begin_of_update-begun.ensures in
-    let found : c.then_some.result ≡ found_at (λ k. reported_write (r, c.args.j, k)) (write_fault calls r c.args.j) e.component =
-    c.then_some.ensures ∙ ap (λ b. then_some b (fault c.args.view.now.number)) test
-    ∙ ap (λ n. then_some (begins_behind (end_of (update_of calls c.args.j m)) (begin_of (update_of calls e.component e.number))) (fault n)) c.requires.view.number
-    ∙ sym (missed_found es c.requires.kept r c.args.j m e next is_shown) in
-    next_noted (λ k. reported_write (r, c.args.j, k)) (write_fault calls r c.args.j) (listed r) i 0 (omega (arith, within, length-map (entries_of r.operation) (λ d. d.component))) _ _ _ c.loop-entry.invariant c.note-part.ensures
-    (found ∙ ap (found_at (λ k. reported_write (r, c.args.j, k)) (write_fault calls r c.args.j)) (sym at))
+    let next : c.in-Some.missed_number ≡ c.args.number + 1 = (let e = c.in-Some.ensures in omega (arith, e.1)) in
+    let ended = next_end calls r c.args.j c.args.number c.in-Some.missed_number c.in-Some-ended.ended c.end_of_update-ended.result c.requires.number next c.end_of_update-ended.ensures c.in-Some-ended.is in
+    let tested = are_tested es c.requires.kept r c.args.j c.in-Some-ended.ended c.args.view.now.entries.now c.args.begins.now c.requires.view.entries c.requires.view.shape ended c.requires.count c.requires.begins in
+    c.none-part.ensures ∙ sym (missed_none calls r c.args.j c.in-Some-ended.ended c.args.begins.now tested (omega (arith, c.first_behind-first.ensures, c.if-first-begins.true)))
+
+pub offset_bounds-view-first : goal.offset_bounds-view-first
+offset_bounds-view-first c =
+    let few = rising_few _ c.requires.view.shape.rising (λ j d l. (c.requires.view.shape.fit j d l).0) in
+    record { fits = omega (arith, c.requires.count, ap length c.requires.view.entries, few, c.first_behind-first.ensures, prefix_len-le-length (λ b. not (nat_lt c.in-Some-ended.ended b)) c.args.begins.now) }
+
+pub bounds-view-first : goal.bounds-view-first
+bounds-view-first c = omega (arith, c.requires.count, c.first_behind-first.ensures, prefix_len-le-length (λ b. not (nat_lt c.in-Some-ended.ended b)) c.args.begins.now, c.if-first-begins.false)
+
+pub counted-requires-clause-count : goal.counted-requires-clause-count
+counted-requires-clause-count c =
+    let within : position_or_len (λ b. nat_lt c.in-Some-ended.ended b) c.args.begins.now < length c.args.begins.now = omega (arith, c.first_behind-first.ensures, prefix_len-le-length (λ b. not (nat_lt c.in-Some-ended.ended b)) c.args.begins.now, c.if-first-begins.false) in
+    omega (arith, c.count_behind-count.ensures, some_counted (λ b. nat_lt c.in-Some-ended.ended b) c.args.begins.now within)
 
 pub returns : goal.returns
 returns c =
-    let calls = calls_of c.args.index.now in
+    let es = c.args.index.now in
+    let calls = calls_of es in
     let r = view_in calls c.args.place in
-    c.loop-entry.invariant ∙ ap (λ xs. part_of (λ k. reported_write (r, c.args.j, k)) (filter (write_fault calls r c.args.j) xs)) (take_all c.loop-entry.entry-index (listed r) (omega (arith, c.loop-entry-test.false, length-map (entries_of r.operation) (λ e. e.component), ap length c.requires.view.entries)))
-    ∙ sym (missed_part calls r c.args.j)
+    let next : c.in-Some.missed_number ≡ c.args.number + 1 = (let e = c.in-Some.ensures in omega (arith, e.1)) in
+    let ended = next_end calls r c.args.j c.args.number c.in-Some.missed_number c.in-Some-ended.ended c.end_of_update-ended.result c.requires.number next c.end_of_update-ended.ensures c.in-Some-ended.is in
+    let tested = are_tested es c.requires.kept r c.args.j c.in-Some-ended.ended c.args.view.now.entries.now c.args.begins.now c.requires.view.entries c.requires.view.shape ended c.requires.count c.requires.begins in
+    let within : c.first_behind-first.result < length c.args.begins.now = omega (arith, c.first_behind-first.ensures, prefix_len-le-length (λ b. not (nat_lt c.in-Some-ended.ended b)) c.args.begins.now, c.if-first-begins.false) in
+    let d = get_or c.args.view.now.entries.now c.first_behind-first.result nothing in
+    let fault : WriteFault = record { view = c.args.view.now.number; missed_component = c.args.j; missed_number = c.in-Some.missed_number; shown_component = d.component; shown_number = d.number } in
+    let told = reported_at r c.args.view.now.number c.args.j c.in-Some.missed_number c.first_behind-first.result d c.requires.view.shape (omega (arith, within, c.requires.count, ap length c.requires.view.entries))
+    (ap (λ z. get_or z c.first_behind-first.result nothing) c.requires.view.entries) c.requires.view.number (omega (arith, next, c.requires.number)) in
+    let first : c.note.result.first ≡ Some fault = ap (λ (p : PartValue WriteFault). p.first) (c.note.ensures ∙ ap (λ p. noted p (Some fault)) c.none-part.ensures) in
+    c.counted.ensures ∙ ap (λ o. record { count = c.count_behind-count.result; first = o }) first
+    ∙ missed_some calls r c.args.j c.in-Some-ended.ended c.first_behind-first.result c.count_behind-count.result c.args.begins.now fault tested c.first_behind-first.ensures within c.count_behind-count.ensures told

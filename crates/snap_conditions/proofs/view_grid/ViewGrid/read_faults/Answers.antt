@@ -1,0 +1,84 @@
+use Rattle.std.proofs.Common.{◌≡◌, ◌<◌, ◌-◌, ◌+◌, ℕ, Option, Some, None, Fits, w32, [], ◌∷◌, List, length, refl, sym, ap, subst, ◌∙◌, arith}
+use Rattle.std.specs.Prelude.{option_map, filter}
+use Rattle.std.specs.List.{range_with_len}
+use Rattle.snap_core.specs.declared.event.Event.{Event}
+use Rattle.snap_core.specs.Calls.{Call, calls_of, views_of}
+use Rattle.snap_conditions.specs.declared.fault.ReadFault.{ReadFault}
+use Rattle.snap_conditions.specs.PartValue.{PartValue}
+use Rattle.snap_conditions.specs.Parts.{part_of, no_part, noted}
+use Rattle.snap_conditions.specs.Faults.{read_fault, read_faults, first_of}
+use Rattle.snap_conditions.specs.Seen.{view_in}
+use Rattle.snap_conditions.specs.Tally.{reported_read, views_between}
+use Rattle.snap_conditions.proofs.Counted.{IsFirst, are_found_between}
+use Rattle.snap_conditions.proofs.OneView.{read_alone}
+use Rattle.snap_conditions.proofs.Parts.{part_is}
+use Rattle.snap_conditions.proofs.Ranges.{few_views}
+use Rattle.snap_conditions.proofs.view_grid.ViewGrid.read_faults.Goals as goal
+
+pub overflow_cast-place : goal.overflow_cast-place
+overflow_cast-place c =
+    let es = c.self.inside.index.now in
+    let views = ap (λ (z : List Event). length (views_of (calls_of z))) c.self.view_is in
+    let found = are_found_between es c.self.inside.grid c.self.invariant c.args.from c.args.to c.requires.order (omega (arith, views, c.requires.views)) in
+    let first = subst (λ o. IsFirst (calls_of es) (read_faults (calls_of es) (views_between (calls_of es) c.args.from c.args.to)) o c.args.from (c.args.to - c.args.from)) (sym c.in_ok-found.ensures.first ∙ c.in-Some.is) found.first in
+    record { fits = omega (arith, first.1, views, c.requires.order, c.requires.views, few_views es c.self.invariant.kept) }
+
+pub first_read_fault-first-requires-clause-place : goal.first_read_fault-first-requires-clause-place
+first_read_fault-first-requires-clause-place c =
+    let es = c.self.inside.index.now in
+    let views = ap (λ (z : List Event). length (views_of (calls_of z))) c.self.view_is in
+    let found = are_found_between es c.self.inside.grid c.self.invariant c.args.from c.args.to c.requires.order (omega (arith, views, c.requires.views)) in
+    let first = subst (λ o. IsFirst (calls_of es) (read_faults (calls_of es) (views_between (calls_of es) c.args.from c.args.to)) o c.args.from (c.args.to - c.args.from)) (sym c.in_ok-found.ensures.first ∙ c.in-Some.is) found.first in
+    omega (arith, first.1, views, c.requires.order, c.requires.views)
+
+-- a view that has a fault has a first one
+some_first : (calls : List Call) (r : Call) → 0 < length (filter (read_fault r) (views_of calls)) → (f : ReadFault) × (option_map reported_read (first_of (read_faults calls (r ∷ []))) ≡ Some f)
+some_first calls r l = at (filter (read_fault r) (views_of calls)) refl
+  where
+    at : (xs : List Call) → filter (read_fault r) (views_of calls) ≡ xs → (f : ReadFault) × (option_map reported_read (first_of (read_faults calls (r ∷ []))) ≡ Some f)
+    at [] e = absurd (omega (arith, l, ap length e))
+    at (x ∷ xs) e = (reported_read (r, x), ap (λ (p : PartValue ReadFault). p.first) (read_alone calls r) ∙ ap (λ z. option_map (λ s. reported_read (r, s)) (first_of z)) e)
+
+note_first : (none part : PartValue ReadFault) (found : Option ReadFault) → none ≡ no_part → part ≡ noted none found → part.first ≡ found
+note_first none part None e h = ap (λ (p : PartValue ReadFault). p.first) (h ∙ e)
+note_first none part (Some f) e h = ap (λ (p : PartValue ReadFault). p.first) (h ∙ ap (λ p. noted p (Some f)) e)
+
+pub counted-requires-clause-some : goal.counted-requires-clause-some
+counted-requires-clause-some c =
+    let es = c.self.inside.index.now in
+    let views = ap (λ (z : List Event). length (views_of (calls_of z))) c.self.view_is in
+    let found = are_found_between es c.self.inside.grid c.self.invariant c.args.from c.args.to c.requires.order (omega (arith, views, c.requires.views)) in
+    let first = subst (λ o. IsFirst (calls_of es) (read_faults (calls_of es) (views_between (calls_of es) c.args.from c.args.to)) o c.args.from (c.args.to - c.args.from)) (sym c.in_ok-found.ensures.first ∙ c.in-Some.is) found.first in
+    let fault = some_first (calls_of es) (view_in (calls_of es) c.in-Some.place) first.2 in
+    omega (arith, ap (λ (p : PartValue ReadFault). p.count) (c.note.ensures ∙ ap (λ p. noted p c.first_read_fault-first.result) c.none.ensures ∙ ap (noted no_part) (c.first_read_fault-first.ensures ∙ fault.1)))
+
+pub counted-requires-clause-count : goal.counted-requires-clause-count
+counted-requires-clause-count c =
+    let es = c.self.inside.index.now in
+    let views = ap (λ (z : List Event). length (views_of (calls_of z))) c.self.view_is in
+    let found = are_found_between es c.self.inside.grid c.self.invariant c.args.from c.args.to c.requires.order (omega (arith, views, c.requires.views)) in
+    let first = subst (λ o. IsFirst (calls_of es) (read_faults (calls_of es) (views_between (calls_of es) c.args.from c.args.to)) o c.args.from (c.args.to - c.args.from)) (sym c.in_ok-found.ensures.first ∙ c.in-Some.is) found.first in
+    omega (arith, first.3, found.count, c.in_ok-found.ensures.count)
+
+pub returns-in-Some : goal.returns-in-Some
+returns-in-Some c =
+    let es = c.self.inside.index.now in
+    let calls = calls_of es in
+    let faults = read_faults calls (views_between calls c.args.from c.args.to) in
+    let views = ap (λ (z : List Event). length (views_of (calls_of z))) c.self.view_is in
+    let found = are_found_between es c.self.inside.grid c.self.invariant c.args.from c.args.to c.requires.order (omega (arith, views, c.requires.views)) in
+    let first = subst (λ o. IsFirst calls faults o c.args.from (c.args.to - c.args.from)) (sym c.in_ok-found.ensures.first ∙ c.in-Some.is) found.first in
+    c.counted.ensures
+    ∙ part_is (record { count = c.in_ok-found.found.count; first = c.note.result.first }) (part_of reported_read faults) (c.in_ok-found.ensures.count ∙ sym found.count)
+    (note_first c.none.result c.note.result c.first_read_fault-first.result c.none.ensures c.note.ensures ∙ c.first_read_fault-first.ensures ∙ ap (option_map reported_read) (sym first.4))
+    ∙ ap (λ (z : List Event). part_of reported_read (read_faults (calls_of z) (views_between (calls_of z) c.args.from c.args.to))) c.self.view_is
+
+pub returns-in-None : goal.returns-in-None
+returns-in-None c =
+    let es = c.self.inside.index.now in
+    let calls = calls_of es in
+    let faults = read_faults calls (views_between calls c.args.from c.args.to) in
+    let views = ap (λ (z : List Event). length (views_of (calls_of z))) c.self.view_is in
+    let found = are_found_between es c.self.inside.grid c.self.invariant c.args.from c.args.to c.requires.order (omega (arith, views, c.requires.views)) in
+    let none : faults ≡ [] = subst (λ o. IsFirst calls faults o c.args.from (c.args.to - c.args.from)) (sym c.in_ok-found.ensures.first ∙ c.in-None.is) found.first in
+    c.none-in-None.ensures ∙ ap (part_of reported_read) (sym none) ∙ ap (λ (z : List Event). part_of reported_read (read_faults (calls_of z) (views_between (calls_of z) c.args.from c.args.to))) c.self.view_is

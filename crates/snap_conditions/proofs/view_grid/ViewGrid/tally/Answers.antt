@@ -1,0 +1,14 @@
+use Rattle.std.proofs.Common.{◌≡◌, List, sym, ap, ◌∙◌}
+use Rattle.snap_core.specs.declared.event.Event.{Event}
+use Rattle.snap_core.specs.Calls.{calls_of}
+use Rattle.snap_conditions.specs.declared.tally.Tally.{Tally}
+use Rattle.snap_conditions.specs.Tally.{tally_of, without_read, views_between}
+use Rattle.snap_conditions.proofs.Ranges.{tally_is}
+use Rattle.snap_conditions.proofs.view_grid.ViewGrid.tally.Goals as goal
+
+pub returns : goal.returns
+unfolding tally_of
+returns c =
+    let here = tally_of (calls_of c.args.self.now) (views_between (calls_of c.args.self.now) c.args.from c.args.to) in
+    let others : c.tally_without_read-others.result ≡ without_read here = c.tally_without_read-others.ensures ∙ ap (λ (z : List Event). without_read (tally_of (calls_of z) (views_between (calls_of z) c.args.from c.args.to))) c.self.view_is in
+    tally_is _ here (ap (λ (t : Tally). t.integrity) others) (ap (λ (t : Tally). t.proximity) others) c.in_ok-read.ensures (ap (λ (t : Tally). t.write) others)

@@ -1,0 +1,51 @@
+-- What views show, in a grid of numbers.
+use Rattle.std.specs.Prelude.{ℕ, ◌<◌, ◌≡◌, Bool, true, false, List, [], length, get_or, nat_lt, Option, unwrap_or}
+use Rattle.snap_core.specs.declared.event.Event.{Event}
+use Rattle.snap_core.specs.Calls.{Call, calls_of, views_of, shown_number, precedes}
+use Rattle.snap_core.specs.Events.{IsKept}
+use Rattle.snap_grid.specs.Columns.{GridValue, number, clashes, any_passes}
+use Rattle.snap_conditions.specs.Faults.{exceeds, read_fault}
+use Rattle.snap_conditions.specs.Rows.{row_number}
+use Rattle.snap_conditions.specs.Seen.{view_in}
+
+-- the numbers of all completed views, view by view
+pub record AreRowsOf (calls : List Call) (rows : List (List ℕ)) : Type 0 where
+  pub count : length rows ≡ length (views_of calls)
+  pub each : (place k : ℕ) → place < length (views_of calls) → k < 256 → row_number (get_or rows place []) k ≡ shown_number (view_in calls place) k
+
+-- the numbers of one component
+pub record IsColumnOf (calls : List Call) (k : ℕ) (column : List ℕ) : Type 0 where
+  pub count : length column ≡ length (views_of calls)
+  pub each : (place : ℕ) → place < length (views_of calls) → number column place ≡ shown_number (view_in calls place) k
+
+-- a column for each component that is used, below an edge, and no other
+pub record AreColumnsOf (calls : List Call) (used : List Bool) (edge : ℕ) (columns : List (List ℕ)) : Type 0 where
+  pub each : (j : ℕ) → j < length columns → (k : ℕ) × IsColumnOf calls k (get_or columns j [])
+  pub all : (k : ℕ) → k < edge → get_or used k false ≡ true → (j : ℕ) × (j < length columns) × IsColumnOf calls k (get_or columns j [])
+
+-- the columns show of any two views whether one shows more of some component than the other
+pub record ShowAll (calls : List Call) (columns : List (List ℕ)) : Type 0 where
+  pub count : (j : ℕ) → j < length columns → length (get_or columns j []) ≡ length (views_of calls)
+  pub exceed : (a b : ℕ) → a < length (views_of calls) → b < length (views_of calls) → exceeds (view_in calls a) (view_in calls b) ≡ any_passes true columns a b
+
+-- where the first completed views begin and end
+pub record ArePlacesOf (calls : List Call) (n : ℕ) (begins ends : List ℕ) : Type 0 where
+  pub begun : length begins ≡ n
+  pub ended : length ends ≡ n
+  pub precede : (a b : ℕ) → a < n → b < n → precedes (view_in calls a) (view_in calls b) ≡ nat_lt (number ends a) (number begins b)
+
+-- rows of the grid clash exactly where the views are a read fault
+pub record IsGridOf (events : List Event) (grid : GridValue) : Type 0 where
+  pub kept : IsKept events
+  pub rows : length grid.begins ≡ length (views_of (calls_of events))
+  pub clash : (a b : ℕ) → a < length (views_of (calls_of events)) → b < length (views_of (calls_of events)) → clashes grid a b ≡ read_fault (view_in (calls_of events) a) (view_in (calls_of events) b)
+
+-- the end of a call, or a place behind all begins
+abbrev pub end_or_never : Option ℕ → ℕ
+end_or_never ended = unwrap_or ended 4294967295
+
+pub record ArePlaced (calls : List Call) (n : ℕ) (begins ends : List ℕ) : Type 0 where
+  pub begun : length begins ≡ n
+  pub ended : length ends ≡ n
+  pub begin : (a : ℕ) → a < n → number begins a ≡ (view_in calls a).begun
+  pub end : (a : ℕ) → a < n → number ends a ≡ end_or_never (view_in calls a).ended

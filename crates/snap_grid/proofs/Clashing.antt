@@ -1,0 +1,195 @@
+-- How clashes are counted, and which rows have one.
+use Rattle.std.proofs.Common.{◌≡◌, ℕ, zero, suc, ◌+◌, ◌-◌, ◌*◌, ◌<◌, ◌≤◌, Bool, true, false, not, cond, ◌&&◌, ◌||◌, ◌⊎◌, List, [], ◌∷◌, ◌++◌, Some, None, map, take, drop, length, get_or, min, max, refl, sym, ap, ◌∙◌, subst, inl, inr, add-one, arith}
+use Rattle.std.specs.Prelude.{nat_lt, bit_or, bit_and, sum_by, count_by, count_ones, find}
+use Rattle.std.specs.List.{list_any, range_with_len}
+use Rattle.std.specs.Int.{bit_at}
+use Rattle.std.proofs.lemmas.Nat.Bits.{bit_at_or, bit_at_and, bit_at-zero}
+use Rattle.std.proofs.lemmas.List.Sums.{sum_by-cons, sum_by-append, count_by-le-length}
+use Rattle.std.proofs.lemmas.List.Folds.{list_any-append, find-append}
+use Rattle.std.specs.Option.{option_or}
+use Rattle.std.proofs.lemmas.Bool.{false≢true}
+use Rattle.std.proofs.lemmas.List.FromFn.{length-range_with_len}
+use Rattle.snap_grid.specs.Columns.{GridValue, number, any_passes, clashes, clash_count, has_clash, rows_of}
+use Rattle.snap_grid.specs.declared.grid.Clashing.{Clashing}
+use Rattle.snap_grid.specs.Masks.{mask_by, mask_below}
+use Rattle.snap_grid.specs.Clashes.{ClashesWith}
+use Rattle.snap_grid.proofs.Bits.{bit_by, bit_past, bit_below, bit_not_below, mask_from_bits, ones_below}
+use Rattle.snap_grid.proofs.Passing.{row_at, row_count}
+
+-- ranges in two parts
+pub range-append : (a m n : ℕ) → range_with_len a (m + n) ≡ range_with_len a m ++ range_with_len (a + m) n
+range-append a zero n = (λ i. range_with_len (e i) (f i))
+  where
+    e : a ≡ a + 0
+    e = omega arith
+
+    f : 0 + n ≡ n
+    f = omega arith
+range-append a (suc m) n =
+    let e : suc m + n ≡ suc (m + n) = omega arith in
+    let f : a + 1 + m ≡ a + suc m = omega arith in
+    ap (range_with_len a) e ∙ ap (λ z. a ∷ z) (range-append (a + 1) m n) ∙ ap (λ z. a ∷ range_with_len (a + 1) m ++ range_with_len z n) f
+
+pub sum_more : (f : ℕ → ℕ) (a n : ℕ) → sum_by f (range_with_len a (n + 1)) ≡ sum_by f (range_with_len a n) + f (a + n)
+sum_more f a n = ap (sum_by f) (range-append a n 1) ∙ sum_by-append f (range_with_len a n) (range_with_len (a + n) 1) ∙ omega (arith, sum_by-cons f (a + n) [])
+
+pub any_more : (p : ℕ → Bool) (a n : ℕ) → list_any p (range_with_len a (n + 1)) ≡ (list_any p (range_with_len a n) || p (a + n))
+any_more p a n = ap (list_any p) (range-append a n 1) ∙ list_any-append p (range_with_len a n) (range_with_len (a + n) 1) ∙ ap (λ b. list_any p (range_with_len a n) || b) (or_none (p (a + n)))
+  where
+    or_none : (b : Bool) → (b || false) ≡ b
+    or_none true = refl
+    or_none false = refl
+
+-- the mask of the rows that clash with one
+pub lane : (g : GridValue) (from n s more less before : ℕ) → more ≡ mask_below (λ a. any_passes true g.columns (from + a) s) n → less ≡ mask_below (λ a. any_passes false g.columns (from + a) s) n →
+    before ≡ mask_by (λ x. nat_lt x (number g.begins s)) (take n (drop from g.ends)) → from + n ≤ length g.ends → bit_and more (bit_or less before) ≡ mask_below (λ a. clashes g (from + a) s) n
+unfolding clashes
+lane g from n s more less before e f h l = mask_from_bits (λ a. clashes g (from + a) s) n (bit_and more (bit_or less before)) here past
+  where
+    bits : (a : ℕ) → bit_at (bit_and more (bit_or less before)) a ≡ min (bit_at more a) (max (bit_at less a) (bit_at before a))
+    bits a = bit_at_and more (bit_or less before) a ∙ ap (min (bit_at more a)) (bit_at_or less before a)
+
+    size : length (take n (drop from g.ends)) ≡ n
+    size = row_count g.ends from n l
+
+    before_at : (a : ℕ) → a < n → bit_at before a ≡ cond (nat_lt (number g.ends (from + a)) (number g.begins s)) 1 0
+    before_at a k =
+        ap (λ z. bit_at z a) h ∙ bit_by (λ x. nat_lt x (number g.begins s)) (take n (drop from g.ends)) a (omega (arith, k, size))
+        ∙ ap {B = ℕ} (λ z. cond (nat_lt z (number g.begins s)) 1 0) (row_at g.ends from n a k)
+
+    both : (p q r : Bool) (x y z : ℕ) → x ≡ cond p 1 0 → y ≡ cond q 1 0 → z ≡ cond r 1 0 → min x (max y z) ≡ cond (p && (r || q)) 1 0
+    both true true true x y z a b c = omega (arith, a, b, c)
+    both true true false x y z a b c = omega (arith, a, b, c)
+    both true false true x y z a b c = omega (arith, a, b, c)
+    both true false false x y z a b c = omega (arith, a, b, c)
+    both false q r x y z a b c = omega (arith, a)
+
+    here : (a : ℕ) → a < n → bit_at (bit_and more (bit_or less before)) a ≡ cond (clashes g (from + a) s) 1 0
+    here a k =
+        bits a ∙ both (any_passes true g.columns (from + a) s) (any_passes false g.columns (from + a) s) (nat_lt (number g.ends (from + a)) (number g.begins s)) (bit_at more a) (bit_at less a) (bit_at before a)
+        (ap (λ z. bit_at z a) e ∙ bit_below (λ a. any_passes true g.columns (from + a) s) n a k) (ap (λ z. bit_at z a) f ∙ bit_below (λ a. any_passes false g.columns (from + a) s) n a k) (before_at a k)
+
+    past : (a : ℕ) → n ≤ a → bit_at (bit_and more (bit_or less before)) a ≡ 0
+    past a k = omega (arith, bits a, ap (λ z. bit_at z a) e, bit_not_below (λ a. any_passes true g.columns (from + a) s) n a k)
+
+pub mask_or : (n : ℕ) (p q r : ℕ → Bool) → ((a : ℕ) → r a ≡ (p a || q a)) → bit_or (mask_below p n) (mask_below q n) ≡ mask_below r n
+mask_or n p q r h = mask_from_bits r n (bit_or (mask_below p n) (mask_below q n))
+    (λ a l. bit_at_or (mask_below p n) (mask_below q n) a ∙ both (p a) (q a) (bit_at (mask_below p n) a) (bit_at (mask_below q n) a) (bit_below p n a l) (bit_below q n a l) ∙ sym (ap {B = ℕ} (λ z. cond z 1 0) (h a)))
+    (λ a l. omega (arith, bit_at_or (mask_below p n) (mask_below q n) a, bit_not_below p n a l, bit_not_below q n a l))
+  where
+    both : (p q : Bool) (x y : ℕ) → x ≡ cond p 1 0 → y ≡ cond q 1 0 → max x y ≡ cond (p || q) 1 0
+    both true true x y a b = omega (arith, a, b)
+    both true false x y a b = omega (arith, a, b)
+    both false true x y a b = omega (arith, a, b)
+    both false false x y a b = omega (arith, a, b)
+
+-- one more row
+pub with_none : (g : GridValue) (from n first : ℕ) → ClashesWith g from n first 0 (record { count = 0; rows = 0 })
+with_none g from n first = record { count = refl; rows = mask_from_bits (λ a. false) n 0 (λ i l. bit_zero i) (λ i l. bit_zero i) }
+  where
+    bit_zero : (i : ℕ) → bit_at 0 i ≡ 0
+    bit_zero i = bit_at-zero i
+
+pub with_more : (g : GridValue) (from n first m count rows mask new_count new_rows : ℕ) → mask ≡ mask_below (λ a. clashes g (from + a) (first + m)) n → new_count ≡ count + count_ones mask → new_rows ≡ bit_or rows mask →
+    ClashesWith g from n first m (record { count = count; rows = rows }) → ClashesWith g from n first (m + 1) (record { count = new_count; rows = new_rows })
+with_more g from n first m count rows mask new_count new_rows e c r h = record {
+  count = omega (arith, c, h.count, ap count_ones e, ones_below (λ a. clashes g (from + a) (first + m)) n, sum_more (λ b. count_by (λ a. clashes g (from + a) b) (range_with_len 0 n)) first m);
+  rows = r ∙ ap (λ z. bit_or z mask) h.rows ∙ ap (bit_or (mask_below (λ a. list_any (clashes g (from + a)) (range_with_len first m)) n)) e
+      ∙ mask_or n (λ a. list_any (clashes g (from + a)) (range_with_len first m)) (λ a. clashes g (from + a) (first + m)) (λ a. list_any (clashes g (from + a)) (range_with_len first (m + 1))) (λ a. any_more (clashes g (from + a)) first m);
+}
+
+-- few rows clash with one
+pub few_ones : (p : ℕ → Bool) (n mask : ℕ) → mask ≡ mask_below p n → count_ones mask ≤ n
+few_ones p n mask e = omega (arith, ap count_ones e, ones_below p n, count_by-le-length p (range_with_len 0 n), length-range_with_len 0 n)
+
+-- the clashes with two ranges of rows that adjoin
+pub with_both : (g : GridValue) (from n first m k next count rows more_count more_rows : ℕ) → next ≡ first + m → ClashesWith g from n first m (record { count = count; rows = rows }) → ClashesWith g from n next k (record { count = more_count; rows = more_rows }) →
+    ClashesWith g from n first (m + k) (record { count = count + more_count; rows = bit_or rows more_rows })
+with_both g from n first m k next count rows more_count more_rows e a b = record {
+  count = omega (arith, a.count, b.count, ap (λ z. sum_by each (range_with_len z k)) e, ap (sum_by each) (range-append first m k), sum_by-append each (range_with_len first m) (range_with_len (first + m) k));
+  rows = (λ i. bit_or (a.rows i) (b.rows i))
+      ∙ ap (λ z. bit_or (mask_below (λ a. list_any (clashes g (from + a)) (range_with_len first m)) n) (mask_below (λ a. list_any (clashes g (from + a)) (range_with_len z k)) n)) e
+      ∙ mask_or n (λ a. list_any (clashes g (from + a)) (range_with_len first m)) (λ a. list_any (clashes g (from + a)) (range_with_len (first + m) k)) (λ a. list_any (clashes g (from + a)) (range_with_len first (m + k)))
+      (λ a. ap (list_any (clashes g (from + a))) (range-append first m k) ∙ list_any-append (clashes g (from + a)) (range_with_len first m) (range_with_len (first + m) k));
+}
+  where
+    each : ℕ → ℕ
+    each b = count_by (λ a. clashes g (from + a) b) (range_with_len 0 n)
+
+pub sum_small : (f : ℕ → ℕ) (k : ℕ) → ((b : ℕ) → f b ≤ k) → (n a : ℕ) → sum_by f (range_with_len a n) ≤ n * k
+sum_small f k h zero a = omega arith
+sum_small f k h (suc n) a = omega (arith, sum_by-cons f a (range_with_len (a + 1) n), h a, sum_small f k h n (a + 1), mul_suc n k)
+  where
+    mul_suc : (n k : ℕ) → suc n * k ≡ k + n * k
+    mul_suc n k = grind arith
+
+pub few_with : (g : GridValue) (from n first m : ℕ) (c : Clashing) → n ≤ 64 → ClashesWith g from n first m c → c.count ≤ m * 64
+few_with g from n first m c l h =
+    omega (arith, h.count, sum_small (λ b. count_by (λ a. clashes g (from + a) b) (range_with_len 0 n)) 64 (λ b. omega (arith, l, count_by-le-length (λ a. clashes g (from + a) b) (range_with_len 0 n), length-range_with_len 0 n)) m first)
+
+-- a sum over pairs, in either order
+
+sum_zero : (xs : List ℕ) → sum_by (λ x. 0) xs ≡ 0
+sum_zero [] = refl
+sum_zero (x ∷ xs) = omega (arith, sum_by-cons (λ x. 0) x xs, sum_zero xs)
+
+sum_add : (f g : ℕ → ℕ) (xs : List ℕ) → sum_by (λ x. f x + g x) xs ≡ sum_by f xs + sum_by g xs
+sum_add f g [] = refl
+sum_add f g (x ∷ xs) = omega (arith, sum_by-cons (λ y. f y + g y) x xs, sum_by-cons f x xs, sum_by-cons g x xs, sum_add f g xs)
+
+pub sum_swap : (f : ℕ → ℕ → ℕ) (xs ys : List ℕ) → sum_by (λ y. sum_by (λ x. f x y) xs) ys ≡ sum_by (λ x. sum_by (f x) ys) xs
+sum_swap f xs [] = sym (sum_zero xs)
+sum_swap f xs (y ∷ ys) =
+    sum_by-cons (λ y. sum_by (λ x. f x y) xs) y ys ∙ ap (λ z. sum_by (λ x. f x y) xs + z) (sum_swap f xs ys) ∙ sym (sum_add (λ x. f x y) (λ x. sum_by (f x) ys) xs)
+    ∙ sym (λ i. sum_by (λ x. sum_by-cons (f x) y ys i) xs)
+
+pub sum_shift : (h : ℕ → ℕ) (c n d : ℕ) → sum_by (λ a. h (c + a)) (range_with_len d n) ≡ sum_by h (range_with_len (c + d) n)
+sum_shift h c zero d = refl
+sum_shift h c (suc n) d =
+    sum_by-cons (λ a. h (c + a)) d (range_with_len (d + 1) n) ∙ ap (λ z. h (c + d) + z) (sum_shift h c n (d + 1)) ∙ ap (λ z. h (c + d) + sum_by h (range_with_len z n)) assoc ∙ sym (sum_by-cons h (c + d) (range_with_len (c + d + 1) n))
+  where
+    assoc : c + (d + 1) ≡ c + d + 1
+    assoc = omega arith
+
+-- the clashes with all rows, row by row
+pub counted : (g : GridValue) (from n m count rows : ℕ) → m ≡ length g.begins → ClashesWith g from n 0 m (record { count = count; rows = rows }) → count ≡ sum_by (clash_count g) (range_with_len from n)
+unfolding clash_count
+counted g from n m count rows e h =
+    h.count ∙ ap (λ z. sum_by (λ b. count_by (λ a. clashes g (from + a) b) (range_with_len 0 n)) (range_with_len 0 z)) e
+    ∙ sum_swap (λ a b. cond (clashes g (from + a) b) 1 0) (range_with_len 0 n) (rows_of g)
+    ∙ sum_shift (λ a. count_by (clashes g a) (rows_of g)) from n 0 ∙ ap (λ z. sum_by (λ a. count_by (clashes g a) (rows_of g)) (range_with_len z n)) none
+  where
+    none : from + 0 ≡ from
+    none = omega arith
+
+pub marked : (g : GridValue) (from n m count rows : ℕ) → m ≡ length g.begins → ClashesWith g from n 0 m (record { count = count; rows = rows }) → rows ≡ mask_below (λ a. has_clash g (from + a)) n
+unfolding has_clash
+marked g from n m count rows e h = h.rows ∙ ap (λ z. mask_below (λ a. list_any (clashes g (from + a)) (range_with_len 0 z)) n) e
+
+pub few_counted : (g : GridValue) (from n : ℕ) → length g.begins ≤ 65536 → sum_by (clash_count g) (range_with_len from n) ≤ n * 65536
+unfolding clash_count
+few_counted g from n l = sum_small (λ a. count_by (clashes g a) (rows_of g)) 65536 (λ a. omega (arith, l, count_by-le-length (clashes g a) (rows_of g), length-range_with_len 0 (length g.begins))) n from
+
+-- the first row that passes
+
+pub find_first : (p : ℕ → Bool) (n from t : ℕ) → t < n → p (from + t) ≡ true → ((a : ℕ) → a < t → p (from + a) ≡ false) → find p (range_with_len from n) ≡ Some (from + t)
+find_first p zero from t l h g = absurd (omega (arith, l))
+find_first p (suc n) from zero l h g =
+    let none : from + 0 ≡ from = omega arith in
+    ap (λ b. cond b (Some from) (find p (range_with_len (from + 1) n))) (ap p (sym none) ∙ h) ∙ ap (λ z. Some z) (sym none)
+find_first p (suc n) from (suc t) l h g =
+    let none : from + 0 ≡ from = omega arith in
+    let on : from + 1 + t ≡ from + suc t = omega arith in
+    ap (λ b. cond b (Some from) (find p (range_with_len (from + 1) n))) (ap p (sym none) ∙ g 0 (omega arith))
+    ∙ find_first p n (from + 1) t (omega (arith, l)) (ap p on ∙ h) (λ a m. let e : from + 1 + a ≡ from + suc a = omega arith in ap p e ∙ g (suc a) (omega (arith, m)))
+    ∙ ap (λ z. Some z) on
+
+pub find_nothing : (p : ℕ → Bool) (n from : ℕ) → ((a : ℕ) → a < n → p (from + a) ≡ false) → find p (range_with_len from n) ≡ None
+find_nothing p zero from h = refl
+find_nothing p (suc n) from h =
+    let none : from + 0 ≡ from = omega arith in
+    ap (λ b. cond b (Some from) (find p (range_with_len (from + 1) n))) (ap p (sym none) ∙ h 0 (omega arith))
+    ∙ find_nothing p n (from + 1) (λ a l. let e : from + 1 + a ≡ from + suc a = omega arith in ap p e ∙ h (suc a) (omega (arith, l)))
+
+pub find_both : (p : ℕ → Bool) (from m k next : ℕ) → next ≡ from + m → find p (range_with_len from (m + k)) ≡ option_or (find p (range_with_len from m)) (find p (range_with_len next k))
+find_both p from m k next e = ap (find p) (range-append from m k) ∙ find-append p (range_with_len from m) (range_with_len (from + m) k) ∙ ap (λ z. option_or (find p (range_with_len from m)) (find p (range_with_len z k))) (sym e)

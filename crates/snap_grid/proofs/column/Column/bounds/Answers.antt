@@ -1,0 +1,12 @@
+use Rattle.std.proofs.Common.{◌≡◌, ◌≤◌, ◌<◌, ◌+◌, ◌*◌, ℕ, List, length, get_or, sym, subst, arith}
+use Rattle.snap_grid.specs.declared.bounds.Bounds.{Bounds}
+use Rattle.snap_grid.specs.Kept.{IsBounded}
+use Rattle.snap_grid.proofs.column.Column.bounds.Goals as goal
+
+pub index-requires : goal.index-requires
+index-requires c = omega (arith, c.self.inside.bounds.ok, c.self.invariant.blocks c.args.block (rw c.self.view_is c.requires))
+
+pub returns : goal.returns
+returns c =
+    let b = c.self.invariant.bounded c.args.block c.index.result.now (rw c.self.view_is c.requires) in
+    rw (← c.self.view_is) (subst (IsBounded c.self.inside.numbers.items c.args.block) (sym c.index.ensures) b)

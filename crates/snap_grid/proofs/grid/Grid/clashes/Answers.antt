@@ -1,0 +1,36 @@
+use Rattle.std.proofs.Common.{◌≡◌, ◌≤◌, ◌<◌, ◌+◌, ◌*◌, ◌-◌, ℕ, min, length, refl, sym, ap, subst, ◌∙◌, arith}
+use Rattle.std.specs.Prelude.{find, sum_by}
+use Rattle.std.specs.List.{range_with_len}
+use Rattle.std.specs.Option.{option_or}
+use Rattle.std.proofs.lemmas.List.Sums.{sum_by-append}
+use Rattle.snap_grid.specs.Columns.{GridValue, clash_count, has_clash}
+use Rattle.snap_grid.proofs.Clashing.{find_both, range-append}
+use Rattle.snap_grid.proofs.grid.Grid.clashes.Goals as goal
+
+pub loop-start-preserved : goal.loop-start-preserved
+loop-start-preserved c =
+    let g = c.args.self.now in
+    let from = c.args.from in
+    let m = c.loop-start.start - from in
+    let k = c.min-rows.result in
+    let next : c.loop-start.start ≡ from + m = omega (arith, c.loop-start.invariant.behind) in
+    let size : c.loop-start.start + k - from ≡ m + k = omega (arith, c.loop-start.invariant.behind) in
+    let few : k ≤ c.args.to - c.loop-start.start = omega (arith, c.min-rows.ensures) in
+    record {
+      behind = omega (arith, c.loop-start.invariant.behind);
+      within = omega (arith, few, c.loop-start-test.true);
+      small = omega (arith, c.loop-start.invariant.small, c.in_ok-more.ensures.few, size);
+      counted = omega (
+        arith,
+        c.loop-start.invariant.counted,
+        c.in_ok-more.ensures.count,
+        ap (λ z. sum_by (clash_count g) (range_with_len from z)) size,
+        ap (sum_by (clash_count g)) (range-append from m k),
+        sum_by-append (clash_count g) (range_with_len from m) (range_with_len (from + m) k),
+        ap (λ z. sum_by (clash_count g) (range_with_len z k)) next,
+      );
+      found =
+          c.or-first.ensures ∙ ap (λ z. option_or z c.first_row.result) c.loop-start.invariant.found
+          ∙ ap (option_or (find (has_clash g) (range_with_len from m))) (c.first_row.ensures k (has_clash g) c.in_ok-more.ensures.rows)
+          ∙ sym (find_both (has_clash g) from m k c.loop-start.start next) ∙ ap (λ z. find (has_clash g) (range_with_len from z)) (sym size);
+    }

@@ -1,0 +1,17 @@
+use Rattle.std.proofs.Common.{◌≡◌, ◌≤◌, ◌*◌, ◌-◌, length}
+use Rattle.std.specs.Prelude.{find, sum_by}
+use Rattle.std.specs.List.{range_with_len}
+use Rattle.snap_grid.specs.Columns.{clash_count, has_clash}
+use Rattle.snap_grid.proofs.grid.Grid.clashes.Given as goal
+
+abbrev pub invariant-loop-start : goal.invariant-loop-start
+invariant-loop-start l = record {
+  behind : l.from ≤ l.start;
+  within : l.start ≤ l.to;
+  small : l.count ≤ (l.start - l.from) * 65536;
+  counted : l.count ≡ sum_by (clash_count l.self) (range_with_len l.from (l.start - l.from));
+  found : l.first ≡ find (has_clash l.self) (range_with_len l.from (l.start - l.from));
+}
+
+abbrev pub decreases-loop-start : goal.decreases-loop-start
+decreases-loop-start l = l.to - l.start

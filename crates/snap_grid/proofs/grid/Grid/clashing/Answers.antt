@@ -1,0 +1,63 @@
+use Rattle.std.proofs.Common.{◌≡◌, ◌≤◌, ◌<◌, ◌+◌, ◌*◌, ℕ, List, [], length, get_or, refl, sym, ap, subst, ◌∙◌, arith}
+use Rattle.std.specs.Prelude.{true, false, nat_lt, bit_and, bit_or, take, drop}
+use Rattle.snap_grid.specs.Columns.{GridValue, HaveSameRows, number, any_passes, clashes}
+use Rattle.snap_grid.specs.Masks.{mask_by, mask_below}
+use Rattle.snap_grid.proofs.Clashing.{lane, with_none, with_more, few_ones}
+use Rattle.snap_grid.proofs.grid.Grid.clashing.Goals as goal
+
+pub passing-more-requires-clause-rows : goal.passing-more-requires-clause-rows
+passing-more-requires-clause-rows c =
+    let same = subst (λ (g : GridValue). HaveSameRows g.columns g.begins g.ends) c.self.view_is c.self.invariant in
+    rw c.requires.columns (λ j l. omega (arith, same.each j l, c.requires.rows))
+
+pub passing-more-requires-clause-small : goal.passing-more-requires-clause-small
+passing-more-requires-clause-small c =
+    let same = subst (λ (g : GridValue). HaveSameRows g.columns g.begins g.ends) c.self.view_is c.self.invariant in
+    omega (arith, same.few, c.requires.rows, c.requires.some)
+
+pub passing-less-requires-clause-rows : goal.passing-less-requires-clause-rows
+passing-less-requires-clause-rows c =
+    let same = subst (λ (g : GridValue). HaveSameRows g.columns g.begins g.ends) c.self.view_is c.self.invariant in
+    rw c.requires.columns (λ j l. omega (arith, same.each j l, c.requires.rows))
+
+pub passing-less-requires-clause-small : goal.passing-less-requires-clause-small
+passing-less-requires-clause-small c =
+    let same = subst (λ (g : GridValue). HaveSameRows g.columns g.begins g.ends) c.self.view_is c.self.invariant in
+    omega (arith, same.few, c.requires.rows, c.requires.some)
+
+pub loop-i-init : goal.loop-i-init
+loop-i-init c = record { small = omega arith; found = with_none c.args.self.now c.args.ours.now.from c.args.ours.now.count (c.args.block * 64) }
+
+-- the mask of one lane, by what the loop read
+here : (g : GridValue) (columns : List (List ℕ)) (from n s more less before : ℕ) (begins ends : List ℕ) → HaveSameRows g.columns g.begins g.ends → columns ≡ g.columns → from + n ≤ length g.begins → ends ≡ take n (drop from g.ends) → begins ≡ g.begins →
+    more ≡ mask_below (λ a. any_passes true columns (from + a) s) n → less ≡ mask_below (λ a. any_passes false columns (from + a) s) n → before ≡ mask_by (λ x. nat_lt x (get_or begins s 0)) ends →
+    bit_and more (bit_or less before) ≡ mask_below (λ a. clashes g (from + a) s) n
+here g columns from n s more less before begins ends same of_grid within e b m l h =
+    lane g from n s more less before
+    (m ∙ ap (λ z. mask_below (λ a. any_passes true z (from + a) s) n) of_grid)
+    (l ∙ ap (λ z. mask_below (λ a. any_passes false z (from + a) s) n) of_grid)
+    (h ∙ ap (λ z. mask_by (λ x. nat_lt x (get_or z s 0)) ends) b ∙ ap (λ z. mask_by (λ x. nat_lt x (number g.begins s)) z) e)
+    (omega (arith, within, same.ended))
+
+pub overflow_add-found : goal.overflow_add-found
+overflow_add-found c =
+    let g = c.args.self.now in
+    let b = c.args.ours.now in
+    let s = c.args.block * 64 + c.loop-i.i in
+    let same = subst (λ (g : GridValue). HaveSameRows g.columns g.begins g.ends) c.self.view_is c.self.invariant in
+    let mask = here g b.columns.now b.from b.count s _ _ _ c.as_slice-begins.result.now c.args.ends.now same c.requires.columns c.requires.within c.requires.ends (c.as_slice-begins.ensures.value ∙ ap (λ (g : GridValue). g.begins) c.self.view_is)
+    (c.passing-more.ensures c.loop-i.i c.loop-i-test.true) (c.passing-less.ensures c.loop-i.i c.loop-i-test.true) c.before-before.ensures in
+    record { fits = omega (arith, c.loop-i.invariant.small, c.loop-i-test.true, c.requires.few, c.from-found.ensures, b.rows.few, few_ones (λ a. clashes g (b.from + a) s) b.count _ mask) }
+
+pub loop-i-preserved : goal.loop-i-preserved
+loop-i-preserved c =
+    let g = c.args.self.now in
+    let b = c.args.ours.now in
+    let s = c.args.block * 64 + c.loop-i.i in
+    let same = subst (λ (g : GridValue). HaveSameRows g.columns g.begins g.ends) c.self.view_is c.self.invariant in
+    let mask = here g b.columns.now b.from b.count s _ _ _ c.as_slice-begins.result.now c.args.ends.now same c.requires.columns c.requires.within c.requires.ends (c.as_slice-begins.ensures.value ∙ ap (λ (g : GridValue). g.begins) c.self.view_is)
+    (c.passing-more.ensures c.loop-i.i c.loop-i-test.true) (c.passing-less.ensures c.loop-i.i c.loop-i-test.true) c.before-before.ensures in
+    record {
+      small = omega (arith, c.loop-i.invariant.small, c.from-found.ensures, b.rows.few, few_ones (λ a. clashes g (b.from + a) s) b.count _ mask);
+      found = with_more g b.from b.count (c.args.block * 64) c.loop-i.i c.loop-i.found c.loop-i.rows _ _ _ mask (ap (λ z. c.loop-i.found + z) c.from-found.ensures) refl c.loop-i.invariant.found;
+    }

@@ -1,0 +1,9 @@
+use Rattle.std.proofs.Common.{◌≤◌, ◌*◌}
+use Rattle.snap_grid.specs.Clashes.{ClashesWith}
+use Rattle.snap_grid.proofs.grid.Grid.clashing.Given as goal
+
+abbrev pub invariant-loop-i : goal.invariant-loop-i
+invariant-loop-i l = record {
+  small : l.found ≤ l.i * 64;
+  found : ClashesWith l.self l.ours.from l.ours.count (l.block * 64) l.i (record { count = l.found; rows = l.rows });
+}

@@ -1,0 +1,45 @@
+-- Rows of numbers, kept by columns, and which of two rows has a greater number in some column.
+use Rattle.std.specs.Prelude.{true, false, ℕ, ◌+◌, ◌-◌, ◌/◌, ◌*◌, ◌<◌, ◌≤◌, ◌≡◌, Bool, ◌&&◌, ◌||◌, cond, List, [], length, get_or, nat_lt, take, drop}
+use Rattle.std.specs.List.{list_any, range_with_len, count_by}
+
+-- the number of a row in a column
+abbrev pub number : List ℕ → ℕ → ℕ
+number column row = get_or column row 0
+
+-- the first number is greater than the second, or less
+abbrev pub passes : Bool → ℕ → ℕ → Bool
+passes more n x = cond more (nat_lt x n) (nat_lt n x)
+
+-- the first row has a greater number than the second in some column, or a lesser one
+unfoldable pub any_passes : Bool → List (List ℕ) → ℕ → ℕ → Bool
+any_passes more columns a b = list_any (λ column. passes more (number column a) (number column b)) columns
+
+-- each number is between the least and the greatest of its block of rows
+abbrev pub AreBounds : List ℕ → List ℕ → List ℕ → Type 0
+AreBounds numbers least greatest = (i : ℕ) → i < length numbers → (get_or least (i / 64) 0 ≤ get_or numbers i 0) × (get_or numbers i 0 ≤ get_or greatest (i / 64) 0)
+
+-- what a grid has of its rows: the columns, and where each row begins and ends
+pub record GridValue : Type 0 where
+  pub columns : List (List ℕ)
+  pub begins : List ℕ
+  pub ends : List ℕ
+
+-- row a has a greater number than row b in some column, and ends before b begins or has a lesser number in some column
+unfoldable pub clashes : GridValue → ℕ → ℕ → Bool
+clashes g a b = any_passes true g.columns a b && (nat_lt (number g.ends a) (number g.begins b) || any_passes false g.columns a b)
+
+pub record HaveSameRows (columns : List (List ℕ)) (begins ends : List ℕ) : Type 0 where
+  pub few : length begins ≤ 65536
+  pub ended : length ends ≡ length begins
+  pub each : (j : ℕ) → j < length columns → length (get_or columns j []) ≡ length begins
+
+-- the rows, in order
+abbrev pub rows_of : GridValue → List ℕ
+rows_of g = range_with_len 0 (length g.begins)
+
+-- how many rows a row clashes with
+unfoldable pub clash_count : GridValue → ℕ → ℕ
+clash_count g a = count_by (clashes g a) (rows_of g)
+
+unfoldable pub has_clash : GridValue → ℕ → Bool
+has_clash g a = list_any (clashes g a) (rows_of g)

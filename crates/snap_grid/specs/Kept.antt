@@ -1,0 +1,26 @@
+-- What columns and blocks keep.
+use Rattle.std.specs.Prelude.{ℕ, true, ◌+◌, ◌*◌, ◌<◌, ◌≤◌, ◌≡◌, List, [], length, get_or, take, drop, nat_lt}
+use Rattle.snap_grid.specs.declared.bounds.Bounds.{Bounds}
+use Rattle.snap_grid.specs.Masks.{mask_by, mask_below}
+
+-- the numbers of a block of rows are within bounds
+abbrev pub IsBounded : List ℕ → ℕ → Bounds → Type 0
+IsBounded numbers block b = (i : ℕ) → block * 64 ≤ i → i < block * 64 + 64 → i < length numbers → (b.least ≤ get_or numbers i 0) × (get_or numbers i 0 ≤ b.greatest)
+
+pub record IsColumn (numbers : List ℕ) (bounds : List Bounds) (limit : ℕ) : Type 0 where
+  pub few : length numbers ≤ 65536
+  pub blocks : (block : ℕ) → block * 64 < length numbers → block < length bounds
+  pub bounded : (block : ℕ) (b : Bounds) → block * 64 < length numbers → IsBounded numbers block (get_or bounds block b)
+  pub small : limit < 65536
+
+-- each column has so many rows
+abbrev pub HaveRows : List (List ℕ) → ℕ → Type 0
+HaveRows columns n = (j : ℕ) → j < length columns → n ≤ length (get_or columns j [])
+
+-- the masks of n rows from one on, column by column, and the mask of all
+pub record AreRows (columns masks : List (List ℕ)) (from n all : ℕ) : Type 0 where
+  pub few : n ≤ 64
+  pub count : length masks ≡ length columns
+  pub within : HaveRows columns (from + n)
+  pub masked : (j : ℕ) → j < length columns → get_or masks j [] ≡ take n (drop from (get_or columns j []))
+  pub whole : all ≡ mask_below (λ a. true) n

@@ -1,0 +1,5 @@
+pub mod Columns
+pub mod Masks
+pub mod Tables
+pub mod Kept
+pub mod Clashes

@@ -1,0 +1,81 @@
+ghost use Rattle.std.specs.Prelude.{◌≡◌, ◌≤◌, ◌<◌, ◌+◌, ◌*◌, ◌-◌, ℕ, length, get_or, take, drop, min, IfOk};
+
+use crate::bounds::Bounds;
+use crate::masks::{Masks, WIDTH};
+use std::alloc::{AllocError, Global};
+use std::marker::Model;
+
+/// The numbers of all rows in one column.
+#[derive(Drop)]
+pub struct Column {
+    numbers: Vec<u32>,
+    // of each block of rows
+    bounds: Vec<Bounds>,
+    // up to which number masks of the column have a table
+    limit: u32,
+}
+
+impl Model for Column {
+    ghost use Rattle.std.specs.Prelude.{ℕ, List};
+    ghost use Rattle.snap_grid.specs.Kept.{IsColumn};
+
+    ghost Value = { List ℕ };
+
+    ghost view = { λ c. c.numbers.items };
+
+    ghost invariant = { λ c. IsColumn c.numbers.items c.bounds.items c.limit };
+}
+
+impl Column {
+    /// The column of some numbers. Comparing is fast for numbers up to the limit, and takes memory by it.
+    pub fn new(alloc: Global, numbers: Vec<u32>, limit: u32) -> Result<Column, AllocError>
+        requires few { length numbers.items ≤ 65536 }
+        requires limit { limit < 65536 }
+        ensures { IfOk result (λ column. column ≡ numbers.items) }
+    {
+        let mut bounds = Vec::new(alloc);
+        let mut start = 0;
+        while start < numbers.len() {
+            let end = numbers.len().min(start + WIDTH);
+            bounds.push(Bounds::of(&numbers[start..end]))?;
+            start += WIDTH;
+        }
+        Ok(Column {
+            numbers,
+            bounds,
+            limit,
+        })
+    }
+
+    // Between which the numbers of a block of rows are.
+    pub(crate) fn bounds(&self, block: usize) -> Bounds
+        requires { block * 64 < length self.now }
+        ensures { (i : ℕ) → block * 64 ≤ i → i < block * 64 + 64 → i < length self.now → (result.least ≤ get_or self.now i 0) × (get_or self.now i 0 ≤ result.greatest) }
+    {
+        self.bounds[block]
+    }
+
+    // The numbers of some rows.
+    pub(crate) fn rows(&self, from: usize, to: usize) -> &[u32]
+        requires order { from ≤ to }
+        requires within { to ≤ length self.now }
+        ensures { result.now ≡ take (to - from) (drop from self.now) }
+    {
+        &self.numbers[from..to]
+    }
+
+    // The masks of some rows.
+    pub(crate) fn masks<'c>(
+        &'c self,
+        alloc: Global,
+        from: usize,
+        to: usize,
+    ) -> Result<Masks<'c>, AllocError>
+        requires order { from ≤ to }
+        requires few { to ≤ from + 64 }
+        requires within { to ≤ length self.now }
+        ensures { IfOk result (λ masks. masks ≡ take (to - from) (drop from self.now)) }
+    {
+        Masks::of(alloc, self.rows(from, to), self.limit)
+    }
+}

@@ -1,0 +1,146 @@
+ghost use Rattle.std.specs.Prelude.{◌≡◌, ◌≤◌, ◌<◌, ◌+◌, ◌*◌, ◌-◌, ℕ, Bool, [], length, get_or, take, drop, sum_by, count_by, find, IfOk};
+ghost use Rattle.std.specs.List.{range_with_len, list_any};
+ghost use Rattle.snap_grid.specs.Columns.{GridValue, clashes, clash_count, has_clash, HaveSameRows};
+ghost use Rattle.snap_grid.specs.Masks.{mask_below};
+ghost use Rattle.snap_grid.specs.Clashes.{ClashesWith};
+
+use crate::block::Block;
+use crate::column::Column;
+use crate::masks::{Masks, WIDTH};
+use std::alloc::{AllocError, Global};
+use std::marker::Model;
+
+/// Rows of numbers by columns, each with the places of its begin and its end.
+#[derive(Drop)]
+pub struct Grid {
+    columns: Vec<Column>,
+    begins: Vec<u32>,
+    ends: Vec<u32>,
+}
+
+impl Model for Grid {
+    ghost use Rattle.snap_grid.specs.Columns.{GridValue, HaveSameRows};
+
+    ghost Value = { GridValue };
+
+    ghost view = { λ g. record { columns = g.columns.items; begins = g.begins.items; ends = g.ends.items } };
+
+    ghost invariant = { λ g. HaveSameRows g.columns.items g.begins.items g.ends.items };
+}
+
+/// How many clashes there are, and the first row that has one.
+#[derive(Clone, Copy)]
+pub struct Clashes {
+    pub count: u64,
+    pub first: Option<usize>,
+}
+
+// How many clashes there are, and the mask of our rows that have one.
+#[derive(Clone, Copy)]
+pub(crate) struct Clashing {
+    pub(crate) count: u64,
+    pub(crate) rows: u64,
+}
+
+// The first row of a mask of the rows from one on.
+fn first_row(from: usize, rows: u64) -> Option<usize>
+    requires { from ≤ 65536 }
+    ensures { (n : ℕ) (p : ℕ → Bool) → rows ≡ mask_below (λ a. p (from + a)) n → result ≡ find p (range_with_len from n) }
+{
+    if rows == 0 {
+        return None;
+    }
+    Some(from + rows.trailing_zeros() as usize)
+}
+
+impl Grid {
+    /// The grid of these columns and rows.
+    pub fn new(columns: Vec<Column>, begins: Vec<u32>, ends: Vec<u32>) -> Grid
+        requires { HaveSameRows columns.items begins.items ends.items }
+        ensures { result ≡ record { columns = columns.items; begins = begins.items; ends = ends.items } }
+    {
+        Grid {
+            columns,
+            begins,
+            ends,
+        }
+    }
+
+    // Our rows, which end there, against a block of rows.
+    fn clashing(&self, ours: &Block<'_>, ends: &Masks<'_>, block: usize, count: usize) -> Clashing
+        requires columns { ours.now.columns.now ≡ self.now.columns }
+        requires ends { ends.now ≡ take ours.now.count (drop ours.now.from self.now.ends) }
+        requires within { ours.now.from + ours.now.count ≤ length self.now.begins }
+        requires some { 0 < count }
+        requires few { count ≤ 64 }
+        requires rows { block * 64 + count ≤ length self.now.begins }
+        ensures { ClashesWith self.now ours.now.from ours.now.count (block * 64) count result }
+    {
+        let begins = self.begins.as_slice();
+        let more = ours.passing(true, block, count);
+        let less = ours.passing(false, block, count);
+        let mut found = 0;
+        let mut rows = 0;
+        for i in 0..count {
+            let before = ends.before(begins[block * WIDTH + i]);
+            let mask = more[i] & (less[i] | before);
+            found += u64::from(mask.count_ones());
+            rows |= mask;
+        }
+        Clashing { count: found, rows }
+    }
+
+    // Some of our rows against all rows.
+    fn block_clashing(
+        &self,
+        alloc: Global,
+        from: usize,
+        count: usize,
+    ) -> Result<Clashing, AllocError>
+        requires few { count ≤ 64 }
+        requires within { from + count ≤ length self.now.begins }
+        ensures count { IfOk result (λ c. c.count ≡ sum_by (clash_count self.now) (range_with_len from count)) }
+        ensures few { IfOk result (λ c. c.count ≤ count * 65536) }
+        ensures rows { IfOk result (λ c. c.rows ≡ mask_below (λ a. has_clash self.now (from + a)) count) }
+    {
+        let all = self.begins.len();
+        let ours = Block::of(alloc, &self.columns, from, count)?;
+        let ends = Masks::of(alloc, &self.ends[from..from + count], 0)?;
+        let mut found = 0;
+        let mut rows = 0;
+        let mut block = 0;
+        let mut done = 0;
+        while done < all {
+            let theirs = (all - done).min(WIDTH);
+            let more = self.clashing(&ours, &ends, block, theirs);
+            found += more.count;
+            rows |= more.rows;
+            block += 1;
+            done += theirs;
+        }
+        Ok(Clashing { count: found, rows })
+    }
+
+    /// The clashes of the rows from `from` to before `to` with all rows: how many there are, and the first of our rows that
+    /// has one.
+    pub fn clashes(&self, alloc: Global, from: usize, to: usize) -> Result<Clashes, AllocError>
+        requires order { from ≤ to }
+        requires within { to ≤ length self.now.begins }
+        ensures count { IfOk result (λ c. c.count ≡ sum_by (clash_count self.now) (range_with_len from (to - from))) }
+        ensures first { IfOk result (λ c. c.first ≡ find (has_clash self.now) (range_with_len from (to - from))) }
+    {
+        // that there are few rows
+        let _rows = self.begins.len();
+        let mut count = 0;
+        let mut first = None;
+        let mut start = from;
+        while start < to {
+            let rows = (to - start).min(WIDTH);
+            let more = self.block_clashing(alloc, start, rows)?;
+            count += more.count;
+            first = first.or(first_row(start, more.rows));
+            start += rows;
+        }
+        Ok(Clashes { count, first })
+    }
+}

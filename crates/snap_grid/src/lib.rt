@@ -1,0 +1,12 @@
+//! Rows of numbers by columns, and how many pairs of rows clash, block by block.
+#![tactic(auto)]
+
+mod block;
+mod bounds;
+mod column;
+mod grid;
+mod masks;
+
+pub use bounds::Bounds;
+pub use column::Column;
+pub use grid::{Clashes, Grid};
