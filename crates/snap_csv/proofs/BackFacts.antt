@@ -22,10 +22,10 @@ pub fit_each : (es : List Entry) → All EntryFits es → AllFit es
 fit_each [] h = tt
 fit_each (e ∷ es) h = (All-head EntryFits e es h, fit_each es (All-tail EntryFits e es h))
 
-parts_at : (mark : ℕ) (xs ys : List ℕ) → Lacks mark xs → parts mark (xs ++ mark ∷ ys) ≡ xs ∷ parts mark ys
+pub parts_at : (mark : ℕ) (xs ys : List ℕ) → Lacks mark xs → parts mark (xs ++ mark ∷ ys) ≡ xs ∷ parts mark ys
 parts_at mark xs ys h = let same : (mark == mark) ≡ true = grind (arith, nat_tests) in slice_split_at (λ b. b == mark) xs mark ys h same
 
-one_part : (mark : ℕ) (xs : List ℕ) → Lacks mark xs → parts mark xs ≡ xs ∷ []
+pub one_part : (mark : ℕ) (xs : List ℕ) → Lacks mark xs → parts mark xs ≡ xs ∷ []
 one_part mark xs h = slice_split_none (λ b. b == mark) xs h
 
 -- ---- an entry

@@ -1,5 +1,5 @@
 -- What a record's fields are where they spell an event.
-use Rattle.std.proofs.Common.{◌≡◌, ◌^◌, ◌==◌, cond, ℕ, Bool, true, false, List, [], ◌∷◌, length, map, Option, Some, None, Result, Ok, Err, refl, arith, ◌∙◌, sym, ap}
+use Rattle.std.proofs.Common.{◌≡◌, ◌^◌, ◌==◌, cond, ℕ, Bool, true, false, List, [], ◌∷◌, length, map, Option, Some, None, Result, Ok, Err, refl, arith, ◌∙◌, sym, ap, subst}
 use Rattle.std.specs.Prelude.{codes, decimal, is_none, option_and_then, option_map}
 use Rattle.std.specs.Str.{bytes_eq}
 use Rattle.std.proofs.lemmas.Slice.Eq.{bytes_eq-Decides}
@@ -9,7 +9,7 @@ use Rattle.std.proofs.lemmas.List.Splits.{join_with_byte-slice_split}
 use Rattle.snap_core.specs.declared.entry.Entry.{Entry}
 use Rattle.snap_core.specs.declared.event.Event.{Event}
 use Rattle.snap_core.specs.declared.event.Event.TheVariants.{BeginUpdate, BeginView, EndUpdate, EndView}
-use Rattle.snap_core.specs.Entries.{view_refusal}
+use Rattle.snap_core.specs.Entries.{EntryFits, view_refusal}
 use Rattle.snap_csv.specs.declared.refusal.TextFault.{TextFault}
 use Rattle.snap_csv.specs.declared.refusal.TextFault.TheVariants as faults
 use Rattle.snap_csv.specs.Rows.{Fields}
@@ -55,6 +55,20 @@ entry_is text e h =
         parts_join 58 text (k ∷ n ∷ v ∷ []) (three_is (parts 58 text) k n v cut) ∙
         ap (λ (z : List ℕ). join_with_byte 58 (z ∷ n ∷ v ∷ [])) is_k ∙ ap (λ (z : List ℕ). join_with_byte 58 (decimal component ∷ z ∷ v ∷ [])) is_n
         ∙ ap (λ (z : List ℕ). join_with_byte 58 (decimal component ∷ decimal number ∷ z ∷ [])) is_v ∙ ap entry_text hv
+
+-- and its numbers are in range
+pub entry_fits : (text : List ℕ) (e : Entry) → entry_at text ≡ Some e → EntryFits e
+unfolding entry_at
+entry_fits text e h =
+    let (p, cut, made) = and_then_some entry_from (three (parts 58 text)) e h in
+    fit p.0 p.1 p.2 made
+  where
+    fit : (k n v : List ℕ) → entry_from (k, n, v) ≡ Some e → EntryFits e
+    fit k n v made =
+        let (component, ek, hk) = and_then_some (λ component. option_and_then (λ number. option_map (λ value. record { component = component; number = number; value = value }) (number_at (2 ^ 32) v)) (number_at (2 ^ 32) n)) (number_at (2 ^ 8) k) e made in
+        let (number, en, hn) = and_then_some (λ number. option_map (λ value. record { component = component; number = number; value = value }) (number_at (2 ^ 32) v)) (number_at (2 ^ 32) n) e hk in
+        let (value, ev, hv) = map_some (λ value. record { component = component; number = number; value = value }) (number_at (2 ^ 32) v) e hn in
+        subst (λ (d : Entry). EntryFits d) hv ((number_is (2 ^ 8) component k ek).0, (number_is (2 ^ 32) number n en).0, (number_is (2 ^ 32) value v ev).0)
 
 entries_are : (ps : List (List ℕ)) (es : List Entry) → all_of (map entry_at ps) ≡ Some es → ps ≡ map entry_text es
 entries_are [] es h = let e : ◌≡◌ {A = List Entry} [] es = cc in ap (λ (z : List Entry). map entry_text z) e

@@ -1,5 +1,6 @@
 pub mod RowFacts
 pub mod NumberFacts
+pub mod FrontFacts
 pub mod FieldFacts
 pub mod PartFacts
 pub mod ReadFacts
@@ -11,3 +12,5 @@ pub mod TextFacts
 pub mod Exclusive
 pub mod LengthFacts
 pub mod GrammarFacts
+pub mod ViewFacts
+pub mod GroupFacts

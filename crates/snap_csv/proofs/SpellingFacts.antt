@@ -6,7 +6,7 @@ use Rattle.snap_core.specs.declared.entry.Entry.{Entry}
 use Rattle.snap_csv.specs.Spelling.{entries_text, entry_text, with_next}
 use Rattle.snap_csv.proofs.BackFacts.{entries_long}
 
-text_tail : (d : Entry) (es : List Entry) (e : Entry) → entries_text (d ∷ (es ++ e ∷ [])) ≡ entries_text (d ∷ es) ++ 32 ∷ entry_text e
+pub text_tail : (d : Entry) (es : List Entry) (e : Entry) → entries_text (d ∷ (es ++ e ∷ [])) ≡ entries_text (d ∷ es) ++ 32 ∷ entry_text e
 unfolding entries_text
 text_tail d [] e = refl
 text_tail d (f ∷ es) e =

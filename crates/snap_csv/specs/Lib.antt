@@ -5,5 +5,6 @@ pub mod Faults
 pub mod Texts
 pub mod Answers
 pub mod Spelling
+pub mod Fronts
 pub mod Writing
 pub mod Laws

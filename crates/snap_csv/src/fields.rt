@@ -1,37 +1,14 @@
-ghost use Rattle.std.specs.Prelude.{◌≡◌, ◌≢◌, ◌∷◌, [], length, MatchOption, option_map, IfOk, Ok, Err, Some, None};
+ghost use Rattle.std.specs.Prelude.{◌≡◌, ◌≢◌, ◌∷◌, [], length, MatchOption, IfOk, Ok, Err, Some, None};
 ghost use Rattle.csv.specs.Records.{fields_of};
-ghost use Rattle.snap_csv.specs.Fields.{entry_at, entries_at, event_of, is_header_row, parts, three, update_at, view_at};
+ghost use Rattle.snap_csv.specs.Fields.{event_of, is_header_row, update_at, view_at};
 ghost use Rattle.snap_csv.specs.Answers.{GivesEvent};
 
-use crate::number::{component_of, number_of, process_of};
+use crate::entries::{Group, entries_of, entry_of};
+use crate::number::process_of;
 use crate::refusal::{ReadRefusal, TextFault};
 use csv::ByteRecord;
 use snap_core::{Entry, Event, View};
 use std::alloc::{AllocError, Global};
-
-// The three parts of a text with colons between, where it has three.
-fn three_parts(text: &[u8]) -> Option<(&[u8], &[u8], &[u8])>
-    ensures { option_map (λ x. (x.0.now, x.1.now, x.2.now)) result ≡ three (parts 58 text.now) }
-{
-    let mut parts = text.split(|b| *b == b':');
-    match (parts.next(), parts.next(), parts.next(), parts.next()) {
-        (Some(first), Some(second), Some(third), None) => Some((first, second, third)),
-        _ => None,
-    }
-}
-
-// The entry that is spelled by its component, number and value, with colons between.
-#[tactic(auto, unfolding(crate::specs::Fields::entry_at))]
-fn entry_of(text: &[u8]) -> Option<Entry>
-    ensures { result ≡ entry_at text.now }
-{
-    let (component, number, value) = three_parts(text)?;
-    Some(Entry {
-        component: component_of(component)?,
-        number: number_of(number)?,
-        value: number_of(value)?,
-    })
-}
 
 // The entry of an update.
 #[tactic(auto, unfolding(crate::specs::Fields::update_at))]
@@ -42,29 +19,12 @@ fn update_of(text: &[u8]) -> Option<Entry>
     if entry.number == 0 { None } else { Some(entry) }
 }
 
-// The entries that are spelled with one space between two.
-fn entries_of(alloc: Global, text: &[u8]) -> Result<Option<Vec<Entry>>, AllocError>
-    ensures { IfOk result (λ o. option_map (λ v. v.items) o ≡ entries_at text.now) }
-{
-    let mut entries = Vec::new(alloc);
-    if text.is_empty() {
-        return Ok(Some(entries));
-    }
-    for part in text.split(|b| *b == b' ') {
-        let Some(entry) = entry_of(part) else {
-            return Ok(None);
-        };
-        entries.push(entry)?;
-    }
-    Ok(Some(entries))
-}
-
 /// The view whose entries are spelled.
 #[tactic(auto, unfolding(crate::specs::Fields::view_at))]
-fn view_of(alloc: Global, text: &[u8]) -> Result<Option<View>, AllocError>
+fn view_of(alloc: Global, known: &mut Vec<Group>, text: &[u8]) -> Result<Option<View>, AllocError>
     ensures { IfOk result (λ o. o ≡ view_at text.now) }
 {
-    let Some(entries) = entries_of(alloc, text)? else {
+    let Some(entries) = entries_of(alloc, known, text)? else {
         return Ok(None);
     };
     match View::from_entries(entries) {
@@ -118,6 +78,7 @@ fn bad<T>(place: u32, fault: TextFault) -> Result<T, ReadRefusal>
 #[tactic(auto, unfolding(crate::specs::Fields::event_of))]
 pub fn event_of_fields(
     alloc: Global,
+    known: &mut Vec<Group>,
     place: u32,
     event: &[u8],
     process: &[u8],
@@ -150,7 +111,7 @@ pub fn event_of_fields(
         return Ok(Event::BeginUpdate { process, entry });
     }
     if !begins && !updates {
-        let Some(view) = view_of(alloc, text)? else {
+        let Some(view) = view_of(alloc, known, text)? else {
             return bad(place, TextFault::BadData);
         };
         return Ok(Event::EndView { process, view });

@@ -15,9 +15,9 @@ pub fn take_in<R: Read>(alloc: Global, reader: &mut Counted<R>) -> Result<Vec<u8
     ensures counts { Counts (failures_in reader.old) (failures_in reader.new) result }
 {
     let mut text = Vec::new(alloc);
+    let mut piece = [0u8; 65536];
     let mut ended = false;
     while !ended {
-        let mut piece = [0u8; 4096];
         match reader.read(&mut piece) {
             Err(_) => return Err(ReadRefusal::Device),
             Ok(n) => {

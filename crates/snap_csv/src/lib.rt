@@ -1,6 +1,7 @@
 //! Histories as text.
 #![tactic(auto)]
 
+mod entries;
 mod fields;
 mod intake;
 mod law;

@@ -5,6 +5,7 @@ ghost use Rattle.snap_csv.specs.Faults.{fault_of};
 ghost use Rattle.snap_csv.specs.Rows.{rows_of};
 ghost use Rattle.csv.specs.Records.{fields_of};
 
+use crate::entries::Group;
 use crate::fields::{event_of_fields, four_fields, is_header};
 use crate::intake::take_in;
 use crate::refusal::{ReadRefusal, TextFault};
@@ -35,6 +36,7 @@ fn fault_for(refusal: EventRefusal) -> Option<TextFault>
 // Adds the event of a record to a history.
 fn take_row(
     alloc: Global,
+    known: &mut Vec<Group>,
     history: &mut History,
     place: u32,
     row: &ByteRecord,
@@ -53,7 +55,7 @@ fn take_row(
             fault: TextFault::TooMany,
         });
     }
-    let event = event_of_fields(alloc, place, event, process, op, entries)?;
+    let event = event_of_fields(alloc, known, place, event, process, op, entries)?;
     push_event(history, place, event)
 }
 
@@ -87,12 +89,13 @@ fn history_of(alloc: Global, text: &[u8]) -> Result<History, ReadRefusal>
             fault: TextFault::Header,
         });
     }
+    let mut known = Vec::new(alloc);
     let mut history = History::new(alloc);
     for i in 0..ROW_LIMIT {
         if !next_row(&mut reader, &mut row)? {
             return Ok(history);
         }
-        take_row(alloc, &mut history, i + 2, &row)?;
+        take_row(alloc, &mut known, &mut history, i + 2, &row)?;
     }
     let _len = history.len();
     unreachable!()

@@ -7,23 +7,17 @@ ghost use Rattle.snap_report.specs.Lines.{entry_word, line_text, text_of};
 ghost use Rattle.snap_report.specs.Orders.{HasLine, calls_numbered};
 ghost use Rattle.snap_report.specs.Reports.{call_line, operation_words, order_lines};
 
-use crate::words::{put_call, put_entry, put_number};
-use snap_core::Entry;
+use crate::words::{Group, put_call, put_entries, put_entry, put_number};
 use snap_index::{CallOp, Index};
 use std::alloc::AllocError;
 
-// Adds the entries of a view, each behind a space.
-fn put_entries(out: &mut Vec<u8>, entries: &[Entry]) -> Result<(), AllocError>
-    ensures { OnOk result (out.new.items ≡ out.old.items ++ flat_map (λ entry. codes " " ++ entry_word entry) entries.now) }
-{
-    for entry in entries {
-        put_entry(out, b" ", entry)?;
-    }
-    Ok(())
-}
-
 // Adds a completed view, from its first word behind the process on.
-fn put_view(out: &mut Vec<u8>, index: &Index<'_>, call: u32) -> Result<(), AllocError>
+fn put_view(
+    out: &mut Vec<u8>,
+    known: &mut Vec<Group>,
+    index: &Index<'_>,
+    call: u32,
+) -> Result<(), AllocError>
     requires below { call < length (calls_of index.now) }
     requires view { is_view (call_numbered (calls_of index.now) call) ≡ true }
     ensures { OnOk result (out.new.items ≡ out.old.items ++ codes " view"
@@ -33,12 +27,13 @@ fn put_view(out: &mut Vec<u8>, index: &Index<'_>, call: u32) -> Result<(), Alloc
     let Some(view) = index.answer(call) else {
         unreachable!()
     };
-    put_entries(out, view.entries())
+    put_entries(out, known, view.entries())
 }
 
 // Adds what a call does, each word behind a space.
 fn put_operation(
     out: &mut Vec<u8>,
+    known: &mut Vec<Group>,
     index: &Index<'_>,
     number: u32,
     op: CallOp,
@@ -50,12 +45,17 @@ fn put_operation(
 {
     match op {
         CallOp::Update(entry) => put_entry(out, b" update ", &entry),
-        CallOp::View => put_view(out, index, number),
+        CallOp::View => put_view(out, known, index, number),
     }
 }
 
 // Adds the line of a call.
-fn put_call_line(out: &mut Vec<u8>, index: &Index<'_>, number: u32) -> Result<(), AllocError>
+fn put_call_line(
+    out: &mut Vec<u8>,
+    known: &mut Vec<Group>,
+    index: &Index<'_>,
+    number: u32,
+) -> Result<(), AllocError>
     requires { HasLine (calls_of index.now) number }
     ensures { OnOk result (out.new.items ≡ out.old.items ++ line_text (call_line (call_numbered (calls_of index.now) number))) }
 {
@@ -64,7 +64,7 @@ fn put_call_line(out: &mut Vec<u8>, index: &Index<'_>, number: u32) -> Result<()
     };
     put_call(out, b"", number)?;
     put_number(out, b" p", u64::from(call.process))?;
-    put_operation(out, index, number, call.op)?;
+    put_operation(out, known, index, number, call.op)?;
     out.extend_from_slice(b"\n")
 }
 
@@ -79,8 +79,9 @@ pub(crate) fn put_order(
 {
     put_number(out, b"order ", order.len() as u64)?;
     out.extend_from_slice(b"\n")?;
+    let mut known = Vec::new(*out.allocator());
     for number in order {
-        put_call_line(out, index, *number)?;
+        put_call_line(out, &mut known, index, *number)?;
     }
     Ok(())
 }

@@ -1,0 +1,46 @@
+-- What a text begins with.
+use Rattle.std.specs.Prelude.{◌≡◌, ◌<◌, ◌^◌, ◌⊎◌, ◌++◌, ℕ, List, [], ◌∷◌, length, map, None, decimal}
+use Rattle.std.specs.List.{All}
+use Rattle.snap_core.specs.declared.entry.Entry.{Entry}
+use Rattle.snap_core.specs.Entries.{EntryFits}
+use Rattle.snap_csv.specs.Spelling.{entries_text, entry_text}
+use Rattle.snap_csv.specs.Fields.{all_of, entry_at, parts}
+
+-- no digit comes first
+abbrev pub NoDigitFirst : List ℕ → Type 0
+NoDigitFirst [] = Unit {0}
+NoDigitFirst (b ∷ bs) = (b < 48) ⊎ (57 < b)
+
+-- the decimal of a number, and then a rest that goes on with no digit
+pub record NumberThen (n : ℕ) (rest text : List ℕ) : Type 0 where
+  pub small : n < 2 ^ 32
+  pub whole : text ≡ decimal n ++ rest
+  pub ends : NoDigitFirst rest
+
+-- nothing, or a space (32) and more
+abbrev pub EndsEntry : List ℕ → Type 0
+EndsEntry [] = Unit {0}
+EndsEntry (b ∷ bs) = b ≡ 32
+
+-- an entry, and then its end
+pub record EntryThen (e : Entry) (rest text : List ℕ) : Type 0 where
+  pub fits : EntryFits e
+  pub whole : text ≡ entry_text e ++ rest
+  pub ends : EndsEntry rest
+
+-- entries with one space between two, and then their end
+pub record EntriesThen (es : List Entry) (rest text : List ℕ) : Type 0 where
+  pub some : 0 < length es
+  pub fit : All EntryFits es
+  pub whole : text ≡ entries_text es ++ rest
+  pub ends : EndsEntry rest
+
+-- a text that no entries begin
+abbrev pub NoEntries : List ℕ → Type 0
+NoEntries text = all_of (map entry_at (parts 32 text)) ≡ None
+
+-- entries with some more of a text behind them
+pub record AddsGroup (old new : List Entry) (rest text : List ℕ) : Type 0 where
+  pub more : List Entry
+  pub added : new ≡ old ++ more
+  pub then : EntriesThen more rest text

@@ -1,0 +1,169 @@
+//! Entries in a text. Those of one view are often those of the view before it, so a text is first compared with the one
+//! that was read before, some entries at a time.
+ghost use Rattle.std.specs.Prelude.{◌≡◌, ◌∷◌, [], ℕ, List, MatchOption, IfOk, IfSome, option_map};
+ghost use Rattle.snap_core.specs.declared.entry.Entry.{Entry};
+ghost use Rattle.snap_csv.specs.Fields.{entries_at, entry_at};
+ghost use Rattle.snap_csv.specs.Fronts.{AddsGroup, EntriesThen, EntryThen, NoEntries, NumberThen};
+
+use crate::number::number_first;
+use snap_core::Entry;
+use std::alloc::{AllocError, Global};
+
+// How many entries are compared at a time, and how many times a view has as many.
+const GROUP: usize = 16;
+
+/// Entries that were read, and their text.
+#[derive(Drop)]
+pub struct Group {
+    text: Vec<u8>,
+    entries: Vec<Entry>,
+    ghost spelled: { EntriesThen entries.items [] text.items },
+}
+
+// The number that a text begins with before a colon, and the text behind the colon.
+#[inline(always)]
+fn number_and_colon(text: &[u8]) -> Option<(u32, &[u8])>
+    ensures { MatchOption result ((n : ℕ) (rest : List ℕ) → NumberThen n (58 ∷ rest) text.now → ⊥) (λ x. NumberThen x.0 (58 ∷ x.1.now) text.now) }
+{
+    let (number, rest) = number_first(text)?;
+    let (mark, behind) = rest.split_first()?;
+    if *mark == b':' {
+        Some((number, behind))
+    } else {
+        None
+    }
+}
+
+// The entry that a text begins with, and the text behind it: nothing, or a space and more.
+#[inline(always)]
+fn entry_first(text: &[u8]) -> Option<(Entry, &[u8])>
+    ensures { MatchOption result ((e : Entry) (rest : List ℕ) → EntryThen e rest text.now → ⊥) (λ x. EntryThen x.0 x.1.now text.now) }
+{
+    let (component, text) = number_and_colon(text)?;
+    let (number, text) = number_and_colon(text)?;
+    let (value, rest) = number_first(text)?;
+    if component > 255 {
+        return None;
+    }
+    let entry = Entry {
+        component: component as u8,
+        number,
+        value,
+    };
+    if rest.is_empty() || rest[0] == b' ' {
+        Some((entry, rest))
+    } else {
+        None
+    }
+}
+
+/// The entry that is spelled by its component, number and value, with colons between.
+pub fn entry_of(text: &[u8]) -> Option<Entry>
+    ensures { result ≡ entry_at text.now }
+{
+    let (entry, rest) = entry_first(text)?;
+    if rest.is_empty() { Some(entry) } else { None }
+}
+
+// The entries that a text begins with, up to as many as a group has, and the text behind them.
+fn read_group(alloc: Global, text: &[u8]) -> Result<Option<(Vec<Entry>, &[u8])>, AllocError>
+    ensures { IfOk result (λ o. MatchOption o (NoEntries text.now) (λ x. EntriesThen x.0.items x.1.now text.now)) }
+{
+    let mut entries = Vec::with_capacity(alloc, GROUP)?;
+    let Some((first, mut rest)) = entry_first(text) else {
+        return Ok(None);
+    };
+    entries.push(first)?;
+    while entries.len() < GROUP {
+        let Some((_, next)) = rest.split_first() else {
+            break;
+        };
+        let Some((entry, behind)) = entry_first(next) else {
+            return Ok(None);
+        };
+        entries.push(entry)?;
+        rest = behind;
+    }
+    Ok(Some((entries, rest)))
+}
+
+// The text behind a group, where a text begins with the group's.
+#[inline]
+fn behind_group<'a>(group: &Group, text: &'a [u8]) -> Option<&'a [u8]>
+    ensures { IfSome result (λ rest. EntriesThen group.now.entries.items rest.now text.now) }
+{
+    let rest = text.strip_prefix(group.text.as_slice())?;
+    if rest.is_empty() || rest[0] == b' ' {
+        Some(rest)
+    } else {
+        None
+    }
+}
+
+// Keeps a group in its place.
+fn keep(known: &mut Vec<Group>, place: usize, group: Group) -> Result<(), AllocError> {
+    if place < known.len() {
+        known[place] = group;
+    } else if place < GROUP {
+        known.push(group)?;
+    }
+    Ok(())
+}
+
+// Adds the entries that a text begins with, up to as many as a group has, and gives the text behind them.
+fn add_group<'a>(
+    alloc: Global,
+    known: &mut Vec<Group>,
+    entries: &mut Vec<Entry>,
+    text: &'a [u8],
+) -> Result<Option<&'a [u8]>, AllocError>
+    ensures { IfOk result (λ o. MatchOption o (NoEntries text.now) (λ rest. AddsGroup entries.old.items entries.new.items rest.now text.now)) }
+{
+    let place = entries.len() / GROUP;
+    if let Some(group) = known.get(place) {
+        if let Some(rest) = behind_group(group, text) {
+            entries.extend_from_slice(&group.entries)?;
+            return Ok(Some(rest));
+        }
+    }
+    let Some((read, rest)) = read_group(alloc, text)? else {
+        return Ok(None);
+    };
+    entries.extend_from_slice(&read)?;
+    let front = Vec::from_slice(alloc, &text[..text.len() - rest.len()])?;
+    keep(
+        known,
+        place,
+        Group {
+            text: front,
+            entries: read,
+        },
+    )?;
+    Ok(Some(rest))
+}
+
+/// The entries that are spelled with one space between two.
+pub fn entries_of(
+    alloc: Global,
+    known: &mut Vec<Group>,
+    text: &[u8],
+) -> Result<Option<Vec<Entry>>, AllocError>
+    ensures { IfOk result (λ o. option_map (λ v. v.items) o ≡ entries_at text.now) }
+{
+    let mut entries = Vec::new(alloc);
+    if text.is_empty() {
+        return Ok(Some(entries));
+    }
+    // as many as the view before had, but no more than the text can have, of six bytes each
+    entries.reserve((known.len().min(GROUP) * GROUP).min(text.len() / 6 + 1))?;
+    let mut left = text;
+    loop {
+        let Some(rest) = add_group(alloc, known, &mut entries, left)? else {
+            return Ok(None);
+        };
+        let Some((_, next)) = rest.split_first() else {
+            return Ok(Some(entries));
+        };
+        left = next;
+    }
+}
