@@ -31,6 +31,16 @@ abbrev pub AnswersText : List ℕ → Result (List Event) ReadRefusal → Type 0
 AnswersText text (Ok h) = IsText text h
 AnswersText text (Err e) = RefusesText text e
 
+-- the same of a text in memory, where no device fails
+abbrev pub RefusesWhole : List ℕ → ReadRefusal → Type 0
+RefusesWhole text (refusals.Text place f) = HasFault text place f
+RefusesWhole text refusals.Device = ⊥
+RefusesWhole text refusals.Memory = Unit {0}
+
+abbrev pub AnswersWhole : List ℕ → Result (List Event) ReadRefusal → Type 0
+AnswersWhole text (Ok h) = IsText text h
+AnswersWhole text (Err e) = RefusesWhole text e
+
 -- the failures that an answer may come with: the device where the count rose, and no answer but that and memory then
 abbrev pub RefusalCounts : ℕ → ℕ → ReadRefusal → Type 0
 RefusalCounts old new (refusals.Text place f) = new ≡ old

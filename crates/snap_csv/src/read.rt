@@ -1,13 +1,13 @@
 ghost use Rattle.std.specs.Prelude.{◌≡◌, IfSome};
 ghost use Rattle.snap_core.specs.Counting.{inner_of, failures_in};
-ghost use Rattle.snap_csv.specs.Answers.{AnswersRows, AnswersText, Counts, TakesEvent, TakesRow};
+ghost use Rattle.snap_csv.specs.Answers.{AnswersRows, AnswersText, AnswersWhole, Counts, TakesEvent, TakesRow};
 ghost use Rattle.snap_csv.specs.Faults.{fault_of};
 ghost use Rattle.snap_csv.specs.Rows.{rows_of};
 ghost use Rattle.csv.specs.Records.{fields_of};
 
 use crate::entries::Group;
 use crate::fields::{event_of_fields, four_fields, is_header};
-use crate::intake::take_in;
+use crate::intake::{BYTE_LIMIT, take_in};
 use crate::refusal::{ReadRefusal, TextFault};
 use crate::rows::{next_row, reader_of};
 use csv::ByteRecord;
@@ -112,4 +112,17 @@ pub fn read_history<R: Read>(alloc: Global, reader: &mut Counted<R>) -> Result<H
 {
     let text = take_in(alloc, reader)?;
     history_of(alloc, &text)
+}
+
+/// Reads the history of a text in memory, as `read_history` does of a reader: the text is not copied, and no device can fail.
+pub fn read_text(alloc: Global, text: &[u8]) -> Result<History, ReadRefusal>
+    ensures { AnswersWhole text.now result }
+{
+    if text.len() > BYTE_LIMIT {
+        return Err(ReadRefusal::Text {
+            place: 0,
+            fault: TextFault::TooLong,
+        });
+    }
+    history_of(alloc, text)
 }

@@ -11,7 +11,7 @@ pub use checking::check_order;
 pub use law::{
     legal_orders_grow, printed_order_is_alone, shrinking_lemma, sorted_keys_give_the_order,
 };
-pub use printing::build;
+pub use printing::{build, build_alone};
 
 #[cfg(test)]
 mod tests;

@@ -33,9 +33,52 @@ pub fn build<R: Threads + Sync>(
     let _events = index.event_count();
     let chain = chain(alloc, index)?;
     let ranks = ranks(rt, alloc, index, &chain)?;
-    let mut keys = keys(alloc, index, &ranks)?;
+    ordered(alloc, index, &ranks)
+}
+
+/// The same order, without a runtime: the searches run one after another on the calling thread.
+pub fn build_alone(alloc: Global, index: &Index<'_>) -> Result<Vec<u32>, AllocError>
+    requires { HasNoFault (calls_of index.now) }
+    ensures printed { IfOk result
+        (λ order. order.items ≡ map (λ c. c.number) (printed_order (calls_of index.now))) }
+    ensures legal { IfOk result (λ order. IsLegalList (calls_of index.now) order.items) }
+{
+    // that the events are a history
+    let _events = index.event_count();
+    let chain = chain(alloc, index)?;
+    let ranks = ranks_alone(alloc, index, &chain)?;
+    ordered(alloc, index, &ranks)
+}
+
+// The printed order, by the rank of each call.
+fn ordered(alloc: Global, index: &Index<'_>, ranks: &[Option<u32>]) -> Result<Vec<u32>, AllocError>
+    requires no_fault { HasNoFault (calls_of index.now) }
+    requires ranks { ranks.now ≡ map (rank_of (calls_of index.now)) (calls_of index.now) }
+    ensures printed { IfOk result
+        (λ order. order.items ≡ map (λ c. c.number) (printed_order (calls_of index.now))) }
+    ensures legal { IfOk result (λ order. IsLegalList (calls_of index.now) order.items) }
+{
+    let _events = index.event_count();
+    let mut keys = keys(alloc, index, ranks)?;
     keys.sort_unstable();
     numbers(alloc, &keys)
+}
+
+// The rank of each call, where it is printed, one after another.
+fn ranks_alone(
+    alloc: Global,
+    index: &Index<'_>,
+    chain: &[(u64, u32)],
+) -> Result<Vec<Option<u32>>, AllocError>
+    requires kept { IsKept index.now }
+    requires chain { IsChain (calls_of index.now) chain.now }
+    ensures { IfOk result (λ ranks. ranks.items ≡ map (rank_of (calls_of index.now)) (calls_of index.now)) }
+{
+    let mut ranks = Vec::new(alloc);
+    for call in 0..index.call_count() {
+        ranks.push(printed_rank(index, chain, call))?;
+    }
+    Ok(ranks)
 }
 
 // The rank of each call, where it is printed.

@@ -1,5 +1,4 @@
 pub mod OnWords
 pub mod Numbers
-pub mod Verdicts
 pub mod Runs
 pub mod Recordings

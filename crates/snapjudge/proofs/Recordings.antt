@@ -7,11 +7,11 @@ use Rattle.snap_csv.proofs.TextFacts.{text_reads}
 use Rattle.snap_record.specs.declared.plan.Step.{Step}
 use Rattle.snapjudge.specs.declared.fault.RunFault.{RunFault}
 use Rattle.snapjudge.specs.declared.fault.RunFault.TheVariants as faults
-use Rattle.snapjudge.specs.declared.status.Status.{Status}
-use Rattle.snapjudge.specs.declared.status.Status.TheVariants.{Atomic, Recorded, Regular}
+use Rattle.snap_verdict.specs.declared.status.Status.{Status}
+use Rattle.snap_verdict.specs.declared.status.Status.TheVariants.{Atomic, Recorded, Regular}
 use Rattle.snapjudge.specs.RecordRuns.{IsRecorded, IsRecordingOf, IsRecordingReport, WroteAs}
-use Rattle.snapjudge.specs.Statuses.{status_of}
-use Rattle.snapjudge.specs.Verdicts.{IsVerdict}
+use Rattle.snap_verdict.specs.Statuses.{status_of}
+use Rattle.snap_verdict.specs.Verdicts.{IsVerdict}
 
 wrote_also : (Is Also : Status → List ℕ → Type 0) → ((status : Status) (out : List ℕ) → Is status out → Also status out) → (old new : Option (List ℕ)) (answer : Result Status RunFault) → WroteAs Is old new answer → WroteAs Also old new answer
 wrote_also Is Also then old new (Ok status) h = (h.0, then status h.0 h.1, h.2)

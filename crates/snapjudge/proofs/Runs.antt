@@ -10,10 +10,11 @@ use Rattle.snap_report.specs.Lines.{line_text}
 use Rattle.snap_report.specs.Refusals.{refusal_line}
 use Rattle.snapjudge.specs.declared.fault.RunFault.{RunFault}
 use Rattle.snapjudge.specs.declared.fault.RunFault.TheVariants as faults
-use Rattle.snapjudge.specs.declared.status.Status.{Status}
-use Rattle.snapjudge.specs.declared.status.Status.TheVariants.{Refused}
-use Rattle.snapjudge.specs.Verdicts.{IsVerdict}
-use Rattle.snapjudge.specs.Runs.{Failed, FaultCounts, IsReport, JudgeFaultCounts, WroteFront, WroteReport}
+use Rattle.snap_verdict.specs.declared.status.Status.{Status}
+use Rattle.snap_verdict.specs.declared.status.Status.TheVariants.{Refused}
+use Rattle.snap_verdict.specs.Verdicts.{IsVerdict}
+use Rattle.snap_verdict.specs.Reports.{IsReport}
+use Rattle.snapjudge.specs.Runs.{Failed, FaultCounts, JudgeFaultCounts, WroteFront, WroteReport}
 
 pub judged : (known : Option (List ℕ)) (events : List Event) (status : Status) (out : List ℕ) → IfSome known (λ text. IsText text events) → IsVerdict events status out → IfSome known (λ text. IsReport text status out)
 judged None events status out reads verdict = tt

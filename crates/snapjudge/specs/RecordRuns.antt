@@ -13,9 +13,9 @@ use Rattle.snap_record.specs.History.{AllCompleted}
 use Rattle.snap_record.specs.Plans.{HasScripts}
 use Rattle.snapjudge.specs.declared.fault.RunFault.{RunFault}
 use Rattle.snapjudge.specs.declared.fault.RunFault.TheVariants as faults
-use Rattle.snapjudge.specs.declared.status.Status.{Status}
-use Rattle.snapjudge.specs.declared.status.Status.TheVariants.{Atomic, Recorded, Regular}
-use Rattle.snapjudge.specs.Runs.{IsReport}
+use Rattle.snap_verdict.specs.declared.status.Status.{Status}
+use Rattle.snap_verdict.specs.declared.status.Status.TheVariants.{Atomic, Recorded, Regular}
+use Rattle.snap_verdict.specs.Reports.{IsReport}
 
 -- a history that a board's run of these scripts has: regular, without a pending call, and with the calls of each worker's script, as
 -- the process of its number, in their order, each once, and no other

@@ -10,7 +10,6 @@ mod fault;
 mod job;
 mod record_command;
 mod recording;
-mod status;
 
 pub use check::check_run;
 pub use fault::RunFault;
@@ -18,7 +17,7 @@ pub use job::{Job, JobFault, job_of};
 use recording::record_rounds;
 pub use recording::record_run;
 use snap_core::{Counted, OpenGate};
-pub use status::Status;
+pub use snap_verdict::Status;
 use std::env;
 use std::io::ErrorKind;
 use std::process::ExitCode;

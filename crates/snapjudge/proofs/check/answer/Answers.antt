@@ -1,8 +1,8 @@
 use Rattle.std.proofs.Common.{◌≡◌, ◌∙◌, subst, All, Bor, List, ℕ}
-use Rattle.snapjudge.specs.declared.status.Status.TheVariants.{Regular, Irregular}
+use Rattle.snap_verdict.specs.declared.status.Status.TheVariants.{Regular, Irregular}
 use Rattle.snap_core.specs.Calls.{calls_of}
 use Rattle.snap_report.specs.Orders.{HasLine}
-use Rattle.snapjudge.proofs.Verdicts.{atomic_verdict, irregular_status, lines_of_order, no_fault_then, other_verdict, regular_status}
+use Rattle.snap_verdict.proofs.Verdicts.{atomic_verdict, irregular_status, lines_of_order, no_fault_then, other_verdict, regular_status}
 use Rattle.snapjudge.proofs.check.answer.Goals as goal
 
 pub build-requires-after_bounds : goal.build-requires-after_bounds

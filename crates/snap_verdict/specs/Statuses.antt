@@ -1,7 +1,7 @@
 -- How a run ends.
 use Rattle.std.specs.Prelude.{ℕ, Bool, if◌then◌else◌}
-use Rattle.snapjudge.specs.declared.status.Status.{Status}
-use Rattle.snapjudge.specs.declared.status.Status.TheVariants.{Atomic, Regular, Irregular, Refused, Recorded}
+use Rattle.snap_verdict.specs.declared.status.Status.{Status}
+use Rattle.snap_verdict.specs.declared.status.Status.TheVariants.{Atomic, Regular, Irregular, Refused, Recorded}
 
 -- the exit status of the program
 abbrev pub code_of : Status → ℕ

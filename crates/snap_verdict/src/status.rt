@@ -1,5 +1,5 @@
 ghost use Rattle.std.specs.Prelude.{◌≡◌};
-ghost use Rattle.snapjudge.specs.Statuses.{code_of};
+ghost use Rattle.snap_verdict.specs.Statuses.{code_of};
 
 /// How a finished run ended.
 #[derive(Clone, Copy, Debug, PartialEq, Eq)]

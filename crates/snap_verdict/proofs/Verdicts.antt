@@ -25,10 +25,10 @@ use Rattle.snap_order.proofs.Printed.{in_printed}
 use Rattle.snap_report.specs.Orders.{HasLine, calls_numbered}
 use Rattle.snap_report.specs.Reports.{finding_lines, has_no_fault, has_no_local_fault, report_lines, report_text}
 use Rattle.snap_report.specs.Lines.{Line, text_of}
-use Rattle.snapjudge.specs.declared.status.Status.{Status}
-use Rattle.snapjudge.specs.declared.status.Status.TheVariants.{Atomic, Regular, Irregular}
-use Rattle.snapjudge.specs.Statuses.{status_of}
-use Rattle.snapjudge.specs.Verdicts.{IsVerdict, findings}
+use Rattle.snap_verdict.specs.declared.status.Status.{Status}
+use Rattle.snap_verdict.specs.declared.status.Status.TheVariants.{Atomic, Regular, Irregular}
+use Rattle.snap_verdict.specs.Statuses.{status_of}
+use Rattle.snap_verdict.specs.Verdicts.{IsVerdict, findings}
 
 -- ---- counts and tests
 

@@ -9,8 +9,8 @@ use Rattle.snap_order.specs.Levels.{printed_order}
 use Rattle.snap_report.specs.Faults.{fault_lines}
 use Rattle.snap_report.specs.Lines.{Line, text_of}
 use Rattle.snap_report.specs.Reports.{order_lines, report_lines}
-use Rattle.snapjudge.specs.declared.status.Status.{Status}
-use Rattle.snapjudge.specs.Statuses.{status_of}
+use Rattle.snap_verdict.specs.declared.status.Status.{Status}
+use Rattle.snap_verdict.specs.Statuses.{status_of}
 
 -- what a report ends with: the printed order of an atomic history, or else the faults of all completed views
 abbrev pub findings : Bool → List Call → List Line

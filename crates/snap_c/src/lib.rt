@@ -1,0 +1,47 @@
+//! The judge for callers in C.
+#![tactic(auto)]
+
+ghost use Rattle.std.specs.Prelude.{◌≡◌};
+ghost use Rattle.snap_c.specs.Answers.{IsChecked};
+
+use snap_verdict::judge_text;
+use std::alloc::Global;
+
+/// What is answered where memory ran out.
+const NO_MEMORY: u32 = 4;
+
+/// What is answered where the room is too small.
+const NO_ROOM: u32 = 5;
+
+/// Judges a text. The answer is 0 where it is an atomic history, 1 where it is one that is regular and not atomic, 2 where it
+/// is one that is neither, and 3 where it is no history; then the report stands at the front of `report`, `length` bytes
+/// long. It is 5 where the report does not fit into `report`: `length` is then how many bytes it has. It is 4 where memory
+/// ran out. After 4 and 5 nothing was written into `report`.
+#[unsafe(no_mangle)]
+pub extern "C" fn snapjudge_check(
+    alloc: Global,
+    text: &[u8],
+    report: &mut [u8],
+    length: &mut usize,
+) -> u32
+    ensures { IsChecked text.now report.old report.new length.new result }
+{
+    match judge_text(alloc, text) {
+        Ok((status, out)) => {
+            let needed = out.len();
+            *length = needed;
+            if needed > report.len() {
+                return NO_ROOM;
+            }
+            report[..needed].copy_from_slice(&out);
+            u32::from(status.code())
+        }
+        Err(_) => {
+            *length = 0;
+            NO_MEMORY
+        }
+    }
+}
+
+#[cfg(test)]
+mod tests;

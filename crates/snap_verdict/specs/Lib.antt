@@ -1,0 +1,4 @@
+pub mod Statuses
+pub mod Verdicts
+pub mod Reports
+pub mod Laws

@@ -1,0 +1,10 @@
+//! The status and the report of a history and of a text, on one thread and without a runtime.
+#![tactic(auto)]
+
+mod judge;
+mod law;
+mod status;
+
+pub use judge::{judge_text, verdict_alone};
+pub use law::one_report;
+pub use status::Status;
