@@ -3,13 +3,15 @@ use Rattle.std.proofs.Common.{◌≡◌, ℕ, ◌+◌, ◌<◌, false, length, L
 use Rattle.atomic_table.specs.Table.{Me}
 use Rattle.snap_record.specs.declared.account.Account.{Account}
 use Rattle.snap_record.specs.declared.account.Answered.{Answered}
-use Rattle.snap_record.specs.declared.account.Answer.TheVariants.{Stored, Viewed}
-use Rattle.snap_record.specs.declared.account.Doing.TheVariants.{Begun, Written, Viewing}
+use Rattle.snap_record.specs.declared.account.Answer.TheVariants.{Stored, Viewed, Scanned, Interfered}
+use Rattle.snap_record.specs.declared.account.Doing.{Doing}
+use Rattle.snap_record.specs.declared.account.Doing.TheVariants.{Begun, Written, Viewing, Scanning}
+use Rattle.snap_record.specs.declared.account.Scan.{Scan}
 use Rattle.snap_record.proofs.Lists.{mem_left, mem_right}
-use Rattle.snap_record.specs.Calls.{Mem, Look, look, looks_in, stamps_in, begun_store, begun_view, wrote, read, ended}
+use Rattle.snap_record.specs.Calls.{Mem, Look, look, looks_in, stamps_in, begun_store, begun_view, wrote, ended, middled, middle_open, gave_up}
 use Rattle.snap_record.specs.Rule.{code, first_step}
 use Rattle.snap_record.specs.Plays.{entry_of, Above, ReadAll}
-use Rattle.snap_record.specs.Hands.{idle, records_of, viewing, shown_of}
+use Rattle.snap_record.specs.Hands.{idle, records_of, showing, has_read}
 use Rattle.snap_record.proofs.Accounts.{acct, rec}
 use Rattle.snap_record.proofs.Moves.{code_number}
 use Rattle.snap_record.proofs.Reading.{looks_over}
@@ -41,16 +43,19 @@ stored_after me now d rs t b e m v is told = told ∙ ap (λ (x : Seated). (firs
 pub viewed_after : (me now : Seated) (d : ℕ) (rs : List Answered) (t b e : ℕ) (xs : List (ℕ × ℕ)) → me ≡ at_desk (acct d rs (Viewing b xs) t) → now ≡ (first_step (ended e) me.0, me.1) → now ≡ at_desk (idle d (rs ++ rec b e (Viewed xs) ∷ []) (t + 1))
 viewed_after me now d rs t b e xs is told = told ∙ ap (λ (x : Seated). (first_step (ended e) x.0, x.1)) is
 
-pub read_after : (me now : Seated) (d : ℕ) (rs : List Answered) (t b : ℕ) (xs : List (ℕ × ℕ)) (p : ℕ × ℕ) → me ≡ at_desk (acct d rs (Viewing b xs) t) → now ≡ (first_step (read p) me.0, me.1) → now ≡ at_desk (acct d rs (Viewing b (xs ++ p ∷ [])) t)
-read_after me now d rs t b xs p is told = told ∙ ap (λ (x : Seated). (first_step (read p) x.0, x.1)) is
+pub scanned_after : (me now : Seated) (d : ℕ) (rs : List Answered) (t e : ℕ) (s : Scan) → me ≡ at_desk (acct d rs (Scanning s) t) → now ≡ (first_step (ended e) me.0, me.1) → now ≡ at_desk (idle d (rs ++ rec s.begun e (Scanned s.middle s.since) ∷ []) (t + 1))
+scanned_after me now d rs t e s is told = told ∙ ap (λ (x : Seated). (first_step (ended e) x.0, x.1)) is
 
--- a view has been opened
-pub opened : (me : Seated) (d : ℕ) (rs : List Answered) (t b : ℕ) → me ≡ at_desk (acct d rs (Viewing b []) t) → me ≡ viewing me []
-opened me d rs t b is = is ∙ ap (λ (x : Seated). viewing x []) (sym is)
+pub gave_up_after : (me now : Seated) (d : ℕ) (rs : List Answered) (t e : ℕ) (s : Scan) → me ≡ at_desk (acct d rs (Scanning s) t) → now ≡ (first_step (gave_up e) me.0, me.1)
+    → now ≡ at_desk (idle d (rs ++ rec s.begun e (Interfered s.made s.first s.since) ∷ []) (t + 1))
+gave_up_after me now d rs t e s is told = told ∙ ap (λ (x : Seated). (first_step (gave_up e) x.0, x.1)) is
 
--- and it has read xs
-pub grew : (me now : Seated) (d : ℕ) (rs : List Answered) (t b : ℕ) (xs : List (ℕ × ℕ)) → me ≡ at_desk (acct d rs (Viewing b []) t) → now ≡ viewing me xs → now ≡ at_desk (acct d rs (Viewing b xs) t)
-grew me now d rs t b xs is told = told ∙ ap (λ (x : Seated). viewing x xs) is
+pub middled_after : (me now : Seated) (d : ℕ) (rs : List Answered) (o : Doing) (t e : ℕ) → me ≡ at_desk (acct d rs o t) → now ≡ (first_step (middled e) me.0, me.1) → now ≡ at_desk (acct d rs (middle_open e o) (t + 1))
+middled_after me now d rs o t e is told = told ∙ ap (λ (x : Seated). (first_step (middled e) x.0, x.1)) is
+
+-- a collect has read xs
+pub grew : (me now : Seated) (d : ℕ) (rs : List Answered) (o : Doing) (t : ℕ) (xs : List (ℕ × ℕ)) → me ≡ at_desk (acct d rs o t) → now ≡ has_read me xs → now ≡ at_desk (acct d rs (showing xs o) t)
+grew me now d rs o t xs is told = told ∙ ap (λ (x : Seated). has_read x xs) is
 
 -- the stamps of a call are above those of the calls before it
 pub above_old : (me : Seated) (d : ℕ) (rs : List Answered) (t b : ℕ) → me ≡ at_desk (idle d rs t) → Above b me → (x : ℕ) → Mem x (stamps_in rs) → x < b
@@ -87,17 +92,16 @@ pub record CollectDone (d : ℕ) (rs : List Answered) (t begun ended : ℕ) (xs 
   pub above : (x : ℕ) → Mem x (stamps_in rs) → x < begun
   pub whole : (v : Look) → Mem v (looks_in rs) → length v.shown ≡ length xs
 
-pub collect_done : (me0 me1 me2 me3 : Seated) (d : ℕ) (rs : List Answered) (t b e : ℕ) → me0 ≡ at_desk (idle d rs t)
-    → (me1 ≡ (first_step (begun_view b) me0.0, me0.1)) × Above b me0 → me2 ≡ viewing me1 (shown_of me2.0) → (me3 ≡ (first_step (ended e) me2.0, me2.1)) × Above e me2 × ReadAll me2
-    → CollectDone d rs t b e (shown_of me2.0) me3
-collect_done me0 me1 me2 me3 d rs t b e is first second third =
-    let xs = shown_of me2.0 in
+pub collect_done : (me0 me1 me2 me3 : Seated) (d : ℕ) (rs : List Answered) (t b e : ℕ) (xs : List (ℕ × ℕ)) → me0 ≡ at_desk (idle d rs t)
+    → (me1 ≡ (first_step (begun_view b) me0.0, me0.1)) × Above b me0 → me2 ≡ has_read me1 xs → (me3 ≡ (first_step (ended e) me2.0, me2.1)) × Above e me2 × ReadAll me2
+    → CollectDone d rs t b e xs me3
+collect_done me0 me1 me2 me3 d rs t b e xs is first second third =
     let at1 = viewing_after me0 me1 d rs t b is first.0 in
-    let at2 = grew me1 me2 d rs (t + 1) b xs at1 second in
+    let at2 = grew me1 me2 d rs (Viewing b []) (t + 1) xs at1 second in
     let two : t + 1 + 1 ≡ t + 2 = omega arith in
     record {
       me = viewed_after me2 me3 d rs (t + 1) b e xs at2 third.0 ∙ ap (λ z. at_desk (idle d (rs ++ rec b e (Viewed xs) ∷ []) z)) two;
       in_turn = above_view me2 d rs (t + 1) b e xs at2 third.1;
       above = above_old me0 d rs t b is first.1;
-      whole = λ v m. third.2 (acct d rs (Viewing b xs) (t + 1)) (ap (λ (z : Seated). z.0) at2) b xs refl v (mem_left (looks_in rs) (look b 0 false xs ∷ []) v m) (looks_over rs v m);
+      whole = λ v m. third.2 (acct d rs (Viewing b xs) (t + 1)) (ap (λ (z : Seated). z.0) at2) xs refl v (mem_left (looks_in rs) (look b 0 false xs ∷ []) v m) (looks_over rs v m);
     }

@@ -7,15 +7,18 @@ use Rattle.std.proofs.lemmas.Bool.Decides.{nat_tests}
 use Rattle.atomic_table.specs.Table.{State, opening}
 use Rattle.snap_record.specs.declared.account.Account.{Account}
 use Rattle.snap_record.specs.declared.account.Answered.{Answered}
+use Rattle.snap_record.specs.declared.account.Answer.{Answer}
+use Rattle.snap_record.specs.declared.account.Answer.TheVariants.{Stored, Viewed, Scanned, Interfered}
 use Rattle.snap_record.specs.declared.account.Doing.{Doing}
-use Rattle.snap_record.specs.declared.account.Doing.TheVariants.{Idle, Begun, Written, Viewing}
+use Rattle.snap_record.specs.declared.account.Doing.TheVariants.{Idle, Begun, Written, Viewing, Scanning}
 use Rattle.snap_record.specs.declared.kept.Kept.{Kept}
 use Rattle.snap_core.specs.Sums.{once_below, one_if, times, total}
-use Rattle.snap_record.specs.Calls.{Mem, Write, Look, writes_in, looks_in, stamps_in, writes_of, looks_of, stamps_of, latest, in_word}
+use Rattle.snap_record.specs.Calls.{Mem, Write, Look, Mark, mark, op_marks, open_marks, open_writes, marks_in, marks_of, all_stamps, all_stamps_in, writes_in, looks_in, stamps_in, writes_of, looks_of, stamps_of, latest, in_word}
 use Rattle.snap_record.specs.Rule.{tick_limit, Own, Sees, Core, Held, Boarded, clock, code, words_of, of_desk, newcomer, newcomers}
+use Rattle.snap_record.specs.Marks.{Climbs}
 use Rattle.snap_record.specs.Hands.{Brief, brief, is_idle}
 use Rattle.snap_record.specs.Slots.{ins, slot_brief, brief_of}
-use Rattle.snap_record.specs.Regular.{falling, Settled, AllIn}
+use Rattle.snap_record.specs.Regular.{falling, Settled, ScansSettled, AllIn}
 use Rattle.snap_record.proofs.Lists.{mem_split, mem_left, mem_one}
 use Rattle.snap_record.proofs.Reading.{looks_over}
 
@@ -25,6 +28,7 @@ idle_doing Idle e = refl
 idle_doing (Begun b) e = absurd (true≢false (sym e))
 idle_doing (Written b n v) e = absurd (true≢false (sym e))
 idle_doing (Viewing b xs) e = absurd (true≢false (sym e))
+idle_doing (Scanning s) e = absurd (true≢false (sym e))
 
 pub mem_map : {B : Type 0} (f : Account → B) (l : List Account) (a : Account) → Mem a l → Mem (f a) (map f l)
 mem_map f [] a m = m
@@ -66,6 +70,16 @@ total-hand f b (h ∷ hand) (suc m) e fits =
     let r = total-hand f b hand m rest (λ a q. fits a (inr q)) in
     let t = total-take f b m h (ap (λ i. get_elem? b i) (sym first) ∙ fits h (inl refl)) in omega arith
 
+pub writes_over : (rs : List Answered) (w : Write) → Mem w (writes_in rs) → w.over ≡ true
+writes_over [] w m = absurd m
+writes_over (q ∷ rs) w m = ⊎_elim (λ x. one q.op x) (λ x. writes_over rs w x) (mem_split (Rattle.snap_record.specs.Calls.op_writes q.begun q.ended q.op) (writes_in rs) w m)
+  where
+    one : (o : Rattle.snap_record.specs.declared.account.Answer.Answer) → Mem w (Rattle.snap_record.specs.Calls.op_writes q.begun q.ended o) → w.over ≡ true
+    one (Rattle.snap_record.specs.declared.account.Answer.TheVariants.Stored i v) x = ap (λ (z : Write). z.over) (sym (mem_one w (Rattle.snap_record.specs.Calls.write i v q.begun q.ended true) x))
+    one (Rattle.snap_record.specs.declared.account.Answer.TheVariants.Viewed xs) x = absurd x
+    one (Rattle.snap_record.specs.declared.account.Answer.TheVariants.Scanned t xs) x = absurd x
+    one (Rattle.snap_record.specs.declared.account.Answer.TheVariants.Interfered i xs ys) x = absurd x
+
 pub settles : (n id : ℕ) (hand : List Account) (slots : List (Option Kept)) (s : State (Unit {0}) (List Account)) → Boarded n s → get_elem? s.views id ≡ some hand → map brief hand ≡ ins n slots → AllIn n slots → Settled n hand
 settles n id hand slots s r at matches all =
     let b = r.accounts in let h = r.core in
@@ -76,15 +90,16 @@ settles n id hand slots s r at matches all =
     let idle : (a : Account) → Mem a hand → a.doing ≡ Idle = λ a m. idle_doing a.doing (ins_idle n slots (brief a) (subst (λ (l : List Brief). Mem (brief a) l) matches (mem_map brief hand a m))) in
     let stamps : (a : Account) → Mem a hand → stamps_of a ≡ stamps_in a.records = λ a m. ap (λ o. stamps_in a.records ++ Rattle.snap_record.specs.Calls.open_stamps o) (idle a m) ∙ append-nil (stamps_in a.records) in
     let writes : (a : Account) → Mem a hand → writes_of a ≡ writes_in a.records = λ a m. ap (λ o. writes_in a.records ++ Rattle.snap_record.specs.Calls.open_writes o) (idle a m) ∙ append-nil (writes_in a.records) in
+    let marks : (a : Account) → Mem a hand → marks_of a ≡ marks_in a.records = λ a m. ap (λ o. marks_in a.records ++ Rattle.snap_record.specs.Calls.open_marks o) (idle a m) ∙ append-nil (marks_in a.records) in
+    let every : (a : Account) → Mem a hand → all_stamps a ≡ all_stamps_in a.records = λ a m i. stamps a m i ++ map (λ (z : Mark). z.middle) (marks a m i) in
     let look_there : (a : Account) (v : Look) → Mem v (looks_in a.records) → Mem v (looks_of a) = λ a v m. mem_left (looks_in a.records) (Rattle.snap_record.specs.Calls.open_looks a.doing) v m in
     let all_over : (a : Account) → Mem a hand → (w : Write) → Mem w (writes_in a.records) → Mem w (writes_of a) = λ a m w q. mem_left (writes_in a.records) (Rattle.snap_record.specs.Calls.open_writes a.doing) w q in
     record {
       desks = desks;
       idle = idle;
-      ticks = λ a m. (h.own a.desk a (fits a m)).ticks ∙ ap length (stamps a m);
       rising = λ a m. subst Rattle.snap_record.specs.Rule.Rising (stamps a m) (h.own a.desk a (fits a m)).rising;
-      below = λ a m x q. let l = h.below a.desk a (fits a m) x (mem_left (stamps_in a.records) (Rattle.snap_record.specs.Calls.open_stamps a.doing) x q) in let e = sums (λ (c : Account). c.ticks) in omega arith;
-      apart = λ x. let e = h.apart x in let t = sums (λ (c : Account). times x (stamps_of c)) in let u = same_total (λ (c : Account). times x (stamps_of c)) (λ (c : Account). times x (stamps_in c.records)) hand (λ c m. ap (times x) (stamps c m)) in omega arith;
+      below = λ a m x q. let l = h.below a.desk a (fits a m) x (subst (λ (l : List ℕ). Mem x l) (sym (every a m)) q) in let e = sums (λ (c : Account). c.ticks) in omega arith;
+      apart = λ x. let e = h.apart x in let t = sums (λ (c : Account). times x (all_stamps c)) in let u = same_total (λ (c : Account). times x (all_stamps c)) (λ (c : Account). times x (all_stamps_in c.records)) hand (λ c m. ap (times x) (every c m)) in omega arith;
       numbered = λ a m. subst (Rattle.snap_record.specs.Rule.Numbered 1) (writes a m) (h.own a.desk a (fits a m)).numbered;
       whole = λ a m v q. (h.own a.desk a (fits a m)).whole v (look_there a v q) (looks_over a.records v q);
       regular = λ a m v q c mc p at_p.
@@ -100,13 +115,31 @@ settles n id hand slots s r at matches all =
     same_total f g [] e = refl
     same_total f g (x ∷ l) e = let a = e x (inl refl) in let t = same_total f g l (λ c m. e c (inr m)) in omega arith
 
-    writes_over : (rs : List Answered) (w : Write) → Mem w (writes_in rs) → w.over ≡ true
-    writes_over [] w m = absurd m
-    writes_over (q ∷ rs) w m = ⊎_elim (λ x. one q.op x) (λ x. writes_over rs w x) (mem_split (Rattle.snap_record.specs.Calls.op_writes q.begun q.ended q.op) (writes_in rs) w m)
-      where
-        one : (o : Rattle.snap_record.specs.declared.account.Answer.Answer) → Mem w (Rattle.snap_record.specs.Calls.op_writes q.begun q.ended o) → w.over ≡ true
-        one (Rattle.snap_record.specs.declared.account.Answer.TheVariants.Stored i v) x = ap (λ (z : Write). z.over) (sym (mem_one w (Rattle.snap_record.specs.Calls.write i v q.begun q.ended true) x))
-        one (Rattle.snap_record.specs.declared.account.Answer.TheVariants.Viewed xs) x = absurd x
+-- what a scan shows is what it read before its middle tick and after it
+marks_same : (rs : List Answered) (m : Mark) → Mem m (marks_in rs) → (m.before ≡ m.since) × (m.over ≡ true)
+marks_same [] m q = absurd q
+marks_same (r ∷ rs) m q = ⊎_elim (λ x. one r.op x) (λ x. marks_same rs m x) (mem_split (op_marks r.begun r.ended r.op) (marks_in rs) m q)
+  where
+    one : (o : Answer) → Mem m (op_marks r.begun r.ended o) → (m.before ≡ m.since) × (m.over ≡ true)
+    one (Stored n v) x = absurd x
+    one (Viewed xs) x = absurd x
+    one (Scanned t xs) x = let e = mem_one m (mark r.begun t r.ended true xs xs) x in (ap (λ (z : Mark). z.before) (sym e) ∙ ap (λ (z : Mark). z.since) e, ap (λ (z : Mark). z.over) (sym e))
+    one (Interfered n xs ys) x = absurd x
+
+pub settles_scans : (n id : ℕ) (hand : List Account) (s : State (Unit {0}) (List Account)) → Boarded n s → get_elem? s.views id ≡ some hand → ScansSettled hand
+settles_scans n id hand s r at =
+    let g = r.scans in
+    let fits : (a : Account) → Mem a hand → get_elem? r.accounts a.desk ≡ some a = λ a m. r.held.fits id hand at a m in
+    let there : (a : Account) (m : Mark) → Mem m (marks_in a.records) → Mem m (marks_of a) = λ a m q. mem_left (marks_in a.records) (open_marks a.doing) m q in
+    record {
+      inside = λ a ma m q. let i = g.inside a.desk a (fits a ma) m (there a m q) in (i.begins, i.ends (marks_same a.records m q).1);
+      shows = λ a ma m q c mc p at_p. (let x = g.spans a.desk a (fits a ma) m (there a m q) c.desk c (fits c mc) in record {
+        began = λ w mw is. x.began p at_p w (mem_left (writes_in c.records) (open_writes c.doing) w mw) is;
+        fresh = λ w mw lt. x.fresh p (ap (λ l. get_elem? l c.desk) (sym (marks_same a.records m q).0) ∙ at_p) w (mem_left (writes_in c.records) (open_writes c.doing) w mw) (writes_over c.records w mw) lt;
+      });
+      in_turn = λ a c ma mc u v mu mv lt k p q at_p at_q. g.in_turn a.desk a (fits a ma) u (there a u mu) c.desk c (fits c mc) v (there c v mv) lt k p q at_p (ap (λ l. get_elem? l k) (sym (marks_same c.records v mv).0) ∙ at_q);
+      climbed = λ a ma x q. (g.climbs a.desk a (fits a ma)).answered x q;
+    }
 
 -- a board of n desks at the start, from desk d on
 rows_from : ℕ → ℕ → List Account
@@ -140,13 +173,13 @@ unfolding rows_from
 rows_clock d zero = refl
 rows_clock d (suc n) = let r = rows_clock (suc d) n in omega arith
 
-rows_stamps : (x d n : ℕ) → total (λ a. times x (stamps_of a)) (rows_from d n) ≡ 0
+rows_stamps : (x d n : ℕ) → total (λ a. times x (all_stamps a)) (rows_from d n) ≡ 0
 unfolding rows_from
 rows_stamps x d zero = refl
 rows_stamps x d (suc n) = let r = rows_stamps x (suc d) n in omega arith
 
 new_own : (n k : ℕ) → Own n k (newcomer k)
-new_own n k = record { desk = refl; rising = tt; ticks = refl; limit = omega arith; numbered = tt; count = refl; small = omega arith; whole = λ v m. absurd m; ends = λ v m. absurd m }
+new_own n k = record { desk = refl; rising = tt; ticks = omega arith; limit = omega arith; numbered = tt; count = refl; small = omega arith; whole = λ v m. absurd m; ends = λ v m. absurd m }
 
 new_mem : (n : ℕ) (a : Account) → Mem a (newcomers n) → (k : ℕ) × (k < n) × (a ≡ newcomer k)
 new_mem zero a m = absurd m
@@ -172,10 +205,16 @@ begins n words is =
       core = record {
         size = rows_size 0 n;
         own = λ k a e. subst (Own n k) (sym (new k a e)) (new_own n k);
-        below = λ k a e x m. absurd (subst (λ (c : Account). Mem x (stamps_of c)) (new k a e) m);
+        below = λ k a e x m. absurd (subst (λ (c : Account). Mem x (all_stamps c)) (new k a e) m);
         apart = λ x. let t = rows_stamps x 0 n in omega arith;
         sees = λ i a e v m k c e' p at_p. absurd (subst (λ (z : Account). Mem v (looks_of z)) (new i a e) m);
         after = λ i a e v m k c e' u mu. absurd (subst (λ (z : Account). Mem v (looks_of z)) (new i a e) m);
+      };
+      scans = record {
+        inside = λ i a e m q. absurd (subst (λ (z : Account). Mem m (marks_of z)) (new i a e) q);
+        spans = λ i a e m q. absurd (subst (λ (z : Account). Mem m (marks_of z)) (new i a e) q);
+        in_turn = λ i a e m q. absurd (subst (λ (z : Account). Mem m (marks_of z)) (new i a e) q);
+        climbs = λ i a e. subst Climbs (sym (new i a e)) (record { answered = λ r q. absurd q; doing = tt });
       };
     }
   where

@@ -1,11 +1,16 @@
 pub mod Lists
 pub mod Accounts
 pub mod Core
+pub mod Ticks
+pub mod Stores
 pub mod Steps
+pub mod Marking
 pub mod Seats
 pub mod Moves
 pub mod Calling
 pub mod Reading
+pub mod Trying
+pub mod Scanning
 pub mod Closing
 pub mod Listing
 pub mod Slotting
@@ -23,3 +28,7 @@ pub mod Finishing
 pub mod Scripting
 pub mod Planning
 pub mod Telling
+pub mod Keeping
+pub mod ScanOrder
+pub mod Atomic
+pub mod Climbing

@@ -1,5 +1,5 @@
 -- What a view lists, and what the records of a desk say.
-use Rattle.std.proofs.Common.{◌≡◌, ℕ, zero, suc, ◌+◌, ◌<◌, ◌≤◌, ◌||◌, not, if◌then◌else◌, Bool, true, false, cond, nat_lt, List, [], ◌∷◌, ◌++◌, length, map, get_or, Option, Some, None, sym, refl, ap, ◌∙◌, subst, inl, inr, arith, ne_eqb, eq-eqb}
+use Rattle.std.proofs.Common.{◌≡◌, ℕ, zero, suc, ◌+◌, ◌<◌, ◌≤◌, ◌||◌, not, if◌then◌else◌, Bool, true, false, cond, nat_lt, List, [], ◌∷◌, ◌++◌, length, get_or, Option, Some, None, sym, refl, ap, ◌∙◌, subst, inl, inr, ⊎_elim, arith, append_assoc, append-nil, ne_eqb, eq-eqb}
 use mathlib.Core.Option.{some, some-injective, some-ne-none}
 use native.Mathlib.Decide.{dec_le}
 use lib.ListN.{get_elem?}
@@ -10,12 +10,13 @@ use Rattle.snap_core.specs.Entries.{rises, has_zero, view_refusal, entry_of, num
 use Rattle.snap_core.specs.declared.view.ViewRefusal.TheVariants.{NotRising, ZeroNumber}
 use Rattle.snap_record.specs.declared.account.Answered.{Answered}
 use Rattle.snap_record.specs.declared.account.Answer.{Answer}
-use Rattle.snap_record.specs.declared.account.Answer.TheVariants.{Stored, Viewed}
+use Rattle.snap_record.specs.declared.account.Answer.TheVariants.{Stored, Viewed, Scanned, Interfered}
 use Rattle.snap_record.specs.declared.record.Record.{Record}
 use Rattle.snap_record.specs.Calls.{Mem, Look, write, look, AllNumbered, op_looks, writes_in, looks_in, stamps_in, op_entry, latest}
 use Rattle.snap_record.specs.Hands.{Told}
-use Rattle.snap_record.specs.Desks.{listed, shown_entry, record_of, IsLater, last_stored, IsNoOlder}
-use Rattle.snap_record.proofs.Lists.{mem_right}
+use Rattle.snap_record.specs.Desks.{listed, op_records, records_at, IsLater, last_stored, number_shown, op_lost, lost_in, op_collects, collects_in}
+use Rattle.snap_core.proofs.Sums.{total-append}
+use Rattle.snap_record.proofs.Lists.{mem_split, mem_left, mem_right, mem_one}
 
 -- what was read of component k, the initial state where nothing was
 abbrev pub shown_at : List (ℕ × ℕ) → ℕ → ℕ × ℕ
@@ -119,35 +120,47 @@ listed_view k xs =
     ∙ ap (λ b. if b then Some ZeroNumber else None) (listed_positive k xs)
 
 -- the number of the last store
-pub last_number : (d : ℕ) (last : Option Entry) (p : ℕ × ℕ) (rs : List Answered) → number_in last ≡ p.0 → number_in (last_stored last (map (record_of d) rs)) ≡ (latest p rs).0
+pub last_number : (d : ℕ) (last : Option Entry) (p : ℕ × ℕ) (rs : List Answered) → number_in last ≡ p.0 → number_in (last_stored last (records_at d rs)) ≡ (latest p rs).0
 last_number d last p [] e = e
 last_number d last p (r ∷ rs) e = go (λ l q x. last_number d l q rs x) r.op
   where
-    go : ((l : Option Entry) (q : ℕ × ℕ) → number_in l ≡ q.0 → number_in (last_stored l (map (record_of d) rs)) ≡ (latest q rs).0) → (o : Answer) → number_in (last_stored last (map (record_of d) (record { begun = r.begun; ended = r.ended; op = o } ∷ rs))) ≡ (latest (op_entry p o) rs).0
+    go : ((l : Option Entry) (q : ℕ × ℕ) → number_in l ≡ q.0 → number_in (last_stored l (records_at d rs)) ≡ (latest q rs).0) → (o : Answer) → number_in (last_stored last (records_at d (record { begun = r.begun; ended = r.ended; op = o } ∷ rs))) ≡ (latest (op_entry p o) rs).0
     go rest (Stored n v) = rest (Some (record { component = d; number = n; value = v })) (n, v) refl
     go rest (Viewed xs) = rest last p e
+    go rest (Scanned t xs) = rest last p e
+    go rest (Interfered n xs ys) = rest last p e
 
 -- the entry of the last store
-pub last_entry : (d : ℕ) (p : ℕ × ℕ) (rs : List Answered) → AllNumbered (writes_in rs) → entry_at d (latest p rs) ≡ last_stored (entry_at d p) (map (record_of d) rs)
+pub last_entry : (d : ℕ) (p : ℕ × ℕ) (rs : List Answered) → AllNumbered (writes_in rs) → entry_at d (latest p rs) ≡ last_stored (entry_at d p) (records_at d rs)
 last_entry d p [] pos = refl
 last_entry d p (r ∷ rs) pos = go (λ q x. last_entry d q rs x) r.op pos
   where
-    go : ((q : ℕ × ℕ) → AllNumbered (writes_in rs) → entry_at d (latest q rs) ≡ last_stored (entry_at d q) (map (record_of d) rs)) → (o : Answer) → AllNumbered (writes_in (record { begun = r.begun; ended = r.ended; op = o } ∷ rs))
-        → entry_at d (latest (op_entry p o) rs) ≡ last_stored (entry_at d p) (map (record_of d) (record { begun = r.begun; ended = r.ended; op = o } ∷ rs))
-    go rest (Stored n v) q = rest (n, v) (λ w m. q w (inr m)) ∙ ap (λ z. last_stored z (map (record_of d) rs)) (entry_at_positive d n v (q (write n v r.begun r.ended true) (inl refl)))
+    go : ((q : ℕ × ℕ) → AllNumbered (writes_in rs) → entry_at d (latest q rs) ≡ last_stored (entry_at d q) (records_at d rs)) → (o : Answer) → AllNumbered (writes_in (record { begun = r.begun; ended = r.ended; op = o } ∷ rs))
+        → entry_at d (latest (op_entry p o) rs) ≡ last_stored (entry_at d p) (records_at d (record { begun = r.begun; ended = r.ended; op = o } ∷ rs))
+    go rest (Stored n v) q = rest (n, v) (λ w m. q w (inr m)) ∙ ap (λ z. last_stored z (records_at d rs)) (entry_at_positive d n v (q (write n v r.begun r.ended true) (inl refl)))
     go rest (Viewed xs) q = rest p q
+    go rest (Scanned t xs) q = rest p q
+    go rest (Interfered n xs ys) q = rest p q
 
 -- a view shows of its desk's component the last store
-pub own_entry : (d : ℕ) (rs : List Answered) (xs : List (ℕ × ℕ)) → Told d rs xs → d < length xs → entry_of d (listed 0 xs) ≡ last_stored None (map (record_of d) rs)
+pub own_entry : (d : ℕ) (rs : List Answered) (xs : List (ℕ × ℕ)) → Told d rs xs → d < length xs → entry_of d (listed 0 xs) ≡ last_stored None (records_at d rs)
 own_entry d rs xs told lt =
     let t = (told d (shown_at xs d) (shown_some xs d lt)).0 refl in
     listed_entry d xs ∙ ap (entry_at d) t.0 ∙ last_entry d (0, 0) rs t.1
 
 -- the stamps of a record
-pub record_stamps : (d : ℕ) (rs : List Answered) (q : Record) → Mem q (map (record_of d) rs) → Mem q.begun (stamps_in rs) × Mem q.ended (stamps_in rs)
+pub record_stamps : (d : ℕ) (rs : List Answered) (q : Record) → Mem q (records_at d rs) → Mem q.begun (stamps_in rs) × Mem q.ended (stamps_in rs)
 record_stamps d [] q m = absurd m
-record_stamps d (r ∷ rs) q (inl e) = (inl (ap (λ (z : Record). z.begun) e), inr (inl (ap (λ (z : Record). z.ended) e)))
-record_stamps d (r ∷ rs) q (inr m) = let s = record_stamps d rs q m in (inr (inr s.0), inr (inr s.1))
+record_stamps d (r ∷ rs) q m = ⊎_elim (λ x. one r.op x) (λ x. let s = record_stamps d rs q x in (inr (inr s.0), inr (inr s.1))) (mem_split (op_records d r.begun r.ended r.op) (records_at d rs) q m)
+  where
+    is_first : (x : Record) → x ≡ q → x.begun ≡ r.begun → x.ended ≡ r.ended → Mem q.begun (stamps_in (r ∷ rs)) × Mem q.ended (stamps_in (r ∷ rs))
+    is_first x e b f = (inl (sym b ∙ ap (λ (z : Record). z.begun) e), inr (inl (sym f ∙ ap (λ (z : Record). z.ended) e)))
+
+    one : (o : Answer) → Mem q (op_records d r.begun r.ended o) → Mem q.begun (stamps_in (r ∷ rs)) × Mem q.ended (stamps_in (r ∷ rs))
+    one (Stored n v) x = is_first _ (mem_one q _ x) refl refl
+    one (Viewed xs) x = is_first _ (mem_one q _ x) refl refl
+    one (Scanned t xs) x = is_first _ (mem_one q _ x) refl refl
+    one (Interfered n xs ys) x = absurd x
 
 pub mem_contains : {X : Type 0} (xs : List X) (x : X) → Contains xs x → Mem x xs
 mem_contains {X} xs x h = go xs h.0 h.1 h.2
@@ -157,29 +170,46 @@ mem_contains {X} xs x h = go xs h.0 h.1 h.2
     go (y ∷ ys) zero l e = inl e
     go (y ∷ ys) (suc k) l e = inr (go ys k (omega arith) e)
 
-pub later : (d b : ℕ) (rs : List Answered) (r : Record) → r.begun ≡ b → ((x : ℕ) → Mem x (stamps_in rs) → x < b) → IsLater (map (record_of d) rs) r
+pub later : (d b : ℕ) (rs : List Answered) (r : Record) → r.begun ≡ b → ((x : ℕ) → Mem x (stamps_in rs) → x < b) → IsLater (records_at d rs) r
 later d b rs r is above q m = let s = record_stamps d rs q (mem_contains _ q m) in let x = above q.begun s.0 in let y = above q.ended s.1 in (omega arith, omega arith)
 
 -- no component is older than in an earlier view
-pub no_older : (d : ℕ) (rs : List Answered) (xs : List (ℕ × ℕ)) (b e : ℕ) → Told d rs xs → ((v : Look) → Mem v (looks_in rs) → length v.shown ≡ length xs) → IsNoOlder (map (record_of d) rs) (record_of d (record { begun = b; ended = e; op = Viewed xs }))
-no_older d rs xs b e told whole q m k = go rs q (mem_contains _ q m) (λ v mv. mv)
+pub no_older : (d : ℕ) (rs : List Answered) (xs : List (ℕ × ℕ)) → Told d rs xs → ((v : Look) → Mem v (looks_in rs) → length v.shown ≡ length xs)
+    → (q : Record) → Contains (records_at d rs) q → (k : ℕ) → number_shown q k ≤ number_in (entry_of k (listed 0 xs))
+no_older d rs xs told whole q m k = go rs q (mem_contains _ q m) (λ v mv. mv)
   where
-    here : (b' e' : ℕ) (o : Answer) → ((v : Look) → Mem v (op_looks b' e' o) → Mem v (looks_in rs))
-        → number_in (entry_of k (Rattle.snap_record.specs.Desks.shown_by (record_of d (record { begun = b'; ended = e'; op = o })))) ≤ number_in (entry_of k (listed 0 xs))
-    here b' e' (Stored n v) sub = omega arith
-    here b' e' (Viewed ys) sub =
-        let there = sub (look b' e' true ys) (inl refl) in
-        let size = whole (look b' e' true ys) there in
+    viewed : (b e : ℕ) (ys : List (ℕ × ℕ)) → Mem (look b e true ys) (looks_in rs) → number_in (entry_of k (listed 0 ys)) ≤ number_in (entry_of k (listed 0 xs))
+    viewed b e ys there =
+        let size = whole (look b e true ys) there in
         let mine = ap number_in (listed_entry k ys) ∙ number_at k (shown_at ys k) in
         let new = ap number_in (listed_entry k xs) ∙ number_at k (shown_at xs k) in
-        at (dec_le (suc k) (length xs)) there size mine new
+        at (dec_le (suc k) (length xs)) size mine new
       where
-        at : Dec (suc k ≤ length xs) → Mem (look b' e' true ys) (looks_in rs) → length ys ≡ length xs → number_in (entry_of k (listed 0 ys)) ≡ (shown_at ys k).0 → number_in (entry_of k (listed 0 xs)) ≡ (shown_at xs k).0 → number_in (entry_of k (listed 0 ys)) ≤ number_in (entry_of k (listed 0 xs))
-        at (yes le) there size mine new = let t = (told k (shown_at xs k) (shown_some xs k (omega arith))).1 (look b' e' true ys) there (shown_at ys k) (shown_some ys k (omega arith)) in omega arith
-        at (no nle) there size mine new = let z = ap (λ (p : ℕ × ℕ). p.0) (shown_high ys k (omega arith)) in omega arith
+        at : Dec (suc k ≤ length xs) → length ys ≡ length xs → number_in (entry_of k (listed 0 ys)) ≡ (shown_at ys k).0 → number_in (entry_of k (listed 0 xs)) ≡ (shown_at xs k).0 → number_in (entry_of k (listed 0 ys)) ≤ number_in (entry_of k (listed 0 xs))
+        at (yes le) size mine new = let t = (told k (shown_at xs k) (shown_some xs k (omega arith))).1 (look b e true ys) there (shown_at ys k) (shown_some ys k (omega arith)) in omega arith
+        at (no nle) size mine new = let z = ap (λ (p : ℕ × ℕ). p.0) (shown_high ys k (omega arith)) in omega arith
 
-    go : (qs : List Answered) (z : Record) → Mem z (map (record_of d) qs) → ((v : Look) → Mem v (looks_in qs) → Mem v (looks_in rs))
-        → number_in (entry_of k (Rattle.snap_record.specs.Desks.shown_by z)) ≤ number_in (entry_of k (listed 0 xs))
+    here : (b e : ℕ) (o : Answer) → ((v : Look) → Mem v (op_looks b e o) → Mem v (looks_in rs)) → (z : Record) → Mem z (op_records d b e o) → number_shown z k ≤ number_in (entry_of k (listed 0 xs))
+    here b e (Stored n v) sub z mz = subst (λ (y : Record). number_shown y k ≤ number_in (entry_of k (listed 0 xs))) (mem_one z _ mz) (omega arith)
+    here b e (Viewed ys) sub z mz = subst (λ (y : Record). number_shown y k ≤ number_in (entry_of k (listed 0 xs))) (mem_one z _ mz) (viewed b e ys (sub (look b e true ys) (inl refl)))
+    here b e (Scanned t ys) sub z mz = subst (λ (y : Record). number_shown y k ≤ number_in (entry_of k (listed 0 xs))) (mem_one z _ mz) (viewed b e ys (sub (look b e true ys) (inl refl)))
+    here b e (Interfered n ys zs) sub z mz = absurd mz
+
+    go : (qs : List Answered) (z : Record) → Mem z (records_at d qs) → ((v : Look) → Mem v (looks_in qs) → Mem v (looks_in rs)) → number_shown z k ≤ number_in (entry_of k (listed 0 xs))
     go [] z mz sub = absurd mz
-    go (r ∷ qs) z (inl same) sub = subst (λ (y : Record). number_in (entry_of k (Rattle.snap_record.specs.Desks.shown_by y)) ≤ number_in (entry_of k (listed 0 xs))) same (here r.begun r.ended r.op (λ v mv. sub v (Rattle.snap_record.proofs.Lists.mem_left (op_looks r.begun r.ended r.op) (looks_in qs) v mv)))
-    go (r ∷ qs) z (inr mz) sub = go qs z mz (λ v mv. sub v (mem_right (op_looks r.begun r.ended r.op) (looks_in qs) v mv))
+    go (r ∷ qs) z mz sub = ⊎_elim
+        (λ x. here r.begun r.ended r.op (λ v mv. sub v (mem_left (op_looks r.begun r.ended r.op) (looks_in qs) v mv)) z x)
+        (λ x. go qs z x (λ v mv. sub v (mem_right (op_looks r.begun r.ended r.op) (looks_in qs) v mv)))
+        (mem_split (op_records d r.begun r.ended r.op) (records_at d qs) z mz)
+
+-- one more record
+pub records-push : (d : ℕ) (rs : List Answered) (r : Answered) → records_at d (rs ++ r ∷ []) ≡ records_at d rs ++ op_records d r.begun r.ended r.op
+records-push d [] r = append-nil (op_records d r.begun r.ended r.op)
+records-push d (q ∷ rs) r = ap (λ l. op_records d q.begun q.ended q.op ++ l) (records-push d rs r) ∙ sym (append_assoc (op_records d q.begun q.ended q.op) (records_at d rs) (op_records d r.begun r.ended r.op))
+
+pub lost-push : (rs : List Answered) (r : Answered) → lost_in (rs ++ r ∷ []) ≡ lost_in rs ++ op_lost r.op
+lost-push [] r = append-nil (op_lost r.op)
+lost-push (q ∷ rs) r = ap (λ l. op_lost q.op ++ l) (lost-push rs r) ∙ sym (append_assoc (op_lost q.op) (lost_in rs) (op_lost r.op))
+
+pub collects-push : (rs : List Answered) (r : Answered) → collects_in (rs ++ r ∷ []) ≡ collects_in rs + op_collects r.op
+collects-push rs r = let t = total-append (λ (q : Answered). op_collects q.op) rs (r ∷ []) in omega arith

@@ -20,7 +20,7 @@ use Rattle.snap_core.proofs.Histories.{begun_of}
 use Rattle.snap_record.specs.declared.account.Account.{Account}
 use Rattle.snap_record.specs.declared.account.Answered.{Answered}
 use Rattle.snap_record.specs.declared.account.Answer.{Answer}
-use Rattle.snap_record.specs.declared.account.Answer.TheVariants.{Stored, Viewed}
+use Rattle.snap_record.specs.declared.account.Answer.TheVariants.{Stored, Viewed, Scanned, Interfered}
 use Rattle.snap_record.specs.Calls.{Mem, Write, write, look, writes_in, looks_in, stamps_in}
 use Rattle.snap_record.specs.Regular.{Settled}
 use Rattle.snap_record.specs.Desks.{listed}
@@ -82,18 +82,18 @@ module _ (n : ℕ) (hand : List Account) (es : List Stamp) (h : Settled n hand) 
           less (no nl) = absurd (up (omega arith))
 
   -- a completed view of the history is a record
-  record ViewThere (i j p : ℕ) (shown : List Entry) : Type 0 where
-    account : Account
-    there : Mem account hand
-    begun : ℕ
-    ended : ℕ
-    read : List (ℕ × ℕ)
-    look_there : Mem (look begun ended true read) (looks_in account.records)
-    lists : listed 0 read ≡ shown
-    at_begin : get_elem? es i ≡ some (begun, BeginView p)
-    at_end : get_elem? es j ≡ some (ended, EndView p shown)
+  pub record ViewThere (i j p : ℕ) (shown : List Entry) : Type 0 where
+    pub account : Account
+    pub there : Mem account hand
+    pub begun : ℕ
+    pub ended : ℕ
+    pub read : List (ℕ × ℕ)
+    pub look_there : Mem (look begun ended true read) (looks_in account.records)
+    pub lists : listed 0 read ≡ shown
+    pub at_begin : get_elem? es i ≡ some (begun, BeginView p)
+    pub at_end : get_elem? es j ≡ some (ended, EndView p shown)
 
-  the_view : (i j p : ℕ) (shown : List Entry) → At (events_in es) i (BeginView p) → At (events_in es) j (EndView p shown) → IsSpan (events_in es) p i j → ViewThere i j p shown
+  pub the_view : (i j p : ℕ) (shown : List Entry) → At (events_in es) i (BeginView p) → At (events_in es) j (EndView p shown) → IsSpan (events_in es) p i j → ViewThere i j p shown
   the_view i j p shown at_i at_j call =
       let ei = event_at es i (BeginView p) at_i in
       let ej = event_at es j (EndView p shown) at_j in
@@ -106,16 +106,17 @@ module _ (n : ℕ) (hand : List Account) (es : List Stamp) (h : Settled n hand) 
       record { account = o.0; there = o.1; begun = v.begun; ended = ej.0; read = v.read; look_there = v.there; lists = v.lists; at_begin = ei.1 ∙ (λ q. some (s q, BeginView p)); at_end = ej.1 }
 
   -- an update of the history that ended is a record
-  record UpdateThere (j q : ℕ) (e : Entry) : Type 0 where
-    account : Account
-    there : Mem account hand
-    begun : ℕ
-    ended : ℕ
-    write_there : Mem (write e.number e.value begun ended true) (writes_in account.records)
-    component : account.desk ≡ e.component
-    at_end : get_elem? es j ≡ some (ended, EndUpdate q)
+  pub record UpdateThere (i j q : ℕ) (e : Entry) : Type 0 where
+    pub account : Account
+    pub there : Mem account hand
+    pub begun : ℕ
+    pub ended : ℕ
+    pub write_there : Mem (write e.number e.value begun ended true) (writes_in account.records)
+    pub component : account.desk ≡ e.component
+    pub at_begin : get_elem? es i ≡ some (begun, BeginUpdate q e)
+    pub at_end : get_elem? es j ≡ some (ended, EndUpdate q)
 
-  the_update : (i j p : ℕ) (e : Entry) → At (events_in es) i (BeginUpdate p e) → At (events_in es) j (EndUpdate p) → IsSpan (events_in es) p i j → UpdateThere j p e
+  pub the_update : (i j p : ℕ) (e : Entry) → At (events_in es) i (BeginUpdate p e) → At (events_in es) j (EndUpdate p) → IsSpan (events_in es) p i j → UpdateThere i j p e
   the_update i j p e at_i at_j call =
       let ei = event_at es i (BeginUpdate p e) at_i in
       let ej = event_at es j (EndUpdate p) at_j in
@@ -133,6 +134,7 @@ module _ (n : ℕ) (hand : List Account) (es : List Stamp) (h : Settled n hand) 
         ended = ej.0;
         write_there = subst (λ (w : Write). Mem w (writes_in o.0.records)) (λ q. write (is q).number (is q).value u.begun ej.0 true) u.there;
         component = ap (λ (z : Entry). z.component) is;
+        at_begin = ei.1 ∙ (λ z. some ((ap (λ (x : Stamp). x.0) one) z, BeginUpdate p e));
         at_end = ej.1;
       }
 
@@ -185,13 +187,15 @@ module _ (n : ℕ) (hand : List Account) (es : List Stamp) (h : Settled n hand) 
   well_formed : (p : ℕ) → TakeTurns (events_of p (events_in es))
   well_formed p = at (dec_le n p)
     where
-      turn : (d b e : ℕ) (o : Answer) (l : List Event) → TakeTurns l → TakeTurns (events_in (op_events d b e o) ++ l)
+      turn : (d b e : ℕ) (o : Answer) (l : List Stamp) → TakeTurns (events_in l) → TakeTurns (events_in (op_events d b e o ++ l))
       turn d b e (Stored i v) l rest = (tt, rest)
       turn d b e (Viewed xs) l rest = (tt, rest)
+      turn d b e (Scanned t xs) l rest = (tt, rest)
+      turn d b e (Interfered i xs ys) l rest = rest
 
       turns : (d : ℕ) (rs : List Answered) → TakeTurns (events_in (desk_events d rs))
       turns d [] = tt
-      turns d (q ∷ rs) = turn d q.begun q.ended q.op (events_in (desk_events d rs)) (turns d rs)
+      turns d (q ∷ rs) = turn d q.begun q.ended q.op (desk_events d rs) (turns d rs)
 
       at : Dec (n ≤ p) → TakeTurns (events_of p (events_in es))
       at (yes high) = subst TakeTurns (sym (of_no_process p high)) tt

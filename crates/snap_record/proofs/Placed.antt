@@ -45,15 +45,15 @@ none_at p (x ∷ xs) none l e a same = go (process_of x == p) refl none (none_at
     go false t n rest (suc l) a' = rest n l e a' same
 
 -- where a call begins and ends
-record Spans (es : List Event) (c : Call) (place : ℕ) : Type 0 where
-  begin : Event
-  end : Event
-  begins : At es c.begun begin
-  ends : At es place end
-  span : IsSpan es (process_of begin) c.begun place
-  pair : Ends begin end
-  process : process_of end ≡ process_of begin
-  operation : c.operation ≡ operation_at begin (end ∷ [])
+pub record Spans (es : List Event) (c : Call) (place : ℕ) : Type 0 where
+  pub begin : Event
+  pub end : Event
+  pub begins : At es c.begun begin
+  pub ends : At es place end
+  pub span : IsSpan es (process_of begin) c.begun place
+  pub pair : Ends begin end
+  pub process : process_of end ≡ process_of begin
+  pub operation : c.operation ≡ operation_at begin (end ∷ [])
 
 operation_by : (b x : Event) (mid rest : List Event) → process_of x ≡ process_of b → events_of (process_of b) mid ≡ [] → next_answer (process_of b) (mid ++ x ∷ rest) ≡ answer_at x → operation_at b (mid ++ x ∷ rest) ≡ operation_at b (x ∷ [])
 operation_by (BeginUpdate p e) x mid rest same none answer = refl
@@ -61,7 +61,7 @@ operation_by (BeginView p) x mid rest same none answer = ap Views (answer ∙ sy
 operation_by (EndUpdate p) x mid rest same none answer = refl
 operation_by (EndView p s) x mid rest same none answer = refl
 
-spans : (es : List Event) → IsHistory es → (c : Call) (place : ℕ) → Contains (calls_of es) c → c.ended ≡ Some place → Spans es c place
+pub spans : (es : List Event) → IsHistory es → (c : Call) (place : ℕ) → Contains (calls_of es) c → c.ended ≡ Some place → Spans es c place
 spans es h c place i e = at (next (process_of b.event) (suc c.begun) b.after)
   where
     b : Begun 0 0 es c
@@ -179,13 +179,13 @@ update_span es c e place w s = go s.begin s.end refl refl s.pair
     go (EndView p xs) x i j t = absurd t
 
 -- the update that begins at a place
-record UpdateAt (calls : List Call) (place : ℕ) (e : Entry) : Type 0 where
-  call : Call
-  there : In call calls
-  writes : call.operation ≡ Updates e
-  begins : call.begun ≡ place
+pub record UpdateAt (calls : List Call) (place : ℕ) (e : Entry) : Type 0 where
+  pub call : Call
+  pub there : In call calls
+  pub writes : call.operation ≡ Updates e
+  pub begins : call.begun ≡ place
 
-update_at : (n place : ℕ) (es : List Event) (i q : ℕ) (e : Entry) → At es i (BeginUpdate q e) → UpdateAt (calls_from n place es) (place + i) e
+pub update_at : (n place : ℕ) (es : List Event) (i q : ℕ) (e : Entry) → At es i (BeginUpdate q e) → UpdateAt (calls_from n place es) (place + i) e
 update_at n place [] i q e a = absurd (some-ne-none (BeginUpdate q e) (sym a))
 update_at n place (x ∷ es) zero q e a = subst (λ z. UpdateAt (calls_from n place (z ∷ es)) (place + 0) e) (sym (some-injective _ _ a))
     record { call = call_at n place (BeginUpdate q e) es; there = inl refl; writes = refl; begins = omega arith }

@@ -153,10 +153,10 @@ held_join n views b h id v other u at apart there =
         (mem_merge v w c m)) in omega arith
 
 pub splits : (n id : ℕ) (v : List Account) → Splits (Boarded n) id v (but_first v) (only_first v)
-splits n id v s r at = record { accounts = r.accounts; words = r.words; held = held_split n s.views r.accounts r.held id v at; core = r.core }
+splits n id v s r at = record { accounts = r.accounts; words = r.words; held = held_split n s.views r.accounts r.held id v at; core = r.core; scans = r.scans }
 
 pub joins : (n id : ℕ) (v : List Account) (other : ℕ) (u : List Account) → Joins (Boarded n) id v other u (merge v u) []
-joins n id v other u s r at apart there = record { accounts = r.accounts; words = r.words; held = held_join n s.views r.accounts r.held id v other u at apart there; core = r.core }
+joins n id v other u s r at apart there = record { accounts = r.accounts; words = r.words; held = held_join n s.views r.accounts r.held id v other u at apart there; core = r.core; scans = r.scans }
 
 -- the words after a step
 module _ (b : List Account) (k : ℕ) (a a' : Account) (at : get_elem? b k ≡ some a) where

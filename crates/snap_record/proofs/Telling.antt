@@ -1,9 +1,13 @@
 -- The history of two desks' records.
-use Rattle.std.proofs.Common.{◌≡◌, zero, suc, ◌*◌, List, [], ◌∷◌, ◌++◌, length, refl, sym, ap, ◌∙◌, subst, inl, inr, arith}
+use Rattle.std.proofs.Common.{◌≡◌, ℕ, map, zero, suc, ◌*◌, List, [], ◌∷◌, ◌++◌, length, refl, sym, ap, ◌∙◌, subst, inl, inr, arith}
 use Rattle.std.specs.List.Sorted.{IsPermutation}
 use Rattle.snap_core.specs.Events.{events_of, IsHistory}
 use Rattle.snap_core.specs.Calls.{calls_of}
 use Rattle.snap_core.specs.Regular.{IsRegular}
+use Rattle.snap_core.specs.Orders.{IsAtomic}
+use Rattle.snap_record.specs.Scans.{without_collects}
+use Rattle.snap_record.proofs.Keeping.{settled_kept, scans_kept, records_kept}
+use Rattle.snap_record.proofs.Atomic.{atomic, all_scans}
 use Rattle.snap_record.specs.declared.account.Account.{Account}
 use Rattle.snap_record.specs.declared.record.Record.{Record}
 use Rattle.snap_record.specs.Delivery.{of_worker, AreBelow}
@@ -11,11 +15,12 @@ use Rattle.snap_record.specs.History.{stamped_events, events_in, Merged, AreApar
 use Rattle.snap_record.specs.Recording.{AreSettled, IsTold}
 use Rattle.snap_record.proofs.ByWorker.{by_worker, sorted_out}
 use Rattle.snap_record.proofs.Stamps.{Stamp}
+use Rattle.snap_record.proofs.DeskEvents.{events_at}
 use Rattle.snap_record.proofs.Merging.{InOrder, history, completed, regular, of_process, of_no_process}
 use Rattle.snap_record.proofs.Ordering.{few_stamps, in_order_of}
 use Rattle.snap_record.proofs.Sorting.{apart_permuted, merged_permuted}
 
-module _ (all : List Record) (s : AreSettled (of_worker 0 all) (of_worker 1 all)) (below : AreBelow 2 all) where
+module _ (all : List Record) (l0 l1 : List ℕ) (v0 v1 : ℕ) (s : AreSettled (of_worker 0 all) (of_worker 1 all) l0 l1 v0 v1) (below : AreBelow 2 all) where
   abbrev hand : List Account
   hand = s.one_account ∷ s.zero_account ∷ []
 
@@ -41,9 +46,19 @@ module _ (all : List Record) (s : AreSettled (of_worker 0 all) (of_worker 1 all)
   pub told_regular : (es : List Stamp) → Merged all es → IsRegular (calls_of (events_in es))
   told_regular es m = regular 2 hand es s.settled (in_hand es m)
 
+  -- where no desk collected, the accounts without collects have the same records
+  same_records : v0 ≡ 0 → v1 ≡ 0 → all_records (map without_collects hand) ≡ all_records hand
+  same_records z0 z1 = λ i. records_kept s.one_account.desk s.one_account.records (s.one_views ∙ z1) i ++ (records_kept s.zero_account.desk s.zero_account.records (s.zero_views ∙ z0) i ++ [])
+
+  pub told_atomic : (es : List Stamp) → Merged all es → v0 ≡ 0 → v1 ≡ 0 → IsAtomic (calls_of (events_in es))
+  told_atomic es m z0 z1 =
+      let only = map without_collects hand in
+      atomic 2 only es (settled_kept 2 hand s.settled) (scans_kept hand s.scans) (all_scans hand)
+      (in_order_of only es (subst (λ (l : List Record). Merged l es) (sym (same_records z0 z1)) (merged_permuted all (all_records hand) es permuted m)))
+
   pub told : (es : List Stamp) → Merged all es → IsTold all (events_in es)
-  told es m zero = ap (λ p. events_of p (events_in es)) (sym s.zero_desk) ∙ of_process 2 hand es s.settled (in_hand es m) s.zero_account (inr (inl refl)) ∙ ap (λ rs. events_in (stamped_events rs)) s.zero_records
-  told es m (suc zero) = ap (λ p. events_of p (events_in es)) (sym s.one_desk) ∙ of_process 2 hand es s.settled (in_hand es m) s.one_account (inl refl) ∙ ap (λ rs. events_in (stamped_events rs)) s.one_records
+  told es m zero = ap (λ p. events_of p (events_in es)) (sym s.zero_desk) ∙ of_process 2 hand es s.settled (in_hand es m) s.zero_account (inr (inl refl)) ∙ ap events_in (sym (events_at s.zero_account.desk s.zero_account.records)) ∙ ap (λ rs. events_in (stamped_events rs)) s.zero_records
+  told es m (suc zero) = ap (λ p. events_of p (events_in es)) (sym s.one_desk) ∙ of_process 2 hand es s.settled (in_hand es m) s.one_account (inl refl) ∙ ap events_in (sym (events_at s.one_account.desk s.one_account.records)) ∙ ap (λ rs. events_in (stamped_events rs)) s.one_records
   told es m (suc (suc p)) = of_no_process 2 hand es s.settled (in_hand es m) (suc (suc p)) (omega arith) ∙ sym (ap (λ rs. events_in (stamped_events rs)) (below (suc (suc p)) (omega arith)))
 
 pub stamped_length : (rs : List Record) → length (stamped_events rs) ≡ 2 * length rs

@@ -1,11 +1,12 @@
 -- Desks of a board, and their records.
-use Rattle.std.specs.Prelude.{◌≡◌, ℕ, ◌<◌, ◌≤◌, suc, cond, nat_lt, List, [], ◌∷◌, ◌++◌, map, Option, Some, Contains}
+use Rattle.std.specs.Prelude.{◌≡◌, ℕ, ◌<◌, ◌≤◌, suc, cond, nat_lt, List, [], ◌∷◌, ◌++◌, Option, Some, Contains}
 use Rattle.snap_core.specs.declared.entry.Entry.{Entry}
 use Rattle.snap_core.specs.Entries.{entry_of, number_in}
+use Rattle.snap_core.specs.Sums.{total}
 use Rattle.snap_record.specs.declared.account.Account.{Account}
 use Rattle.snap_record.specs.declared.account.Answered.{Answered}
 use Rattle.snap_record.specs.declared.account.Answer.{Answer}
-use Rattle.snap_record.specs.declared.account.Answer.TheVariants.{Stored, Viewed}
+use Rattle.snap_record.specs.declared.account.Answer.TheVariants.{Stored, Viewed, Scanned, Interfered}
 use Rattle.snap_record.specs.declared.board.Board.{Board}
 use Rattle.snap_record.specs.declared.board.Desk.{Desk}
 use Rattle.snap_record.specs.declared.board.Gathered.{Gathered}
@@ -31,21 +32,52 @@ abbrev pub listed : ℕ → List (ℕ × ℕ) → List Entry
 listed k [] = []
 listed k (p ∷ xs) = shown_entry k p ++ listed (suc k) xs
 
-abbrev pub recorded_op : ℕ → Answer → RecordedOp
-recorded_op d (Stored n v) = Kind.Stored (record { component = d; number = n; value = v })
-recorded_op d (Viewed xs) = Kind.Viewed (listed 0 xs)
+-- the record of an answered call of desk d; a scan that was interfered with has none
+abbrev pub op_records : ℕ → ℕ → ℕ → Answer → List Record
+op_records d b e (Stored n v) = record { process = d; begun = b; ended = e; op = Kind.Stored (record { component = d; number = n; value = v }) } ∷ []
+op_records d b e (Viewed xs) = record { process = d; begun = b; ended = e; op = Kind.Viewed (listed 0 xs) } ∷ []
+op_records d b e (Scanned t xs) = record { process = d; begun = b; ended = e; op = Kind.Viewed (listed 0 xs) } ∷ []
+op_records d b e (Interfered n xs ys) = []
 
--- the record of an answered call of desk d
-abbrev pub record_of : ℕ → Answered → Record
-record_of d r = record { process = d; begun = r.begun; ended = r.ended; op = recorded_op d r.op }
+-- the records of desk d's answered calls
+abbrev pub records_at : ℕ → List Answered → List Record
+records_at d [] = []
+records_at d (r ∷ rs) = op_records d r.begun r.ended r.op ++ records_at d rs
 
 -- the records of an account
 abbrev pub records_in : Account → List Record
-records_in a = map (record_of a.desk) a.records
+records_in a = records_at a.desk a.records
 
 -- the records of a desk, in its order
 abbrev pub records : Desk → List Record
-records d = map (record_of d.desk) (records_of d.seat.me.0)
+records d = records_at d.desk (records_of d.seat.me.0)
+
+-- the tries of the scans without a record, in their order
+abbrev pub op_lost : Answer → List ℕ
+op_lost (Stored n v) = []
+op_lost (Viewed xs) = []
+op_lost (Scanned t xs) = []
+op_lost (Interfered n xs ys) = n ∷ []
+
+abbrev pub lost_in : List Answered → List ℕ
+lost_in [] = []
+lost_in (r ∷ rs) = op_lost r.op ++ lost_in rs
+
+abbrev pub lost : Desk → List ℕ
+lost d = lost_in (records_of d.seat.me.0)
+
+-- how many collects have a record
+abbrev pub op_collects : Answer → ℕ
+op_collects (Stored n v) = 0
+op_collects (Viewed xs) = 1
+op_collects (Scanned t xs) = 0
+op_collects (Interfered n xs ys) = 0
+
+abbrev pub collects_in : List Answered → ℕ
+collects_in rs = total (λ r. op_collects r.op) rs
+
+abbrev pub collects : Desk → ℕ
+collects d = collects_in (records_of d.seat.me.0)
 
 -- how many ticks a desk has drawn
 abbrev pub ticks : Desk → ℕ

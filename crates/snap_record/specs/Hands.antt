@@ -1,13 +1,14 @@
 -- What a seat's view says of one desk.
-use Rattle.std.specs.Prelude.{◌≡◌, ℕ, ◌≤◌, Bool, true, false, List, [], ◌∷◌}
+use Rattle.std.specs.Prelude.{◌≡◌, ℕ, ◌≤◌, Bool, true, false, List, [], ◌∷◌, map}
 use mathlib.Core.Option.{some}
 use lib.ListN.{get_elem?}
 use Rattle.atomic_table.specs.Table.{Me}
-use Rattle.snap_record.specs.Calls.{Mem, Look, AllNumbered, writes_in, looks_in, latest}
+use Rattle.snap_record.specs.Calls.{Mem, Look, AllNumbered, reading, writes_in, looks_in, latest}
+use Rattle.snap_record.specs.Plays.{entry_of}
 use Rattle.snap_record.specs.declared.account.Account.{Account}
 use Rattle.snap_record.specs.declared.account.Answered.{Answered}
 use Rattle.snap_record.specs.declared.account.Doing.{Doing}
-use Rattle.snap_record.specs.declared.account.Doing.TheVariants.{Idle, Begun, Written, Viewing}
+use Rattle.snap_record.specs.declared.account.Doing.TheVariants.{Idle, Begun, Written, Viewing, Scanning}
 
 abbrev pub idle : ℕ → List Answered → ℕ → Account
 idle d rs t = record { desk = d; records = rs; doing = Idle; ticks = t }
@@ -16,17 +17,6 @@ idle d rs t = record { desk = d; records = rs; doing = Idle; ticks = t }
 abbrev pub records_of : List Account → List Answered
 records_of [] = []
 records_of (a ∷ v) = a.records
-
-abbrev pub shown_in : Doing → List (ℕ × ℕ)
-shown_in Idle = []
-shown_in (Begun b) = []
-shown_in (Written b n v) = []
-shown_in (Viewing b xs) = xs
-
--- what the first account's open view has read
-abbrev pub shown_of : List Account → List (ℕ × ℕ)
-shown_of [] = []
-shown_of (a ∷ v) = shown_in a.doing
 
 abbrev pub desk_of : List Account → ℕ
 desk_of [] = 0
@@ -41,6 +31,7 @@ begun_in Idle = 0
 begun_in (Begun b) = b
 begun_in (Written b n v) = b
 begun_in (Viewing b xs) = b
+begun_in (Scanning s) = s.begun
 
 abbrev pub begun_of : List Account → ℕ
 begun_of [] = 0
@@ -49,9 +40,29 @@ begun_of (a ∷ v) = begun_in a.doing
 abbrev Seated : Type 0
 Seated = Me (Unit {0}) (List Account)
 
--- the seat, with a view open that has read xs
-abbrev pub viewing : Seated → List (ℕ × ℕ) → Seated
-viewing me xs = (record { desk = desk_of me.0; records = records_of me.0; doing = Viewing (begun_of me.0) xs; ticks = ticks_of me.0 } ∷ [], [])
+abbrev pub doing_of : List Account → Doing
+doing_of [] = Idle
+doing_of (a ∷ v) = a.doing
+
+-- the open collect, which has read xs
+abbrev pub showing : List (ℕ × ℕ) → Doing → Doing
+showing xs Idle = Idle
+showing xs (Begun b) = Begun b
+showing xs (Written b n v) = Written b n v
+showing xs (Viewing b ys) = Viewing b xs
+showing xs (Scanning s) = Scanning (reading s xs)
+
+-- the seat of one desk, in whose open collect xs were read
+abbrev pub has_read : Seated → List (ℕ × ℕ) → Seated
+has_read me xs = (record { desk = desk_of me.0; records = records_of me.0; doing = showing xs (doing_of me.0); ticks = ticks_of me.0 } ∷ [], [])
+
+-- the seat of one desk
+abbrev pub one_desk : Seated → Seated
+one_desk me = (record { desk = desk_of me.0; records = records_of me.0; doing = doing_of me.0; ticks = ticks_of me.0 } ∷ [], [])
+
+-- what words stand for
+abbrev pub pairs : List ℕ → List (ℕ × ℕ)
+pairs ws = map entry_of ws
 
 -- a view of desk d with these records shows the desk's last store, and nothing older than its earlier views
 abbrev pub Told : ℕ → List Answered → List (ℕ × ℕ) → Type 0
@@ -63,6 +74,7 @@ is_idle Idle = true
 is_idle (Begun b) = false
 is_idle (Written b n v) = false
 is_idle (Viewing b xs) = false
+is_idle (Scanning s) = false
 
 -- what is known of an account while its desk is in
 pub record Brief : Type 0 where

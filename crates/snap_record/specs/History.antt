@@ -1,5 +1,5 @@
 -- The records of all desks as one history.
-use Rattle.std.specs.Prelude.{◌≡◌, ℕ, ◌<◌, ◌≤◌, ◌*◌, true, cond, nat_lt, List, [], ◌∷◌, ◌++◌, map, length, Contains}
+use Rattle.std.specs.Prelude.{◌≡◌, ℕ, ◌<◌, ◌≤◌, true, cond, nat_lt, List, [], ◌∷◌, ◌++◌, map, Contains}
 use Rattle.snap_core.specs.declared.event.Event.{Event}
 use Rattle.snap_core.specs.declared.event.Event.TheVariants.{BeginUpdate, BeginView, EndUpdate, EndView}
 use Rattle.snap_core.specs.Calls.{Call}
@@ -64,11 +64,3 @@ history_of rs = events_in (in_order (stamped_events rs))
 -- no call is pending
 abbrev pub AllCompleted : List Call → Type 0
 AllCompleted calls = (c : Call) → Contains calls c → is_completed c ≡ true
-
-abbrev pub stamps_of_records : List Record → List ℕ
-stamps_of_records [] = []
-stamps_of_records (r ∷ rs) = r.begun ∷ r.ended ∷ stamps_of_records rs
-
--- the stamps are 0 to twice the number of records minus 1, each once
-abbrev pub HasEachStamp : List Record → Type 0
-HasEachStamp rs = (x : ℕ) → x < 2 * length rs → times x (stamps_of_records rs) ≡ 1

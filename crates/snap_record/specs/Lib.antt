@@ -1,4 +1,5 @@
 pub mod Calls
+pub mod Marks
 pub mod Rule
 pub mod Plays
 pub mod Hands
@@ -10,7 +11,10 @@ pub mod Delivery
 pub mod Relays
 pub mod Ends
 pub mod Refusals
+pub mod Tries
+pub mod Scans
 pub mod Placed
+pub mod Choices
 pub mod Plans
 pub mod Scripts
 pub mod Workers

@@ -1,11 +1,15 @@
 -- Plans, and the calls that a script asks for.
-use Rattle.std.specs.Prelude.{◌≡◌, ◌≢◌, ℕ, zero, suc, ◌+◌, ◌*◌, ◌<◌, ◌≤◌, ◌==◌, ◌⊎◌, not, nat_lt, if◌then◌else◌, List, [], ◌∷◌, ◌++◌, map, length, ⊤, Option, Some, None, Vec, vec_items, slice_index_or}
+use Rattle.std.specs.Prelude.{◌≡◌, ◌≢◌, ℕ, zero, suc, ◌+◌, ◌-◌, ◌*◌, ◌&&◌, nat_le, Bool, true, false, ◌<◌, ◌≤◌, ◌==◌, ◌⊎◌, not, nat_lt, if◌then◌else◌, List, [], ◌∷◌, ◌++◌, map, length, ⊤, Option, Some, None, Vec, vec_items, slice_index_or}
 use Rattle.std.specs.declared.alloc.Global.{Global}
 use Rattle.snap_core.specs.declared.event.Event.{Event}
 use Rattle.snap_core.specs.declared.event.Event.TheVariants.{BeginUpdate, BeginView, EndUpdate, EndView}
 use Rattle.snap_core.specs.Events.{events_of, event_limit}
+use Rattle.snap_core.specs.Sums.{total}
+use Rattle.snap_record.specs.Regular.{falling}
+use Rattle.snap_record.specs.Rule.{tick_limit}
+use Rattle.snap_record.specs.Choices.{chosen, left_out, LeavesScans, stores_but}
 use Rattle.snap_record.specs.declared.plan.Step.{Step}
-use Rattle.snap_record.specs.declared.plan.Step.TheVariants.{Store, View}
+use Rattle.snap_record.specs.declared.plan.Step.TheVariants.{Store, View, Scan}
 use Rattle.snap_record.specs.declared.plan.PlanRefusal.{PlanRefusal}
 use Rattle.snap_record.specs.declared.plan.PlanRefusal.TheVariants.{Workers, TooLong, Memory}
 
@@ -17,17 +21,43 @@ abbrev pub steps_in : List (List Step) → ℕ
 steps_in [] = 0
 steps_in (s ∷ ss) = length s + steps_in ss
 
+-- how many ticks a step may draw
+abbrev pub step_ticks : Step → ℕ
+step_ticks (Store v) = 2
+step_ticks View = 2
+step_ticks (Scan tries) = tries + 2
+
+-- a scan has 1 to 1,024 tries
+abbrev pub has_tries : Step → Bool
+has_tries (Store v) = true
+has_tries View = true
+has_tries (Scan tries) = nat_lt 0 tries && nat_le tries 1024
+
+-- the steps draw no more than so many ticks, and their scans have tries
+abbrev pub draws_within : ℕ → List Step → Bool
+draws_within room [] = true
+draws_within room (s ∷ ss) = (has_tries s && nat_le (step_ticks s) room) && draws_within (room - step_ticks s) ss
+
+abbrev pub each_draws : List (List Step) → Bool
+each_draws [] = true
+each_draws (s ∷ ss) = draws_within tick_limit s && each_draws ss
+
 -- the first refusal that applies
 abbrev pub plan_refusal : List (List Step) → Option PlanRefusal
-plan_refusal ss = if not (length ss == 2) then Some Workers else if nat_lt event_limit (2 * steps_in ss) then Some TooLong else None
+plan_refusal ss = if not (length ss == 2) then Some Workers else if nat_lt event_limit (2 * steps_in ss) then Some TooLong else if each_draws ss then None else Some TooLong
 
--- in each of so many rounds a store and then a view, worker w storing w * 65536 + i in round i
-abbrev pub round_script : ℕ → ℕ → List Step
-round_script w zero = []
-round_script w (suc i) = round_script w i ++ Store (w * 65536 + i + 1) ∷ View ∷ []
+-- how a round ends
+abbrev pub last_step : Bool → Step
+last_step true = Scan 64
+last_step false = View
 
-abbrev pub rounds_scripts : ℕ → List (List Step)
-rounds_scripts rounds = round_script 0 rounds ∷ round_script 1 rounds ∷ []
+-- in each of so many rounds a store and then a view or a scan, worker w storing w * 65536 + i in round i
+abbrev pub round_script : Bool → ℕ → ℕ → List Step
+round_script scan w zero = []
+round_script scan w (suc i) = round_script scan w i ++ Store (w * 65536 + i + 1) ∷ last_step scan ∷ []
+
+abbrev pub rounds_scripts : Bool → ℕ → List (List Step)
+rounds_scripts scan rounds = round_script scan 0 rounds ∷ round_script scan 1 rounds ∷ []
 
 -- why there is no plan of so many workers and rounds
 abbrev pub IsRoundsRefusal : ℕ → ℕ → PlanRefusal → Type 0
@@ -40,8 +70,14 @@ abbrev pub IsRun : ℕ → List Step → List Event → Type 0
 IsRun w [] [] = ⊤
 IsRun w (Store v ∷ steps) (BeginUpdate p e ∷ EndUpdate q ∷ es) = (e.component ≡ w) × (e.value ≡ v) × IsRun w steps es
 IsRun w (View ∷ steps) (BeginView p ∷ EndView q shown ∷ es) = IsRun w steps es
+IsRun w (Scan tries ∷ steps) (BeginView p ∷ EndView q shown ∷ es) = IsRun w steps es
 IsRun w _ _ = ⊥
 
--- each worker w, as process w, did its script, and no other process did anything
-abbrev pub HasScripts : List (List Step) → List Event → Type 0
-HasScripts scripts es = (w : ℕ) → IsRun w (slice_index_or scripts w []) (events_of w es)
+-- each worker w, as process w, did its script but for scans that the choices leave out, as many as were interfered with, and no other process did anything
+pub record HasScripts (scripts : List (List Step)) (es : List Event) (interfered : ℕ) : Type 0 where
+  pub choices : ℕ → List Bool
+  pub scans : (w : ℕ) → LeavesScans (choices w) (slice_index_or scripts w [])
+  pub each : (w : ℕ) → IsRun w (chosen (choices w) (slice_index_or scripts w [])) (events_of w es)
+  pub left : total (λ w. length (left_out (choices w) (slice_index_or scripts w []))) (falling (length scripts)) ≡ interfered
+  -- their tries add up to at most the stores of the other scripts
+  pub tries : (w : ℕ) → total (λ x. x) (left_out (choices w) (slice_index_or scripts w [])) ≤ stores_but w scripts

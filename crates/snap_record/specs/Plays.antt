@@ -4,8 +4,9 @@ use mathlib.Core.Option.{some}
 use lib.ListN.{get_elem?}
 use Rattle.atomic_table.specs.Table.{Me, Step}
 use Rattle.snap_record.specs.declared.account.Account.{Account}
-use Rattle.snap_record.specs.Calls.{Mem, Look, AllNumbered, writes_of, looks_of, stamps_of, in_word, begun_store, begun_view, wrote, read, ended}
-use Rattle.snap_record.specs.declared.account.Doing.TheVariants.{Viewing}
+use Rattle.snap_record.specs.Calls.{Mem, Look, AllNumbered, writes_of, looks_of, stamps_of, in_word, begun_store, begun_view, wrote, read, ended, middled, gave_up}
+use Rattle.snap_record.specs.declared.account.Doing.{Doing}
+use Rattle.snap_record.specs.declared.account.Doing.TheVariants.{Idle, Begun, Written, Viewing, Scanning}
 use Rattle.snap_record.specs.Rule.{first_step}
 
 abbrev Seated : Type 0
@@ -28,12 +29,26 @@ BeginsView st me n now = (now ≡ (first_step (begun_view n) me.0, me.1)) × Abo
 abbrev pub Writes : Step (Unit {0}) → Seated → ℕ → Seated → Type 0
 Writes st me n now = now ≡ (first_step (wrote (entry_of n)) me.0, me.1)
 
--- where a view has read all components, so have the desk's earlier views
+-- a collect is open that has read xs, of a scan since its last middle tick
+abbrev pub HasRead : Doing → List (ℕ × ℕ) → Type 0
+HasRead Idle xs = ⊥
+HasRead (Begun b) xs = ⊥
+HasRead (Written b n v) xs = ⊥
+HasRead (Viewing b ys) xs = ys ≡ xs
+HasRead (Scanning s) xs = s.since ≡ xs
+
+-- where a collect has read all components, so have the desk's earlier ones
 abbrev pub ReadAll : Seated → Type 0
-ReadAll me = (a : Account) → me.0 ≡ a ∷ [] → (b : ℕ) (xs : List (ℕ × ℕ)) → a.doing ≡ Viewing b xs → (r : Look) → Mem r (looks_of a) → r.over ≡ true → length r.shown ≡ length xs
+ReadAll me = (a : Account) → me.0 ≡ a ∷ [] → (xs : List (ℕ × ℕ)) → HasRead a.doing xs → (r : Look) → Mem r (looks_of a) → r.over ≡ true → length r.shown ≡ length xs
 
 abbrev pub Ends : Step (Unit {0}) → Seated → ℕ → Seated → Type 0
 Ends st me n now = (now ≡ (first_step (ended n) me.0, me.1)) × Above n me × ReadAll me
+
+abbrev pub Middles : Step (Unit {0}) → Seated → ℕ → Seated → Type 0
+Middles st me n now = (now ≡ (first_step (middled n) me.0, me.1)) × Above n me
+
+abbrev pub GivesUp : Step (Unit {0}) → Seated → ℕ → Seated → Type 0
+GivesUp st me n now = (now ≡ (first_step (gave_up n) me.0, me.1)) × Above n me
 
 -- of its own component a desk reads its last store, and of each component nothing older than its earlier views
 abbrev pub Learns : ℕ → Account → ℕ × ℕ → Type 0

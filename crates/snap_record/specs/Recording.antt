@@ -1,25 +1,31 @@
 -- The records of two desks whose board was closed, and their history.
-use Rattle.std.specs.Prelude.{◌≡◌, ℕ, List, [], ◌∷◌, slice_index_or}
+use Rattle.std.specs.Prelude.{◌≡◌, ℕ, ◌+◌, List, [], ◌∷◌, slice_index_or, length}
 use Rattle.snap_core.specs.declared.event.Event.{Event}
 use Rattle.snap_core.specs.Events.{events_of}
 use Rattle.snap_record.specs.declared.account.Account.{Account}
 use Rattle.snap_record.specs.declared.plan.Step.{Step}
 use Rattle.snap_record.specs.declared.record.Record.{Record}
 use Rattle.snap_record.specs.Delivery.{of_worker, AreBelow}
-use Rattle.snap_record.specs.Desks.{records_in}
-use Rattle.snap_record.specs.Regular.{Settled}
+use Rattle.snap_record.specs.Desks.{records_in, lost_in, collects_in}
+use Rattle.snap_record.specs.Regular.{Settled, ScansSettled}
+use Rattle.snap_record.specs.Choices.{views_in}
 use Rattle.snap_record.specs.History.{stamped_events, events_in}
-use Rattle.snap_record.specs.Scripts.{DidScript}
+use Rattle.snap_record.specs.Scripts.{DidSome}
 
--- the records of desks 0 and 1 are those of a closed board
-pub record AreSettled (first second : List Record) : Type 0 where
+-- what two desks did on a board that was closed: their records, the tries of their scans without a record, and how often they collected
+pub record AreSettled (first second : List Record) (lost lost' : List ℕ) (views views' : ℕ) : Type 0 where
   pub zero_account : Account
   pub one_account : Account
   pub settled : Settled 2 (one_account ∷ zero_account ∷ [])
+  pub scans : ScansSettled (one_account ∷ zero_account ∷ [])
   pub zero_desk : zero_account.desk ≡ 0
   pub one_desk : one_account.desk ≡ 1
   pub zero_records : records_in zero_account ≡ first
   pub one_records : records_in one_account ≡ second
+  pub zero_lost : lost_in zero_account.records ≡ lost
+  pub one_lost : lost_in one_account.records ≡ lost'
+  pub zero_views : collects_in zero_account.records ≡ views
+  pub one_views : collects_in one_account.records ≡ views'
 
 -- the records are those of worker 0 and those of worker 1, each in its order
 pub record AreFrom (first second records : List Record) : Type 0 where
@@ -27,9 +33,20 @@ pub record AreFrom (first second records : List Record) : Type 0 where
   pub one : of_worker 1 records ≡ second
   pub no_other : AreBelow 2 records
 
--- each worker's records are those of its script
-abbrev pub DidScripts : List (List Step) → List Record → Type 0
-DidScripts scripts records = (w : ℕ) → DidScript w (slice_index_or scripts w []) (of_worker w records)
+-- two workers did the scripts on a board that was closed, with so many scans left out
+pub record DidScripts (scripts : List (List Step)) (records : List Record) (interfered : ℕ) : Type 0 where
+  pub lost : List ℕ
+  pub lost' : List ℕ
+  pub two : length scripts ≡ 2
+  pub settled : AreSettled (of_worker 0 records) (of_worker 1 records) lost lost' (views_in (slice_index_or scripts 0 [])) (views_in (slice_index_or scripts 1 []))
+  pub zero : DidSome 0 (slice_index_or scripts 0 []) (of_worker 0 records) lost
+  pub one : DidSome 1 (slice_index_or scripts 1 []) (of_worker 1 records) lost'
+  pub no_other : AreBelow 2 records
+  pub count : length lost + length lost' ≡ interfered
+
+-- no script has a collect
+abbrev pub HasNoViews : List (List Step) → Type 0
+HasNoViews scripts = (w : ℕ) → views_in (slice_index_or scripts w []) ≡ 0
 
 -- each process has in the history the events of its records, and no others
 abbrev pub IsTold : List Record → List Event → Type 0

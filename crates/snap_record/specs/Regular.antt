@@ -1,5 +1,5 @@
 -- What is known of the records of all desks once the board is closed.
-use Rattle.std.specs.Prelude.{◌≡◌, ℕ, ◌<◌, ◌≤◌, zero, suc, List, [], ◌∷◌, length, map, Option, IsSome, Some, None, cond, nat_lt, slice_index_or}
+use Rattle.std.specs.Prelude.{◌≡◌, ℕ, ◌<◌, ◌≤◌, zero, suc, List, [], ◌∷◌, length, map, Option, IsSome, Some, None, cond, nat_lt, ◌==◌, slice_index_or}
 use mathlib.Core.Option.{some}
 use lib.ListN.{get_elem?}
 use Rattle.snap_record.specs.declared.account.Account.{Account}
@@ -9,7 +9,11 @@ use Rattle.snap_record.specs.declared.board.Closed.{Closed}
 use Rattle.snap_core.specs.declared.entry.Entry.{Entry}
 use Rattle.snap_record.specs.Desks.{records_in, last_stored}
 use Rattle.snap_core.specs.Sums.{times, total}
-use Rattle.snap_record.specs.Calls.{Mem, Write, Look, writes_in, looks_in, stamps_in}
+use Rattle.snap_record.specs.Calls.{Mem, Write, Look, writes_in, looks_in, stamps_in, all_stamps_in, marks_in, Mark}
+use Rattle.snap_record.specs.declared.account.Answered.{Answered}
+use Rattle.snap_record.specs.declared.account.Answer.{Answer}
+use Rattle.snap_record.specs.declared.account.Answer.TheVariants.{Stored, Viewed, Scanned, Interfered}
+use Rattle.snap_record.specs.Marks.{HasClimbed}
 use Rattle.snap_record.specs.Rule.{Rising, Numbered, clock}
 
 -- n - 1, .., 0
@@ -26,15 +30,46 @@ pub record Shows (r : Look) (p : ℕ × ℕ) (c : Account) : Type 0 where
 pub record Settled (n : ℕ) (hand : List Account) : Type 0 where
   pub desks : map (λ (a : Account). a.desk) hand ≡ falling n
   pub idle : (a : Account) → Mem a hand → a.doing ≡ Idle
-  pub ticks : (a : Account) → Mem a hand → a.ticks ≡ length (stamps_in a.records)
   pub rising : (a : Account) → Mem a hand → Rising (stamps_in a.records)
-  pub below : (a : Account) → Mem a hand → (x : ℕ) → Mem x (stamps_in a.records) → x < clock hand
-  pub apart : (x : ℕ) → total (λ (a : Account). times x (stamps_in a.records)) hand ≤ 1
+  pub below : (a : Account) → Mem a hand → (x : ℕ) → Mem x (all_stamps_in a.records) → x < clock hand
+  pub apart : (x : ℕ) → total (λ (a : Account). times x (all_stamps_in a.records)) hand ≤ 1
   pub numbered : (a : Account) → Mem a hand → Numbered 1 (writes_in a.records)
   pub whole : (a : Account) → Mem a hand → (r : Look) → Mem r (looks_in a.records) → length r.shown ≡ n
   pub regular : (a : Account) → Mem a hand → (r : Look) → Mem r (looks_in a.records) → (c : Account) → Mem c hand → (p : ℕ × ℕ) → get_elem? r.shown c.desk ≡ some p → Shows r p c
   pub monotone : (a c : Account) → Mem a hand → Mem c hand → (r s : Look) → Mem r (looks_in a.records) → Mem s (looks_in c.records) → r.ended < s.begun
       → (k : ℕ) (p q : ℕ × ℕ) → get_elem? r.shown k ≡ some p → get_elem? s.shown k ≡ some q → p.0 ≤ q.0
+
+-- one component of one scan, against the stores of the component's desk: what it shows was stored before its middle tick, and so was nothing later
+pub record ShowsAt (m : Mark) (p : ℕ × ℕ) (c : Account) : Type 0 where
+  pub began : (w : Write) → Mem w (writes_in c.records) → w.number ≡ p.0 → w.begun < m.middle
+  pub fresh : (w : Write) → Mem w (writes_in c.records) → w.ended < m.middle → w.number ≤ p.0
+
+-- the scans of a closed board
+pub record ScansSettled (hand : List Account) : Type 0 where
+  pub inside : (a : Account) → Mem a hand → (m : Mark) → Mem m (marks_in a.records) → (m.begun < m.middle) × (m.middle < m.ended)
+  pub shows : (a : Account) → Mem a hand → (m : Mark) → Mem m (marks_in a.records) → (c : Account) → Mem c hand → (p : ℕ × ℕ) → get_elem? m.before c.desk ≡ some p → ShowsAt m p c
+  pub in_turn : (a c : Account) → Mem a hand → Mem c hand → (r s : Mark) → Mem r (marks_in a.records) → Mem s (marks_in c.records) → r.middle < s.middle
+      → (k : ℕ) (p q : ℕ × ℕ) → get_elem? r.before k ≡ some p → get_elem? s.before k ≡ some q → p.0 ≤ q.0
+  -- each unequal collect of a scan without a record added at least one to the numbers
+  pub climbed : (a : Account) → Mem a hand → (r : Answered) → Mem r a.records → HasClimbed r.op
+
+-- 1 where the store neither ended before the call began nor began after it ended
+abbrev pub beside : Answered → Write → ℕ
+beside r w = cond (nat_lt w.ended r.begun) 0 (cond (nat_lt r.ended w.begun) 0 1)
+
+-- how many stores of other desks did neither
+abbrev pub stores_beside : List Account → Account → Answered → ℕ
+stores_beside hand a r = total (λ (c : Account). cond (c.desk == a.desk) 0 (total (beside r) (writes_in c.records))) hand
+
+abbrev pub op_tries : Answer → ℕ
+op_tries (Stored n v) = 0
+op_tries (Viewed xs) = 0
+op_tries (Scanned t xs) = 0
+op_tries (Interfered n xs ys) = n
+
+-- a scan without a record had as many stores of other desks beside it as it has tries
+abbrev pub WereInterfered : List Account → Type 0
+WereInterfered hand = (a : Account) → Mem a hand → (r : Answered) → Mem r a.records → op_tries r.op ≤ stores_beside hand a r
 
 -- all desks below n are in
 abbrev pub AllIn : ℕ → List (Option Kept) → Type 0

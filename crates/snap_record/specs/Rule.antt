@@ -6,7 +6,8 @@ use Rattle.atomic_table.specs.Table.{State}
 use Rattle.snap_record.specs.declared.account.Account.{Account}
 use Rattle.snap_record.specs.declared.account.Doing.TheVariants.{Idle}
 use Rattle.snap_core.specs.Sums.{total, one_if, times, once_below}
-use Rattle.snap_record.specs.Calls.{Mem, Write, Look, writes_of, looks_of, stamps_of, in_word}
+use Rattle.snap_record.specs.Marks.{Marked}
+use Rattle.snap_record.specs.Calls.{Mem, Write, Look, writes_of, looks_of, stamps_of, all_stamps, in_word}
 
 abbrev pub tick_limit : ℕ
 tick_limit = 1048576
@@ -26,7 +27,7 @@ Numbered n (w ∷ ws) = (w.number ≡ n) × Numbered (suc n) ws
 pub record Own (n k : ℕ) (a : Account) : Type 0 where
   pub desk : a.desk ≡ k
   pub rising : Rising (stamps_of a)
-  pub ticks : a.ticks ≡ length (stamps_of a)
+  pub ticks : length (all_stamps a) ≤ a.ticks
   pub limit : a.ticks ≤ tick_limit
   pub numbered : Numbered 1 (writes_of a)
   pub count : length (writes_of a) ≡ (in_word a).0
@@ -40,6 +41,8 @@ pub record Sees (v : Look) (p : ℕ × ℕ) (c : Account) : Type 0 where
   pub old : p.0 ≤ (in_word c).0
   -- no later store ended before the view began
   pub fresh : (w : Write) → Mem w (writes_of c) → p.0 < w.number → w.over ≡ true → v.begun ≤ w.ended
+  -- number 0 is the initial state
+  pub blank : p.0 ≡ 0 → p.1 ≡ 0
   -- it was stored, and the store began before the view ended
   pub real : 0 < p.0 → (w : Write) × Mem w (writes_of c) × (w.number ≡ p.0) × (w.value ≡ p.1) × (v.over ≡ true → w.begun < v.ended)
 
@@ -54,8 +57,8 @@ clock b = total (λ a. a.ticks) b
 pub record Core (n : ℕ) (b : List Account) : Type 0 where
   pub size : length b ≡ n
   pub own : (k : ℕ) (a : Account) → get_elem? b k ≡ some a → Own n k a
-  pub below : (k : ℕ) (a : Account) → get_elem? b k ≡ some a → (x : ℕ) → Mem x (stamps_of a) → x < clock b
-  pub apart : (x : ℕ) → total (λ a. times x (stamps_of a)) b ≤ 1
+  pub below : (k : ℕ) (a : Account) → get_elem? b k ≡ some a → (x : ℕ) → Mem x (all_stamps a) → x < clock b
+  pub apart : (x : ℕ) → total (λ a. times x (all_stamps a)) b ≤ 1
   pub sees : (i : ℕ) (a : Account) → get_elem? b i ≡ some a → (v : Look) → Mem v (looks_of a)
       → (k : ℕ) (c : Account) → get_elem? b k ≡ some c → (p : ℕ × ℕ) → get_elem? v.shown k ≡ some p → Sees v p c
   pub after : (i : ℕ) (a : Account) → get_elem? b i ≡ some a → (r : Look) → Mem r (looks_of a)
@@ -83,6 +86,7 @@ pub record Boarded (n : ℕ) (s : State (Unit {0}) (List Account)) : Type 0 wher
   pub words : s.words ≡ words_of accounts
   pub held : Held n s.views accounts
   pub core : Core n accounts
+  pub scans : Marked n accounts
 
 abbrev pub newcomer : ℕ → Account
 newcomer d = record { desk = d; records = []; doing = Idle; ticks = 0 }

@@ -1,11 +1,16 @@
 // What a seat of the board knows: accounts of desks. No value of these types is made.
 use std::collections::LinkedList;
 
-/// What an answered call did, numbers and values alone: a view has one pair for each component, with number 0 for the
+/// What an answered call did, numbers and values alone: a collect has one pair for each component, with number 0 for the
 /// initial state.
 pub enum Answer {
     Stored(u64, u64),
+    /// A collect.
     Viewed(LinkedList<(u64, u64)>),
+    /// A scan with a record: its last middle tick, and what it read before it and after it.
+    Scanned(u64, LinkedList<(u64, u64)>),
+    /// A scan without a record: how many middle ticks it made, and what its first and its last collect read.
+    Interfered(u64, LinkedList<(u64, u64)>, LinkedList<(u64, u64)>),
 }
 
 /// A call that was answered, with the stamps of its begin and its end.
@@ -15,6 +20,21 @@ pub struct Answered {
     pub op: Answer,
 }
 
+/// An open scan with a middle tick.
+pub struct Scan {
+    pub begun: u64,
+    /// What its first collect read.
+    pub first: LinkedList<(u64, u64)>,
+    /// How many middle ticks it made.
+    pub made: u64,
+    /// The last of them.
+    pub middle: u64,
+    /// What the collect before that tick read.
+    pub before: LinkedList<(u64, u64)>,
+    /// What was read since.
+    pub since: LinkedList<(u64, u64)>,
+}
+
 /// The call that is not answered.
 pub enum Doing {
     Idle,
@@ -22,8 +42,9 @@ pub enum Doing {
     Begun(u64),
     /// A store that is written: its begin tick, number and value.
     Written(u64, u64, u64),
-    /// A view: its begin tick, and what was read.
+    /// A collect, or the first collect of a scan: its begin tick, and what was read.
     Viewing(u64, LinkedList<(u64, u64)>),
+    Scanning(Scan),
 }
 
 /// What one desk did: its answered calls, its open call, and how many ticks it drew.

@@ -2,8 +2,9 @@ ghost use Rattle.std.specs.Prelude.{◌≡◌, ◌+◌, ◌<◌, ◌≤◌, [], 
 ghost use Rattle.snap_core.specs.Entries.{view_refusal, entry_of, number_in};
 ghost use Rattle.snap_record.specs.Rule.{tick_limit};
 ghost use Rattle.snap_record.specs.Refusals.{IsNotCollected};
-ghost use Rattle.snap_record.specs.Desks.{records, ticks, IsDeskOf, listed, IsLater, last_stored, shown_by, IsNoOlder};
-ghost use Rattle.snap_record.specs.Hands.{viewing, shown_of, desk_of, records_of, Told};
+ghost use Rattle.snap_record.specs.Desks.{records, ticks, collects, lost, IsDeskOf, listed, IsLater, last_stored, shown_by, IsNoOlder};
+ghost use Rattle.snap_record.specs.Hands.{has_read, doing_of, desk_of, records_of, pairs, Told};
+ghost use Rattle.snap_record.specs.Plays.{HasRead};
 
 use crate::account::Hand;
 use crate::board::{Board, Desk};
@@ -16,10 +17,31 @@ use snap_core::{Entry, View};
 use std::alloc::Global;
 
 /// How many ticks a desk may draw.
-const TICK_LIMIT: u32 = 1_048_576;
+pub(crate) const TICK_LIMIT: u32 = 1_048_576;
 
 /// A component's word is the number times this, and the value.
 const NUMBER_UNIT: u64 = 4_294_967_296;
+
+// Lists the components whose words have a number.
+pub(crate) fn list_words(words: &Vec<u64>, entries: &mut Vec<Entry>)
+    requires room { (entries.old.items ≡ []) × (length words.now.items ≤ vec_capacity entries.old) }
+    requires short { length words.now.items ≤ 8 }
+    ensures listed { entries.new.items ≡ listed 0 (pairs words.now.items) }
+    ensures view { view_refusal entries.new.items ≡ None }
+{
+    'each: for k in 0..words.len() {
+        let word = words[k];
+        let number = (word / NUMBER_UNIT) as u32;
+        let value = (word % NUMBER_UNIT) as u32;
+        if number > 0 {
+            entries.push_reserved(Entry {
+                component: k as u8,
+                number,
+                value,
+            });
+        }
+    }
+}
 
 impl Board {
     /// Writes a value to the desk's component, in three steps: a begin tick, the store of the component's word, and an
@@ -36,6 +58,8 @@ impl Board {
         ensures later { IfOk result (IsLater (records desk.old)) }
         ensures process { IfOk result (λ r. r.process ≡ desk.old.desk) }
         ensures entry { IfOk result (λ r. r.op ≡ RecordedOp.Stored (record { component = desk.old.desk; number = number_in (last_stored None (records desk.old)) + 1; value = value })) }
+        ensures collects { collects desk.new ≡ collects desk.old }
+        ensures lost { lost desk.new ≡ lost desk.old }
     {
         if desk.kept.ticks > TICK_LIMIT - 2 {
             return Err(StoreRefusal::Spent);
@@ -64,26 +88,20 @@ impl Board {
         })
     }
 
-    // Loads the word of each component, and lists those that were stored.
-    fn read_all(&self, seat: &mut Seat<(), Hand>, entries: &mut Vec<Entry>)
-        requires seat { (seat.old.table_id ≡ self.now.table.shared.table_id) × (seat.old.me ≡ viewing seat.old.me []) }
-        requires room { (entries.old.items ≡ []) × (self.now.desks ≤ vec_capacity entries.old) }
-        ensures seat { (seat.new.table_id ≡ seat.old.table_id) × (seat.new.me ≡ viewing seat.old.me (shown_of seat.new.me.0)) }
-        ensures all { length (shown_of seat.new.me.0) ≡ self.now.desks }
-        ensures entries { (entries.new.items ≡ listed 0 (shown_of seat.new.me.0)) × (view_refusal entries.new.items ≡ None) }
-        ensures told { Told (desk_of seat.old.me.0) (records_of seat.old.me.0) (shown_of seat.new.me.0) }
+    // Loads the word of each component, from 0 on.
+    pub(crate) fn load_words(&self, seat: &mut Seat<(), Hand>, words: &mut Vec<u64>)
+        requires seat { seat.old.table_id ≡ self.now.table.shared.table_id }
+        requires ready { (seat.old.me ≡ has_read seat.old.me []) × HasRead (doing_of seat.old.me.0) [] }
+        requires room { (words.old.items ≡ []) × (self.now.desks ≤ vec_capacity words.old) }
+        ensures seat { seat.new.table_id ≡ seat.old.table_id }
+        ensures read { seat.new.me ≡ has_read seat.old.me (pairs words.new.items) }
+        ensures all { length words.new.items ≡ self.now.desks }
+        ensures told { Told (desk_of seat.old.me.0) (records_of seat.old.me.0) (pairs words.new.items) }
+        ensures room { self.now.desks ≤ vec_capacity words.new }
     {
         'words: for k in 0..self.desks {
             let word = self.table.shared.load::<ReadWord>(seat, usize::from(k) + 1);
-            let number = (word / NUMBER_UNIT) as u32;
-            let value = (word % NUMBER_UNIT) as u32;
-            if number > 0 {
-                entries.push_reserved(Entry {
-                    component: k,
-                    number,
-                    value,
-                });
-            }
+            words.push_reserved(word);
         }
     }
 
@@ -103,22 +121,28 @@ impl Board {
         ensures view { IfOk result (λ r. r.op ≡ RecordedOp.Viewed (shown_by r)) }
         ensures own { IfOk result (λ r. entry_of desk.old.desk (shown_by r) ≡ last_stored None (records desk.old)) }
         ensures no_older { IfOk result (IsNoOlder (records desk.old)) }
+        ensures collects { OnOk result (collects desk.new ≡ collects desk.old + 1) }
+        ensures lost { lost desk.new ≡ lost desk.old }
     {
         if desk.kept.ticks > TICK_LIMIT - 2 {
             return Err(CollectRefusal::Spent);
         }
+        let Ok(mut words) = Vec::with_capacity(alloc, usize::from(self.desks)) else {
+            return Err(CollectRefusal::Memory);
+        };
         let Ok(mut entries) = Vec::with_capacity(alloc, usize::from(self.desks)) else {
             return Err(CollectRefusal::Memory);
         };
         let shared = &self.table.shared;
         let begun = shared.fetch_add::<BeginView>(&mut desk.seat, 0, 1);
-        self.read_all(&mut desk.seat, &mut entries);
+        self.load_words(&mut desk.seat, &mut words);
         let ended = shared.fetch_add::<EndCall>(&mut desk.seat, 0, 1);
         desk.kept = Kept {
             ticks: desk.kept.ticks + 2,
             stores: desk.kept.stores,
             value: desk.kept.value,
         };
+        list_words(&words, &mut entries);
         let Ok(view) = View::from_entries(entries) else {
             unreachable!()
         };

@@ -1,13 +1,15 @@
 ghost use Rattle.std.specs.Prelude.{◌≡◌, ◌+◌, ◌<◌, ◌≤◌, ◌↔◌, [], ◌++◌, Some, None, IfOk, IfErr, OnOk, OnErr, IsOk, IfNone, MatchOption, IfSome, IsTrue, slice_index_or, slice_set, length};
 ghost use Rattle.snap_core.specs.Events.{IsHistory};
 ghost use Rattle.snap_core.specs.Calls.{calls_of};
+ghost use Rattle.snap_core.specs.Orders.{IsAtomic};
 ghost use Rattle.snap_core.specs.Regular.{IsRegular};
+ghost use Rattle.snap_record.specs.Scans.{scan_history};
 ghost use Rattle.snap_record.specs.Rule.{newcomers};
 ghost use Rattle.snap_record.specs.Plays.{but_first, only_first, merge};
 ghost use Rattle.snap_record.specs.Slots.{ins};
 ghost use Rattle.snap_record.specs.Desks.{accounts, IsDeskOf, IsGatheredOf};
-ghost use Rattle.snap_record.specs.History.{all_records, history_of, AllCompleted, HasEachStamp};
-ghost use Rattle.snap_record.specs.Regular.{AllIn, Settled, Fresh, NoneFrom, LastStores, kept_entry, entry_in};
+ghost use Rattle.snap_record.specs.History.{all_records, history_of, AllCompleted};
+ghost use Rattle.snap_record.specs.Regular.{AllIn, Settled, ScansSettled, WereInterfered, Fresh, NoneFrom, LastStores, kept_entry, entry_in};
 ghost use Rattle.snap_record.specs.Refusals.{IsNotOpened};
 
 use crate::board::{Board, Closed, Desk, Gathered};
@@ -136,15 +138,17 @@ impl Board {
     }
 
     /// Ends the board where all its desks are in. The begins and ends of all records, in the order of their stamps, are
-    /// then a regular history with no call pending. Where a desk is out both come back unchanged.
+    /// then a regular history with no call pending, and those of the stores and scans alone are atomic. Where a desk is out both come back unchanged.
     pub fn close(self, gathered: Gathered) -> Result<Closed, (Board, Gathered)>
         requires { IsGatheredOf self gathered }
         ensures exact { IsOk result ↔ AllIn self.desks gathered.slots }
         ensures settled { IsOk result → Settled self.desks (accounts gathered) }
-        ensures stamps { IsOk result → HasEachStamp (all_records (accounts gathered)) }
+        ensures scans { IsOk result → ScansSettled (accounts gathered) }
         ensures history { IsOk result → IsHistory (history_of (all_records (accounts gathered))) }
         ensures completed { IsOk result → AllCompleted (calls_of (history_of (all_records (accounts gathered)))) }
         ensures regular { IsOk result → IsRegular (calls_of (history_of (all_records (accounts gathered)))) }
+        ensures interfered { IsOk result → WereInterfered (accounts gathered) }
+        ensures atomic { IsOk result → IsAtomic (calls_of (scan_history (accounts gathered))) }
         ensures desks { IfOk result (λ c. c.desks ≡ self.desks) }
         ensures last { IfOk result (λ c. LastStores c (accounts gathered)) }
         ensures back { IfErr result (λ r. (r.0 ≡ self) × (r.1 ≡ gathered)) }

@@ -1,12 +1,14 @@
-ghost use Rattle.std.specs.Prelude.{◌≡◌, ◌*◌, ◌≤◌, [], IfOk, length};
+ghost use Rattle.std.specs.Prelude.{◌≡◌, ◌*◌, ◌≤◌, [], IfOk, length, true};
 ghost use Rattle.snap_core.specs.Events.{event_limit};
 ghost use Rattle.snap_core.specs.Calls.{calls_of};
 ghost use Rattle.snap_core.specs.Regular.{IsRegular};
-ghost use Rattle.snap_record.specs.Delivery.{of_worker, AreBelow};
-ghost use Rattle.snap_record.specs.Desks.{records, ticks, accounts, IsDeskOf, IsGatheredOf};
+ghost use Rattle.snap_record.specs.Delivery.{of_worker};
+ghost use Rattle.snap_record.specs.Desks.{records, ticks, lost, collects, accounts, IsDeskOf, IsGatheredOf};
 ghost use Rattle.snap_record.specs.History.{AllCompleted};
-ghost use Rattle.snap_record.specs.Plans.{HasScripts};
-ghost use Rattle.snap_record.specs.Recording.{AreSettled, DidScripts, IsTold};
+ghost use Rattle.snap_record.specs.Plans.{HasScripts, draws_within};
+ghost use Rattle.snap_record.specs.Rule.{tick_limit};
+ghost use Rattle.snap_core.specs.Orders.{IsAtomic};
+ghost use Rattle.snap_record.specs.Recording.{AreSettled, DidScripts, HasNoViews};
 ghost use Rattle.snap_record.specs.Relays.{IsSenderOf, IsTakerOf};
 ghost use Rattle.snap_record.specs.Workers.{IsWorkerOf, IsUnused, HasRun, IsTakenOf};
 
@@ -22,11 +24,10 @@ use std::alloc::{AllocError, Global};
 use std::sync::Wait;
 use std::thread::{Threads, join};
 
-/// A history that was recorded, and how many scans were left out of it.
+/// A history that was recorded, and how many scans without a record were left out of it.
 #[derive(Drop)]
 pub struct Recording {
     pub history: History,
-    /// 0: no plan has scans.
     pub interfered: u32,
 }
 
@@ -40,8 +41,8 @@ pub enum RecordRefusal {
 // A board with two desks, both of which are out.
 fn open_two(alloc: Global) -> Result<(Board, Gathered, Desk, Desk), AllocError>
     ensures board { IfOk result (λ r. (r.0.desks ≡ 2) × IsGatheredOf r.0 r.1 × (accounts r.1 ≡ [])) }
-    ensures zero { IfOk result (λ r. IsDeskOf r.0 r.2 × (r.2.desk ≡ 0) × (records r.2 ≡ []) × (ticks r.2 ≡ 0)) }
-    ensures one { IfOk result (λ r. IsDeskOf r.0 r.3 × (r.3.desk ≡ 1) × (records r.3 ≡ []) × (ticks r.3 ≡ 0)) }
+    ensures zero { IfOk result (λ r. IsDeskOf r.0 r.2 × (r.2.desk ≡ 0) × (records r.2 ≡ []) × (ticks r.2 ≡ 0) × (lost r.2 ≡ []) × (collects r.2 ≡ 0)) }
+    ensures one { IfOk result (λ r. IsDeskOf r.0 r.3 × (r.3.desk ≡ 1) × (records r.3 ≡ []) × (ticks r.3 ≡ 0) × (lost r.3 ≡ []) × (collects r.3 ≡ 0)) }
 {
     let Ok((board, mut gathered)) = Board::open(alloc, 2) else {
         return Err(AllocError);
@@ -60,7 +61,7 @@ fn close_two(board: Board, gathered: Gathered, zero: Desk, one: Desk)
     requires board { (board.desks ≡ 2) × IsGatheredOf board gathered × (accounts gathered ≡ []) }
     requires zero { IsDeskOf board zero × (zero.desk ≡ 0) }
     requires one { IsDeskOf board one × (one.desk ≡ 1) }
-    ensures { AreSettled (records zero) (records one) }
+    ensures { AreSettled (records zero) (records one) (lost zero) (lost one) (collects zero) (collects one) }
 {
     let gathered = board.give_back(gathered, zero);
     let gathered = board.give_back(gathered, one);
@@ -102,6 +103,7 @@ fn run_first<R: Wait, G: Gate>(
     requires worker { IsWorkerOf recorder.now worker × IsUnused worker }
     requires taker { IsTakerOf recorder.now.relay taker × (taker.taken ≡ []) }
     requires short { 2 * (length script.now) ≤ event_limit }
+    requires room { draws_within tick_limit script.now ≡ true }
     ensures ran { HasRun recorder.now worker.desk.desk script.now result.0 }
     ensures taken { IfOk result.1 (IsTakenOf recorder.now.relay) }
 {
@@ -124,6 +126,7 @@ fn run_both<R: Threads + Wait + Sync, G: Gate>(
     requires one { IsWorkerOf recorder.now workers.1 × IsUnused workers.1 }
     requires taker { IsTakerOf recorder.now.relay taker × (taker.taken ≡ []) }
     requires short { (2 * (length scripts.0.now) ≤ event_limit) × (2 * (length scripts.1.now) ≤ event_limit) }
+    requires room { (draws_within tick_limit scripts.0.now ≡ true) × (draws_within tick_limit scripts.1.now ≡ true) }
     ensures zero { HasRun recorder.now workers.0.desk.desk scripts.entry.0.now result.0 }
     ensures one { HasRun recorder.now workers.1.desk.desk scripts.entry.1.now result.1 }
     ensures taken { IfOk result.2 (IsTakenOf recorder.now.relay) }
@@ -133,11 +136,11 @@ fn run_both<R: Threads + Wait + Sync, G: Gate>(
     let (there, (here, taken)) = join(
         rt,
         move || -> Ran
-            requires { IsWorkerOf recorder.now one × IsUnused one × (2 * (length second.now) ≤ event_limit) }
+            requires { IsWorkerOf recorder.now one × IsUnused one × (2 * (length second.now) ≤ event_limit) × (draws_within tick_limit second.now ≡ true) }
             ensures { HasRun recorder.entry.now one.desk.desk second.entry.now result }
         { run_script(rt, alloc, recorder, one, second, gate) },
         move || -> (Ran, Result<Taken, AllocError>)
-            requires worker { IsWorkerOf recorder.now zero × IsUnused zero × (2 * (length first.now) ≤ event_limit) }
+            requires worker { IsWorkerOf recorder.now zero × IsUnused zero × (2 * (length first.now) ≤ event_limit) × (draws_within tick_limit first.now ≡ true) }
             requires taker { IsTakerOf recorder.now.relay taker × (taker.taken ≡ []) }
             ensures ran { HasRun recorder.entry.now zero.desk.desk first.entry.now result.0 }
             ensures taken { IfOk result.1 (IsTakenOf recorder.entry.now.relay) }
@@ -146,17 +149,15 @@ fn run_both<R: Threads + Wait + Sync, G: Gate>(
     (here, there, taken)
 }
 
-// Runs a plan on a new board, and gives the records of all its calls.
+// Runs a plan on a new board, and gives the records of all its calls, and how many scans have none.
 fn run_plan<R: Threads + Wait + Sync, G: Gate>(
     rt: &R,
     alloc: Global,
     plan: &Plan,
     gate: &G,
-) -> Result<Vec<Record>, AllocError>
-    ensures settled { IfOk result (λ all. AreSettled (of_worker 0 all.items) (of_worker 1 all.items)) }
-    ensures no_other { IfOk result (λ all. AreBelow 2 all.items) }
-    ensures scripts { IfOk result (λ all. DidScripts plan.now all.items) }
-    ensures short { IfOk result (λ all. 2 * length all.items ≤ event_limit) }
+) -> Result<(Vec<Record>, u32), AllocError>
+    ensures did { IfOk result (λ r. DidScripts plan.now r.0.items r.1) }
+    ensures short { IfOk result (λ r. 2 * length r.0.items ≤ event_limit) }
 {
     let (board, gathered, zero, one) = open_two(alloc)?;
     let (relay, first, second, taker) = start_two(rt, alloc)?;
@@ -174,22 +175,32 @@ fn run_plan<R: Threads + Wait + Sync, G: Gate>(
     let Recorder { board, relay } = recorder;
     let (zero, one) = (here.worker, there.worker);
     close_two(board, gathered, zero.desk, one.desk);
-    here.outcome?;
-    there.outcome?;
-    take_all(rt, alloc, relay, (zero.sender, one.sender), taken?)
+    let first = here.outcome?;
+    let second = there.outcome?;
+    let all = take_all(rt, alloc, relay, (zero.sender, one.sender), taken?)?;
+    Ok((all, first + second))
 }
 
 // The history of the records of both desks of a closed board.
-fn tell(alloc: Global, all: Vec<Record>) -> Result<History, AllocError>
-    requires settled { AreSettled (of_worker 0 all.items) (of_worker 1 all.items) }
-    requires no_other { AreBelow 2 all.items }
+fn tell(
+    alloc: Global,
+    plan: &Plan,
+    all: Vec<Record>,
+    interfered: u32,
+) -> Result<Recording, AllocError>
+    requires did { DidScripts plan.now all.items interfered }
     requires short { 2 * length all.items ≤ event_limit }
-    ensures regular { IfOk result (λ history. IsRegular (calls_of history)) }
-    ensures completed { IfOk result (λ history. AllCompleted (calls_of history)) }
-    ensures told { IfOk result (IsTold all.items) }
+    ensures regular { IfOk result (λ r. IsRegular (calls_of r.history)) }
+    ensures completed { IfOk result (λ r. AllCompleted (calls_of r.history)) }
+    ensures atomic { IfOk result (λ r. HasNoViews plan.now → IsAtomic (calls_of r.history)) }
+    ensures scripts { IfOk result (λ r. HasScripts plan.now r.history r.interfered) }
 {
     let events = in_order(alloc, all)?;
-    history_of(alloc, events)
+    let history = history_of(alloc, events)?;
+    Ok(Recording {
+        history,
+        interfered,
+    })
 }
 
 /// Records what two workers do on a board of two desks, each the script of its number. Worker 0 runs on the calling
@@ -198,8 +209,9 @@ fn tell(alloc: Global, all: Vec<Record>) -> Result<History, AllocError>
 /// the answer is then `Memory`. The records come to the calling thread through a relay, so the call may wait for the
 /// relay's queue, as it waits for the workers.
 ///
-/// The history is regular and has no pending call. Worker w is process w in it, with the calls of its script in their
-/// order, each once, and there is no other call.
+/// The history is regular and has no pending call, and it is atomic where no script has a collect. Worker w is process w
+/// in it, with the calls of its script in their order, each once, and there is no other call; but scans that were
+/// interfered with are left out, as many in all as `interfered` says.
 pub fn record_plan<R: Threads + Wait + Sync, G: Gate>(
     rt: &R,
     alloc: Global,
@@ -208,17 +220,14 @@ pub fn record_plan<R: Threads + Wait + Sync, G: Gate>(
 ) -> Result<Recording, RecordRefusal>
     ensures regular { IfOk result (λ r. IsRegular (calls_of r.history)) }
     ensures completed { IfOk result (λ r. AllCompleted (calls_of r.history)) }
-    ensures scripts { IfOk result (λ r. HasScripts plan.now r.history) }
-    ensures interfered { IfOk result (λ r. r.interfered ≡ 0) }
+    ensures atomic { IfOk result (λ r. HasNoViews plan.now → IsAtomic (calls_of r.history)) }
+    ensures scripts { IfOk result (λ r. HasScripts plan.now r.history r.interfered) }
 {
-    let Ok(all) = run_plan(rt, alloc, plan, gate) else {
+    let Ok((all, interfered)) = run_plan(rt, alloc, plan, gate) else {
         return Err(RecordRefusal::Memory);
     };
-    match tell(alloc, all) {
-        Ok(history) => Ok(Recording {
-            history,
-            interfered: 0,
-        }),
+    match tell(alloc, plan, all, interfered) {
+        Ok(recording) => Ok(recording),
         Err(_) => Err(RecordRefusal::Memory),
     }
 }

@@ -22,3 +22,14 @@ pub enum CollectRefusal {
     /// Memory ran out.
     Memory,
 }
+
+/// Why a scan has no record, in the order in which the reasons are tested.
+#[derive(Clone, Copy, PartialEq, Eq, Debug)]
+pub enum ScanRefusal {
+    /// The desk has drawn so many ticks that the call could bring it past its limit.
+    Spent,
+    /// Memory ran out.
+    Memory,
+    /// No two collects, one after the other, were equal within the tries.
+    Interfered,
+}

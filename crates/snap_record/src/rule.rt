@@ -28,7 +28,7 @@ impl Play<(), Hand> for BeginStore {
     ghost then = { BeginsStore };
 }
 
-/// The begin tick of a view.
+/// The begin tick of a collect or a scan.
 pub struct BeginView;
 
 impl Play<(), Hand> for BeginView {
@@ -46,7 +46,7 @@ impl Play<(), Hand> for WriteWord {
     ghost then = { Writes };
 }
 
-/// The load of a component's word.
+/// The load of a component's word, by a collect or a scan.
 pub struct ReadWord;
 
 impl Play<(), Hand> for ReadWord {
@@ -55,13 +55,31 @@ impl Play<(), Hand> for ReadWord {
     ghost then = { Reads };
 }
 
-/// The end tick of a store or a view.
+/// The end tick of a call that has a record.
 pub struct EndCall;
 
 impl Play<(), Hand> for EndCall {
     ghost use Rattle.snap_record.specs.Plays.{Ends};
 
     ghost then = { Ends };
+}
+
+/// The middle tick of a scan, between two of its collects.
+pub struct MiddleTick;
+
+impl Play<(), Hand> for MiddleTick {
+    ghost use Rattle.snap_record.specs.Plays.{Middles};
+
+    ghost then = { Middles };
+}
+
+/// The closing tick of a scan that has no record.
+pub struct GiveUp;
+
+impl Play<(), Hand> for GiveUp {
+    ghost use Rattle.snap_record.specs.Plays.{GivesUp};
+
+    ghost then = { GivesUp };
 }
 
 /// The first account goes out to a seat of its own.

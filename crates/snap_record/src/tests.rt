@@ -6,6 +6,7 @@ use std::sync::atomic::{AtomicU64, Ordering};
 use std::test::Fail;
 
 mod relay;
+mod scans;
 
 /// A gate that counts its calls, each weighed by its worker and its turn.
 #[derive(Drop)]
@@ -143,10 +144,15 @@ fn plans_have_two_lists_within_the_limit(rt: HostRuntime) -> Result<(), Fail> {
 #[test]
 fn rounds_are_limited(rt: HostRuntime) -> Result<(), Fail> {
     let alloc = rt.alloc();
-    assert!(rt; rounds_plan(alloc, 2, 2048).is_ok());
-    assert!(rt; matches!(&rounds_plan(alloc, 2, 0), Err(PlanRefusal::TooLong)));
-    assert!(rt; matches!(&rounds_plan(alloc, 2, 2049), Err(PlanRefusal::TooLong)));
-    assert!(rt; matches!(&rounds_plan(alloc, 3, 0), Err(PlanRefusal::Workers)));
+    assert!(rt; rounds_plan(alloc, 2, 2048, false).is_ok());
+    assert!(rt; matches!(&rounds_plan(alloc, 2, 0, false), Err(PlanRefusal::TooLong)));
+    assert!(rt;
+        matches!(
+            &rounds_plan(alloc, 2, 2049, false),
+            Err(PlanRefusal::TooLong)
+        )
+    );
+    assert!(rt; matches!(&rounds_plan(alloc, 3, 0, false), Err(PlanRefusal::Workers)));
     Ok(())
 }
 

@@ -1,13 +1,16 @@
-ghost use Rattle.std.specs.Prelude.{◌≡◌, ◌+◌, ◌*◌, ◌≤◌, ◌++◌, ◌∷◌, [], IfOk, OnOk, length};
+ghost use Rattle.std.specs.Prelude.{◌≡◌, ◌+◌, ◌*◌, ◌≤◌, ◌++◌, ◌∷◌, [], IfOk, IfSome, IfNone, OnOk, MatchOption, length, true};
 ghost use Rattle.snap_core.specs.Events.{event_limit};
-ghost use Rattle.snap_record.specs.Desks.{records, ticks, IsDeskOf};
-ghost use Rattle.snap_record.specs.Scripts.{DidScript, IsStepOf};
+ghost use Rattle.snap_record.specs.Desks.{records, ticks, lost, collects, IsDeskOf};
+ghost use Rattle.snap_record.specs.Scripts.{DidSome, IsStepOf};
+ghost use Rattle.snap_record.specs.Choices.{tries_of, IsScan, one_view, views_in};
+ghost use Rattle.snap_record.specs.Plans.{has_tries, step_ticks, draws_within};
+ghost use Rattle.snap_record.specs.Rule.{tick_limit};
 ghost use Rattle.snap_record.specs.Workers.{IsWorkerOf, IsUnused, HasRun};
 
 use crate::board::{Board, Desk};
 use crate::plan::Step;
 use crate::record::Record;
-use crate::refusals::CollectRefusal;
+use crate::refusals::{CollectRefusal, ScanRefusal};
 use crate::relay::{Relay, Sender};
 use snap_core::Gate;
 use std::alloc::{AllocError, Global};
@@ -27,37 +30,52 @@ pub(crate) struct Worker {
     pub(crate) sender: Sender,
 }
 
-/// A worker after its script, and whether memory was refused in it.
+/// A worker after its script, and how many of its scans have no record, or that memory was refused in it.
 #[derive(Drop)]
 pub(crate) struct Ran {
     pub(crate) worker: Worker,
-    pub(crate) outcome: Result<(), AllocError>,
+    pub(crate) outcome: Result<u32, AllocError>,
 }
 
-// Makes the call of one step.
-fn run_step(alloc: Global, board: &Board, desk: &mut Desk, step: Step) -> Result<Record, AllocError>
+// Makes the call of one step. A scan may have no record.
+fn run_step(
+    alloc: Global,
+    board: &Board,
+    desk: &mut Desk,
+    step: Step,
+) -> Result<Option<Record>, AllocError>
     requires desk { IsDeskOf board.now desk.old }
-    requires room { ticks desk.old + 2 ≤ event_limit }
+    requires tries { has_tries step ≡ true }
+    requires room { ticks desk.old + step_ticks step ≤ tick_limit }
     ensures desk { IsDeskOf board.now desk.new × (desk.new.desk ≡ desk.old.desk) }
-    ensures ticks { OnOk result (ticks desk.new ≡ ticks desk.old + 2) }
-    ensures recorded { IfOk result (λ r. records desk.new ≡ records desk.old ++ r ∷ []) }
-    ensures step { IfOk result (IsStepOf desk.old.desk step) }
+    ensures ticks { OnOk result (ticks desk.new ≤ ticks desk.old + step_ticks step) }
+    ensures recorded { IfOk result (λ o. MatchOption o (records desk.new ≡ records desk.old) (λ r. records desk.new ≡ records desk.old ++ r ∷ [])) }
+    ensures lost { IfOk result (λ o. MatchOption o (lost desk.new ≡ lost desk.old ++ tries_of step) (λ r. lost desk.new ≡ lost desk.old)) }
+    ensures scan { IfOk result (λ o. IfNone o (IsScan step)) }
+    ensures step { IfOk result (λ o. IfSome o (IsStepOf desk.old.desk step)) }
+    ensures views { OnOk result (collects desk.new ≡ collects desk.old + one_view step) }
 {
     match step {
         Step::Store(value) => match board.store(desk, value) {
-            Ok(record) => Ok(record),
+            Ok(record) => Ok(Some(record)),
             Err(_) => unreachable!(),
         },
         Step::View => match board.collect(alloc, desk) {
-            Ok(record) => Ok(record),
+            Ok(record) => Ok(Some(record)),
             Err(CollectRefusal::Memory) => Err(AllocError),
             Err(CollectRefusal::Spent) => unreachable!(),
+        },
+        Step::Scan(tries) => match board.scan(alloc, desk, tries) {
+            Ok(record) => Ok(Some(record)),
+            Err(ScanRefusal::Interfered) => Ok(None),
+            Err(ScanRefusal::Memory) => Err(AllocError),
+            Err(ScanRefusal::Spent) => unreachable!(),
         },
     }
 }
 
 // Makes the calls of a script one after the other, and sends the record of each when it has answered, until memory is
-// refused. The gate is called before each step and at the end.
+// refused. Answers how many scans have no record. The gate is called before each step and at the end.
 fn run_steps<R: Wait, G: Gate>(
     rt: &R,
     alloc: Global,
@@ -65,23 +83,31 @@ fn run_steps<R: Wait, G: Gate>(
     worker: &mut Worker,
     script: &[Step],
     gate: &G,
-) -> Result<(), AllocError>
+) -> Result<u32, AllocError>
     requires worker { IsWorkerOf recorder.now worker.old × IsUnused worker.old }
     requires short { 2 * (length script.now) ≤ event_limit }
+    requires room { draws_within tick_limit script.now ≡ true }
     ensures worker { IsWorkerOf recorder.now worker.new × (worker.new.desk.desk ≡ worker.old.desk.desk) }
     ensures sent { OnOk result (records worker.new.desk ≡ worker.new.sender.sent) }
-    ensures script { OnOk result (DidScript worker.old.desk.desk script.now worker.new.sender.sent) }
+    ensures script { OnOk result (DidSome worker.old.desk.desk script.now worker.new.sender.sent (lost worker.new.desk)) }
+    ensures count { IfOk result (λ count. count ≡ length (lost worker.new.desk)) }
+    ensures views { OnOk result (collects worker.new.desk ≡ views_in script.now) }
 {
     let number = u32::from(worker.desk.process());
+    let mut interfered = 0u32;
     'steps: for (turn, step) in script.iter().enumerate() {
         gate.at(number, turn as u32);
         let made = run_step(alloc, &recorder.board, &mut worker.desk, *step)?;
+        let Some(made) = made else {
+            interfered += 1;
+            continue;
+        };
         let Ok(()) = recorder.relay.send(rt, alloc, &mut worker.sender, made) else {
             return Err(AllocError);
         };
     }
     gate.at(number, script.len() as u32);
-    Ok(())
+    Ok(interfered)
 }
 
 /// Runs a worker's script on its desk, and sends the records of its calls.
@@ -95,6 +121,7 @@ pub(crate) fn run_script<R: Wait, G: Gate>(
 ) -> Ran
     requires worker { IsWorkerOf recorder.now worker × IsUnused worker }
     requires short { 2 * (length script.now) ≤ event_limit }
+    requires room { draws_within tick_limit script.now ≡ true }
     ensures { HasRun recorder.now worker.desk.desk script.now result }
 {
     let outcome = run_steps(rt, alloc, recorder, &mut worker, script, gate);

@@ -17,13 +17,14 @@ use Rattle.snap_verdict.specs.declared.status.Status.{Status}
 use Rattle.snap_verdict.specs.declared.status.Status.TheVariants.{Atomic, Recorded, Regular}
 use Rattle.snap_verdict.specs.Reports.{IsReport}
 
--- a history that a board's run of these scripts has: regular, without a pending call, and with the calls of each worker's script, as
--- the process of its number, in their order, each once, and no other
+-- a history that a board's run of these scripts has: regular, without a pending call, and with the calls of each worker's script but for
+-- scans that were interfered with, as the process of its number, in their order, each once, and no other
 pub record IsRecordingOf (scripts : List (List Step)) (events : List Event) : Type 0 where
   pub kept : IsKept events
   pub regular : IsRegular (calls_of events)
   pub completed : AllCompleted (calls_of events)
-  pub calls : HasScripts scripts events
+  pub interfered : ℕ
+  pub calls : HasScripts scripts events interfered
 
 -- the text of such a history
 pub record IsRecordingText (scripts : List (List Step)) (status : Status) (out : List ℕ) : Type 0 where

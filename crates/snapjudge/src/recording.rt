@@ -1,4 +1,4 @@
-ghost use Rattle.std.specs.Prelude.{◌≡◌, ◌<◌, ◌≤◌, IfOk};
+ghost use Rattle.std.specs.Prelude.{◌≡◌, ◌<◌, ◌≤◌, IfOk, false};
 ghost use Rattle.snap_core.specs.Counting.{failures_in, inner_of};
 ghost use Rattle.snap_csv.specs.Spelling.{history_text};
 ghost use Rattle.snap_record.specs.Plans.{rounds_scripts};
@@ -111,13 +111,13 @@ pub fn record_rounds<Rt: Threads + Wait + Sync, W: Write>(
     writer: &mut Counted<W>,
 ) -> Result<Status, RunFault>
     requires { (workers ≡ 2) × (0 < rounds) × (rounds ≤ 2048) }
-    ensures wrote { WroteAs (IsRecorded judge (rounds_scripts rounds)) (W.contents (inner_of writer.old)) (W.contents (inner_of writer.new)) result }
+    ensures wrote { WroteAs (IsRecorded judge (rounds_scripts false rounds)) (W.contents (inner_of writer.old)) (W.contents (inner_of writer.new)) result }
     ensures counts { WriteCounts (failures_in writer.old) (failures_in writer.new) result }
 {
     let Ok(cutting) = Cutting::new(8, 2) else {
         unreachable!()
     };
-    match rounds_plan(alloc, workers, rounds) {
+    match rounds_plan(alloc, workers, rounds, false) {
         Ok(plan) => record_run(rt, alloc, &plan, judge, writer, cutting, &OpenGate),
         Err(PlanRefusal::Memory) => Err(RunFault::Memory),
         Err(_) => unreachable!(),

@@ -12,7 +12,7 @@ use std::thread::Threads;
 
 // Two workers, each of which stores one value and then takes a view.
 fn one_round(alloc: Global) -> Result<Plan, Fail> {
-    Ok(rounds_plan(alloc, 2, 1)?)
+    Ok(rounds_plan(alloc, 2, 1, false)?)
 }
 
 // How the recording of a plan ends, and what it writes.

@@ -1,6 +1,9 @@
-use Rattle.std.proofs.Common.{◌≡◌, ◌*◌, take}
-use Rattle.snap_record.specs.Desks.{records, ticks}
-use Rattle.snap_record.specs.Scripts.{DidScript}
+use Rattle.std.proofs.Common.{◌≡◌, ◌-◌, ◌≤◌, true, take, drop, length}
+use Rattle.snap_record.specs.Choices.{views_in}
+use Rattle.snap_record.specs.Desks.{records, ticks, lost, collects}
+use Rattle.snap_record.specs.Plans.{draws_within}
+use Rattle.snap_record.specs.Rule.{tick_limit}
+use Rattle.snap_record.specs.Scripts.{DidSome}
 use Rattle.snap_record.specs.Workers.{IsWorkerOf}
 use Rattle.snap_record.proofs.worker.run_steps.Given as goal
 
@@ -8,7 +11,11 @@ abbrev pub invariant-steps : goal.invariant-steps
 invariant-steps g l = record {
   of_recorder : IsWorkerOf l.recorder l.worker;
   same : l.worker.desk.desk ≡ l.initial.worker.desk.desk;
-  ticks : ticks l.worker.desk ≡ 2 * l.turn;
+  few : ticks l.worker.desk ≤ tick_limit;
+  room : draws_within (tick_limit - ticks l.worker.desk) (drop l.turn l.script) ≡ true;
   sent : records l.worker.desk ≡ l.worker.sender.sent;
-  script : DidScript l.initial.worker.desk.desk (take l.turn l.script) l.worker.sender.sent;
+  script : DidSome l.initial.worker.desk.desk (take l.turn l.script) l.worker.sender.sent (lost l.worker.desk);
+  count : l.interfered ≡ length (lost l.worker.desk);
+  most : l.interfered ≤ l.turn;
+  views : collects l.worker.desk ≡ views_in (take l.turn l.script);
 }

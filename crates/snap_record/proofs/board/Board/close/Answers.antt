@@ -2,8 +2,10 @@ use Rattle.std.proofs.Common.{ℕ, refl, ap, ◌∙◌, subst}
 use Rattle.snap_record.specs.Slots.{ins}
 use Rattle.snap_record.specs.Rule.{Boarded}
 use Rattle.snap_record.specs.Regular.{AllIn}
-use Rattle.snap_record.proofs.Closing.{settles}
-use Rattle.snap_record.proofs.Ordering.{close_history, close_completed, close_regular, each_stamp}
+use Rattle.snap_record.proofs.Closing.{settles, settles_scans}
+use Rattle.snap_record.proofs.Ordering.{close_history, close_completed, close_regular}
+use Rattle.snap_record.proofs.Atomic.{close_atomic}
+use Rattle.snap_record.proofs.Climbing.{were_interfered}
 use Rattle.snap_record.proofs.Slotting.{last_stores}
 use Rattle.snap_record.proofs.board.Board.close.Goals as goal
 
@@ -24,8 +26,17 @@ returns-clause-completed c e = close_completed c.args.self.desks c.args.gathered
 pub returns-clause-regular : goal.returns-clause-regular
 returns-clause-regular c e = close_regular c.args.self.desks c.args.gathered.seat.me.0 (returns-clause-settled c e)
 
-pub returns-clause-stamps : goal.returns-clause-stamps
-returns-clause-stamps c e = each_stamp c.args.self.desks c.args.gathered.seat.me.0 (returns-clause-settled c e)
+pub returns-clause-scans : goal.returns-clause-scans
+returns-clause-scans c _ =
+    let old = c.args.gathered in let self = c.args.self in
+    let v = c.close_with.ensures.values.2 in
+    settles_scans self.desks old.seat.id old.seat.me.0 v.0 (subst (λ (z : ℕ). Boarded z v.0) self.keyed v.1.0) v.1.1
+
+pub returns-clause-interfered : goal.returns-clause-interfered
+returns-clause-interfered c e = were_interfered c.args.self.desks c.args.gathered.seat.me.0 (returns-clause-settled c e) (returns-clause-scans c e)
+
+pub returns-clause-atomic : goal.returns-clause-atomic
+returns-clause-atomic c e = close_atomic c.args.self.desks c.args.gathered.seat.me.0 (returns-clause-settled c e) (returns-clause-scans c e)
 
 pub returns-clause-last : goal.returns-clause-last
 returns-clause-last c =

@@ -11,7 +11,9 @@ use Rattle.snap_record.specs.declared.account.Answer.TheVariants.{Stored}
 use Rattle.snap_record.proofs.Accounts.{rec, latest-push}
 use Rattle.snap_record.proofs.Moves.{begins_store_as, writes_at, ends_store_as}
 use Rattle.snap_record.proofs.Calling.{alone_of, begun_after, written_after, StoreDone, store_done}
-use Rattle.snap_record.proofs.Listing.{later, last_number}
+use Rattle.snap_record.proofs.Listing.{later, last_number, records-push, lost-push, collects-push}
+use Rattle.snap_record.specs.Desks.{records, records_at, lost_in, collects_in}
+use Rattle.std.proofs.Common.{append-nil}
 use Rattle.snap_record.proofs.board.Board.store.Goals as goal
 
 abbrev Seated : Type 0
@@ -104,3 +106,38 @@ returns-clause-entry c =
     let desk = c.args.desk.now in
     let number = last_number desk.desk None (0, 0) (records_of desk.seat.me.0) refl ∙ ap (λ (p : ℕ × ℕ). p.0) desk.stored in
     ap (λ n. Kind.Stored (record { component = desk.desk; number = n + 1; value = c.args.value })) (sym number)
+
+-- the records afterwards
+answered : (desk : Desk) (t1 t3 : ℕ) (me1 me2 me3 : Seated) (value word : ℕ) → word ≡ code (desk.kept.stores + 1, value) → value < 4294967296
+    → (me1 ≡ (first_step (begun_store t1) desk.seat.me.0, desk.seat.me.1)) × Above t1 desk.seat.me → me2 ≡ (first_step (wrote (entry_of word)) me1.0, me1.1) → (me3 ≡ (first_step (ended t3) me2.0, me2.1)) × Above t3 me2 × ReadAll me2
+    → records_of me3.0 ≡ records_of desk.seat.me.0 ++ rec t1 t3 (Stored (desk.kept.stores + 1) value) ∷ []
+answered desk t1 t3 me1 me2 me3 value word words fits first second third = ap (λ (m : Seated). records_of m.0) (done desk t1 t3 me1 me2 me3 value word words fits first second third).me
+
+pub returns-clause-recorded : goal.returns-clause-recorded
+returns-clause-recorded c =
+    let desk = c.args.desk.now in
+    let value = c.args.value in
+    let t1 = c.fetch_add-begun.result in let t3 = c.fetch_add-ended.result in
+    let rs = records_of desk.seat.me.0 in
+    let words : c.from.result * 4294967296 + c.from-2.result ≡ code (desk.kept.stores + 1, value) = omega (arith, c.from.ensures, c.from-2.ensures) in
+    let is = answered desk t1 t3 _ _ _ value _ words c.ranges.value.fits c.fetch_add-begun.ensures.2 c.store.ensures.2 c.fetch_add-ended.ensures.2 in
+    ap (records_at desk.desk) is ∙ records-push desk.desk rs (rec t1 t3 (Stored (desk.kept.stores + 1) value))
+    ∙ ap (λ p. records desk ++ record { process = p; begun = t1; ended = t3; op = Kind.Stored (record { component = desk.desk; number = desk.kept.stores + 1; value = value }) } ∷ []) (sym c.from-4.ensures)
+
+pub returns-clause-collects : goal.returns-clause-collects
+returns-clause-collects c =
+    let desk = c.args.desk.now in
+    let value = c.args.value in
+    let t1 = c.fetch_add-begun.result in let t3 = c.fetch_add-ended.result in
+    let words : c.from.result * 4294967296 + c.from-2.result ≡ code (desk.kept.stores + 1, value) = omega (arith, c.from.ensures, c.from-2.ensures) in
+    let is = answered desk t1 t3 _ _ _ value _ words c.ranges.value.fits c.fetch_add-begun.ensures.2 c.store.ensures.2 c.fetch_add-ended.ensures.2 in
+    let n = collects-push (records_of desk.seat.me.0) (rec t1 t3 (Stored (desk.kept.stores + 1) value)) in let e = ap collects_in is in omega arith
+
+pub returns-clause-lost : goal.returns-clause-lost
+returns-clause-lost c =
+    let desk = c.args.desk.now in
+    let value = c.args.value in
+    let t1 = c.fetch_add-begun.result in let t3 = c.fetch_add-ended.result in
+    let words : c.from.result * 4294967296 + c.from-2.result ≡ code (desk.kept.stores + 1, value) = omega (arith, c.from.ensures, c.from-2.ensures) in
+    let is = answered desk t1 t3 _ _ _ value _ words c.ranges.value.fits c.fetch_add-begun.ensures.2 c.store.ensures.2 c.fetch_add-ended.ensures.2 in
+    ap lost_in is ∙ lost-push (records_of desk.seat.me.0) (rec t1 t3 (Stored (desk.kept.stores + 1) value)) ∙ append-nil (lost_in (records_of desk.seat.me.0))
