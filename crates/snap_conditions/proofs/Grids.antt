@@ -14,7 +14,7 @@ use Rattle.snap_grid.proofs.Passing.{any_at}
 use Rattle.snap_conditions.specs.Faults.{exceeds, read_fault}
 use Rattle.snap_conditions.specs.Rows.{number_among, row_number}
 use Rattle.snap_conditions.specs.Seen.{view_in}
-use Rattle.snap_conditions.specs.Grids.{AreRowsOf, IsColumnOf, AreColumnsOf, ShowAll, ArePlaced, ArePlacesOf, IsGridOf, end_or_never}
+use Rattle.snap_conditions.specs.Grids.{IsShownBy, AreShownBy, IsColumnOf, AreColumnsOf, ShowAll, ArePlaced, ArePlacesOf, IsGridOf, end_or_never}
 use Rattle.snap_core.proofs.Histories.{are_calls}
 use Rattle.snap_index.proofs.BareCalls.{precedes_at}
 use Rattle.snap_conditions.proofs.Viewed.{view_there}
@@ -46,6 +46,17 @@ rows_more calls rows row n size h g place k l m = elim (cases_lt place n) [
       let here : place ≡ n = omega (arith, b, l) in
       let last : get_or (rows ++ row ∷ []) place [] ≡ row = ap (λ z. get_or (rows ++ row ∷ []) z []) (omega (arith, here, size)) ∙ get_or-append_seam rows row [] [] in
       ap (λ z. row_number z k) last ∙ g k m ∙ ap (λ z. shown_number (view_in calls z) k) (sym here)
+]
+
+-- one more view
+pub shown_more : (calls : List Call) (shown : List (List Entry)) (es : List Entry) (n : ℕ) → length shown ≡ n → ((place : ℕ) → place < n → IsShownBy (view_in calls place) (get_or shown place [])) →
+    IsShownBy (view_in calls n) es → (place : ℕ) → place < n + 1 → IsShownBy (view_in calls place) (get_or (shown ++ es ∷ []) place [])
+shown_more calls shown es n size h g place l = elim (cases_lt place n) [
+  | inl b ↦ subst (IsShownBy (view_in calls place)) (sym (get_or_append_left shown (es ∷ []) [] place (omega (arith, b, size)))) (h place b)
+  | inr b ↦
+      let here : place ≡ n = omega (arith, b, l) in
+      let last : get_or (shown ++ es ∷ []) place [] ≡ es = ap (λ z. get_or (shown ++ es ∷ []) z []) (omega (arith, here, size)) ∙ get_or-append_seam shown es [] [] in
+      subst (IsShownBy (view_in calls place)) (sym last) (subst (λ z. IsShownBy (view_in calls z) es) (sym here) g)
 ]
 
 -- what a view that was seen shows

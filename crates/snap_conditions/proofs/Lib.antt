@@ -21,4 +21,5 @@ pub mod Missed
 pub mod EntrySums
 pub mod Grids
 pub mod Counted
+pub mod Limits
 mod Worked

@@ -1,12 +1,24 @@
 -- What views show, in a grid of numbers.
 use Rattle.std.specs.Prelude.{ℕ, ◌<◌, ◌≡◌, Bool, true, false, List, [], length, get_or, nat_lt, Option, unwrap_or}
 use Rattle.snap_core.specs.declared.event.Event.{Event}
-use Rattle.snap_core.specs.Calls.{Call, calls_of, views_of, shown_number, precedes}
+use Rattle.snap_core.specs.declared.entry.Entry.{Entry}
+use Rattle.snap_core.specs.Entries.{AreEntries}
+use Rattle.snap_core.specs.Calls.{Call, calls_of, views_of, entries_of, shown_number, precedes}
 use Rattle.snap_core.specs.Events.{IsKept}
 use Rattle.snap_grid.specs.Columns.{GridValue, number, clashes, any_passes}
 use Rattle.snap_conditions.specs.Faults.{exceeds, read_fault}
 use Rattle.snap_conditions.specs.Rows.{row_number}
 use Rattle.snap_conditions.specs.Seen.{view_in}
+
+-- the entries of a completed view
+pub record IsShownBy (r : Call) (es : List Entry) : Type 0 where
+  pub entries : es ≡ entries_of r.operation
+  pub shape : AreEntries es
+
+-- the entries of all completed views, view by view
+pub record AreShownBy (calls : List Call) (shown : List (List Entry)) : Type 0 where
+  pub count : length shown ≡ length (views_of calls)
+  pub each : (place : ℕ) → place < length (views_of calls) → IsShownBy (view_in calls place) (get_or shown place [])
 
 -- the numbers of all completed views, view by view
 pub record AreRowsOf (calls : List Call) (rows : List (List ℕ)) : Type 0 where

@@ -9,3 +9,4 @@ pub mod Quick
 pub mod Rows
 pub mod Seen
 pub mod Tally
+pub mod Limits

@@ -2,13 +2,14 @@ ghost use Rattle.std.specs.Prelude.{◌≡◌, ◌<◌, ◌∷◌, [], ◌||◌,
 ghost use Rattle.snap_core.specs.Calls.{Call as SpecCall, calls_of, views_of, shown_number};
 ghost use Rattle.snap_core.specs.Events.{IsKept};
 ghost use Rattle.snap_conditions.specs.Faults.{proximity_faults, old_fault, early_fault};
+ghost use Rattle.snap_conditions.specs.Limits.{IsLimit};
 ghost use Rattle.snap_conditions.specs.Parts.{part_of, found_at};
 ghost use Rattle.snap_conditions.specs.Seen.{IsSeen, view_in};
 ghost use Rattle.snap_conditions.specs.Tally.{reported_proximity};
 
 use crate::fault::{ProximityFault, Side};
 use crate::part::Part;
-use crate::row::{COMPONENT_COUNT, numbers_of};
+use crate::row::numbers_of;
 use crate::seen::{SeenView, begin_of_update, begins_behind, end_of_next, is_before, view_at};
 use snap_index::Index;
 
@@ -38,8 +39,9 @@ fn proximity_fault(
     })
 }
 
-// The proximity faults of the view at a place.
-pub(crate) fn proximity_part(index: &Index<'_>, place: u32) -> Part<ProximityFault>
+// The proximity faults of the view at a place, where no component from a limit on has an update.
+pub(crate) fn proximity_part(index: &Index<'_>, place: u32, limit: usize) -> Part<ProximityFault>
+    requires limit { IsLimit (calls_of index.now) limit }
     requires place { place < length (views_of (calls_of index.now)) }
     requires kept { IsKept index.now }
     ensures { result ≡ part_of (reported_proximity (calls_of index.now)) (proximity_faults (calls_of index.now) (view_in (calls_of index.now) place ∷ [])) }
@@ -47,7 +49,7 @@ pub(crate) fn proximity_part(index: &Index<'_>, place: u32) -> Part<ProximityFau
     let view = view_at(index, place);
     let numbers = numbers_of(view.entries);
     let mut part = Part::none();
-    for k in 0..COMPONENT_COUNT {
+    for k in 0..limit {
         // a component without an update has no fault
         if index.update_count(k as u8) > 0 {
             part = part.note(proximity_fault(index, &view, k as u8, numbers[k]));

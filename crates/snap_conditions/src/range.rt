@@ -1,6 +1,7 @@
 ghost use Rattle.std.specs.Prelude.{◌≡◌, ◌<◌, ◌≤◌, ◌-◌, ◌∷◌, [], length, take, drop};
 ghost use Rattle.snap_core.specs.Calls.{calls_of, views_of};
 ghost use Rattle.snap_core.specs.Events.{IsKept};
+ghost use Rattle.snap_conditions.specs.Limits.{IsLimit};
 ghost use Rattle.snap_conditions.specs.Seen.{view_in};
 ghost use Rattle.snap_conditions.specs.Tally.{tally_of, without_read};
 
@@ -8,21 +9,36 @@ use crate::integrity::integrity_part;
 use crate::part::Part;
 use crate::proximity::proximity_part;
 use crate::read::read_part;
+use crate::row::COMPONENT_COUNT;
 use crate::tally::{Tally, merge};
 use crate::write::write_part;
 use snap_index::Index;
 
-// The faults of the view at a place.
-fn view_tally(index: &Index<'_>, place: u32) -> Tally
+// One more than the highest component that has an update, or 0.
+fn component_limit(index: &Index<'_>) -> usize
+    ensures { IsLimit (calls_of index.now) result }
+{
+    let mut limit = 0;
+    for k in 0..COMPONENT_COUNT {
+        if index.update_count(k as u8) > 0 {
+            limit = k + 1;
+        }
+    }
+    limit
+}
+
+// The faults of the view at a place, where no component from a limit on has an update.
+fn view_tally(index: &Index<'_>, place: u32, limit: usize) -> Tally
+    requires limit { IsLimit (calls_of index.now) limit }
     requires place { place < length (views_of (calls_of index.now)) }
     requires kept { IsKept index.now }
     ensures { result ≡ tally_of (calls_of index.now) (view_in (calls_of index.now) place ∷ []) }
 {
     Tally {
         integrity: integrity_part(index, place),
-        proximity: proximity_part(index, place),
+        proximity: proximity_part(index, place, limit),
         read: read_part(index, place),
-        write: write_part(index, place),
+        write: write_part(index, place, limit),
     }
 }
 
@@ -35,24 +51,26 @@ pub fn tally_range(index: &Index<'_>, from: u32, to: u32) -> Tally
 {
     // what is known of the history that the index is of
     let _events = index.event_count();
+    let limit = component_limit(index);
     let mut tally = Tally::none();
     for place in from..to {
-        tally = merge(tally, view_tally(index, place));
+        tally = merge(tally, view_tally(index, place, limit));
     }
     tally
 }
 
-// The faults of the view at a place but for its read faults.
-fn view_without_read(index: &Index<'_>, place: u32) -> Tally
+// The faults of the view at a place but for its read faults, where no component from a limit on has an update.
+fn view_without_read(index: &Index<'_>, place: u32, limit: usize) -> Tally
+    requires limit { IsLimit (calls_of index.now) limit }
     requires place { place < length (views_of (calls_of index.now)) }
     requires kept { IsKept index.now }
     ensures { result ≡ without_read (tally_of (calls_of index.now) (view_in (calls_of index.now) place ∷ [])) }
 {
     Tally {
         integrity: integrity_part(index, place),
-        proximity: proximity_part(index, place),
+        proximity: proximity_part(index, place, limit),
         read: Part::none(),
-        write: write_part(index, place),
+        write: write_part(index, place, limit),
     }
 }
 
@@ -65,9 +83,10 @@ pub fn tally_without_read(index: &Index<'_>, from: u32, to: u32) -> Tally
 {
     // what is known of the history that the index is of
     let _events = index.event_count();
+    let limit = component_limit(index);
     let mut tally = Tally::none();
     for place in from..to {
-        tally = merge(tally, view_without_read(index, place));
+        tally = merge(tally, view_without_read(index, place, limit));
     }
     tally
 }

@@ -1,8 +1,8 @@
-ghost use Rattle.std.specs.Prelude.{◌≡◌, ◌<◌, ◌≤◌, ◌-◌, ℕ, false, [], length, get_or, take, drop, IfOk};
+ghost use Rattle.std.specs.Prelude.{◌≡◌, ◌<◌, ◌≤◌, ◌-◌, ℕ, false, [], length, map, get_or, take, drop, IfOk};
 ghost use Rattle.snap_core.specs.Calls.{calls_of, views_of, shown_number};
 ghost use Rattle.snap_core.specs.Entries.{AreEntries};
 ghost use Rattle.snap_core.specs.Events.{IsKept};
-ghost use Rattle.snap_conditions.specs.Grids.{AreRowsOf, IsColumnOf, AreColumnsOf, ShowAll, ArePlacesOf};
+ghost use Rattle.snap_conditions.specs.Grids.{AreRowsOf, AreShownBy, IsColumnOf, AreColumnsOf, ShowAll, ArePlacesOf};
 ghost use Rattle.snap_conditions.specs.Faults.{read_faults};
 ghost use Rattle.snap_conditions.specs.Parts.{part_of};
 ghost use Rattle.snap_conditions.specs.Rows.{number_among};
@@ -13,7 +13,7 @@ use crate::fault::ReadFault;
 use crate::part::Part;
 use crate::range::tally_without_read;
 use crate::read::first_read_fault;
-use crate::row::{COMPONENT_COUNT, numbers_of};
+use crate::row::{COMPONENT_COUNT, number_of, numbers_of};
 use crate::seen::view_at;
 use crate::tally::Tally;
 use snap_core::Entry;
@@ -63,6 +63,52 @@ fn used_components(index: &Index<'_>) -> [bool; COMPONENT_COUNT]
     used
 }
 
+// What each completed view shows.
+fn shown_of<'i>(alloc: Global, index: &'i Index<'_>) -> Result<Vec<&'i [Entry]>, AllocError>
+    requires { IsKept index.now }
+    ensures { IfOk result (λ shown. AreShownBy (calls_of index.entry.now) (map (λ es. es.now) shown.items)) }
+{
+    let mut shown = Vec::with_capacity(alloc, index.view_count() as usize)?;
+    for place in 0..index.view_count() {
+        shown.push(view_at(index, place).entries)?;
+    }
+    Ok(shown)
+}
+
+// The numbers of one component.
+fn column_of(
+    alloc: Global,
+    index: &Index<'_>,
+    shown: &[&[Entry]],
+    k: u8,
+) -> Result<Column, AllocError>
+    requires kept { IsKept index.now }
+    requires shown { AreShownBy (calls_of index.now) (map (λ es. es.now) shown.now) }
+    ensures { IfOk result (λ column. IsColumnOf (calls_of index.now) k column) }
+{
+    let mut numbers = Vec::with_capacity(alloc, shown.len())?;
+    for entries in shown {
+        numbers.push(number_of(entries, k))?;
+    }
+    Column::new(alloc, numbers, index.update_count(k))
+}
+
+// A column for each component that some completed view lists, from what each view shows.
+fn columns_by_views(alloc: Global, index: &Index<'_>) -> Result<Vec<Column>, AllocError>
+    requires { IsKept index.now }
+    ensures { IfOk result (λ columns. ShowAll (calls_of index.now) columns.items) }
+{
+    let used = used_components(index);
+    let shown = shown_of(alloc, index)?;
+    let mut columns = Vec::new(alloc);
+    for k in 0..COMPONENT_COUNT {
+        if used[k] {
+            columns.push(column_of(alloc, index, &shown, k as u8)?)?;
+        }
+    }
+    Ok(columns)
+}
+
 // The numbers that each completed view shows of all components.
 fn rows_of(alloc: Global, index: &Index<'_>) -> Result<Vec<[u32; COMPONENT_COUNT]>, AllocError>
     requires { IsKept index.now }
@@ -75,8 +121,8 @@ fn rows_of(alloc: Global, index: &Index<'_>) -> Result<Vec<[u32; COMPONENT_COUNT
     Ok(rows)
 }
 
-// The numbers of one component.
-fn column_of(
+// The numbers of one component, from those of all.
+fn column_of_rows(
     alloc: Global,
     index: &Index<'_>,
     rows: &[[u32; COMPONENT_COUNT]],
@@ -93,8 +139,8 @@ fn column_of(
     Column::new(alloc, numbers, index.update_count(k))
 }
 
-// A column for each component that some completed view lists.
-fn columns_of(alloc: Global, index: &Index<'_>) -> Result<Vec<Column>, AllocError>
+// The same, by way of the numbers that each view shows of all components.
+fn columns_by_rows(alloc: Global, index: &Index<'_>) -> Result<Vec<Column>, AllocError>
     requires { IsKept index.now }
     ensures { IfOk result (λ columns. ShowAll (calls_of index.now) columns.items) }
 {
@@ -103,10 +149,41 @@ fn columns_of(alloc: Global, index: &Index<'_>) -> Result<Vec<Column>, AllocErro
     let mut columns = Vec::new(alloc);
     for k in 0..COMPONENT_COUNT {
         if used[k] {
-            columns.push(column_of(alloc, index, &rows, k as u8)?)?;
+            columns.push(column_of_rows(alloc, index, &rows, k as u8)?)?;
         }
     }
     Ok(columns)
+}
+
+// Whether entries list each component up to their last.
+fn lists_all(entries: &[Entry]) -> bool {
+    match entries.last() {
+        Some(entry) => entry.component as usize + 1 == entries.len(),
+        None => true,
+    }
+}
+
+// Whether most completed views list each component up to their last, so that an entry is soon found in them.
+fn list_most(index: &Index<'_>) -> bool
+    requires { IsKept index.now }
+{
+    let mut count = 0;
+    for place in 0..index.view_count() {
+        count += u32::from(lists_all(view_at(index, place).entries));
+    }
+    count >= index.view_count() / 8 * 7
+}
+
+// A column for each component that some completed view lists.
+fn columns_of(alloc: Global, index: &Index<'_>) -> Result<Vec<Column>, AllocError>
+    requires { IsKept index.now }
+    ensures { IfOk result (λ columns. ShowAll (calls_of index.now) columns.items) }
+{
+    if list_most(index) {
+        columns_by_views(alloc, index)
+    } else {
+        columns_by_rows(alloc, index)
+    }
 }
 
 // Where each completed view begins and where it ends.

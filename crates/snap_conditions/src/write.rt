@@ -3,8 +3,9 @@ ghost use Rattle.std.specs.List.{position_or_len};
 ghost use Rattle.snap_core.specs.Calls.{calls_of, views_of, shown_number};
 ghost use Rattle.snap_core.specs.Events.{IsKept};
 ghost use Rattle.snap_conditions.specs.Faults.{write_faults, missed_at};
+ghost use Rattle.snap_conditions.specs.Limits.{IsLimit};
 ghost use Rattle.snap_conditions.specs.Parts.{part_of};
-ghost use Rattle.snap_conditions.specs.Places.{IsNoLater, begin_of_shown, begin_or_0};
+ghost use Rattle.snap_conditions.specs.Places.{begin_of_shown, begin_or_0};
 ghost use Rattle.snap_conditions.specs.Seen.{IsSeen, view_in};
 ghost use Rattle.snap_conditions.specs.Tally.{reported_write};
 
@@ -14,32 +15,6 @@ use crate::row::{COMPONENT_COUNT, numbers_of};
 use crate::seen::{SeenView, begin_of_update, begins_behind, end_of_update, view_at};
 use snap_core::Entry;
 use snap_index::Index;
-
-// The later of two begins.
-fn later(a: Option<u32>, b: Option<u32>) -> Option<u32>
-    ensures first { IsNoLater a result }
-    ensures second { IsNoLater b result }
-{
-    match (a, b) {
-        (Some(x), Some(y)) => Some(if x < y { y } else { x }),
-        (Some(x), None) => Some(x),
-        (None, _) => b,
-    }
-}
-
-// The latest begin of an update that entries show.
-fn latest_begin(index: &Index<'_>, entries: &[Entry]) -> Option<u32>
-    ensures { (i : ℕ) → i < length entries.now → IsNoLater (begin_of_shown (calls_of index.now) entries.now i) result }
-{
-    let mut latest = None;
-    for entry in entries {
-        latest = later(
-            latest,
-            begin_of_update(index, entry.component, entry.number),
-        );
-    }
-    latest
-}
 
 // Where the updates that entries show begin, 0 where there is none: at place 0 nothing begins behind an end.
 fn begins_of(index: &Index<'_>, entries: &[Entry]) -> [u32; COMPONENT_COUNT]
@@ -52,6 +27,17 @@ fn begins_of(index: &Index<'_>, entries: &[Entry]) -> [u32; COMPONENT_COUNT]
         begins[i] = begin_of_update(index, entry.component, entry.number).unwrap_or(0);
     }
     begins
+}
+
+// The latest of some begins.
+fn latest_of(begins: &[u32]) -> u32
+    ensures { (i : ℕ) → i < length begins.now → get_or begins.now i 0 ≤ result }
+{
+    let mut latest = 0;
+    for begun in begins {
+        latest = latest.max(*begun);
+    }
+    latest
 }
 
 // How many of some begins stand behind an end.
@@ -87,13 +73,13 @@ fn missed_part(
     begins: &[u32],
     j: u8,
     number: u32,
-    latest: Option<u32>,
+    latest: u32,
 ) -> Part<WriteFault>
     requires place { place < length (views_of (calls_of index.now)) }
     requires kept { IsKept index.now }
     requires view { IsSeen (view_in (calls_of index.now) place) view.now }
     requires number { number ≡ shown_number (view_in (calls_of index.now) place) j }
-    requires latest { (i : ℕ) → i < length view.now.entries.now → IsNoLater (begin_of_shown (calls_of index.now) view.now.entries.now i) latest }
+    requires latest { (i : ℕ) → i < length begins.now → get_or begins.now i 0 ≤ latest }
     requires count { length begins.now ≡ length view.now.entries.now }
     requires begins { (i : ℕ) → i < length view.now.entries.now → get_or begins.now i 0 ≡ begin_or_0 (begin_of_shown (calls_of index.now) view.now.entries.now i) }
     ensures { result ≡ part_of reported_write (missed_at (calls_of index.now) (view_in (calls_of index.now) place) j) }
@@ -103,7 +89,7 @@ fn missed_part(
         return part;
     };
     let ended = end_of_update(index, j, missed_number);
-    if !begins_behind(ended, latest) {
+    if !begins_behind(ended, Some(latest)) {
         return part;
     }
     let Some(ended) = ended else {
@@ -125,19 +111,20 @@ fn missed_part(
     part.note(Some(fault)).counted(count)
 }
 
-// The write faults of the view at a place.
-pub(crate) fn write_part(index: &Index<'_>, place: u32) -> Part<WriteFault>
+// The write faults of the view at a place, where no component from a limit on has an update.
+pub(crate) fn write_part(index: &Index<'_>, place: u32, limit: usize) -> Part<WriteFault>
+    requires limit { IsLimit (calls_of index.now) limit }
     requires place { place < length (views_of (calls_of index.now)) }
     requires kept { IsKept index.now }
     ensures { result ≡ part_of reported_write (write_faults (calls_of index.now) (view_in (calls_of index.now) place ∷ [])) }
 {
     let view = view_at(index, place);
     let numbers = numbers_of(view.entries);
-    let latest = latest_begin(index, view.entries);
     let begins = begins_of(index, view.entries);
     let begins = &begins[..view.entries.len()];
+    let latest = latest_of(begins);
     let mut part = Part::none();
-    for j in 0..COMPONENT_COUNT {
+    for j in 0..limit {
         // no update of a component that has none is missed
         if index.update_count(j as u8) > 0 {
             part = part.merge(missed_part(

@@ -1,8 +1,10 @@
 -- Entries that rise, by places.
-use Rattle.std.proofs.Common.{◌≡◌, ℕ, zero, suc, ◌<◌, ◌≤◌, true, false, List, [], ◌∷◌, length, get_or, refl, arith}
+use Rattle.std.proofs.Common.{◌≡◌, ℕ, zero, suc, ◌<◌, ◌≤◌, true, false, List, [], ◌∷◌, length, get_or, cond, nat_lt, Some, refl, sym, ap, ◌∙◌, arith}
 use Rattle.std.proofs.lemmas.Bool.{ltb-true, lt-ltb, and_parts, and_from, false_from_ne_true}
+use Rattle.std.specs.Prelude.{◌==◌}
+use Rattle.std.proofs.lemmas.Bool.{eq-eqb, ne_eqb}
 use Rattle.snap_core.specs.declared.entry.Entry.{Entry}
-use Rattle.snap_core.specs.Entries.{rises}
+use Rattle.snap_core.specs.Entries.{rises, entry_of}
 
 pub rises_from : (es : List Entry) → ((j : ℕ) (d : Entry) → suc j < length es → (get_or es j d).component < (get_or es (suc j) d).component) → rises es ≡ true
 rises_from [] h = refl
@@ -17,3 +19,21 @@ rises_at (d ∷ e ∷ es) (suc j) c h l = rises_at (e ∷ es) j c (and_parts _ _
 
 pub rises_not : (es : List Entry) (j : ℕ) (c : Entry) → suc j < length es → (get_or es (suc j) c).component ≤ (get_or es j c).component → rises es ≡ false
 rises_not es j c l h = false_from_ne_true _ (λ r. let m = rises_at es j c r l in omega arith)
+
+rises_tail : (e : Entry) (es : List Entry) → rises (e ∷ es) ≡ true → rises es ≡ true
+rises_tail e [] s = refl
+rises_tail e (d ∷ es) s = (and_parts (nat_lt e.component d.component) (rises (d ∷ es)) s).1
+
+first_lower : (e : Entry) (es : List Entry) (i : ℕ) (x : Entry) → rises (e ∷ es) ≡ true → i < length es → e.component < (get_or es i x).component
+first_lower e [] i x s l = absurd (omega arith)
+first_lower e (d ∷ es) zero x s l = ltb-true e.component d.component (and_parts (nat_lt e.component d.component) (rises (d ∷ es)) s).0
+first_lower e (d ∷ es) (suc i) x s l =
+    omega (arith, ltb-true e.component d.component (and_parts (nat_lt e.component d.component) (rises (d ∷ es)) s).0, first_lower d es i x (rises_tail e (d ∷ es) s) (omega arith))
+
+-- the entry of a component that stands at a place
+pub entry_at : (es : List Entry) (i : ℕ) (x : Entry) (k : ℕ) → rises es ≡ true → i < length es → (get_or es i x).component ≡ k → entry_of k es ≡ Some (get_or es i x)
+entry_at [] i x k s l same = absurd (omega arith)
+entry_at (e ∷ es) zero x k s l same = ap (λ b. cond b (Some e) (entry_of k es)) (eq-eqb e.component k same)
+entry_at (e ∷ es) (suc i) x k s l same =
+    let lower = first_lower e es i x s (omega arith) in
+    ap (λ b. cond b (Some e) (entry_of k es)) (ne_eqb e.component k (λ q. omega (arith, lower, same, q))) ∙ entry_at es i x k (rises_tail e es s) (omega arith) same

@@ -56,9 +56,15 @@ fn has_zero(entries: &[Entry]) -> bool
     entries.iter().any(|e| e.number == 0)
 }
 
+// The entry of a component. Mostly entries list each component up to their last.
 fn find_entry(entries: &[Entry], k: u8) -> Option<Entry>
+    requires { AreEntries entries.now }
     ensures { result ≡ entry_of k entries.now }
 {
+    let place = k as usize;
+    if place < entries.len() && entries[place].component == k {
+        return Some(entries[place]);
+    }
     entries.iter().copied().find(|e| e.component == k)
 }
 

@@ -110,8 +110,22 @@ pub fn read_history<R: Read>(alloc: Global, reader: &mut Counted<R>) -> Result<H
     ensures text { IfSome (R.remaining (inner_of reader.old)) (λ text. AnswersText text result) }
     ensures counts { Counts (failures_in reader.old) (failures_in reader.new) result }
 {
-    let text = take_in(alloc, reader)?;
-    history_of(alloc, &text)
+    let mut room = Vec::new(alloc);
+    read_history_in(alloc, reader, &mut room)
+}
+
+/// As `read_history`, and leaves the text in a vector, whose memory can then serve for something else. What the vector had
+/// is lost.
+pub fn read_history_in<R: Read>(
+    alloc: Global,
+    reader: &mut Counted<R>,
+    room: &mut Vec<u8>,
+) -> Result<History, ReadRefusal>
+    ensures text { IfSome (R.remaining (inner_of reader.old)) (λ text. AnswersText text result) }
+    ensures counts { Counts (failures_in reader.old) (failures_in reader.new) result }
+{
+    *room = take_in(alloc, reader)?;
+    history_of(alloc, room)
 }
 
 /// Reads the history of a text in memory, as `read_history` does of a reader: the text is not copied, and no device can fail.

@@ -1,13 +1,12 @@
-ghost use Rattle.std.specs.Prelude.{◌≡◌, ◌≤◌, length, map, IfOk};
+ghost use Rattle.std.specs.Prelude.{◌≡◌, ◌≤◌, ◌<◌, ℕ, length, get_or, map, IfOk};
 ghost use Rattle.snap_core.specs.Calls.{calls_of};
-ghost use Rattle.snap_core.specs.Events.{event_limit};
+ghost use Rattle.snap_core.specs.declared.event.Event.{Event};
+ghost use Rattle.snap_core.specs.Events.{event_limit, process_of};
 ghost use Rattle.snap_index.specs.Bare.{bare, begun_by as spec_begun_by};
 
 use crate::call::{Call, CallOp};
 use snap_core::Event;
 use std::alloc::{AllocError, Global};
-
-const PROCESS_COUNT: usize = 65536;
 
 fn begun_by(event: &Event) -> Option<CallOp>
     ensures { result ≡ spec_begun_by event.now }
@@ -19,13 +18,24 @@ fn begun_by(event: &Event) -> Option<CallOp>
     }
 }
 
+// One more than the highest process of some events, or 0.
+fn process_limit(events: &[Event]) -> usize
+    ensures { (i : ℕ) (e : Event) → i < length events.now → process_of (get_or events.now i e) < result }
+{
+    let mut limit = 0;
+    for event in events {
+        limit = limit.max(event.process() as usize + 1);
+    }
+    limit
+}
+
 // The calls in the order of their begins, by one pass from the end.
 pub(crate) fn list_calls(alloc: Global, events: &[Event]) -> Result<Vec<Call>, AllocError>
     requires { length events.now ≤ event_limit }
     ensures { IfOk result (λ calls. calls.items ≡ map bare (calls_of events.now)) }
 {
     // the place of each process's next event
-    let mut next: Vec<Option<u32>> = vec![in alloc; None; PROCESS_COUNT]?;
+    let mut next: Vec<Option<u32>> = vec![in alloc; None; process_limit(events)]?;
     let mut calls = Vec::new(alloc);
     let mut i = events.len();
     while i > 0 {

@@ -13,6 +13,9 @@ use snap_index::Index;
 use std::alloc::{AllocError, Global};
 use std::thread::Threads;
 
+// Below so many calls the searches take less time than the start of threads.
+const FEW_CALLS: u32 = 32768;
+
 /// The printed order of a history without a fault, by call numbers from 0: all completed calls, and of the pending
 /// updates those of which some completed view shows the number or a later one. It is sorted by level; within a level
 /// updates come before views, and then calls by their numbers. It is a legal order.
@@ -29,6 +32,9 @@ pub fn build<R: Threads + Sync>(
         (λ order. order.items ≡ map (λ c. c.number) (printed_order (calls_of index.now))) }
     ensures legal { IfOk result (λ order. IsLegalList (calls_of index.now) order.items) }
 {
+    if index.call_count() < FEW_CALLS {
+        return build_alone(alloc, index);
+    }
     // that the events are a history
     let _events = index.event_count();
     let chain = chain(alloc, index)?;

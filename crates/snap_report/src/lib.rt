@@ -8,7 +8,7 @@ mod text;
 mod words;
 
 pub use refusal::refusal_text;
-pub use text::report;
+pub use text::{report, report_in};
 
 #[cfg(test)]
 mod tests;

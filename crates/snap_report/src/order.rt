@@ -7,7 +7,7 @@ ghost use Rattle.snap_report.specs.Lines.{entry_word, line_text, text_of};
 ghost use Rattle.snap_report.specs.Orders.{HasLine, calls_numbered};
 ghost use Rattle.snap_report.specs.Reports.{call_line, operation_words, order_lines};
 
-use crate::words::{Group, put_call, put_entries, put_entry, put_number};
+use crate::words::{Group, put_call, put_entries, put_number, put_spaced_entry};
 use snap_index::{CallOp, Index};
 use std::alloc::AllocError;
 
@@ -44,7 +44,7 @@ fn put_operation(
         ++ flat_map (λ word. codes " " ++ word) (operation_words (call_numbered (calls_of index.now) number).operation)) }
 {
     match op {
-        CallOp::Update(entry) => put_entry(out, b" update ", &entry),
+        CallOp::Update(entry) => put_spaced_entry(out, b" update", &entry),
         CallOp::View => put_view(out, known, index, number),
     }
 }

@@ -48,7 +48,23 @@ pub fn report(
     ensures { IfOk result (λ text. text.items ≡ report_text index.now tally.now
         (option_map (calls_numbered (calls_of index.now)) (option_copied order.entry))) }
 {
-    let mut out = Vec::new(alloc);
+    report_in(Vec::new(alloc), index, tally, order)
+}
+
+/// The same report, in the memory of a vector. What the vector had is lost.
+pub fn report_in(
+    room: Vec<u8>,
+    index: &Index<'_>,
+    tally: &Tally,
+    order: Option<&[u32]>,
+) -> Result<Vec<u8>, AllocError>
+    requires order { is_some order ≡ has_no_fault tally.now }
+    requires calls { ForSome order (λ numbers. All (HasLine (calls_of index.now)) numbers.now) }
+    ensures { IfOk result (λ text. text.items ≡ report_text index.now tally.now
+        (option_map (calls_numbered (calls_of index.now)) (option_copied order.entry))) }
+{
+    let mut out = room;
+    out.clear();
     put_counts(&mut out, index)?;
     put_verdict(&mut out, b"regular", is_regular(tally))?;
     put_verdict(&mut out, b"atomic", is_atomic(tally))?;

@@ -4,7 +4,7 @@ ghost use Rattle.std.specs.Bool.{OnTrue};
 ghost use Rattle.std.specs.List.{flat_map};
 ghost use Rattle.snap_report.specs.Lines.{call_word, entry_word, update_word};
 
-use itoa::{Buffer, write_digits};
+use itoa::write_digits;
 use snap_core::Entry;
 use std::alloc::{AllocError, Global};
 
@@ -13,8 +13,9 @@ pub(crate) fn put_number(out: &mut Vec<u8>, text: &[u8], number: u64) -> Result<
     ensures { OnOk result (out.new.items ≡ out.old.items ++ text.now ++ decimal number) }
 {
     out.extend_from_slice(text)?;
-    let mut buffer = Buffer::new();
-    out.extend_from_slice(buffer.format(number).as_bytes())
+    let mut digits = [0u8; 20];
+    let at = write_digits(number, &mut digits, 20);
+    out.extend_from_slice(&digits[at..])
 }
 
 /// Adds a text, and behind it the number of a call, counted from 1.
@@ -78,6 +79,20 @@ fn write_entry(entry: &Entry, buffer: &mut [u8], end: usize) -> usize
     let at = write_number(b':', u64::from(entry.value), buffer, end);
     let at = write_number(b':', u64::from(entry.number), buffer, at);
     write_number(b' ', u64::from(entry.component), buffer, at)
+}
+
+/// Adds a text, and behind it a space and an entry.
+pub(crate) fn put_spaced_entry(
+    out: &mut Vec<u8>,
+    text: &[u8],
+    entry: &Entry,
+) -> Result<(), AllocError>
+    ensures { OnOk result (out.new.items ≡ out.old.items ++ text.now ++ codes " " ++ entry_word entry.now) }
+{
+    out.extend_from_slice(text)?;
+    let mut word = [0u8; 26];
+    let at = write_entry(entry, &mut word, 26);
+    out.extend_from_slice(&word[at..])
 }
 
 // The words of entries, each behind a space.

@@ -9,23 +9,24 @@ ghost use Rattle.snap_verdict.specs.Verdicts.{IsVerdict};
 use crate::fault::RunFault;
 use snap_conditions::{Tally, is_atomic, is_regular};
 use snap_core::{Counted, Gate, History};
-use snap_csv::{ReadRefusal, read_history};
+use snap_csv::{ReadRefusal, read_history_in};
 use snap_index::Index;
 use snap_order::build;
 use snap_pairs::{Cutting, tally};
-use snap_report::{refusal_text, report};
+use snap_report::{refusal_text, report_in};
 use snap_verdict::Status;
 use std::alloc::{AllocError, Global};
 use std::io::{Read, Write};
 use std::sync::Wait;
 use std::thread::Threads;
 
-// The status and the report of a history, from the tally of all its completed views.
+// The status and the report of a history, from the tally of all its completed views. The report takes the memory of a vector.
 fn answer<Rt: Threads + Wait + Sync>(
     rt: &Rt,
     alloc: Global,
     index: &Index<'_>,
     tally: &Tally,
+    room: Vec<u8>,
 ) -> Result<(Status, Vec<u8>), AllocError>
     requires history { IsKept index.now }
     requires tally { tally.now ≡ tally_of (calls_of index.now) (views_of (calls_of index.now)) }
@@ -33,10 +34,10 @@ fn answer<Rt: Threads + Wait + Sync>(
 {
     if is_atomic(tally) {
         let order = build(rt, alloc, index)?;
-        let text = report(alloc, index, tally, Some(&order))?;
+        let text = report_in(room, index, tally, Some(&order))?;
         return Ok((Status::Atomic, text));
     }
-    let text = report(alloc, index, tally, None)?;
+    let text = report_in(room, index, tally, None)?;
     if is_regular(tally) {
         Ok((Status::Regular, text))
     } else {
@@ -44,11 +45,12 @@ fn answer<Rt: Threads + Wait + Sync>(
     }
 }
 
-// The status and the report of a history.
+// The status and the report of a history. The report takes the memory of a vector.
 pub(crate) fn verdict<Rt: Threads + Wait + Sync, G: Gate>(
     rt: &Rt,
     alloc: Global,
     history: &History,
+    room: Vec<u8>,
     cutting: Cutting,
     gate: &G,
 ) -> Result<(Status, Vec<u8>), AllocError>
@@ -57,7 +59,7 @@ pub(crate) fn verdict<Rt: Threads + Wait + Sync, G: Gate>(
     let index = Index::build(alloc, history)?;
     let _events = index.event_count();
     let tally = tally(rt, alloc, &index, cutting, gate)?;
-    answer(rt, alloc, &index, &tally)
+    answer(rt, alloc, &index, &tally, room)
 }
 
 // The status and the report of the text that a reader has.
@@ -71,8 +73,10 @@ fn judge<Rt: Threads + Wait + Sync, R: Read, G: Gate>(
     ensures answer { Judges (R.remaining (inner_of reader.old)) result }
     ensures counts { JudgeCounts (failures_in reader.old) (failures_in reader.new) result }
 {
-    match read_history(alloc, reader) {
-        Ok(history) => Ok(verdict(rt, alloc, &history, cutting, gate)?),
+    // the text is not needed once it is read, and its memory serves for the report
+    let mut room = Vec::new(alloc);
+    match read_history_in(alloc, reader, &mut room) {
+        Ok(history) => Ok(verdict(rt, alloc, &history, room, cutting, gate)?),
         Err(ReadRefusal::Text { place, fault }) => Ok((
             Status::Refused,
             refusal_text(alloc, place, fault)?,

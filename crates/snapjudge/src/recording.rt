@@ -63,7 +63,7 @@ fn write_report<Rt: Threads + Wait + Sync, W: Write>(
     ensures wrote { WroteAs (IsVerdict history.now) (W.contents (inner_of writer.old)) (W.contents (inner_of writer.new)) result }
     ensures counts { WriteCounts (failures_in writer.old) (failures_in writer.new) result }
 {
-    let (status, text) = verdict(rt, alloc, history, cutting, &OpenGate)?;
+    let (status, text) = verdict(rt, alloc, history, Vec::new(alloc), cutting, &OpenGate)?;
     match writer.send(&text) {
         Ok(()) => Ok(status),
         Err(_) => Err(RunFault::Write),

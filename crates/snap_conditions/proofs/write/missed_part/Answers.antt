@@ -1,4 +1,4 @@
-use Rattle.std.proofs.Common.{◌≡◌, ℕ, suc, ◌+◌, ◌<◌, ◌≤◌, false, Some, length, get_or, sym, ap, ◌∙◌, subst, arith}
+use Rattle.std.proofs.Common.{◌≡◌, ℕ, suc, ◌+◌, ◌<◌, ◌≤◌, false, Option, None, Some, length, get_or, sym, ap, ◌∙◌, subst, arith}
 use Rattle.std.proofs.lemmas.List.{take_all, length-map, get_or-map}
 use Rattle.std.specs.Prelude.{filter}
 use Rattle.std.specs.Bool.{then_some}
@@ -8,7 +8,7 @@ use Rattle.snap_conditions.specs.declared.fault.WriteFault.{WriteFault}
 use Rattle.snap_conditions.specs.Faults.{write_fault, listed}
 use Rattle.snap_conditions.specs.Parts.{part_of, found_at}
 use Rattle.snap_conditions.specs.PartValue.{PartValue}
-use Rattle.snap_conditions.specs.Places.{update_of, end_of, begin_of, begins_behind, begin_of_shown, IsNoLater}
+use Rattle.snap_conditions.specs.Places.{update_of, end_of, begin_of, begins_behind, begin_of_shown, begin_or_0, IsNoLater}
 use Rattle.snap_conditions.specs.Seen.{view_in}
 use Rattle.snap_conditions.specs.Tally.{reported_write}
 use Rattle.snap_conditions.proofs.Entries.{nothing}
@@ -34,16 +34,21 @@ returns-in_default c =
     let far : 4294967296 ≤ suc (shown_number r c.args.j) = omega (arith, past, c.requires.number) in
     c.none-part.ensures ∙ sym (none_missed c.args.index.now c.requires.kept r c.args.j (ap end_of (no_update_past c.args.index.now c.requires.kept c.args.j (suc (shown_number r c.args.j)) far)))
 
+no_later : (o : Option ℕ) (latest : ℕ) → begin_or_0 o ≤ latest → IsNoLater o (Some latest)
+no_later None latest h = tt
+no_later (Some begun) latest h = h
+
 -- nothing that the view shows begins behind the end of the update that it misses
 pub returns-then-not-begins_behind : goal.returns-then-not-begins_behind
 returns-then-not-begins_behind c =
     let calls = calls_of c.args.index.now in
     let r = view_in calls c.args.place in
     let next : c.in-Some.missed_number ≡ suc (shown_number r c.args.j) = (let e = c.in-Some.ensures in omega (arith, e.1, c.requires.number)) in
-    let none : begins_behind (end_of (update_of calls c.args.j (suc (shown_number r c.args.j)))) c.args.latest ≡ false =
-    ap (λ n. begins_behind (end_of (update_of calls c.args.j n)) c.args.latest) (sym next) ∙ ap (λ o. begins_behind o c.args.latest) (sym c.end_of_update-ended.ensures) ∙ sym c.begins_behind.ensures ∙ c.if-not-begins_behind.true in
-    let none_later = subst (λ z. (i : ℕ) → i < length z → IsNoLater (begin_of_shown calls z i) c.args.latest) c.requires.view.entries c.requires.latest in
-    c.none-part.ensures ∙ sym (none_behind c.args.index.now c.requires.kept r c.args.j c.args.latest c.requires.view.shape none_later none)
+    let none : begins_behind (end_of (update_of calls c.args.j (suc (shown_number r c.args.j)))) (Some c.args.latest) ≡ false =
+    ap (λ n. begins_behind (end_of (update_of calls c.args.j n)) (Some c.args.latest)) (sym next) ∙ ap (λ o. begins_behind o (Some c.args.latest)) (sym c.end_of_update-ended.ensures) ∙ sym c.begins_behind.ensures ∙ c.if-not-begins_behind.true in
+    let none_later = subst (λ z. (i : ℕ) → i < length z → IsNoLater (begin_of_shown calls z i) (Some c.args.latest)) c.requires.view.entries
+    (λ i l. no_later _ c.args.latest (omega (arith, c.requires.begins i l, c.requires.latest i (omega (arith, l, c.requires.count))))) in
+    c.none-part.ensures ∙ sym (none_behind c.args.index.now c.requires.kept r c.args.j (Some c.args.latest) c.requires.view.shape none_later none)
 
 pub count_behind-count-requires : goal.count_behind-count-requires
 count_behind-count-requires c = omega (arith, c.requires.count, ap length c.requires.view.entries, rising_few _ c.requires.view.shape.rising (λ j d l. (c.requires.view.shape.fit j d l).0))

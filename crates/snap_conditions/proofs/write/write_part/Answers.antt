@@ -1,4 +1,5 @@
-use Rattle.std.proofs.Common.{ℕ, suc, ◌≡◌, take, get_or, sym, ap, ◌∙◌, arith}
+use Rattle.snap_conditions.proofs.Limits.{missed_step, missed_rest}
+use Rattle.std.proofs.Common.{ℕ, suc, ◌-◌, ◌≡◌, take, get_or, sym, ap, ◌∙◌, arith}
 use Rattle.std.proofs.lemmas.List.{take_all}
 use Rattle.std.proofs.lemmas.List.FromFn.{get_or-range_with_len}
 use Rattle.std.specs.Prelude.{flat_map}
@@ -29,7 +30,7 @@ use Rattle.snap_conditions.proofs.write.write_part.Goals.{then-update_count-gt0,
 pub missed_part-requires-clause-number : goal.missed_part-requires-clause-number
 missed_part-requires-clause-number c =
     let r = view_in (calls_of c.args.index.now) c.args.place in
-    c.numbers_of-numbers.ensures c.loop-j.j c.loop-j-test.true ∙ ap (λ es. number_among es c.loop-j.j) c.view_at-view.ensures.entries ∙ among_is_shown r c.loop-j.j
+    c.numbers_of-numbers.ensures c.loop-j.j (omega (arith, c.loop-j-test.true, c.requires.limit.few)) ∙ ap (λ es. number_among es c.loop-j.j) c.view_at-view.ensures.entries ∙ among_is_shown r c.loop-j.j
 
 pub merge-part-requires : goal.merge-part-requires
 merge-part-requires c =
@@ -48,26 +49,22 @@ pub loop-j-preserved : goal.loop-j-preserved
 loop-j-preserved c =
     let calls = calls_of c.args.index.now in
     let r = view_in calls c.args.place in
-    let at : get_or components c.loop-j.j 0 ≡ c.loop-j.j = omega (arith, get_or-range_with_len 0 256 c.loop-j.j 0 c.loop-j-test.true) in
+    let at : get_or components c.loop-j.j 0 ≡ c.loop-j.j = omega (arith, get_or-range_with_len 0 256 c.loop-j.j 0 (omega (arith, c.loop-j-test.true, c.requires.limit.few))) in
     elim c.if-update_count-gt0.branch [
       | then-update_count-gt0 w ↦
           w.part-is ∙ w.merge-part.ensures ∙ ap (λ p. merged_part p w.missed_part.result) c.loop-j.invariant
           ∙ ap (merged_part (part_of reported_write (flat_map (missed_at calls r) (take c.loop-j.j components)))) (w.missed_part.ensures ∙ ap (λ j. part_of reported_write (missed_at calls r j)) (sym at))
-          ∙ sym (merge_step reported_write (missed_at calls r) components c.loop-j.j 0 c.loop-j-test.true)
+          ∙ sym (merge_step reported_write (missed_at calls r) components c.loop-j.j 0 (omega (arith, c.loop-j-test.true, c.requires.limit.few)))
       | else-update_count-gt0 w ↦
-          let es = c.args.index.now in
           let none : count_by (is_update_of c.loop-j.j) calls ≡ 0 = omega (arith, w.if-update_count-gt0.false, c.update_count.ensures) in
-          let missed = none_missed es c.requires.kept r c.loop-j.j (ap end_of (none_of_none es c.requires.kept c.loop-j.j (suc (shown_number r c.loop-j.j)) none)) in
-          w.part-is ∙ c.loop-j.invariant ∙ sym (merged_none (part_of reported_write (flat_map (missed_at calls r) (take c.loop-j.j components))))
-          ∙ ap (merged_part (part_of reported_write (flat_map (missed_at calls r) (take c.loop-j.j components)))) (sym missed ∙ ap (λ j. part_of reported_write (missed_at calls r j)) (sym at))
-          ∙ sym (merge_step reported_write (missed_at calls r) components c.loop-j.j 0 c.loop-j-test.true)
+          w.part-is ∙ c.loop-j.invariant ∙ missed_step c.args.index.now c.requires.kept r c.loop-j.j (omega (arith, c.loop-j-test.true, c.requires.limit.few)) none
     ]
 
 pub returns : goal.returns
 returns c =
     let calls = calls_of c.args.index.now in
     let r = view_in calls c.args.place in
-    c.loop-j.invariant ∙ ap (λ xs. part_of reported_write (flat_map (missed_at calls r) xs)) (take_all c.loop-j.j components c.loop-j-test.false) ∙ sym (write_alone calls r)
+    c.loop-j.invariant ∙ missed_rest c.args.index.now c.requires.kept r c.args.limit c.requires.limit (256 - c.loop-j.j) c.loop-j.j (omega (arith, c.loop-j-test.false)) (omega (arith, c.loop-j.auto.j-end, c.requires.limit.few)) ∙ sym (write_alone calls r)
 
 pub begins_of-begins-requires : goal.begins_of-begins-requires
 begins_of-begins-requires c = omega (arith, ap length c.view_at-view.ensures.entries, rising_few _ c.view_at-view.ensures.shape.rising (λ j d l. (c.view_at-view.ensures.shape.fit j d l).0))

@@ -1,5 +1,7 @@
 use Rattle.std.proofs.Common.{◌≡◌, ◌≤◌, ◌<◌, ℕ, length, map, drop, reverse, get_or, None}
 use Rattle.snap_core.specs.Calls.{calls_from, next_place}
+use Rattle.snap_core.specs.declared.event.Event.{Event}
+use Rattle.snap_core.specs.Events.{process_of}
 use Rattle.snap_index.specs.Bare.{bare}
 use Rattle.snap_index.proofs.listing.list_calls.Given as goal
 
@@ -7,8 +9,8 @@ use Rattle.snap_index.proofs.listing.list_calls.Given as goal
 abbrev pub invariant-loop-i : goal.invariant-loop-i
 invariant-loop-i l = record {
   within : l.i ≤ length l.events;
-  size : length l.next.items ≡ 65536;
-  places : (p : ℕ) → p < 65536 → get_or l.next.items p None ≡ next_place p l.i (drop l.i l.events);
+  room : (i : ℕ) (e : Event) → i < length l.events → process_of (get_or l.events i e) < length l.next.items;
+  places : (p : ℕ) → p < length l.next.items → get_or l.next.items p None ≡ next_place p l.i (drop l.i l.events);
   so_far : reverse l.calls.items ≡ map bare (calls_from 0 l.i (drop l.i l.events));
 }
 

@@ -15,9 +15,9 @@ returns-in-Update c =
     let out = c.args.out.now.items in
     let o = (call_numbered (calls_of c.args.index.now) c.args.number).operation in
     let e = c.in-Update.entry in
-    same_text c.put_entry.result c.put_entry.new.out.items (out ++ codes " update " ++ entry_word e) (out ++ flat_map (λ (word : List ℕ). codes " " ++ word) (operation_words o))
-    (append_assoc out (codes " update ") (entry_word e) ∙ ap (λ t. out ++ t) (sym (update_words o e (sym c.in-Update.is ∙ c.requires.op))))
-    c.put_entry.ensures
+    same_text c.put_spaced_entry.result c.put_spaced_entry.new.out.items (out ++ codes " update" ++ codes " " ++ entry_word e) (out ++ flat_map (λ (word : List ℕ). codes " " ++ word) (operation_words o))
+    (ap (λ t. t ++ entry_word e) (append_assoc out (codes " update") (codes " ")) ∙ append_assoc out (codes " update ") (entry_word e) ∙ ap (λ t. out ++ t) (sym (update_words o e (sym c.in-Update.is ∙ c.requires.op))))
+    c.put_spaced_entry.ensures
 
 pub returns-in-View : goal.returns-in-View
 returns-in-View c =

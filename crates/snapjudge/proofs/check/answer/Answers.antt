@@ -8,8 +8,8 @@ use Rattle.snapjudge.proofs.check.answer.Goals as goal
 pub build-requires-after_bounds : goal.build-requires-after_bounds
 build-requires-after_bounds g c κs within = no_fault_then c.args.index.now c.args.tally.now (record { kept = c.requires.history; whole = c.requires.tally }) (c.is_atomic.ensures.0 c.if-is_atomic.true)
 
-pub report-requires-clause-calls : goal.report-requires-clause-calls
-report-requires-clause-calls g c = λ x e.
+pub report_in-requires-clause-calls : goal.report_in-requires-clause-calls
+report_in-requires-clause-calls g c = λ x e.
     let same : c.deref.result ≡ x = cc in
     let lines = lines_of_order c.args.index.now c.deref.result.now (c.deref.ensures.value ∙ c.in_ok-order.ensures.printed) in
     subst (λ (y : Bor (List ℕ)). All (HasLine (calls_of c.args.index.now)) y.now) same lines

@@ -2,8 +2,8 @@ use Rattle.std.proofs.Common.{◌≡◌, ◌<◌, ◌+◌, ℕ, List, [], ◌∷
 use Rattle.snap_core.specs.Calls.{calls_of}
 use Rattle.snap_conditions.specs.Grids.{AreColumnsOf}
 use Rattle.snap_conditions.proofs.Grids.{columns_skip, columns_add, show_all}
-use Rattle.snap_conditions.proofs.view_grid.columns_of.Goals as goal
-use Rattle.snap_conditions.proofs.view_grid.columns_of.Goals.{then-used-k+in_ok-column_of+in_ok-push, else-used-k}
+use Rattle.snap_conditions.proofs.view_grid.columns_by_views.Goals as goal
+use Rattle.snap_conditions.proofs.view_grid.columns_by_views.Goals.{then-used-k+in_ok-column_of+in_ok-push, else-used-k}
 
 pub loop-k-preserved : goal.loop-k-preserved
 loop-k-preserved c =
