@@ -1,0 +1,7 @@
+use Rattle.std.proofs.Common.{◌≡◌, take}
+use Rattle.snap_witness.specs.Kept.{kept_from, is_among}
+use Rattle.snap_witness.specs.Witness.{numbers_of}
+use Rattle.snap_witness.proofs.keeping.keep.Given as goal
+
+abbrev pub invariant-loop-i : goal.invariant-loop-i
+invariant-loop-i l = l.history ≡ kept_from (is_among l.places) (numbers_of l.pairs) 0 (take l.i l.events)

@@ -1,0 +1,125 @@
+ghost use Rattle.std.specs.Prelude.{◌≡◌, ◌≤◌, ◌++◌, ◌∷◌, [], None, length, IfOk, OnOk};
+ghost use Rattle.snap_core.specs.Events.{IsHistory, event_limit};
+ghost use Rattle.snap_core.specs.Refusals.{refusal_of};
+ghost use Rattle.snap_witness.specs.Kept.{kept_entries as spec_kept_entries, kept_event as spec_kept_event, kept_from, is_among as spec_is_among};
+ghost use Rattle.snap_witness.specs.Witness.{numbers_of};
+
+use snap_core::{Entry, Event, EventRefusal, History, View};
+use std::alloc::{AllocError, Global};
+
+// The number that is paired with a component first, 0 where there is none.
+fn number_of(pairs: &[(u8, u32)], k: u8) -> u32
+    ensures { result ≡ numbers_of pairs.now k }
+{
+    for i in 0..pairs.len() {
+        if pairs[i].0 == k {
+            return pairs[i].1;
+        }
+    }
+    0
+}
+
+// What is left of the entries of a view.
+fn kept_entries(
+    alloc: Global,
+    entries: &[Entry],
+    pairs: &[(u8, u32)],
+) -> Result<Vec<Entry>, AllocError>
+    ensures { IfOk result (λ kept. kept.items ≡ spec_kept_entries (numbers_of pairs.now) entries.now) }
+{
+    let mut kept = Vec::new(alloc);
+    for i in 0..entries.len() {
+        let e = entries[i];
+        if e.number == number_of(pairs, e.component) {
+            kept.push(Entry {
+                component: e.component,
+                number: 1,
+                value: e.value,
+            })?;
+        }
+    }
+    Ok(kept)
+}
+
+// What is left of a view.
+pub(crate) fn kept_view(alloc: Global, view: &View, pairs: &[(u8, u32)]) -> Result<View, AllocError>
+    ensures { IfOk result (λ kept. kept ≡ spec_kept_entries (numbers_of pairs.now) view.now) }
+{
+    let kept = kept_entries(alloc, view.entries(), pairs)?;
+    match View::from_entries(kept) {
+        Ok(view) => Ok(view),
+        Err(_refused) => unreachable!(),
+    }
+}
+
+// What is left of an event that is kept.
+pub(crate) fn kept_event(
+    alloc: Global,
+    event: &Event,
+    pairs: &[(u8, u32)],
+) -> Result<Event, AllocError>
+    ensures { IfOk result (λ kept. kept ≡ spec_kept_event (numbers_of pairs.now) event.now) }
+{
+    Ok(match event {
+        Event::BeginUpdate { process, entry } => Event::BeginUpdate {
+            process: *process,
+            entry: Entry {
+                component: entry.component,
+                number: 1,
+                value: entry.value,
+            },
+        },
+        Event::BeginView { process } => Event::BeginView { process: *process },
+        Event::EndUpdate { process } => Event::EndUpdate { process: *process },
+        Event::EndView { process, view } => {
+            let view = kept_view(alloc, view, pairs)?;
+            Event::EndView {
+                process: *process,
+                view,
+            }
+        }
+    })
+}
+
+fn is_among(places: &[u32], place: u32) -> bool
+    ensures { result ≡ spec_is_among places.now place }
+{
+    places.iter().any(|p| *p == place)
+}
+
+// Appends an event that is not refused.
+fn append(history: &mut History, event: Event) -> Result<(), AllocError>
+    requires { refusal_of history.old event ≡ None }
+    ensures { OnOk result (history.new ≡ history.old ++ event ∷ []) }
+{
+    match history.push(event) {
+        Ok(()) => Ok(()),
+        Err((_event, refusal)) => match refusal {
+            EventRefusal::Memory => Err(AllocError),
+            _ => unreachable!(),
+        },
+    }
+}
+
+/// The history of the events at some places, where that is one. Of each component at most one update is among them, whose
+/// number is paired with it; it becomes update 1, and a view shows what it showed of these updates. The error is want of
+/// memory.
+pub fn keep(
+    alloc: Global,
+    events: &[Event],
+    places: &[u32],
+    pairs: &[(u8, u32)],
+) -> Result<History, AllocError>
+    requires history { IsHistory (kept_from (spec_is_among places.now) (numbers_of pairs.now) 0 events.now) }
+    requires short { length events.now ≤ event_limit }
+    ensures { IfOk result (λ kept. kept ≡ kept_from (spec_is_among places.now) (numbers_of pairs.now) 0 events.now) }
+{
+    let mut history = History::new(alloc);
+    for i in 0..events.len() {
+        if is_among(places, i as u32) {
+            let event = kept_event(alloc, &events[i], pairs)?;
+            append(&mut history, event)?;
+        }
+    }
+    Ok(history)
+}
