@@ -9,7 +9,10 @@ pub mod BackFacts
 pub mod SpellingFacts
 pub mod LineFacts
 pub mod TextFacts
+pub mod StampOnce
+pub mod StampFacts
 pub mod Exclusive
+pub mod StampText
 pub mod LengthFacts
 pub mod GrammarFacts
 pub mod ViewFacts

@@ -1,5 +1,5 @@
 -- The line of a record is what a csv writer writes: no field wants quotes.
-use Rattle.std.proofs.Common.{◌≡◌, ◌<◌, ◌^◌, ◌==◌, ◌++◌, inl, inr, ℕ, false, List, [], ◌∷◌, map, get_or, length, take, append-nil, append_assoc, refl, arith, ◌∙◌, sym, ap, add-one}
+use Rattle.std.proofs.Common.{zip, ◌≡◌, ◌<◌, ◌^◌, ◌==◌, ◌++◌, inl, inr, ℕ, false, List, [], ◌∷◌, map, get_or, length, take, append-nil, append_assoc, refl, arith, ◌∙◌, sym, ap, add-one}
 use Rattle.std.specs.Prelude.{codes, decimal, ◌+◌}
 use Rattle.std.specs.Global.{Vec}
 use Rattle.std.specs.List.{All, flat_map, list_any}
@@ -8,13 +8,14 @@ use Rattle.std.proofs.lemmas.List.{length-map, map-append}
 use Rattle.std.proofs.lemmas.List.Concat.{flat_map-append}
 use Rattle.std.proofs.lemmas.List.Elements.{All-weaker}
 use Rattle.std.proofs.lemmas.List.Folds.{list_any_none}
+use Rattle.std.proofs.lemmas.Slice.Zip.{get_or-zip, length-zip}
 use Rattle.std.proofs.Math.Seq.{take-suc}
 use Rattle.csv.specs.Writing.{default_writer, field_text, fields_text, is_blank, needs_byte, row_text}
 use Rattle.snap_core.specs.declared.event.Event.{Event}
 use Rattle.snap_core.specs.declared.event.Event.TheVariants.{BeginUpdate, BeginView, EndUpdate, EndView}
 use Rattle.snap_core.specs.Events.{EventFits}
-use Rattle.snap_csv.specs.Fields.{header}
-use Rattle.snap_csv.specs.Spelling.{entries_text, entry_text, history_text, record_text, spelled}
+use Rattle.snap_csv.specs.Fields.{header, stamped_header}
+use Rattle.snap_csv.specs.Spelling.{entries_text, entry_text, history_text, record_text, spelled, stamped_fields, stamped_lines}
 use Rattle.snap_csv.proofs.ByteFacts.{IsDataByte, IsDigit, data_bytes, data_entry, digits}
 use Rattle.snap_csv.proofs.BackFacts.{fit_each}
 
@@ -106,3 +107,36 @@ pub four_items : (fs : List (Vec ℕ)) (x : Event) (v w y z : List ℕ) (a b c d
 four_items fs x v w y z a b c d is ev ew ey ez =
     let len : length fs ≡ 4 = sym (length-map fs (λ f. f.items)) ∙ ap length is ∙ four_long x in
     four_in fs v w y z a b c d len ev ew ey ez ∙ is
+
+-- ---- records with stamps
+
+five_bare : (a b c d e : List ℕ) → Plain a → Plain b → Plain c → Plain d → Plain e → row_text default_writer (a ∷ b ∷ c ∷ d ∷ e ∷ []) ≡ record_text (a ∷ b ∷ c ∷ d ∷ e ∷ [])
+unfolding fields_text is_blank record_text
+five_bare a b c d e pa pb pc pd pe = rw (bare a pa, bare b pb, bare c pc, bare d pd, bare e pe, append-nil e) refl
+
+pub stamped_line_of : (n : ℕ) (x : Event) → n < 2 ^ 64 → EventFits x → row_text default_writer (decimal n ∷ spelled x) ≡ record_text (decimal n ∷ spelled x)
+stamped_line_of n (BeginUpdate p e) lt f =
+    five_bare (decimal n) (codes "begin") (decimal p) (codes "update") (entry_text e) (plain_number n lt) plain_begin (plain_number p (omega (arith, f.0))) plain_update (plain_data (entry_text e) (data_entry e f.1))
+stamped_line_of n (BeginView p) lt f = five_bare (decimal n) (codes "begin") (decimal p) (codes "view") [] (plain_number n lt) plain_begin (plain_number p (omega (arith, f))) plain_view plain_empty
+stamped_line_of n (EndUpdate p) lt f = five_bare (decimal n) (codes "end") (decimal p) (codes "update") [] (plain_number n lt) plain_end (plain_number p (omega (arith, f))) plain_update plain_empty
+stamped_line_of n (EndView p es) lt f =
+    five_bare (decimal n) (codes "end") (decimal p) (codes "view") (entries_text es) (plain_number n lt) plain_end (plain_number p (omega (arith, f.0))) plain_view (plain_data (entries_text es) (data_bytes es (fit_each es f.1.fit)))
+
+pub stamped_header_line : row_text default_writer stamped_header ≡ stamped_lines []
+unfolding fields_text is_blank record_text stamped_lines
+stamped_header_line = refl
+
+pub stamped_more : (xs : List (ℕ × Event)) (i : ℕ) (d : ℕ × Event) → i < length xs → stamped_lines (take (i + 1) xs) ≡ stamped_lines (take i xs) ++ record_text (stamped_fields (get_or xs i d))
+unfolding stamped_lines
+stamped_more xs i d lt =
+    rw (add-one, take-suc xs i d lt, map-append stamped_fields (take i xs) (get_or xs i d ∷ []), flat_map-append record_text (map stamped_fields (take i xs)) (stamped_fields (get_or xs i d) ∷ []), append-nil (record_text (stamped_fields (get_or xs i d))))
+    (sym (append_assoc (record_text stamped_header) (flat_map record_text (map stamped_fields (take i xs))) (record_text (stamped_fields (get_or xs i d)))))
+
+-- the record of the event at a place, with its stamp
+pub stamped_next : (at : List ℕ) (xs : List Event) (i : ℕ) (n : ℕ) (x : Event) → i < length at → i < length xs → get_or at i n < 2 ^ 64 → EventFits (get_or xs i x)
+    → stamped_lines (take i (zip at xs)) ++ row_text default_writer (decimal (get_or at i n) ∷ spelled (get_or xs i x)) ≡ stamped_lines (take (i + 1) (zip at xs))
+stamped_next at xs i n x la lx small fits =
+    let len : i < length (zip at xs) = omega (arith, length-zip at xs, la, lx) in
+    let here : get_or (zip at xs) i (n, x) ≡ (get_or at i n, get_or xs i x) = get_or-zip at xs i (n, x) la lx in
+    ap (λ (t : List ℕ). stamped_lines (take i (zip at xs)) ++ t) (stamped_line_of (get_or at i n) (get_or xs i x) small fits ∙ ap (λ (p : ℕ × Event). record_text (stamped_fields p)) (sym here))
+    ∙ sym (stamped_more (zip at xs) i (n, x) len)

@@ -13,10 +13,10 @@ use Rattle.snap_csv.specs.declared.refusal.TextFault.TheVariants as faults
 use Rattle.snap_csv.specs.declared.refusal.ReadRefusal.{ReadRefusal}
 use Rattle.snap_csv.specs.declared.refusal.ReadRefusal.TheVariants as refusals
 use Rattle.snap_csv.specs.Rows.{Fields, Stands}
-use Rattle.snap_csv.specs.Fields.{event_of, is_header_row}
+use Rattle.snap_csv.specs.Fields.{event_of, is_header_row, is_stamped_header_row}
 use Rattle.snap_csv.specs.Faults.{event_in, events_in, fault_with, fault_at, row_event, row_fault}
 use Rattle.snap_csv.specs.Texts.{RowsFault, RowsRead}
-use Rattle.snap_csv.specs.Answers.{FailsEvent, RefusesRow, RefusesRows, TakesEvent, TakesRow}
+use Rattle.snap_csv.specs.Answers.{AnswersRows, AnswersStamps, FailsEvent, RefusesRow, RefusesRows, TakesEvent, TakesRow}
 
 -- the reader stands before the record at place i under the header, and the history is that of those before it
 pub record Midway (rows : List Fields) (r : Reader (Bor (List ℕ))) (events : List Event) (i : ℕ) : Type 0 where
@@ -97,7 +97,7 @@ pub done : (rows : List Fields) (r : Reader (Bor (List ℕ))) (events : List Eve
 done rows r events i m e =
     let len : length m.later ≤ i = omega (arith, length-drop i m.later, ap length e) in
     let all : take i m.later ≡ m.later = take_all i m.later len in
-    rw m.whole (m.header, λ j lt. m.fine j (omega (arith, m.within)), rw all at m.history)
+    rw m.whole (inl (m.header, λ j lt. m.fine j (omega (arith, m.within)), rw all at m.history))
 
 fault_here : (rows : List Fields) (r : Reader (Bor (List ℕ))) (events : List Event) (i : ℕ) (m : Midway rows r events i) (row : Fields) → get_or m.later i [] ≡ row
     → fault_at m.later i ≡ row_fault events row
@@ -107,7 +107,7 @@ pub stopped : (rows : List Fields) (r : Reader (Bor (List ℕ))) (events : List 
     → drop i m.later ≡ row ∷ rest → RefusesRow (i + 2) events row e → RefusesRows rows e
 stopped rows r events i m row rest (refusals.Text p f) d t =
     let (lt, here, next) = at_drop m.later i row rest d in
-    rw m.whole (inr (m.header, i, t.0, record { place = lt; fault = fault_here rows r events i m row here ∙ t.1; first = m.fine }))
+    rw m.whole (inr (inl (m.header, i, t.0, record { place = lt; fault = fault_here rows r events i m row here ∙ t.1; first = m.fine })))
 stopped rows r events i m row rest refusals.Device d t = t
 stopped rows r events i m row rest refusals.Memory d t = tt
 
@@ -135,5 +135,12 @@ more rows a b old new i m row (rest, d, s) (none, x, is, longer) =
 pub no_rows : (rows : List Fields) → rows ≡ [] → RowsFault rows 1 faults.Header
 no_rows rows e = rw e (refl, refl)
 
-pub no_header : (rows : List Fields) (head : Fields) (rest : List Fields) → rows ≡ head ∷ rest → is_header_row head ≡ false → RowsFault rows 1 faults.Header
-no_header rows head rest e h = rw e (inl (h, refl, refl))
+pub no_header : (rows : List Fields) (head : Fields) (rest : List Fields) → rows ≡ head ∷ rest → is_header_row head ≡ false → is_stamped_header_row head ≡ false → RowsFault rows 1 faults.Header
+no_header rows head rest e h s = rw e (inl (h, s, refl, refl))
+
+-- the answer to the records under the header of a text with stamps
+pub with_stamps : (rows : List Fields) (head : Fields) (rest : List Fields) (res : Result (List Event) ReadRefusal) → rows ≡ head ∷ rest → is_stamped_header_row head ≡ true → AnswersStamps rest res → AnswersRows rows res
+with_stamps rows head rest (Ok h) e s a = rw e (inr (s, a))
+with_stamps rows head rest (Err (refusals.Text p f)) e s a = rw e (inr (inr (s, a)))
+with_stamps rows head rest (Err refusals.Device) e s a = a
+with_stamps rows head rest (Err refusals.Memory) e s a = tt

@@ -1,5 +1,5 @@
 -- The text of a history has the records of its events, and no fault.
-use Rattle.std.proofs.Common.{◌≡◌, ◌<◌, ◌≤◌, ◌+◌, ◌++◌, ℕ, suc, zero, false, true, ◌==◌, List, [], ◌∷◌, length, map, take, get_or, None, Ok, refl, arith, ◌∙◌, sym, ap, subst, append_assoc, append-nil}
+use Rattle.std.proofs.Common.{inl, ◌≡◌, ◌<◌, ◌≤◌, ◌+◌, ◌++◌, ℕ, suc, zero, false, true, ◌==◌, List, [], ◌∷◌, length, map, take, get_or, None, Ok, refl, arith, ◌∙◌, sym, ap, subst, append_assoc, append-nil}
 use Rattle.std.specs.Prelude.{codes}
 use Rattle.std.specs.List.{All, AllByRecursion, flat_map}
 use Rattle.std.proofs.lemmas.List.{length-append, length-map, map-append}
@@ -25,12 +25,12 @@ use Rattle.snap_csv.specs.Spelling.{history_text, record_text, spelled}
 use Rattle.snap_csv.proofs.BackFacts.{HasNumber, event_back}
 use Rattle.snap_csv.proofs.LineFacts.{header_line, line_of}
 
-abbrev row : Fields → List ℕ
+abbrev pub row : Fields → List ℕ
 row r = row_text default_writer r
 
 -- ---- records
 
-Whole : List Fields → Type 0
+unfoldable pub Whole : List Fields → Type 0
 Whole rows = AllByRecursion (λ r. read_back r ≡ r) rows
 
 no_more : (n : ℕ) → records_from default_config n st.StartRecord [] ≡ []
@@ -42,7 +42,7 @@ one_more : (n : ℕ) (r : Fields) (tail : List ℕ) → records_from default_con
 unfolding records_from
 one_more n r tail = rw (read-write r tail) refl
 
-rows_back : (rows : List Fields) (n : ℕ) → length rows ≤ n → Whole rows → records_from default_config n st.StartRecord (flat_map row rows) ≡ rows
+pub rows_back : (rows : List Fields) (n : ℕ) → length rows ≤ n → Whole rows → records_from default_config n st.StartRecord (flat_map row rows) ≡ rows
 unfolding Whole
 rows_back [] n lt whole = no_more n
 rows_back (r ∷ rs) zero lt whole = absurd (omega arith)
@@ -56,7 +56,7 @@ end_long a b = omega (arith, length-append a (b ++ 10 ∷ []), length-append b (
 row_long : (r : Fields) → 0 < length (row r)
 row_long r = end_long (row_body default_writer r) _
 
-rows_long : (rows : List Fields) → length rows ≤ length (flat_map row rows)
+pub rows_long : (rows : List Fields) → length rows ≤ length (flat_map row rows)
 rows_long [] = omega arith
 rows_long (r ∷ rs) = omega (arith, rows_long rs, row_long r, length-append (row r) (flat_map row rs), ap length (flat_map-cons row r rs))
 
@@ -110,7 +110,7 @@ text_rows xs fits =
 -- ---- no fault
 
 -- what each event of a history keeps
-abbrev Reads : Event → Type 0
+abbrev pub Reads : Event → Type 0
 Reads x = EventFits x × HasNumber x
 
 number_of : (xs ys : List Event) (x : Event) (zs : List Event) → IsNumbered xs → xs ≡ ys ++ x ∷ zs → HasNumber x
@@ -119,7 +119,7 @@ number_of xs ys (BeginView p) zs h is = tt
 number_of xs ys (EndUpdate p) zs h is = tt
 number_of xs ys (EndView p es) zs h is = tt
 
-each_reads : (xs ys zs : List Event) → IsNumbered xs → xs ≡ ys ++ zs → All EventFits zs → AllByRecursion Reads zs
+pub each_reads : (xs ys zs : List Event) → IsNumbered xs → xs ≡ ys ++ zs → All EventFits zs → AllByRecursion Reads zs
 each_reads xs ys [] h is fits = tt
 each_reads xs ys (z ∷ zs) h is fits =
     let moved : xs ≡ (ys ++ z ∷ []) ++ zs = is ∙ sym (append_assoc ys (z ∷ []) zs) in
@@ -136,13 +136,13 @@ front ys (z ∷ zs) h =
     (history_back ys z longer).0
 
 -- no refusal applies to an event that stands in a history
-not_refused : (ys : List Event) (x : Event) (zs : List Event) → IsHistory (ys ++ x ∷ zs) → length ys < event_limit → refusal_of ys x ≡ None
+pub not_refused : (ys : List Event) (x : Event) (zs : List Event) → IsHistory (ys ++ x ∷ zs) → length ys < event_limit → refusal_of ys x ≡ None
 not_refused ys x zs h lt =
     let longer = front (ys ++ x ∷ []) zs (subst (λ (t : List Event). IsHistory t) (sym (append_assoc ys (x ∷ []) zs)) h) in
     let a = (history_back ys x longer).1 in
     picked ys x false false false false false false (is_short ys lt) a.not_busy a.not_idle a.not_other a.writer a.number
 
-none_then : (ys : List Event) (x : Event) → refusal_of ys x ≡ None → fault_with ys (Ok x) ≡ None
+pub none_then : (ys : List Event) (x : Event) → refusal_of ys x ≡ None → fault_with ys (Ok x) ≡ None
 none_then ys x none = rw none refl
 
 four_fields : (x : Event) → (length (spelled x) == 4) ≡ true
@@ -156,14 +156,14 @@ unfolding row_fault
 row_clean ys x lt none h = rw (four_fields x, is_short ys lt, event_back x h.0 h.1) (none_then ys x none)
 
 -- an element with what stands before and behind it
-record Place (xs : List Event) (i : ℕ) : Type 0 where
-  before : List Event
-  here : Event
-  behind : List Event
-  whole : xs ≡ before ++ here ∷ behind
-  count : length before ≡ i
+pub record Place (xs : List Event) (i : ℕ) : Type 0 where
+  pub before : List Event
+  pub here : Event
+  pub behind : List Event
+  pub whole : xs ≡ before ++ here ∷ behind
+  pub count : length before ≡ i
 
-place : (xs : List Event) (i : ℕ) → i < length xs → Place xs i
+pub place : (xs : List Event) (i : ℕ) → i < length xs → Place xs i
 place [] i lt = absurd (omega arith)
 place (x ∷ xs) zero lt = record { before = []; here = x; behind = xs; whole = refl; count = refl }
 place (x ∷ xs) (suc i) lt =
@@ -199,4 +199,4 @@ no_fault xs h short reads = λ i lt.
 pub text_reads : (xs : List Event) → IsKept xs → length (history_text xs) ≤ byte_limit → IsText (history_text xs) xs
 text_reads xs k short =
     let reads = each_reads xs [] xs k.history.numbered refl k.fit in
-    (short, rw (text_rows xs k.fit) (refl, no_fault xs k.history k.short reads, sym (events_back xs reads)))
+    (short, rw (text_rows xs k.fit) (inl (refl, no_fault xs k.history k.short reads, sym (events_back xs reads))))

@@ -1,6 +1,9 @@
 -- What the calls that read a text answer.
-use Rattle.std.specs.Prelude.{◌≡◌, ◌≤◌, ◌<◌, ℕ, List, [], ◌∷◌, ◌++◌, length, Option, Some, None, IfSome, Result, Ok, Err}
+use Rattle.std.specs.Prelude.{◌≡◌, ◌==◌, slice_index_or, ◌≤◌, ◌<◌, ℕ, List, [], ◌∷◌, ◌++◌, length, Option, Some, None, IfSome, Result, Ok, Err}
 use Rattle.std.specs.Global.{Vec}
+use Rattle.std.specs.BTreeSet.{BTreeSet, contains}
+use Rattle.std.specs.List.{IsDistinct, list_any}
+use Rattle.std.specs.Ordering.{nat_cmp}
 use Rattle.snap_core.specs.declared.event.Event.{Event}
 use Rattle.snap_core.specs.Counting.{Rose}
 use Rattle.snap_csv.specs.declared.refusal.TextFault.{TextFault}
@@ -9,6 +12,8 @@ use Rattle.snap_csv.specs.declared.refusal.ReadRefusal.{ReadRefusal}
 use Rattle.snap_csv.specs.declared.refusal.ReadRefusal.TheVariants as refusals
 use Rattle.snap_csv.specs.Rows.{Fields}
 use Rattle.snap_csv.specs.Faults.{fault_with, row_event, row_fault}
+use Rattle.snap_csv.specs.declared.stamped.Stamped.{Stamped}
+use Rattle.snap_csv.specs.Stamps.{FirstOf, NoneOf, ShapeFault, StampedFault, StampedRead, events_of, nothing, order_at, shape_at, shape_fault, stamped_in, stamped_row, stamps_of}
 use Rattle.snap_csv.specs.Texts.{RowsRead, RowsFault, IsText, HasFault, byte_limit}
 
 -- what an answer says of records
@@ -90,3 +95,50 @@ RefusesIntake known refusals.Memory = Unit {0}
 abbrev pub TakesIn : Option (List ℕ) → Result (Vec ℕ) ReadRefusal → Type 0
 TakesIn known (Ok v) = (length v.items ≤ byte_limit) × IfSome known (λ text. v.items ≡ text)
 TakesIn known (Err e) = RefusesIntake known e
+
+-- what the stamps of some events are known by: a set that has them, and no two are equal
+pub record HasSeen (seen : BTreeSet ℕ) (xs : List Stamped) : Type 0 where
+  pub has : (q : ℕ) → contains nat_cmp seen q ≡ list_any (λ s. q == s) (stamps_of xs)
+  pub distinct : IsDistinct (λ a b. a == b) (stamps_of xs)
+
+-- what becomes of stamped events and a record
+abbrev pub RefusesStamped : ℕ → List Stamped → Fields → ReadRefusal → Type 0
+RefusesStamped place old r (refusals.Text p f) = (p ≡ place) × (shape_fault (length old) (stamps_of old) r ≡ Some f)
+RefusesStamped place old r refusals.Device = ⊥
+RefusesStamped place old r refusals.Memory = Unit {0}
+
+abbrev pub TakesStamped : ℕ → List Stamped → List Stamped → Fields → Result (Unit {0}) ReadRefusal → Type 0
+TakesStamped place old new r (Ok u) =
+    (shape_fault (length old) (stamps_of old) r ≡ None)
+    × (x : ℕ × Event) × (stamped_row r ≡ Ok x) × (new ≡ old ++ record { at = x.0; place = place; event = x.1 } ∷ [])
+TakesStamped place old new r (Err e) = RefusesStamped place old r e
+
+-- the stamped events of records, or the first fault of a record by itself
+abbrev pub RefusesShapes : List Fields → ReadRefusal → Type 0
+RefusesShapes rows (refusals.Text place f) = ShapeFault rows place f
+RefusesShapes rows refusals.Device = ⊥
+RefusesShapes rows refusals.Memory = Unit {0}
+
+abbrev pub ReadsStamped : List Fields → Result (Vec Stamped) ReadRefusal → Type 0
+ReadsStamped rows (Ok xs) = NoneOf (shape_at rows) (length rows) × (xs.items ≡ stamped_in rows)
+ReadsStamped rows (Err e) = RefusesShapes rows e
+
+-- the history of events in this order, or the first with a fault
+abbrev pub RefusesTurns : List Stamped → ReadRefusal → Type 0
+RefusesTurns xs (refusals.Text place f) = (i : ℕ) × FirstOf (order_at xs) (length xs) i f × (place ≡ (slice_index_or xs i nothing).place)
+RefusesTurns xs refusals.Device = ⊥
+RefusesTurns xs refusals.Memory = Unit {0}
+
+abbrev pub TakesTurns : List Stamped → Result (List Event) ReadRefusal → Type 0
+TakesTurns xs (Ok h) = NoneOf (order_at xs) (length xs) × (h ≡ events_of xs)
+TakesTurns xs (Err e) = RefusesTurns xs e
+
+-- what an answer says of the records under the header of a text with stamps
+abbrev pub RefusesStamps : List Fields → ReadRefusal → Type 0
+RefusesStamps rows (refusals.Text place f) = StampedFault rows place f
+RefusesStamps rows refusals.Device = ⊥
+RefusesStamps rows refusals.Memory = Unit {0}
+
+abbrev pub AnswersStamps : List Fields → Result (List Event) ReadRefusal → Type 0
+AnswersStamps rows (Ok h) = StampedRead rows h
+AnswersStamps rows (Err e) = RefusesStamps rows e

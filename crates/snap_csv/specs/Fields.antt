@@ -101,3 +101,11 @@ header = codes "event" ∷ codes "process" ∷ codes "op" ∷ codes "data" ∷ [
 abbrev pub is_header_row : List (List ℕ) → Bool
 is_header_row (a ∷ b ∷ c ∷ d ∷ []) = bytes_eq a (codes "event") && bytes_eq b (codes "process") && bytes_eq c (codes "op") && bytes_eq d (codes "data")
 is_header_row others = false
+
+-- the first record of a text whose records have stamps
+abbrev pub stamped_header : List (List ℕ)
+stamped_header = codes "at" ∷ header
+
+abbrev pub is_stamped_header_row : List (List ℕ) → Bool
+is_stamped_header_row (t ∷ a ∷ p ∷ o ∷ d ∷ []) = bytes_eq t (codes "at") && is_header_row (a ∷ p ∷ o ∷ d ∷ [])
+is_stamped_header_row others = false

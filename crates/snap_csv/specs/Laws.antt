@@ -1,11 +1,13 @@
 -- What is proved of all events, histories and texts.
-use Rattle.std.specs.Prelude.{◌≡◌, ◌≤◌, ℕ, List, length, Ok}
+use Rattle.std.specs.Prelude.{◌≡◌, ◌<◌, ◌^◌, All, ◌≤◌, ℕ, List, length, Ok, true}
+use Rattle.std.specs.List.Sorted.{IsStrictlyIncreasing}
 use Rattle.snap_core.specs.declared.event.Event.{Event}
 use Rattle.snap_core.specs.Events.{EventFits, IsKept}
 use Rattle.snap_csv.specs.declared.refusal.TextFault.{TextFault}
 use Rattle.snap_csv.specs.Rows.{Fields}
+use Rattle.snap_csv.specs.Fields.{is_header_row, is_stamped_header_row}
 use Rattle.snap_csv.specs.Faults.{row_event}
-use Rattle.snap_csv.specs.Spelling.{history_text, spelled}
+use Rattle.snap_csv.specs.Spelling.{history_text, spelled, stamped_text}
 use Rattle.snap_csv.specs.Texts.{HasFault, IsText, byte_limit}
 
 -- a record is read as an event only where it has the event's four fields
@@ -27,3 +29,23 @@ TextsReadBack = (events : List Event) → IsKept events → IsText (history_text
 -- a text that is one of a history has no fault
 abbrev pub TextsHaveNoFault : Type 0
 TextsHaveNoFault = (text : List ℕ) (events : List Event) (place : ℕ) (fault : TextFault) → IsText text events → HasFault text place fault → ⊥
+
+-- a text is one of at most one history
+abbrev pub TextsHaveOneReading : Type 0
+TextsHaveOneReading = (text : List ℕ) (xs ys : List Event) → IsText text xs → IsText text ys → xs ≡ ys
+
+-- and has at most one first fault, at one place
+abbrev pub TextsHaveOneFault : Type 0
+TextsHaveOneFault =
+    (text : List ℕ) (place other : ℕ) (fault another : TextFault) → HasFault text place fault → HasFault text other another →
+    (place ≡ other) × (fault ≡ another)
+
+-- no record is the header of texts without stamps and of texts with them
+abbrev pub HeadersDiffer : Type 0
+HeadersDiffer = (r : Fields) → is_header_row r ≡ true → is_stamped_header_row r ≡ true → ⊥
+
+-- the text of a history with strictly rising stamps has no fault and is that of this history, where it is within the limit of bytes
+abbrev pub StampedTextsReadBack : Type 0
+StampedTextsReadBack =
+    (at : List ℕ) (events : List Event) → IsKept events → length at ≡ length events → IsStrictlyIncreasing at → All (λ n. n < 2 ^ 64) at →
+    length (stamped_text at events) ≤ byte_limit → IsText (stamped_text at events) events

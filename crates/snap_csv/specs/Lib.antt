@@ -2,6 +2,7 @@ pub mod Rows
 pub mod Words
 pub mod Fields
 pub mod Faults
+pub mod Stamps
 pub mod Texts
 pub mod Answers
 pub mod Spelling

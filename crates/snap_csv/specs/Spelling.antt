@@ -1,10 +1,10 @@
 -- The fields of an event's record, and the text of a history.
 use Rattle.std.specs.Prelude.{◌++◌, ℕ, Bool, true, false, List, [], ◌∷◌, map, codes, decimal}
-use Rattle.std.specs.List.{flat_map, join_with_byte}
+use Rattle.std.specs.List.{flat_map, join_with_byte, zip}
 use Rattle.snap_core.specs.declared.entry.Entry.{Entry}
 use Rattle.snap_core.specs.declared.event.Event.{Event}
 use Rattle.snap_core.specs.declared.event.Event.TheVariants.{BeginUpdate, BeginView, EndUpdate, EndView}
-use Rattle.snap_csv.specs.Fields.{header}
+use Rattle.snap_csv.specs.Fields.{header, stamped_header}
 
 -- component, number and value, with colons (58) between
 abbrev pub entry_text : Entry → List ℕ
@@ -33,3 +33,15 @@ record_text fields = join_with_byte 44 fields ++ 10 ∷ []
 -- the header, and then the record of each event
 unfoldable pub history_text : List Event → List ℕ
 history_text events = flat_map record_text (header ∷ map spelled events)
+
+-- the five fields of an event with its stamp
+abbrev pub stamped_fields : ℕ × Event → List (List ℕ)
+stamped_fields x = decimal x.0 ∷ spelled x.1
+
+-- the header of texts with stamps, and then the record of each event
+unfoldable pub stamped_lines : List (ℕ × Event) → List ℕ
+stamped_lines xs = flat_map record_text (stamped_header ∷ map stamped_fields xs)
+
+-- the text of events with a stamp for each
+abbrev pub stamped_text : List ℕ → List Event → List ℕ
+stamped_text at events = stamped_lines (zip at events)

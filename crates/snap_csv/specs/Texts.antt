@@ -4,24 +4,28 @@ use Rattle.snap_core.specs.declared.event.Event.{Event}
 use Rattle.snap_csv.specs.declared.refusal.TextFault.{TextFault}
 use Rattle.snap_csv.specs.declared.refusal.TextFault.TheVariants as faults
 use Rattle.snap_csv.specs.Rows.{Fields, rows_of}
-use Rattle.snap_csv.specs.Fields.{is_header_row}
+use Rattle.snap_csv.specs.Fields.{is_header_row, is_stamped_header_row}
 use Rattle.snap_csv.specs.Faults.{events_in, NoFault, FirstFault}
+use Rattle.snap_csv.specs.Stamps.{StampedFault, StampedRead}
 
 -- how many bytes a text may have
 abbrev pub byte_limit : ℕ
 byte_limit = 67108864
 
--- what records are a history of: none where the first is not the header
+-- what records are a history of, without stamps or with them: none where the first is neither header
 abbrev pub RowsRead : List Fields → List Event → Type 0
 RowsRead [] events = ⊥
-RowsRead (head ∷ rows) events = (is_header_row head ≡ true) × NoFault rows × (events ≡ events_in rows)
+RowsRead (head ∷ rows) events =
+    ((is_header_row head ≡ true) × NoFault rows × (events ≡ events_in rows))
+    ⊎ ((is_stamped_header_row head ≡ true) × StampedRead rows events)
 
 -- where records have their first fault
 abbrev pub RowsFault : List Fields → ℕ → TextFault → Type 0
 RowsFault [] place f = (place ≡ 1) × (f ≡ faults.Header)
 RowsFault (head ∷ rows) place f =
-    ((is_header_row head ≡ false) × (place ≡ 1) × (f ≡ faults.Header))
-    ⊎ ((is_header_row head ≡ true) × (i : ℕ) × (place ≡ i + 2) × FirstFault rows i f)
+    ((is_header_row head ≡ false) × (is_stamped_header_row head ≡ false) × (place ≡ 1) × (f ≡ faults.Header))
+    ⊎ (((is_header_row head ≡ true) × (i : ℕ) × (place ≡ i + 2) × FirstFault rows i f)
+    ⊎ ((is_stamped_header_row head ≡ true) × StampedFault rows place f))
 
 -- a text without a fault, and its history
 abbrev pub IsText : List ℕ → List Event → Type 0

@@ -1,6 +1,6 @@
 ghost use Rattle.std.specs.Prelude.{◌≡◌, ◌≢◌, ◌∷◌, [], length, MatchOption, IfOk, Ok, Err, Some, None};
 ghost use Rattle.csv.specs.Records.{fields_of};
-ghost use Rattle.snap_csv.specs.Fields.{event_of, is_header_row, update_at, view_at};
+ghost use Rattle.snap_csv.specs.Fields.{event_of, is_header_row, is_stamped_header_row, update_at, view_at};
 ghost use Rattle.snap_csv.specs.Answers.{GivesEvent};
 
 use crate::entries::{Group, entries_of, entry_of};
@@ -55,6 +55,31 @@ pub fn four_fields(row: &ByteRecord) -> Option<(&[u8], &[u8], &[u8], &[u8])>
     Some((a, b, c, d))
 }
 
+/// The fields of a record that has five.
+pub fn five_fields(row: &ByteRecord) -> Option<(&[u8], &[u8], &[u8], &[u8], &[u8])>
+    ensures { MatchOption result (length (fields_of row.now) ≢ 5) (λ x. fields_of row.now ≡ x.0.now ∷ x.1.now ∷ x.2.now ∷ x.3.now ∷ x.4.now ∷ []) }
+{
+    if row.len() != 5 {
+        return None;
+    }
+    let Some(a) = row.get(0) else {
+        return None;
+    };
+    let Some(b) = row.get(1) else {
+        return None;
+    };
+    let Some(c) = row.get(2) else {
+        return None;
+    };
+    let Some(d) = row.get(3) else {
+        return None;
+    };
+    let Some(e) = row.get(4) else {
+        return None;
+    };
+    Some((a, b, c, d, e))
+}
+
 /// Whether a record is the header.
 pub fn is_header(row: &ByteRecord) -> bool
     ensures { result ≡ is_header_row (fields_of row.now) }
@@ -63,6 +88,20 @@ pub fn is_header(row: &ByteRecord) -> bool
         return false;
     };
     a == b"event".as_slice()
+        && b == b"process".as_slice()
+        && c == b"op".as_slice()
+        && d == b"data".as_slice()
+}
+
+/// Whether a record is the header of a text whose records have stamps.
+pub fn is_stamped_header(row: &ByteRecord) -> bool
+    ensures { result ≡ is_stamped_header_row (fields_of row.now) }
+{
+    let Some((t, a, b, c, d)) = five_fields(row) else {
+        return false;
+    };
+    t == b"at".as_slice()
+        && a == b"event".as_slice()
         && b == b"process".as_slice()
         && c == b"op".as_slice()
         && d == b"data".as_slice()

@@ -1,4 +1,4 @@
-ghost use Rattle.snap_csv.specs.Laws.{FieldsAreOneEvents, RecordsAreSpelled, TextsAreShort, TextsHaveNoFault, TextsReadBack};
+ghost use Rattle.snap_csv.specs.Laws.{FieldsAreOneEvents, HeadersDiffer, RecordsAreSpelled, StampedTextsReadBack, TextsAreShort, TextsHaveNoFault, TextsHaveOneFault, TextsHaveOneReading, TextsReadBack};
 
 /// No two events have the same four fields.
 pub fn fields_are_one_events()
@@ -23,4 +23,24 @@ pub fn texts_are_short()
 /// A record is read as an event only where it has the event's four fields.
 pub fn records_are_spelled()
     ensures { RecordsAreSpelled }
+{}
+
+/// A text is one of at most one history.
+pub fn texts_have_one_reading()
+    ensures { TextsHaveOneReading }
+{}
+
+/// A text has at most one first fault.
+pub fn texts_have_one_fault()
+    ensures { TextsHaveOneFault }
+{}
+
+/// No record is the header of both kinds of text.
+pub fn headers_differ()
+    ensures { HeadersDiffer }
+{}
+
+/// The text of a history with strictly rising stamps has no fault and is that of this history, within the limit of bytes.
+pub fn stamped_texts_read_back()
+    ensures { StampedTextsReadBack }
 {}

@@ -10,16 +10,18 @@ mod read;
 mod refusal;
 mod rows;
 mod spelling;
+mod stamped;
 mod writing;
 
 pub use law::{
-    fields_are_one_events, records_are_spelled, texts_are_short, texts_have_no_fault,
+    fields_are_one_events, headers_differ, records_are_spelled, stamped_texts_read_back,
+    texts_are_short, texts_have_no_fault, texts_have_one_fault, texts_have_one_reading,
     texts_read_back,
 };
 pub use read::{read_history, read_history_in, read_text};
 pub use refusal::{ReadRefusal, TextFault, WriteRefusal};
 pub use spelling::fields_of;
-pub use writing::write_history;
+pub use writing::{write_history, write_history_stamped};
 
 #[cfg(test)]
 mod tests;

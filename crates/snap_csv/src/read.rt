@@ -6,17 +6,18 @@ ghost use Rattle.snap_csv.specs.Rows.{rows_of};
 ghost use Rattle.csv.specs.Records.{fields_of};
 
 use crate::entries::Group;
-use crate::fields::{event_of_fields, four_fields, is_header};
+use crate::fields::{event_of_fields, four_fields, is_header, is_stamped_header};
 use crate::intake::{BYTE_LIMIT, take_in};
 use crate::refusal::{ReadRefusal, TextFault};
 use crate::rows::{next_row, reader_of};
+use crate::stamped::stamped_history;
 use csv::ByteRecord;
 use snap_core::{Counted, EVENT_LIMIT, Event, EventRefusal, History};
 use std::alloc::Global;
 use std::io::Read;
 
 // One record more than a history has events: that one has a fault.
-const ROW_LIMIT: u32 = 16385;
+pub const ROW_LIMIT: u32 = 16385;
 
 // The fault that a refusal of a history stands for; memory aside.
 fn fault_for(refusal: EventRefusal) -> Option<TextFault>
@@ -59,7 +60,8 @@ fn take_row(
     push_event(history, place, event)
 }
 
-fn push_event(history: &mut History, place: u32, event: Event) -> Result<(), ReadRefusal>
+/// Adds an event to a history.
+pub fn push_event(history: &mut History, place: u32, event: Event) -> Result<(), ReadRefusal>
     ensures { TakesEvent place history.old history.new event result }
 {
     match history.push(event) {
@@ -84,6 +86,9 @@ fn history_of(alloc: Global, text: &[u8]) -> Result<History, ReadRefusal>
         });
     }
     if !is_header(&row) {
+        if is_stamped_header(&row) {
+            return stamped_history(alloc, &mut reader, &mut row);
+        }
         return Err(ReadRefusal::Text {
             place: 1,
             fault: TextFault::Header,

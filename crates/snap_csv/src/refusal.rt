@@ -6,12 +6,12 @@ ghost use Rattle.snap_csv.specs.declared.refusal.WriteRefusal.TheVariants as wri
 use snap_core::EventRefusal;
 use std::alloc::{AllocError, AllocFailed};
 
-/// What is wrong with a text, in the order in which a record is tested.
+/// What is wrong with a text, in the order in which a record without a stamp is tested.
 #[derive(Clone, Copy, Debug, PartialEq, Eq)]
 pub enum TextFault {
     /// The first record is missing or is not the header.
     Header,
-    /// A later record has not four fields.
+    /// A later record has not four fields, or not five where records have stamps.
     Fields,
     /// The history is full.
     TooMany,
@@ -35,6 +35,10 @@ pub enum TextFault {
     Number,
     /// The text has too many bytes.
     TooLong,
+    /// The stamp is no number below 2^64. It is tested before `BadEvent`.
+    BadAt,
+    /// An earlier record has the same stamp. It is tested after `BadData`.
+    Repeated,
 }
 
 impl TextFault {
@@ -56,6 +60,8 @@ impl TextFault {
             TextFault::Writer => "writer",
             TextFault::Number => "number",
             TextFault::TooLong => "toolong",
+            TextFault::BadAt => "at",
+            TextFault::Repeated => "repeated",
         }
     }
 }

@@ -1,12 +1,14 @@
-ghost use Rattle.std.specs.Prelude.{◌≡◌, ◌++◌, [], List, ℕ, map, IfOk, OnOk};
+ghost use Rattle.std.specs.Prelude.{◌≡◌, ◌<◌, ◌^◌, ◌++◌, ◌∷◌, [], decimal, length, List, ℕ, map, IfOk, OnOk};
+ghost use Rattle.std.specs.List.Sorted.{IsStrictlyIncreasing};
 ghost use Rattle.csv.specs.Writing.{default_writer, row_text};
 ghost use Rattle.snap_core.specs.Counting.{inner_of, failures_in};
-ghost use Rattle.snap_csv.specs.Spelling.{history_text, spelled};
+ghost use Rattle.snap_csv.specs.Spelling.{history_text, spelled, stamped_lines, stamped_text};
 ghost use Rattle.snap_csv.specs.Writing.{CountsWrite, Holds, Writes};
 
 use crate::refusal::WriteRefusal;
 use crate::spelling::fields_of;
 use csv::{Writer, WriterBuilder};
+use itoa::Buffer;
 use snap_core::{Counted, Event, History};
 use std::alloc::{AllocError, Global};
 use std::io::Write;
@@ -55,6 +57,27 @@ fn begin_text(alloc: Global) -> Result<Writer<Vec<u8>>, AllocError>
     Ok(writer)
 }
 
+// What a writer to memory has written.
+fn text_in(writer: Writer<Vec<u8>>) -> Result<Vec<u8>, AllocError>
+    ensures { IfOk result (λ written. (text : List ℕ) → Holds writer text → written.items ≡ text) }
+{
+    match writer.into_inner() {
+        Ok(text) => Ok(text),
+        Err(_) => Err(AllocError),
+    }
+}
+
+// Sends a whole text out.
+fn send_text<W: Write>(writer: &mut Counted<W>, text: &[u8]) -> Result<(), WriteRefusal>
+    ensures text { Writes (W.contents (inner_of writer.old)) (W.contents (inner_of writer.new)) text.now result }
+    ensures counts { CountsWrite (failures_in writer.old) (failures_in writer.new) result }
+{
+    match writer.send(text) {
+        Ok(()) => Ok(()),
+        Err(_) => Err(WriteRefusal::Device),
+    }
+}
+
 // The text of a history.
 fn text_of(alloc: Global, history: &History) -> Result<Vec<u8>, AllocError>
     ensures { IfOk result (λ text. text.items ≡ history_text history.now) }
@@ -64,10 +87,8 @@ fn text_of(alloc: Global, history: &History) -> Result<Vec<u8>, AllocError>
     for event in events {
         write_event(alloc, &mut writer, event)?;
     }
-    match writer.into_inner() {
-        Ok(text) => Ok(text),
-        Err(_) => Err(AllocError),
-    }
+    let text = text_in(writer)?;
+    Ok(text)
 }
 
 /// Writes a history: the header, and then the record of each event, each ended by one newline. The whole text is built
@@ -82,8 +103,80 @@ pub fn write_history<W: Write>(
     ensures counts { CountsWrite (failures_in writer.old) (failures_in writer.new) result }
 {
     let text = text_of(alloc, history)?;
-    match writer.send(&text) {
-        Ok(()) => Ok(()),
-        Err(_) => Err(WriteRefusal::Device),
+    send_text(writer, &text)
+}
+
+// Writes the record of an event with its stamp to memory.
+fn write_stamped(
+    alloc: Global,
+    writer: &mut Writer<Vec<u8>>,
+    at: u64,
+    event: &Event,
+) -> Result<(), AllocError>
+    ensures small { at < 2 ^ 64 }
+    ensures line { OnOk result ((text : List ℕ) → Holds writer.old text → Holds writer.new (text ++ row_text default_writer (decimal at ∷ spelled event.now))) }
+{
+    let mut buffer = Buffer::new();
+    let stamp = buffer.format(at).as_bytes();
+    let fields = fields_of(alloc, event)?;
+    write_record(
+        writer,
+        &[
+            stamp,
+            fields[0].as_slice(),
+            fields[1].as_slice(),
+            fields[2].as_slice(),
+            fields[3].as_slice(),
+        ],
+    )?;
+    Ok(())
+}
+
+// A writer to memory that has written the header of a text with stamps.
+fn begin_stamped(alloc: Global) -> Result<Writer<Vec<u8>>, AllocError>
+    ensures { IfOk result (λ writer. Holds writer (stamped_lines [])) }
+{
+    let mut writer = WriterBuilder::new().from_writer(Vec::new(alloc));
+    write_record(
+        &mut writer,
+        &[
+            b"at".as_slice(),
+            b"event".as_slice(),
+            b"process".as_slice(),
+            b"op".as_slice(),
+            b"data".as_slice(),
+        ],
+    )?;
+    Ok(writer)
+}
+
+// The text of a history with a stamp for each event.
+fn stamped_text_of(alloc: Global, history: &History, at: &[u64]) -> Result<Vec<u8>, AllocError>
+    requires { length at.now ≡ length history.now }
+    ensures { IfOk result (λ text. text.items ≡ stamped_text at.now history.now) }
+{
+    let mut writer = begin_stamped(alloc)?;
+    let events = history.events();
+    for i in 0..events.len() {
+        write_stamped(alloc, &mut writer, at[i], &events[i])?;
     }
+    let text = text_in(writer)?;
+    Ok(text)
+}
+
+/// Writes a history with a stamp for each event, as `write_history` does without: the header has the field `at` before
+/// the others, and each record the stamp of its event. Records stand in the order of the events.
+pub fn write_history_stamped<W: Write>(
+    alloc: Global,
+    writer: &mut Counted<W>,
+    history: &History,
+    at: &[u64],
+) -> Result<(), WriteRefusal>
+    requires each { length at.now ≡ length history.now }
+    requires rising { IsStrictlyIncreasing at.now }
+    ensures text { Writes (W.contents (inner_of writer.old)) (W.contents (inner_of writer.new)) (stamped_text at.now history.now) result }
+    ensures counts { CountsWrite (failures_in writer.old) (failures_in writer.new) result }
+{
+    let text = stamped_text_of(alloc, history, at)?;
+    send_text(writer, &text)
 }

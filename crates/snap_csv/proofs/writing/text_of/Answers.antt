@@ -17,7 +17,7 @@ loop-event-preserved c =
     (ap (λ (t : List ℕ). history_text (take i events) ++ t) (line_of _ fits) ∙ sym (history_more events i _ c.loop-event-test.true))
     (rw c.event-item.is at (c.in_ok-write_event.ensures (history_text (take i events)) c.loop-event.invariant))
 
-pub returns-in-Ok : goal.returns-in-Ok
-returns-in-Ok c =
-    c.in-Ok.ensures.ok ∙ c.loop-event.invariant.bytes
+pub returns : goal.returns
+returns c =
+    c.in_ok-text.ensures _ c.loop-event.invariant
     ∙ ap history_text (take_all c.loop-event.event-index c.events-events.result.now c.loop-event-test.false ∙ c.events-events.ensures.events)

@@ -1,0 +1,13 @@
+use Rattle.std.proofs.Common.{◌≡◌, ◌≤◌, List, length}
+use Rattle.snap_csv.specs.Answers.{HasSeen}
+use Rattle.snap_csv.specs.Rows.{Fields, Stands}
+use Rattle.snap_csv.proofs.StampFacts.{MidStamped}
+use Rattle.snap_csv.proofs.stamped.read_stamped.Given as goal
+
+abbrev pub invariant-loop-i : goal.invariant-loop-i
+invariant-loop-i l = record {
+  seen : HasSeen l.seen l.stamped.items;
+  count : length l.stamped.items ≡ l.i;
+  room : l.i ≤ 16384;
+  midway : (rows : List Fields) → Stands l.fn.reader rows → MidStamped rows l.reader l.stamped.items l.i;
+}

@@ -1,0 +1,11 @@
+use Rattle.std.proofs.lemmas.Result.{err_from_is_err_and}
+use Rattle.snap_csv.proofs.StampFacts.{shapes_stop, whole}
+use Rattle.snap_csv.proofs.stamped.stamped_history.Goals as goal
+
+pub returns-in_err-stamped : goal.returns-in_err-stamped
+returns-in_err-stamped c = λ rows s.
+    let p = err_from_is_err_and c.from_residual.result c.from_residual.ensures.1 in
+    rw (p.1, p.2) (shapes_stop rows c.in_err-stamped.field-0.0 (c.in_err-stamped.ensures.reads rows s))
+
+pub returns : goal.returns
+returns c = λ rows s. whole rows c.in_ok-stamped.stamped.items c.sort_by_stamp.new.stamped.items c.take_turns.result (c.in_ok-stamped.ensures.reads rows s) c.sort_by_stamp.ensures.same c.sort_by_stamp.ensures.rising c.take_turns.ensures

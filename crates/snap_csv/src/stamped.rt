@@ -1,0 +1,131 @@
+ghost use Rattle.std.specs.Prelude.{◌≡◌, ◌==◌, List, ℕ, IfOk, OnOk};
+ghost use Rattle.std.specs.List.{IsDistinct};
+ghost use Rattle.std.specs.List.Sorted.{IsPermutation, IsStrictlyIncreasing};
+ghost use Rattle.csv.specs.Records.{fields_of};
+ghost use Rattle.snap_csv.specs.Answers.{AnswersStamps, HasSeen, ReadsStamped, TakesStamped, TakesTurns};
+ghost use Rattle.snap_csv.specs.Rows.{Fields, Stands};
+ghost use Rattle.snap_csv.specs.Stamps.{stamps_of};
+
+use crate::entries::Group;
+use crate::fields::{event_of_fields, five_fields};
+use crate::number::stamp_of;
+use crate::read::{ROW_LIMIT, push_event};
+use crate::refusal::{ReadRefusal, TextFault};
+use crate::rows::next_row;
+use csv::{ByteRecord, Reader};
+use snap_core::{EVENT_LIMIT, Event, History};
+use std::alloc::Global;
+use std::collections::BTreeSet;
+
+/// An event with its stamp and the number of its record.
+#[derive(Drop)]
+pub struct Stamped {
+    pub at: u64,
+    pub place: u32,
+    pub event: Event,
+}
+
+// Adds the stamped event of a record to those before it.
+fn take_stamped(
+    alloc: Global,
+    known: &mut Vec<Group>,
+    seen: &mut BTreeSet<u64>,
+    stamped: &mut Vec<Stamped>,
+    place: u32,
+    row: &ByteRecord,
+) -> Result<(), ReadRefusal>
+    requires { HasSeen seen.old stamped.old.items }
+    ensures row { TakesStamped place stamped.old.items stamped.new.items (fields_of row.now) result }
+    ensures seen { OnOk result (HasSeen seen.new stamped.new.items) }
+{
+    let Some((at, event, process, op, entries)) = five_fields(row) else {
+        return Err(ReadRefusal::Text {
+            place,
+            fault: TextFault::Fields,
+        });
+    };
+    if stamped.len() >= EVENT_LIMIT {
+        return Err(ReadRefusal::Text {
+            place,
+            fault: TextFault::TooMany,
+        });
+    }
+    let Some(at) = stamp_of(at) else {
+        return Err(ReadRefusal::Text {
+            place,
+            fault: TextFault::BadAt,
+        });
+    };
+    let event = event_of_fields(alloc, known, place, event, process, op, entries)?;
+    if !seen.insert(at)? {
+        return Err(ReadRefusal::Text {
+            place,
+            fault: TextFault::Repeated,
+        });
+    }
+    stamped.push(Stamped { at, place, event })?;
+    Ok(())
+}
+
+// The stamped events of the records that are left.
+fn read_stamped(
+    alloc: Global,
+    reader: &mut Reader<&[u8]>,
+    row: &mut ByteRecord,
+) -> Result<Vec<Stamped>, ReadRefusal>
+    ensures reads { (rows : List Fields) → Stands reader.old rows → ReadsStamped rows result }
+    ensures distinct { IfOk result (λ stamped. IsDistinct (λ (a : ℕ) (b : ℕ). a == b) (stamps_of stamped.items)) }
+{
+    let mut known = Vec::new(alloc);
+    let mut seen = BTreeSet::new(alloc);
+    let mut stamped = Vec::new(alloc);
+    for i in 0..ROW_LIMIT {
+        if !next_row(reader, row)? {
+            return Ok(stamped);
+        }
+        take_stamped(alloc, &mut known, &mut seen, &mut stamped, i + 2, row)?;
+    }
+    let _len = stamped.len();
+    unreachable!()
+}
+
+// Sorts events by their stamps.
+fn sort_by_stamp(stamped: &mut Vec<Stamped>)
+    requires { IsDistinct (λ (a : ℕ) (b : ℕ). a == b) (stamps_of stamped.old.items) }
+    ensures same { IsPermutation stamped.old.items stamped.new.items }
+    ensures rising { IsStrictlyIncreasing (stamps_of stamped.new.items) }
+{
+    stamped.sort_unstable_by_key(
+        |event| -> u64
+            ensures { result ≡ event.now.at }
+        { event.at },
+    );
+}
+
+// The history of events in this order.
+fn take_turns(alloc: Global, stamped: Vec<Stamped>) -> Result<History, ReadRefusal>
+    ensures { TakesTurns stamped.items result }
+{
+    let mut history = History::new(alloc);
+    'each: for Stamped {
+        at: _,
+        place,
+        event,
+    } in stamped {
+        push_event(&mut history, place, event)?;
+    }
+    Ok(history)
+}
+
+/// The history of the records that a reader has left, each with a stamp, or their first fault.
+pub fn stamped_history(
+    alloc: Global,
+    reader: &mut Reader<&[u8]>,
+    row: &mut ByteRecord,
+) -> Result<History, ReadRefusal>
+    ensures { (rows : List Fields) → Stands reader.old rows → AnswersStamps rows result }
+{
+    let mut stamped = read_stamped(alloc, reader, row)?;
+    sort_by_stamp(&mut stamped);
+    take_turns(alloc, stamped)
+}
