@@ -1,0 +1,17 @@
+# Completions of snapjudge for bash.
+_snapjudge() {
+  local word=${COMP_WORDS[COMP_CWORD]} before=${COMP_WORDS[COMP_CWORD - 1]} words=
+  case $before in
+    --pieces | --workers | --rounds) return ;;
+  esac
+  case ${COMP_WORDS[1]} in
+    check)
+      words='--pieces --workers --help'
+      [[ $word == -* ]] || { mapfile -t COMPREPLY < <(compgen -f -- "$word"); return; }
+      ;;
+    record) words='--workers --rounds --scan --judge --stamped --help' ;;
+    *) words='check record --help --version' ;;
+  esac
+  mapfile -t COMPREPLY < <(compgen -W "$words" -- "$word")
+}
+complete -o filenames -F _snapjudge snapjudge

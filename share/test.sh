@@ -1,0 +1,117 @@
+#!/bin/sh
+# Tries the launcher, the build and the installation over the program in built/. The last line is 'N passed, M failed'.
+set -u
+top=$(cd "$(dirname "$0")/.." && pwd)
+examples=$top/examples
+room=$(mktemp -d) || exit 1
+trap 'rm -rf "$room"' EXIT
+passed=0
+failed=0
+
+# Runs a command, and compares status and output with what is wanted of them. Standard error is kept in $room/err.
+expect() {
+  name=$1 status=$2 output=$3
+  shift 3
+  "$@" >"$room/out" 2>"$room/err" </dev/null
+  found=$?
+  if [ "$found" = "$status" ] && printf '%s' "$output" | cmp -s - "$room/out"; then
+    passed=$((passed + 1))
+  else
+    failed=$((failed + 1))
+    echo "$name: status $found, wanted $status; it wrote"
+    cat "$room/out" "$room/err"
+  fi
+}
+
+# Compares standard error of the last command, a line or nothing.
+expect_said() {
+  if { [ -z "$2" ] || printf '%s\n' "$2"; } | cmp -s - "$room/err"; then
+    passed=$((passed + 1))
+  else
+    failed=$((failed + 1))
+    echo "$1: standard error has"
+    cat "$room/err"
+  fi
+}
+
+# The report of an example, each line behind a front, with its last newline, which a substitution would drop, before a dot.
+report_of() {
+  sed "s/^/$2/" "$examples/$1.report"
+  printf .
+}
+stale=$(report_of stale-view '')
+stale=${stale%.}
+inversion=$(report_of new-old-inversion '')
+inversion=${inversion%.}
+named_inversion=$(report_of new-old-inversion 'old.csv: ')
+named_inversion=${named_inversion%.}
+named_stale=$(report_of stale-view 'a b.csv: ')
+named_stale=${named_stale%.}
+
+ln -s "$top/snapjudge" "$room/first"
+ln -s first "$room/second"
+cd "$room" || exit 1
+expect "a file" 2 "$stale" "$top/snapjudge" check "$examples/stale-view.csv"
+expect "a file through two symbolic links" 1 "$inversion" ./second check "$examples/new-old-inversion.csv"
+expect "a file between options" 1 "$inversion" ./second check --pieces 3 "$examples/new-old-inversion.csv" --workers=4
+expect "a file after two hyphens" 1 "$inversion" ./second check -- "$examples/new-old-inversion.csv"
+cp "$examples/new-old-inversion.csv" old.csv
+cp "$examples/stale-view.csv" "a b.csv"
+expect "two files, the greatest status" 2 "$named_inversion$named_stale" ./second check old.csv "a b.csv"
+expect "a file that is not there" 4 "" ./second check none.csv
+expect_said "its name and the reason" "snapjudge: none.csv: no such file"
+expect "a folder" 4 "" ./second check "$room"
+expect_said "its name and the reason" "snapjudge: $room: is a directory"
+expect "a file among others that is not there" 4 "$named_inversion" ./second check none.csv old.csv
+expect "a file without its command" 5 "" ./second old.csv
+expect_said "the tip" "snapjudge: to judge a file, write: snapjudge check old.csv"
+
+"$top/install" "$room/prefix" >/dev/null
+expect "the installed program" 2 "$stale" "$room/prefix/bin/snapjudge" check "$examples/stale-view.csv"
+expect "its version" 0 "$(cat "$top/built/snapjudge.version")
+" "$room/prefix/bin/snapjudge" --version
+"$top/install" --remove "$room/prefix" >/dev/null
+expect "what is left of it" 0 "" find "$room/prefix" -type f
+
+# A tree of one crate, with a prover that does what the file `answer` says.
+mkdir -p tree/crates/snapjudge/src tree/crates/snapjudge/out bin
+cp "$top/snapjudge" "$top/build" tree
+echo snapjudge: >tree/crates.txt
+echo 0 >tree/VERSION
+echo old >tree/crates/snapjudge/src/main.rt
+cat >bin/rt <<'RT'
+#!/bin/sh
+[ "$1" != version ] || { echo a prover; exit; }
+[ "$(cat "$ANSWER")" = proved ] || { echo "not proved: main"; exit 1; }
+{ echo '#!/bin/sh'; echo "echo $(cat src/main.rt)"; } >out/snapjudge
+chmod +x out/snapjudge
+exit 5
+RT
+chmod +x bin/rt
+export ANSWER="$room/answer"
+export PATH="$room/bin:$PATH"
+echo proved >answer
+expect "a first build" 0 "old
+" tree/snapjudge check
+expect_said "how far it is" "snapjudge: proving snapjudge, 1 of 1"
+expect "a program that is there" 0 "old
+" tree/snapjudge check
+expect_said "nothing" ""
+sleep 1.1
+echo new >tree/crates/snapjudge/src/main.rt
+echo refused >answer
+for call in first second; do
+  expect "an edit that does not build, $call call" 70 "" tree/snapjudge check
+  expect_said "the reason" "snapjudge: proving snapjudge, 1 of 1
+snapjudge: the build failed: not proved: main"
+done
+echo proved >answer
+expect "the edit, once it builds" 0 "new
+" tree/snapjudge check
+sleep 1.1
+touch tree/crates/snapjudge/src/main.rt
+rm bin/rt
+expect "an edit, with no prover on the path" 70 "" env PATH=/usr/bin:/bin tree/snapjudge check
+
+echo "$passed passed, $failed failed"
+[ "$failed" = 0 ]
