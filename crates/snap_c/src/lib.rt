@@ -3,9 +3,13 @@
 
 ghost use Rattle.std.specs.Prelude.{◌≡◌};
 ghost use Rattle.snap_c.specs.Answers.{IsChecked};
+ghost use Rattle.snap_c.specs.declared.version.TheConstants.{VERSION as version};
+
+mod version;
 
 use snap_verdict::judge_text;
 use std::alloc::Global;
+use version::VERSION;
 
 /// What is answered where memory ran out.
 const NO_MEMORY: u32 = 4;
@@ -15,8 +19,8 @@ const NO_ROOM: u32 = 5;
 
 /// Judges a text. The answer is 0 where it is an atomic history, 1 where it is one that is regular and not atomic, 2 where it
 /// is one that is neither, and 3 where it is no history; then the report stands at the front of `report`, `length` bytes
-/// long. It is 5 where the report does not fit into `report`: `length` is then how many bytes it has. It is 4 where memory
-/// ran out. After 4 and 5 nothing was written into `report`.
+/// long, and the rest of `report` is unchanged. It is 5 where the report does not fit into `report`: `length` is then how many
+/// bytes it has. It is 4 where memory ran out, and `length` is then 0. After 4 and 5 nothing was written into `report`.
 #[unsafe(no_mangle)]
 pub extern "C" fn snapjudge_check(
     alloc: Global,
@@ -41,6 +45,14 @@ pub extern "C" fn snapjudge_check(
             NO_MEMORY
         }
     }
+}
+
+/// The version of the library, to be compared with that of the header or the wrapper.
+#[unsafe(no_mangle)]
+pub extern "C" fn snapjudge_version() -> u32
+    ensures { result ≡ version }
+{
+    VERSION
 }
 
 #[cfg(test)]

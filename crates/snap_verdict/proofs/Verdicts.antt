@@ -1,9 +1,12 @@
 -- The verdict on a history, by the tally of its completed views.
-use Rattle.std.proofs.Common.{◌≡◌, ◌⊎◌, ◌∙◌, ◌↔◌, ℕ, Bool, true, false, List, Option, Some, None, map, refl, sym, ap, subst, inl, inr}
-use Rattle.std.specs.Prelude.{IsTrue}
+use Rattle.std.proofs.Common.{arith, ◌-◌, length, ◌≡◌, ◌⊎◌, ◌∙◌, ◌↔◌, ℕ, Bool, true, false, List, Option, Some, None, map, refl, sym, ap, subst, inl, inr}
+use Rattle.std.specs.Borrow.{Bor}
+use Rattle.std.specs.Prelude.{IsTrue, is_some, option_copied, option_map}
+use Rattle.std.specs.Option.{ForSome}
 use Rattle.std.specs.List.{All}
 use Rattle.std.proofs.lemmas.Bool.{and_from, and_parts, eq-eqb, eqb-true}
 use Rattle.std.proofs.lemmas.List.Elements.{All-map}
+use Rattle.std.proofs.lemmas.List.{take_all}
 use Rattle.snap_core.specs.declared.event.Event.{Event}
 use Rattle.snap_core.specs.Calls.{Call, Operation, Updates, Views, calls_of, is_view, views_of}
 use Rattle.snap_core.specs.Events.{HasByteComponents, IsKept}
@@ -14,7 +17,7 @@ use Rattle.snap_core.proofs.Histories.{numbered_calls}
 use Rattle.snap_core.proofs.Lists.{Contains-from_In, In, In-get_or}
 use Rattle.snap_conditions.specs.declared.tally.Tally.{Tally}
 use Rattle.snap_conditions.specs.Faults.{HasNoFault}
-use Rattle.snap_conditions.specs.Tally.{CountsNoFault, CountsNoLocalFault, tally_of}
+use Rattle.snap_conditions.specs.Tally.{CountsNoFault, CountsNoLocalFault, tally_of, views_between}
 use Rattle.snap_conditions.proofs.Ranges.{no_fault_by_tally, regular_by_tally}
 use Rattle.snap_index.proofs.Known.{number_within, own_number}
 use Rattle.snap_order.specs.Levels.{is_printed, printed_order, stands_by}
@@ -26,7 +29,6 @@ use Rattle.snap_report.specs.Orders.{HasLine, calls_numbered}
 use Rattle.snap_report.specs.Reports.{finding_lines, has_no_fault, has_no_local_fault, report_lines, report_text}
 use Rattle.snap_report.specs.Lines.{Line, text_of}
 use Rattle.snap_verdict.specs.declared.status.Status.{Status}
-use Rattle.snap_verdict.specs.declared.status.Status.TheVariants.{Atomic, Regular, Irregular}
 use Rattle.snap_verdict.specs.Statuses.{status_of}
 use Rattle.snap_verdict.specs.Verdicts.{IsVerdict, findings}
 
@@ -74,12 +76,21 @@ calls_of_order es numbers e =
 
 -- ---- the verdict
 
+abbrev pub IsPrintedList : List Event → List ℕ → Type 0
+IsPrintedList es numbers = numbers ≡ map (λ c. c.number) (printed_order (calls_of es))
+
 pub record IsTallied (es : List Event) (t : Tally) : Type 0 where
   pub kept : IsKept es
   pub whole : t ≡ tally_of (calls_of es) (views_of (calls_of es))
 
-pub no_fault_then : (es : List Event) (t : Tally) → IsTallied es t → CountsNoFault t → HasNoFault (calls_of es)
-no_fault_then es t w h = (no_fault_by_tally (calls_of es)).0 (subst CountsNoFault w.whole h)
+pub no_fault_then : (es : List Event) (t : Tally) → t ≡ tally_of (calls_of es) (views_of (calls_of es)) → CountsNoFault t → HasNoFault (calls_of es)
+no_fault_then es t whole h = (no_fault_by_tally (calls_of es)).0 (subst CountsNoFault whole h)
+
+pub of_all_views : (es grid : List Event) (count : ℕ) (t : Tally) → grid ≡ es → count ≡ length (views_of (calls_of es)) → t ≡ tally_of (calls_of grid) (views_between (calls_of grid) 0 count) →
+    t ≡ tally_of (calls_of es) (views_of (calls_of es))
+of_all_views es grid count t same counted e =
+    subst (λ (g : List Event). t ≡ tally_of (calls_of g) (views_between (calls_of g) 0 count)) same e
+    ∙ ap (tally_of (calls_of es)) (take_all (count - 0) (views_of (calls_of es)) (omega (arith, counted)))
 
 bytes_in : (es : List Event) → IsKept es → HasByteComponents es
 bytes_in es k = bytes_of_events es k.fit
@@ -92,7 +103,7 @@ regular_is es t w =
 atomic_is : (es : List Event) (t : Tally) → IsTallied es t → IsTrue (has_no_fault t) ↔ IsAtomic (calls_of es)
 atomic_is es t w =
     let law = atomic_exactly es w.kept.history (bytes_in es w.kept) in (
-      λ e. law.1 (no_fault_then es t w (all_from t e)),
+      λ e. law.1 (no_fault_then es t w.whole (all_from t e)),
       λ a. all_to t (subst CountsNoFault (sym w.whole) ((no_fault_by_tally (calls_of es)).1 (law.0 a))),
     )
 
@@ -109,27 +120,14 @@ verdict_is es t w order f g status out s o =
       atomic = has_no_fault t;
       regular_exactly = regular_is es t w;
       atomic_exactly = atomic_is es t w;
-      legal = λ e. prints_legal_order es w.kept.history (bytes_in es w.kept) (no_fault_then es t w (all_from t e));
+      legal = λ e. prints_legal_order es w.kept.history (bytes_in es w.kept) (no_fault_then es t w.whole (all_from t e));
       answers = s;
       writes = o ∙ ap (λ (lines : List Line). text_of (report_lines es (has_no_local_fault t) (has_no_fault t) lines)) (finding_is es t w order (has_no_fault t) refl f g);
     }
 
-pub atomic_verdict : (es : List Event) (t : Tally) → IsTallied es t → CountsNoFault t → (numbers : List ℕ) → numbers ≡ map (λ c. c.number) (printed_order (calls_of es)) →
-    (out : List ℕ) → out ≡ report_text es t (Some (calls_numbered (calls_of es) numbers)) → IsVerdict es Atomic out
-atomic_verdict es t w h numbers e out o =
-    let yes_all = all_to t h in
-    verdict_is es t w (Some (calls_numbered (calls_of es) numbers)) (λ u. ap Some (calls_of_order es numbers e)) (λ u. absurd (cc)) Atomic out (rw yes_all refl) o
-
-pub other_verdict : (es : List Event) (t : Tally) → IsTallied es t → (CountsNoFault t → ⊥) → (out : List ℕ) → out ≡ report_text es t None → (status : Status) → status ≡ status_of (has_no_local_fault t) false → IsVerdict es status out
-other_verdict es t w h out o status s =
-    let no_all : has_no_fault t ≡ false = not_true _ (λ e. h (all_from t e)) in
-    verdict_is es t w None (λ u. absurd (cc)) (λ u. refl) status out (s ∙ ap (status_of (has_no_local_fault t)) (sym no_all)) o
-
-pub regular_status : (t : Tally) → CountsNoLocalFault t → Regular ≡ status_of (has_no_local_fault t) false
-regular_status t h = let yes_local = local_to t h in rw yes_local refl
-
-pub irregular_status : (t : Tally) → (CountsNoLocalFault t → ⊥) → Irregular ≡ status_of (has_no_local_fault t) false
-irregular_status t h = let no_local : has_no_local_fault t ≡ false = not_true _ (λ e. h (local_from t e)) in rw no_local refl
-
-pub no_order_then : (t : Tally) → (CountsNoFault t → ⊥) → false ≡ has_no_fault t
-no_order_then t h = sym (not_true _ (λ e. h (all_from t e)))
+pub verdict_by : (es : List Event) (t : Tally) → IsTallied es t → (order : Option (Bor (List ℕ))) → is_some order ≡ has_no_fault t →
+    ForSome order (λ numbers. IsPrintedList es numbers.now) → (status : Status) (out : List ℕ) → status ≡ status_of (has_no_local_fault t) (has_no_fault t) →
+    out ≡ report_text es t (option_map (calls_numbered (calls_of es)) (option_copied order)) → IsVerdict es status out
+verdict_by es t w None given h status out s o = verdict_is es t w None (λ u. absurd (cc)) (λ u. refl) status out s o
+verdict_by es t w (Some numbers) given h status out s o =
+    verdict_is es t w (Some (calls_numbered (calls_of es) numbers.now)) (λ u. ap Some (calls_of_order es numbers.now (h numbers refl))) (λ u. absurd (cc)) status out s o

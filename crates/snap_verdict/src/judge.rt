@@ -1,36 +1,39 @@
-ghost use Rattle.std.specs.Prelude.{◌≡◌, IfOk, IsSome, IfSome, map, ◌↔◌};
+ghost use Rattle.std.specs.Prelude.{◌≡◌, IfOk, is_some, map};
+ghost use Rattle.std.specs.Option.{ForSome};
 ghost use Rattle.snap_core.specs.Calls.{calls_of, views_of};
-ghost use Rattle.snap_core.specs.Events.{IsKept};
-ghost use Rattle.snap_conditions.specs.Tally.{tally_of, CountsNoFault};
+ghost use Rattle.snap_conditions.specs.Tally.{tally_of};
+ghost use Rattle.snap_order.specs.Levels.{printed_order};
+ghost use Rattle.snap_report.specs.Reports.{has_no_fault};
 ghost use Rattle.snap_verdict.specs.Verdicts.{IsVerdict};
 ghost use Rattle.snap_verdict.specs.Reports.{IsReport};
 
-use crate::status::Status;
-use snap_conditions::{Tally, is_atomic, is_regular, tally_range};
+use crate::status::{Status, status_by};
+use snap_conditions::{Tally, ViewGrid, is_atomic};
 use snap_core::History;
 use snap_csv::{ReadRefusal, read_text};
 use snap_index::Index;
 use snap_order::build_alone;
-use snap_report::{refusal_text, report};
+use snap_report::{refusal_text, report_in};
 use std::alloc::{AllocError, Global};
 
-// The status and the report of a history, from the tally of all its completed views.
-fn alone(alloc: Global, index: &Index<'_>, tally: &Tally) -> Result<(Status, Vec<u8>), AllocError>
-    requires history { IsKept index.now }
+/// The status and the report of a history, by its index, the tally of all its completed views, and the numbers of its printed
+/// order, which is given exactly where the tally has no fault. The report takes the memory of a vector; what the vector had is
+/// lost.
+pub fn verdict_of(
+    index: &Index<'_>,
+    tally: &Tally,
+    order: Option<&[u32]>,
+    room: Vec<u8>,
+) -> Result<(Status, Vec<u8>), AllocError>
     requires tally { tally.now ≡ tally_of (calls_of index.now) (views_of (calls_of index.now)) }
+    requires given { is_some order ≡ has_no_fault tally.now }
+    requires order { ForSome order (λ numbers. numbers.now ≡ map (λ c. c.number) (printed_order (calls_of index.now))) }
     ensures { IfOk result (λ answer. IsVerdict index.now answer.0 answer.1.items) }
 {
-    if is_atomic(tally) {
-        let order = build_alone(alloc, index)?;
-        let text = report(alloc, index, tally, Some(&order))?;
-        return Ok((Status::Atomic, text));
-    }
-    let text = report(alloc, index, tally, None)?;
-    if is_regular(tally) {
-        Ok((Status::Regular, text))
-    } else {
-        Ok((Status::Irregular, text))
-    }
+    // what is known of the history that the index is of
+    let _events = index.event_count();
+    let text = report_in(room, index, tally, order)?;
+    Ok((status_by(tally), text))
 }
 
 /// The status and the report of a history, without a runtime: on the calling thread alone.
@@ -38,12 +41,18 @@ pub fn verdict_alone(alloc: Global, history: &History) -> Result<(Status, Vec<u8
     ensures { IfOk result (λ answer. IsVerdict history.now answer.0 answer.1.items) }
 {
     let index = Index::build(alloc, history)?;
-    let _events = index.event_count();
-    let tally = tally_range(&index, 0, index.view_count());
-    alone(alloc, &index, &tally)
+    let tally = ViewGrid::build(alloc, &index)?.tally(alloc, 0, index.view_count())?;
+    let room = Vec::new(alloc);
+    if is_atomic(&tally) {
+        let order = build_alone(alloc, &index)?;
+        verdict_of(&index, &tally, Some(&order), room)
+    } else {
+        verdict_of(&index, &tally, None, room)
+    }
 }
 
-/// The status and the report of a text in memory, without a runtime: on the calling thread alone.
+/// The status and the report of a text in memory, without a runtime: on the calling thread alone. A text that is no history is
+/// refused, with the line of its first fault.
 pub fn judge_text(alloc: Global, text: &[u8]) -> Result<(Status, Vec<u8>), AllocError>
     ensures { IfOk result (λ answer. IsReport text.now answer.0 answer.1.items) }
 {

@@ -5,6 +5,9 @@ mod judge;
 mod law;
 mod status;
 
-pub use judge::{judge_text, verdict_alone};
+pub use judge::{judge_text, verdict_alone, verdict_of};
 pub use law::one_report;
 pub use status::Status;
+
+#[cfg(test)]
+mod tests;

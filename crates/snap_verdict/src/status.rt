@@ -1,5 +1,8 @@
 ghost use Rattle.std.specs.Prelude.{◌≡◌};
-ghost use Rattle.snap_verdict.specs.Statuses.{code_of};
+ghost use Rattle.snap_report.specs.Reports.{has_no_fault, has_no_local_fault};
+ghost use Rattle.snap_verdict.specs.Statuses.{code_of, status_of};
+
+use snap_conditions::{Tally, is_atomic, is_regular};
 
 /// How a finished run ended.
 #[derive(Clone, Copy, Debug, PartialEq, Eq)]
@@ -27,5 +30,18 @@ impl Status {
             Status::Irregular => 2,
             Status::Refused => 3,
         }
+    }
+}
+
+/// The status of a history, by the tally of all its completed views.
+pub(crate) fn status_by(tally: &Tally) -> Status
+    ensures { result ≡ status_of (has_no_local_fault tally.now) (has_no_fault tally.now) }
+{
+    if is_atomic(tally) {
+        Status::Atomic
+    } else if is_regular(tally) {
+        Status::Regular
+    } else {
+        Status::Irregular
     }
 }

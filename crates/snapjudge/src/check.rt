@@ -1,49 +1,21 @@
-ghost use Rattle.std.specs.Prelude.{◌≡◌, IfOk};
-ghost use Rattle.snap_core.specs.Calls.{calls_of, views_of};
+ghost use Rattle.std.specs.Prelude.{IfOk};
 ghost use Rattle.snap_core.specs.Counting.{failures_in, inner_of};
-ghost use Rattle.snap_core.specs.Events.{IsKept};
-ghost use Rattle.snap_conditions.specs.Tally.{tally_of};
 ghost use Rattle.snapjudge.specs.Runs.{JudgeCounts, Judges, RunCounts, Wrote};
 ghost use Rattle.snap_verdict.specs.Verdicts.{IsVerdict};
 
 use crate::fault::RunFault;
-use snap_conditions::{Tally, is_atomic, is_regular};
+use snap_conditions::is_atomic;
 use snap_core::{Counted, Gate, History};
 use snap_csv::{ReadRefusal, read_history_in};
 use snap_index::Index;
 use snap_order::build;
 use snap_pairs::{Cutting, tally};
-use snap_report::{refusal_text, report_in};
-use snap_verdict::Status;
+use snap_report::refusal_text;
+use snap_verdict::{Status, verdict_of};
 use std::alloc::{AllocError, Global};
 use std::io::{Read, Write};
 use std::sync::Wait;
 use std::thread::Threads;
-
-// The status and the report of a history, from the tally of all its completed views. The report takes the memory of a vector.
-fn answer<Rt: Threads + Wait + Sync>(
-    rt: &Rt,
-    alloc: Global,
-    index: &Index<'_>,
-    tally: &Tally,
-    room: Vec<u8>,
-) -> Result<(Status, Vec<u8>), AllocError>
-    requires history { IsKept index.now }
-    requires tally { tally.now ≡ tally_of (calls_of index.now) (views_of (calls_of index.now)) }
-    ensures { IfOk result (λ answer. IsVerdict index.now answer.0 answer.1.items) }
-{
-    if is_atomic(tally) {
-        let order = build(rt, alloc, index)?;
-        let text = report_in(room, index, tally, Some(&order))?;
-        return Ok((Status::Atomic, text));
-    }
-    let text = report_in(room, index, tally, None)?;
-    if is_regular(tally) {
-        Ok((Status::Regular, text))
-    } else {
-        Ok((Status::Irregular, text))
-    }
-}
 
 // The status and the report of a history. The report takes the memory of a vector.
 pub(crate) fn verdict<Rt: Threads + Wait + Sync, G: Gate>(
@@ -57,9 +29,13 @@ pub(crate) fn verdict<Rt: Threads + Wait + Sync, G: Gate>(
     ensures { IfOk result (λ answer. IsVerdict history.now answer.0 answer.1.items) }
 {
     let index = Index::build(alloc, history)?;
-    let _events = index.event_count();
     let tally = tally(rt, alloc, &index, cutting, gate)?;
-    answer(rt, alloc, &index, &tally, room)
+    if is_atomic(&tally) {
+        let order = build(rt, alloc, &index)?;
+        verdict_of(&index, &tally, Some(&order), room)
+    } else {
+        verdict_of(&index, &tally, None, room)
+    }
 }
 
 // The status and the report of the text that a reader has.

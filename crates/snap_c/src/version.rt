@@ -1,0 +1,2 @@
+/// The version of the calls and of what they answer: it rises where either changes.
+pub const VERSION: u32 = 1;

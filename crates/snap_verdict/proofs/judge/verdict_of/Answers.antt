@@ -1,0 +1,10 @@
+use Rattle.snap_verdict.proofs.Verdicts.{lines_of_order, verdict_by}
+use Rattle.snap_verdict.proofs.judge.verdict_of.Goals as goal
+
+pub report_in-requires-clause-calls : goal.report_in-requires-clause-calls
+report_in-requires-clause-calls c = λ numbers given. lines_of_order c.args.index.now numbers.now (c.requires.order numbers given)
+
+pub returns : goal.returns
+returns c =
+    verdict_by c.args.index.now c.args.tally.now (record { kept = c.event_count-events.ensures.kept; whole = c.requires.tally }) c.args.order
+    c.requires.given c.requires.order c.status_by.result c.in_ok-text.text.items c.status_by.ensures c.in_ok-text.ensures
