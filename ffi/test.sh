@@ -1,15 +1,88 @@
 #!/usr/bin/env bash
-# Runs the examples through the library from C, C++, Rust and Python, and the recorders. Build first: ffi/build.sh
-set -eu
-cd "$(dirname "${BASH_SOURCE[0]}")"
-b=$PWD/build
-program=${SNAPJUDGE_PROGRAM:-$PWD/../crates/snapjudge/out/snapjudge}
-cc -O2 -std=c11 -Wall -Wextra -pedantic -o "$b/examples_test" c/examples_test.c "$b/libsnapjudge.a" -pthread && "$b/examples_test" ../examples/*.csv
-cc -O2 -o "$b/memory_test" c/memory_test.c "$b/libsnapjudge.a" -Wl,--wrap=malloc -Wl,--wrap=realloc -Wl,--wrap=free && "$b/memory_test"
-c++ -std=c++17 -Wall -Wextra -pedantic -x c++ -fsyntax-only c/snapjudge.h
-(cd rust/snapjudge && SNAPJUDGE_LIB=$b CARGO_TARGET_DIR=$b/target cargo test --offline -q)
-(cd python && SNAPJUDGE_LIBRARY=$b/libsnapjudge.so python3 -m unittest -q test_snapjudge)
-cc -std=gnu11 -O2 -o "$b/try" record/c/try.c "$b/libsnapjudge.a" -pthread
-for object in double naive; do "$b/try" $object 4 200 60 1 1; done
-javac -d "$b/java" record/java/*.java && java -cp "$b/java" Try "$program"
-SNAPJUDGE_LIBRARY=$b/libsnapjudge.so python3 record/python/try_record.py
+# Builds the library and tries it from C, C++, Rust and Python on the examples, with little room, with refused memory and from
+# eight threads on small stacks. The last line is 'N passed, M failed'. A language whose compiler is missing is skipped.
+set -u
+cd "$(dirname "${BASH_SOURCE[0]}")" || exit 1
+build=$PWD/build
+passed=0
+failed=0
+log=$(mktemp)
+trap 'rm -f "$log"' EXIT
+
+# try NAME COMMAND ..: one test, which passes where the command ends with 0
+try() {
+  local name=$1
+  shift
+  if "$@" >"$log" 2>&1; then
+    echo "ffi: $name: passed"
+    passed=$((passed + 1))
+  else
+    tail -n 20 "$log"
+    echo "ffi: $name: FAILED"
+    failed=$((failed + 1))
+  fi
+}
+
+# has PROGRAM LANGUAGE: whether there is such a program; else says that the language is skipped
+has() {
+  command -v "$1" >/dev/null && return 0
+  echo "ffi: $2: skipped, there is no $1"
+  return 1
+}
+
+# compiled COMPILER FLAGS: the tests in C or C++, with the static and the shared library
+compiled() {
+  local flags="-Ic -O2 -Wall -Wextra -pedantic"
+  local wrapped=-Wl,--wrap=malloc,--wrap=realloc,--wrap=free
+  $1 $2 $flags -o "$build/test_static" c/test_examples.c -x none "$build/libsnapjudge.a" -pthread &&
+    "$build/test_static" ../examples/*.csv &&
+    $1 $2 $flags -o "$build/test_shared" c/test_examples.c -x none -L"$build" -lsnapjudge -Wl,-rpath,"$build" -pthread &&
+    "$build/test_shared" ../examples/*.csv &&
+    $1 $2 $flags -Wno-unused -o "$build/test_memory" c/test_memory.c -x none "$build/libsnapjudge.a" $wrapped &&
+    "$build/test_memory"
+}
+
+# only the two calls are seen
+two_names() {
+  [ "$(nm --defined-only -g --format=just-symbols "$build/libsnapjudge.a" | grep -v ':$' | sort | xargs)" = "snapjudge_check snapjudge_version" ] &&
+    [ "$(nm -D --defined-only --format=just-symbols "$build/libsnapjudge.so" | grep '^snapjudge' | sort | xargs)" = "snapjudge_check snapjudge_version" ]
+}
+
+rust() {
+  (cd rust/snapjudge && SNAPJUDGE_LIB=$build CARGO_TARGET_DIR=$build/target cargo test --offline -q)
+}
+
+python() {
+  (cd python && SNAPJUDGE_LIBRARY=$build/libsnapjudge.so python3 -B -m unittest -q test_snapjudge)
+}
+
+# what pip makes of the folder, without a network
+installed() {
+  rm -rf "$build/installed"
+  python3 -m pip install -q --no-index --disable-pip-version-check --root-user-action=ignore --target "$build/installed" ./python &&
+    (cd "$build" && env -u SNAPJUDGE_LIBRARY PYTHONPATH="$build/installed" python3 -B -c '
+import snapjudge, sys
+assert snapjudge.__file__.startswith(sys.argv[1]), snapjudge.__file__
+for name in sys.argv[2:]:
+    with open(name, "rb") as text, open(name[:-4] + ".report") as wanted:
+        assert snapjudge.report(text.read())[1] == wanted.read(), name
+' "$build/installed" "$build"/../../examples/*.csv)
+}
+
+for tool in cc ar ld objcopy nm; do
+  if ! has $tool "all languages"; then
+    echo "$passed passed, $failed failed"
+    exit 0
+  fi
+done
+try "build" ./build.sh "$build"
+if [ "$failed" = 0 ]; then
+  try "two names" two_names
+  try "C" compiled cc -std=c11
+  has c++ "C++" && try "C++" compiled c++ "-std=c++17 -x c++"
+  has cargo "Rust" && try "Rust" rust
+  has python3 "Python" && try "Python" python && try "Python by pip" installed
+fi
+
+echo "$passed passed, $failed failed"
+[ "$failed" = 0 ]

@@ -1,10 +1,10 @@
-/* The judge of histories of a single-writer board, for C and C++.
+/* The judge of recorded histories of a single-writer board, for C and C++.
  *
- * What snapjudge_check answers and writes is proved, from the contract of the export (crates/snap_c/src/lib.rt); what
- * stands in this header besides its declaration is not.
+ * What snapjudge_check answers and writes is proved: the contract stands on the export, in crates/snap_c/src/lib.rt. This
+ * header is not proved.
  *
- * Link: cc harness.c libsnapjudge.a   (or -L. -lsnapjudge for the shared object). It needs nothing but the C library's
- * malloc, realloc, free, memcpy, memmove and memset. x86-64 of the level v2 (SSE4.2), Linux. */
+ * Build and link: ffi/build.sh, then  cc harness.c -Iffi/c ffi/build/libsnapjudge.a  (or -Lffi/build -lsnapjudge for the
+ * shared library). Of the C library it needs malloc, realloc, free, memcpy, memmove and memset. x86-64 of level v2, Linux. */
 #ifndef SNAPJUDGE_H
 #define SNAPJUDGE_H
 
@@ -16,6 +16,9 @@
 extern "C" {
 #endif
 
+/* The version that this header is for: snapjudge_version() of a library that fits. */
+#define SNAPJUDGE_VERSION 1
+
 enum {
     SNAPJUDGE_ATOMIC = 0,    /* the history is atomic */
     SNAPJUDGE_REGULAR = 1,   /* it is regular, and not atomic */
@@ -25,26 +28,35 @@ enum {
     SNAPJUDGE_NO_ROOM = 5    /* the report does not fit: nothing was written, *report_length is how many bytes it has */
 };
 
-/* Judges the text_length bytes at text. For 0 to 3 the report stands at the front of the room bytes at report, and
- * *report_length is its length; no 0 byte follows it. The rest of the room is unchanged.
+/* Judges the text_length bytes at text. From 0 to 3 the report stands at the front of the room bytes at report, and
+ * *report_length is its length; no 0 byte follows it, and the rest of the room is unchanged. The report and the status are
+ * those of `snapjudge check`.
  *
- * The caller owes: text, report and report_length are not null, also where a length is 0; the three lie apart from one
- * another; nobody else touches report and report_length during the call, nor writes text. All room bytes at report have
- * been written before once (calloc, or memset), as a `&mut [u8]` has. The call holds no state: any number of threads may
- * call at once. It is not to be called from a signal handler, nor in the forked child of a process with threads. */
+ * What the caller owes, and nothing checks:
+ *   - text, report and report_length are not null, also where text_length or room is 0;
+ *   - the three places lie apart from one another;
+ *   - all room bytes at report were written once before (calloc or memset does);
+ *   - during the call nobody writes text, and nobody reads or writes report and *report_length;
+ *   - malloc, realloc and free are those of one allocator, as of the C library;
+ *   - the call is not made from a signal handler, nor in the forked child of a process with threads;
+ *   - the calling thread has 128 KiB of stack.
+ * The library keeps nothing from call to call: any number of threads may call at once. */
 uint32_t snapjudge_check(const uint8_t *text, size_t text_length, uint8_t *report, size_t room, size_t *report_length);
 
-/* The same with room that is taken from malloc: *report is then a text that ends with a 0 byte, to be freed by the caller;
- * it is null where the answer is SNAPJUDGE_NO_MEMORY. Never answers SNAPJUDGE_NO_ROOM. */
+/* The version of the library. */
+uint32_t snapjudge_version(void);
+
+/* The same as snapjudge_check with room from calloc: *report is a text that ends with a 0 byte, and the caller frees it. It
+ * is null where the answer is SNAPJUDGE_NO_MEMORY. SNAPJUDGE_NO_ROOM is never answered. */
 static inline uint32_t snapjudge_check_new(const char *text, size_t text_length, char **report, size_t *report_length) {
     size_t room = text_length + text_length / 4 + 256;
     *report = NULL;
     *report_length = 0;
     for (;;) {
-        uint8_t *bytes = (uint8_t *)calloc(room + 1, 1);
-        uint32_t answer;
         size_t length = 0;
-        if (!bytes) return SNAPJUDGE_NO_MEMORY;
+        uint32_t answer;
+        uint8_t *bytes = (uint8_t *)calloc(room + 1, 1);
+        if (bytes == NULL) return SNAPJUDGE_NO_MEMORY;
         answer = snapjudge_check((const uint8_t *)text, text_length, bytes, room, &length);
         if (answer < SNAPJUDGE_NO_MEMORY) {
             *report = (char *)bytes;

@@ -1,76 +1,105 @@
-/* Judges each history that is named, and compares with NAME.report; in THREADS threads at once, ROUNDS times. */
+/* Judges each history NAME.csv that is named, in 8 threads of 128 KiB of stack at once, and compares with NAME.report. C or C++. */
 #include "snapjudge.h"
 #include <pthread.h>
 #include <stdio.h>
 #include <string.h>
-#include <stdatomic.h>
 
-struct example { const char *name; char *text; size_t length; char *report; size_t report_length; uint32_t status; };
+enum { THREADS = 8, ROUNDS = 50, ROOM = 4096, UNTOUCHED = 0xEE };
+
+struct example {
+    const char *name;
+    char *text, *report;
+    size_t length, report_length;
+    uint32_t status;
+};
+
 static struct example examples[64];
 static int count;
-static atomic_int failures;
-static int rounds = 200;
 
-static char *slurp(const char *path, size_t *length) {
-    FILE *f = fopen(path, "rb");
-    if (!f) { perror(path); exit(2); }
-    fseek(f, 0, SEEK_END); *length = (size_t)ftell(f); rewind(f);
-    char *b = malloc(*length + 1);
-    if (fread(b, 1, *length, f) != *length) exit(2);
-    b[*length] = 0; fclose(f);
-    return b;
+static char *read_file(const char *path, size_t *length) {
+    FILE *file = fopen(path, "rb");
+    char *bytes = (char *)calloc(1, 1 << 20);
+    if (file == NULL || bytes == NULL) {
+        perror(path);
+        exit(2);
+    }
+    *length = fread(bytes, 1, (1 << 20) - 1, file);
+    fclose(file);
+    return bytes;
 }
 
-static uint32_t status_of(const char *r) {
-    if (!strncmp(r, "refused", 7)) return 3;
-    if (strstr(r, "regular no")) return 2;
-    if (strstr(r, "atomic no")) return 1;
-    return 0;
+/* The status that belongs to a report. */
+static uint32_t status_of(const char *report) {
+    if (strncmp(report, "refused", 7) == 0) return SNAPJUDGE_REFUSED;
+    if (strstr(report, "regular no") != NULL) return SNAPJUDGE_IRREGULAR;
+    if (strstr(report, "atomic no") != NULL) return SNAPJUDGE_REGULAR;
+    return SNAPJUDGE_ATOMIC;
 }
 
-static void fail(const char *name, const char *what) { fprintf(stderr, "%s: %s\n", name, what); failures++; }
+static int is_untouched(const uint8_t *from, const uint8_t *to) {
+    for (; from < to; from++)
+        if (*from != UNTOUCHED) return 0;
+    return 1;
+}
 
-static void check(struct example *e) {
-    char *report; size_t n;
-    uint32_t s = snapjudge_check_new(e->text, e->length, &report, &n);
-    if (s != e->status) fail(e->name, "status");
-    if (!report || n != e->report_length || memcmp(report, e->report, n)) fail(e->name, "report");
+/* Whether a call with so much room answers as it is to, and tells the length of the report. */
+static int fits(const struct example *e, size_t room) {
+    uint8_t bytes[ROOM];
+    size_t length = 77;
+    int is_enough = room >= e->report_length;
+    uint32_t answer;
+    memset(bytes, UNTOUCHED, sizeof bytes);
+    answer = snapjudge_check((const uint8_t *)e->text, e->length, bytes, room, &length);
+    if (length != e->report_length || answer != (is_enough ? e->status : SNAPJUDGE_NO_ROOM)) return 0;
+    if (!is_enough) return is_untouched(bytes, bytes + ROOM);
+    return memcmp(bytes, e->report, length) == 0 && is_untouched(bytes + length, bytes + ROOM);
+}
+
+/* Whether the call that takes its own room answers as it is to. */
+static int is_judged(const struct example *e) {
+    char *report;
+    size_t length;
+    uint32_t answer = snapjudge_check_new(e->text, e->length, &report, &length);
+    int is_right = answer == e->status && report != NULL && length == e->report_length && strcmp(report, e->report) == 0;
     free(report);
-    /* exactly enough room, then one byte less, then none */
-    uint8_t room[4096]; size_t m = 77;
-    memset(room, 0xEE, sizeof room);
-    s = snapjudge_check((uint8_t *)e->text, e->length, room, e->report_length, &m);
-    if (s != e->status || m != e->report_length || memcmp(room, e->report, m) || room[m] != 0xEE) fail(e->name, "exact room");
-    memset(room, 0xEE, sizeof room);
-    s = snapjudge_check((uint8_t *)e->text, e->length, room, e->report_length - 1, &m);
-    if (s != 5 || m != e->report_length) fail(e->name, "short room");
-    for (size_t i = 0; i < sizeof room; i++) if (room[i] != 0xEE) { fail(e->name, "touched"); break; }
-    s = snapjudge_check((uint8_t *)e->text, e->length, room, 0, &m);
-    if (s != 5 || m != e->report_length) fail(e->name, "no room");
+    return is_right;
 }
 
-static void *work(void *unused) {
-    (void)unused;
-    for (int r = 0; r < rounds; r++) for (int i = 0; i < count; i++) check(&examples[i]);
+static void *judge_all(void *failures) {
+    int round, i;
+    for (round = 0; round < ROUNDS; round++) {
+        for (i = 0; i < count; i++) {
+            const struct example *e = &examples[i];
+            if (is_judged(e) && fits(e, ROOM) && fits(e, e->report_length) && fits(e, e->report_length - 1) && fits(e, 0)) continue;
+            fprintf(stderr, "%s: not as it is to be\n", e->name);
+            ++*(int *)failures;
+        }
+    }
     return NULL;
 }
 
 int main(int argc, char **argv) {
-    for (int i = 1; i < argc; i++) {
+    pthread_t threads[THREADS];
+    pthread_attr_t small;
+    int failures[THREADS] = {0}, all = 0, i;
+    for (i = 1; i < argc && count < 64; i++) {
         struct example *e = &examples[count++];
         char path[512];
         e->name = argv[i];
-        e->text = slurp(argv[i], &e->length);
+        e->text = read_file(argv[i], &e->length);
         snprintf(path, sizeof path, "%.*s.report", (int)(strlen(argv[i]) - 4), argv[i]);
-        e->report = slurp(path, &e->report_length);
+        e->report = read_file(path, &e->report_length);
         e->status = status_of(e->report);
     }
-    pthread_t t[8];
-    pthread_attr_t small;
+    if (snapjudge_version() != SNAPJUDGE_VERSION || count == 0) return 2;
     pthread_attr_init(&small);
-    pthread_attr_setstacksize(&small, 64 * 1024);
-    for (int i = 0; i < 8; i++) if (pthread_create(&t[i], &small, work, NULL)) return 2;
-    for (int i = 0; i < 8; i++) pthread_join(t[i], NULL);
-    printf("%d examples, 8 threads of 64 KiB stack, %d rounds: %d failures\n", count, rounds, (int)failures);
-    return failures != 0;
+    pthread_attr_setstacksize(&small, 128 * 1024);
+    for (i = 0; i < THREADS; i++)
+        if (pthread_create(&threads[i], &small, judge_all, &failures[i]) != 0) return 2;
+    for (i = 0; i < THREADS; i++) {
+        pthread_join(threads[i], NULL);
+        all += failures[i];
+    }
+    printf("%d examples, %d threads, %d rounds: %d failures\n", count, THREADS, ROUNDS, all);
+    return all != 0;
 }

@@ -1,24 +1,87 @@
-/* Makes each allocation fail in turn: the answer is 4 and nothing is written, and no block is lost; with none failing, 0. */
+/* Refuses each allocation of a judgement in turn: the answer is 4, nothing is written and no block is lost. Linked with
+ * -Wl,--wrap=malloc,--wrap=realloc,--wrap=free; C or C++. */
 #include "snapjudge.h"
 #include <stdio.h>
 #include <string.h>
-static long left = -1, live, asked;
-void *__real_malloc(size_t); void *__real_realloc(void *, size_t); void __real_free(void *);
-void *__wrap_malloc(size_t n) { asked++; if (left == 0) return NULL; if (left > 0) left--; void *p = __real_malloc(n); if (p) live++; return p; }
-void *__wrap_realloc(void *p, size_t n) { asked++; if (left == 0) return NULL; if (left > 0) left--; void *q = __real_realloc(p, n); if (q && !p) live++; return q; }
-void __wrap_free(void *p) { if (p) live--; __real_free(p); }
-static const char text[] = "event,process,op,data\nbegin,0,update,0:1:10\nend,0,update,\nbegin,1,update,1:1:20\nbegin,2,view,\nbegin,0,update,0:2:11\nend,2,view,0:1:10\nend,0,update,\nbegin,3,view,\nend,3,view,0:2:11 1:1:20\nend,1,update,\n";
+
+#ifdef __cplusplus
+extern "C" {
+#endif
+
+void *__real_malloc(size_t size);
+void *__real_realloc(void *block, size_t size);
+void __real_free(void *block);
+
+/* How many allocations are granted before one is refused, or -1; and how many blocks are held. */
+static long granted = -1, held;
+
+static int is_refused(void) {
+    if (granted == 0) return 1;
+    if (granted > 0) granted--;
+    return 0;
+}
+
+void *__wrap_malloc(size_t size) {
+    void *block = is_refused() ? NULL : __real_malloc(size);
+    held += block != NULL;
+    return block;
+}
+
+void *__wrap_realloc(void *block, size_t size) {
+    void *moved = is_refused() ? NULL : __real_realloc(block, size);
+    held += moved != NULL && block == NULL;
+    return moved;
+}
+
+void __wrap_free(void *block) {
+    held -= block != NULL;
+    __real_free(block);
+}
+
+#ifdef __cplusplus
+}
+#endif
+
+/* A history that is atomic, one with a read fault, and one that is refused. */
+static const char *const TEXTS[] = {
+    "event,process,op,data\nbegin,0,update,0:1:10\nend,0,update,\nbegin,1,update,1:1:20\nbegin,2,view,\nbegin,0,update,0:2:11\n"
+    "end,2,view,0:1:10\nend,0,update,\nbegin,3,view,\nend,3,view,0:2:11 1:1:20\nend,1,update,\n",
+    "event,process,op,data\nbegin,0,update,0:1:7\nbegin,1,view,\nend,1,view,0:1:7\nbegin,2,view,\nend,2,view,\nend,0,update,\n",
+    "event,process,op,data\nbegin,0,update,0:1:7\nbegin,0,view,\n",
+};
+
+static const uint32_t STATUSES[] = {SNAPJUDGE_ATOMIC, SNAPJUDGE_REGULAR, SNAPJUDGE_REFUSED};
+
+/* Whether a judgement answers as it is to after so many allocations; *is_whole where none was refused. */
+static int is_right(int which, long allocations, int *is_whole) {
+    uint8_t room[1024];
+    size_t length = 99, i;
+    uint32_t answer;
+    memset(room, 0xEE, sizeof room);
+    held = 0;
+    granted = allocations;
+    answer = snapjudge_check((const uint8_t *)TEXTS[which], strlen(TEXTS[which]), room, sizeof room, &length);
+    granted = -1;
+    *is_whole = answer == STATUSES[which];
+    if (held != 0) return 0;
+    if (*is_whole) return 1;
+    for (i = 0; i < sizeof room; i++)
+        if (room[i] != 0xEE) return 0;
+    return answer == SNAPJUDGE_NO_MEMORY && length == 0;
+}
+
 int main(void) {
-    uint8_t room[1024]; size_t n; int bad = 0; long k;
-    for (k = 0;; k++) {
-        memset(room, 0xEE, sizeof room); n = 99; left = k; asked = 0;
-        uint32_t s = snapjudge_check((const uint8_t *)text, sizeof text - 1, room, sizeof room, &n);
-        left = -1;
-        if (live) { printf("k %ld: %ld blocks lost\n", k, live); bad = 1; live = 0; }
-        if (s == 0) break;
-        if (s != 4 || n != 0) { printf("k %ld: answer %u length %zu\n", k, s, n); bad = 1; }
-        for (size_t i = 0; i < sizeof room; i++) if (room[i] != 0xEE) { printf("touched at %ld\n", k); bad = 1; break; }
+    int which, failures = 0;
+    for (which = 0; which < 3; which++) {
+        long allocations = 0;
+        int is_whole = 0;
+        for (; !is_whole && allocations < 100000; allocations++) {
+            if (is_right(which, allocations, &is_whole)) continue;
+            fprintf(stderr, "text %d, allocation %ld: not as it is to be\n", which, allocations);
+            failures++;
+        }
+        printf("text %d: %ld allocations, each refused in turn\n", which, allocations - 1);
+        failures += !is_whole || allocations < 2;
     }
-    printf("%ld allocations, each failed in turn: %s\n", k, bad ? "BAD" : "ok");
-    return bad;
+    return failures != 0;
 }

@@ -1,47 +1,131 @@
-"""The examples of the project, by their reports."""
+"""The examples of the project by their reports, little room, refused memory, and threads on small stacks."""
 import glob
 import os
+import resource
+import subprocess
+import sys
 import threading
 import unittest
 
 import snapjudge
 
-EXAMPLES = os.environ.get("SNAPJUDGE_EXAMPLES") or os.path.join(os.path.dirname(os.path.abspath(__file__)), "../../examples")
+HERE = os.path.dirname(os.path.abspath(__file__))
+HEADER = "event,process,op,data\n"
 
 
-class Examples(unittest.TestCase):
-    def test_each_report_is_the_programs(self):
-        files = sorted(glob.glob(os.path.join(EXAMPLES, "*.csv")))
-        self.assertEqual(len(files), 10)
-        for name in files:
-            with open(name, "rb") as f, open(name[:-4] + ".report") as g:
-                text, wanted = f.read(), g.read()
-            status, found = snapjudge.report(text)
-            self.assertEqual(found, wanted)
-            if status == 3:
-                with self.assertRaises(snapjudge.Refused) as refused:
-                    snapjudge.check(text)
-                self.assertEqual(f"refused record {refused.exception.record}: {refused.exception.word}\n", wanted)
-            else:
-                judged = snapjudge.check(text)
-                self.assertEqual(judged.report, wanted)
-                self.assertEqual(("regular yes" in wanted, "atomic yes" in wanted), (judged.regular, judged.atomic))
-                self.assertEqual(len(judged.order), int(wanted.split("order ")[1].split("\n")[0]) if judged.atomic else 0)
+def examples():
+    """Name, text and wanted report of each example."""
+    found = []
+    for name in sorted(glob.glob(os.path.join(HERE, "../../examples/*.csv"))):
+        with open(name, "rb") as text, open(name[:-4] + ".report") as wanted:
+            found.append((name, text.read(), wanted.read()))
+    return found
 
-    def test_threads(self):
-        text = b"event,process,op,data\nbegin,0,update,0:1:7\nend,0,update,\nbegin,1,view,\nend,1,view,\n"
-        answers = []
-        threads = [threading.Thread(target=lambda: answers.append(snapjudge.check(text).status)) for _ in range(8)]
-        for t in threads:
-            t.start()
-        for t in threads:
-            t.join()
-        self.assertEqual(answers, ["irregular"] * 8)
+
+def status_of(report):
+    if report.startswith("refused"):
+        return "refused"
+    if "regular no" in report:
+        return "irregular"
+    return "regular" if "atomic no" in report else "atomic"
+
+
+def faults_of(records):
+    return snapjudge.check(HEADER + records).faults
+
+
+class Judge(unittest.TestCase):
+    def judge(self, text, wanted):
+        status, found = snapjudge.report(text)
+        self.assertEqual((status, found), (status_of(wanted), wanted))
+        if status == "refused":
+            with self.assertRaises(snapjudge.Refused) as refused:
+                snapjudge.check(text)
+            self.assertEqual(f"refused record {refused.exception.record}: {refused.exception.word}\n", wanted)
+            return
+        judged = snapjudge.check(text)
+        self.assertEqual((judged.status, judged.report), (status, wanted))
+        self.assertEqual((judged.regular, judged.atomic), ("regular yes" in wanted, "atomic yes" in wanted))
+        if judged.atomic:
+            self.assertEqual(len(judged.order), int(wanted.split("order ")[1].split("\n")[0]))
+
+    def test_each_example_has_its_report(self):
+        self.assertGreaterEqual(len(examples()), 10)
+        for name, text, wanted in examples():
+            with self.subTest(name):
+                self.judge(text, wanted)
+
+    def test_eight_threads_of_128_kib_get_each_examples_report(self):
+        right, texts = [], examples()
+
+        def work():
+            right.append(all(snapjudge.report(text) == (status_of(wanted), wanted) for _, text, wanted in texts))
+
+        old = threading.stack_size(128 * 1024)
+        threads = [threading.Thread(target=work) for _ in range(8)]
+        for thread in threads:
+            thread.start()
+        threading.stack_size(old)
+        for thread in threads:
+            thread.join()
+        self.assertEqual(right, [True] * 8)
+
+    def test_too_little_room_is_told_and_stays_as_it_was(self):
+        for name, text, wanted in examples():
+            for size in (0, len(wanted) - 1):
+                room = bytearray(b"\xee" * size)
+                with self.assertRaises(snapjudge.TooLittleRoom) as told:
+                    snapjudge.report_into(text, room)
+                self.assertEqual((told.exception.length, room), (len(wanted), b"\xee" * size))
+            room = bytearray(b"\xee" * (len(wanted) + 1))
+            self.assertEqual(snapjudge.report_into(text, room), (status_of(wanted), len(wanted)))
+            self.assertEqual(room, wanted.encode() + b"\xee")
+
+    def test_refused_memory_leaves_the_room_as_it_was(self):
+        # in a process of its own, since the limit is the process's
+        child = subprocess.run([sys.executable, os.path.abspath(__file__), "refuse"], capture_output=True, text=True)
+        self.assertEqual((child.stdout, child.stderr), ("refused, unchanged, then atomic\n", ""))
 
     def test_a_zero_byte_is_no_end(self):
-        status, line = snapjudge.report(b"event,process,op,data\n\0")
-        self.assertEqual((status, line), (3, "refused record 2: fields\n"))
+        self.assertEqual(snapjudge.report(HEADER.encode() + b"\0"), ("refused", "refused record 2: fields\n"))
+
+    def test_an_order_is_taken_apart(self):
+        judged = snapjudge.check(HEADER + "begin,0,update,0:1:3\nbegin,1,view,\nend,1,view,\nend,0,update,\n")
+        steps = (snapjudge.Step(2, 1, "view", ()), snapjudge.Step(1, 0, "update", (snapjudge.Entry(0, 1, 3),)))
+        self.assertEqual((judged.counts, judged.order), (snapjudge.Counts(4, 2, 0, 1), steps))
+
+    def test_each_kind_of_fault_is_taken_apart(self):
+        integrity = snapjudge.Fault("integrity", 1, 3, {"entry": snapjudge.Entry(0, 1, 9)})
+        old = snapjudge.Fault("proximity", 1, 2, {"component": 0, "number": 0, "side": "old"})
+        read = snapjudge.Fault("read", 1, 2, {"other": 3, "component": 0})
+        write = snapjudge.Fault("write", 1, 1, {"misses": (0, 1), "shows": (1, 1)})
+        self.assertEqual(faults_of("begin,0,update,0:1:7\nend,0,update,\nbegin,1,view,\nend,1,view,\n"
+                                   "begin,2,view,\nend,2,view,0:1:9\n"), (integrity, old))
+        self.assertEqual(faults_of("begin,0,update,0:1:7\nbegin,1,view,\nend,1,view,0:1:7\nbegin,2,view,\n"
+                                   "end,2,view,\nend,0,update,\n"), (read,))
+        self.assertEqual(faults_of("begin,2,view,\nbegin,0,update,0:1:7\nend,0,update,\nbegin,1,update,1:1:8\n"
+                                   "end,1,update,\nend,2,view,1:1:8\n"), (write,))
+
+
+def refuse():
+    """Judges a long history with almost no memory left, and again with all of it."""
+    text = (HEADER + "".join(f"begin,0,update,0:{n}:0\nend,0,update,\n" for n in range(1, 8193))).encode()
+    room = bytearray(b"\xee" * (1 << 20))
+    same = bytes(room)
+    with open("/proc/self/statm") as pages:
+        held = resource.getpagesize() * int(pages.read().split()[0])
+    soft, hard = resource.getrlimit(resource.RLIMIT_AS)
+    resource.setrlimit(resource.RLIMIT_AS, (held + 65536, hard))
+    try:
+        found = snapjudge.report_into(text, room)
+    except MemoryError:
+        found = "refused"
+    resource.setrlimit(resource.RLIMIT_AS, (soft, hard))
+    print(f"{found}, {'unchanged' if room == same else 'changed'}, then {snapjudge.report_into(text, room)[0]}")
 
 
 if __name__ == "__main__":
-    unittest.main()
+    if sys.argv[1:] == ["refuse"]:
+        refuse()
+    else:
+        unittest.main()

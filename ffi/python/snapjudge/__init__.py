@@ -2,31 +2,58 @@
 
 check(text) hands the text to the judge, whose answer is proved, and takes its report apart. The call by ctypes and the
 parser are not proved; Judged.report is the report byte by byte. The call holds no lock of the interpreter, so threads of one
-program judge side by side. libsnapjudge.so lies beside this file, or where SNAPJUDGE_LIBRARY says.
+program judge side by side; each needs 128 KiB of stack. Do not call it in the forked child of a process with threads.
+
+libsnapjudge.so is that which SNAPJUDGE_LIBRARY names, else the one beside this file, else that of ffi/build.
 """
 import ctypes
 import os
-from dataclasses import dataclass, field
+from dataclasses import dataclass
 
-__all__ = ["Refused", "Judged", "Counts", "Entry", "Step", "Fault", "check", "report"]
+__all__ = ["Refused", "TooLittleRoom", "Judged", "Counts", "Entry", "Step", "Fault", "check", "report", "report_into"]
 
-_path = os.environ.get("SNAPJUDGE_LIBRARY") or os.path.join(os.path.dirname(os.path.abspath(__file__)), "libsnapjudge.so")
-_library = ctypes.CDLL(_path)
-_check = _library.snapjudge_check
-_check.restype = ctypes.c_uint32
-_check.argtypes = [ctypes.c_char_p, ctypes.c_size_t, ctypes.c_char_p, ctypes.c_size_t, ctypes.POINTER(ctypes.c_size_t)]
-
+VERSION = 1
 STATUSES = ("atomic", "regular", "irregular", "refused")
+NO_ROOM = 5
+
+_HERE = os.path.dirname(os.path.abspath(__file__))
+_PLACES = (os.environ.get("SNAPJUDGE_LIBRARY"), os.path.join(_HERE, "libsnapjudge.so"),
+           os.path.join(_HERE, "..", "..", "build", "libsnapjudge.so"))
+
+
+def _load():
+    path = next((place for place in _PLACES if place and os.path.exists(place)), None)
+    if path is None:
+        raise ImportError("libsnapjudge.so is not built: run ffi/build.sh, or name it in SNAPJUDGE_LIBRARY")
+    library = ctypes.CDLL(path)
+    library.snapjudge_version.restype = ctypes.c_uint32
+    library.snapjudge_version.argtypes = []
+    if library.snapjudge_version() != VERSION:
+        raise ImportError(f"{path} is of another version")
+    library.snapjudge_check.restype = ctypes.c_uint32
+    library.snapjudge_check.argtypes = [
+        ctypes.c_char_p, ctypes.c_size_t, ctypes.c_void_p, ctypes.c_size_t, ctypes.POINTER(ctypes.c_size_t)]
+    return library
+
+
+_library = _load()
 
 
 class Refused(ValueError):
     """The text is no history. `record` is the first record at fault, 0 for the whole text, and `word` says what is wrong."""
 
     def __init__(self, line):
-        self.line = line
         record, self.word = line.removeprefix("refused record ").rstrip("\n").split(": ")
         self.record = int(record)
         super().__init__(line.rstrip("\n"))
+
+
+class TooLittleRoom(ValueError):
+    """The report has `length` bytes, and does not fit."""
+
+    def __init__(self, length):
+        self.length = length
+        super().__init__(f"the report has {length} bytes")
 
 
 @dataclass(frozen=True)
@@ -70,7 +97,7 @@ class Judged:
     counts: Counts
     report: str
     order: tuple = ()
-    faults: tuple = field(default=())
+    faults: tuple = ()
 
     @property
     def atomic(self):
@@ -81,53 +108,68 @@ class Judged:
         return self.status != "irregular"
 
 
+def report_into(text, room):
+    """The status of a text, of STATUSES, and the length of its report, which is written to the front of a bytearray.
+
+    Raises TooLittleRoom, and MemoryError; the bytearray is then unchanged."""
+    length = ctypes.c_size_t()
+    # a bytearray of no bytes has no place of its own
+    place = (ctypes.c_char * len(room)).from_buffer(room) if room else ctypes.create_string_buffer(1)
+    answer = _library.snapjudge_check(text, len(text), place, len(room), ctypes.byref(length))
+    if answer < len(STATUSES):
+        return STATUSES[answer], length.value
+    if answer == NO_ROOM:
+        raise TooLittleRoom(length.value)
+    raise MemoryError("snapjudge: out of memory")
+
+
 def report(text):
-    """The status, 0 to 3, and the report of a text, both as the program `snapjudge check` gives them."""
+    """The status of a text, of STATUSES, and its report, as the program `snapjudge check` gives it."""
     data = text.encode() if isinstance(text, str) else bytes(text)
-    room = len(data) + len(data) // 4 + 256
+    size = len(data) + len(data) // 4 + 256
     while True:
-        out = ctypes.create_string_buffer(room)
-        length = ctypes.c_size_t()
-        status = _check(data, len(data), out, room, ctypes.byref(length))
-        if status <= 3:
-            return status, out.raw[: length.value].decode("ascii")
-        if status != 5:
-            raise MemoryError("snapjudge: out of memory")
-        room = length.value
+        room = bytearray(size)
+        try:
+            status, length = report_into(data, room)
+            return status, room[:length].decode("ascii")
+        except TooLittleRoom as needed:
+            size = needed.length
 
 
 def _entry(text):
     return Entry(*map(int, text.split(":")))
 
 
+def _pair(text):
+    return tuple(map(int, text.split(":")))
+
+
 def _fault(words):
     kind, count, _, _, view, *rest = words
-    more = {}
     if kind == "integrity":
-        more["entry"] = _entry(rest[1])
+        more = {"entry": _entry(rest[1])}
     elif kind == "proximity":
-        component, number = map(int, rest[1].split(":"))
+        component, number = _pair(rest[1])
         more = {"component": component, "number": number, "side": rest[2]}
     elif kind == "read":
         more = {"other": int(rest[1]), "component": int(rest[3])}
     else:
-        more = {"misses": tuple(map(int, rest[1].split(":"))), "shows": tuple(map(int, rest[3].split(":")))}
+        more = {"misses": _pair(rest[1]), "shows": _pair(rest[3])}
     return Fault(kind, int(count), int(view), more)
+
+
+def _step(words):
+    return Step(int(words[0]), int(words[1][1:]), words[2], tuple(map(_entry, words[3:])))
 
 
 def check(text):
     """The verdict on a history. Raises Refused for a text that is none, and MemoryError."""
     status, out = report(text)
-    if status == 3:
+    if status == "refused":
         raise Refused(out)
     lines = [line.split(" ") for line in out.splitlines()]
-    counts = Counts(*(int(n) for n in lines[0][1::2]))
-    order, faults = [], []
-    for words in lines[3:]:
-        if words[0] == "order":
-            continue
-        if words[0].isdigit():
-            order.append(Step(int(words[0]), int(words[1][1:]), words[2], tuple(map(_entry, words[3:]))))
-        else:
-            faults.append(_fault(words))
-    return Judged(STATUSES[status], counts, out, tuple(order), tuple(faults))
+    counts = Counts(*map(int, lines[0][1::2]))
+    found = [words for words in lines[3:] if words[0] != "order"]
+    order = tuple(_step(words) for words in found if words[0].isdigit())
+    faults = tuple(_fault(words) for words in found if not words[0].isdigit())
+    return Judged(status, counts, out, order, faults)

@@ -1,7 +1,8 @@
 //! Judges a recorded history of a single-writer board: is it atomic, only regular, or neither?
 //!
 //! [`check`] hands the text to the judge, whose answer is proved, and takes its report apart. What this crate adds, the call
-//! and the parser, is not proved; [`Judged::report`] is the report byte by byte.
+//! and the parser, is not proved; [`Judged::report`] is the report byte by byte. A call needs 128 KiB of stack, and is not to
+//! be made in the forked child of a process with threads.
 
 mod report;
 
@@ -9,9 +10,34 @@ pub use report::{Counts, Entry, Fault, Op, Refusal, Side, Step};
 
 use std::fmt;
 
-// uint32_t snapjudge_check(const uint8_t *text, size_t text_length, uint8_t *report, size_t room, size_t *report_length);
+/// The version of the library that this crate is for.
+const VERSION: u32 = 1;
+
+const NO_ROOM: u32 = 5;
+
 extern "C" {
-    fn snapjudge_check(text: *const u8, text_length: usize, report: *mut u8, room: usize, report_length: *mut usize) -> u32;
+    fn snapjudge_check(
+        text: *const u8,
+        text_length: usize,
+        report: *mut u8,
+        room: usize,
+        report_length: *mut usize,
+    ) -> u32;
+
+    fn snapjudge_version() -> u32;
+}
+
+/// What a text is.
+#[derive(Clone, Copy, Debug, PartialEq, Eq)]
+pub enum Status {
+    /// An atomic history.
+    Atomic,
+    /// A history that is regular, and not atomic.
+    Regular,
+    /// A history that is not regular.
+    Irregular,
+    /// No history.
+    Refused,
 }
 
 /// What was found of a history.
@@ -64,21 +90,57 @@ impl fmt::Display for Error {
 
 impl std::error::Error for Error {}
 
-/// The status, 0 to 3, and the report of a text.
-pub fn report(text: &[u8]) -> Result<(u32, String), Error> {
-    let mut room = vec![0u8; text.len() + text.len() / 4 + 256];
+/// Why nothing was written into the room for a report.
+#[derive(Clone, Copy, Debug, PartialEq, Eq)]
+pub enum RoomError {
+    /// The report has so many bytes.
+    TooLittle(usize),
+    /// Memory ran out.
+    OutOfMemory,
+}
+
+/// The status of a text and the length of its report, which is written to the front of the room.
+pub fn report_into(text: &[u8], room: &mut [u8]) -> Result<(Status, usize), RoomError> {
+    let mut length = 0;
+    // SAFETY: the pointers and lengths are those of a `&[u8]`, a `&mut [u8]` and a `&mut usize`, which are never null, lie
+    // apart, are initialized, and are borrowed for the call. The library's memory is the C library's, as is Rust's `System`.
+    let (version, answer) = unsafe {
+        (
+            snapjudge_version(),
+            snapjudge_check(text.as_ptr(), text.len(), room.as_mut_ptr(), room.len(), &mut length),
+        )
+    };
+    assert_eq!(version, VERSION, "libsnapjudge.a is of another version");
+    match answer {
+        0 => Ok((Status::Atomic, length)),
+        1 => Ok((Status::Regular, length)),
+        2 => Ok((Status::Irregular, length)),
+        3 => Ok((Status::Refused, length)),
+        NO_ROOM => Err(RoomError::TooLittle(length)),
+        _ => Err(RoomError::OutOfMemory),
+    }
+}
+
+// Room for a report.
+fn room_of(size: usize) -> Result<Vec<u8>, Error> {
+    let mut room = Vec::new();
+    room.try_reserve_exact(size).map_err(|_| Error::OutOfMemory)?;
+    room.resize(size, 0);
+    Ok(room)
+}
+
+/// The status and the report of a text.
+pub fn report(text: &[u8]) -> Result<(Status, String), Error> {
+    let mut size = text.len() + text.len() / 4 + 256;
     loop {
-        let mut length = 0usize;
-        // SAFETY: the pointers and lengths are those of one `&[u8]`, one `&mut [u8]` and one `&mut usize`, which lie apart
-        // and are borrowed for the call. The export requires nothing else.
-        let answer = unsafe { snapjudge_check(text.as_ptr(), text.len(), room.as_mut_ptr(), room.len(), &mut length) };
-        match answer {
-            0..=3 => {
+        let mut room = room_of(size)?;
+        match report_into(text, &mut room) {
+            Ok((status, length)) => {
                 room.truncate(length);
-                return Ok((answer, String::from_utf8(room).expect("a report is ASCII")));
+                return Ok((status, String::from_utf8(room).expect("a report is ASCII")));
             }
-            5 => room = vec![0u8; length],
-            _ => return Err(Error::OutOfMemory),
+            Err(RoomError::TooLittle(length)) => size = length,
+            Err(RoomError::OutOfMemory) => return Err(Error::OutOfMemory),
         }
     }
 }
@@ -86,14 +148,14 @@ pub fn report(text: &[u8]) -> Result<(u32, String), Error> {
 /// Judges a history, in the format of `snapjudge check`.
 pub fn check(text: &str) -> Result<Judged, Error> {
     let (status, report) = report(text.as_bytes())?;
-    if status == 3 {
+    if status == Status::Refused {
         return Err(Error::Refused(report::refusal(&report).expect("the report of a refused text")));
     }
-    let read = report::read(&report).expect("the report of a history");
+    let found = report::read(&report).expect("the report of a history");
     let verdict = match status {
-        0 => Verdict::Atomic { order: read.order },
-        1 => Verdict::Regular { faults: read.faults },
-        _ => Verdict::Irregular { faults: read.faults },
+        Status::Atomic => Verdict::Atomic { order: found.order },
+        Status::Regular => Verdict::Regular { faults: found.faults },
+        _ => Verdict::Irregular { faults: found.faults },
     };
-    Ok(Judged { counts: read.counts, verdict, report })
+    Ok(Judged { counts: found.counts, verdict, report })
 }
