@@ -1,27 +1,37 @@
 /* Records the calls that threads make of a single-writer board, and writes them as a history for `snapjudge check`.
- * One file, C11, no dependencies: copy it into a harness. Public domain (CC0).
+ * One file, C11, no dependencies: copy it into a harness. docs/OWN-OBJECT.md of snapjudge leads through one.
  *
- *   snaprecord r;
- *   if (!snaprecord_init(&r, THREADS, COMPONENTS, 16384 / THREADS)) abort();
- *   // thread t, around each call of the object under test:
- *   if (!snaprecord_begin_update(&r, t, k, value)) return;   // full: make no further call
- *   board_update(k, value);
- *   snaprecord_end_update(&r, t);
+ *     snaprecord recorder;
+ *     if (!snaprecord_open(&recorder, THREADS, COMPONENTS, CALLS)) die(recorder.message);
  *
- *   if (!snaprecord_begin_view(&r, t)) return;
- *   board_view(values);
- *   snaprecord_end_view_values(&r, t, values, NULL);
- *   // after the threads were joined:
- *   size_t length; const char *fault;
- *   char *csv = snaprecord_csv(&r, &length, &fault);         // NULL and a reason, or a text for free()
+ *     snaprecord_log *log = snaprecord_log_of(&recorder, t);          // thread t, and no other
+ *     if (!snaprecord_begin_update(log, component, value)) return;    // refused: make no further call
+ *     board_update(component, value);
+ *     snaprecord_end_update(log);
+ *     if (!snaprecord_begin_view(log)) return;
+ *     board_view(values);
+ *     snaprecord_end_view_values(log, values);                        // or snaprecord_end_view, of numbers
  *
- * What is guaranteed: where the record says that call A ended before call B began, A happened before B (in C11's sense), for
- * the stamps are read-modify-writes with acquire and release of one clock. The stamp of a begin is taken last in begin_*,
- * that of an end first in end_*. A thread writes to its own buffer only; nothing is locked or allocated between begin and end.
- * A value has 32 bits: where those of the object have more, record a counter in their place.
- * The clock orders more than the object under test may do: bugs that need two calls without such an order can hide. */
+ *     char *text = snaprecord_text(&recorder, &length);               // after the threads were joined
+ *     if (!text) die(recorder.message);
+ *     snaprecord_close(&recorder);
+ *
+ * What the record says: where call A ended before call B began, A happened before B in the sense of C11. Each stamp is a
+ * fetch_add of one clock with acquire and release; that of a begin is taken last in begin_.., that of an end first in
+ * end_... A thread writes to its own log alone. Nothing is locked or allocated while threads run.
+ * What it cannot say: the clock orders more calls than the object may, so a fault that needs two calls without such an
+ * order can hide.
+ *
+ * SPDX-License-Identifier: 0BSD
+ * Copyright (C) 2026 by the authors of snapjudge
+ * Permission to use, copy, modify, and/or distribute this software for any purpose with or without fee is hereby granted.
+ * THE SOFTWARE IS PROVIDED "AS IS" AND THE AUTHOR DISCLAIMS ALL WARRANTIES WITH REGARD TO THIS SOFTWARE INCLUDING ALL IMPLIED
+ * WARRANTIES OF MERCHANTABILITY AND FITNESS. IN NO EVENT SHALL THE AUTHOR BE LIABLE FOR ANY SPECIAL, DIRECT, INDIRECT, OR
+ * CONSEQUENTIAL DAMAGES OR ANY DAMAGES WHATSOEVER RESULTING FROM LOSS OF USE, DATA OR PROFITS, WHETHER IN AN ACTION OF
+ * CONTRACT, NEGLIGENCE OR OTHER TORTIOUS ACTION, ARISING OUT OF OR IN CONNECTION WITH THE USE OR PERFORMANCE OF THIS SOFTWARE. */
 #ifndef SNAPRECORD_H
 #define SNAPRECORD_H
+#include <inttypes.h>
 #include <stdalign.h>
 #include <stdatomic.h>
 #include <stdbool.h>
@@ -30,215 +40,350 @@
 #include <stdlib.h>
 #include <string.h>
 
-#define SNAPRECORD_NONE UINT32_MAX /* the number of an entry of which only the value is known */
+/* What the judge takes. */
+#define SNAPRECORD_EVENTS 16384u    /* in all; a call has two, its begin and its end */
+#define SNAPRECORD_COMPONENTS 256u
+#define SNAPRECORD_PROCESSES 65536u /* a thread is one process */
 
-typedef struct { uint8_t component; uint32_t number, value; } snaprecord_entry;
-enum { SNAPRECORD_BEGIN_UPDATE, SNAPRECORD_END_UPDATE, SNAPRECORD_BEGIN_VIEW, SNAPRECORD_END_VIEW };
-typedef struct { uint64_t stamp; uint8_t kind; uint32_t first, count; } snaprecord_event;
+typedef enum {
+    SNAPRECORD_FINE,
+    SNAPRECORD_LIMITS,      /* more threads, components or calls than the judge takes */
+    SNAPRECORD_MEMORY,      /* out of memory */
+    SNAPRECORD_NESTED,      /* a call began before the thread's last one had ended */
+    SNAPRECORD_NOT_OPEN,    /* a call ended that had not begun */
+    SNAPRECORD_AFTER_FULL,  /* a call was made although its begin was refused */
+    SNAPRECORD_COMPONENT,   /* a component is too high, or the entries of a view do not rise */
+    SNAPRECORD_TWO_WRITERS, /* two threads updated one component */
+    SNAPRECORD_SAME_VALUE   /* views tell values, and a component got one value twice, or its initial one */
+} snaprecord_fault;
+
+/* What a view shows of a component; number 0 is its initial state. */
+typedef struct {
+    uint32_t component, number, value;
+} snaprecord_entry;
+
+typedef enum {
+    SNAPRECORD_BEGIN_UPDATE,
+    SNAPRECORD_END_UPDATE,
+    SNAPRECORD_BEGIN_VIEW,
+    SNAPRECORD_END_VIEW,       /* its entries have numbers */
+    SNAPRECORD_END_VIEW_VALUES /* its entries have values alone */
+} snaprecord_kind;
 
 typedef struct {
-    alignas(128) uint32_t length, entries_length;
-    uint32_t updates[256];      /* how many updates of each component this thread began */
+    uint64_t stamp;
+    snaprecord_kind kind;
+    uint32_t first, count; /* its entries */
+} snaprecord_event;
+
+typedef enum { SNAPRECORD_IDLE, SNAPRECORD_REFUSED, SNAPRECORD_UPDATING, SNAPRECORD_VIEWING } snaprecord_state;
+
+/* What one thread recorded. A log stands alone in its lines of the cache. */
+typedef struct {
+    alignas(128) struct snaprecord *recorder;
+    snaprecord_state state;
+    uint32_t process, length, entry_count;
     snaprecord_event *events;
     snaprecord_entry *entries;
+    uint32_t begun[SNAPRECORD_COMPONENTS]; /* how many updates of each component */
 } snaprecord_log;
 
-typedef struct {
+typedef struct snaprecord {
     alignas(128) _Atomic uint64_t clock;
-    alignas(128) _Atomic bool full;
+    alignas(128) _Atomic bool stopped; /* a log is full, or a call was misused: begin_.. is refused to all threads */
+    _Atomic uint32_t misuse;           /* the first one: fault, and process times 16 */
     alignas(128) uint32_t threads;
-    uint32_t components, capacity;
-    uint32_t initial[256];      /* what a component shows before its first update, where views give values; 0 at first */
+    uint32_t components, calls;
+    uint32_t initial; /* the value that each component has at first, 0 unless you set it before the threads start */
     snaprecord_log *logs;
+    snaprecord_fault fault; /* why snaprecord_open or snaprecord_text failed, in a word and in a sentence */
+    char message[200];
 } snaprecord;
 
-/* capacity: how many events each thread has room for; the judge takes 16384 in all */
-static inline bool snaprecord_init(snaprecord *r, uint32_t threads, uint32_t components, uint32_t capacity) {
-    memset(r, 0, sizeof *r);
-    if (components > 256 || threads > 65536) return false;
-    r->threads = threads; r->components = components; r->capacity = capacity;
-    r->logs = aligned_alloc(128, threads * sizeof *r->logs);
-    if (!r->logs) return false;
-    memset(r->logs, 0, threads * sizeof *r->logs);
+static inline bool snaprecord_failed(snaprecord *recorder, snaprecord_fault fault, const char *message) {
+    recorder->fault = fault;
+    snprintf(recorder->message, sizeof recorder->message, "%s", message);
+    return false;
+}
+
+/* Frees what the recorder holds. */
+static inline void snaprecord_close(snaprecord *recorder) {
+    for (uint32_t t = 0; recorder->logs && t < recorder->threads; t++) {
+        free(recorder->logs[t].events);
+        free(recorder->logs[t].entries);
+    }
+    free(recorder->logs);
+    recorder->logs = NULL;
+}
+
+/* A recorder for so many threads, components, and calls of each thread, at most SNAPRECORD_EVENTS / 2 calls in all.
+ * False, with `fault` LIMITS or MEMORY, where there is none; then nothing is held. */
+static inline bool snaprecord_open(snaprecord *recorder, uint32_t threads, uint32_t components, uint32_t calls) {
+    atomic_init(&recorder->clock, 0);
+    atomic_init(&recorder->stopped, false);
+    atomic_init(&recorder->misuse, 0);
+    recorder->initial = 0;
+    recorder->logs = NULL;
+    recorder->fault = SNAPRECORD_FINE;
+    recorder->message[0] = 0;
+    if (threads < 1 || threads > SNAPRECORD_PROCESSES || components > SNAPRECORD_COMPONENTS || calls < 1 || calls > SNAPRECORD_EVENTS / 2 / threads) {
+        snprintf(recorder->message, sizeof recorder->message, "%" PRIu32 " threads, %" PRIu32 " components and %" PRIu32 " calls a thread: a history has at most %u calls of %u threads in all, and %u components", threads, components, calls, SNAPRECORD_EVENTS / 2, SNAPRECORD_PROCESSES, SNAPRECORD_COMPONENTS);
+        recorder->fault = SNAPRECORD_LIMITS;
+        return false;
+    }
+    recorder->threads = threads;
+    recorder->components = components;
+    recorder->calls = calls;
+    recorder->logs = aligned_alloc(128, threads * sizeof *recorder->logs);
+    if (!recorder->logs) return snaprecord_failed(recorder, SNAPRECORD_MEMORY, "out of memory");
+    memset(recorder->logs, 0, threads * sizeof *recorder->logs);
     for (uint32_t t = 0; t < threads; t++) {
-        size_t e = (size_t)capacity * sizeof *r->logs[t].events, s = (size_t)capacity * (components ? components : 1) * sizeof *r->logs[t].entries;
-        r->logs[t].events = malloc(e); r->logs[t].entries = malloc(s);
-        if (!r->logs[t].events || !r->logs[t].entries) return false;
-        memset(r->logs[t].events, 1, e); memset(r->logs[t].entries, 1, s); /* so that no page is made while threads run */
+        snaprecord_log *log = &recorder->logs[t];
+        size_t events = (size_t)calls * 2 * sizeof *log->events;
+        size_t entries = (size_t)calls * (components ? components : 1) * sizeof *log->entries;
+        log->recorder = recorder;
+        log->process = t;
+        log->events = malloc(events);
+        log->entries = malloc(entries);
+        if (!log->events || !log->entries) {
+            snaprecord_close(recorder);
+            return snaprecord_failed(recorder, SNAPRECORD_MEMORY, "out of memory");
+        }
+        memset(log->events, 1, events); /* written once, so that no page is made while threads run */
+        memset(log->entries, 1, entries);
     }
     return true;
 }
 
-static inline void snaprecord_free(snaprecord *r) {
-    for (uint32_t t = 0; r->logs && t < r->threads; t++) { free(r->logs[t].events); free(r->logs[t].entries); }
-    free(r->logs); r->logs = NULL;
-}
+/* The log of a thread, which is the process of that number. */
+static inline snaprecord_log *snaprecord_log_of(snaprecord *recorder, uint32_t thread) { return &recorder->logs[thread]; }
 
-static inline bool snaprecord_room(snaprecord *r, snaprecord_log *l) {
-    if (atomic_load_explicit(&r->full, memory_order_relaxed)) return false;
-    if (l->length + 2 <= r->capacity) return true;
-    atomic_store_explicit(&r->full, true, memory_order_relaxed); /* all threads are to stop, else views show what no one recorded */
+static inline uint64_t snaprecord_tick(snaprecord_log *log) { return atomic_fetch_add_explicit(&log->recorder->clock, 1, memory_order_acq_rel); }
+
+/* The first misuse is kept for snaprecord_text, and stops all threads. */
+static inline bool snaprecord_misused(snaprecord_log *log, snaprecord_fault fault) {
+    uint32_t none = 0;
+    atomic_compare_exchange_strong(&log->recorder->misuse, &none, (uint32_t)fault + 16 * log->process);
+    atomic_store_explicit(&log->recorder->stopped, true, memory_order_relaxed);
+    log->state = SNAPRECORD_REFUSED;
     return false;
 }
 
-static inline uint64_t snaprecord_stamp(snaprecord *r) { return atomic_fetch_add_explicit(&r->clock, 1, memory_order_acq_rel); }
+static inline bool snaprecord_may_begin(snaprecord_log *log) {
+    if (log->state >= SNAPRECORD_UPDATING) return snaprecord_misused(log, SNAPRECORD_NESTED);
+    if (log->length == 2 * log->recorder->calls) /* all threads stop, else views show updates that no one recorded */
+        atomic_store_explicit(&log->recorder->stopped, true, memory_order_relaxed);
+    if (!atomic_load_explicit(&log->recorder->stopped, memory_order_relaxed)) return true;
+    log->state = SNAPRECORD_REFUSED;
+    return false;
+}
 
-/* Answers the number of the update, from 1, or 0 where the record is full: then the update is not to be made. */
-static inline uint32_t snaprecord_begin_update(snaprecord *r, uint32_t thread, uint8_t component, uint32_t value) {
-    snaprecord_log *l = &r->logs[thread];
-    if (!snaprecord_room(r, l)) return 0;
-    uint32_t number = ++l->updates[component];
-    l->entries[l->entries_length] = (snaprecord_entry){component, number, value};
-    snaprecord_event *e = &l->events[l->length++];
-    e->kind = SNAPRECORD_BEGIN_UPDATE; e->first = l->entries_length++; e->count = 1;
-    e->stamp = snaprecord_stamp(r);
+static inline void snaprecord_begin(snaprecord_log *log, snaprecord_state state, snaprecord_kind kind, uint32_t count) {
+    snaprecord_event *event = &log->events[log->length++];
+    event->kind = kind;
+    event->first = log->entry_count;
+    event->count = count;
+    log->entry_count += count;
+    log->state = state;
+    event->stamp = snaprecord_tick(log);
+}
+
+static inline bool snaprecord_may_end(snaprecord_log *log, snaprecord_state state) {
+    if (log->state == state) return true;
+    return snaprecord_misused(log, log->state == SNAPRECORD_REFUSED ? SNAPRECORD_AFTER_FULL : SNAPRECORD_NOT_OPEN);
+}
+
+static inline void snaprecord_end(snaprecord_log *log, uint64_t stamp, snaprecord_kind kind, uint32_t count) {
+    log->events[log->length++] = (snaprecord_event){stamp, kind, log->entry_count, count};
+    log->entry_count += count;
+    log->state = SNAPRECORD_IDLE;
+}
+
+/* The number of the update, from 1 in each component; or 0: a log is full, or a call was misused. Then make no further call. */
+static inline uint32_t snaprecord_begin_update(snaprecord_log *log, uint32_t component, uint32_t value) {
+    if (!snaprecord_may_begin(log)) return 0;
+    if (component >= log->recorder->components) return snaprecord_misused(log, SNAPRECORD_COMPONENT);
+    uint32_t number = ++log->begun[component];
+    log->entries[log->entry_count] = (snaprecord_entry){component, number, value};
+    snaprecord_begin(log, SNAPRECORD_UPDATING, SNAPRECORD_BEGIN_UPDATE, 1);
     return number;
 }
 
-static inline void snaprecord_end_update(snaprecord *r, uint32_t thread) {
-    uint64_t stamp = snaprecord_stamp(r);
-    snaprecord_log *l = &r->logs[thread];
-    l->events[l->length++] = (snaprecord_event){stamp, SNAPRECORD_END_UPDATE, 0, 0};
+static inline void snaprecord_end_update(snaprecord_log *log) {
+    uint64_t stamp = snaprecord_tick(log);
+    if (snaprecord_may_end(log, SNAPRECORD_UPDATING)) snaprecord_end(log, stamp, SNAPRECORD_END_UPDATE, 0);
 }
 
-static inline bool snaprecord_begin_view(snaprecord *r, uint32_t thread) {
-    snaprecord_log *l = &r->logs[thread];
-    if (!snaprecord_room(r, l)) return false;
-    snaprecord_event *e = &l->events[l->length++];
-    e->kind = SNAPRECORD_BEGIN_VIEW; e->first = 0; e->count = 0;
-    e->stamp = snaprecord_stamp(r);
+/* False: a log is full, or a call was misused. Then make no further call. */
+static inline bool snaprecord_begin_view(snaprecord_log *log) {
+    if (!snaprecord_may_begin(log)) return false;
+    snaprecord_begin(log, SNAPRECORD_VIEWING, SNAPRECORD_BEGIN_VIEW, 0);
     return true;
 }
 
-/* The end of a view that shows these entries, components rising; number 0, or no entry: the initial state. */
-static inline void snaprecord_end_view(snaprecord *r, uint32_t thread, const snaprecord_entry *entries, uint32_t count) {
-    uint64_t stamp = snaprecord_stamp(r);
-    snaprecord_log *l = &r->logs[thread];
-    l->events[l->length++] = (snaprecord_event){stamp, SNAPRECORD_END_VIEW, l->entries_length, count};
-    for (uint32_t i = 0; i < count; i++) l->entries[l->entries_length++] = entries[i];
+/* The end of a view that shows these entries, components rising. Number 0, or no entry, is the initial state. */
+static inline void snaprecord_end_view(snaprecord_log *log, const snaprecord_entry *entries, uint32_t count) {
+    uint64_t stamp = snaprecord_tick(log);
+    if (!snaprecord_may_end(log, SNAPRECORD_VIEWING)) return;
+    for (uint32_t i = 0; i < count; i++) {
+        if (entries[i].component >= log->recorder->components || (i && entries[i].component <= entries[i - 1].component)) {
+            snaprecord_misused(log, SNAPRECORD_COMPONENT);
+            return;
+        }
+        log->entries[log->entry_count + i] = entries[i];
+    }
+    snaprecord_end(log, stamp, SNAPRECORD_END_VIEW, count);
 }
 
-/* The end of a view that shows a value of each component; `initial`, if given, says which still show the initial state.
- * The numbers are found by the values, so the values of a component have to differ from each other. */
-static inline void snaprecord_end_view_values(snaprecord *r, uint32_t thread, const uint32_t *values, const bool *initial) {
-    uint64_t stamp = snaprecord_stamp(r);
-    snaprecord_log *l = &r->logs[thread];
-    l->events[l->length++] = (snaprecord_event){stamp, SNAPRECORD_END_VIEW, l->entries_length, r->components};
-    for (uint32_t k = 0; k < r->components; k++)
-        l->entries[l->entries_length++] = (snaprecord_entry){(uint8_t)k, initial && initial[k] ? 0 : SNAPRECORD_NONE, values[k]};
+/* The end of a view that shows these values, one for each component. snaprecord_text finds the number of each by its value,
+ * so the updates of a component have to write values that differ from each other and from `initial`. */
+static inline void snaprecord_end_view_values(snaprecord_log *log, const uint32_t *values) {
+    uint64_t stamp = snaprecord_tick(log);
+    if (!snaprecord_may_end(log, SNAPRECORD_VIEWING)) return;
+    for (uint32_t k = 0; k < log->recorder->components; k++) log->entries[log->entry_count + k] = (snaprecord_entry){k, 0, values[k]};
+    snaprecord_end(log, stamp, SNAPRECORD_END_VIEW_VALUES, log->recorder->components);
+}
+
+/* In place of the end of a view that gave no answer, because it gave up: it is left out of the history. */
+static inline void snaprecord_drop_view(snaprecord_log *log) {
+    if (!snaprecord_may_end(log, SNAPRECORD_VIEWING)) return;
+    log->length--;
+    log->state = SNAPRECORD_IDLE;
 }
 
 /* ---- after the threads were joined */
 
-typedef struct { uint32_t value, number; uint8_t component; } snaprecord_written;
+typedef struct {
+    uint32_t component, value, number;
+} snaprecord_written;
 
-static inline int snaprecord_by_value(const void *a, const void *b) {
-    const snaprecord_written *x = a, *y = b;
-    if (x->component != y->component) return x->component < y->component ? -1 : 1;
-    if (x->value != y->value) return x->value < y->value ? -1 : 1;
-    return x->number < y->number ? -1 : x->number > y->number;
+static inline int snaprecord_compare(const void *left, const void *right) {
+    const snaprecord_written *a = left, *b = right;
+    if (a->component != b->component) return a->component < b->component ? -1 : 1;
+    if (a->value != b->value) return a->value < b->value ? -1 : 1;
+    return a->number < b->number ? -1 : a->number > b->number;
 }
 
-typedef struct { snaprecord_log *log; snaprecord_event *event; uint32_t thread; } snaprecord_place;
+/* All updates, to look numbers up. Those of component k stand from first[k] on. */
+typedef struct {
+    uint32_t first[SNAPRECORD_COMPONENTS + 1];
+    uint64_t *begun;             /* by component and number: the stamp of the begin */
+    snaprecord_written *written; /* by component and value */
+    bool by_values;              /* some view tells values */
+    size_t room;                 /* how long the text is at most */
+} snaprecord_table;
 
-/* The history as a text, to be freed, or NULL and why there is none. */
-static inline char *snaprecord_csv(snaprecord *r, size_t *length, const char **fault) {
-    static const char header[] = "event,process,op,data\n";
-    uint64_t n = atomic_load(&r->clock);
-    snaprecord_place *at = calloc(n ? n : 1, sizeof *at);
-    snaprecord_written *written = NULL;
-    uint32_t *begun = calloc(256, sizeof *begun);
-    char *text = NULL;
-    size_t entries = 0, updates = 0, used;
-    *fault = "out of memory"; *length = 0;
-    if (!at || !begun) goto end;
-    if (n > 16384) { *fault = "more than 16384 events"; goto end; }
-    int owner[256];
-    for (int k = 0; k < 256; k++) owner[k] = -1;
-    for (uint32_t t = 0; t < r->threads; t++) {
-        snaprecord_log *l = &r->logs[t];
-        for (uint32_t k = 0; k < 256; k++) if (l->updates[k]) {
-            if (owner[k] >= 0) { *fault = "two threads updated one component"; goto end; }
-            owner[k] = (int)t;
-            updates += l->updates[k];
-        }
-        for (uint32_t i = 0; i < l->length; i++) at[l->events[i].stamp] = (snaprecord_place){l, &l->events[i], t};
-        entries += l->entries_length;
-    }
-    written = malloc((updates ? updates : 1) * sizeof *written);
-    text = malloc(sizeof header + n * 32 + entries * 40);
-    if (!written || !text) { free(text); text = NULL; goto end; }
-    updates = 0;
-    bool by_value = false, twice[256] = {false};
-    for (uint64_t s = 0; s < n; s++) {
-        snaprecord_event *e = at[s].event;
-        for (uint32_t i = 0; i < e->count; i++) {
-            snaprecord_entry *x = &at[s].log->entries[e->first + i];
-            if (e->kind == SNAPRECORD_BEGIN_UPDATE) written[updates++] = (snaprecord_written){x->value, x->number, x->component};
-            else if (x->number == SNAPRECORD_NONE) by_value = true;
-        }
-    }
-    if (by_value) {
-        qsort(written, updates, sizeof *written, snaprecord_by_value);
-        for (size_t i = 0; i < updates; i++)
-            if ((i && written[i].component == written[i - 1].component && written[i].value == written[i - 1].value) || written[i].value == r->initial[written[i].component])
-                twice[written[i].component] = true;
-    }
-    memcpy(text, header, used = sizeof header - 1);
-    for (uint64_t s = 0; s < n; s++) {
-        snaprecord_event *e = at[s].event;
-        snaprecord_entry *x = &at[s].log->entries[e->first];
-        switch (e->kind) {
-        case SNAPRECORD_BEGIN_UPDATE:
-            begun[x->component] = x->number;
-            used += sprintf(text + used, "begin,%u,update,%u:%u:%u\n", at[s].thread, x->component, x->number, x->value);
-            break;
-        case SNAPRECORD_END_UPDATE: used += sprintf(text + used, "end,%u,update,\n", at[s].thread); break;
-        case SNAPRECORD_BEGIN_VIEW: used += sprintf(text + used, "begin,%u,view,\n", at[s].thread); break;
-        default: {
-            const char *space = "";
-            used += sprintf(text + used, "end,%u,view,", at[s].thread);
-            for (uint32_t i = 0; i < e->count; i++, x++) {
-                uint32_t number = x->number;
-                if (number == SNAPRECORD_NONE) {
-                    snaprecord_written wanted = {x->value, 0, x->component};
-                    size_t low = 0, high = updates;
-                    if (twice[x->component]) { *fault = "views give values, and a component has one value twice (or its initial one): give numbers, or make the values differ"; free(text); text = NULL; goto end; }
-                    if (x->value == r->initial[x->component]) continue;
-                    while (low < high) { size_t m = low + (high - low) / 2; if (snaprecord_by_value(&written[m], &wanted) < 0) low = m + 1; else high = m; }
-                    /* a value that nobody wrote gets the last number that was begun: the judge then says "integrity", and no more */
-                    number = low < updates && written[low].component == x->component && written[low].value == x->value ? written[low].number
-                        : begun[x->component] ? begun[x->component] : 1;
-                }
-                if (number == 0) continue;
-                used += sprintf(text + used, "%s%u:%u:%u", space, x->component, number, x->value);
-                space = " ";
+static inline bool snaprecord_tabulate(snaprecord *recorder, snaprecord_table *table) {
+    uint32_t counts[SNAPRECORD_COMPONENTS] = {0}, total = 0;
+    table->room = 64;
+    for (uint32_t t = 0; t < recorder->threads; t++) {
+        const snaprecord_log *log = &recorder->logs[t];
+        table->room += (size_t)log->length * 48 + (size_t)log->entry_count * 28;
+        for (uint32_t k = 0; k < SNAPRECORD_COMPONENTS; k++) {
+            if (log->begun[k] && counts[k]) {
+                snprintf(recorder->message, sizeof recorder->message, "thread %" PRIu32 " and another one updated component %" PRIu32 ": a component has one writer", t, k);
+                recorder->fault = SNAPRECORD_TWO_WRITERS;
+                return false;
             }
-            text[used++] = '\n'; text[used] = 0;
-        }
+            counts[k] += log->begun[k];
         }
     }
-    *length = used; *fault = NULL;
-end:
-    free(at); free(written); free(begun);
-    return text;
+    for (uint32_t k = 0; k < SNAPRECORD_COMPONENTS; k++) {
+        table->first[k] = total;
+        total += counts[k];
+    }
+    table->first[SNAPRECORD_COMPONENTS] = total;
+    table->begun = malloc((total + 1) * sizeof *table->begun);
+    table->written = malloc((total + 1) * sizeof *table->written);
+    if (!table->begun || !table->written) return snaprecord_failed(recorder, SNAPRECORD_MEMORY, "out of memory");
+    for (uint32_t t = 0; t < recorder->threads; t++) {
+        const snaprecord_log *log = &recorder->logs[t];
+        for (uint32_t i = 0; i < log->length; i++) {
+            const snaprecord_event *event = &log->events[i];
+            const snaprecord_entry *entry = &log->entries[event->first];
+            table->by_values |= event->kind == SNAPRECORD_END_VIEW_VALUES;
+            if (event->kind != SNAPRECORD_BEGIN_UPDATE) continue;
+            uint32_t at = table->first[entry->component] + entry->number - 1;
+            table->begun[at] = event->stamp;
+            table->written[at] = (snaprecord_written){entry->component, entry->value, entry->number};
+        }
+    }
+    if (!table->by_values) return true;
+    qsort(table->written, total, sizeof *table->written, snaprecord_compare);
+    for (uint32_t i = 0; i < total; i++) {
+        const snaprecord_written *one = &table->written[i];
+        bool is_twice = i && one[-1].component == one->component && one[-1].value == one->value;
+        if (!is_twice && one->value != recorder->initial) continue;
+        snprintf(recorder->message, sizeof recorder->message, "component %" PRIu32 " got the value %" PRIu32 " %s, so a view's value has no one number: make the values differ, or end views with numbers",
+                 one->component, one->value, is_twice ? "twice" : "that it has at first");
+        recorder->fault = SNAPRECORD_SAME_VALUE;
+        return false;
+    }
+    return true;
 }
 
-/* How much of the run overlapped: of the completed views, how many had an update of another thread open at some moment. */
-static inline double snaprecord_overlap(snaprecord *r) {
-    uint64_t n = atomic_load(&r->clock), views = 0, beside = 0, open = 0, last_update = 0;
-    if (n == 0) return 0;
-    snaprecord_place *at = calloc(n, sizeof *at);
-    uint64_t *since = calloc(r->threads, sizeof *since);
-    bool *was = calloc(r->threads, sizeof *was);
-    for (uint32_t t = 0; at && t < r->threads; t++) for (uint32_t i = 0; i < r->logs[t].length; i++) at[r->logs[t].events[i].stamp] = (snaprecord_place){&r->logs[t], &r->logs[t].events[i], t};
-    for (uint64_t s = 0; at && since && was && s < n; s++) switch (at[s].event->kind) {
-        case SNAPRECORD_BEGIN_UPDATE: open++; last_update = s + 1; break;
-        case SNAPRECORD_END_UPDATE: open--; last_update = s + 1; break;
-        case SNAPRECORD_BEGIN_VIEW: since[at[s].thread] = s + 1; was[at[s].thread] = open > 0; break;
-        default: views++; beside += was[at[s].thread] || last_update > since[at[s].thread];
+/* The number of the value that a view shows. One that nobody wrote gets the last number that had begun when the view ended:
+ * the judge then says `integrity`, and no more of this entry by itself. */
+static inline uint32_t snaprecord_number(const snaprecord *recorder, const snaprecord_table *table, const snaprecord_entry *entry, uint64_t ended) {
+    if (entry->value == recorder->initial) return 0;
+    uint32_t first = table->first[entry->component], end = table->first[entry->component + 1], low = first, high = end;
+    while (low < high) {
+        uint32_t middle = low + (high - low) / 2;
+        if (table->written[middle].value < entry->value) low = middle + 1;
+        else high = middle;
     }
-    free(at); free(since); free(was);
-    return views ? (double)beside / (double)views : 0;
+    if (low < end && table->written[low].value == entry->value) return table->written[low].number;
+    for (low = first, high = end; low < high;) {
+        uint32_t middle = low + (high - low) / 2;
+        if (table->begun[middle] < ended) low = middle + 1;
+        else high = middle;
+    }
+    return low > first ? low - first : 1;
+}
+
+static inline char *snaprecord_write_event(const snaprecord *recorder, const snaprecord_table *table, const snaprecord_log *log, const snaprecord_event *event, char *to) {
+    static const char *const words[] = {"begin", "end", "begin", "end", "end"}, *const ops[] = {"update", "update", "view", "view", "view"};
+    const char *space = "";
+    to += sprintf(to, "%" PRIu64 ",%s,%" PRIu32 ",%s,", event->stamp, words[event->kind], log->process, ops[event->kind]);
+    for (uint32_t i = event->first; i < event->first + event->count; i++) {
+        const snaprecord_entry *entry = &log->entries[i];
+        uint32_t number = event->kind == SNAPRECORD_END_VIEW_VALUES ? snaprecord_number(recorder, table, entry, event->stamp) : entry->number;
+        if (number == 0) continue;
+        to += sprintf(to, "%s%" PRIu32 ":%" PRIu32 ":%" PRIu32, space, entry->component, number, entry->value);
+        space = " ";
+    }
+    *to++ = '\n';
+    return to;
+}
+
+/* The history that all logs hold, a text of `*length` bytes with a zero behind it, to be given to free(); or NULL, and `fault`
+ * and `message` say why. The logs stand one after the other: the judge puts the events in the order of their stamps. */
+static inline char *snaprecord_text(snaprecord *recorder, size_t *length) {
+    static const char *const misuses[] = {
+        [SNAPRECORD_NESTED] = "began a call before its last one had ended", [SNAPRECORD_NOT_OPEN] = "ended a call that it had not begun",
+        [SNAPRECORD_AFTER_FULL] = "made a call although begin had refused it: a log was full", [SNAPRECORD_COMPONENT] = "named a component that is too high, or entries that do not rise"};
+    uint32_t misuse = atomic_load(&recorder->misuse);
+    snaprecord_table table = {.room = 0};
+    char *text = NULL, *to;
+    *length = 0;
+    if (misuse) {
+        recorder->fault = (snaprecord_fault)(misuse % 16);
+        snprintf(recorder->message, sizeof recorder->message, "thread %" PRIu32 " %s", misuse / 16, misuses[misuse % 16]);
+        return NULL;
+    }
+    if (snaprecord_tabulate(recorder, &table)) {
+        text = malloc(table.room);
+        if (!text) snaprecord_failed(recorder, SNAPRECORD_MEMORY, "out of memory");
+    }
+    if (text) {
+        to = text + sprintf(text, "at,event,process,op,data\n");
+        for (uint32_t t = 0; t < recorder->threads; t++)
+            for (uint32_t i = 0; i < recorder->logs[t].length; i++) to = snaprecord_write_event(recorder, &table, &recorder->logs[t], &recorder->logs[t].events[i], to);
+        *to = 0;
+        *length = (size_t)(to - text);
+    }
+    free(table.begun);
+    free(table.written);
+    return text;
 }
 #endif

@@ -1,185 +1,292 @@
-import java.util.Arrays;
+/*
+ * SPDX-License-Identifier: 0BSD
+ * Copyright (C) 2026 by the authors of snapjudge
+ * Permission to use, copy, modify, and/or distribute this software for any purpose with or without fee is hereby granted.
+ * THE SOFTWARE IS PROVIDED "AS IS" AND THE AUTHOR DISCLAIMS ALL WARRANTIES WITH REGARD TO THIS SOFTWARE INCLUDING ALL IMPLIED
+ * WARRANTIES OF MERCHANTABILITY AND FITNESS. IN NO EVENT SHALL THE AUTHOR BE LIABLE FOR ANY SPECIAL, DIRECT, INDIRECT, OR
+ * CONSEQUENTIAL DAMAGES OR ANY DAMAGES WHATSOEVER RESULTING FROM LOSS OF USE, DATA OR PROFITS, WHETHER IN AN ACTION OF
+ * CONTRACT, NEGLIGENCE OR OTHER TORTIOUS ACTION, ARISING OUT OF OR IN CONNECTION WITH THE USE OR PERFORMANCE OF THIS SOFTWARE.
+ */
+
+import java.util.ArrayList;
+import java.util.Collections;
 import java.util.HashMap;
+import java.util.List;
 import java.util.Map;
 import java.util.concurrent.atomic.AtomicBoolean;
 import java.util.concurrent.atomic.AtomicLong;
+import java.util.concurrent.atomic.AtomicReference;
 
 /**
  * Records the calls that threads make of a single-writer board, and writes them as a history for {@code snapjudge check}.
  *
- * <p>One file, no dependencies, Java 11 or later: copy it into a harness. Public domain (CC0).
+ * <p>One file, Java 11 or later, no dependencies: copy it into a harness. docs/OWN-OBJECT.md of snapjudge leads through one.
  *
  * <pre>
- * SnapRecorder recorder = new SnapRecorder(threads, components, 16384 / threads);
- * SnapRecorder.Log log = recorder.log(t);                    // thread t alone uses it
- * if (log.beginUpdate(component, value) == 0) return;        // full: make no further call
+ * SnapRecorder recorder = new SnapRecorder(threads, components, calls);
+ *
+ * SnapRecorder.Log log = recorder.log(t);                 // thread t, and no other
+ * if (log.beginUpdate(component, value) == 0) return;     // refused: make no further call
  * board.update(component, value);
  * log.endUpdate();
  * if (!log.beginView()) return;
  * long[] values = board.view();
- * log.endViewValues(values);                                 // or endView, where the object tells numbers
- * String text = recorder.history();                          // after the threads were joined
+ * log.endViewValues(values);                              // or endView, of numbers
+ *
+ * String text = recorder.text();                          // after the threads were joined
  * </pre>
  *
- * <p>Where the history says that call A ended before call B began, A happened before B: the stamps are steps of one
- * AtomicLong, taken last in begin.. and first in end... Nothing is locked or allocated between them.
+ * <p>What the record says: where call A ended before call B began, A happened before B. Each stamp is one getAndIncrement of
+ * one AtomicLong; that of a begin is taken last in begin.., that of an end first in end... A thread writes to its own log
+ * alone. Nothing is locked or allocated, and nothing throws, while threads run.
+ *
+ * <p>What it cannot say: the clock orders more calls than the object may, so a fault that needs two calls without such an
+ * order can hide.
  */
 public final class SnapRecorder {
+    /** How many events a history may have; a call has two, its begin and its end. */
     public static final int EVENT_LIMIT = 16384;
-    private static final int BEGIN_UPDATE = 0, END_UPDATE = 1, BEGIN_VIEW = 2, END_VIEW = 3;
-    private static final String[] WORDS = {"begin,%d,update,", "end,%d,update,", "begin,%d,view,", "end,%d,view,"};
-    private static final int NONE = -1;
+    public static final int COMPONENT_LIMIT = 256;
+    /** A thread is one process. */
+    public static final int PROCESS_LIMIT = 65536;
 
-    private final AtomicLong clock = new AtomicLong();
-    private final AtomicBoolean full = new AtomicBoolean();
-    private final int components, capacity;
-    private final Log[] logs;
+    /** What is wrong with a record, or with the use of a recorder. */
+    public enum Fault {
+        LIMITS("a history has at most " + EVENT_LIMIT / 2 + " calls of " + PROCESS_LIMIT + " threads in all, and " + COMPONENT_LIMIT + " components"),
+        NESTED("began a call before its last one had ended"),
+        NOT_OPEN("ended a call that it had not begun"),
+        AFTER_FULL("made a call although begin had refused it: a log was full"),
+        COMPONENT("named a component that is too high, or components that do not rise"),
+        VALUE("updated with, or showed, a number or a value that has not 32 bits"),
+        TWO_WRITERS("two threads updated it, and a component has one writer"),
+        SAME_VALUE("twice, or has it at first, so a view's value has no one number: make the values differ, or end views with numbers");
 
-    /** capacity: how many events each thread has room for; the judge takes 16384 in all. */
-    public SnapRecorder(int threads, int components, int capacity) {
-        if (threads < 0 || threads > 65536 || components < 0 || components > 256) throw new IllegalArgumentException();
-        this.components = components;
-        this.capacity = capacity;
-        logs = new Log[threads];
-        for (int t = 0; t < threads; t++) logs[t] = new Log();
+        private final String sentence;
+
+        Fault(String sentence) {
+            this.sentence = sentence;
+        }
     }
 
+    /** Why there is no recorder, or no text. */
+    public static final class RecordException extends RuntimeException {
+        private static final long serialVersionUID = 1;
+        public final Fault fault;
+
+        private RecordException(Fault fault, String subject) {
+            super(subject + fault.sentence);
+            this.fault = fault;
+        }
+    }
+
+    private static final int BEGIN_UPDATE = 0, END_UPDATE = 1, BEGIN_VIEW = 2, END_VIEW = 3, END_VIEW_VALUES = 4;
+    private static final String[] WORDS = {",begin,", ",end,", ",begin,", ",end,", ",end,"};
+    private static final String[] OPS = {",update,", ",update,", ",view,", ",view,", ",view,"};
+
+    private final AtomicLong clock = new AtomicLong();
+    /** A log is full, or a call was misused: begin is refused to all threads. */
+    private final AtomicBoolean stopped = new AtomicBoolean();
+    private final AtomicReference<RecordException> misuse = new AtomicReference<>();
+    private final int components;
+    private final int calls;
+    private final Log[] logs;
+
+    /** The value that each component has at first; set it before the threads start. */
+    public long initial = 0;
+
+    /** For so many threads, components, and calls of each thread, at most EVENT_LIMIT / 2 calls in all. */
+    public SnapRecorder(int threads, int components, int calls) {
+        boolean fits = threads >= 1 && threads <= PROCESS_LIMIT && components >= 0 && components <= COMPONENT_LIMIT && calls >= 1;
+        if (!fits || calls > EVENT_LIMIT / 2 / threads) throw new RecordException(Fault.LIMITS, "");
+        this.components = components;
+        this.calls = calls;
+        logs = new Log[threads];
+        for (int t = 0; t < threads; t++) logs[t] = new Log(t);
+    }
+
+    /** The log of a thread, which is the process of that number. */
     public Log log(int thread) {
         return logs[thread];
     }
 
-    /** What one thread recorded, as the process of its number. */
-    public final class Log {
-        private final long[] stamps = new long[capacity];
-        private final int[] kinds = new int[capacity], firsts = new int[capacity], counts = new int[capacity];
-        private final int[] shownComponents, shownNumbers;
-        private final long[] shownValues;
-        private final int[] begun = new int[256];
-        private int length, shown;
-        private boolean open;
+    private enum State { IDLE, REFUSED, UPDATING, VIEWING }
 
-        private Log() {
-            int room = capacity / 2 * Math.max(components, 1) + 1;
-            shownComponents = new int[room];
-            shownNumbers = new int[room];
-            shownValues = new long[room];
+    /** What one thread recorded. */
+    public final class Log {
+        private final int thread;
+        private final long[] stamps = new long[2 * calls];
+        private final int[] kinds = new int[2 * calls];
+        private final int[] firsts = new int[2 * calls + 1]; // the entries of event i: from firsts[i] to firsts[i + 1]
+        private final int[] shownComponents = new int[calls * Math.max(components, 1)];
+        private final long[] shownNumbers = new long[shownComponents.length];
+        private final long[] shownValues = new long[shownComponents.length];
+        private final int[] begun = new int[COMPONENT_LIMIT];
+        private int length;
+        private int shown;
+        private State state = State.IDLE;
+
+        private Log(int thread) {
+            this.thread = thread;
         }
 
-        private boolean hasRoom(int entries) {
-            if (full.getOpaque()) return false;
-            if (length + 2 <= capacity && shown + entries <= shownValues.length) return true;
-            full.setOpaque(true); // all threads are to stop, else views show what no one recorded
+        /** The first misuse is kept for text(), and stops all threads. */
+        private boolean misused(Fault fault) {
+            misuse.compareAndSet(null, new RecordException(fault, "thread " + thread + " "));
+            stopped.setOpaque(true);
+            state = State.REFUSED;
             return false;
         }
 
-        private void show(int component, int number, long value) {
+        private boolean mayBegin() {
+            if (state == State.UPDATING || state == State.VIEWING) return misused(Fault.NESTED);
+            if (length == 2 * calls) stopped.setOpaque(true); // all threads stop, else views show updates that no one recorded
+            if (stopped.getOpaque()) state = State.REFUSED;
+            return state == State.IDLE;
+        }
+
+        private boolean mayEnd(State expected) {
+            return state == expected || misused(state == State.REFUSED ? Fault.AFTER_FULL : Fault.NOT_OPEN);
+        }
+
+        private boolean show(int component, long number, long value) {
+            if (component < 0 || component >= components) return misused(Fault.COMPONENT);
+            if (number >>> 32 != 0 || value >>> 32 != 0) return misused(Fault.VALUE);
             shownComponents[shown] = component;
             shownNumbers[shown] = number;
             shownValues[shown++] = value;
+            return true;
         }
 
-        private void begin(int kind, int first, int count) {
-            if (open) throw new IllegalStateException("the last call has not ended");
-            open = true;
+        private void begin(State next, int kind) {
             kinds[length] = kind;
-            firsts[length] = first;
-            counts[length] = count;
+            firsts[length + 1] = shown;
+            state = next;
             stamps[length++] = clock.getAndIncrement();
         }
 
-        private void end(long stamp, int kind, int first, int count) {
-            if (!open) throw new IllegalStateException("no call is open");
-            open = false;
+        private void end(long stamp, int kind) {
             kinds[length] = kind;
-            firsts[length] = first;
-            counts[length] = count;
+            firsts[length + 1] = shown;
             stamps[length++] = stamp;
+            state = State.IDLE;
         }
 
-        /** The number of the update, from 1, or 0 where a log is full: then the update is not to be made. */
+        /**
+         * The number of the update, from 1 in each component; or 0: a log is full, or a call was misused. Then make no further
+         * call. Values have 32 bits without a sign.
+         */
         public int beginUpdate(int component, long value) {
-            if (component < 0 || component > 255 || value < 0 || value >> 32 != 0)
-                throw new IllegalArgumentException("components are 0 to 255, and values have 32 bits");
-            if (!hasRoom(1)) return 0;
+            if (!mayBegin() || !show(component, 0, value)) return 0;
             int number = ++begun[component];
-            show(component, number, value);
-            begin(BEGIN_UPDATE, shown - 1, 1);
+            shownNumbers[shown - 1] = number;
+            begin(State.UPDATING, BEGIN_UPDATE);
             return number;
         }
 
         public void endUpdate() {
-            end(clock.getAndIncrement(), END_UPDATE, 0, 0);
+            long stamp = clock.getAndIncrement();
+            if (mayEnd(State.UPDATING)) end(stamp, END_UPDATE);
         }
 
-        /** False where a log is full: then the view is not to be taken. */
+        /** False: a log is full, or a call was misused. Then make no further call. */
         public boolean beginView() {
-            if (!hasRoom(components)) return false;
-            begin(BEGIN_VIEW, 0, 0);
+            if (!mayBegin()) return false;
+            begin(State.VIEWING, BEGIN_VIEW);
             return true;
         }
 
-        /** The end of a view of components 0, 1 and so on; number 0 is the initial state. */
-        public void endView(int[] numbers, long[] values) {
+        /** The end of a view that shows number and value of component 0 and so on. Number 0 is the initial state. */
+        public void endView(long[] numbers, long[] values) {
             long stamp = clock.getAndIncrement();
-            int first = shown;
-            for (int k = 0; k < numbers.length; k++) if (numbers[k] != 0) show(k, numbers[k], values[k]);
-            end(stamp, END_VIEW, first, shown - first);
+            if (!mayEnd(State.VIEWING)) return;
+            for (int k = 0; k < numbers.length; k++) if (!show(k, numbers[k], values[k])) return;
+            end(stamp, END_VIEW);
         }
 
-        /** The same where only values are known, 0 for the initial state: those of a component have to differ. */
+        /**
+         * The end of a view that shows these values, of component 0 and so on. text() finds the number of each by its value, so
+         * the updates of a component have to write values that differ from each other and from the initial one.
+         */
         public void endViewValues(long[] values) {
             long stamp = clock.getAndIncrement();
-            int first = shown;
-            for (int k = 0; k < values.length; k++) if (values[k] != 0) show(k, NONE, values[k]);
-            end(stamp, END_VIEW, first, shown - first);
+            if (!mayEnd(State.VIEWING)) return;
+            for (int k = 0; k < values.length; k++) if (!show(k, 0, values[k])) return;
+            end(stamp, END_VIEW_VALUES);
+        }
+
+        /** In place of the end of a view that gave no answer, because it gave up: it is left out of the history. */
+        public void dropView() {
+            if (!mayEnd(State.VIEWING)) return;
+            length--;
+            state = State.IDLE;
         }
     }
 
-    /** The history that all logs recorded, as a text. */
-    public String history() {
-        int total = 0;
-        boolean byValue = false;
-        for (Log log : logs) {
-            total += log.length;
-            for (int i = 0; i < log.shown; i++) byValue |= log.shownNumbers[i] == NONE;
-        }
-        if (total > EVENT_LIMIT) throw new IllegalStateException(total + " events, and a history has at most " + EVENT_LIMIT);
-        int[] processes = new int[total], places = new int[total], owners = new int[256], begun = new int[256];
-        Arrays.fill(owners, -1);
-        Map<String, Integer> numbers = new HashMap<>();
-        for (int t = 0; t < logs.length; t++) {
-            Log log = logs[t];
-            for (int i = 0; i < log.length; i++) {
-                processes[(int) log.stamps[i]] = t;
-                places[(int) log.stamps[i]] = i;
-                if (log.kinds[i] != BEGIN_UPDATE) continue;
-                int at = log.firsts[i], component = log.shownComponents[at];
-                if (owners[component] >= 0 && owners[component] != t)
-                    throw new IllegalStateException("two threads updated component " + component);
-                owners[component] = t;
-                if (!byValue) continue;
-                Integer other = numbers.put(component + ":" + log.shownValues[at], log.shownNumbers[at]);
-                if (other != null || log.shownValues[at] == 0)
-                    throw new IllegalStateException("component " + component + " got " + log.shownValues[at]
-                            + " twice, so a view's value has no one number: call endView with numbers, or make the values differ");
-            }
-        }
-        StringBuilder text = new StringBuilder("event,process,op,data\n");
-        for (int s = 0; s < total; s++) {
-            Log log = logs[processes[s]];
-            int i = places[s];
-            text.append(String.format(WORDS[log.kinds[i]], processes[s]));
-            for (int e = log.firsts[i]; e < log.firsts[i] + log.counts[i]; e++) {
-                int component = log.shownComponents[e], number = log.shownNumbers[e];
-                long value = log.shownValues[e];
-                // a value that nobody wrote gets the last number that was begun: the judge then says "integrity", and no more
-                if (number == NONE) number = numbers.getOrDefault(component + ":" + value, Math.max(begun[component], 1));
-                if (log.kinds[i] == BEGIN_UPDATE) begun[component] = number;
-                if (e > log.firsts[i]) text.append(' ');
-                text.append(component).append(':').append(number).append(':').append(value);
-            }
-            text.append('\n');
-        }
+    /**
+     * The history that all logs hold, after the threads were joined. The logs stand one after the other: the judge puts the
+     * events in the order of their stamps. Throws RecordException of the first misuse, of TWO_WRITERS or of SAME_VALUE.
+     */
+    public String text() {
+        if (misuse.get() != null) throw misuse.get();
+        Updates updates = new Updates();
+        StringBuilder text = new StringBuilder("at,event,process,op,data\n");
+        for (Log log : logs) for (int i = 0; i < log.length; i++) write(text, updates, log, i);
         return text.toString();
+    }
+
+    private void write(StringBuilder text, Updates updates, Log log, int i) {
+        int kind = log.kinds[i];
+        text.append(log.stamps[i]).append(WORDS[kind]).append(log.thread).append(OPS[kind]);
+        String space = "";
+        for (int e = log.firsts[i]; e < log.firsts[i + 1]; e++) {
+            int component = log.shownComponents[e];
+            long value = log.shownValues[e];
+            long number = kind == END_VIEW_VALUES ? updates.number(component, value, log.stamps[i]) : log.shownNumbers[e];
+            if (number == 0) continue;
+            text.append(space).append(component).append(':').append(number).append(':').append(value);
+            space = " ";
+        }
+        text.append('\n');
+    }
+
+    /** All updates, to look numbers up. */
+    private final class Updates {
+        private final List<List<Long>> begun = new ArrayList<>(); // by component and number: the stamp of the begin
+        private final List<Map<Long, Integer>> numbers = new ArrayList<>(); // by component and value, where views tell values
+
+        private Updates() {
+            boolean byValues = false;
+            for (Log log : logs) for (int i = 0; i < log.length; i++) byValues |= log.kinds[i] == END_VIEW_VALUES;
+            Log[] writers = new Log[COMPONENT_LIMIT];
+            for (int k = 0; k < COMPONENT_LIMIT; k++) {
+                begun.add(new ArrayList<>());
+                numbers.add(new HashMap<>());
+            }
+            for (Log log : logs)
+                for (int i = 0; i < log.length; i++) {
+                    if (log.kinds[i] != BEGIN_UPDATE) continue;
+                    int component = log.shownComponents[log.firsts[i]];
+                    long value = log.shownValues[log.firsts[i]];
+                    if (writers[component] != null && writers[component] != log)
+                        throw new RecordException(Fault.TWO_WRITERS, "component " + component + ": ");
+                    writers[component] = log;
+                    begun.get(component).add(log.stamps[i]);
+                    Integer other = numbers.get(component).put(value, begun.get(component).size());
+                    if (byValues && (other != null || value == initial))
+                        throw new RecordException(Fault.SAME_VALUE, "component " + component + " got the value " + value + " ");
+                }
+        }
+
+        /**
+         * The number of the value that a view shows. One that nobody wrote gets the last number that had begun when the view
+         * ended: the judge then says "integrity", and no more of this entry by itself.
+         */
+        private int number(int component, long value, long ended) {
+            if (value == initial) return 0;
+            Integer number = numbers.get(component).get(value);
+            if (number != null) return number;
+            // no stamp of a begin is that of an end, so the place is negative
+            return Math.max(1, -1 - Collections.binarySearch(begun.get(component), ended));
+        }
     }
 }

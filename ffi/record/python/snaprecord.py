@@ -1,156 +1,250 @@
 """Records the calls that threads make of a single-writer board, and writes them as a history for `snapjudge check`.
 
-One file, no dependencies: copy it into a harness. Public domain (CC0).
+One file, Python 3.8 or later, no dependencies: copy it into a harness. docs/OWN-OBJECT.md of snapjudge leads through one.
 
-    recorder = Recorder()
-    log = recorder.log()                       # one for each thread, made before the threads start
-    number = log.begin_update(component, value)
+    recorder = Recorder(threads, components, calls)
+
+    log = recorder.log(t)                           # thread t, and no other
+    if not log.begin_update(component, value):      # refused: make no further call
+        return
     board.update(component, value)
     log.end_update()
-    log.begin_view()
+    if not log.begin_view():
+        return
     values = board.view()
-    log.end_view_values(values)                # a value for each component, None for the initial state
-    log.end_view(entries)                      # or (component, number, value), where the object tells numbers
-    text = recorder.history()                  # after the threads were joined; raises RecordError
+    log.end_view_values(values)                     # or end_view, of numbers
 
-Where the history says that call A ended before call B began, it was so: each stamp is one step of one clock, taken last in
-begin_* and first in end_*. A thread appends to lists of its own; there is no lock, where the interpreter has its global one.
-Threads of Python overlap rarely: call more_overlap() before they start, and use start() as the first thing in each.
+    text = recorder.text()                          # after the threads were joined; raises RecordError
+
+What the record says: where call A ended before call B began, it was so. Each stamp is one step of one clock; that of a begin is
+taken last in begin_.., that of an end first in end_... A thread appends to its own log alone. There is no lock where the
+interpreter has its global one, and nothing is raised while threads run.
+What it cannot say: the clock orders more calls than the object may, so a fault that needs two calls without such an order can
+hide.
+
+SPDX-License-Identifier: 0BSD
+Copyright (C) 2026 by the authors of snapjudge
+Permission to use, copy, modify, and/or distribute this software for any purpose with or without fee is hereby granted.
+THE SOFTWARE IS PROVIDED "AS IS" AND THE AUTHOR DISCLAIMS ALL WARRANTIES WITH REGARD TO THIS SOFTWARE INCLUDING ALL IMPLIED
+WARRANTIES OF MERCHANTABILITY AND FITNESS. IN NO EVENT SHALL THE AUTHOR BE LIABLE FOR ANY SPECIAL, DIRECT, INDIRECT, OR
+CONSEQUENTIAL DAMAGES OR ANY DAMAGES WHATSOEVER RESULTING FROM LOSS OF USE, DATA OR PROFITS, WHETHER IN AN ACTION OF
+CONTRACT, NEGLIGENCE OR OTHER TORTIOUS ACTION, ARISING OUT OF OR IN CONNECTION WITH THE USE OR PERFORMANCE OF THIS SOFTWARE.
 """
+import bisect
+import enum
 import itertools
 import sys
 import threading
 
-EVENT_LIMIT = 16384
-_BEGIN_UPDATE, _END_UPDATE, _BEGIN_VIEW, _END_VIEW = range(4)
-_WORDS = (("begin", "update"), ("end", "update"), ("begin", "view"), ("end", "view"))
+EVENT_LIMIT = 16384  # of a history; a call has two, its begin and its end
+COMPONENT_LIMIT = 256
+PROCESS_LIMIT = 65536  # a thread is one process
+
+
+class Fault(enum.Enum):
+    """What is wrong with a record, or with the use of a recorder."""
+
+    LIMITS = "more threads, components or calls than the judge takes"
+    NESTED = "a call began before the thread's last one had ended"
+    NOT_OPEN = "a call ended that had not begun"
+    AFTER_FULL = "a call was made although begin had refused it: a log was full"
+    COMPONENT = "a component is too high, or the entries of a view do not rise"
+    VALUE = "a number or a value is not a whole number of 32 bits without a sign"
+    TWO_WRITERS = "two threads updated one component"
+    SAME_VALUE = "views tell values, and a component got one value twice, or its initial one: make them differ, or end views with numbers"
 
 
 class RecordError(Exception):
-    """The logs are no history."""
+    """Why there is no recorder, or no text; `fault` is its name."""
+
+    def __init__(self, fault, subject):
+        super().__init__(f"{subject}: {fault.value}")
+        self.fault = fault
 
 
-def more_overlap(seconds=1e-6):
-    """Lets the interpreter change threads as often as it can. Answers the old interval, for sys.setswitchinterval."""
-    old = sys.getswitchinterval()
-    sys.setswitchinterval(seconds)
-    return old
+class _Kind(enum.Enum):
+    BEGIN_UPDATE = "begin", "update"
+    END_UPDATE = "end", "update"
+    BEGIN_VIEW = "begin", "view"
+    END_VIEW = "end", "view", "numbers"
+    END_VIEW_VALUES = "end", "view", "values"
 
 
-class _Locked:
-    def __init__(self):
-        self.lock, self.count = threading.Lock(), itertools.count()
-
-    def __call__(self):
-        with self.lock:
-            return next(self.count)
+class _State(enum.Enum):
+    IDLE, REFUSED, UPDATING, VIEWING = range(4)
 
 
 def _clock():
-    # next() of a count is one step under the global lock, and not without it
+    """Answers 0, 1, 2 and so on, each once."""
+    count = itertools.count().__next__
     if getattr(sys, "_is_gil_enabled", lambda: True)():
-        return itertools.count().__next__
-    return _Locked()
+        return count  # one step under the global lock
+    lock = threading.Lock()
+
+    def tick():
+        with lock:
+            return count()
+
+    return tick
+
+
+def _has_32_bits(number):
+    return isinstance(number, int) and 0 <= number < 1 << 32
 
 
 class Log:
-    """What one thread recorded, as the process of its number."""
+    """What one thread recorded."""
 
-    def __init__(self, process, stamp):
-        self.process, self._stamp, self.events, self._begun, self._open = process, stamp, [], {}, None
+    def __init__(self, recorder, thread):
+        self._recorder, self._tick = recorder, recorder._tick
+        self.thread, self.events, self._begun, self._state = thread, [], {}, _State.IDLE
 
-    def _begin(self, kind, data):
-        if self._open is not None:
-            raise RecordError(f"process {self.process} begins a call, and its last one has not ended")
-        self._open = kind
-        event = [0, kind, data]
+    def _misused(self, fault):
+        """The first misuse is kept for Recorder.text, and stops all threads."""
+        if self._recorder._misuse is None:
+            self._recorder._misuse = RecordError(fault, f"thread {self.thread}")
+        self._recorder._stopped = True
+        self._state = _State.REFUSED
+        return False
+
+    def _may_begin(self):
+        if self._state in (_State.UPDATING, _State.VIEWING):
+            return self._misused(Fault.NESTED)
+        if len(self.events) == 2 * self._recorder.calls:
+            self._recorder._stopped = True  # all threads stop, else views show updates that no one recorded
+        if self._recorder._stopped:
+            self._state = _State.REFUSED
+        return self._state is _State.IDLE
+
+    def _may_end(self, expected):
+        if self._state is expected:
+            return True
+        return self._misused(Fault.AFTER_FULL if self._state is _State.REFUSED else Fault.NOT_OPEN)
+
+    def _is_component(self, component):
+        return isinstance(component, int) and 0 <= component < self._recorder.components
+
+    def _begin(self, state, kind, data):
+        self._state = state
+        event = [None, kind, data]
         self.events.append(event)
-        event[0] = self._stamp()
+        event[0] = self._tick()
 
     def _end(self, stamp, kind, data):
-        if self._open != kind - 1:
-            raise RecordError(f"process {self.process} ends a call that is not open")
-        self._open = None
-        self.events.append((stamp, kind, data))
+        self.events.append([stamp, kind, data])
+        self._state = _State.IDLE
 
     def begin_update(self, component, value):
-        """The number of the update, from 1."""
+        """The number of the update, from 1 in each component; or 0: a log is full, or a call was misused. Then make no further call."""
+        if not self._may_begin():
+            return 0
+        if not self._is_component(component) or not _has_32_bits(value):
+            self._misused(Fault.VALUE if self._is_component(component) else Fault.COMPONENT)
+            return 0
         number = self._begun[component] = self._begun.get(component, 0) + 1
-        self._begin(_BEGIN_UPDATE, ((component, number, value),))
+        self._begin(_State.UPDATING, _Kind.BEGIN_UPDATE, ((component, number, value),))
         return number
 
     def end_update(self):
-        stamp = self._stamp()
-        self._end(stamp, _END_UPDATE, ())
+        stamp = self._tick()
+        if self._may_end(_State.UPDATING):
+            self._end(stamp, _Kind.END_UPDATE, ())
 
     def begin_view(self):
-        self._begin(_BEGIN_VIEW, ())
+        """False: a log is full, or a call was misused. Then make no further call."""
+        may = self._may_begin()
+        if may:
+            self._begin(_State.VIEWING, _Kind.BEGIN_VIEW, ())
+        return may
 
     def end_view(self, entries):
-        stamp = self._stamp()
-        self._end(stamp, _END_VIEW, tuple(sorted(entries)))
+        """The end of a view that shows these (component, number, value), components rising. Number 0, or no entry, is the initial state."""
+        self._end_view(self._tick(), _Kind.END_VIEW, tuple(entries))
 
     def end_view_values(self, values):
-        stamp = self._stamp()
-        self._end(stamp, _END_VIEW, tuple((k, None, v) for k, v in enumerate(values) if v is not None))
+        """The end of a view that shows these values, of component 0 and so on; None is the initial one.
+
+        Recorder.text finds the number of each by its value, so the updates of a component have to write values that differ from
+        each other and from Recorder.initial.
+        """
+        stamp = self._tick()
+        self._end_view(stamp, _Kind.END_VIEW_VALUES, tuple((k, 0, value) for k, value in enumerate(values) if value is not None))
+
+    def _end_view(self, stamp, kind, data):
+        if not self._may_end(_State.VIEWING):
+            return
+        components = [component for component, _, _ in data]
+        if not all(map(self._is_component, components)) or any(low >= high for low, high in zip(components, components[1:])):
+            self._misused(Fault.COMPONENT)
+        elif not all(_has_32_bits(number) and _has_32_bits(value) for _, number, value in data):
+            self._misused(Fault.VALUE)
+        else:
+            self._end(stamp, kind, data)
+
+    def drop_view(self):
+        """In place of the end of a view that gave no answer, because it gave up: it is left out of the history."""
+        if self._may_end(_State.VIEWING):
+            self.events.pop()
+            self._state = _State.IDLE
 
 
 class Recorder:
-    def __init__(self):
-        self._stamp, self.logs = _clock(), []
+    """For so many threads, components, and calls of each thread, at most EVENT_LIMIT / 2 calls in all.
 
-    def log(self):
-        self.logs.append(Log(len(self.logs), self._stamp))
-        return self.logs[-1]
+    `initial` is the value that each component has at first.
+    """
 
-    def history(self):
-        """The text of the history that all logs recorded."""
-        events = sorted((event[0], log.process, event[1], event[2]) for log in self.logs for event in log.events)
-        if len(events) > EVENT_LIMIT:
-            raise RecordError(f"{len(events)} events, and a history has at most {EVENT_LIMIT}")
-        by_value = any(number is None for event in events for _, number, _ in event[3])
-        owners, numbers, begun = {}, {}, {}
-        for _, process, kind, data in events:
-            if kind == _BEGIN_UPDATE:
-                ((component, number, value),) = data
-                if not (0 <= component < 256 and 0 <= value < 1 << 32):
-                    raise RecordError(f"update {number} of component {component} writes {value}: components are 0 to 255, values have 32 bits")
-                if owners.setdefault(component, process) != process:
-                    raise RecordError(f"two threads updated component {component}")
-                other = numbers.setdefault((component, value), number)
-                if by_value and other != number:
-                    raise RecordError(
-                        f"updates {other} and {number} of component {component} both wrote {value}, so a view's value has no "
-                        "one number: end views with entries, or make the values differ"
-                    )
-        lines = ["event,process,op,data"]
-        for _, process, kind, data in events:
-            shown = []
-            for component, number, value in data:
-                if number is None:
-                    # a value that nobody wrote gets the last number that was begun: the judge then says "integrity", and no more
-                    number = numbers.get((component, value)) or begun.get(component, 1)
-                if kind == _BEGIN_UPDATE:
-                    begun[component] = number
-                if number:
-                    shown.append(f"{component}:{number}:{value}")
-            event, op = _WORDS[kind]
-            lines.append(f"{event},{process},{op},{' '.join(shown)}")
+    def __init__(self, threads, components, calls, initial=0):
+        fits = 1 <= threads <= PROCESS_LIMIT and 0 <= components <= COMPONENT_LIMIT and calls >= 1
+        if not fits or 2 * threads * calls > EVENT_LIMIT:
+            raise RecordError(Fault.LIMITS, f"{threads} threads of {calls} calls, {components} components")
+        self.components, self.calls, self.initial = components, calls, initial
+        self._tick, self._stopped, self._misuse = _clock(), False, None
+        self.logs = [Log(self, thread) for thread in range(threads)]
+
+    def log(self, thread):
+        """The log of a thread, which is the process of that number."""
+        return self.logs[thread]
+
+    def text(self):
+        """The history that all logs hold. They stand one after the other: the judge puts the events in the order of their stamps.
+
+        Raises RecordError of the first misuse, of TWO_WRITERS or of SAME_VALUE.
+        """
+        if self._misuse is not None:
+            raise self._misuse
+        begun, numbers = self._updates()
+
+        def number_of(component, value, ended):
+            if value == self.initial:
+                return 0
+            # A value that nobody wrote gets the last number that had begun when the view ended: the judge then says
+            # `integrity`, and no more of this entry by itself.
+            last = max(1, bisect.bisect_left(begun.get(component, []), ended))
+            return numbers.get((component, value), last)
+
+        lines = ["at,event,process,op,data"]
+        for log in self.logs:
+            for stamp, kind, data in log.events:
+                if kind is _Kind.END_VIEW_VALUES:
+                    data = [(component, number_of(component, value, stamp), value) for component, _, value in data]
+                shown = " ".join(f"{component}:{number}:{value}" for component, number, value in data if number)
+                lines.append(f"{stamp},{kind.value[0]},{log.thread},{kind.value[1]},{shown}")
         return "\n".join(lines) + "\n"
 
-
-def overlap(recorder):
-    """Of the completed views, the part that had an update of another thread open at some moment."""
-    opened, last, views, beside, since = 0, 0, 0, 0, {}
-    events = sorted((event[0], log.process, event[1]) for log in recorder.logs for event in log.events)
-    for stamp, process, kind in events:
-        if kind == _BEGIN_UPDATE or kind == _END_UPDATE:
-            opened += 1 if kind == _BEGIN_UPDATE else -1
-            last = stamp + 1
-        elif kind == _BEGIN_VIEW:
-            since[process] = (stamp + 1, opened > 0)
-        else:
-            views += 1
-            began, was = since[process]
-            beside += was or last > began
-    return beside / views if views else 0.0
+    def _updates(self):
+        """Of each component the stamps of its updates' begins; and by component and value the numbers, where some view tells values."""
+        by_values = any(kind is _Kind.END_VIEW_VALUES for log in self.logs for _, kind, _ in log.events)
+        begun, numbers, writers = {}, {}, {}
+        for log in self.logs:
+            for stamp, kind, data in log.events:
+                if kind is not _Kind.BEGIN_UPDATE:
+                    continue
+                ((component, number, value),) = data
+                if writers.setdefault(component, log) is not log:
+                    raise RecordError(Fault.TWO_WRITERS, f"component {component}")
+                begun.setdefault(component, []).append(stamp)
+                is_new = numbers.setdefault((component, value), number) == number
+                if by_values and (not is_new or value == self.initial):
+                    raise RecordError(Fault.SAME_VALUE, f"component {component}, value {value}")
+        return begun, numbers

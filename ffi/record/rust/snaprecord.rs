@@ -1,33 +1,100 @@
 //! Records the calls that threads make of a single-writer board, and writes them as a history for `snapjudge check`.
 //!
-//! One file, no dependencies, no unsafe code: copy it into a harness. Public domain (CC0).
-//!
-//! Each thread owns a [`Log`]. Around each call of the object under test it writes
+//! One file, no dependencies, no unsafe code: copy it into a harness. `docs/OWN-OBJECT.md` of snapjudge leads through one.
 //!
 //! ```text
-//! let Some(number) = log.begin_update(component, value) else { return };   // full: make no further call
+//! let mut recorder = Recorder::new(threads, components, calls)?;
+//!
+//! let log = &mut recorder.logs[t];                                         // thread t, and no other
+//! let Some(number) = log.begin_update(component, value) else { return };   // refused: make no further call
 //! board.update(component, value);
 //! log.end_update();
-//!
 //! if !log.begin_view() { return }
 //! let values = board.view();
-//! log.end_view_values(&values);       // or end_view, where the object tells numbers
+//! log.end_view_values(&values);                                            // or end_view, of numbers
+//!
+//! let text = recorder.text()?;                                             // after the threads were joined
 //! ```
 //!
-//! After the threads were joined, [`history`] merges the logs by their stamps. Where the history says that call A ended before
-//! call B began, A happened before B: the stamps are read-modify-writes of one clock. The stamp of a begin is taken last
-//! in `begin_*`, that of an end first in `end_*`. A thread writes to its own log only; nothing is locked or allocated while
-//! a call is open. A value has 32 bits: where those of the object have more, record a counter in their place.
+//! What the record says: where call A ended before call B began, A happened before B. Each stamp is a `fetch_add` of one clock
+//! with acquire and release; that of a begin is taken last in `begin_..`, that of an end first in `end_..`. A thread writes
+//! to its own log alone. Nothing is locked or allocated, and nothing panics, while threads run.
+//! What it cannot say: the clock orders more calls than the object may, so a fault that needs two calls without such an
+//! order can hide.
+//!
+//! SPDX-License-Identifier: 0BSD
+//! Copyright (C) 2026 by the authors of snapjudge
+//! Permission to use, copy, modify, and/or distribute this software for any purpose with or without fee is hereby granted.
+//! THE SOFTWARE IS PROVIDED "AS IS" AND THE AUTHOR DISCLAIMS ALL WARRANTIES WITH REGARD TO THIS SOFTWARE INCLUDING ALL IMPLIED
+//! WARRANTIES OF MERCHANTABILITY AND FITNESS. IN NO EVENT SHALL THE AUTHOR BE LIABLE FOR ANY SPECIAL, DIRECT, INDIRECT, OR
+//! CONSEQUENTIAL DAMAGES OR ANY DAMAGES WHATSOEVER RESULTING FROM LOSS OF USE, DATA OR PROFITS, WHETHER IN AN ACTION OF
+//! CONTRACT, NEGLIGENCE OR OTHER TORTIOUS ACTION, ARISING OUT OF OR IN CONNECTION WITH THE USE OR PERFORMANCE OF THIS SOFTWARE.
 #![allow(dead_code)]
 
 use std::collections::HashMap;
 use std::fmt::{self, Write};
 use std::sync::atomic::{AtomicBool, AtomicU64, Ordering};
-use std::sync::Arc;
+use std::sync::{Arc, OnceLock};
 
-/// How many events a history may have.
+/// How many events a history may have; a call has two, its begin and its end.
 pub const EVENT_LIMIT: usize = 16384;
+pub const COMPONENT_LIMIT: usize = 256;
+/// A thread is one process.
+pub const PROCESS_LIMIT: usize = 65536;
 
+/// What is wrong with a record, or with the use of a recorder.
+#[derive(Clone, Copy, Debug, PartialEq, Eq)]
+pub enum Fault {
+    /// More threads, components or calls than the judge takes.
+    Limits,
+    /// A call began before the thread's last one had ended.
+    Nested { thread: usize },
+    /// A call ended that had not begun.
+    NotOpen { thread: usize },
+    /// A call was made although its begin was refused.
+    AfterFull { thread: usize },
+    /// A component is too high, or the entries of a view do not rise.
+    Component { thread: usize },
+    /// Two threads updated one component.
+    TwoWriters { component: u32 },
+    /// Views tell values, and a component got one value twice, or its initial one.
+    SameValue { component: u32, value: u32 },
+    /// `logs` has not each log of this recorder, at its place.
+    LogMissing,
+}
+
+impl fmt::Display for Fault {
+    fn fmt(&self, f: &mut fmt::Formatter<'_>) -> fmt::Result {
+        match self {
+            Fault::Limits => {
+                write!(f, "a history has at most {} calls of {PROCESS_LIMIT} threads in all, and {COMPONENT_LIMIT} components", EVENT_LIMIT / 2)
+            }
+            Fault::Nested { thread } => write!(f, "thread {thread} began a call before its last one had ended"),
+            Fault::NotOpen { thread } => write!(f, "thread {thread} ended a call that it had not begun"),
+            Fault::AfterFull { thread } => write!(f, "thread {thread} made a call although begin had refused it: a log was full"),
+            Fault::Component { thread } => write!(f, "thread {thread} named a component that is too high, or entries that do not rise"),
+            Fault::TwoWriters { component } => write!(f, "two threads updated component {component}: a component has one writer"),
+            Fault::SameValue { component, value } => write!(
+                f,
+                "component {component} got the value {value} twice, or has it at first, so a view's value has no one number: \
+                 make the values differ, or end views with numbers"
+            ),
+            Fault::LogMissing => f.write_str("a log is missing, or is not at its place"),
+        }
+    }
+}
+
+impl std::error::Error for Fault {}
+
+/// What a view shows of a component; number 0 is its initial state.
+#[derive(Clone, Copy, Debug, PartialEq, Eq)]
+pub struct Entry {
+    pub component: u32,
+    pub number: u32,
+    pub value: u32,
+}
+
+/// Alone in its lines of the cache.
 #[repr(align(128))]
 #[derive(Default)]
 struct Clock(AtomicU64);
@@ -35,219 +102,280 @@ struct Clock(AtomicU64);
 #[derive(Default)]
 struct Shared {
     clock: Clock,
-    full: AtomicBool,
+    /// A log is full, or a call was misused: begin is refused to all threads.
+    stopped: AtomicBool,
+    misuse: OnceLock<Fault>,
 }
 
-/// What a view shows of a component; number 0 is its initial state.
-#[derive(Clone, Copy, Debug, PartialEq, Eq)]
-pub struct Entry {
-    pub component: u8,
-    pub number: u32,
-    pub value: u32,
+#[derive(Clone, Copy, PartialEq, Eq)]
+enum State {
+    Idle,
+    Refused,
+    Updating,
+    Viewing,
 }
 
-#[derive(Clone, Copy)]
+#[derive(Clone, Copy, PartialEq, Eq)]
 enum Kind {
     BeginUpdate,
     EndUpdate,
     BeginView,
     EndView,
+    EndViewValues,
 }
 
-#[derive(Clone, Copy)]
 struct Event {
     stamp: u64,
     kind: Kind,
-    first: u32,
-    count: u32,
+    first: usize,
+    count: usize,
 }
 
-/// What one thread recorded.
+/// What one thread recorded, as the process of its number.
 #[repr(align(128))]
 pub struct Log {
     shared: Arc<Shared>,
+    thread: usize,
     components: usize,
+    calls: usize,
+    state: State,
+    // both have room for all that they can get
     events: Vec<Event>,
-    // the number is None where a view knows only the value
-    entries: Vec<(u8, Option<u32>, u32)>,
-    begun: [u32; 256],
-    is_open: bool,
-}
-
-/// A log for each thread, with room for so many events in each.
-pub fn logs(threads: usize, components: usize, capacity: usize) -> Vec<Log> {
-    assert!(components <= 256 && threads <= 65536);
-    let shared = Arc::new(Shared::default());
-    (0..threads)
-        .map(|_| Log {
-            shared: shared.clone(),
-            components,
-            events: Vec::with_capacity(capacity),
-            entries: Vec::with_capacity(capacity / 2 * components.max(1)),
-            begun: [0; 256],
-            is_open: false,
-        })
-        .collect()
+    entries: Vec<Entry>,
+    begun: [u32; COMPONENT_LIMIT],
 }
 
 impl Log {
-    fn stamp(&self) -> u64 {
+    fn tick(&self) -> u64 {
         self.shared.clock.0.fetch_add(1, Ordering::AcqRel)
     }
 
-    fn has_room(&self, entries: usize) -> bool {
-        if self.shared.full.load(Ordering::Relaxed) {
-            return false;
-        }
-        let fits = self.events.len() + 2 <= self.events.capacity() && self.entries.len() + entries <= self.entries.capacity();
-        if !fits {
-            // all threads are to stop, else views show what no one recorded
-            self.shared.full.store(true, Ordering::Relaxed);
-        }
-        fits
+    /// The first misuse is kept for `Recorder::text`, and stops all threads.
+    fn misused(&mut self, fault: Fault) {
+        let _ = self.shared.misuse.set(fault);
+        self.shared.stopped.store(true, Ordering::Relaxed);
+        self.state = State::Refused;
     }
 
-    fn begin(&mut self, kind: Kind, first: u32, count: u32) {
-        assert!(!self.is_open, "the last call has not ended");
-        self.is_open = true;
+    fn may_begin(&mut self) -> bool {
+        if matches!(self.state, State::Updating | State::Viewing) {
+            self.misused(Fault::Nested { thread: self.thread });
+        }
+        if self.events.len() == 2 * self.calls {
+            // all threads stop, else views show updates that no one recorded
+            self.shared.stopped.store(true, Ordering::Relaxed);
+        }
+        if self.shared.stopped.load(Ordering::Relaxed) {
+            self.state = State::Refused;
+        }
+        self.state == State::Idle
+    }
+
+    fn may_end(&mut self, expected: State) -> bool {
+        let is_open = self.state == expected;
+        if !is_open {
+            let thread = self.thread;
+            self.misused(if self.state == State::Refused { Fault::AfterFull { thread } } else { Fault::NotOpen { thread } });
+        }
+        is_open
+    }
+
+    fn begin(&mut self, state: State, kind: Kind, first: usize) {
+        let count = self.entries.len() - first;
+        self.state = state;
         self.events.push(Event { stamp: 0, kind, first, count });
-        let stamp = self.stamp();
-        self.events.last_mut().unwrap().stamp = stamp;
+        let stamp = self.tick();
+        if let Some(event) = self.events.last_mut() {
+            event.stamp = stamp;
+        }
     }
 
-    fn end(&mut self, kind: Kind, first: u32, count: u32, stamp: u64) {
-        assert!(self.is_open, "no call is open");
-        self.is_open = false;
+    fn end(&mut self, stamp: u64, kind: Kind, first: usize) {
+        let count = self.entries.len() - first;
         self.events.push(Event { stamp, kind, first, count });
+        self.state = State::Idle;
     }
 
-    /// The number of the update, from 1, or `None` where a log is full: then the update is not to be made.
-    pub fn begin_update(&mut self, component: u8, value: u32) -> Option<u32> {
-        if !self.has_room(1) {
+    /// The number of the update, from 1 in each component; or `None`: a log is full, or a call was misused. Then make no
+    /// further call.
+    #[must_use]
+    pub fn begin_update(&mut self, component: u32, value: u32) -> Option<u32> {
+        if !self.may_begin() {
             return None;
         }
-        self.begun[usize::from(component)] += 1;
-        let number = self.begun[usize::from(component)];
-        let first = self.entries.len() as u32;
-        self.entries.push((component, Some(number), value));
-        self.begin(Kind::BeginUpdate, first, 1);
+        if component as usize >= self.components {
+            self.misused(Fault::Component { thread: self.thread });
+            return None;
+        }
+        let begun = &mut self.begun[component as usize];
+        *begun += 1;
+        let number = *begun;
+        let first = self.entries.len();
+        self.entries.push(Entry { component, number, value });
+        self.begin(State::Updating, Kind::BeginUpdate, first);
         Some(number)
     }
 
     pub fn end_update(&mut self) {
-        let stamp = self.stamp();
-        self.end(Kind::EndUpdate, 0, 0, stamp);
+        let stamp = self.tick();
+        if self.may_end(State::Updating) {
+            self.end(stamp, Kind::EndUpdate, self.entries.len());
+        }
     }
 
-    /// False where a log is full: then the view is not to be taken.
+    /// False: a log is full, or a call was misused. Then make no further call.
+    #[must_use]
     pub fn begin_view(&mut self) -> bool {
-        if !self.has_room(self.components) {
-            return false;
+        let may = self.may_begin();
+        if may {
+            self.begin(State::Viewing, Kind::BeginView, self.entries.len());
         }
-        self.begin(Kind::BeginView, 0, 0);
-        true
+        may
     }
 
-    /// The end of a view that shows these entries, components rising.
+    /// The end of a view that shows these entries, components rising. Number 0, or no entry, is the initial state.
     pub fn end_view(&mut self, shown: &[Entry]) {
-        let stamp = self.stamp();
-        let first = self.entries.len() as u32;
-        self.entries.extend(shown.iter().map(|e| (e.component, Some(e.number), e.value)));
-        self.end(Kind::EndView, first, shown.len() as u32, stamp);
+        let stamp = self.tick();
+        if !self.may_end(State::Viewing) {
+            return;
+        }
+        let rise = shown.windows(2).all(|pair| pair[0].component < pair[1].component);
+        if !rise || shown.last().is_some_and(|entry| entry.component as usize >= self.components) {
+            return self.misused(Fault::Component { thread: self.thread });
+        }
+        let first = self.entries.len();
+        self.entries.extend_from_slice(shown);
+        self.end(stamp, Kind::EndView, first);
     }
 
-    /// The end of a view that shows a value of each component from 0 on, `None` for the initial state. The numbers are
-    /// found by the values, so the values of a component have to differ from each other.
-    pub fn end_view_values(&mut self, shown: &[Option<u32>]) {
-        let stamp = self.stamp();
-        let first = self.entries.len() as u32;
-        let values = shown.iter().enumerate().filter_map(|(k, value)| value.map(|value| (k as u8, None, value)));
-        self.entries.extend(values);
-        let count = self.entries.len() as u32 - first;
-        self.end(Kind::EndView, first, count, stamp);
+    /// The end of a view that shows these values, of component 0 and so on. `Recorder::text` finds the number of each by its
+    /// value, so the updates of a component have to write values that differ from each other and from `Recorder::initial`.
+    pub fn end_view_values(&mut self, shown: &[u32]) {
+        let stamp = self.tick();
+        if !self.may_end(State::Viewing) {
+            return;
+        }
+        if shown.len() > self.components {
+            return self.misused(Fault::Component { thread: self.thread });
+        }
+        let first = self.entries.len();
+        self.entries.extend((0..).zip(shown).map(|(component, &value)| Entry { component, number: 0, value }));
+        self.end(stamp, Kind::EndViewValues, first);
     }
-}
 
-/// Why the logs are no history.
-#[derive(Clone, Copy, Debug, PartialEq, Eq)]
-pub enum Fault {
-    /// More than 16,384 events.
-    TooMany(usize),
-    /// Two threads updated a component.
-    TwoWriters(u8),
-    /// Views give values alone, and updates `first` and `second` of a component wrote the same.
-    ValueTwice { component: u8, value: u32, first: u32, second: u32 },
-    /// A log of this recorder is missing.
-    LogMissing,
-}
-
-impl fmt::Display for Fault {
-    fn fmt(&self, f: &mut fmt::Formatter<'_>) -> fmt::Result {
-        match self {
-            Fault::TooMany(n) => write!(f, "{n} events, and a history has at most {EVENT_LIMIT}"),
-            Fault::TwoWriters(k) => write!(f, "two threads updated component {k}"),
-            Fault::ValueTwice { component, value, first, second } => {
-                write!(f, "updates {first} and {second} of component {component} both wrote {value}, so a view's value has no one number: end views with entries, or make the values differ")
-            }
-            Fault::LogMissing => f.write_str("a log is missing"),
+    /// In place of the end of a view that gave no answer, because it gave up: it is left out of the history.
+    pub fn drop_view(&mut self) {
+        if self.may_end(State::Viewing) {
+            self.events.pop();
+            self.state = State::Idle;
         }
     }
 }
 
-impl std::error::Error for Fault {}
+/// A log for each thread. Threads borrow the logs, or take them and give them back at their places.
+pub struct Recorder {
+    pub logs: Vec<Log>,
+    /// The value that each component has at first.
+    pub initial: u32,
+    shared: Arc<Shared>,
+    threads: usize,
+}
 
-/// The history that the logs of all threads recorded, as a text.
-pub fn history(logs: &[Log]) -> Result<String, Fault> {
-    let total: usize = logs.iter().map(|log| log.events.len()).sum();
-    if total > EVENT_LIMIT {
-        return Err(Fault::TooMany(total));
+impl Recorder {
+    /// For so many threads, components, and calls of each thread, at most `EVENT_LIMIT / 2` calls in all.
+    pub fn new(threads: usize, components: usize, calls: usize) -> Result<Self, Fault> {
+        let fits = (1..=PROCESS_LIMIT).contains(&threads) && components <= COMPONENT_LIMIT && (1..=EVENT_LIMIT / 2 / threads).contains(&calls);
+        if !fits {
+            return Err(Fault::Limits);
+        }
+        let shared = Arc::new(Shared::default());
+        let logs = (0..threads)
+            .map(|thread| Log {
+                shared: Arc::clone(&shared),
+                thread,
+                components,
+                calls,
+                state: State::Idle,
+                events: Vec::with_capacity(2 * calls),
+                entries: Vec::with_capacity(calls * components.max(1)),
+                begun: [0; COMPONENT_LIMIT],
+            })
+            .collect();
+        Ok(Recorder { logs, initial: 0, shared, threads })
     }
-    let by_value = logs.iter().any(|log| log.entries.iter().any(|e| e.1.is_none()));
-    let mut owner = [None; 256];
-    let mut numbers = HashMap::new();
-    let mut at: Vec<Option<(usize, Event)>> = vec![None; total];
-    for (thread, log) in logs.iter().enumerate() {
-        for event in &log.events {
-            *at.get_mut(event.stamp as usize).ok_or(Fault::LogMissing)? = Some((thread, *event));
-            if let Kind::BeginUpdate = event.kind {
-                let (component, number, value) = log.entries[event.first as usize];
-                if owner[usize::from(component)].replace(thread).is_some_and(|other| other != thread) {
-                    return Err(Fault::TwoWriters(component));
-                }
-                let number = number.expect("an update has a number");
-                if by_value {
-                    if let Some(first) = numbers.insert((component, value), number) {
-                        return Err(Fault::ValueTwice { component, value, first, second: number });
-                    }
-                }
+
+    /// The history that all logs hold. The logs stand one after the other: the judge puts the events in the order of their
+    /// stamps. The fault is the first misuse, or one of `TwoWriters`, `SameValue` and `LogMissing`.
+    pub fn text(&self) -> Result<String, Fault> {
+        if let Some(&misuse) = self.shared.misuse.get() {
+            return Err(misuse);
+        }
+        let is_own = |(place, log): (usize, &Log)| log.thread == place && Arc::ptr_eq(&log.shared, &self.shared);
+        if self.logs.len() != self.threads || !self.logs.iter().enumerate().all(is_own) {
+            return Err(Fault::LogMissing);
+        }
+        let updates = Updates::of(self)?;
+        let mut text = String::from("at,event,process,op,data\n");
+        for log in &self.logs {
+            for event in &log.events {
+                self.write(&mut text, &updates, log, event);
             }
         }
+        Ok(text)
     }
-    let mut begun = [0u32; 256];
-    let mut text = String::from("event,process,op,data\n");
-    for place in at {
-        let (thread, event) = place.ok_or(Fault::LogMissing)?;
-        let shown = &logs[thread].entries[event.first as usize..(event.first + event.count) as usize];
+
+    fn write(&self, text: &mut String, updates: &Updates, log: &Log, event: &Event) {
         let (word, op) = match event.kind {
             Kind::BeginUpdate => ("begin", "update"),
             Kind::EndUpdate => ("end", "update"),
             Kind::BeginView => ("begin", "view"),
-            Kind::EndView => ("end", "view"),
+            Kind::EndView | Kind::EndViewValues => ("end", "view"),
         };
-        write!(text, "{word},{thread},{op},").unwrap();
-        let mut space = "";
-        for &(component, number, value) in shown {
-            // A value that nobody wrote gets the last number that was begun: the judge then says "integrity", and no more.
-            let number = number.or_else(|| numbers.get(&(component, value)).copied()).unwrap_or(begun[usize::from(component)].max(1));
-            if let Kind::BeginUpdate = event.kind {
-                begun[usize::from(component)] = number;
-            }
-            if number > 0 {
-                write!(text, "{space}{component}:{number}:{value}").unwrap();
-                space = " ";
+        let shown = log.entries[event.first..event.first + event.count].iter().filter_map(|entry| {
+            let number = match event.kind {
+                Kind::EndViewValues if entry.value == self.initial => 0,
+                Kind::EndViewValues => updates.number(entry, event.stamp),
+                _ => entry.number,
+            };
+            (number > 0).then(|| format!("{}:{number}:{}", entry.component, entry.value))
+        });
+        let data = shown.collect::<Vec<_>>().join(" ");
+        writeln!(text, "{},{word},{},{op},{data}", event.stamp, log.thread).expect("a string takes all that is written");
+    }
+}
+
+/// All updates, to look numbers up.
+struct Updates {
+    /// By component and number: the stamp of the begin.
+    begun: Vec<Vec<u64>>,
+    /// By component and value, where some view tells values.
+    numbers: HashMap<(u32, u32), u32>,
+}
+
+impl Updates {
+    fn of(recorder: &Recorder) -> Result<Self, Fault> {
+        let by_values = recorder.logs.iter().flat_map(|log| &log.events).any(|event| event.kind == Kind::EndViewValues);
+        let mut updates = Updates { begun: vec![Vec::new(); COMPONENT_LIMIT], numbers: HashMap::new() };
+        let mut writers = [None; COMPONENT_LIMIT];
+        for log in &recorder.logs {
+            for event in log.events.iter().filter(|event| event.kind == Kind::BeginUpdate) {
+                let Entry { component, number, value } = log.entries[event.first];
+                if writers[component as usize].replace(log.thread).is_some_and(|other| other != log.thread) {
+                    return Err(Fault::TwoWriters { component });
+                }
+                updates.begun[component as usize].push(event.stamp);
+                if by_values && (value == recorder.initial || updates.numbers.insert((component, value), number).is_some()) {
+                    return Err(Fault::SameValue { component, value });
+                }
             }
         }
-        text.push('\n');
+        Ok(updates)
     }
-    Ok(text)
+
+    /// The number of the value that a view shows. One that nobody wrote gets the last number that had begun when the view
+    /// ended: the judge then says `integrity`, and no more of this entry by itself.
+    fn number(&self, entry: &Entry, ended: u64) -> u32 {
+        let last = || self.begun[entry.component as usize].partition_point(|&begun| begun < ended).max(1) as u32;
+        self.numbers.get(&(entry.component, entry.value)).copied().unwrap_or_else(last)
+    }
 }

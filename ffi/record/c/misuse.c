@@ -1,0 +1,117 @@
+/* The recorder's text of a worked run, written to the file that is named, and the fault of each misuse. usage: misuse FILE */
+#include "snaprecord.h"
+
+static int passed, failed;
+
+static void expect(const char *name, bool holds) {
+    if (holds) passed++;
+    else failed++;
+    if (!holds) fprintf(stderr, "c: %s: failed\n", name);
+}
+
+/* The fault of the recorder's text; the recorder is closed. */
+static snaprecord_fault fault_of(snaprecord *recorder) {
+    size_t length;
+    char *text = snaprecord_text(recorder, &length);
+    snaprecord_fault fault = text ? SNAPRECORD_FINE : recorder->fault;
+    if (!text && !strlen(recorder->message)) fault = SNAPRECORD_FINE;
+    free(text);
+    snaprecord_close(recorder);
+    return fault;
+}
+
+static void update(snaprecord *recorder, uint32_t thread, uint32_t component, uint32_t value) {
+    snaprecord_log *log = snaprecord_log_of(recorder, thread);
+    if (snaprecord_begin_update(log, component, value)) snaprecord_end_update(log);
+}
+
+static bool worked(snaprecord *recorder, const char *name) {
+    snaprecord_log *writer = snaprecord_log_of(recorder, 0), *viewer = snaprecord_log_of(recorder, 1);
+    bool begun = snaprecord_begin_update(writer, 0, 7) == 1 && snaprecord_begin_view(viewer);
+    snaprecord_end_view_values(viewer, (const uint32_t[]){7, 0});
+    snaprecord_end_update(writer);
+    begun = begun && snaprecord_begin_update(writer, 0, 8) == 2;
+    snaprecord_end_update(writer);
+    begun = begun && snaprecord_begin_view(viewer);
+    snaprecord_end_view(viewer, (const snaprecord_entry[]){{0, 2, 8}, {1, 0, 0}}, 2);
+    begun = begun && snaprecord_begin_view(viewer);
+    snaprecord_drop_view(viewer);
+    begun = begun && snaprecord_begin_view(viewer);
+    snaprecord_end_view_values(viewer, (const uint32_t[]){99, 0}); /* nobody wrote 99 */
+    size_t length;
+    char *text = snaprecord_text(recorder, &length);
+    FILE *file = fopen(name, "wb");
+    bool written = text && file && fwrite(text, 1, length, file) == length && fclose(file) == 0;
+    free(text);
+    snaprecord_close(recorder);
+    return begun && written;
+}
+
+int main(int count, char **words) {
+    static snaprecord r;
+    if (count < 2) return 2;
+    snaprecord_open(&r, 2, 2, 6);
+    expect("worked run", worked(&r, words[1]));
+
+    expect("limits of threads", !snaprecord_open(&r, 0, 1, 1) && r.fault == SNAPRECORD_LIMITS && !snaprecord_open(&r, 65537, 1, 1));
+    expect("limits of components", !snaprecord_open(&r, 1, 257, 1) && r.fault == SNAPRECORD_LIMITS);
+    expect("limits of calls", !snaprecord_open(&r, 2, 1, 4097) && r.fault == SNAPRECORD_LIMITS);
+
+    snaprecord_open(&r, 2, 1, 2);
+    for (uint32_t value = 1; value <= 3; value++) update(&r, 0, 0, value);
+    expect("a full log refuses", snaprecord_log_of(&r, 0)->length == 4 && !snaprecord_begin_update(snaprecord_log_of(&r, 0), 0, 4));
+    expect("a full log stops all threads", !snaprecord_begin_view(snaprecord_log_of(&r, 1)));
+    expect("a full log is a history", fault_of(&r) == SNAPRECORD_FINE);
+
+    snaprecord_open(&r, 1, 1, 1);
+    update(&r, 0, 0, 1);
+    expect("full", !snaprecord_begin_update(snaprecord_log_of(&r, 0), 0, 2));
+    snaprecord_end_update(snaprecord_log_of(&r, 0));
+    expect("a call after a full log", fault_of(&r) == SNAPRECORD_AFTER_FULL);
+
+    snaprecord_open(&r, 2, 1, 4);
+    expect("begun", snaprecord_begin_update(snaprecord_log_of(&r, 0), 0, 1) == 1);
+    expect("a nested call is refused", !snaprecord_begin_view(snaprecord_log_of(&r, 0)));
+    expect("a misuse stops all threads", !snaprecord_begin_view(snaprecord_log_of(&r, 1)));
+    expect("a nested call", fault_of(&r) == SNAPRECORD_NESTED);
+
+    snaprecord_open(&r, 1, 1, 4);
+    snaprecord_end_update(snaprecord_log_of(&r, 0));
+    expect("an end without a begin", fault_of(&r) == SNAPRECORD_NOT_OPEN);
+
+    snaprecord_open(&r, 1, 1, 4);
+    expect("a view", snaprecord_begin_view(snaprecord_log_of(&r, 0)));
+    snaprecord_end_update(snaprecord_log_of(&r, 0));
+    expect("an end of another kind", fault_of(&r) == SNAPRECORD_NOT_OPEN);
+
+    snaprecord_open(&r, 1, 2, 4);
+    expect("a component that is too high is refused", !snaprecord_begin_update(snaprecord_log_of(&r, 0), 2, 1));
+    expect("a component that is too high", fault_of(&r) == SNAPRECORD_COMPONENT);
+
+    snaprecord_open(&r, 1, 2, 4);
+    expect("a view", snaprecord_begin_view(snaprecord_log_of(&r, 0)));
+    snaprecord_end_view(snaprecord_log_of(&r, 0), (const snaprecord_entry[]){{1, 1, 1}, {0, 1, 1}}, 2);
+    expect("components that do not rise", fault_of(&r) == SNAPRECORD_COMPONENT);
+
+    snaprecord_open(&r, 2, 2, 4);
+    update(&r, 0, 1, 5);
+    update(&r, 1, 1, 6);
+    expect("two writers", fault_of(&r) == SNAPRECORD_TWO_WRITERS);
+
+    for (int views = 0; views < 2; views++) {
+        snaprecord_open(&r, 1, 2, 4);
+        update(&r, 0, 1, 5);
+        update(&r, 0, 1, 5);
+        if (views && snaprecord_begin_view(snaprecord_log_of(&r, 0))) snaprecord_end_view_values(snaprecord_log_of(&r, 0), (const uint32_t[]){0, 5});
+        expect("one value twice", fault_of(&r) == (views ? SNAPRECORD_SAME_VALUE : SNAPRECORD_FINE));
+    }
+
+    snaprecord_open(&r, 1, 1, 4);
+    r.initial = 5;
+    update(&r, 0, 0, 5);
+    if (snaprecord_begin_view(snaprecord_log_of(&r, 0))) snaprecord_end_view_values(snaprecord_log_of(&r, 0), (const uint32_t[]){5});
+    expect("the initial value", fault_of(&r) == SNAPRECORD_SAME_VALUE);
+
+    printf("%d passed, %d failed\n", passed, failed);
+    return failed != 0;
+}

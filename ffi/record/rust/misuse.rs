@@ -1,0 +1,121 @@
+//! The recorder's text of a worked run, and the fault of each misuse.
+mod snaprecord;
+
+use snaprecord::{Entry, Fault, Log, Recorder};
+
+fn recorder(threads: usize, components: usize, calls: usize) -> Recorder {
+    Recorder::new(threads, components, calls).expect("within the limits")
+}
+
+fn update(log: &mut Log, component: u32, value: u32) {
+    if log.begin_update(component, value).is_some() {
+        log.end_update();
+    }
+}
+
+fn view(log: &mut Log, values: &[u32]) {
+    if log.begin_view() {
+        log.end_view_values(values);
+    }
+}
+
+#[test]
+fn a_worked_run_has_its_text() {
+    let mut r = recorder(2, 2, 6);
+    let [writer, viewer] = r.logs.as_mut_slice() else { panic!("two logs") };
+    assert_eq!(writer.begin_update(0, 7), Some(1));
+    view(viewer, &[7, 0]);
+    writer.end_update();
+    assert_eq!(writer.begin_update(0, 8), Some(2));
+    writer.end_update();
+    assert!(viewer.begin_view());
+    viewer.end_view(&[Entry { component: 0, number: 2, value: 8 }, Entry { component: 1, number: 0, value: 0 }]);
+    assert!(viewer.begin_view());
+    viewer.drop_view();
+    view(viewer, &[99, 0]); // nobody wrote 99
+    assert_eq!(r.text().as_deref(), Ok(include_str!("../worked.csv")));
+}
+
+#[test]
+fn more_than_the_judge_takes_is_refused() {
+    for (threads, components, calls) in [(0, 1, 1), (65537, 1, 1), (1, 257, 1), (2, 1, 4097), (1, 1, 0)] {
+        assert_eq!(Recorder::new(threads, components, calls).err(), Some(Fault::Limits));
+    }
+    recorder(8192, 1, 1);
+    recorder(2, 256, 4096);
+}
+
+#[test]
+fn a_full_log_stops_all_threads_and_is_a_history() {
+    let mut r = recorder(2, 1, 2);
+    update(&mut r.logs[0], 0, 1);
+    update(&mut r.logs[0], 0, 2);
+    assert_eq!(r.logs[0].begin_update(0, 3), None);
+    assert!(!r.logs[1].begin_view());
+    assert!(r.text().is_ok());
+    r.logs[0].end_update();
+    assert_eq!(r.text(), Err(Fault::AfterFull { thread: 0 }));
+}
+
+#[test]
+fn a_nested_call_is_told_and_stops_all_threads() {
+    let mut r = recorder(2, 1, 4);
+    assert_eq!(r.logs[0].begin_update(0, 1), Some(1));
+    assert!(!r.logs[0].begin_view());
+    assert!(!r.logs[1].begin_view());
+    assert_eq!(r.text(), Err(Fault::Nested { thread: 0 }));
+}
+
+#[test]
+fn an_end_without_its_begin_is_told() {
+    let mut r = recorder(2, 1, 4);
+    r.logs[1].end_update();
+    assert_eq!(r.text(), Err(Fault::NotOpen { thread: 1 }));
+    let mut r = recorder(1, 1, 4);
+    assert!(r.logs[0].begin_view());
+    r.logs[0].end_update();
+    assert_eq!(r.text(), Err(Fault::NotOpen { thread: 0 }));
+}
+
+#[test]
+fn a_wrong_component_is_told() {
+    let mut r = recorder(1, 2, 4);
+    assert_eq!(r.logs[0].begin_update(2, 1), None);
+    assert_eq!(r.text(), Err(Fault::Component { thread: 0 }));
+    let mut r = recorder(1, 2, 4);
+    assert!(r.logs[0].begin_view());
+    r.logs[0].end_view(&[Entry { component: 1, number: 1, value: 1 }, Entry { component: 0, number: 1, value: 1 }]);
+    assert_eq!(r.text(), Err(Fault::Component { thread: 0 }));
+}
+
+#[test]
+fn two_writers_are_told() {
+    let mut r = recorder(2, 2, 4);
+    update(&mut r.logs[0], 1, 5);
+    update(&mut r.logs[1], 1, 6);
+    assert_eq!(r.text(), Err(Fault::TwoWriters { component: 1 }));
+}
+
+#[test]
+fn a_value_that_has_no_one_number_is_told() {
+    let mut r = recorder(1, 2, 4);
+    update(&mut r.logs[0], 1, 5);
+    update(&mut r.logs[0], 1, 5);
+    assert!(r.text().is_ok());
+    view(&mut r.logs[0], &[0, 5]);
+    assert_eq!(r.text(), Err(Fault::SameValue { component: 1, value: 5 }));
+    let mut r = recorder(1, 1, 4);
+    r.initial = 5;
+    update(&mut r.logs[0], 0, 5);
+    view(&mut r.logs[0], &[5]);
+    assert_eq!(r.text(), Err(Fault::SameValue { component: 0, value: 5 }));
+}
+
+#[test]
+fn a_log_that_is_missing_is_told() {
+    let mut r = recorder(2, 1, 1);
+    r.logs.swap(0, 1);
+    assert_eq!(r.text(), Err(Fault::LogMissing));
+    r.logs.pop();
+    assert_eq!(r.text(), Err(Fault::LogMissing));
+}
