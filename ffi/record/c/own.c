@@ -4,16 +4,19 @@
  *     ./own PROGRAM OBJECT RUNS [none|between]
  *
  * OBJECT is `double`, a snapshot by repeated collects, which is atomic, or `naive`, one collect, which is not. The last run that
- * was not atomic stays in caught.csv. `none` leaves the yields out, `between` has them between the calls. Free to copy: 0BSD. */
+ * was not atomic stays in caught.csv. `none` leaves the yields out, `between` has them between the calls.
+ *
+ * SPDX-License-Identifier: 0BSD */
 #include "snaprecord.h"
 #include <pthread.h>
 #include <sched.h>
 #include <sys/wait.h>
 
+/* The first WRITERS threads update components of their own; the others only view. */
 #ifndef SHAPE
-#define SHAPE
-enum { THREADS = 4, WRITERS = 4, COMPONENTS = 4, CALLS = 200, BARRIER = 1 };
+#define SHAPE THREADS = 4, WRITERS = 4, COMPONENTS = 4, CALLS = 200, BARRIER = 1
 #endif
+enum { SHAPE };
 
 static bool is_double, yields_inside = true, yields_between;
 
@@ -40,21 +43,21 @@ static void board_view(uint32_t *values) {
     }
 }
 
-/* ---- the threads: each updates components of its own and takes views, in turn */
+/* ---- the threads: each updates its own components and takes a view, in turn */
 
 static pthread_barrier_t start;
 
 static void *work(void *argument) {
     snaprecord_log *log = argument;
-    uint32_t own = log->process, values[COMPONENTS];
+    uint32_t me = log->process, mine = me < WRITERS ? (COMPONENTS - 1 - me) / WRITERS + 1 : 0, values[COMPONENTS];
     if (BARRIER) pthread_barrier_wait(&start);
     for (uint32_t i = 0; i < CALLS; i++) {
-        if (i % 2 == 0 && log->process < WRITERS) {
-            uint32_t value = (own + 1) * 1000000 + i; /* each value once */
-            if (!snaprecord_begin_update(log, own, value)) break;
-            board_update(own, value);
+        uint32_t turn = i % (mine + 1);
+        if (turn < mine) {
+            uint32_t component = me + turn * WRITERS, value = (me + 1) * 1000000 + i; /* each value once */
+            if (!snaprecord_begin_update(log, component, value)) break;
+            board_update(component, value);
             snaprecord_end_update(log);
-            own = own + WRITERS < COMPONENTS ? own + WRITERS : log->process;
         } else {
             if (!snaprecord_begin_view(log)) break;
             board_view(values);

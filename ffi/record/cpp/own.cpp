@@ -4,7 +4,9 @@
 //     ./own PROGRAM OBJECT RUNS [none]
 //
 // OBJECT is `double`, a snapshot by repeated collects, which is atomic, or `naive`, one collect, which is not. The last run that
-// was not atomic stays in caught.csv. `none` leaves the yields out. Free to copy: 0BSD.
+// was not atomic stays in caught.csv. `none` leaves the yields out.
+//
+// SPDX-License-Identifier: 0BSD
 #include "snaprecord.hpp"
 #include <array>
 #include <cstdio>

@@ -16,7 +16,9 @@ import java.util.concurrent.atomic.AtomicLongArray;
  * </pre>
  *
  * OBJECT is "double", a snapshot by repeated collects, which is atomic, or "naive", one collect, which is not. The last run that
- * was not atomic stays in caught.csv. "none" leaves the yields out. Free to copy: 0BSD.
+ * was not atomic stays in caught.csv. "none" leaves the yields out.
+ *
+ * SPDX-License-Identifier: 0BSD
  */
 public final class Own {
     static final int THREADS = 4, COMPONENTS = THREADS, CALLS = 200;

@@ -56,7 +56,7 @@ public final class SnapRecorder {
         NESTED("began a call before its last one had ended"),
         NOT_OPEN("ended a call that it had not begun"),
         AFTER_FULL("made a call although begin had refused it: a log was full"),
-        COMPONENT("named a component that is too high, or components that do not rise"),
+        COMPONENT("named a component that is too high"),
         VALUE("updated with, or showed, a number or a value that has not 32 bits"),
         TWO_WRITERS("two threads updated it, and a component has one writer"),
         SAME_VALUE("twice, or has it at first, so a view's value has no one number: make the values differ, or end views with numbers");

@@ -6,7 +6,9 @@
 //! ```
 //!
 //! OBJECT is `double`, a snapshot by repeated collects, which is atomic, or `naive`, one collect, which is not. The last run
-//! that was not atomic stays in caught.csv. `none` leaves the yields out. Free to copy: 0BSD.
+//! that was not atomic stays in caught.csv. `none` leaves the yields out.
+//!
+//! SPDX-License-Identifier: 0BSD
 mod snaprecord;
 
 use snaprecord::{Log, Recorder};

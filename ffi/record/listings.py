@@ -1,0 +1,19 @@
+"""Tells each listing of a guide that does not stand, line for line, in a file of its language. usage: listings.py GUIDE FOLDER"""
+import pathlib
+import re
+import sys
+
+FOLDERS = {"c": "c", "cpp": "cpp", "rust": "rust", "java": "java", "python": "python"}
+
+guide, folder = pathlib.Path(sys.argv[1]), pathlib.Path(sys.argv[2])
+listings = re.findall(r"^```(\w+)\n(.*?)^```$", guide.read_text(), re.MULTILINE | re.DOTALL)
+known = [(language, text) for language, text in listings if language in FOLDERS]
+lost = [
+    (language, text)
+    for language, text in known
+    if not any(text in file.read_text() for file in (folder / FOLDERS[language]).iterdir() if file.is_file())
+]
+for language, text in lost:
+    print(f"no file of {language} has this listing:\n{text}")
+print(f"{len(known) - len(lost)} of {len(known)} listings stand in their files")
+sys.exit(bool(lost) or {language for language, _ in known} != set(FOLDERS))

@@ -1,0 +1,135 @@
+#!/usr/bin/env bash
+# Tries the recorders: the text of a worked run, the fault of each misuse, and recorded runs of a double collect, which must all
+# be atomic, and of a naive collect, of which those that were caught are counted. The last line is 'N passed, M failed'. A
+# language whose compiler is missing is skipped.
+# usage: test.sh [PROGRAM], where PROGRAM judges; it may stand in SNAPJUDGE_PROGRAM too
+set -u
+here=$(cd "$(dirname "${BASH_SOURCE[0]}")" && pwd)
+program=$(realpath -m "${1:-${SNAPJUDGE_PROGRAM:-$here/../../crates/snapjudge/out/snapjudge}}")
+runs=20
+passed=0
+failed=0
+work=$(mktemp -d)
+trap 'rm -rf "$work"' EXIT
+cd "$work" || exit 1
+
+# try NAME COMMAND ..: one test, which passes where the command ends with 0
+try() {
+  local name=$1
+  shift
+  if "$@" >log 2>&1; then
+    echo "record: $name: passed"
+    passed=$((passed + 1))
+  else
+    tail -n 20 log
+    echo "record: $name: failed"
+    failed=$((failed + 1))
+  fi
+}
+
+# has PROGRAM LANGUAGE: whether there is such a program; else says that the language is skipped
+has() {
+  command -v "$1" >/dev/null && return 0
+  echo "record: $2: skipped, there is no $1"
+  return 1
+}
+
+# atomic COMMAND ..: each run of the double collect is atomic
+atomic() {
+  timeout 300 "$@" "$program" double $runs | tee objects && grep -qx "double: atomic $runs, regular 0, neither 0, refused 0" objects
+}
+
+# objects LANGUAGE COMMAND ..: both objects, the second of which is only counted
+objects() {
+  local language=$1
+  shift
+  try "$language: double collect" atomic "$@"
+  echo "record: $language: $(timeout 300 "$@" "$program" naive $runs)"
+}
+
+# worked COMMAND ..: the tests of misuse pass, and the text of the worked run is as it is to be
+worked() {
+  timeout 60 "$@" worked.csv && cmp worked.csv "$here/worked.csv"
+}
+
+# the judge finds what is wrong in the worked run
+judged() {
+  "$program" check <"$here/worked.csv" >report
+  [ $? = 2 ] && [ "$(tail -n 1 report)" = "integrity 1 first view 5 entry 0:2:99" ]
+}
+
+# each listing of the guide stands in the file of its language
+listings() {
+  python3 -B "$here/listings.py" "$here/../../docs/OWN-OBJECT.md" "$here"
+}
+
+# sanitized COMPILER SOURCE FLAG ..: no race is found
+sanitized() {
+  local compiler=$1 source=$2
+  shift 2
+  "$compiler" "$@" -O1 -g -fsanitize=thread -o sanitized "$source" -pthread && timeout 100 ./sanitized "$program" double 2 && timeout 100 ./sanitized "$program" naive 2
+}
+
+# the same threads with logs of a quarter of their calls: what was recorded until the first was full is atomic
+full() {
+  sed 's/COMPONENTS, CALLS)/COMPONENTS, CALLS \/ 4)/' "$here/c/own.c" >full.c && ! cmp -s full.c "$here/c/own.c" &&
+    cc -std=gnu11 -O2 -I"$here/c" -o full full.c -pthread && atomic ./full
+}
+
+# whether the compiler has ThreadSanitizer
+sanitizes() {
+  echo 'int main(void) { return 0; }' >empty.c
+  "$1" -fsanitize=thread -o empty empty.c 2>/dev/null && ./empty && return 0
+  echo "record: $2 without races: skipped, $1 has no ThreadSanitizer"
+  return 1
+}
+
+try_c() {
+  local flags="-Wall -Wextra -pedantic -Werror -O2"
+  try "C: builds" eval "cc -std=c11 $flags -o misuse_c $here/c/misuse.c && cc -std=gnu11 $flags -o own_c $here/c/own.c -pthread"
+  try "C: misuse" worked ./misuse_c
+  objects C ./own_c
+  try "C: logs that get full" full
+  sanitizes cc C && try "C: without races" sanitized cc "$here/c/own.c" -std=gnu11
+}
+
+try_cpp() {
+  local flags="-std=c++17 -Wall -Wextra -pedantic -Werror -O2"
+  try "C++: builds" eval "c++ $flags -o misuse_cpp $here/cpp/misuse.cpp && c++ $flags -o own_cpp $here/cpp/own.cpp -pthread"
+  try "C++: misuse" worked ./misuse_cpp
+  objects C++ ./own_cpp
+  sanitizes c++ C++ && try "C++: without races" sanitized c++ "$here/cpp/own.cpp" -std=c++17
+}
+
+try_rust() {
+  try "Rust: builds" eval "rustc --edition 2021 -D warnings --test -o misuse_rs $here/rust/misuse.rs && rustc --edition 2021 -D warnings -O -o own_rs $here/rust/own.rs"
+  try "Rust: misuse" ./misuse_rs -q
+  objects Rust ./own_rs
+}
+
+try_java() {
+  try "Java: builds" javac -Xlint:all -Werror -d java "$here/java/SnapRecorder.java" "$here/java/Own.java" "$here/java/Misuse.java"
+  try "Java: misuse" worked java -cp java Misuse
+  objects Java java -cp java Own
+}
+
+try_python() {
+  try "Python: misuse" python3 -B -W error "$here/python/misuse.py"
+  objects Python python3 -B "$here/python/own.py"
+  try "listings of the guide" listings
+}
+
+if [ -x "$program" ]; then
+  try "worked run" judged
+  has cc C && try_c
+  has c++ C++ && try_cpp
+  has rustc Rust && try_rust
+  has javac Java && try_java
+  has python3 Python && try_python
+else
+  echo "record: there is no program $program"
+  failed=$((failed + 1))
+fi
+
+echo "$passed passed, $failed failed"
+[ "$failed" = 0 ]
