@@ -1,4 +1,5 @@
-// Prints the nanoseconds that recording one call, its begin and its end, takes with so many threads: the quartiles of some rounds. usage: cost THREADS
+// Prints the nanoseconds that recording one call, its begin and its end, takes with so many threads: the quartiles of some
+// rounds. usage: cost THREADS
 #include "../../ffi/record/cpp/snaprecord.hpp"
 #include <chrono>
 #include <cmath>
@@ -17,14 +18,16 @@ static void work(snaprecord::Log &log, std::uint32_t own, std::uint32_t calls, s
 }
 
 int main(int count, char **words) {
-    const auto threads = static_cast<std::uint32_t>(count > 1 ? std::stoi(words[1]) : 1), calls = snaprecord::event_limit / 2 / threads;
+    const auto threads = static_cast<std::uint32_t>(count > 1 ? std::stoi(words[1]) : 1);
+    const std::uint32_t calls = snaprecord::event_limit / 2 / threads;
     std::vector<double> found;
     for (int round = 0; round < rounds; round++) {
         snaprecord::Recorder recorder(threads, threads, calls);
         std::atomic<std::uint32_t> waiting{threads};
         std::vector<double> took(threads);
         std::vector<std::thread> all;
-        for (std::uint32_t t = 0; t < threads; t++) all.emplace_back(work, std::ref(recorder.log(t)), t, calls, std::ref(waiting), std::ref(took[t]));
+        for (std::uint32_t t = 0; t < threads; t++)
+            all.emplace_back(work, std::ref(recorder.log(t)), t, calls, std::ref(waiting), std::ref(took[t]));
         for (std::thread &thread : all) thread.join();
         found.push_back(std::accumulate(took.begin(), took.end(), 0.0) / threads);
     }

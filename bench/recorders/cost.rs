@@ -28,7 +28,8 @@ fn round(threads: usize) -> f64 {
     let start = Barrier::new(threads);
     let took: Vec<f64> = thread::scope(|scope| {
         let start = &start;
-        let spawned: Vec<_> = recorder.logs.iter_mut().enumerate().map(|(own, log)| scope.spawn(move || work(log, own, calls, start))).collect();
+        let spawned: Vec<_> =
+            recorder.logs.iter_mut().enumerate().map(|(own, log)| scope.spawn(move || work(log, own, calls, start))).collect();
         spawned.into_iter().map(|thread| thread.join().expect("no thread panics")).collect()
     });
     took.iter().sum::<f64>() / threads as f64

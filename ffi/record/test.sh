@@ -67,7 +67,8 @@ listings() {
 sanitized() {
   local compiler=$1 source=$2
   shift 2
-  "$compiler" "$@" -O1 -g -fsanitize=thread -o sanitized "$source" -pthread && timeout 100 ./sanitized "$program" double 2 && timeout 100 ./sanitized "$program" naive 2
+  "$compiler" "$@" -O1 -g -fsanitize=thread -o sanitized "$source" -pthread &&
+    timeout 100 ./sanitized "$program" double 2 && timeout 100 ./sanitized "$program" naive 2
 }
 
 # the same threads with logs of a quarter of their calls: what was recorded until the first was full is atomic
@@ -85,8 +86,9 @@ sanitizes() {
 }
 
 try_c() {
-  local flags="-Wall -Wextra -pedantic -Werror -O2"
-  try "C: builds" eval "cc -std=c11 $flags -o misuse_c $here/c/misuse.c && cc -std=gnu11 $flags -o own_c $here/c/own.c -pthread"
+  local flags=(-Wall -Wextra -pedantic -Werror -O2)
+  try "C: builds" cc -std=c11 "${flags[@]}" -o misuse_c "$here/c/misuse.c"
+  try "C: harness builds" cc -std=gnu11 "${flags[@]}" -o own_c "$here/c/own.c" -pthread
   try "C: misuse" worked ./misuse_c
   objects C ./own_c
   try "C: logs that get full" full
@@ -94,21 +96,24 @@ try_c() {
 }
 
 try_cpp() {
-  local flags="-std=c++17 -Wall -Wextra -pedantic -Werror -O2"
-  try "C++: builds" eval "c++ $flags -o misuse_cpp $here/cpp/misuse.cpp && c++ $flags -o own_cpp $here/cpp/own.cpp -pthread"
+  local flags=(-std=c++17 -Wall -Wextra -pedantic -Werror -O2)
+  try "C++: builds" c++ "${flags[@]}" -o misuse_cpp "$here/cpp/misuse.cpp"
+  try "C++: harness builds" c++ "${flags[@]}" -o own_cpp "$here/cpp/own.cpp" -pthread
   try "C++: misuse" worked ./misuse_cpp
   objects C++ ./own_cpp
   sanitizes c++ C++ && try "C++: without races" sanitized c++ "$here/cpp/own.cpp" -std=c++17
 }
 
 try_rust() {
-  try "Rust: builds" eval "rustc --edition 2021 -D warnings --test -o misuse_rs $here/rust/misuse.rs && rustc --edition 2021 -D warnings -O -o own_rs $here/rust/own.rs"
+  local flags=(--edition 2021 -D warnings -O)
+  try "Rust: builds" rustc "${flags[@]}" --test -o misuse_rs "$here/rust/misuse.rs"
+  try "Rust: harness builds" rustc "${flags[@]}" -o own_rs "$here/rust/own.rs"
   try "Rust: misuse" ./misuse_rs -q
   objects Rust ./own_rs
 }
 
 try_java() {
-  try "Java: builds" javac -Xlint:all -Werror -d java "$here/java/SnapRecorder.java" "$here/java/Own.java" "$here/java/Misuse.java"
+  try "Java: builds" javac -Xlint:all -Werror -d java "$here"/java/*.java
   try "Java: misuse" worked java -cp java Misuse
   objects Java java -cp java Own
 }

@@ -25,6 +25,11 @@ static void update(snaprecord *recorder, uint32_t thread, uint32_t component, ui
     if (snaprecord_begin_update(log, component, value)) snaprecord_end_update(log);
 }
 
+static void view(snaprecord *recorder, const uint32_t *values) {
+    snaprecord_log *log = snaprecord_log_of(recorder, 0);
+    if (snaprecord_begin_view(log)) snaprecord_end_view_values(log, values);
+}
+
 static bool worked(snaprecord *recorder, const char *name) {
     snaprecord_log *writer = snaprecord_log_of(recorder, 0), *viewer = snaprecord_log_of(recorder, 1);
     bool begun = snaprecord_begin_update(writer, 0, 7) == 1 && snaprecord_begin_view(viewer);
@@ -102,14 +107,14 @@ int main(int count, char **words) {
         snaprecord_open(&r, 1, 2, 4);
         update(&r, 0, 1, 5);
         update(&r, 0, 1, 5);
-        if (views && snaprecord_begin_view(snaprecord_log_of(&r, 0))) snaprecord_end_view_values(snaprecord_log_of(&r, 0), (const uint32_t[]){0, 5});
+        if (views) view(&r, (const uint32_t[]){0, 5});
         expect("one value twice", fault_of(&r) == (views ? SNAPRECORD_SAME_VALUE : SNAPRECORD_FINE));
     }
 
     snaprecord_open(&r, 1, 1, 4);
     r.initial = 5;
     update(&r, 0, 0, 5);
-    if (snaprecord_begin_view(snaprecord_log_of(&r, 0))) snaprecord_end_view_values(snaprecord_log_of(&r, 0), (const uint32_t[]){5});
+    view(&r, (const uint32_t[]){5});
     expect("the initial value", fault_of(&r) == SNAPRECORD_SAME_VALUE);
 
     printf("%d passed, %d failed\n", passed, failed);

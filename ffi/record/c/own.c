@@ -33,6 +33,7 @@ static void collect(uint32_t *values) {
     }
 }
 
+/* The collects of `double` come to an end, because the threads make only so many updates. */
 static void board_view(uint32_t *values) {
     uint32_t again[COMPONENTS];
     collect(values);

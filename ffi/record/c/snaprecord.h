@@ -126,9 +126,12 @@ static inline bool snaprecord_open(snaprecord *recorder, uint32_t threads, uint3
     recorder->logs = NULL;
     recorder->fault = SNAPRECORD_FINE;
     recorder->message[0] = 0;
-    if (threads < 1 || threads > SNAPRECORD_PROCESSES || components > SNAPRECORD_COMPONENTS || calls < 1 || calls > SNAPRECORD_EVENTS / 2 / threads) {
-        snprintf(recorder->message, sizeof recorder->message, "%" PRIu32 " threads, %" PRIu32 " components and %" PRIu32 " calls a thread: a history has at most %u calls of %u threads in all, and %u components", threads, components, calls, SNAPRECORD_EVENTS / 2, SNAPRECORD_PROCESSES, SNAPRECORD_COMPONENTS);
+    bool fits = threads >= 1 && threads <= SNAPRECORD_PROCESSES && components <= SNAPRECORD_COMPONENTS;
+    if (!fits || calls < 1 || calls > SNAPRECORD_EVENTS / 2 / threads) {
         recorder->fault = SNAPRECORD_LIMITS;
+        snprintf(recorder->message, sizeof recorder->message,
+                 "a history has at most %u calls of %u threads in all, and %u components", SNAPRECORD_EVENTS / 2,
+                 SNAPRECORD_PROCESSES, SNAPRECORD_COMPONENTS);
         return false;
     }
     recorder->threads = threads;
@@ -158,7 +161,9 @@ static inline bool snaprecord_open(snaprecord *recorder, uint32_t threads, uint3
 /* The log of a thread, which is the process of that number. */
 static inline snaprecord_log *snaprecord_log_of(snaprecord *recorder, uint32_t thread) { return &recorder->logs[thread]; }
 
-static inline uint64_t snaprecord_tick(snaprecord_log *log) { return atomic_fetch_add_explicit(&log->recorder->clock, 1, memory_order_acq_rel); }
+static inline uint64_t snaprecord_tick(snaprecord_log *log) {
+    return atomic_fetch_add_explicit(&log->recorder->clock, 1, memory_order_acq_rel);
+}
 
 /* The first misuse is kept for snaprecord_text, and stops all threads. */
 static inline bool snaprecord_misused(snaprecord_log *log, snaprecord_fault fault) {
@@ -240,8 +245,9 @@ static inline void snaprecord_end_view(snaprecord_log *log, const snaprecord_ent
 static inline void snaprecord_end_view_values(snaprecord_log *log, const uint32_t *values) {
     uint64_t stamp = snaprecord_tick(log);
     if (!snaprecord_may_end(log, SNAPRECORD_VIEWING)) return;
-    for (uint32_t k = 0; k < log->recorder->components; k++) log->entries[log->entry_count + k] = (snaprecord_entry){k, 0, values[k]};
-    snaprecord_end(log, stamp, SNAPRECORD_END_VIEW_VALUES, log->recorder->components);
+    uint32_t count = log->recorder->components;
+    for (uint32_t k = 0; k < count; k++) log->entries[log->entry_count + k] = (snaprecord_entry){k, 0, values[k]};
+    snaprecord_end(log, stamp, SNAPRECORD_END_VIEW_VALUES, count);
 }
 
 /* In place of the end of a view that gave no answer, because it gave up: it is left out of the history. */
@@ -270,6 +276,7 @@ typedef struct {
     uint64_t *begun;             /* by component and number: the stamp of the begin */
     snaprecord_written *written; /* by component and value */
     bool by_values;              /* some view tells values */
+    uint32_t initial;
     size_t room;                 /* how long the text is at most */
 } snaprecord_table;
 
@@ -281,8 +288,9 @@ static inline bool snaprecord_tabulate(snaprecord *recorder, snaprecord_table *t
         table->room += (size_t)log->length * 48 + (size_t)log->entry_count * 28;
         for (uint32_t k = 0; k < SNAPRECORD_COMPONENTS; k++) {
             if (log->begun[k] && counts[k]) {
-                snprintf(recorder->message, sizeof recorder->message, "thread %" PRIu32 " and another one updated component %" PRIu32 ": a component has one writer", t, k);
                 recorder->fault = SNAPRECORD_TWO_WRITERS;
+                snprintf(recorder->message, sizeof recorder->message,
+                         "two threads updated component %" PRIu32 ": a component has one writer", k);
                 return false;
             }
             counts[k] += log->begun[k];
@@ -314,9 +322,11 @@ static inline bool snaprecord_tabulate(snaprecord *recorder, snaprecord_table *t
         const snaprecord_written *one = &table->written[i];
         bool is_twice = i && one[-1].component == one->component && one[-1].value == one->value;
         if (!is_twice && one->value != recorder->initial) continue;
-        snprintf(recorder->message, sizeof recorder->message, "component %" PRIu32 " got the value %" PRIu32 " %s, so a view's value has no one number: make the values differ, or end views with numbers",
-                 one->component, one->value, is_twice ? "twice" : "that it has at first");
         recorder->fault = SNAPRECORD_SAME_VALUE;
+        snprintf(recorder->message, sizeof recorder->message,
+                 "component %" PRIu32 " got the value %" PRIu32 " %s, so a view's value has no one number: make the values "
+                 "differ, or end views with numbers",
+                 one->component, one->value, is_twice ? "twice" : "that it has at first");
         return false;
     }
     return true;
@@ -324,9 +334,10 @@ static inline bool snaprecord_tabulate(snaprecord *recorder, snaprecord_table *t
 
 /* The number of the value that a view shows. One that nobody wrote gets the last number that had begun when the view ended:
  * the judge then says `integrity`, and no more of this entry by itself. */
-static inline uint32_t snaprecord_number(const snaprecord *recorder, const snaprecord_table *table, const snaprecord_entry *entry, uint64_t ended) {
-    if (entry->value == recorder->initial) return 0;
-    uint32_t first = table->first[entry->component], end = table->first[entry->component + 1], low = first, high = end;
+static inline uint32_t snaprecord_number(const snaprecord_table *table, const snaprecord_entry *entry, uint64_t ended) {
+    if (entry->value == table->initial) return 0;
+    uint32_t first = table->first[entry->component], end = table->first[entry->component + 1];
+    uint32_t low = first, high = end;
     while (low < high) {
         uint32_t middle = low + (high - low) / 2;
         if (table->written[middle].value < entry->value) low = middle + 1;
@@ -341,13 +352,16 @@ static inline uint32_t snaprecord_number(const snaprecord *recorder, const snapr
     return low > first ? low - first : 1;
 }
 
-static inline char *snaprecord_write_event(const snaprecord *recorder, const snaprecord_table *table, const snaprecord_log *log, const snaprecord_event *event, char *to) {
-    static const char *const words[] = {"begin", "end", "begin", "end", "end"}, *const ops[] = {"update", "update", "view", "view", "view"};
+/* Writes the record of an event, and answers where the next one begins. */
+static inline char *snaprecord_write(const snaprecord_table *table, const snaprecord_log *log, const snaprecord_event *event, char *to) {
+    static const char *const words[] = {"begin", "end", "begin", "end", "end"};
+    static const char *const ops[] = {"update", "update", "view", "view", "view"};
+    bool is_by_value = event->kind == SNAPRECORD_END_VIEW_VALUES;
     const char *space = "";
     to += sprintf(to, "%" PRIu64 ",%s,%" PRIu32 ",%s,", event->stamp, words[event->kind], log->process, ops[event->kind]);
     for (uint32_t i = event->first; i < event->first + event->count; i++) {
         const snaprecord_entry *entry = &log->entries[i];
-        uint32_t number = event->kind == SNAPRECORD_END_VIEW_VALUES ? snaprecord_number(recorder, table, entry, event->stamp) : entry->number;
+        uint32_t number = is_by_value ? snaprecord_number(table, entry, event->stamp) : entry->number;
         if (number == 0) continue;
         to += sprintf(to, "%s%" PRIu32 ":%" PRIu32 ":%" PRIu32, space, entry->component, number, entry->value);
         space = " ";
@@ -360,11 +374,14 @@ static inline char *snaprecord_write_event(const snaprecord *recorder, const sna
  * and `message` say why. The logs stand one after the other: the judge puts the events in the order of their stamps. */
 static inline char *snaprecord_text(snaprecord *recorder, size_t *length) {
     static const char *const misuses[] = {
-        [SNAPRECORD_NESTED] = "began a call before its last one had ended", [SNAPRECORD_NOT_OPEN] = "ended a call that it had not begun",
-        [SNAPRECORD_AFTER_FULL] = "made a call although begin had refused it: a log was full", [SNAPRECORD_COMPONENT] = "named a component that is too high, or entries that do not rise"};
+        [SNAPRECORD_NESTED] = "began a call before its last one had ended",
+        [SNAPRECORD_NOT_OPEN] = "ended a call that it had not begun",
+        [SNAPRECORD_AFTER_FULL] = "made a call although begin had refused it: a log was full",
+        [SNAPRECORD_COMPONENT] = "named a component that is too high, or entries that do not rise",
+    };
     uint32_t misuse = atomic_load(&recorder->misuse);
-    snaprecord_table table = {.room = 0};
-    char *text = NULL, *to;
+    snaprecord_table table = {.initial = recorder->initial};
+    char *text = NULL;
     *length = 0;
     if (misuse) {
         recorder->fault = (snaprecord_fault)(misuse % 16);
@@ -376,9 +393,11 @@ static inline char *snaprecord_text(snaprecord *recorder, size_t *length) {
         if (!text) snaprecord_failed(recorder, SNAPRECORD_MEMORY, "out of memory");
     }
     if (text) {
-        to = text + sprintf(text, "at,event,process,op,data\n");
-        for (uint32_t t = 0; t < recorder->threads; t++)
-            for (uint32_t i = 0; i < recorder->logs[t].length; i++) to = snaprecord_write_event(recorder, &table, &recorder->logs[t], &recorder->logs[t].events[i], to);
+        char *to = text + sprintf(text, "at,event,process,op,data\n");
+        for (uint32_t t = 0; t < recorder->threads; t++) {
+            const snaprecord_log *log = &recorder->logs[t];
+            for (uint32_t i = 0; i < log->length; i++) to = snaprecord_write(&table, log, &log->events[i], to);
+        }
         *to = 0;
         *length = (size_t)(to - text);
     }

@@ -59,7 +59,9 @@ int main(int count, char **words) {
     if (count < 2) return 2;
     std::ofstream(words[1]) << worked();
 
-    expect("limits", limits(0, 1, 1) == Fault::limits && limits(65537, 1, 1) == Fault::limits && limits(1, 257, 1) == Fault::limits && limits(2, 1, 4097) == Fault::limits);
+    expect("limits of threads", limits(0, 1, 1) == Fault::limits && limits(65537, 1, 1) == Fault::limits);
+    expect("limits of components", limits(1, 257, 1) == Fault::limits);
+    expect("limits of calls", limits(2, 1, 4097) == Fault::limits);
     expect("within limits", limits(8192, 1, 1) == Fault::none && limits(2, 256, 4096) == Fault::none);
     {
         Recorder r(2, 1, 2);
@@ -96,6 +98,11 @@ int main(int count, char **words) {
         Recorder r(1, 2, 4);
         if (r.log(0).begin_view()) r.log(0).end_view({{1, 1, 1}, {0, 1, 1}});
         expect("components that do not rise", fault_of(r) == Fault::component);
+    }
+    {
+        Recorder r(1, 2, 4);
+        view(r.log(0), {0, 0, 0});
+        expect("more values than components", fault_of(r) == Fault::component);
     }
     {
         Recorder r(2, 2, 4);

@@ -69,7 +69,8 @@ static int run(const std::string &program, bool is_double, bool yields) {
     Board board{is_double, yields};
     std::atomic<std::uint32_t> waiting{threads};
     std::vector<std::thread> all;
-    for (std::uint32_t t = 0; t < threads; t++) all.emplace_back(work, std::ref(board), std::ref(recorder.log(t)), t, std::ref(waiting));
+    for (std::uint32_t t = 0; t < threads; t++)
+        all.emplace_back(work, std::ref(board), std::ref(recorder.log(t)), t, std::ref(waiting));
     for (std::thread &thread : all) thread.join();
     std::ofstream("run.csv") << recorder.text();
     const int status = std::system(("'" + program + "' check < run.csv > /dev/null").c_str());
@@ -84,7 +85,8 @@ int main(int count, char **words) try {
     std::array<int, 4> found{};
     for (int runs = std::stoi(words[3]); runs > 0; runs--) found[run(words[1], object == "double", count == 4)]++;
     std::remove("run.csv");
-    std::cout << object << ": atomic " << found[0] << ", regular " << found[1] << ", neither " << found[2] << ", refused " << found[3] << std::endl;
+    std::cout << object << ": atomic " << found[0] << ", regular " << found[1];
+    std::cout << ", neither " << found[2] << ", refused " << found[3] << std::endl;
 } catch (const std::exception &error) {
     std::cerr << error.what() << std::endl;
     return 4;

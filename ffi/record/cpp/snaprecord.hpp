@@ -60,7 +60,7 @@ enum class Fault : std::uint32_t {
 
 class Error : public std::runtime_error {
   public:
-    Error(Fault fault, const std::string &message) : std::runtime_error(message), fault(fault) {}
+    Error(Fault name, const std::string &message) : std::runtime_error(message), fault(name) {}
     const Fault fault;
 };
 
@@ -83,12 +83,12 @@ class alignas(128) Log {
 
     // The end of a view that shows these entries, components rising. Number 0, or no entry, is the initial state.
     void end_view(const Entry *entries, std::size_t count);
-    void end_view(const std::vector<Entry> &entries) { end_view(entries.data(), entries.size()); }
+    void end_view(const std::vector<Entry> &shown) { end_view(shown.data(), shown.size()); }
 
-    // The end of a view that shows these values, one for each component. Recorder::text finds the number of each by its
+    // The end of a view that shows these values, of component 0 and so on. Recorder::text finds the number of each by its
     // value, so the updates of a component have to write values that differ from each other and from Recorder::initial.
-    void end_view_values(const std::uint32_t *values);
-    void end_view_values(const std::vector<std::uint32_t> &values) { end_view_values(values.data()); }
+    void end_view_values(const std::uint32_t *values, std::size_t count);
+    void end_view_values(const std::vector<std::uint32_t> &values) { end_view_values(values.data(), values.size()); }
 
     // In place of the end of a view that gave no answer, because it gave up: it is left out of the history.
     void drop_view();
@@ -121,10 +121,12 @@ class alignas(128) Log {
 class Recorder {
   public:
     // For so many threads, components, and calls of each thread, at most event_limit / 2 calls in all. Throws Error of limits.
-    Recorder(std::uint32_t threads, std::uint32_t components, std::uint32_t calls) : components(components) {
-        if (threads < 1 || threads > process_limit || components > component_limit || calls < 1 || calls > event_limit / 2 / threads)
-            throw Error(Fault::limits, std::to_string(threads) + " threads, " + std::to_string(components) + " components and " + std::to_string(calls) + " calls a thread: a history has at most " +
-                                           std::to_string(event_limit / 2) + " calls of " + std::to_string(process_limit) + " threads in all, and " + std::to_string(component_limit) + " components");
+    Recorder(std::uint32_t threads, std::uint32_t components, std::uint32_t calls) : component_count(components) {
+        const bool fits = threads >= 1 && threads <= process_limit && components <= component_limit;
+        if (!fits || calls < 1 || calls > event_limit / 2 / threads)
+            throw Error(Fault::limits, "a history has at most " + std::to_string(event_limit / 2) + " calls of " +
+                                           std::to_string(process_limit) + " threads in all, and " +
+                                           std::to_string(component_limit) + " components");
         logs = std::vector<Log>(threads);
         for (std::uint32_t t = 0; t < threads; t++) {
             logs[t].recorder = this;
@@ -145,7 +147,8 @@ class Recorder {
     // The history that all logs hold, after the threads were joined. The logs stand one after the other: the judge puts the
     // events in the order of their stamps. Throws Error of the first misuse, of two_writers or of same_value.
     std::string text() const {
-        if (const std::uint32_t first = misuse.load()) throw Error(Fault(first % 16), "thread " + std::to_string(first / 16) + sentence(Fault(first % 16)));
+        const std::uint32_t first = misuse.load();
+        if (first != 0) throw Error(Fault(first % 16), "thread " + std::to_string(first / 16) + sentence(Fault(first % 16)));
         const Table table = tabulate();
         std::string text = "at,event,process,op,data\n";
         for (const Log &log : logs)
@@ -157,8 +160,8 @@ class Recorder {
     friend class Log;
     // All updates, to look numbers up.
     struct Table {
-        std::array<std::vector<std::uint64_t>, component_limit> begun;                 // by number: the stamp of the begin
-        std::map<std::pair<std::uint32_t, std::uint32_t>, std::uint32_t> numbers;      // by component and value
+        std::array<std::vector<std::uint64_t>, component_limit> begun;            // by number: the stamp of the begin
+        std::map<std::pair<std::uint32_t, std::uint32_t>, std::uint32_t> numbers; // by component and value
     };
 
     static const char *sentence(Fault fault) {
@@ -182,13 +185,17 @@ class Recorder {
                 if (event.kind != Log::Kind::begin_update) continue;
                 const auto [component, number, value] = log.entries[event.first];
                 if (writers[component] && writers[component] != &log)
-                    throw Error(Fault::two_writers, "threads " + std::to_string(writers[component]->process) + " and " + std::to_string(log.process) + " updated component " + std::to_string(component) + ": a component has one writer");
+                    throw Error(Fault::two_writers,
+                                "two threads updated component " + std::to_string(component) + ": a component has one writer");
                 writers[component] = &log;
                 table.begun[component].push_back(event.stamp);
                 if (!by_values) continue;
                 const bool is_new = table.numbers.emplace(std::pair(component, value), number).second;
                 if (!is_new || value == initial)
-                    throw Error(Fault::same_value, "component " + std::to_string(component) + " got the value " + std::to_string(value) + (is_new ? " that it has at first" : " twice") + ", so a view's value has no one number: make the values differ, or end views with numbers");
+                    throw Error(Fault::same_value, "component " + std::to_string(component) + " got the value " +
+                                                       std::to_string(value) + (is_new ? " that it has at first" : " twice") +
+                                                       ", so a view's value has no one number: make the values differ, or end "
+                                                       "views with numbers");
             }
         return table;
     }
@@ -204,13 +211,15 @@ class Recorder {
     }
 
     void write(std::string &text, const Table &table, const Log &log, const Log::Event &event) const {
-        static constexpr const char *words[] = {",begin,", ",end,", ",begin,", ",end,", ",end,"}, *ops[] = {",update,", ",update,", ",view,", ",view,", ",view,"};
+        static constexpr const char *words[] = {",begin,", ",end,", ",begin,", ",end,", ",end,"};
+        static constexpr const char *ops[] = {",update,", ",update,", ",view,", ",view,", ",view,"};
         const auto kind = static_cast<std::size_t>(event.kind);
         text += std::to_string(event.stamp) + words[kind] + std::to_string(log.process) + ops[kind];
         const char *space = "";
         for (std::uint32_t i = event.first; i < event.first + event.count; i++) {
             const Entry &entry = log.entries[i];
-            const std::uint32_t shown = event.kind == Log::Kind::end_view_values ? number(table, entry, event.stamp) : entry.number;
+            const bool is_by_value = event.kind == Log::Kind::end_view_values;
+            const std::uint32_t shown = is_by_value ? number(table, entry, event.stamp) : entry.number;
             if (shown == 0) continue;
             text += space + std::to_string(entry.component) + ':' + std::to_string(shown) + ':' + std::to_string(entry.value);
             space = " ";
@@ -221,7 +230,7 @@ class Recorder {
     alignas(128) std::atomic<std::uint64_t> clock{0};
     alignas(128) std::atomic<bool> stopped{false}; // a log is full, or a call was misused: begin_.. is refused to all threads
     std::atomic<std::uint32_t> misuse{0};          // the first one: fault, and process times 16
-    alignas(128) const std::uint32_t components;
+    alignas(128) const std::uint32_t component_count;
     std::vector<Log> logs;
 };
 
@@ -245,7 +254,9 @@ inline bool Log::may_begin() {
     return false;
 }
 
-inline bool Log::may_end(State expected) { return state == expected || misused(state == State::refused ? Fault::after_full : Fault::not_open); }
+inline bool Log::may_end(State expected) {
+    return state == expected || misused(state == State::refused ? Fault::after_full : Fault::not_open);
+}
 
 inline void Log::begin(State next, Kind kind, std::uint32_t count) {
     Event &event = events[length++];
@@ -265,7 +276,7 @@ inline void Log::end(std::uint64_t stamp, Kind kind, std::uint32_t count) {
 
 inline std::uint32_t Log::begin_update(std::uint32_t component, std::uint32_t value) {
     if (!may_begin()) return 0;
-    if (component >= recorder->components) {
+    if (component >= recorder->component_count) {
         misused(Fault::component);
         return 0;
     }
@@ -290,7 +301,7 @@ inline void Log::end_view(const Entry *shown, std::size_t count) {
     const std::uint64_t stamp = tick();
     if (!may_end(State::viewing)) return;
     for (std::size_t i = 0; i < count; i++) {
-        if (shown[i].component >= recorder->components || (i && shown[i].component <= shown[i - 1].component)) {
+        if (shown[i].component >= recorder->component_count || (i && shown[i].component <= shown[i - 1].component)) {
             misused(Fault::component);
             return;
         }
@@ -299,11 +310,16 @@ inline void Log::end_view(const Entry *shown, std::size_t count) {
     end(stamp, Kind::end_view, static_cast<std::uint32_t>(count));
 }
 
-inline void Log::end_view_values(const std::uint32_t *values) {
+inline void Log::end_view_values(const std::uint32_t *values, std::size_t count) {
     const std::uint64_t stamp = tick();
     if (!may_end(State::viewing)) return;
-    for (std::uint32_t k = 0; k < recorder->components; k++) entries[entry_count + k] = {k, 0, values[k]};
-    end(stamp, Kind::end_view_values, recorder->components);
+    if (count > recorder->component_count) {
+        misused(Fault::component);
+        return;
+    }
+    const auto shown = static_cast<std::uint32_t>(count);
+    for (std::uint32_t k = 0; k < shown; k++) entries[entry_count + k] = {k, 0, values[k]};
+    end(stamp, Kind::end_view_values, shown);
 }
 
 inline void Log::drop_view() {

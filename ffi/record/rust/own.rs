@@ -48,14 +48,16 @@ impl Board {
 
     fn view(&self) -> [u32; COMPONENTS] {
         let mut values = self.collect();
-        while self.is_double {
+        if !self.is_double {
+            return values;
+        }
+        loop {
             let again = self.collect();
             if values == again {
-                break;
+                return values;
             }
             values = again;
         }
-        values
     }
 }
 

@@ -67,7 +67,11 @@ impl fmt::Display for Fault {
     fn fmt(&self, f: &mut fmt::Formatter<'_>) -> fmt::Result {
         match self {
             Fault::Limits => {
-                write!(f, "a history has at most {} calls of {PROCESS_LIMIT} threads in all, and {COMPONENT_LIMIT} components", EVENT_LIMIT / 2)
+                write!(
+                    f,
+                    "a history has at most {} calls of {PROCESS_LIMIT} threads in all, and {COMPONENT_LIMIT} components",
+                    EVENT_LIMIT / 2
+                )
             }
             Fault::Nested { thread } => write!(f, "thread {thread} began a call before its last one had ended"),
             Fault::NotOpen { thread } => write!(f, "thread {thread} ended a call that it had not begun"),
@@ -284,7 +288,8 @@ pub struct Recorder {
 impl Recorder {
     /// For so many threads, components, and calls of each thread, at most `EVENT_LIMIT / 2` calls in all.
     pub fn new(threads: usize, components: usize, calls: usize) -> Result<Self, Fault> {
-        let fits = (1..=PROCESS_LIMIT).contains(&threads) && components <= COMPONENT_LIMIT && (1..=EVENT_LIMIT / 2 / threads).contains(&calls);
+        let fits =
+            (1..=PROCESS_LIMIT).contains(&threads) && components <= COMPONENT_LIMIT && (1..=EVENT_LIMIT / 2 / threads).contains(&calls);
         if !fits {
             return Err(Fault::Limits);
         }
