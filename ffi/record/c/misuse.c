@@ -60,7 +60,7 @@ int main(int count, char **words) {
 
     expect("limits of threads", !snaprecord_open(&r, 0, 1, 1) && r.fault == SNAPRECORD_LIMITS && !snaprecord_open(&r, 65537, 1, 1));
     expect("limits of components", !snaprecord_open(&r, 1, 257, 1) && r.fault == SNAPRECORD_LIMITS);
-    expect("limits of calls", !snaprecord_open(&r, 2, 1, 4097) && r.fault == SNAPRECORD_LIMITS);
+    expect("limits of calls", !snaprecord_open(&r, 2, 1, SNAPRECORD_EVENTS / 4 + 1) && r.fault == SNAPRECORD_LIMITS);
 
     snaprecord_open(&r, 2, 1, 2);
     for (uint32_t value = 1; value <= 3; value++) update(&r, 0, 0, value);

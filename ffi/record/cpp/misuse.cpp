@@ -61,8 +61,8 @@ int main(int count, char **words) {
 
     expect("limits of threads", limits(0, 1, 1) == Fault::limits && limits(65537, 1, 1) == Fault::limits);
     expect("limits of components", limits(1, 257, 1) == Fault::limits);
-    expect("limits of calls", limits(2, 1, 4097) == Fault::limits);
-    expect("within limits", limits(8192, 1, 1) == Fault::none && limits(2, 256, 4096) == Fault::none);
+    expect("limits of calls", limits(2, 1, snaprecord::event_limit / 4 + 1) == Fault::limits);
+    expect("within limits", limits(snaprecord::event_limit / 2, 1, 1) == Fault::none && limits(2, 256, snaprecord::event_limit / 4) == Fault::none);
     {
         Recorder r(2, 1, 2);
         for (std::uint32_t value = 1; value <= 2; value++) update(r.log(0), 0, value);

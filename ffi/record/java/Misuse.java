@@ -53,8 +53,8 @@ public final class Misuse {
 
         expect("limits of threads", limits(0, 1, 1) == SnapRecorder.Fault.LIMITS && limits(65537, 1, 1) == SnapRecorder.Fault.LIMITS);
         expect("limits of components", limits(1, 257, 1) == SnapRecorder.Fault.LIMITS);
-        expect("limits of calls", limits(2, 1, 4097) == SnapRecorder.Fault.LIMITS);
-        expect("within limits", limits(2, 256, 4096) == null);
+        expect("limits of calls", limits(2, 1, SnapRecorder.EVENT_LIMIT / 4 + 1) == SnapRecorder.Fault.LIMITS);
+        expect("within limits", limits(2, 256, SnapRecorder.EVENT_LIMIT / 4) == null);
 
         SnapRecorder full = new SnapRecorder(2, 1, 2);
         update(full.log(0), 0, 1);

@@ -2,7 +2,7 @@
 import os
 import unittest
 
-from snaprecord import Fault, Recorder, RecordError
+from snaprecord import EVENT_LIMIT, Fault, Recorder, RecordError
 
 HERE = os.path.dirname(os.path.abspath(__file__))
 
@@ -40,11 +40,11 @@ class Misuse(unittest.TestCase):
             self.assertEqual(recorder.text(), file.read())
 
     def test_limits(self):
-        for words in ((0, 1, 1), (65537, 1, 1), (1, 257, 1), (2, 1, 4097), (1, 1, 0)):
+        for words in ((0, 1, 1), (65537, 1, 1), (1, 257, 1), (2, 1, EVENT_LIMIT // 4 + 1), (1, 1, 0)):
             with self.assertRaises(RecordError) as raised:
                 Recorder(*words)
             self.assertIs(raised.exception.fault, Fault.LIMITS)
-        Recorder(2, 256, 4096)
+        Recorder(2, 256, EVENT_LIMIT // 4)
 
     def test_full_log(self):
         recorder = Recorder(2, 1, 2)

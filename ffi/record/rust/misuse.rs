@@ -1,7 +1,7 @@
 //! The recorder's text of a worked run, and the fault of each misuse.
 mod snaprecord;
 
-use snaprecord::{Entry, Fault, Log, Recorder};
+use snaprecord::{Entry, Fault, Log, Recorder, EVENT_LIMIT};
 
 fn recorder(threads: usize, components: usize, calls: usize) -> Recorder {
     Recorder::new(threads, components, calls).expect("within the limits")
@@ -38,11 +38,11 @@ fn a_worked_run_has_its_text() {
 
 #[test]
 fn more_than_the_judge_takes_is_refused() {
-    for (threads, components, calls) in [(0, 1, 1), (65537, 1, 1), (1, 257, 1), (2, 1, 4097), (1, 1, 0)] {
+    for (threads, components, calls) in [(0, 1, 1), (65537, 1, 1), (1, 257, 1), (2, 1, EVENT_LIMIT / 4 + 1), (1, 1, 0)] {
         assert_eq!(Recorder::new(threads, components, calls).err(), Some(Fault::Limits));
     }
-    recorder(8192, 1, 1);
-    recorder(2, 256, 4096);
+    recorder(EVENT_LIMIT / 2, 1, 1);
+    recorder(2, 256, EVENT_LIMIT / 4);
 }
 
 #[test]
