@@ -4,7 +4,7 @@
 usage: differential.py [TEXTS [OF_THEM_BY_THE_PROGRAM [SEED]]]        (1000000, 10000 and 1, where they are not given)
 
 Build first: ffi/build.sh and ./snapjudge. Each text is judged twice, with ample room and with just enough; the status has to be
-the one that the report says, and the bytes the same. Every so many texts the program judges one too. Half of the texts are
+the one that the report says, and the bytes the same. Every so many texts the program judges one too. A quarter of the texts are
 histories as they are generated, the others are damaged in one to eight places.
 """
 import os
@@ -81,12 +81,16 @@ def damaged(text, draw):
     return bytes(text)
 
 
-def text_of(draw):
-    rows = history(draw)
-    if draw.random() < 0.2:
-        rows = stamped(rows, draw)
-    text = "".join(row + "\n" for row in rows).encode()
-    return damaged(text, draw) if draw.random() < 0.5 else text
+def texts_of(draw):
+    """Texts without end: a history, and then the same damaged, three times."""
+    while True:
+        rows = history(draw)
+        if draw.random() < 0.2:
+            rows = stamped(rows, draw)
+        text = "".join(row + "\n" for row in rows).encode()
+        yield text
+        for _ in range(3):
+            yield damaged(text, draw)
 
 
 def said(report):
@@ -105,10 +109,8 @@ def by_program(text):
 def main():
     words = [int(word) for word in sys.argv[1:]] + [1_000_000, 10_000, 1][len(sys.argv) - 1:]
     texts, programs, seed = words
-    draw = random.Random(seed)
-    every, asked, differences, seen = max(1, texts // max(1, programs)), 0, 0, dict.fromkeys(snapjudge.STATUSES, 0)
-    for i in range(texts):
-        text = text_of(draw)
+    every, asked, differences, seen = (max(1, texts // max(1, programs)) - 1) | 1, 0, 0, dict.fromkeys(snapjudge.STATUSES, 0)
+    for i, text in zip(range(texts), texts_of(random.Random(seed))):
         status, report = snapjudge.report(text)
         room = bytearray(len(report))
         again = snapjudge.report_into(text, room)
@@ -120,6 +122,8 @@ def main():
         if not same:
             differences += 1
             print(f"text {i} differs: {text!r}", flush=True)
+        if (i + 1) % 50_000 == 0:
+            print(f"{i + 1} texts, {asked} of them by the program, {differences} differences", flush=True)
     counts = ", ".join(f"{status} {count}" for status, count in seen.items())
     print(f"{texts} texts ({counts}) through the library, {asked} of them through the program: {differences} differences")
     return differences != 0

@@ -30,6 +30,12 @@ has() {
   return 1
 }
 
+has_pip() {
+  python3 -m pip --version >/dev/null 2>&1 && return 0
+  echo "ffi: Python by pip: skipped, there is no pip"
+  return 1
+}
+
 # compiled COMPILER FLAGS: the tests in C or C++, with the static and the shared library
 compiled() {
   local flags="-Ic -O2 -Wall -Wextra -pedantic"
@@ -81,7 +87,7 @@ if [ "$failed" = 0 ]; then
   try "C" compiled cc -std=c11
   has c++ "C++" && try "C++" compiled c++ "-std=c++17 -x c++"
   has cargo "Rust" && try "Rust" rust
-  has python3 "Python" && try "Python" python && try "Python by pip" installed
+  has python3 "Python" && try "Python" python && has_pip && try "Python by pip" installed
 fi
 
 echo "$passed passed, $failed failed"
