@@ -3,12 +3,15 @@
 
 usage: generate.py KIND EVENTS COMPONENTS [SEED]
 
-atomic    calls that take effect at one moment between begin and end; a view lists every component that was written
-reads     updates that stay open while thousands of views begin and end, each of which shows any of them: regular, with many read faults
-late      the same, but only the last eighth of the views disagree with each other
-writes    views that stay open while updates follow one another, and show a later one without an earlier one: many write faults
-pending   an atomic history whose last calls have no end
-newlines  EVENTS newlines and nothing else (COMPONENTS is not used)
+atomic       calls that take effect at one moment between begin and end; a view lists every component that was written
+pending      the same, but the last calls have no end, and an update that never ends takes effect half way
+overlapping  updates that stay open while thousands of views begin and end, each of which shows any of them: regular, with many read faults
+toggling     the same, but the first component is shown by every second view, the second by every second pair of views, and so on
+late         the same, but only the last eighth of the views disagree with each other
+stale        views in groups of 512, where every second group shows what the board was two groups before
+writes       views that stay open while updates follow one another, and show a later one without an earlier one: many write faults
+random       calls of which each view shows any numbers: faults of all kinds
+newlines     EVENTS newlines and nothing else (COMPONENTS is not used)
 """
 import random
 import sys
@@ -27,14 +30,19 @@ def atomic(events, components, draw, ends_all=True):
     board, begun = [0] * components, [0] * components
     state = [None] * processes
     rows = []
+    if not ends_all:
+        begun[0] += 1
+        rows.append(f"begin,{processes},update,{update(begun, 0)}")
     while True:
+        if not ends_all and not board[0] and len(rows) >= events // 2:
+            board[0] = 1
         is_open = [p for p in range(processes) if state[p]]
         room = events - len(rows) - (len(is_open) if ends_all else 0)
         if room < (2 if ends_all else 1):
             break
         p = draw.randrange(processes)
         if state[p] is None:
-            owned = range(p, components, processes)
+            owned = [k for k in range(p, components, processes) if ends_all or k]
             if len(owned) and draw.random() < 0.5:
                 k = draw.choice(owned)
                 begun[k] += 1
@@ -66,15 +74,36 @@ def step(state, p, board):
     return [f"end,{p},{kind},{'' if kind == 'update' else what}"]
 
 
-def crossed(events, components, draw, from_share):
+def crossed(events, components, shown_by):
+    """Updates that stay open while views begin and end; `shown_by` tells of the i-th of n views which of them it shows."""
     rows = [f"begin,{k},update,{k}:1:{3 + k}" for k in range(components)]
     views = (events - 2 * components) // 2
     for i in range(views):
         p = components + i % 64
         rows.append(f"begin,{p},view,")
-        shown = [draw.randrange(2) if i >= views * from_share else 0 for _ in range(components)]
-        rows.append(f"end,{p},view,{entries(shown)}")
+        rows.append(f"end,{p},view,{entries(shown_by(i, views))}")
     return rows + [f"end,{k},update," for k in range(components)]
+
+
+def overlapping(events, components, draw, from_share=0):
+    return crossed(events, components, lambda i, views: [draw.randrange(2) if i >= views * from_share else 0 for _ in range(components)])
+
+
+def toggling(events, components):
+    return crossed(events, components, lambda i, views: [i >> min(k, 12) & 1 for k in range(components)])
+
+
+def stale(events, components, draw):
+    board, boards, rows = [0] * components, [[0] * components] * 2, []
+    while len(rows) + 2 * (512 + components) <= events:
+        for k in range(components):
+            board[k] += 1
+            rows += [f"begin,{k},update,{update(board, k)}", f"end,{k},update,"]
+        boards.append(board[:])
+        shown = boards[-3] if len(boards) % 2 else board
+        for i in range(512):
+            rows += [f"begin,{components + i % 8},view,", f"end,{components + i % 8},view,{entries(shown)}"]
+    return rows
 
 
 def writes(events, components, draw):
@@ -91,6 +120,18 @@ def writes(events, components, draw):
     return rows
 
 
+def any_numbers(events, components, draw):
+    numbers, rows = [0] * components, []
+    while len(rows) + 2 <= events:
+        k = draw.randrange(components)
+        if draw.random() < 0.5:
+            numbers[k] += 1
+            rows += [f"begin,{k},update,{update(numbers, k)}", f"end,{k},update,"]
+        else:
+            rows += [f"begin,{components + k % 8},view,", f"end,{components + k % 8},view,{entries([draw.randrange(n + 2) for n in numbers])}"]
+    return rows
+
+
 def main():
     kind, events, components = sys.argv[1], int(sys.argv[2]), int(sys.argv[3])
     draw = random.Random(int(sys.argv[4]) if len(sys.argv) > 4 else 1)
@@ -100,9 +141,12 @@ def main():
     rows = {
         "atomic": lambda: atomic(events, components, draw),
         "pending": lambda: atomic(events, components, draw, ends_all=False),
-        "reads": lambda: crossed(events, components, draw, 0),
-        "late": lambda: crossed(events, components, draw, 7 / 8),
+        "overlapping": lambda: overlapping(events, components, draw),
+        "toggling": lambda: toggling(events, components),
+        "late": lambda: overlapping(events, components, draw, 7 / 8),
+        "stale": lambda: stale(events, components, draw),
         "writes": lambda: writes(events, components, draw),
+        "random": lambda: any_numbers(events, components, draw),
     }[kind]()
     sys.stdout.write("event,process,op,data\n")
     for row in rows:

@@ -1,11 +1,15 @@
 #!/usr/bin/env python3
 """Prints a table of the time and the peak memory of `snapjudge check`, by kind of history, size and number of workers.
 
-usage: run.py [KIND ..]
+usage: run.py [--against PROGRAM] [--repeats N] [KIND ..]
 
-Each history is made by generate.py from the number 1 and judged REPEATS times, the least time of which counts, or once where
-that takes over SLOW seconds. A run is ended after LIMIT seconds.
+Each history is made by generate.py from the number 1. With one worker, with two and, where another judge of the same text and
+report is given, by that one, it is judged in turn, N times (7, if not said), and the least time of each counts. The reports are
+compared byte for byte. PROGRAM is called as `PROGRAM check`, with the history on its standard input.
+
+The first row is of a process that does nothing.
 """
+import argparse
 import os
 import subprocess
 import sys
@@ -13,58 +17,65 @@ import tempfile
 import time
 
 HERE = os.path.dirname(os.path.abspath(__file__))
-PROGRAM = os.path.join(HERE, "..", "crates", "snapjudge", "out", "snapjudge")
-REPEATS = 3
-SLOW = 10
-LIMIT = 60
+SNAPJUDGE = os.environ.get("SNAPJUDGE", os.path.join(HERE, "..", "crates", "snapjudge", "out", "snapjudge"))
 CASES = [
-    ("atomic", 1024, 8), ("atomic", 4096, 8), ("atomic", 16384, 8), ("atomic", 16384, 4), ("atomic", 16384, 256),
-    ("pending", 16384, 8),
-    ("reads", 1024, 4), ("reads", 4096, 4), ("reads", 16384, 4), ("reads", 16384, 8), ("reads", 16384, 256),
-    ("late", 16384, 4),
-    ("writes", 1024, 4), ("writes", 4096, 8), ("writes", 16384, 8), ("writes", 16384, 256),
+    ("atomic", 1024, 8), ("atomic", 4096, 8), ("atomic", 16384, 8), ("atomic", 16384, 256),
+    ("pending", 16384, 8), ("pending", 16384, 256),
+    ("overlapping", 1024, 4), ("overlapping", 4096, 4), ("overlapping", 16384, 4), ("overlapping", 16384, 256),
+    ("toggling", 16384, 4), ("late", 16384, 32), ("stale", 16384, 8),
+    ("writes", 4096, 8), ("writes", 16384, 8), ("writes", 16384, 256),
+    ("random", 16384, 8), ("random", 16384, 256),
     ("newlines", 67108864, 0),
 ]
 
 
-def judge(history, workers):
-    """The status, the seconds and the peak memory in MB of one run."""
-    with open(history, "rb") as text, open(os.devnull, "wb") as out:
-        begun = time.monotonic()
-        words = ["timeout", str(LIMIT), PROGRAM, "check", "--workers", str(workers)]
-        child = subprocess.Popen(words, stdin=text, stdout=out)
-        _, status, used = os.wait4(child.pid, 0)
-        return os.waitstatus_to_exitcode(status), time.monotonic() - begun, used.ru_maxrss / 1024
+def run(words, history, report):
+    """The status, the milliseconds and the peak memory in MB of one run."""
+    files = [(os.POSIX_SPAWN_OPEN, 0, history, os.O_RDONLY, 0), (os.POSIX_SPAWN_OPEN, 1, report, os.O_WRONLY | os.O_CREAT | os.O_TRUNC, 0o600)]
+    begun = time.perf_counter()
+    child = os.posix_spawn(words[0], words, os.environ, file_actions=files)
+    _, status, used = os.wait4(child, 0)
+    return os.waitstatus_to_exitcode(status), (time.perf_counter() - begun) * 1000, used.ru_maxrss / 1024
 
 
-def least(history, workers):
-    """The status, the least seconds and the peak memory in MB of several runs, or of the first one that is slow."""
-    runs = [judge(history, workers)]
-    while len(runs) < REPEATS and runs[0][1] <= SLOW:
-        runs.append(judge(history, workers))
-    return runs[0][0], min(run[1] for run in runs), max(run[2] for run in runs)
-
-
-def said(seconds):
-    return f"over {LIMIT}" if seconds >= LIMIT else f"{seconds:.3f}"
+def measure(programs, history, room, repeats):
+    """Of each program the status, the least milliseconds, the peak memory and the report."""
+    reports = [os.path.join(room, f"report{i}") for i in range(len(programs))]
+    runs = [[] for _ in programs]
+    for _ in range(repeats):
+        for i, words in enumerate(programs):
+            runs[i].append(run(words, history, reports[i]))
+    seen = []
+    for i, done in enumerate(runs):
+        with open(reports[i], "rb") as report:
+            seen.append((done[0][0], min(ms for _, ms, _ in done), max(peak for _, _, peak in done), report.read()))
+    return seen
 
 
 def main():
-    wanted = sys.argv[1:]
-    print("| kind | events | components | bytes | status | 1 worker, s | 2 workers, s | ratio | peak, MB |")
-    print("|---|---|---|---|---|---|---|---|---|")
+    words = argparse.ArgumentParser(description="times of `snapjudge check`")
+    words.add_argument("--against", metavar="PROGRAM", help="another judge of the same text and report")
+    words.add_argument("--repeats", type=int, default=7)
+    words.add_argument("kinds", nargs="*", metavar="KIND")
+    asked = words.parse_args()
+    programs = [[SNAPJUDGE, "check", "--workers", str(n)] for n in (1, 2)]
+    if asked.against:
+        programs.append([asked.against, "check"])
+    print("| kind | events | components | bytes | status | 1 worker, ms | 2 workers, ms | ratio | peak, MB | other judge, ms | ratio to it | reports |")
+    print("|---|---|---|---|---|---|---|---|---|---|---|---|")
     with tempfile.TemporaryDirectory() as room:
+        idle = min(run(["/bin/true"], os.devnull, os.devnull)[1] for _ in range(20))
+        print(f"| nothing | 0 | 0 | 0 | 0 | {idle:.1f} | {idle:.1f} | 1.00 | - | - | - | - |")
         for kind, events, components in CASES:
-            if wanted and kind not in wanted:
+            if asked.kinds and kind not in asked.kinds:
                 continue
             history = os.path.join(room, "history.csv")
             with open(history, "wb") as text:
                 subprocess.run([sys.executable, os.path.join(HERE, "generate.py"), kind, str(events), str(components)], stdout=text, check=True)
-            status, alone, peak = least(history, 1)
-            _, shared, peak_shared = least(history, 2)
-            size = os.path.getsize(history)
-            ratio = "-" if alone >= LIMIT else f"{shared / alone:.2f}"
-            print(f"| {kind} | {events} | {components} | {size} | {status} | {said(alone)} | {said(shared)} | {ratio} | {max(peak, peak_shared):.0f} |", flush=True)
+            alone, both, *other = measure(programs, history, room, asked.repeats)
+            same = "same" if all(seen[3] == alone[3] and seen[0] == alone[0] for seen in [both, *other]) else "DIFFERENT"
+            told = f"{other[0][1]:.1f} | {min(alone[1], both[1]) / other[0][1]:.1f}" if other else "- | -"
+            print(f"| {kind} | {events} | {components} | {os.path.getsize(history)} | {alone[0]} | {alone[1]:.1f} | {both[1]:.1f} | {both[1] / alone[1]:.2f} | {max(alone[2], both[2]):.0f} | {told} | {same} |", flush=True)
 
 
 main()

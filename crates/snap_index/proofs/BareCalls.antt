@@ -105,6 +105,6 @@ unfolding views_of
 view_count_within calls = omega (arith, length-filter is_view calls, count_by-le-length is_view calls)
 
 -- what a slice gives at a place
-pub got : (xs : List ℕ) (r : Option (Bor ℕ)) (i : ℕ) → is_some r ≡ nat_lt i (length xs) → IfSome r (λ x. x.now ≡ get_or xs i x.now) → option_copied r ≡ slice_get xs i
+pub got : {X : Type 0} (xs : List X) (r : Option (Bor X)) (i : ℕ) → is_some r ≡ nat_lt i (length xs) → IfSome r (λ x. x.now ≡ get_or xs i x.now) → option_copied r ≡ slice_get xs i
 got xs None i t e = sym (slice_get_past xs i (ltb-false i (length xs) (sym t)))
 got xs (Some x) i t e = sym (slice_get_read xs (length xs) i x.now refl (ltb-true i (length xs) (sym t)) e)

@@ -18,16 +18,17 @@ use Rattle.snap_core.proofs.Fits.{bytes_of_events}
 use Rattle.snap_index.specs.declared.call.CallOp.{CallOp}
 use Rattle.snap_index.specs.declared.call.CallOp.TheVariants.{Update, View}
 use Rattle.snap_index.specs.declared.call.Call.{Call}
-use Rattle.snap_index.specs.Bare.{bare, bare_op, number_of}
+use Rattle.snap_index.specs.declared.call.Write.{Write}
+use Rattle.snap_index.specs.Bare.{bare, bare_op, number_of, write_of, value_written}
 use Rattle.snap_index.specs.Updates.{is_update_of, updates_of, is_pending}
 use Rattle.snap_index.specs.Tables.{AreTables}
 use Rattle.snap_index.proofs.BareCalls.{numbered_there, view_of_update, update_from}
 use Rattle.snap_index.proofs.Ends.{view_of_view}
 
--- a list with n at its end where a test holds
-abbrev pub put_where : Bool → ℕ → List ℕ → List ℕ
-put_where true n xs = xs ++ n ∷ []
-put_where false n xs = xs
+-- a list with one more at its end where a test holds
+abbrev pub put_where : {X : Type 0} → Bool → X → List X → List X
+put_where true x xs = xs ++ x ∷ []
+put_where false x xs = xs
 
 -- what is put of a call among the views, and among the updates of component k
 abbrev pub is_bare_view : CallOp → Option ℕ → Bool
@@ -38,16 +39,22 @@ abbrev pub is_bare_update : CallOp → ℕ → Bool
 is_bare_update (Update e) k = e.component == k
 is_bare_update View k = false
 
-filter_more : (p : SpecCall → Bool) (calls : List SpecCall) (c : ℕ) → c < length calls → (b : Bool) → p (call_numbered calls c) ≡ b → (call_numbered calls c).number ≡ c → map number_of (filter p (take (c + 1) calls)) ≡ put_where b c (map number_of (filter p (take c calls)))
-filter_more p calls c l b e n =
-    ap (λ z. map number_of (filter p z)) (take_more calls c nobody l)
-    ∙ ap (map number_of) (filter-append p (take c calls) (call_numbered calls c ∷ []))
-    ∙ ap (λ t. map number_of (filter p (take c calls) ++ cond t (call_numbered calls c ∷ []) [])) e
-    ∙ map-append number_of (filter p (take c calls)) (cond b (call_numbered calls c ∷ []) [])
+-- what is put of a call behind the updates of its component
+pub record Puts {X : Type 0} (x : Call) (c : X) (updates new_updates : List (List X)) : Type 0 where
+  pub size : length new_updates ≡ length updates
+  pub rows : (k : ℕ) → k < 256 → get_or new_updates k [] ≡ put_where (is_bare_update x.op k) c (get_or updates k [])
+
+filter_more : {X : Type 0} (f : SpecCall → X) (x : X) (p : SpecCall → Bool) (calls : List SpecCall) (c : ℕ) → c < length calls → (b : Bool) → p (call_numbered calls c) ≡ b → f (call_numbered calls c) ≡ x →
+    map f (filter p (take (c + 1) calls)) ≡ put_where b x (map f (filter p (take c calls)))
+filter_more f x p calls c l b e n =
+    ap (λ z. map f (filter p z)) (take_more calls c nobody l)
+    ∙ ap (map f) (filter-append p (take c calls) (call_numbered calls c ∷ []))
+    ∙ ap (λ t. map f (filter p (take c calls) ++ cond t (call_numbered calls c ∷ []) [])) e
+    ∙ map-append f (filter p (take c calls)) (cond b (call_numbered calls c ∷ []) [])
     ∙ put b
   where
-    put : (b : Bool) → map number_of (filter p (take c calls)) ++ map number_of (cond b (call_numbered calls c ∷ []) []) ≡ put_where b c (map number_of (filter p (take c calls)))
-    put true = ap (λ z. map number_of (filter p (take c calls)) ++ z ∷ []) n
+    put : (b : Bool) → map f (filter p (take c calls)) ++ map f (cond b (call_numbered calls c ∷ []) []) ≡ put_where b x (map f (filter p (take c calls)))
+    put true = ap (λ z. map f (filter p (take c calls)) ++ z ∷ []) n
     put false = append-nil _
 
 bare_update_is : (o : Operation) (k n p b : ℕ) (e : Option ℕ) → is_update_of k (record { number = n; process = p; operation = o; begun = b; ended = e }) ≡ is_bare_update (bare_op o) k
@@ -65,24 +72,43 @@ view_is es h c l x e = go (bare_op r.operation) refl ∙ ap (λ (z : Call). is_b
     go (Update d) w = view_of_update r d w ∙ sym (ap (λ z. is_bare_view z r.ended) w)
     go View w = view_of_view es r h (numbered_there (calls_of es) c l) w ∙ sym (ap (λ z. is_bare_view z r.ended) w)
 
+-- what a bare call writes
+
+abbrev bare_value : CallOp → ℕ
+bare_value (Update e) = e.value
+bare_value View = 0
+
+abbrev pub bare_write : Call → Write
+bare_write x = record { value = bare_value x.op; begun = x.begun; ended = x.ended }
+
+pub written : (x : Call) (e : Entry) → x.op ≡ Update e → bare_write x ≡ record { value = e.value; begun = x.begun; ended = x.ended }
+written x e h = ap (λ o. record { value = bare_value o; begun = x.begun; ended = x.ended }) h
+
+write_at : (c : SpecCall) (x : Call) → x ≡ bare c → write_of c ≡ bare_write x
+write_at c x e = ap (λ v. record { value = v; begun = c.begun; ended = c.ended }) (value_at c.operation) ∙ ap bare_write (sym e)
+  where
+    value_at : (o : Operation) → value_written o ≡ bare_value (bare_op o)
+    value_at (Updates d) = refl
+    value_at (Views a) = refl
+
 pub noted : (es : List Event) → IsHistory es → (c : ℕ) → c < length (calls_of es) → (x : Call) → x ≡ bare (call_numbered (calls_of es) c) →
-    (views new_views : List ℕ) (updates new_updates : List (List ℕ)) (pending new_pending : ℕ) →
-    new_views ≡ put_where (is_bare_view x.op x.ended) c views →
-    length new_updates ≡ length updates → ((k : ℕ) → k < 256 → get_or new_updates k [] ≡ put_where (is_bare_update x.op k) c (get_or updates k [])) →
+    (views new_views : List ℕ) (updates new_updates : List (List ℕ)) (writes new_writes : List (List Write)) (pending new_pending : ℕ) →
+    new_views ≡ put_where (is_bare_view x.op x.ended) c views → Puts x c updates new_updates → Puts x (bare_write x) writes new_writes →
     new_pending ≡ pending + cond (is_some x.ended) 0 1 →
-    AreTables (take c (calls_of es)) views updates pending → AreTables (take (c + 1) (calls_of es)) new_views new_updates new_pending
+    AreTables (take c (calls_of es)) views updates writes pending → AreTables (take (c + 1) (calls_of es)) new_views new_updates new_writes new_pending
 unfolding views_of updates_of is_pending is_completed
-noted es h c l x e views new_views updates new_updates pending new_pending v s u p t =
+noted es h c l x e views new_views updates new_updates writes new_writes pending new_pending v u w p t =
     let calls = calls_of es in
     let r = call_numbered (calls_of es) c in
     let number : r.number ≡ c = numbered_calls es c nobody l in
     record {
-      size = s ∙ t.size;
-      of_views = v ∙ ap (put_where (is_bare_view x.op x.ended) c) t.of_views ∙ sym (filter_more is_view calls c l (is_bare_view x.op x.ended) (view_is es h c l x e) number);
-      of_updates = λ k m.
-          u k m ∙ ap (put_where (is_bare_update x.op k) c) (t.of_updates k m)
-          ∙ sym (filter_more (is_update_of k) calls c l (is_bare_update x.op k)
-          (bare_update_is r.operation k r.number r.process r.begun r.ended ∙ ap (λ (z : Call). is_bare_update z.op k) (sym e)) number);
+      size = u.size ∙ t.size;
+      write_size = w.size ∙ t.write_size;
+      of_views = v ∙ ap (put_where (is_bare_view x.op x.ended) c) t.of_views ∙ sym (filter_more number_of c is_view calls c l (is_bare_view x.op x.ended) (view_is es h c l x e) number);
+      of_updates = λ k m. u.rows k m ∙ ap (put_where (is_bare_update x.op k) c) (t.of_updates k m) ∙ sym (filter_more number_of c (is_update_of k) calls c l (is_bare_update x.op k) (updates_at k) number);
+      of_writes = λ k m.
+          w.rows k m ∙ ap (put_where (is_bare_update x.op k) (bare_write x)) (t.of_writes k m)
+          ∙ sym (filter_more write_of (bare_write x) (is_update_of k) calls c l (is_bare_update x.op k) (updates_at k) (write_at r x e));
       of_pending =
           let more = ap (count_by is_pending) (take_more calls c nobody l) ∙ sum_by-append (λ y. cond (is_pending y) 1 0) (take c calls) (r ∷ []) in
           let one = count-cons is_pending r [] in
@@ -90,21 +116,26 @@ noted es h c l x e views new_views updates new_updates pending new_pending v s u
           omega (arith, p, t.of_pending, more, one, flip);
     }
   where
+    updates_at : (k : ℕ) → is_update_of k (call_numbered (calls_of es) c) ≡ is_bare_update x.op k
+    updates_at k = let r = call_numbered (calls_of es) c in bare_update_is r.operation k r.number r.process r.begun r.ended ∙ ap (λ (z : Call). is_bare_update z.op k) (sym e)
+
     flipped : (b : Bool) → ◌≡◌ {A = ℕ} (cond b 0 1) (cond (not b) 1 0)
     flipped true = refl
     flipped false = refl
 
-pub none_noted : (calls : List SpecCall) (updates : List (List ℕ)) → updates ≡ replicate 256 [] → AreTables (take 0 calls) [] updates 0
+pub none_noted : (calls : List SpecCall) (updates : List (List ℕ)) (writes : List (List Write)) → updates ≡ replicate 256 [] → writes ≡ replicate 256 [] → AreTables (take 0 calls) [] updates writes 0
 unfolding views_of updates_of
-none_noted calls updates e = record {
+none_noted calls updates writes e w = record {
   size = ap length e ∙ length-replicate {A = List ℕ} 256 [];
+  write_size = ap length w ∙ length-replicate {A = List Write} 256 [];
   of_views = refl;
   of_updates = λ k l. ap (λ z. get_or z k []) e ∙ get_or-replicate 256 k [] [] l;
+  of_writes = λ k l. ap (λ z. get_or z k []) w ∙ get_or-replicate 256 k [] [] l;
   of_pending = refl;
 }
 
 -- a row that was put to
-pub row_put : (updates : List (List ℕ)) (j c k : ℕ) → j < length updates → get_or (set updates j (get_or updates j [] ++ c ∷ [])) k [] ≡ put_where (j == k) c (get_or updates k [])
+row_put : {X : Type 0} (updates : List (List X)) (j : ℕ) (c : X) (k : ℕ) → j < length updates → get_or (set updates j (get_or updates j [] ++ c ∷ [])) k [] ≡ put_where (j == k) c (get_or updates k [])
 row_put updates j c k l = elim (cases_eq j k) [
   | inl same ↦
       ap (λ z. get_or (set updates j (get_or updates j [] ++ c ∷ [])) z []) (sym same)
@@ -116,8 +147,8 @@ row_put updates j c k l = elim (cases_eq j k) [
       ∙ sym (ap (λ t. put_where t c (get_or updates k [])) (ne_eqb j k other))
 ]
 
-pub pending_few : (calls : List SpecCall) (c : ℕ) (views : List ℕ) (updates : List (List ℕ)) (pending : ℕ) → c ≤ length calls → AreTables (take c calls) views updates pending → pending ≤ c
-pending_few calls c views updates pending l t = omega (arith, t.of_pending, count_by-le-length is_pending (take c calls), length-take-le {A = SpecCall})
+pub pending_few : (calls : List SpecCall) (c : ℕ) (views : List ℕ) (updates : List (List ℕ)) (writes : List (List Write)) (pending : ℕ) → c ≤ length calls → AreTables (take c calls) views updates writes pending → pending ≤ c
+pending_few calls c views updates writes pending l t = omega (arith, t.of_pending, count_by-le-length is_pending (take c calls), length-take-le {A = SpecCall})
 
 -- what a call puts among the views, by its kind
 pub views_of_update : (x : Call) (e : Entry) (c : ℕ) (views new_views : List ℕ) → x.op ≡ Update e → new_views ≡ views → new_views ≡ put_where (is_bare_view x.op x.ended) c views
@@ -126,18 +157,14 @@ views_of_update x e c views new_views h v = v ∙ sym (ap (λ o. put_where (is_b
 pub views_of_view : (x : Call) (b : Bool) (c : ℕ) (views new_views : List ℕ) → x.op ≡ View → b ≡ is_some x.ended → new_views ≡ put_where b c views → new_views ≡ put_where (is_bare_view x.op x.ended) c views
 views_of_view x b c views new_views h e v = v ∙ ap (λ z. put_where z c views) e ∙ sym (ap (λ o. put_where (is_bare_view o x.ended) c views) h)
 
--- what a call puts among the updates
-pub record Puts (x : Call) (c : ℕ) (updates new_updates : List (List ℕ)) : Type 0 where
-  pub size : length new_updates ≡ length updates
-  pub rows : (k : ℕ) → k < 256 → get_or new_updates k [] ≡ put_where (is_bare_update x.op k) c (get_or updates k [])
-
-pub updates_of_update : (x : Call) (e : Entry) (c : ℕ) (updates new_updates : List (List ℕ)) → e.component < length updates → x.op ≡ Update e → new_updates ≡ set updates e.component (get_or updates e.component [] ++ c ∷ []) → Puts x c updates new_updates
+-- what a call puts among the updates, by its kind
+pub updates_of_update : {X : Type 0} (x : Call) (e : Entry) (c : X) (updates new_updates : List (List X)) → e.component < length updates → x.op ≡ Update e → new_updates ≡ set updates e.component (get_or updates e.component [] ++ c ∷ []) → Puts x c updates new_updates
 updates_of_update x e c updates new_updates l h u = record {
   size = ap length u ∙ length-set updates e.component (get_or updates e.component [] ++ c ∷ []);
   rows = λ k m. ap (λ z. get_or z k []) u ∙ row_put updates e.component c k l ∙ sym (ap (λ o. put_where (is_bare_update o k) c (get_or updates k [])) h);
 }
 
-pub updates_of_view : (x : Call) (c : ℕ) (updates new_updates : List (List ℕ)) → x.op ≡ View → new_updates ≡ updates → Puts x c updates new_updates
+pub updates_of_view : {X : Type 0} (x : Call) (c : X) (updates new_updates : List (List X)) → x.op ≡ View → new_updates ≡ updates → Puts x c updates new_updates
 updates_of_view x c updates new_updates h u = record {
   size = ap length u;
   rows = λ k m. ap (λ z. get_or z k []) u ∙ sym (ap (λ o. put_where (is_bare_update o k) c (get_or updates k [])) h);

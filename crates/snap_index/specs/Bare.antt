@@ -8,6 +8,7 @@ use Rattle.snap_core.specs.Calls.{Call as SpecCall}
 use Rattle.snap_index.specs.declared.call.CallOp.{CallOp}
 use Rattle.snap_index.specs.declared.call.CallOp.TheVariants.{Update, View}
 use Rattle.snap_index.specs.declared.call.Call.{Call}
+use Rattle.snap_index.specs.declared.call.Write.{Write}
 
 abbrev pub bare_op : Operation → CallOp
 bare_op (Updates e) = Update e
@@ -15,6 +16,14 @@ bare_op (Views answer) = View
 
 abbrev pub bare : SpecCall → Call
 bare c = record { process = c.process; op = bare_op c.operation; begun = c.begun; ended = c.ended }
+
+abbrev pub value_written : Operation → ℕ
+value_written (Updates e) = e.value
+value_written (Views answer) = 0
+
+-- an update's value, begin and end
+abbrev pub write_of : SpecCall → Write
+write_of c = record { value = value_written c.operation; begun = c.begun; ended = c.ended }
 
 -- what an event begins
 abbrev pub begun_by : Event → Option CallOp

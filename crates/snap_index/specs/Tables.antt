@@ -7,20 +7,23 @@ use Rattle.snap_core.specs.declared.event.Event.{Event}
 use Rattle.snap_core.specs.Events.{IsKept}
 use Rattle.snap_core.specs.Calls.{Call as SpecCall}
 use Rattle.snap_index.specs.declared.call.Call.{Call}
-use Rattle.snap_index.specs.Bare.{bare, number_of}
+use Rattle.snap_index.specs.declared.call.Write.{Write}
+use Rattle.snap_index.specs.Bare.{bare, number_of, write_of}
 use Rattle.snap_index.specs.Updates.{updates_of, is_pending}
 
-abbrev pub rows : List (Vec ℕ Global) → List (List ℕ)
+abbrev pub rows : {T : Type 0} → List (Vec T Global) → List (List T)
 rows table = map (λ row. row.items) table
 
--- the call numbers of the views, those of the updates of each component, and how many calls are pending
-pub record AreTables (calls : List SpecCall) (views : List ℕ) (updates : List (List ℕ)) (pending : ℕ) : Type 0 where
+-- the call numbers of the views, those of the updates of each component, what these write, and how many calls are pending
+pub record AreTables (calls : List SpecCall) (views : List ℕ) (updates : List (List ℕ)) (writes : List (List Write)) (pending : ℕ) : Type 0 where
   pub size : length updates ≡ 256
+  pub write_size : length writes ≡ 256
   pub of_views : views ≡ map number_of (views_of calls)
   pub of_updates : (k : ℕ) → k < 256 → get_or updates k [] ≡ map number_of (updates_of k calls)
+  pub of_writes : (k : ℕ) → k < 256 → get_or writes k [] ≡ map write_of (updates_of k calls)
   pub of_pending : pending ≡ count_by is_pending calls
 
-pub record IsIndex (events : List Event) (calls : List Call) (views : List ℕ) (updates : List (List ℕ)) (pending : ℕ) : Type 0 where
+pub record IsIndex (events : List Event) (calls : List Call) (views : List ℕ) (updates : List (List ℕ)) (writes : List (List Write)) (pending : ℕ) : Type 0 where
   pub kept : IsKept events
   pub bare_calls : calls ≡ map bare (calls_of events)
-  pub tables : AreTables (calls_of events) views updates pending
+  pub tables : AreTables (calls_of events) views updates writes pending

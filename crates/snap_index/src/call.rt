@@ -15,3 +15,11 @@ pub struct Call {
     pub begun: u32,
     pub ended: Option<u32>,
 }
+
+/// What an update writes, with the places, counted from 0, of the events that begin and end it. A pending update has no end.
+#[derive(Clone, Copy, PartialEq, Eq, Debug)]
+pub struct Write {
+    pub value: u32,
+    pub begun: u32,
+    pub ended: Option<u32>,
+}

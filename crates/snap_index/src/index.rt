@@ -2,10 +2,10 @@ ghost use Rattle.std.specs.Prelude.{◌≡◌, ◌<◌, length, map, count_by, f
 ghost use Rattle.std.specs.Option.{option_and_then, option_copied, option_map};
 ghost use Rattle.snap_core.specs.Calls.{calls_of, views_of, is_update_numbered, call_numbered, precedes as spec_precedes};
 ghost use Rattle.snap_core.specs.Events.{IsKept};
-ghost use Rattle.snap_index.specs.Bare.{bare, number_of, entries_shown, answer_of};
+ghost use Rattle.snap_index.specs.Bare.{bare, number_of, write_of, entries_shown, answer_of};
 ghost use Rattle.snap_index.specs.Updates.{is_update_of, updates_of, is_pending};
 
-use crate::call::{Call, CallOp};
+use crate::call::{Call, CallOp, Write};
 use crate::listing::list_calls;
 use crate::table::UpdateTable;
 use snap_core::{Event, History, View};
@@ -19,7 +19,9 @@ pub struct Index<'h> {
     calls: Vec<Call>,
     // the call numbers of the completed views
     views: Vec<u32>,
-    updates: UpdateTable,
+    updates: UpdateTable<u32>,
+    // the same updates, so that one look-up tells what is asked of most
+    writes: UpdateTable<Write>,
     pending: u32,
 }
 
@@ -33,7 +35,7 @@ impl<'h> Model for Index<'h> {
 
     ghost view = { λ a. a.history.now };
 
-    ghost invariant = { λ a. IsIndex a.history.now a.calls.items a.views.items a.updates a.pending };
+    ghost invariant = { λ a. IsIndex a.history.now a.calls.items a.views.items a.updates a.writes a.pending };
 }
 
 impl<'h> Index<'h> {
@@ -44,10 +46,19 @@ impl<'h> Index<'h> {
         let calls = list_calls(alloc, history.events())?;
         let mut views = Vec::new(alloc);
         let mut updates = UpdateTable::new(alloc)?;
+        let mut writes = UpdateTable::new(alloc)?;
         let mut pending = 0;
         for (c, call) in calls.iter().enumerate() {
             match call.op {
-                CallOp::Update(entry) => updates.put(entry.component, c as u32)?,
+                CallOp::Update(entry) => {
+                    updates.put(entry.component, c as u32)?;
+                    let write = Write {
+                        value: entry.value,
+                        begun: call.begun,
+                        ended: call.ended,
+                    };
+                    writes.put(entry.component, write)?;
+                }
                 CallOp::View => {
                     if call.ended.is_some() {
                         views.push(c as u32)?;
@@ -63,6 +74,7 @@ impl<'h> Index<'h> {
             calls,
             views,
             updates,
+            writes,
             pending,
         })
     }
@@ -152,6 +164,23 @@ impl<'h> Index<'h> {
     {
         let c = self.update_call(k, n)?;
         self.call(c)
+    }
+
+    /// The value of update `n` of component `k`, pending or not, and where it begins and ends. Updates are numbered from 1.
+    pub fn write(&self, k: u8, n: u32) -> Option<&Write>
+        ensures { option_copied result ≡ option_map write_of (find (is_update_numbered k n) (calls_of self.now)) }
+    {
+        let writes = self.writes(k);
+        let place = n.checked_sub(1)?;
+        writes.get(place as usize)
+    }
+
+    // The updates of component k, in the order of their numbers.
+    fn writes(&self, k: u8) -> &[Write]
+        ensures writes { result.now ≡ map write_of (updates_of k (calls_of self.now)) }
+        ensures kept { IsKept self.now }
+    {
+        self.writes.of(k)
     }
 
     /// The call numbers of the updates of component `k`: that of update `n` is the `n`-th of them.

@@ -8,5 +8,5 @@ mod table;
 #[cfg(test)]
 mod tests;
 
-pub use call::{Call, CallOp};
+pub use call::{Call, CallOp, Write};
 pub use index::Index;

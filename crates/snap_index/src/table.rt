@@ -5,16 +5,16 @@ use std::marker::Model;
 
 const COMPONENT_COUNT: usize = 256;
 
-// The call numbers of the updates of each component.
+// What is kept of the updates of each component, in their order.
 #[derive(Drop)]
-pub(crate) struct UpdateTable {
-    by_component: Vec<Vec<u32>>,
+pub(crate) struct UpdateTable<T> {
+    by_component: Vec<Vec<T>>,
 }
 
-impl Model for UpdateTable {
-    ghost use Rattle.std.specs.Prelude.{◌≡◌, ℕ, List, length};
+impl<T> Model for UpdateTable<T> {
+    ghost use Rattle.std.specs.Prelude.{◌≡◌, List, length};
 
-    ghost Value = { List (List ℕ) };
+    ghost Value = { List (List T) };
 
     ghost use Rattle.snap_index.specs.Tables.{rows};
 
@@ -23,9 +23,9 @@ impl Model for UpdateTable {
     ghost invariant = { λ t. length t.by_component.items ≡ 256 };
 }
 
-impl UpdateTable {
+impl<T: Drop> UpdateTable<T> {
     // No update.
-    pub(crate) fn new(alloc: Global) -> Result<UpdateTable, AllocError>
+    pub(crate) fn new(alloc: Global) -> Result<UpdateTable<T>, AllocError>
         ensures { IfOk result (λ table. table ≡ replicate 256 []) }
     {
         let mut by_component = Vec::new(alloc);
@@ -35,16 +35,16 @@ impl UpdateTable {
         Ok(UpdateTable { by_component })
     }
 
-    // Puts a call behind the updates of component k.
-    pub(crate) fn put(&mut self, k: u8, call: u32) -> Result<(), AllocError>
-        ensures { OnOk result (self.new ≡ slice_set self.old k (get_or self.old k [] ++ call ∷ [])) }
+    // Puts an update behind those of component k.
+    pub(crate) fn put(&mut self, k: u8, update: T) -> Result<(), AllocError>
+        ensures { OnOk result (self.new ≡ slice_set self.old k (get_or self.old k [] ++ update ∷ [])) }
     {
-        self.by_component[k as usize].push(call)?;
+        self.by_component[k as usize].push(update)?;
         Ok(())
     }
 
-    // The call numbers of the updates of component k.
-    pub(crate) fn of(&self, k: u8) -> &[u32]
+    // The updates of component k.
+    pub(crate) fn of(&self, k: u8) -> &[T]
         ensures { result.now ≡ get_or self.now k [] }
     {
         &self.by_component[k as usize]

@@ -3,4 +3,4 @@ use Rattle.snap_index.specs.Tables.{rows}
 use Rattle.snap_index.proofs.table.UpdateTable.new.Given as goal
 
 abbrev pub invariant-loop-k : goal.invariant-loop-k
-invariant-loop-k l = rows l.by_component.items ≡ replicate l._k []
+invariant-loop-k g l = rows l.by_component.items ≡ replicate l._k []
