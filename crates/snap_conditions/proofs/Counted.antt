@@ -1,20 +1,17 @@
 -- The read faults of a range of views, by the clashes of a grid.
-use Rattle.std.proofs.Common.{◌≡◌, ℕ, zero, suc, ◌+◌, ◌-◌, ◌<◌, ◌≤◌, Bool, true, false, cond, ◌&&◌, ◌||◌, List, [], ◌∷◌, ◌++◌, map, take, drop, length, get_or, Option, Some, None, refl, sym, ap, ◌∙◌, subst, inl, inr, arith}
-use Rattle.std.specs.Prelude.{nat_lt, filter, flat_map, sum_by, count_by, find, option_map}
+use Rattle.std.proofs.Common.{◌≡◌, ℕ, zero, suc, ◌+◌, ◌-◌, ◌<◌, ◌≤◌, Bool, true, false, cond, ◌||◌, List, [], ◌∷◌, ◌++◌, map, take, drop, length, get_or, Option, Some, None, refl, sym, ap, ◌∙◌, subst, arith}
+use Rattle.std.specs.Prelude.{nat_lt, filter, sum_by, count_by, find}
 use Rattle.std.specs.List.{list_any, range_with_len}
-use Rattle.std.proofs.lemmas.Bool.{false≢true, lt-ltb, le-ltb, ltb-true, ltb-false}
+use Rattle.std.proofs.lemmas.Bool.{lt-ltb, ltb-true, ltb-false}
 use Rattle.std.proofs.lemmas.List.{length-map, length-append, drop_more}
 use Rattle.std.proofs.lemmas.List.Sums.{sum_by-cons, length-filter}
 use Rattle.snap_core.specs.declared.event.Event.{Event}
 use Rattle.snap_core.specs.Calls.{Call, calls_of, views_of, nobody}
 use Rattle.snap_grid.specs.Columns.{GridValue, clashes, clash_count, has_clash, rows_of}
-use Rattle.snap_conditions.specs.PartValue.{PartValue}
-use Rattle.snap_conditions.specs.Parts.{part_of, no_part}
 use Rattle.snap_conditions.specs.Faults.{read_fault, read_faults, first_of}
 use Rattle.snap_conditions.specs.Seen.{view_in}
-use Rattle.snap_conditions.specs.Tally.{reported_read, views_between}
+use Rattle.snap_conditions.specs.Tally.{views_between}
 use Rattle.snap_conditions.specs.Grids.{IsGridOf}
-use Rattle.snap_conditions.proofs.Parts.{part_is}
 
 -- a range of views by their places
 pub by_places : (xs : List Call) (n a : ℕ) → a + n ≤ length xs → take n (drop a xs) ≡ map (λ i. get_or xs i nobody) (range_with_len a n)

@@ -53,13 +53,13 @@ proximity_at calls r k = found_at (λ k. reported_proximity calls (r, k)) (λ k.
 abbrev pub sided : Call → ℕ → Side → ProximityFault
 sided r k side = record { view = r.number; component = k; number = shown_number r k; side = side }
 
-found_old : (calls : List Call) (r : Call) (k : ℕ) → old_fault calls r k ≡ true → proximity_at calls r k ≡ Some (sided r k Old)
+pub found_old : (calls : List Call) (r : Call) (k : ℕ) → old_fault calls r k ≡ true → proximity_at calls r k ≡ Some (sided r k Old)
 found_old calls r k t = ap (λ b. then_some (b || early_fault calls r k) (sided r k (if b then Old else Early))) t
 
-found_early : (calls : List Call) (r : Call) (k : ℕ) → old_fault calls r k ≡ false → early_fault calls r k ≡ true → proximity_at calls r k ≡ Some (sided r k Early)
+pub found_early : (calls : List Call) (r : Call) (k : ℕ) → old_fault calls r k ≡ false → early_fault calls r k ≡ true → proximity_at calls r k ≡ Some (sided r k Early)
 found_early calls r k f t = ap (λ b. then_some (b || early_fault calls r k) (sided r k (if b then Old else Early))) f ∙ ap (λ b. then_some b (sided r k Early)) t
 
-found_neither : (calls : List Call) (r : Call) (k : ℕ) → old_fault calls r k ≡ false → early_fault calls r k ≡ false → proximity_at calls r k ≡ None
+pub found_neither : (calls : List Call) (r : Call) (k : ℕ) → old_fault calls r k ≡ false → early_fault calls r k ≡ false → proximity_at calls r k ≡ None
 found_neither calls r k f g = ap (λ b. then_some (b || early_fault calls r k) (sided r k (if b then Old else Early))) f ∙ ap (λ b. then_some b (sided r k Early)) g
 
 -- the tests by places of a view of which n is shown

@@ -1,20 +1,20 @@
 -- The numbers of views in a grid.
-use Rattle.std.proofs.Common.{◌≡◌, ℕ, zero, suc, ◌+◌, ◌<◌, ◌≤◌, Bool, true, false, cond, ◌&&◌, ◌||◌, List, [], ◌∷◌, ◌++◌, take, set, length, get_or, refl, sym, ap, ◌∙◌, subst, inl, inr, arith, get_or-set_same, get_or-set_other}
+use Rattle.std.proofs.Common.{◌≡◌, ℕ, suc, ◌+◌, ◌<◌, ◌≤◌, Bool, true, false, cond, ◌&&◌, ◌||◌, List, [], ◌∷◌, ◌++◌, take, set, length, get_or, refl, sym, ap, ◌∙◌, subst, inl, inr, arith, get_or-set_same, get_or-set_other}
 use Rattle.std.specs.Prelude.{nat_lt, ◌==◌}
-use Rattle.std.proofs.lemmas.Bool.{cases_lt, cases_eq, false≢true, false_from_ne_true, lt-ltb, ltb-true, ne_eqb, eq-eqb}
+use Rattle.std.proofs.lemmas.Bool.{cases_lt, cases_eq, false≢true, lt-ltb, ltb-true, ne_eqb}
 use Rattle.std.proofs.lemmas.List.{length-append, get_or_append_left}
 use Rattle.std.proofs.Math.Seq.{get_or-append_seam}
 use Rattle.snap_core.specs.declared.entry.Entry.{Entry}
 use Rattle.snap_core.specs.declared.event.Event.{Event}
-use Rattle.snap_core.specs.Entries.{AreEntries}
 use Rattle.snap_core.specs.Events.{IsKept}
-use Rattle.snap_core.specs.Calls.{Call, calls_of, views_of, entries_of, shown_number, precedes, is_before}
+use Rattle.snap_core.specs.Calls.{Call, calls_of, views_of, entries_of, shown_number, precedes}
 use Rattle.snap_grid.specs.Columns.{GridValue, number, clashes, any_passes, passes}
 use Rattle.snap_grid.proofs.Passing.{any_at}
 use Rattle.snap_conditions.specs.Faults.{exceeds, read_fault}
 use Rattle.snap_conditions.specs.Rows.{number_among, row_number}
 use Rattle.snap_conditions.specs.Seen.{view_in}
-use Rattle.snap_conditions.specs.Grids.{IsShownBy, AreShownBy, IsColumnOf, AreColumnsOf, ShowAll, ArePlaced, ArePlacesOf, IsGridOf, end_or_never}
+use Rattle.snap_conditions.specs.Grids.{IsShownBy, IsColumnOf, AreColumnsOf, ShowAll, ArePlaced, ArePlacesOf, IsGridOf}
+use Rattle.snap_conditions.specs.Places.{end_or_never}
 use Rattle.snap_core.proofs.Histories.{are_calls}
 use Rattle.snap_index.proofs.BareCalls.{precedes_at}
 use Rattle.snap_conditions.proofs.Viewed.{view_there}

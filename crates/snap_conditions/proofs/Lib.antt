@@ -23,3 +23,4 @@ pub mod Grids
 pub mod Counted
 pub mod Limits
 mod Worked
+mod Surrounded

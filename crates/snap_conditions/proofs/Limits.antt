@@ -9,7 +9,7 @@ use Rattle.snap_core.specs.Calls.{Call, calls_of, shown_number, is_before}
 use Rattle.snap_index.specs.Updates.{is_update_of}
 use Rattle.snap_conditions.specs.Faults.{components, missed_at, old_fault, early_fault}
 use Rattle.snap_conditions.specs.Limits.{IsLimit}
-use Rattle.snap_conditions.specs.Parts.{part_of, merged_part, noted, found_at}
+use Rattle.snap_conditions.specs.Parts.{no_part, part_of, merged_part}
 use Rattle.snap_conditions.specs.Places.{update_of, end_of, begin_of, begins_behind}
 use Rattle.snap_conditions.specs.Tally.{reported_proximity, reported_write}
 use Rattle.snap_conditions.proofs.Finds.{none_missed, neither_found, proximity_at}
@@ -19,14 +19,19 @@ use Rattle.snap_conditions.proofs.Viewed.{none_of_none}
 at_place : (k : ℕ) → k < 256 → get_or components k 0 ≡ k
 at_place k l = omega (arith, get_or-range_with_len 0 256 k 0 l)
 
-pub missed_step : (es : List Event) → IsKept es → (r : Call) (j : ℕ) → j < 256 → count_by (is_update_of j) (calls_of es) ≡ 0 →
+-- a component of which no update is missed adds nothing
+pub none_step : (es : List Event) (r : Call) (j : ℕ) → j < 256 → part_of reported_write (missed_at (calls_of es) r j) ≡ no_part →
     part_of reported_write (flat_map (missed_at (calls_of es) r) (take j components)) ≡ part_of reported_write (flat_map (missed_at (calls_of es) r) (take (j + 1) components))
-missed_step es kept r j l none =
+none_step es r j l missed =
     let calls = calls_of es in
     let so_far = part_of reported_write (flat_map (missed_at calls r) (take j components)) in
-    let missed = none_missed es kept r j (ap end_of (none_of_none es kept j (suc (shown_number r j)) none)) in
     sym (merged_none so_far) ∙ ap (merged_part so_far) (sym missed ∙ ap (λ z. part_of reported_write (missed_at calls r z)) (sym (at_place j l)))
     ∙ sym (merge_step reported_write (missed_at calls r) components j 0 l)
+
+missed_step : (es : List Event) → IsKept es → (r : Call) (j : ℕ) → j < 256 → count_by (is_update_of j) (calls_of es) ≡ 0 →
+    part_of reported_write (flat_map (missed_at (calls_of es) r) (take j components)) ≡ part_of reported_write (flat_map (missed_at (calls_of es) r) (take (j + 1) components))
+missed_step es kept r j l none =
+    none_step es r j l (none_missed es kept r j (ap end_of (none_of_none es kept j (suc (shown_number r j)) none)))
 
 -- the components that are left have no write fault
 pub missed_rest : (es : List Event) → IsKept es → (r : Call) (limit : ℕ) → IsLimit (calls_of es) limit → (n j : ℕ) → limit ≤ j → j + n ≡ 256 →

@@ -1,5 +1,5 @@
 -- The updates that a view misses, by the begins of those that it shows.
-use Rattle.std.proofs.Common.{◌≡◌, ℕ, zero, suc, ◌+◌, ◌<◌, ◌≤◌, Bool, true, false, not, cond, List, [], ◌∷◌, length, get_or, Option, Some, None, refl, sym, ap, ◌∙◌, subst, arith}
+use Rattle.std.proofs.Common.{◌≡◌, ℕ, suc, ◌+◌, ◌<◌, ◌≤◌, Bool, true, false, not, cond, List, [], ◌∷◌, length, get_or, Option, Some, None, refl, sym, ap, ◌∙◌, arith}
 use Rattle.std.specs.Prelude.{nat_lt, filter, count_by, option_map}
 use Rattle.std.specs.List.{position_or_len}
 use Rattle.std.proofs.lemmas.Bool.{le-ltb}
@@ -9,7 +9,7 @@ use Rattle.snap_core.specs.declared.entry.Entry.{Entry}
 use Rattle.snap_core.specs.declared.event.Event.{Event}
 use Rattle.snap_core.specs.Entries.{AreEntries}
 use Rattle.snap_core.specs.Events.{IsKept}
-use Rattle.snap_core.specs.Calls.{Call, calls_of, entries_of, shown, shown_number}
+use Rattle.snap_core.specs.Calls.{Call, calls_of, entries_of, shown_number}
 use Rattle.snap_core.proofs.Facts.{shown_number_at}
 use Rattle.snap_core.proofs.Histories.{are_calls}
 use Rattle.snap_conditions.specs.declared.fault.WriteFault.{WriteFault}

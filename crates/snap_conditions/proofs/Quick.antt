@@ -1,21 +1,18 @@
 -- The quick test against read faults.
-use Rattle.std.proofs.Common.{◌≡◌, ℕ, zero, suc, ◌+◌, ◌<◌, ◌≤◌, ◌↔◌, Bool, true, false, ◌&&◌, ◌||◌, List, [], ◌∷◌, refl, sym, ap, ◌∙◌, subst, inl, inr, arith}
-use Rattle.std.specs.List.{sum_by, range_with_len, filter, All}
+use Rattle.std.proofs.Common.{◌≡◌, ℕ, ◌<◌, ◌≤◌, Bool, true, false, ◌&&◌, ◌||◌, List, [], ◌∷◌, refl, sym, ap, ◌∙◌, subst, inl, inr, arith}
+use Rattle.std.specs.List.{sum_by, All}
 use Rattle.std.proofs.lemmas.Bool.{false≢true, false_from_ne_true}
 use Rattle.std.proofs.lemmas.List.Elements.{All-contains}
 use Rattle.std.proofs.lemmas.List.Sums.{sum_by-cons, sum_by-le-sum_by}
-use Rattle.snap_core.specs.declared.event.Event.{Event}
 use Rattle.snap_core.specs.Entries.{HasByteComponent}
-use Rattle.snap_core.specs.Events.{HasByteComponents}
-use Rattle.snap_core.specs.Calls.{Call, calls_of, views_of, precedes, shown_number, entries_of}
-use Rattle.snap_core.specs.Regular.{IsViewOf}
+use Rattle.snap_core.specs.Calls.{Call, calls_of, precedes, shown_number, entries_of}
 use Rattle.snap_core.proofs.Lists.{In, Contains-from_In}
 use Rattle.snap_core.proofs.Facts.{shown_in, shows_positive}
-use Rattle.snap_conditions.specs.Faults.{components, exceeds, read_fault, read_faults}
-use Rattle.snap_conditions.specs.Quick.{shown_sum, AreComparable, AreOrdered, PassesQuickTest, NoReadFaultExactly}
+use Rattle.snap_conditions.specs.Faults.{components, exceeds, read_fault}
+use Rattle.snap_conditions.specs.Quick.{shown_sum, NoReadFaultExactly}
 use Rattle.snap_conditions.proofs.Exceeding.{exceeds_to, exceeds_not}
 use Rattle.snap_conditions.proofs.Reports.{byte_views}
-use Rattle.snap_conditions.proofs.Tallies.{in_range, from_views, read_from, read_none}
+use Rattle.snap_conditions.proofs.Tallies.{in_range, read_from, read_none}
 
 sum_lt : (f g : ℕ → ℕ) (xs : List ℕ) → ((x : ℕ) → f x ≤ g x) → (y : ℕ) → In y xs → f y < g y → sum_by f xs < sum_by g xs
 sum_lt f g [] le y i l = absurd i

@@ -31,7 +31,7 @@ flat_map_nil f [] e x i = absurd i
 flat_map_nil f (y ∷ xs) e x (inl i) = ap f (sym i) ∙ (append_nil (f y) (flat_map f xs) e).0
 flat_map_nil f (y ∷ xs) e x (inr i) = flat_map_nil f xs (append_nil (f y) (flat_map f xs) e).1 x i
 
-flat_map_none : {X Y : Type 0} (f : X → List Y) (xs : List X) → ((x : X) → In x xs → f x ≡ []) → flat_map f xs ≡ []
+pub flat_map_none : {X Y : Type 0} (f : X → List Y) (xs : List X) → ((x : X) → In x xs → f x ≡ []) → flat_map f xs ≡ []
 flat_map_none f [] h = refl
 flat_map_none f (x ∷ xs) h = ap (λ z. z ++ flat_map f xs) (h x (inl refl)) ∙ flat_map_none f xs (λ y i. h y (inr i))
 

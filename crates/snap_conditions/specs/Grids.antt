@@ -1,5 +1,5 @@
 -- What views show, in a grid of numbers.
-use Rattle.std.specs.Prelude.{ℕ, ◌<◌, ◌≡◌, Bool, true, false, List, [], length, get_or, nat_lt, Option, unwrap_or}
+use Rattle.std.specs.Prelude.{ℕ, ◌<◌, ◌≡◌, Bool, true, false, List, [], length, get_or, nat_lt}
 use Rattle.snap_core.specs.declared.event.Event.{Event}
 use Rattle.snap_core.specs.declared.entry.Entry.{Entry}
 use Rattle.snap_core.specs.Entries.{AreEntries}
@@ -7,6 +7,7 @@ use Rattle.snap_core.specs.Calls.{Call, calls_of, views_of, entries_of, shown_nu
 use Rattle.snap_core.specs.Events.{IsKept}
 use Rattle.snap_grid.specs.Columns.{GridValue, number, clashes, any_passes}
 use Rattle.snap_conditions.specs.Faults.{exceeds, read_fault}
+use Rattle.snap_conditions.specs.Places.{end_or_never}
 use Rattle.snap_conditions.specs.Rows.{row_number}
 use Rattle.snap_conditions.specs.Seen.{view_in}
 
@@ -51,10 +52,6 @@ pub record IsGridOf (events : List Event) (grid : GridValue) : Type 0 where
   pub kept : IsKept events
   pub rows : length grid.begins ≡ length (views_of (calls_of events))
   pub clash : (a b : ℕ) → a < length (views_of (calls_of events)) → b < length (views_of (calls_of events)) → clashes grid a b ≡ read_fault (view_in (calls_of events) a) (view_in (calls_of events) b)
-
--- the end of a call, or a place behind all begins
-abbrev pub end_or_never : Option ℕ → ℕ
-end_or_never ended = unwrap_or ended 4294967295
 
 pub record ArePlaced (calls : List Call) (n : ℕ) (begins ends : List ℕ) : Type 0 where
   pub begun : length begins ≡ n

@@ -9,4 +9,5 @@ pub mod Quick
 pub mod Rows
 pub mod Seen
 pub mod Tally
+pub mod Around
 pub mod Limits

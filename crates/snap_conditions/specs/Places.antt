@@ -38,6 +38,10 @@ IsNoLater (Some begun) (Some latest) = begun ≤ latest
 abbrev pub begin_of_shown : List Call → List Entry → ℕ → Option ℕ
 begin_of_shown calls entries i = let e = get_or entries i (record { component = 0; number = 0; value = 0 }) in begin_of (update_of calls e.component e.number)
 
+-- the end of a call, or a place behind all begins
+abbrev pub end_or_never : Option ℕ → ℕ
+end_or_never ended = unwrap_or ended 4294967295
+
 -- a begin, or 0 where there is none
 abbrev pub begin_or_0 : Option ℕ → ℕ
 begin_or_0 begun = unwrap_or begun 0

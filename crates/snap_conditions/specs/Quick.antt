@@ -3,7 +3,7 @@ use Rattle.std.specs.Prelude.{ℕ, true, false, List, [], ◌≡◌, ◌≤◌, 
 use Rattle.std.specs.List.{sum_by}
 use Rattle.snap_core.specs.declared.entry.Entry.{Entry}
 use Rattle.snap_core.specs.declared.event.Event.{Event}
-use Rattle.snap_core.specs.Events.{IsHistory, HasByteComponents}
+use Rattle.snap_core.specs.Events.{HasByteComponents}
 use Rattle.snap_core.specs.Calls.{Call, calls_of, views_of, precedes, shown_number}
 use Rattle.snap_core.specs.Regular.{IsViewOf}
 use Rattle.snap_conditions.specs.Faults.{components, exceeds, read_faults}

@@ -1,6 +1,7 @@
 //! The faults of the four conditions, their tally over a range of views, and what they say of regular histories.
 #![tactic(auto)]
 
+mod around;
 mod fault;
 mod integrity;
 mod law;

@@ -5,11 +5,13 @@ ghost use Rattle.snap_conditions.specs.Limits.{IsLimit};
 ghost use Rattle.snap_conditions.specs.Seen.{view_in};
 ghost use Rattle.snap_conditions.specs.Tally.{tally_of, without_read};
 
+use crate::around::look_around;
 use crate::integrity::integrity_part;
 use crate::part::Part;
 use crate::proximity::proximity_part;
 use crate::read::read_part;
 use crate::row::COMPONENT_COUNT;
+use crate::seen::view_at;
 use crate::tally::{Tally, merge};
 use crate::write::write_part;
 use snap_index::Index;
@@ -27,6 +29,23 @@ fn component_limit(index: &Index<'_>) -> usize
     limit
 }
 
+// The faults of the view at a place but for its read faults, where no component from a limit on has an update.
+fn view_without_read(index: &Index<'_>, place: u32, limit: usize) -> Tally
+    requires limit { IsLimit (calls_of index.now) limit }
+    requires place { place < length (views_of (calls_of index.now)) }
+    requires kept { IsKept index.now }
+    ensures { result ≡ without_read (tally_of (calls_of index.now) (view_in (calls_of index.now) place ∷ [])) }
+{
+    let view = view_at(index, place);
+    let around = look_around(index, &view, limit);
+    Tally {
+        integrity: integrity_part(index, place, &view),
+        proximity: proximity_part(index, place, &view, &around, limit),
+        read: Part::none(),
+        write: write_part(index, place, &view, &around, limit),
+    }
+}
+
 // The faults of the view at a place, where no component from a limit on has an update.
 fn view_tally(index: &Index<'_>, place: u32, limit: usize) -> Tally
     requires limit { IsLimit (calls_of index.now) limit }
@@ -34,11 +53,12 @@ fn view_tally(index: &Index<'_>, place: u32, limit: usize) -> Tally
     requires kept { IsKept index.now }
     ensures { result ≡ tally_of (calls_of index.now) (view_in (calls_of index.now) place ∷ []) }
 {
+    let others = view_without_read(index, place, limit);
     Tally {
-        integrity: integrity_part(index, place),
-        proximity: proximity_part(index, place, limit),
+        integrity: others.integrity,
+        proximity: others.proximity,
         read: read_part(index, place),
-        write: write_part(index, place, limit),
+        write: others.write,
     }
 }
 
@@ -57,21 +77,6 @@ pub fn tally_range(index: &Index<'_>, from: u32, to: u32) -> Tally
         tally = merge(tally, view_tally(index, place, limit));
     }
     tally
-}
-
-// The faults of the view at a place but for its read faults, where no component from a limit on has an update.
-fn view_without_read(index: &Index<'_>, place: u32, limit: usize) -> Tally
-    requires limit { IsLimit (calls_of index.now) limit }
-    requires place { place < length (views_of (calls_of index.now)) }
-    requires kept { IsKept index.now }
-    ensures { result ≡ without_read (tally_of (calls_of index.now) (view_in (calls_of index.now) place ∷ [])) }
-{
-    Tally {
-        integrity: integrity_part(index, place),
-        proximity: proximity_part(index, place, limit),
-        read: Part::none(),
-        write: write_part(index, place, limit),
-    }
 }
 
 /// The tally of the completed views from `from` to `to - 1` as `tally_range` gives it, but without read faults: for a history

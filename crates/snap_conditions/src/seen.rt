@@ -60,16 +60,16 @@ pub(crate) fn begins_behind(ended: Option<u32>, begun: Option<u32>) -> bool
 pub(crate) fn begin_of_update(index: &Index<'_>, k: u8, n: u32) -> Option<u32>
     ensures { result ≡ begin_of (update_of (calls_of index.now) k n) }
 {
-    let update = index.update(k, n)?;
-    Some(update.begun)
+    let write = index.write(k, n)?;
+    Some(write.begun)
 }
 
 // Where update n of component k ended, if there is one and it did.
 pub(crate) fn end_of_update(index: &Index<'_>, k: u8, n: u32) -> Option<u32>
     ensures { result ≡ end_of (update_of (calls_of index.now) k n) }
 {
-    let update = index.update(k, n)?;
-    update.ended
+    let write = index.write(k, n)?;
+    write.ended
 }
 
 // Where the update after number n of component k ended, if there is one and it did.

@@ -1,4 +1,4 @@
-use Rattle.std.proofs.Common.{◌≡◌, ℕ, ◌<◌, not, Some, length, get_or, sym, ap, ◌∙◌, subst, arith}
+use Rattle.std.proofs.Common.{◌≡◌, ℕ, ◌<◌, Bool, true, false, not, None, Some, length, get_or, sym, ap, ◌∙◌, subst, arith}
 use Rattle.std.proofs.lemmas.List.{take_all, length-map, get_or-map}
 use Rattle.std.specs.Prelude.{filter}
 use Rattle.std.specs.Bool.{then_some}
@@ -18,6 +18,7 @@ use Rattle.snap_conditions.proofs.Ranges.{few_listed}
 use Rattle.snap_conditions.proofs.Viewed.{view_there}
 use Rattle.snap_conditions.proofs.OneView.{integrity_alone, found_few}
 use Rattle.snap_conditions.proofs.integrity.integrity_part.Goals as goal
+use Rattle.snap_conditions.proofs.integrity.integrity_part.Goals.{then-not-is_written, else-not-is_written}
 
 pub note-part-requires : goal.note-part-requires
 note-part-requires c =
@@ -25,7 +26,7 @@ note-part-requires c =
     let r = view_in calls c.args.place in
     let count = ap (λ (p : PartValue IntegrityFault). p.count) c.loop-entry.invariant in
     let few = few_listed c.args.index.now c.requires.kept r (view_there c.args.index.now c.args.place c.requires.place) in
-    omega (arith, count, found_few (integrity_fault calls r) (listed r) c.loop-entry.entry-index, few, length-map (entries_of r.operation) (λ e. e.component), ap length c.view_at-view.ensures.entries)
+    omega (arith, count, found_few (integrity_fault calls r) (listed r) c.loop-entry.entry-index, few, length-map (entries_of r.operation) (λ e. e.component), ap length c.requires.view.entries)
 
 pub loop-entry-preserved : goal.loop-entry-preserved
 loop-entry-preserved c =
@@ -33,20 +34,24 @@ loop-entry-preserved c =
     let calls = calls_of es in
     let r = view_in calls c.args.place in
     let i = c.loop-entry.entry-index in
-    let shape = c.view_at-view.ensures.entries in
-    let e = get_or c.view_at-view.result.entries.now i nothing in
+    let shape = c.requires.view.entries in
+    let e = get_or c.args.view.now.entries.now i nothing in
     let within : i < length (entries_of r.operation) = subst (λ z. i < length z) shape c.loop-entry-test.true in
-    let is_shown : shown r e.component ≡ Some e = subst (λ z. shown r (get_or z i nothing).component ≡ Some (get_or z i nothing)) (sym shape) (shown_at r i nothing c.view_at-view.ensures.shape within) in
+    let is_shown : shown r e.component ≡ Some e = subst (λ z. shown r (get_or z i nothing).component ≡ Some (get_or z i nothing)) (sym shape) (shown_at r i nothing c.requires.view.shape within) in
     let at : get_or (listed r) i 0 ≡ e.component = get_or-map (λ (d : Entry). d.component) (entries_of r.operation) i nothing 0 within ∙ ap (λ z. (get_or z i nothing).component) (sym shape) in
     let fault : ℕ → IntegrityFault = λ n. record { view = n; entry = e } in
-    let found =
-    c.then_some.ensures ∙ ap (λ b. then_some (not b) (fault c.view_at-view.result.number)) c.is_written-written.ensures
-    ∙ ap (λ n. then_some (not (is_written (update_of calls e.component e.number) e)) (fault n)) c.view_at-view.ensures.number ∙ sym (integrity_found es c.requires.kept r e is_shown) in
-    next_noted (λ k. reported_integrity (r, k)) (integrity_fault calls r) (listed r) i 0 (omega (arith, within, length-map (entries_of r.operation) (λ d. d.component))) _ _ _ c.loop-entry.invariant c.note-part.ensures
-    (found ∙ ap (found_at (λ k. reported_integrity (r, k)) (integrity_fault calls r)) (sym at))
+    let found : (b : Bool) → c.is_written.result ≡ b → then_some (not b) (fault c.args.view.now.number) ≡ found_at (λ k. reported_integrity (r, k)) (integrity_fault calls r) (get_or (listed r) i 0) = λ b is.
+    ap (λ z. then_some (not z) (fault c.args.view.now.number)) (sym is ∙ c.is_written.ensures)
+    ∙ ap (λ n. then_some (not (is_written (update_of calls e.component e.number) e)) (fault n)) c.requires.view.number ∙ sym (integrity_found es c.requires.kept r e is_shown)
+    ∙ ap (found_at (λ k. reported_integrity (r, k)) (integrity_fault calls r)) (sym at) in
+    let next = next_noted (λ k. reported_integrity (r, k)) (integrity_fault calls r) (listed r) i 0 (omega (arith, within, length-map (entries_of r.operation) (λ d. d.component))) in
+    elim c.if-not-is_written.branch [
+      | then-not-is_written w ↦ next _ _ _ c.loop-entry.invariant (w.part-is ∙ w.note-part.ensures) (found false w.if-not-is_written.true)
+      | else-not-is_written w ↦ next _ _ None c.loop-entry.invariant w.part-is (found true w.if-not-is_written.false)
+    ]
 
 pub returns : goal.returns
 returns c =
     let calls = calls_of c.args.index.now in
     let r = view_in calls c.args.place in
-    c.loop-entry.invariant ∙ ap (λ xs. part_of (λ k. reported_integrity (r, k)) (filter (integrity_fault calls r) xs)) (take_all c.loop-entry.entry-index (listed r) (omega (arith, c.loop-entry-test.false, length-map (entries_of r.operation) (λ e. e.component), ap length c.view_at-view.ensures.entries))) ∙ sym (integrity_alone calls r)
+    c.loop-entry.invariant ∙ ap (λ xs. part_of (λ k. reported_integrity (r, k)) (filter (integrity_fault calls r) xs)) (take_all c.loop-entry.entry-index (listed r) (omega (arith, c.loop-entry-test.false, length-map (entries_of r.operation) (λ e. e.component), ap length c.requires.view.entries))) ∙ sym (integrity_alone calls r)

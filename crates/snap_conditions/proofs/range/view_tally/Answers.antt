@@ -1,5 +1,6 @@
-use Rattle.std.proofs.Common.{[], ◌∷◌}
+use Rattle.std.proofs.Common.{[], ◌∷◌, ap}
 use Rattle.snap_core.specs.Calls.{calls_of}
+use Rattle.snap_conditions.specs.declared.tally.Tally.{Tally}
 use Rattle.snap_conditions.specs.Seen.{view_in}
 use Rattle.snap_conditions.specs.Tally.{tally_of}
 use Rattle.snap_conditions.proofs.Ranges.{tally_is}
@@ -9,4 +10,5 @@ pub returns : goal.returns
 unfolding tally_of
 returns c =
     let calls = calls_of c.args.index.now in
-    tally_is _ (tally_of calls (view_in calls c.args.place ∷ [])) c.integrity_part.ensures c.proximity_part.ensures c.read_part.ensures c.write_part.ensures
+    let others = c.view_without_read-others.ensures in
+    tally_is _ (tally_of calls (view_in calls c.args.place ∷ [])) (ap (λ (t : Tally). t.integrity) others) (ap (λ (t : Tally). t.proximity) others) c.read_part.ensures (ap (λ (t : Tally). t.write) others)

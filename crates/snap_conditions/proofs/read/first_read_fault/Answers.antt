@@ -1,11 +1,11 @@
-use Rattle.std.proofs.Common.{◌≡◌, ◌<◌, ◌++◌, ◌∷◌, [], ◌+◌, ℕ, zero, suc, Bool, true, false, cond, List, Option, Some, None, take, drop, get_or, length, refl, sym, ap, ◌∙◌, arith}
+use Rattle.std.proofs.Common.{◌≡◌, ◌<◌, ◌++◌, ◌∷◌, [], ◌+◌, ℕ, zero, suc, Bool, true, false, cond, List, Some, take, get_or, length, refl, sym, ap, ◌∙◌, arith}
 use Rattle.std.specs.Prelude.{filter, option_map}
 use Rattle.std.proofs.lemmas.List.{take_all}
 use Rattle.std.proofs.lemmas.List.Elements.{filter_more}
 use Rattle.snap_core.specs.Calls.{Call, calls_of, views_of, nobody}
 use Rattle.snap_conditions.specs.declared.fault.ReadFault.{ReadFault}
 use Rattle.snap_conditions.specs.Faults.{read_fault, read_faults, first_of}
-use Rattle.snap_conditions.specs.Parts.{part_of, noted}
+use Rattle.snap_conditions.specs.Parts.{noted}
 use Rattle.snap_conditions.specs.PartValue.{PartValue}
 use Rattle.snap_conditions.specs.Seen.{view_in}
 use Rattle.snap_conditions.specs.Tally.{reported_read}

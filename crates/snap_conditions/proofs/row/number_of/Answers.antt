@@ -1,4 +1,4 @@
-use Rattle.std.proofs.Common.{rules, of_calls, ◌≡◌, ◌<◌, length, sym, arith}
+use Rattle.std.proofs.Common.{rules, of_calls, sym, arith}
 use Rattle.std.specs.Prelude.{nat_lt}
 use Rattle.std.proofs.lemmas.Fn.{always_returns_same}
 use Rattle.snap_core.specs.declared.entry.Entry.{Entry}

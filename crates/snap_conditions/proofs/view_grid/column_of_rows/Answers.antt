@@ -1,4 +1,4 @@
-use Rattle.std.proofs.Common.{◌≡◌, ◌+◌, ◌<◌, ℕ, length, refl, sym, ap, ◌∙◌, arith}
+use Rattle.std.proofs.Common.{arith}
 use Rattle.snap_core.specs.Calls.{calls_of}
 use Rattle.snap_index.proofs.LookUps.{row_is, row_few}
 use Rattle.snap_conditions.proofs.Ranges.{few_views}

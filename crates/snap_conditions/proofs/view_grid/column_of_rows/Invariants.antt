@@ -1,4 +1,4 @@
-use Rattle.std.proofs.Common.{◌≡◌, ◌<◌, ℕ, [], length, get_or}
+use Rattle.std.proofs.Common.{◌≡◌, ◌<◌, ℕ, length, get_or}
 use Rattle.snap_core.specs.Calls.{calls_of, shown_number}
 use Rattle.snap_conditions.specs.Seen.{view_in}
 use Rattle.snap_conditions.proofs.view_grid.column_of_rows.Given as goal

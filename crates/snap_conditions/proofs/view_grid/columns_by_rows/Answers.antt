@@ -1,4 +1,4 @@
-use Rattle.std.proofs.Common.{◌≡◌, ◌<◌, ◌+◌, ℕ, List, [], ◌∷◌, ◌++◌, Vec, Global, sym, ap, subst, ◌∙◌, arith}
+use Rattle.std.proofs.Common.{◌+◌, Vec, Global, sym, ap, subst, ◌∙◌, arith}
 use Rattle.snap_core.specs.Calls.{calls_of}
 use Rattle.snap_conditions.specs.Grids.{AreColumnsOf}
 use Rattle.snap_conditions.proofs.Grids.{columns_skip, columns_add, show_all}

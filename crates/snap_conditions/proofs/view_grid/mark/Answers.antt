@@ -1,4 +1,4 @@
-use Rattle.std.proofs.Common.{◌≡◌, ◌+◌, ◌<◌, ℕ, length, refl, sym, ap, ◌∙◌, arith}
+use Rattle.std.proofs.Common.{◌∙◌}
 use Rattle.std.proofs.lemmas.List.{length-set}
 use Rattle.snap_conditions.proofs.Entries.{sorted, nothing}
 use Rattle.snap_conditions.proofs.Grids.{marked_more, unmarked_more}

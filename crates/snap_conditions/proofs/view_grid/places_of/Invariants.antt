@@ -1,6 +1,4 @@
-use Rattle.std.proofs.Common.{◌≡◌, ◌<◌, ℕ, length, get_or}
 use Rattle.snap_core.specs.Calls.{calls_of}
-use Rattle.snap_conditions.specs.Seen.{view_in}
 use Rattle.snap_conditions.specs.Grids.{ArePlaced}
 use Rattle.snap_conditions.proofs.view_grid.places_of.Given as goal
 

@@ -1,4 +1,4 @@
-use Rattle.std.proofs.Common.{◌≡◌, ◌<◌, ℕ, false, length, get_or}
+use Rattle.std.proofs.Common.{◌≡◌, ◌<◌, ℕ, false, get_or}
 use Rattle.snap_core.specs.Calls.{calls_of, shown_number}
 use Rattle.snap_conditions.specs.Seen.{view_in}
 use Rattle.snap_conditions.proofs.view_grid.used_components.Given as goal

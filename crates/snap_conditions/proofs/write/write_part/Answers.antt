@@ -1,36 +1,54 @@
-use Rattle.snap_conditions.proofs.Limits.{missed_step, missed_rest}
-use Rattle.std.proofs.Common.{ℕ, suc, ◌-◌, ◌≡◌, take, get_or, sym, ap, ◌∙◌, arith}
-use Rattle.std.proofs.lemmas.List.{take_all}
+use Rattle.snap_conditions.proofs.Limits.{none_step, missed_rest}
+use Rattle.snap_conditions.specs.Around.{end_next}
+use Rattle.snap_conditions.specs.Places.{update_of, begin_or_0, begin_of_shown}
+use Rattle.snap_conditions.proofs.Entries.{nothing}
+use Rattle.std.proofs.lemmas.List.{get_or-take}
+use Rattle.snap_core.specs.Calls.{entries_of}
+use Rattle.snap_conditions.proofs.Surrounded.{some_end, none_missed_at, none_missed_around, begin_at}
+use Rattle.std.proofs.Common.{suc, ◌-◌, ◌≡◌, ◌<◌, ◌≤◌, take, get_or, sym, ap, ◌∙◌, arith}
 use Rattle.std.proofs.lemmas.List.FromFn.{get_or-range_with_len}
 use Rattle.std.specs.Prelude.{flat_map}
 use Rattle.snap_core.specs.Calls.{calls_of}
 use Rattle.snap_conditions.specs.declared.fault.WriteFault.{WriteFault}
-use Rattle.snap_conditions.specs.Rows.{number_among}
 use Rattle.snap_conditions.specs.Faults.{components, missed_at}
 use Rattle.snap_conditions.specs.Parts.{part_of, merged_part}
 use Rattle.snap_conditions.specs.PartValue.{PartValue}
 use Rattle.snap_conditions.specs.Seen.{view_in}
 use Rattle.snap_conditions.specs.Tally.{reported_write}
-use Rattle.snap_conditions.proofs.Rows.{among_is_shown}
 use Rattle.snap_conditions.proofs.OneView.{write_alone, missed_few, all_missed_few}
 use Rattle.snap_conditions.proofs.Parts.{merge_step}
 use Rattle.snap_conditions.proofs.Viewed.{view_there}
-use Rattle.std.specs.Prelude.{count_by, length}
+use Rattle.std.specs.Prelude.{length}
 use Rattle.std.proofs.lemmas.List.{length-take}
 use Rattle.snap_conditions.proofs.Ranges.{rising_few}
 use Rattle.snap_core.specs.Calls.{shown_number}
-use Rattle.snap_index.specs.Updates.{is_update_of}
 use Rattle.snap_conditions.specs.Places.{end_of}
-use Rattle.snap_conditions.proofs.Finds.{none_missed}
-use Rattle.snap_conditions.proofs.Parts.{merged_none}
-use Rattle.snap_conditions.proofs.Viewed.{none_of_none}
 use Rattle.snap_conditions.proofs.write.write_part.Goals as goal
-use Rattle.snap_conditions.proofs.write.write_part.Goals.{then-update_count-gt0, else-update_count-gt0}
+use Rattle.snap_conditions.proofs.write.write_part.Goals.{then-ended-around, else-ended-around}
 
 pub missed_part-requires-clause-number : goal.missed_part-requires-clause-number
-missed_part-requires-clause-number c =
-    let r = view_in (calls_of c.args.index.now) c.args.place in
-    c.numbers_of-numbers.ensures c.loop-j.j (omega (arith, c.loop-j-test.true, c.requires.limit.few)) ∙ ap (λ es. number_among es c.loop-j.j) c.view_at-view.ensures.entries ∙ among_is_shown r c.loop-j.j
+missed_part-requires-clause-number c = c.requires.around.numbers c.loop-j.j (omega (arith, c.loop-j-test.true, c.requires.limit.few))
+
+pub missed_part-requires-clause-ended : goal.missed_part-requires-clause-ended
+missed_part-requires-clause-ended c =
+    let calls = calls_of c.args.index.now in
+    let r = view_in calls c.args.place in
+    let below : c.loop-j.j < 256 = omega (arith, c.loop-j-test.true, c.requires.limit.few) in
+    ap (λ n. end_of (update_of calls c.loop-j.j (suc n))) (c.requires.around.numbers c.loop-j.j below)
+    ∙ some_end (end_of (update_of calls c.loop-j.j (suc (shown_number r c.loop-j.j)))) _ (c.requires.around.ends c.loop-j.j below) (omega (arith, c.if-ended-around.true, c.fits-around))
+
+pub missed_part-requires-clause-begins : goal.missed_part-requires-clause-begins
+missed_part-requires-clause-begins c = λ i l.
+    let calls = calls_of c.args.index.now in
+    let r = view_in calls c.args.place in
+    let same = c.requires.view.entries in
+    let shape = c.requires.view.shape in
+    let within : i < length (entries_of r.operation) = omega (arith, l, ap length same) in
+    get_or-take (length c.args.view.now.entries.now) c.begins_of-begins.result i 0 l
+    ∙ c.begins_of-begins.ensures.each i nothing l
+    ∙ ap (λ z. get_or c.args.around.now.begins (get_or z i nothing).component 0) same
+    ∙ begin_at calls r c.args.around.now i c.requires.around shape within (shape.fit i nothing within).0
+    ∙ sym (ap (λ z. begin_or_0 (begin_of_shown calls z i)) same)
 
 pub merge-part-requires : goal.merge-part-requires
 merge-part-requires c =
@@ -50,15 +68,21 @@ loop-j-preserved c =
     let calls = calls_of c.args.index.now in
     let r = view_in calls c.args.place in
     let at : get_or components c.loop-j.j 0 ≡ c.loop-j.j = omega (arith, get_or-range_with_len 0 256 c.loop-j.j 0 (omega (arith, c.loop-j-test.true, c.requires.limit.few))) in
-    elim c.if-update_count-gt0.branch [
-      | then-update_count-gt0 w ↦
+    elim c.if-ended-around.branch [
+      | then-ended-around w ↦
           w.part-is ∙ w.merge-part.ensures ∙ ap (λ p. merged_part p w.missed_part.result) c.loop-j.invariant
           ∙ ap (merged_part (part_of reported_write (flat_map (missed_at calls r) (take c.loop-j.j components)))) (w.missed_part.ensures ∙ ap (λ j. part_of reported_write (missed_at calls r j)) (sym at))
           ∙ sym (merge_step reported_write (missed_at calls r) components c.loop-j.j 0 (omega (arith, c.loop-j-test.true, c.requires.limit.few)))
-      | else-update_count-gt0 w ↦
-          let none : count_by (is_update_of c.loop-j.j) calls ≡ 0 = omega (arith, w.if-update_count-gt0.false, c.update_count.ensures) in
-          w.part-is ∙ c.loop-j.invariant ∙ missed_step c.args.index.now c.requires.kept r c.loop-j.j (omega (arith, c.loop-j-test.true, c.requires.limit.few)) none
+      | else-ended-around w ↦
+          let late : c.args.around.now.latest ≤ end_next calls r c.loop-j.j = omega (arith, w.if-ended-around.false, c.requires.around.ends c.loop-j.j (omega (arith, c.loop-j-test.true, c.requires.limit.few))) in
+          w.part-is ∙ c.loop-j.invariant
+          ∙ none_step c.args.index.now r c.loop-j.j (omega (arith, c.loop-j-test.true, c.requires.limit.few)) (none_missed_at c.args.index.now c.requires.kept r c.args.around.now c.loop-j.j c.requires.around c.requires.view.shape (omega (arith, c.fits-around)) late)
     ]
+
+pub returns-then-around : goal.returns-then-around
+returns-then-around c =
+    let calls = calls_of c.args.index.now in
+    c.none-part.ensures ∙ sym (none_missed_around c.args.index.now c.requires.kept (view_in calls c.args.place) c.args.around.now c.requires.around c.requires.view.shape (omega (arith, c.fits-around)) c.if-around.true)
 
 pub returns : goal.returns
 returns c =
@@ -67,15 +91,15 @@ returns c =
     c.loop-j.invariant ∙ missed_rest c.args.index.now c.requires.kept r c.args.limit c.requires.limit (256 - c.loop-j.j) c.loop-j.j (omega (arith, c.loop-j-test.false)) (omega (arith, c.loop-j.auto.j-end, c.requires.limit.few)) ∙ sym (write_alone calls r)
 
 pub begins_of-begins-requires : goal.begins_of-begins-requires
-begins_of-begins-requires c = omega (arith, ap length c.view_at-view.ensures.entries, rising_few _ c.view_at-view.ensures.shape.rising (λ j d l. (c.view_at-view.ensures.shape.fit j d l).0))
+begins_of-begins-requires c = omega (arith, ap length c.requires.view.entries, rising_few _ c.requires.view.shape.rising (λ j d l. (c.requires.view.shape.fit j d l).0))
 
 pub slice_bounds-begins-end : goal.slice_bounds-begins-end
-slice_bounds-begins-end c = omega (arith, c.begins_of-begins.ensures.size, ap length c.view_at-view.ensures.entries, rising_few _ c.view_at-view.ensures.shape.rising (λ j d l. (c.view_at-view.ensures.shape.fit j d l).0))
+slice_bounds-begins-end c = omega (arith, c.begins_of-begins.ensures.size, ap length c.requires.view.entries, rising_few _ c.requires.view.shape.rising (λ j d l. (c.requires.view.shape.fit j d l).0))
 
 pub slice_bounds-begins-end-2 : goal.slice_bounds-begins-end-2
 slice_bounds-begins-end-2 c =
-    omega (arith, length-take (length c.view_at-view.result.entries.now) c.begins_of-begins.result, c.begins_of-begins.ensures.size, ap length c.view_at-view.ensures.entries, rising_few _ c.view_at-view.ensures.shape.rising (λ j d l. (c.view_at-view.ensures.shape.fit j d l).0))
+    omega (arith, length-take (length c.args.view.now.entries.now) c.begins_of-begins.result, c.begins_of-begins.ensures.size, ap length c.requires.view.entries, rising_few _ c.requires.view.shape.rising (λ j d l. (c.requires.view.shape.fit j d l).0))
 
 pub missed_part-requires-clause-count : goal.missed_part-requires-clause-count
 missed_part-requires-clause-count c =
-    omega (arith, length-take (length c.view_at-view.result.entries.now) c.begins_of-begins.result, c.begins_of-begins.ensures.size, ap length c.view_at-view.ensures.entries, rising_few _ c.view_at-view.ensures.shape.rising (λ j d l. (c.view_at-view.ensures.shape.fit j d l).0))
+    omega (arith, length-take (length c.args.view.now.entries.now) c.begins_of-begins.result, c.begins_of-begins.ensures.size, ap length c.requires.view.entries, rising_few _ c.requires.view.shape.rising (λ j d l. (c.requires.view.shape.fit j d l).0))

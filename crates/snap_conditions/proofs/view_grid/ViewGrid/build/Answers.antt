@@ -1,4 +1,4 @@
-use Rattle.std.proofs.Common.{◌≡◌, ◌<◌, ℕ, length, sym, subst, ◌∙◌, arith}
+use Rattle.std.proofs.Common.{sym, ◌∙◌, arith}
 use Rattle.snap_conditions.proofs.Grids.{is_grid}
 use Rattle.snap_conditions.proofs.Ranges.{few_views}
 use Rattle.snap_conditions.proofs.view_grid.ViewGrid.build.Goals as goal

@@ -1,6 +1,5 @@
-use Rattle.std.proofs.Common.{◌≡◌, ◌<◌, ◌-◌, ◌+◌, ℕ, Option, Some, None, Fits, w32, [], ◌∷◌, List, length, refl, sym, ap, subst, ◌∙◌, arith}
+use Rattle.std.proofs.Common.{◌≡◌, ◌<◌, ◌-◌, Option, Some, None, [], ◌∷◌, List, length, refl, sym, ap, subst, ◌∙◌, arith}
 use Rattle.std.specs.Prelude.{option_map, filter}
-use Rattle.std.specs.List.{range_with_len}
 use Rattle.snap_core.specs.declared.event.Event.{Event}
 use Rattle.snap_core.specs.Calls.{Call, calls_of, views_of}
 use Rattle.snap_conditions.specs.declared.fault.ReadFault.{ReadFault}

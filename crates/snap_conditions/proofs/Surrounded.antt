@@ -1,0 +1,120 @@
+-- The faults of a view by the updates around it.
+use Rattle.std.proofs.Common.{◌≡◌, ℕ, zero, suc, ◌+◌, ◌<◌, ◌≤◌, false, ◌||◌, List, [], ◌∷◌, length, get_or, Option, Some, None, refl, sym, ap, ◌∙◌, inl, inr, arith}
+use Rattle.std.specs.Prelude.{nat_lt}
+use Rattle.std.specs.List.{range_with_len}
+use Rattle.std.proofs.lemmas.Bool.{le-ltb, ltb-false, or_from, cases_lt}
+use Rattle.snap_core.specs.declared.event.Event.{Event}
+use Rattle.snap_core.specs.Entries.{AreEntries}
+use Rattle.snap_core.specs.Events.{IsKept}
+use Rattle.snap_core.specs.Calls.{Call, calls_of, entries_of, is_before, shown_number}
+use Rattle.snap_core.proofs.Facts.{shown_number_at}
+use Rattle.snap_core.proofs.Histories.{are_calls}
+use Rattle.snap_core.proofs.Lists.{In}
+use Rattle.snap_conditions.specs.declared.around.Around.{Around}
+use Rattle.snap_conditions.specs.Around.{IsAround, end_next}
+use Rattle.snap_conditions.specs.Faults.{components, old_fault, early_fault, proximity_faults, write_faults, missed_at}
+use Rattle.snap_conditions.specs.Parts.{no_part, part_of}
+use Rattle.snap_conditions.specs.PartValue.{PartValue}
+use Rattle.snap_conditions.specs.Places.{update_of, end_of, begin_of, begins_behind, begin_of_shown, begin_or_0, end_or_never, IsNoLater}
+use Rattle.snap_conditions.specs.Tally.{reported_proximity, reported_write}
+use Rattle.snap_conditions.proofs.Entries.{nothing}
+use Rattle.snap_conditions.proofs.Finds.{shown_at, none_behind}
+use Rattle.snap_conditions.proofs.OneView.{proximity_alone, write_alone}
+use Rattle.snap_conditions.proofs.Places.{old_by_place, early_by_place}
+use Rattle.snap_conditions.proofs.Tallies.{filter_none, flat_map_none}
+use Rattle.snap_conditions.proofs.Viewed.{no_update_past}
+
+-- an end and a begin, by the numbers that stand for them
+
+before_end : (o : Option ℕ) (p : ℕ) → p ≤ 4294967295 → is_before o p ≡ nat_lt (end_or_never o) p
+before_end None p l = sym (le-ltb 4294967295 p l)
+before_end (Some e) p l = refl
+
+behind_begin : (ended o : Option ℕ) → begins_behind ended o ≡ is_before ended (begin_or_0 o)
+behind_begin None None = refl
+behind_begin None (Some b) = refl
+behind_begin (Some p) None = sym (le-ltb p 0 (omega arith))
+behind_begin (Some p) (Some b) = refl
+
+pub some_end : (o : Option ℕ) (x : ℕ) → x ≡ end_or_never o → x < 4294967295 → o ≡ Some x
+some_end None x e l = absurd (omega (arith, e, l))
+some_end (Some p) x e l = ap Some (sym e)
+
+-- an update that ended has a number that fits its type
+pub number_fits : (es : List Event) → IsKept es → (j n ended : ℕ) → end_of (update_of (calls_of es) j n) ≡ Some ended → n < 4294967296
+number_fits es kept j n ended e = elim (cases_lt n 4294967296) [
+  | inl l ↦ l
+  | inr l ↦ absurd (let gone : None ≡ Some ended = sym (ap end_of (no_update_past es kept j n (omega (arith, l)))) ∙ e in cc)
+]
+
+-- the tests of a view alone
+
+pub old_around : (es : List Event) → IsKept es → (r : Call) (around : Around) (k : ℕ) → IsAround (calls_of es) r around → k < 256 → r.begun ≤ 4294967295 → old_fault (calls_of es) r k ≡ nat_lt (get_or around.ends k 0) r.begun
+old_around es kept r around k a l fits =
+    old_by_place (calls_of es) (are_calls es kept.history) r k ∙ before_end (end_of (update_of (calls_of es) k (suc (shown_number r k)))) r.begun fits ∙ ap (λ z. nat_lt z r.begun) (sym (a.ends k l))
+
+pub early_around : (es : List Event) → IsKept es → (r : Call) (around : Around) (k : ℕ) → IsAround (calls_of es) r around → k < 256 → early_fault (calls_of es) r k ≡ is_before r.ended (get_or around.begins k 0)
+early_around es kept r around k a l =
+    early_by_place (calls_of es) (are_calls es kept.history) r k ∙ behind_begin r.ended (begin_of (update_of (calls_of es) k (shown_number r k))) ∙ ap (is_before r.ended) (sym (a.begins k l))
+
+below : (n a k : ℕ) → In k (range_with_len a n) → k < a + n
+below zero a k i = absurd i
+below (suc n) a k (inl e) = omega (arith, e)
+below (suc n) a k (inr i) = omega (arith, below n (a + 1) k i)
+
+-- an end that a place is not behind has no earlier place behind it
+not_behind : (ended : Option ℕ) (x y : ℕ) → x ≤ y → is_before ended y ≡ false → is_before ended x ≡ false
+not_behind None x y l f = refl
+not_behind (Some p) x y l f = le-ltb p x (omega (arith, l, ltb-false p y f))
+
+-- a view that begins before all ends and ends behind all begins
+pub none_near : (es : List Event) → IsKept es → (r : Call) (around : Around) → IsAround (calls_of es) r around → r.begun ≤ 4294967295 → r.begun ≤ around.earliest → is_before r.ended around.latest ≡ false →
+    part_of (reported_proximity (calls_of es)) (proximity_faults (calls_of es) (r ∷ [])) ≡ no_part
+none_near es kept r around a fits l f = proximity_alone calls r ∙ ap (part_of (λ k. reported_proximity calls (r, k))) (filter_none (λ k. old_fault calls r k || early_fault calls r k) components not)
+  where
+    calls : List Call
+    calls = calls_of es
+
+    not : (k : ℕ) → In k components → (old_fault calls r k || early_fault calls r k) ≡ false
+    not k i =
+        let m : k < 256 = omega (arith, below 256 0 k i) in
+        or_from _ _ (old_around es kept r around k a m fits ∙ le-ltb (get_or around.ends k 0) r.begun (omega (arith, l, a.earliest k m, a.ends k m)))
+        (early_around es kept r around k a m ∙ not_behind r.ended (get_or around.begins k 0) around.latest (omega (arith, a.latest k m, a.begins k m)) f)
+
+-- where the updates that a view shows begin, entry by entry
+
+pub begin_at : (calls : List Call) (r : Call) (around : Around) (i : ℕ) → IsAround calls r around → AreEntries (entries_of r.operation) → i < length (entries_of r.operation) → (get_or (entries_of r.operation) i nothing).component < 256 →
+    get_or around.begins (get_or (entries_of r.operation) i nothing).component 0 ≡ begin_or_0 (begin_of_shown calls (entries_of r.operation) i)
+begin_at calls r around i a shape l byte =
+    let e = get_or (entries_of r.operation) i nothing in
+    a.begins e.component byte ∙ ap (λ n. begin_or_0 (begin_of (update_of calls e.component n))) (shown_number_at r e.component e (shown_at r i nothing shape l))
+
+no_later : (o : Option ℕ) (latest : ℕ) → begin_or_0 o ≤ latest → IsNoLater o (Some latest)
+no_later None latest h = tt
+no_later (Some begun) latest h = h
+
+-- where an update that a view misses ends behind all begins
+pub none_missed_at : (es : List Event) → IsKept es → (r : Call) (around : Around) (j : ℕ) → IsAround (calls_of es) r around → AreEntries (entries_of r.operation) → around.latest ≤ 4294967295 → around.latest ≤ end_next (calls_of es) r j →
+    part_of reported_write (missed_at (calls_of es) r j) ≡ no_part
+none_missed_at es kept r around j a shape fits l =
+    none_behind es kept r j (Some around.latest) shape (λ i m. no_later _ around.latest (latest i m)) (before_end (end_of (update_of calls j (suc (shown_number r j)))) around.latest fits ∙ le-ltb (end_next calls r j) around.latest l)
+  where
+    calls : List Call
+    calls = calls_of es
+
+    latest : (i : ℕ) → i < length (entries_of r.operation) → begin_or_0 (begin_of_shown calls (entries_of r.operation) i) ≤ around.latest
+    latest i m =
+        let e = get_or (entries_of r.operation) i nothing in
+        let byte = (shape.fit i nothing m).0 in
+        omega (arith, a.latest e.component byte, a.begins e.component byte, begin_at calls r around i a shape m byte)
+
+empty : {X F : Type 0} (f : X → F) (xs : List X) → part_of f xs ≡ no_part → xs ≡ []
+empty f [] h = refl
+empty {X} {F} f (x ∷ xs) h = absurd (omega (arith, ap (λ (p : PartValue F). p.count) h))
+
+pub none_missed_around : (es : List Event) → IsKept es → (r : Call) (around : Around) → IsAround (calls_of es) r around → AreEntries (entries_of r.operation) → around.latest ≤ 4294967295 → around.latest ≤ around.earliest →
+    part_of reported_write (write_faults (calls_of es) (r ∷ [])) ≡ no_part
+none_missed_around es kept r around a shape fits l =
+    let calls = calls_of es in
+    write_alone calls r
+    ∙ ap (part_of reported_write) (flat_map_none (missed_at calls r) components (λ j i. empty reported_write (missed_at calls r j) (none_missed_at es kept r around j a shape fits (omega (arith, l, a.earliest j (omega (arith, below 256 0 j i)))))))

@@ -1,0 +1,20 @@
+-- Where the updates stand between which a view is by what it shows: at each component the one that it shows and the next.
+use Rattle.std.specs.Prelude.{ℕ, suc, ◌≡◌, ◌<◌, ◌≤◌, List, get_or}
+use Rattle.snap_core.specs.Calls.{Call, shown_number}
+use Rattle.snap_conditions.specs.declared.around.Around.{Around}
+use Rattle.snap_conditions.specs.Places.{update_of, begin_of, end_of, begin_or_0, end_or_never}
+
+-- where the update that a view shows of a component begins, 0 where there is none
+abbrev pub begin_shown : List Call → Call → ℕ → ℕ
+begin_shown calls r k = begin_or_0 (begin_of (update_of calls k (shown_number r k)))
+
+-- where the update after it ends, a place behind all begins where there is none or it is pending
+abbrev pub end_next : List Call → Call → ℕ → ℕ
+end_next calls r k = end_or_never (end_of (update_of calls k (suc (shown_number r k))))
+
+pub record IsAround (calls : List Call) (r : Call) (around : Around) : Type 0 where
+  pub numbers : (k : ℕ) → k < 256 → get_or around.numbers k 0 ≡ shown_number r k
+  pub begins : (k : ℕ) → k < 256 → get_or around.begins k 0 ≡ begin_shown calls r k
+  pub ends : (k : ℕ) → k < 256 → get_or around.ends k 0 ≡ end_next calls r k
+  pub latest : (k : ℕ) → k < 256 → begin_shown calls r k ≤ around.latest
+  pub earliest : (k : ℕ) → k < 256 → around.earliest ≤ end_next calls r k
