@@ -14,7 +14,6 @@ use Rattle.snap_core.proofs.Facts.{shown_number_at}
 use Rattle.snap_core.proofs.Histories.{are_calls}
 use Rattle.snap_conditions.specs.declared.fault.IntegrityFault.{IntegrityFault}
 use Rattle.snap_conditions.specs.declared.fault.ProximityFault.{ProximityFault}
-use Rattle.snap_conditions.specs.declared.fault.WriteFault.{WriteFault}
 use Rattle.snap_conditions.specs.declared.fault.Side.{Side}
 use Rattle.snap_conditions.specs.declared.fault.Side.TheVariants.{Old, Early}
 use Rattle.snap_conditions.specs.Rows.{IsLessSomewhere, first_less}
@@ -69,16 +68,6 @@ old_here es kept r k n s = old_by_place (calls_of es) (are_calls es kept.history
 
 pub early_here : (es : List Event) → IsKept es → (r : Call) (k n : ℕ) → n ≡ shown_number r k → early_fault (calls_of es) r k ≡ begins_behind r.ended (begin_of (update_of (calls_of es) k n))
 early_here es kept r k n s = early_by_place (calls_of es) (are_calls es kept.history) r k ∙ ap (λ m. begins_behind r.ended (begin_of (update_of (calls_of es) k m))) (sym s)
-
-pub old_found : (es : List Event) → IsKept es → (r : Call) (k n : ℕ) → n ≡ shown_number r k → is_before (end_of (update_of (calls_of es) k (suc n))) r.begun ≡ true →
-    proximity_at (calls_of es) r k ≡ Some (record { view = r.number; component = k; number = n; side = Old })
-old_found es kept r k n s t =
-    found_old (calls_of es) r k (old_here es kept r k n s ∙ t) ∙ ap (λ m. Some (record { view = r.number; component = k; number = m; side = Old })) (sym s)
-
-pub early_found : (es : List Event) → IsKept es → (r : Call) (k n : ℕ) → n ≡ shown_number r k → is_before (end_of (update_of (calls_of es) k (suc n))) r.begun ≡ false →
-    begins_behind r.ended (begin_of (update_of (calls_of es) k n)) ≡ true → proximity_at (calls_of es) r k ≡ Some (record { view = r.number; component = k; number = n; side = Early })
-early_found es kept r k n s f t =
-    found_early (calls_of es) r k (old_here es kept r k n s ∙ f) (early_here es kept r k n s ∙ t) ∙ ap (λ m. Some (record { view = r.number; component = k; number = m; side = Early })) (sym s)
 
 pub neither_found : (es : List Event) → IsKept es → (r : Call) (k n : ℕ) → n ≡ shown_number r k → is_before (end_of (update_of (calls_of es) k (suc n))) r.begun ≡ false →
     begins_behind r.ended (begin_of (update_of (calls_of es) k n)) ≡ false → proximity_at (calls_of es) r k ≡ None
@@ -147,15 +136,3 @@ none_behind es kept r j latest shape no_later none = missed_part calls r j ∙ a
         let number : e.number ≡ shown_number r k = sym (shown_number_at r e.component e (shown_at r p.0 nothing shape within)) ∙ ap (shown_number r) same in
         write_by_place calls (are_calls es kept.history) r j k
         ∙ behind_none _ (begin_of (update_of calls k (shown_number r k))) latest (subst (λ n. IsNoLater (begin_of (update_of calls k n)) latest) number (subst (λ c. IsNoLater (begin_of (update_of calls c e.number)) latest) same (no_later p.0 within))) none
-
-pub missed_found : (es : List Event) → IsKept es → (r : Call) (j m : ℕ) (e : Entry) → m ≡ suc (shown_number r j) → shown r e.component ≡ Some e →
-    found_at (λ k. reported_write (r, j, k)) (write_fault (calls_of es) r j) e.component
-    ≡ then_some (begins_behind (end_of (update_of (calls_of es) j m)) (begin_of (update_of (calls_of es) e.component e.number))) (record { view = r.number; missed_component = j; missed_number = m; shown_component = e.component; shown_number = e.number })
-missed_found es kept r j m e next s =
-    let calls = calls_of es in
-    let number = shown_number_at r e.component e s in
-    let fault : ℕ → ℕ → WriteFault = λ a b. record { view = r.number; missed_component = j; missed_number = a; shown_component = e.component; shown_number = b } in
-    let test : ℕ → ℕ → Bool = λ a b. begins_behind (end_of (update_of calls j a)) (begin_of (update_of calls e.component b)) in
-    ap (λ b. then_some b (reported_write (r, j, e.component))) (write_by_place calls (are_calls es kept.history) r j e.component)
-    ∙ ap (λ a. then_some (test a (shown_number r e.component)) (fault a (shown_number r e.component))) (sym next)
-    ∙ ap (λ b. then_some (test m b) (fault m b)) number

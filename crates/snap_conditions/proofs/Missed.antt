@@ -1,8 +1,7 @@
 -- The updates that a view misses, by the begins of those that it shows.
-use Rattle.std.proofs.Common.{◌≡◌, ℕ, suc, ◌+◌, ◌<◌, ◌≤◌, Bool, true, false, not, cond, List, [], ◌∷◌, length, get_or, Option, Some, None, refl, sym, ap, ◌∙◌, arith}
+use Rattle.std.proofs.Common.{◌≡◌, ℕ, suc, ◌+◌, ◌<◌, ◌≤◌, Bool, true, false, not, cond, List, [], ◌∷◌, length, get_or, Some, refl, sym, ap, ◌∙◌, arith}
 use Rattle.std.specs.Prelude.{nat_lt, filter, count_by, option_map}
 use Rattle.std.specs.List.{position_or_len}
-use Rattle.std.proofs.lemmas.Bool.{le-ltb}
 use Rattle.std.proofs.lemmas.List.{get_or-map, length-map}
 use Rattle.std.proofs.lemmas.List.Sums.{sum_by-cons}
 use Rattle.snap_core.specs.declared.entry.Entry.{Entry}
@@ -22,11 +21,7 @@ use Rattle.snap_conditions.specs.Places.{update_of, end_of, begin_of, begins_beh
 use Rattle.snap_conditions.specs.Tally.{reported_write}
 use Rattle.snap_conditions.proofs.Entries.{nothing}
 use Rattle.snap_conditions.proofs.Finds.{shown_at}
-use Rattle.snap_conditions.proofs.Places.{write_by_place}
-
-behind_or_0 : (ended : ℕ) (o : Option ℕ) → begins_behind (Some ended) o ≡ nat_lt ended (begin_or_0 o)
-behind_or_0 ended None = sym (le-ltb ended 0 (omega arith))
-behind_or_0 ended (Some b) = refl
+use Rattle.snap_conditions.proofs.Places.{write_by_place, behind_begin}
 
 -- the test of one entry
 pub test_at : (es : List Event) → IsKept es → (r : Call) (j ended : ℕ) (begins : List ℕ) → AreEntries (entries_of r.operation) → end_of (update_of (calls_of es) j (suc (shown_number r j))) ≡ Some ended →
@@ -39,7 +34,7 @@ test_at es kept r j ended begins shape e i l b =
     ap (write_fault calls r j) at ∙ write_by_place calls (are_calls es kept.history) r j d.component
     ∙ ap (λ o. begins_behind o (begin_of (update_of calls d.component (shown_number r d.component)))) e
     ∙ ap (λ n. begins_behind (Some ended) (begin_of (update_of calls d.component n))) number
-    ∙ behind_or_0 ended (begin_of_shown calls (entries_of r.operation) i) ∙ ap (nat_lt ended) (sym b)
+    ∙ behind_begin (Some ended) (begin_of_shown calls (entries_of r.operation) i) ∙ ap (nat_lt ended) (sym b)
 
 -- what a test lets through of a list, by another test of another list
 
@@ -84,10 +79,6 @@ reported_at r view j m i d shape l e v n =
     ap (λ a. F a m d.component d.number) v ∙ ap (λ b. F r.number b d.component d.number) n ∙ ap (λ (z : Entry). F r.number (suc (shown_number r j)) z.component z.number) e
     ∙ ap (F r.number (suc (shown_number r j)) g.component) (sym (shown_number_at r g.component g (shown_at r i nothing shape l)))
     ∙ ap (λ k. F r.number (suc (shown_number r j)) k (shown_number r k)) (sym at)
-
--- where the update that is missed ended
-pub next_end : (calls : List Call) (r : Call) (j number m ended : ℕ) (o : Option ℕ) → number ≡ shown_number r j → m ≡ number + 1 → o ≡ end_of (update_of calls j m) → o ≡ Some ended → end_of (update_of calls j (suc (shown_number r j))) ≡ Some ended
-next_end calls r j number m ended o n e f g = let same : suc (shown_number r j) ≡ m = omega (arith, n, e) in ap (λ z. end_of (update_of calls j z)) same ∙ sym f ∙ g
 
 -- begins that tell of each entry whether it is a fault
 pub record AreTested (calls : List Call) (r : Call) (j ended : ℕ) (begins : List ℕ) : Type 0 where

@@ -8,7 +8,7 @@ use Rattle.snap_core.specs.Calls.{Call, Operation, Updates, Views, is_update_num
 use Rattle.snap_core.proofs.Lists.{In, any_to}
 use Rattle.snap_core.proofs.Facts.{AreCalls}
 use Rattle.snap_conditions.specs.Faults.{writes_entry, is_unwritten, integrity_fault, old_fault, early_fault, write_fault}
-use Rattle.snap_conditions.specs.Places.{update_of, end_of, begin_of, begins_behind, is_written, IsNoLater}
+use Rattle.snap_conditions.specs.Places.{update_of, end_of, begin_of, begins_behind, begin_or_0, is_written, IsNoLater}
 use Rattle.snap_conditions.proofs.Local.{numbered_to}
 
 abbrev holds_of : {X : Type 0} → (X → Bool) → Option X → Bool
@@ -113,6 +113,13 @@ no_later_through None b c h k = tt
 no_later_through (Some x) None c h k = absurd h
 no_later_through (Some x) (Some y) None h k = absurd k
 no_later_through (Some x) (Some y) (Some z) h k = omega (arith, h, k)
+
+-- a begin by the number that stands for it
+pub behind_begin : (ended o : Option ℕ) → begins_behind ended o ≡ is_before ended (begin_or_0 o)
+behind_begin None None = refl
+behind_begin None (Some b) = refl
+behind_begin (Some p) None = sym (le-ltb p 0 (omega arith))
+behind_begin (Some p) (Some b) = refl
 
 -- an end that no begin stands behind has none behind it that is no later
 pub behind_none : (ended begun latest : Option ℕ) → IsNoLater begun latest → begins_behind ended latest ≡ false → begins_behind ended begun ≡ false

@@ -15,26 +15,20 @@ use Rattle.snap_conditions.specs.Around.{IsAround, end_next}
 use Rattle.snap_conditions.specs.Faults.{components, old_fault, early_fault, proximity_faults, write_faults, missed_at}
 use Rattle.snap_conditions.specs.Parts.{no_part, part_of}
 use Rattle.snap_conditions.specs.PartValue.{PartValue}
-use Rattle.snap_conditions.specs.Places.{update_of, end_of, begin_of, begins_behind, begin_of_shown, begin_or_0, end_or_never, IsNoLater}
+use Rattle.snap_conditions.specs.Places.{update_of, end_of, begin_of, begin_of_shown, begin_or_0, end_or_never, IsNoLater}
 use Rattle.snap_conditions.specs.Tally.{reported_proximity, reported_write}
 use Rattle.snap_conditions.proofs.Entries.{nothing}
 use Rattle.snap_conditions.proofs.Finds.{shown_at, none_behind}
 use Rattle.snap_conditions.proofs.OneView.{proximity_alone, write_alone}
-use Rattle.snap_conditions.proofs.Places.{old_by_place, early_by_place}
+use Rattle.snap_conditions.proofs.Places.{old_by_place, early_by_place, behind_begin}
 use Rattle.snap_conditions.proofs.Tallies.{filter_none, flat_map_none}
 use Rattle.snap_conditions.proofs.Viewed.{no_update_past}
 
--- an end and a begin, by the numbers that stand for them
+-- an end by the number that stands for it
 
 before_end : (o : Option ℕ) (p : ℕ) → p ≤ 4294967295 → is_before o p ≡ nat_lt (end_or_never o) p
 before_end None p l = sym (le-ltb 4294967295 p l)
 before_end (Some e) p l = refl
-
-behind_begin : (ended o : Option ℕ) → begins_behind ended o ≡ is_before ended (begin_or_0 o)
-behind_begin None None = refl
-behind_begin None (Some b) = refl
-behind_begin (Some p) None = sym (le-ltb p 0 (omega arith))
-behind_begin (Some p) (Some b) = refl
 
 pub some_end : (o : Option ℕ) (x : ℕ) → x ≡ end_or_never o → x < 4294967295 → o ≡ Some x
 some_end None x e l = absurd (omega (arith, e, l))
