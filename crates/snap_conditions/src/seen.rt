@@ -1,7 +1,7 @@
 ghost use Rattle.std.specs.Prelude.{◌<◌, ◌≡◌, suc, length};
 ghost use Rattle.snap_core.specs.Events.{IsKept};
 ghost use Rattle.snap_core.specs.Calls.{calls_of, views_of, is_before as spec_is_before};
-ghost use Rattle.snap_conditions.specs.Places.{update_of, end_of, begin_of, begins_behind as spec_begins_behind};
+ghost use Rattle.snap_conditions.specs.Places.{update_of, end_of, begin_of};
 ghost use Rattle.snap_conditions.specs.Seen.{IsSeen, view_in};
 
 use snap_core::Entry;
@@ -42,16 +42,6 @@ pub(crate) fn is_before(ended: Option<u32>, place: u32) -> bool
 {
     match ended {
         Some(ended) => ended < place,
-        None => false,
-    }
-}
-
-// Whether a begin stands behind an end.
-pub(crate) fn begins_behind(ended: Option<u32>, begun: Option<u32>) -> bool
-    ensures { result ≡ spec_begins_behind ended begun }
-{
-    match begun {
-        Some(begun) => is_before(ended, begun),
         None => false,
     }
 }
