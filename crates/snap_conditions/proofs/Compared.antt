@@ -124,7 +124,7 @@ compared_small numbers ds i edge lesser sum h c = (
 less_here : (numbers : List ℕ) (ds : List Entry) (n : ℕ) → n ≤ 256 → sum_below (lesser_at numbers ds) n < sum_below (number_among ds) n → IsLessSomewhere (row_number numbers) (number_among ds)
 less_here numbers ds n m l = let r = sum_some (lesser_at numbers ds) (number_among ds) n l in (r.0, omega (arith, r.1), omega (arith, r.2))
 
-less_there : (numbers : List ℕ) (ds : List Entry) (n : ℕ) → n ≤ 256 → sum_below (lesser_at numbers ds) n < sum_below (row_number numbers) n → IsLessSomewhere (number_among ds) (row_number numbers)
+pub less_there : (numbers : List ℕ) (ds : List Entry) (n : ℕ) → n ≤ 256 → sum_below (lesser_at numbers ds) n < sum_below (row_number numbers) n → IsLessSomewhere (number_among ds) (row_number numbers)
 less_there numbers ds n m l = let r = sum_some (lesser_at numbers ds) (row_number numbers) n l in (r.0, omega (arith, r.1), omega (arith, r.2))
 
 pub both_seen : (numbers sums : List ℕ) (ds : List Entry) (i k lesser sum : ℕ) → AreSums numbers sums → k < 256 → IsCompared numbers ds i (k + 1) lesser sum → lesser < sum → lesser < get_or sums k 0 →

@@ -22,5 +22,9 @@ pub mod EntrySums
 pub mod Grids
 pub mod Counted
 pub mod Limits
+pub mod SortedKeys
+pub mod Chains
+pub mod Climbing
+pub mod Ordering
 mod Worked
 mod Surrounded

@@ -11,3 +11,5 @@ pub mod Seen
 pub mod Tally
 pub mod Around
 pub mod Limits
+pub mod Chains
+pub mod Sweeps

@@ -12,9 +12,11 @@ mod range;
 mod read;
 mod row;
 mod seen;
+mod sweep;
 mod tally;
 #[cfg(test)]
 mod tests;
+mod view_chain;
 mod view_grid;
 mod write;
 
@@ -24,7 +26,9 @@ pub use law::{
     regular_by_local_faults, regular_by_tally, tallies_join,
 };
 pub use part::Part;
-pub use quick_test::view_sum;
+pub use quick_test::{entries_sum, view_sum, view_sums};
 pub use range::{tally_range, tally_without_read};
+pub use sweep::ordered;
 pub use tally::{Tally, is_atomic, is_regular, merge};
+pub use view_chain::chain;
 pub use view_grid::ViewGrid;

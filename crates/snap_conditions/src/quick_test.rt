@@ -1,15 +1,17 @@
-ghost use Rattle.std.specs.Prelude.{◌≡◌, ◌<◌, length};
+ghost use Rattle.std.specs.Prelude.{◌≡◌, ◌<◌, length, IfOk};
 ghost use Rattle.snap_core.specs.Calls.{calls_of, views_of};
 ghost use Rattle.snap_core.specs.Entries.{AreEntries};
+ghost use Rattle.snap_conditions.specs.Chains.{AreViewSums};
 ghost use Rattle.snap_conditions.specs.Quick.{shown_sum, entry_sum};
 ghost use Rattle.snap_conditions.specs.Seen.{view_in};
 
 use crate::seen::view_at;
 use snap_core::Entry;
 use snap_index::Index;
+use std::alloc::{AllocError, Global};
 
-// The sum of the numbers of entries.
-fn sum_of(entries: &[Entry]) -> u64
+/// The sum of the numbers of a view's entries.
+pub fn entries_sum(entries: &[Entry]) -> u64
     requires { AreEntries entries.now }
     ensures { result ≡ entry_sum entries.now }
 {
@@ -25,5 +27,16 @@ pub fn view_sum(index: &Index<'_>, i: u32) -> u64
     requires { i < length (views_of (calls_of index.now)) }
     ensures { result ≡ shown_sum (view_in (calls_of index.now) i) }
 {
-    sum_of(view_at(index, i).entries)
+    entries_sum(view_at(index, i).entries)
+}
+
+/// The sums of the numbers that the completed views show, by call number. The error is want of memory.
+pub fn view_sums(alloc: Global, index: &Index<'_>) -> Result<Vec<u64>, AllocError>
+    ensures { IfOk result (λ sums. AreViewSums (calls_of index.now) sums.items) }
+{
+    let mut sums = Vec::with_capacity(alloc, index.view_count() as usize)?;
+    for place in 0..index.view_count() {
+        sums.push(view_sum(index, place))?;
+    }
+    Ok(sums)
 }

@@ -14,6 +14,7 @@ use std::alloc::Global;
 use std::process::Abort;
 use std::test::Fail;
 
+mod chains;
 mod comparisons;
 mod histories;
 mod slow;

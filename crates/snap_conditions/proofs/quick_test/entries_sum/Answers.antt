@@ -1,7 +1,7 @@
 use Rattle.std.proofs.Common.{arith}
 use Rattle.snap_conditions.proofs.Entries.{nothing}
 use Rattle.snap_conditions.proofs.Ranges.{rising_few}
-use Rattle.snap_conditions.proofs.quick_test.sum_of.Goals as goal
+use Rattle.snap_conditions.proofs.quick_test.entries_sum.Goals as goal
 
 pub overflow_add-sum : goal.overflow_add-sum
 overflow_add-sum c =

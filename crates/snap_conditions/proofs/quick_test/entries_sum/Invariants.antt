@@ -1,6 +1,6 @@
 use Rattle.std.proofs.Common.{◌≡◌, ◌≤◌, ◌*◌, take}
 use Rattle.snap_conditions.specs.Quick.{entry_sum}
-use Rattle.snap_conditions.proofs.quick_test.sum_of.Given as goal
+use Rattle.snap_conditions.proofs.quick_test.entries_sum.Given as goal
 
 abbrev pub invariant-loop-entry : goal.invariant-loop-entry
 invariant-loop-entry l = record {
