@@ -3,3 +3,4 @@ pub mod Cuttings
 pub mod Draws
 pub mod Inside
 pub mod Pieces
+pub mod Reads

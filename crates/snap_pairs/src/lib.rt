@@ -6,6 +6,7 @@ mod counter;
 mod cutting;
 mod gather;
 mod pieces;
+mod reads;
 mod whole;
 mod worker;
 mod workers;

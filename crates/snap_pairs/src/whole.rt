@@ -3,13 +3,15 @@ ghost use Rattle.snap_core.specs.Calls.{calls_of, views_of};
 ghost use Rattle.snap_conditions.specs.Tally.{tally_of};
 ghost use Rattle.snap_pairs.specs.Claiming.{IsClaimOf};
 ghost use Rattle.snap_pairs.specs.Pieces.{IsAnswer};
+ghost use Rattle.snap_pairs.specs.Reads.{IsGridFor};
 
 use crate::claims::{Claim, Claims};
 use crate::cutting::Cutting;
 use crate::gather::{gather, merge_slots};
+use crate::reads::grid_for_reads;
 use crate::worker::{Answer, draw_all};
 use crate::workers::each_job;
-use snap_conditions::{Tally, ViewGrid};
+use snap_conditions::Tally;
 use snap_core::Gate;
 use snap_index::Index;
 use std::alloc::{AllocError, Global};
@@ -28,8 +30,8 @@ pub fn tally<R: Threads + Sync, G: Gate>(
 ) -> Result<Tally, AllocError>
     ensures { IfOk result (λ all. all ≡ tally_of (calls_of index.now) (views_of (calls_of index.now))) }
 {
-    let grid = ViewGrid::build(alloc, index)?;
-    let views = &grid;
+    let grid = grid_for_reads(rt, alloc, index)?;
+    let reads = &grid;
     let (counter, claims) = Claims::start(alloc, cutting)?;
     let shared = &counter;
     let answers = each_job(
@@ -37,9 +39,9 @@ pub fn tally<R: Threads + Sync, G: Gate>(
         alloc,
         claims,
         &|claim: Claim| -> Result<Answer, AllocError>
-            requires { (views.now ≡ index.now) × (shared.now.pieces ≡ cutting.pieces) × IsClaimOf shared.now claim × (claim.drawn ≡ []) }
+            requires { IsGridFor index.now reads.now × (shared.now.pieces ≡ cutting.pieces) × IsClaimOf shared.now claim × (claim.drawn ≡ []) }
             ensures { IfOk result (IsAnswer (calls_of index.entry.now) shared.entry.now) }
-        { draw_all(alloc, index, views, cutting, shared, claim, gate) },
+        { draw_all(alloc, index, reads, cutting, shared, claim, gate) },
     )?;
     let (claims, slots) = gather(alloc, index, cutting, &counter, answers)?;
     let Ok(()) = counter.close(claims) else {

@@ -3,10 +3,12 @@ ghost use Rattle.std.specs.Prelude.{◌≡◌, [], IfOk};
 ghost use Rattle.snap_core.specs.Calls.{calls_of};
 ghost use Rattle.snap_pairs.specs.Claiming.{IsClaimOf};
 ghost use Rattle.snap_pairs.specs.Pieces.{IsAnswer};
+ghost use Rattle.snap_pairs.specs.Reads.{IsGridFor};
 
 use crate::claims::{Claim, Claims};
 use crate::cutting::Cutting;
 use crate::pieces::start_of;
+use crate::reads::piece_tally;
 use snap_conditions::{Tally, ViewGrid};
 use snap_core::Gate;
 use snap_index::Index;
@@ -30,13 +32,13 @@ pub(crate) struct Answer {
 pub(crate) fn draw_all<G: Gate>(
     alloc: Global,
     index: &Index<'_>,
-    grid: &ViewGrid<'_, '_>,
+    grid: &Option<ViewGrid<'_, '_>>,
     cutting: Cutting,
     counter: &Claims,
     mut claim: Claim,
     gate: &G,
 ) -> Result<Answer, AllocError>
-    requires grid { grid.now ≡ index.now }
+    requires grid { IsGridFor index.now grid.now }
     requires pieces { counter.now.pieces ≡ cutting.pieces }
     requires claim { IsClaimOf counter.now claim × (claim.drawn ≡ []) }
     ensures { IfOk result (IsAnswer (calls_of index.now) counter.now) }
@@ -47,7 +49,7 @@ pub(crate) fn draw_all<G: Gate>(
         gate.at(claim.worker(), pairs.len() as u32);
         let from = start_of(cutting, piece, views);
         let to = start_of(cutting, piece + 1, views);
-        let tally = grid.tally(alloc, from, to)?;
+        let tally = piece_tally(alloc, index, grid, from, to)?;
         pairs.push(Drawn { piece, tally })?;
     }
     Ok(Answer { claim, pairs })

@@ -1,4 +1,3 @@
-use Rattle.snap_core.specs.declared.event.Event.{Event}
 use Rattle.std.proofs.Common.{List, ◌≡◌, ◌+◌, ◌++◌, ◌∷◌, [], All, rules, arith, length, map, vec_items, sym, ap, ◌∙◌, subst}
 use Rattle.std.proofs.lemmas.List.{map_push, length-map}
 use Rattle.snap_core.specs.Calls.{calls_of, views_of}
@@ -32,7 +31,7 @@ loop-piece-preserved g c =
     let same = c.view_count-views.ensures in
     let from : c.start_of-from.result ≡ piece_start n p views = c.start_of-from.ensures.start ∙ (λ j. piece_start (sym c.requires.pieces j) p (same j)) in
     let to : c.start_of-to.result ≡ piece_start n (p + 1) views = c.start_of-to.ensures.start ∙ (λ j. piece_start (sym c.requires.pieces j) (p + 1) (same j)) in
-    let tallied : t ≡ tally_of calls (views_in_piece calls n p) = c.in_ok-tally.ensures ∙ ap (λ (z : List Event). tally_of (calls_of z) (views_between (calls_of z) c.start_of-from.result c.start_of-to.result)) c.requires.grid ∙ (λ j. tally_of calls (views_between calls (from j) (to j))) in
+    let tallied : t ≡ tally_of calls (views_in_piece calls n p) = c.in_ok-tally.ensures ∙ (λ j. tally_of calls (views_between calls (from j) (to j))) in
     record {
       of_counter = drawn.same.0;
       few = drawn.few;

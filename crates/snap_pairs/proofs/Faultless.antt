@@ -1,0 +1,45 @@
+-- What the quick test tells of read faults, and what their absence tells of a piece.
+use Rattle.std.proofs.Common.{◌≡◌, ℕ, ◌-◌, List, [], ◌∷◌, ◌++◌, take, drop, refl, sym, ap, ◌∙◌}
+use Rattle.std.proofs.lemmas.List.{take-append-drop}
+use Rattle.snap_core.specs.declared.event.Event.{Event}
+use Rattle.snap_core.specs.Events.{IsKept}
+use Rattle.snap_core.specs.Calls.{Call, calls_of, views_of}
+use Rattle.snap_core.proofs.Fits.{bytes_of_events}
+use Rattle.snap_conditions.specs.Faults.{read_faults}
+use Rattle.snap_conditions.specs.Parts.{part_of}
+use Rattle.snap_conditions.specs.Quick.{AreComparable, AreOrdered}
+use Rattle.snap_conditions.specs.Tally.{tally_of, without_read, reported_read, views_between}
+use Rattle.snap_conditions.proofs.Quick.{no_read_fault_exactly}
+use Rattle.snap_conditions.proofs.Ranges.{tally_is}
+use Rattle.snap_conditions.proofs.Reports.{faults_join}
+
+pub none_by_test : (es : List Event) → IsKept es → AreComparable (calls_of es) → AreOrdered (calls_of es) → read_faults (calls_of es) (views_of (calls_of es)) ≡ []
+none_by_test es kept c o = (no_read_fault_exactly es (bytes_of_events es kept.fit)).1 (record { comparable = c; ordered = o })
+
+pub test_by_none : (es : List Event) → IsKept es → read_faults (calls_of es) (views_of (calls_of es)) ≡ [] → AreComparable (calls_of es) × AreOrdered (calls_of es)
+test_by_none es kept e = let t = (no_read_fault_exactly es (bytes_of_events es kept.fit)).0 e in (t.comparable, t.ordered)
+
+nil_left : {X : Type 0} (xs ys : List X) → xs ++ ys ≡ [] → xs ≡ []
+nil_left [] ys e = refl
+nil_left (x ∷ xs) ys e = absurd (let no : x ∷ (xs ++ ys) ≡ [] = e in cc)
+
+nil_right : {X : Type 0} (xs ys : List X) → xs ++ ys ≡ [] → ys ≡ []
+nil_right [] ys e = e
+nil_right (x ∷ xs) ys e = absurd (let no : x ∷ (xs ++ ys) ≡ [] = e in cc)
+
+-- where no two views are a read fault, a piece of them has none
+none_between : (calls : List Call) (from to : ℕ) → read_faults calls (views_of calls) ≡ [] → read_faults calls (views_between calls from to) ≡ []
+none_between calls from to e =
+    let views = views_of calls in
+    let behind = drop from views in
+    let whole = sym ((faults_join calls (take from views) behind).read) ∙ ap (read_faults calls) (take-append-drop from views) ∙ e in
+    let rest = nil_right (read_faults calls (take from views)) (read_faults calls behind) whole in
+    nil_left (read_faults calls (take (to - from) behind)) (read_faults calls (drop (to - from) behind))
+    (sym ((faults_join calls (take (to - from) behind) (drop (to - from) behind)).read) ∙ ap (read_faults calls) (take-append-drop (to - from) behind) ∙ rest)
+
+-- and its tally is the one without read faults
+pub faultless_tally : (calls : List Call) (from to : ℕ) → read_faults calls (views_of calls) ≡ [] → without_read (tally_of calls (views_between calls from to)) ≡ tally_of calls (views_between calls from to)
+unfolding tally_of
+faultless_tally calls from to e =
+    let rs = views_between calls from to in
+    tally_is (without_read (tally_of calls rs)) (tally_of calls rs) refl refl (sym (ap (part_of reported_read) (none_between calls from to e))) refl

@@ -1,0 +1,88 @@
+//! The read faults of the pieces: none where the quick test passes, else by a grid of the views.
+ghost use Rattle.std.specs.Prelude.{◌≡◌, ◌<◌, ◌≤◌, ◌↔◌, [], length, IfOk, IsTrue};
+ghost use Rattle.snap_core.specs.Calls.{calls_of, views_of};
+ghost use Rattle.snap_conditions.specs.Chains.{AreViewSums};
+ghost use Rattle.snap_conditions.specs.Faults.{read_faults};
+ghost use Rattle.snap_conditions.specs.Quick.{shown_sum};
+ghost use Rattle.snap_conditions.specs.Seen.{view_in};
+ghost use Rattle.snap_conditions.specs.Tally.{tally_of, views_between};
+ghost use Rattle.snap_pairs.specs.Reads.{IsGridFor};
+
+use rayon::prelude::*;
+use snap_conditions::{Tally, ViewGrid, chain, ordered, tally_without_read, view_sum};
+use snap_index::Index;
+use std::alloc::{AllocError, Global};
+use std::thread::Threads;
+
+// So many views are worth a thread of their own: the sums of fewer take less time than its start.
+const VIEWS_A_THREAD: usize = 4096;
+
+// A grid of the views, where they have a read fault.
+pub(crate) fn grid_for_reads<'i, 'h, R: Threads + Sync>(
+    rt: &R,
+    alloc: Global,
+    index: &'i Index<'h>,
+) -> Result<Option<ViewGrid<'i, 'h>>, AllocError>
+    ensures { IfOk result (IsGridFor index.entry.now) }
+{
+    if has_no_read_fault(rt, alloc, index)? {
+        return Ok(None);
+    }
+    Ok(Some(ViewGrid::build(alloc, index)?))
+}
+
+// The tally of the views from one place to before another.
+pub(crate) fn piece_tally(
+    alloc: Global,
+    index: &Index<'_>,
+    grid: &Option<ViewGrid<'_, '_>>,
+    from: u32,
+    to: u32,
+) -> Result<Tally, AllocError>
+    requires grid { IsGridFor index.now grid.now }
+    requires order { from ≤ to }
+    requires views { to ≤ length (views_of (calls_of index.now)) }
+    ensures { IfOk result (λ tally. tally ≡ tally_of (calls_of index.now) (views_between (calls_of index.now) from to)) }
+{
+    match grid {
+        Some(grid) => grid.tally(alloc, from, to),
+        None => Ok(tally_without_read(index, from, to)),
+    }
+}
+
+// Whether no two views are a read fault, by the quick test.
+fn has_no_read_fault<R: Threads + Sync>(
+    rt: &R,
+    alloc: Global,
+    index: &Index<'_>,
+) -> Result<bool, AllocError>
+    ensures { IfOk result (λ none. IsTrue none ↔ (read_faults (calls_of index.now) (views_of (calls_of index.now)) ≡ [])) }
+{
+    // what is known of the history that the index is of
+    let _events = index.event_count();
+    let sums = view_sums(rt, alloc, index)?;
+    if chain(alloc, index, &sums)?.is_none() {
+        return Ok(false);
+    }
+    ordered(alloc, index, &sums)
+}
+
+// The sum of the numbers that each completed view shows, by call number.
+fn view_sums<R: Threads + Sync>(
+    rt: &R,
+    alloc: Global,
+    index: &Index<'_>,
+) -> Result<Vec<u64>, AllocError>
+    ensures { IfOk result (λ sums. AreViewSums (calls_of index.now) sums.items) }
+{
+    (0..index.view_count())
+        .into_par_iter()
+        .map(
+            |place: u32| -> u64
+                requires { place < length (views_of (calls_of index.now)) }
+                ensures { result ≡ shown_sum (view_in (calls_of index.entry.now) place) }
+            { view_sum(index, place) },
+        )
+        .with_min_len(VIEWS_A_THREAD)
+        .collect(rt, alloc)
+}
