@@ -1,10 +1,11 @@
 -- Entries that rise, by places.
-use Rattle.std.proofs.Common.{◌≡◌, ℕ, zero, suc, ◌<◌, ◌≤◌, true, false, List, [], ◌∷◌, length, get_or, cond, nat_lt, Some, refl, sym, ap, ◌∙◌, arith}
+use Rattle.std.proofs.Common.{◌≡◌, ℕ, zero, suc, ◌<◌, ◌≤◌, true, false, List, [], ◌∷◌, length, get_or, cond, nat_lt, Some, refl, ap, ◌∙◌, arith}
 use Rattle.std.proofs.lemmas.Bool.{ltb-true, lt-ltb, and_parts, and_from, false_from_ne_true}
-use Rattle.std.specs.Prelude.{◌==◌}
+use Rattle.std.specs.Prelude.{Bool, None, not, if◌then◌else◌}
 use Rattle.std.proofs.lemmas.Bool.{eq-eqb, ne_eqb}
 use Rattle.snap_core.specs.declared.entry.Entry.{Entry}
-use Rattle.snap_core.specs.Entries.{rises, entry_of}
+use Rattle.snap_core.specs.declared.view.ViewRefusal.TheVariants.{NotRising, ZeroNumber}
+use Rattle.snap_core.specs.Entries.{rises, has_zero, view_refusal, entry_of}
 
 pub rises_from : (es : List Entry) → ((j : ℕ) (d : Entry) → suc j < length es → (get_or es j d).component < (get_or es (suc j) d).component) → rises es ≡ true
 rises_from [] h = refl
@@ -37,3 +38,7 @@ entry_at (e ∷ es) zero x k s l same = ap (λ b. cond b (Some e) (entry_of k es
 entry_at (e ∷ es) (suc i) x k s l same =
     let lower = first_lower e es i x s (omega arith) in
     ap (λ b. cond b (Some e) (entry_of k es)) (ne_eqb e.component k (λ q. omega (arith, lower, same, q))) ∙ entry_at es i x k (rises_tail e es s) (omega arith) same
+
+-- the first refusal, by what its two tests say
+pub refusal_by : (es : List Entry) (r z : Bool) → rises es ≡ r → has_zero es ≡ z → view_refusal es ≡ (if not r then Some NotRising else if z then Some ZeroNumber else None)
+refusal_by es r z e f = rw (e, f) refl

@@ -1,5 +1,5 @@
 ghost use Rattle.std.specs.Prelude.{◌≡◌, ◌<◌, All, IfOk, IfErr, OnOk};
-ghost use Rattle.snap_core.specs.Entries.{EntryFits, rises as spec_rises, has_zero as spec_has_zero, view_refusal, entry_of, number_in, value_in, AreEntries};
+ghost use Rattle.snap_core.specs.Entries.{EntryFits, view_refusal, entry_of, number_in, value_in, AreEntries};
 
 use crate::entry::{Entry, fields_fit};
 use std::marker::Model;
@@ -39,21 +39,22 @@ fn entries_fit(entries: &[Entry])
     }
 }
 
-fn rises(entries: &[Entry]) -> bool
-    ensures { result ≡ spec_rises entries.now }
+// Why entries are no view: the first refusal that applies.
+fn refusal_of(entries: &[Entry]) -> Option<ViewRefusal>
+    ensures { result ≡ view_refusal entries.now }
 {
-    for i in 1..entries.len() {
-        if entries[i - 1].component >= entries[i].component {
-            return false;
+    let mut has_zero = false;
+    for i in 0..entries.len() {
+        if i > 0 && entries[i - 1].component >= entries[i].component {
+            return Some(ViewRefusal::NotRising);
         }
+        has_zero |= entries[i].number == 0;
     }
-    true
-}
-
-fn has_zero(entries: &[Entry]) -> bool
-    ensures { result ≡ spec_has_zero entries.now }
-{
-    entries.iter().any(|e| e.number == 0)
+    if has_zero {
+        Some(ViewRefusal::ZeroNumber)
+    } else {
+        None
+    }
 }
 
 // The entry of a component. Mostly entries list each component up to their last.
@@ -75,11 +76,8 @@ impl View {
         ensures accepted { OnOk result (view_refusal entries.items ≡ None) }
         ensures refused { IfErr result (λ refusal. view_refusal entries.items ≡ Some refusal) }
     {
-        if !rises(&entries) {
-            return Err(ViewRefusal::NotRising);
-        }
-        if has_zero(&entries) {
-            return Err(ViewRefusal::ZeroNumber);
+        if let Some(refusal) = refusal_of(&entries) {
+            return Err(refusal);
         }
         entries_fit(&entries);
         Ok(View { entries })

@@ -1,4 +1,4 @@
-use Rattle.std.proofs.Common.{◌≡◌, sym, arith}
+use Rattle.std.proofs.Common.{sym, arith}
 use Rattle.snap_core.proofs.Rising.{entry_at}
 use Rattle.snap_core.proofs.view.find_entry.Goals as goal
 
