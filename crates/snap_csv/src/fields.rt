@@ -3,7 +3,7 @@ ghost use Rattle.csv.specs.Records.{fields_of};
 ghost use Rattle.snap_csv.specs.Fields.{event_of, is_header_row, is_stamped_header_row, update_at, view_at};
 ghost use Rattle.snap_csv.specs.Answers.{GivesEvent};
 
-use crate::entries::{Group, entries_of, entry_of};
+use crate::entries::{Known, entries_of, entry_of};
 use crate::number::process_of;
 use crate::refusal::{ReadRefusal, TextFault};
 use csv::ByteRecord;
@@ -21,7 +21,7 @@ fn update_of(text: &[u8]) -> Option<Entry>
 
 /// The view whose entries are spelled.
 #[tactic(auto, unfolding(crate::specs::Fields::view_at))]
-fn view_of(alloc: Global, known: &mut Vec<Group>, text: &[u8]) -> Result<Option<View>, AllocError>
+fn view_of(alloc: Global, known: &mut Known, text: &[u8]) -> Result<Option<View>, AllocError>
     ensures { IfOk result (λ o. o ≡ view_at text.now) }
 {
     let Some(entries) = entries_of(alloc, known, text)? else {
@@ -117,7 +117,7 @@ fn bad<T>(place: u32, fault: TextFault) -> Result<T, ReadRefusal>
 #[tactic(auto, unfolding(crate::specs::Fields::event_of))]
 pub fn event_of_fields(
     alloc: Global,
-    known: &mut Vec<Group>,
+    known: &mut Known,
     place: u32,
     event: &[u8],
     process: &[u8],

@@ -11,6 +11,7 @@ mod refusal;
 mod rows;
 mod spelling;
 mod stamped;
+mod words;
 mod writing;
 
 pub use law::{
@@ -21,6 +22,7 @@ pub use law::{
 pub use read::{read_history, read_history_in, read_text};
 pub use refusal::{ReadRefusal, TextFault, WriteRefusal};
 pub use spelling::fields_of;
+pub use words::{ENTRY_SIZE, write_entry, write_number, write_text};
 pub use writing::{write_history, write_history_stamped};
 
 #[cfg(test)]

@@ -5,7 +5,7 @@ ghost use Rattle.snap_csv.specs.Faults.{fault_of};
 ghost use Rattle.snap_csv.specs.Rows.{rows_of};
 ghost use Rattle.csv.specs.Records.{fields_of};
 
-use crate::entries::Group;
+use crate::entries::Known;
 use crate::fields::{event_of_fields, four_fields, is_header, is_stamped_header};
 use crate::intake::{BYTE_LIMIT, take_in};
 use crate::refusal::{ReadRefusal, TextFault};
@@ -37,7 +37,7 @@ fn fault_for(refusal: EventRefusal) -> Option<TextFault>
 // Adds the event of a record to a history.
 fn take_row(
     alloc: Global,
-    known: &mut Vec<Group>,
+    known: &mut Known,
     history: &mut History,
     place: u32,
     row: &ByteRecord,
@@ -94,7 +94,7 @@ fn history_of(alloc: Global, text: &[u8]) -> Result<History, ReadRefusal>
             fault: TextFault::Header,
         });
     }
-    let mut known = Vec::new(alloc);
+    let mut known = Known::new(alloc);
     let mut history = History::new(alloc);
     for i in 0..ROW_LIMIT {
         if !next_row(&mut reader, &mut row)? {

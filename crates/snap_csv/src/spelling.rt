@@ -1,28 +1,17 @@
 ghost use Rattle.std.specs.Prelude.{◌≡◌, ◌==◌, ◌++◌, ◌∷◌, [], length, map, IfOk, OnOk, decimal};
 ghost use Rattle.snap_csv.specs.Spelling.{entries_text, entry_text, spelled, with_next};
 
-use itoa::Buffer;
+use crate::words::{ENTRY_SIZE, write_entry, write_number};
 use snap_core::{Entry, Event};
 use std::alloc::{AllocError, Global};
-
-// Adds a number.
-fn put_number(out: &mut Vec<u8>, n: u32) -> Result<(), AllocError>
-    ensures { OnOk result (out.new.items ≡ out.old.items ++ decimal n) }
-{
-    let mut buffer = Buffer::new();
-    out.extend_from_slice(buffer.format(n).as_bytes())
-}
 
 // Adds an entry: component, number and value, with colons between.
 fn put_entry(out: &mut Vec<u8>, entry: &Entry) -> Result<(), AllocError>
     ensures { OnOk result (out.new.items ≡ out.old.items ++ entry_text entry.now) }
 {
-    put_number(out, entry.component as u32)?;
-    out.push(b':')?;
-    put_number(out, entry.number)?;
-    out.push(b':')?;
-    put_number(out, entry.value)?;
-    Ok(())
+    let mut word = [0u8; ENTRY_SIZE];
+    let at = write_entry(b"", entry, &mut word, ENTRY_SIZE);
+    out.extend_from_slice(&word[at..])
 }
 
 fn entry_field(alloc: Global, entry: &Entry) -> Result<Vec<u8>, AllocError>
@@ -58,9 +47,9 @@ fn view_field(alloc: Global, entries: &[Entry]) -> Result<Vec<u8>, AllocError>
 fn process_field(alloc: Global, process: u16) -> Result<Vec<u8>, AllocError>
     ensures { IfOk result (λ field. field.items ≡ decimal process) }
 {
-    let mut field = Vec::new(alloc);
-    put_number(&mut field, process as u32)?;
-    Ok(field)
+    let mut digits = [0u8; 5];
+    let at = write_number(b"", u64::from(process), &mut digits, 5);
+    Vec::from_slice(alloc, &digits[at..])
 }
 
 fn four_fields(

@@ -6,7 +6,7 @@ ghost use Rattle.snap_csv.specs.Answers.{AnswersStamps, HasSeen, ReadsStamped, T
 ghost use Rattle.snap_csv.specs.Rows.{Fields, Stands};
 ghost use Rattle.snap_csv.specs.Stamps.{stamps_of};
 
-use crate::entries::Group;
+use crate::entries::Known;
 use crate::fields::{event_of_fields, five_fields};
 use crate::number::stamp_of;
 use crate::read::{ROW_LIMIT, push_event};
@@ -28,7 +28,7 @@ pub struct Stamped {
 // Adds the stamped event of a record to those before it.
 fn take_stamped(
     alloc: Global,
-    known: &mut Vec<Group>,
+    known: &mut Known,
     seen: &mut BTreeSet<u64>,
     stamped: &mut Vec<Stamped>,
     place: u32,
@@ -76,7 +76,7 @@ fn read_stamped(
     ensures reads { (rows : List Fields) → Stands reader.old rows → ReadsStamped rows result }
     ensures distinct { IfOk result (λ stamped. IsDistinct (λ (a : ℕ) (b : ℕ). a == b) (stamps_of stamped.items)) }
 {
-    let mut known = Vec::new(alloc);
+    let mut known = Known::new(alloc);
     let mut seen = BTreeSet::new(alloc);
     let mut stamped = Vec::new(alloc);
     for i in 0..ROW_LIMIT {
