@@ -7,8 +7,10 @@ use Rattle.std.proofs.lemmas.List.{length-map, length-append, drop_more}
 use Rattle.std.proofs.lemmas.List.Sums.{sum_by-cons, length-filter}
 use Rattle.snap_core.specs.declared.event.Event.{Event}
 use Rattle.snap_core.specs.Calls.{Call, calls_of, views_of, nobody}
-use Rattle.snap_grid.specs.Columns.{GridValue, clashes, clash_count, has_clash, rows_of}
-use Rattle.snap_conditions.specs.Faults.{read_fault, read_faults, first_of}
+use Rattle.snap_grid.specs.Columns.{GridValue, clashes, clash_count, has_clash, rows_of, drops, drop_count}
+use Rattle.snap_conditions.specs.Faults.{read_fault, read_faults, first_of, is_stale, stale_count}
+use Rattle.snap_conditions.specs.PartValue.{PartValue}
+use Rattle.snap_conditions.specs.Parts.{part_of, no_part}
 use Rattle.snap_conditions.specs.Seen.{view_in}
 use Rattle.snap_conditions.specs.Tally.{views_between}
 use Rattle.snap_conditions.specs.Grids.{IsGridOf}
@@ -37,16 +39,33 @@ all_views calls = sym (take_whole (views_of calls)) ∙ by_places (views_of call
     take_whole [] = refl
     take_whole (x ∷ xs) = ap (λ z. x ∷ z) (take_whole xs)
 
+-- a row passes a test of rows as often as its view passes one of views that agrees
+count_same : (calls : List Call) (g : GridValue) (p : ℕ → ℕ → Bool) (q : Call → Call → Bool) (i : ℕ) → length g.begins ≡ length (views_of calls) →
+    ((b : ℕ) → b < length (views_of calls) → p i b ≡ q (view_in calls i) (view_in calls b)) → count_by (p i) (rows_of g) ≡ count_by (q (view_in calls i)) (views_of calls)
+count_same calls g p q i rows same =
+    let n = length (views_of calls) in
+    ap (λ z. count_by (p i) (range_with_len 0 z)) rows
+    ∙ sum_alike (λ b. cond (p i b) 1 0) (λ b. cond (q (view_in calls i) (view_in calls b)) 1 0) n 0 (λ b _ m. ap {B = ℕ} (λ z. cond z 1 0) (same b (omega (arith, m))))
+    ∙ sym (sum_map (λ s. cond (q (view_in calls i) s) 1 0) (view_in calls) (range_with_len 0 n))
+    ∙ ap (count_by (q (view_in calls i))) (sym (all_views calls))
+
 -- a row clashes as often as its view has faults
 pub count_at : (es : List Event) (g : GridValue) → IsGridOf es g → (i : ℕ) → i < length (views_of (calls_of es)) → clash_count g i ≡ length (faults_at (calls_of es) i)
 unfolding clash_count
 count_at es g h i l =
     let calls = calls_of es in
-    let n = length (views_of calls) in
-    ap (λ z. count_by (clashes g i) (range_with_len 0 z)) h.rows
-    ∙ sum_alike (λ b. cond (clashes g i b) 1 0) (λ b. cond (read_fault (view_in calls i) (view_in calls b)) 1 0) n 0 (λ b _ m. ap {B = ℕ} (λ z. cond z 1 0) (h.clash i b l (omega (arith, m))))
-    ∙ sym (sum_map (λ s. cond (read_fault (view_in calls i) s) 1 0) (view_in calls) (range_with_len 0 n))
-    ∙ ap (count_by (read_fault (view_in calls i))) (sym (all_views calls)) ∙ sym (length-filter (read_fault (view_in calls i)) (views_of calls))
+    count_same calls g (clashes g) read_fault i h.rows (λ b m. h.clash i b l m) ∙ sym (length-filter (read_fault (view_in calls i)) (views_of calls))
+
+-- the rows of a range drop as often as there are stale views
+pub stale_between : (es : List Event) (g : GridValue) → IsGridOf es g → (from to : ℕ) → from ≤ to → to ≤ length (views_of (calls_of es)) →
+    sum_by (drop_count g) (range_with_len from (to - from)) ≡ stale_count (calls_of es) (views_between (calls_of es) from to)
+unfolding drop_count stale_count
+stale_between es g h from to l m =
+    let calls = calls_of es in
+    let stale_to : Call → ℕ = λ r. count_by (is_stale r) (views_of calls) in
+    sum_alike (λ a. count_by (drops g a) (rows_of g)) (λ a. stale_to (view_in calls a)) (to - from) from (λ i j k. count_same calls g (drops g) is_stale i h.rows (λ b n. h.drop i b (omega (arith, k, l, m)) n))
+    ∙ sym (sum_map stale_to (view_in calls) (range_with_len from (to - from)))
+    ∙ ap (sum_by stale_to) (sym (by_places (views_of calls) (to - from) from (omega (arith, l, m))))
 
 any_count : (p : ℕ → Bool) (xs : List ℕ) → list_any p xs ≡ nat_lt 0 (count_by p xs)
 any_count p [] = refl

@@ -79,7 +79,7 @@ neither_found es kept r k n s f g = found_neither (calls_of es) r k (old_here es
 pub small : (r : Call) (k : ℕ) → AreEntries (entries_of r.operation) → 0 < shown_number r k → k < 256
 small r k h l = let d = is_listed (entries_of r.operation) h k (omega (arith, l, among_is_shown r k)) in omega (arith, d.component, d.fits.0)
 
-exceeds_by_number : (r s : Call) (b : Bool) → AreEntries (entries_of r.operation) → IsTrue b ↔ IsLessSomewhere (shown_number s) (shown_number r) → exceeds r s ≡ b
+pub exceeds_by_number : (r s : Call) (b : Bool) → AreEntries (entries_of r.operation) → IsTrue b ↔ IsLessSomewhere (shown_number s) (shown_number r) → exceeds r s ≡ b
 exceeds_by_number r s true h d = let m = d.0 refl in exceeds_from r s m.0 m.2
 exceeds_by_number r s false h d = false_from_ne_true (exceeds r s) (λ t. let m = exceeds_to r s t in false≢true (d.1 (m.component, small r m.component h (omega (arith, m.more)), m.more)))
 

@@ -7,10 +7,10 @@ use Rattle.std.proofs.Math.Seq.{get_or-append_seam}
 use Rattle.snap_core.specs.declared.entry.Entry.{Entry}
 use Rattle.snap_core.specs.declared.event.Event.{Event}
 use Rattle.snap_core.specs.Events.{IsKept}
-use Rattle.snap_core.specs.Calls.{Call, calls_of, views_of, entries_of, shown_number, precedes}
-use Rattle.snap_grid.specs.Columns.{GridValue, number, clashes, any_passes, passes}
+use Rattle.snap_core.specs.Calls.{Call, calls_of, views_of, entries_of, shown_number, precedes, is_before}
+use Rattle.snap_grid.specs.Columns.{GridValue, number, clashes, any_passes, passes, drops}
 use Rattle.snap_grid.proofs.Passing.{any_at}
-use Rattle.snap_conditions.specs.Faults.{exceeds, read_fault}
+use Rattle.snap_conditions.specs.Faults.{exceeds, is_stale, read_fault}
 use Rattle.snap_conditions.specs.Rows.{number_among, row_number}
 use Rattle.snap_conditions.specs.Seen.{view_in}
 use Rattle.snap_conditions.specs.Grids.{IsShownBy, IsColumnOf, AreColumnsOf, ShowAll, ArePlaced, ArePlacesOf, IsGridOf}
@@ -164,7 +164,7 @@ any_less columns a b = refl
 
 pub is_grid : (es : List Event) → IsKept es → (g : GridValue) (columns : List (List ℕ)) (begins ends : List ℕ) → g ≡ record { columns = columns; begins = begins; ends = ends } → ShowAll (calls_of es) columns →
     ArePlacesOf (calls_of es) (length (views_of (calls_of es))) begins ends → IsGridOf es g
-unfolding clashes read_fault
+unfolding clashes drops is_stale read_fault
 is_grid es kept g columns begins ends e shown places = subst (IsGridOf es) (sym e) (record {
   kept = kept;
   rows = places.begun;
@@ -174,5 +174,11 @@ is_grid es kept g columns begins ends e shown places = subst (IsGridOf es) (sym 
       ap (λ z. z && (precedes (view_in calls a) (view_in calls b) || exceeds (view_in calls b) (view_in calls a))) (shown.exceed a b l m)
       ∙ ap (λ z. any_passes true columns a b && (z || exceeds (view_in calls b) (view_in calls a))) (places.precede a b l m)
       ∙ ap (λ z. any_passes true columns a b && (nat_lt (number ends a) (number begins b) || z)) (shown.exceed b a m l ∙ sym (any_less columns a b))
+      );
+  drop = λ a b l m.
+      let calls = calls_of es in
+      sym (
+      ap (λ z. z && precedes (view_in calls a) (view_in calls b)) (shown.exceed a b l m)
+      ∙ ap (λ z. any_passes true columns a b && z) (places.precede a b l m)
       );
 })

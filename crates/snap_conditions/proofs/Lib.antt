@@ -2,6 +2,7 @@ pub mod Exceeding
 pub mod Entries
 pub mod Leasts
 pub mod Finds
+pub mod SeenPairs
 pub mod Local
 pub mod Tallies
 pub mod Viewed
@@ -21,6 +22,7 @@ pub mod Missed
 pub mod EntrySums
 pub mod Grids
 pub mod Counted
+pub mod StaleViews
 pub mod Limits
 pub mod SortedKeys
 pub mod Chains

@@ -16,20 +16,22 @@ use Rattle.snap_core.proofs.Lists.{In}
 use Rattle.snap_conditions.specs.declared.tally.Tally.{Tally}
 use Rattle.snap_conditions.specs.Parts.{part_of, merged_part}
 use Rattle.snap_conditions.specs.PartValue.{PartValue}
-use Rattle.snap_conditions.specs.Faults.{integrity_fault, old_fault, early_fault, read_fault, write_fault, components, listed, integrity_faults, proximity_faults, read_faults, write_faults, missed_at, HasNoLocalFault}
+use Rattle.snap_conditions.specs.Faults.{integrity_fault, old_fault, early_fault, read_fault, write_fault, components, listed, integrity_faults, proximity_faults, read_faults, write_faults, stale_count, missed_at, HasNoLocalFault}
 use Rattle.snap_conditions.specs.Tally.{tally_of, reported_integrity, reported_proximity, reported_read, reported_write, merged, no_fault, views_between, SumsFit, CountsNoLocalFault}
 use Rattle.snap_conditions.specs.Laws.{TalliesJoin, TalliesFit, RegularByTally, ConditionsByTally, NoFaultByTally}
 use Rattle.snap_conditions.proofs.Laws.{regular_exactly, conditions_exactly}
 use Rattle.snap_conditions.proofs.Parts.{part-append, filter_short, flat_map_short}
 use Rattle.snap_conditions.proofs.Reports.{faults_join, fit_views}
+use Rattle.snap_conditions.proofs.StaleViews.{stale_few}
 use Rattle.snap_conditions.proofs.Tallies.{from_views}
 
-pub tally_is : (t u : Tally) → t.integrity ≡ u.integrity → t.proximity ≡ u.proximity → t.read ≡ u.read → t.write ≡ u.write → t ≡ u
-tally_is t u i p r w =
+pub tally_is : (t u : Tally) → t.integrity ≡ u.integrity → t.proximity ≡ u.proximity → t.read ≡ u.read → t.write ≡ u.write → t.stale ≡ u.stale → t ≡ u
+tally_is t u i p r w s =
     ap (λ x. record t { integrity = x }) i
     ∙ ap (λ x. record t { integrity = u.integrity; proximity = x }) p
     ∙ ap (λ x. record t { integrity = u.integrity; proximity = u.proximity; read = x }) r
     ∙ ap (λ x. record t { integrity = u.integrity; proximity = u.proximity; read = u.read; write = x }) w
+    ∙ ap (λ x. record t { integrity = u.integrity; proximity = u.proximity; read = u.read; write = u.write; stale = x }) s
 
 pub tally_joined : (calls rs ss : List Call) → tally_of calls (rs ++ ss) ≡ merged (tally_of calls rs) (tally_of calls ss)
 unfolding tally_of
@@ -40,6 +42,7 @@ tally_joined calls rs ss =
     (ap (part_of (reported_proximity calls)) j.proximity ∙ part-append (reported_proximity calls) (proximity_faults calls rs) (proximity_faults calls ss))
     (ap (part_of reported_read) j.read ∙ part-append reported_read (read_faults calls rs) (read_faults calls ss))
     (ap (part_of reported_write) j.write ∙ part-append reported_write (write_faults calls rs) (write_faults calls ss))
+    j.stale
 
 range_joined : {X : Type 0} (xs : List X) (from middle to : ℕ) → from ≤ middle → middle ≤ to → take (to - from) (drop from xs) ≡ take (middle - from) (drop from xs) ++ take (to - middle) (drop middle xs)
 range_joined xs from middle to l m =
@@ -49,7 +52,7 @@ range_joined xs from middle to l m =
     ∙ ap (λ z. take (middle - from) (drop from xs) ++ take (to - middle) z) (drop-drop (middle - from) from xs ∙ ap (λ n. drop n xs) on)
 
 nothing_tallied : (calls : List Call) → tally_of calls [] ≡ no_fault
-unfolding tally_of integrity_faults proximity_faults read_faults write_faults
+unfolding tally_of integrity_faults proximity_faults read_faults write_faults stale_count
 nothing_tallied calls = refl
 
 pub tallies_join : (calls : List Call) → TalliesJoin calls
@@ -103,6 +106,7 @@ pub record IsSmall (n : ℕ) (t : Tally) : Type 0 where
   pub proximity : t.proximity.count ≤ n * 65536
   pub read : t.read.count ≤ n * 65536
   pub write : t.write.count ≤ n * 65536
+  pub stale : t.stale ≤ n * 65536
 
 pub few_listed : (es : List Event) → IsKept es → (r : Call) → In r (views_of (calls_of es)) → length (listed r) ≤ 256
 few_listed es k r i =
@@ -127,6 +131,7 @@ tally_small es k rs w = record {
   proximity = flat_map_short _ 65536 rs (λ r i. omega (arith, length-map {B = Call × ℕ} (filter (λ k. old_fault calls r k || early_fault calls r k) components) (λ k. (r, k)), filter_short (λ k. old_fault calls r k || early_fault calls r k) components));
   read = flat_map_short _ 65536 rs (λ r i. omega (arith, length-map {B = Call × Call} (filter (read_fault r) (views_of calls)) (λ s. (r, s)), filter_short (read_fault r) (views_of calls), few_views es k));
   write = flat_map_short _ 65536 rs (λ r i. flat_map_short (missed_at calls r) 256 components (λ j l. omega (arith, length-map {B = Call × ℕ × ℕ} (filter (write_fault calls r j) (listed r)) (λ k. (r, j, k)), filter_short (write_fault calls r j) (listed r), few_listed es k r (w r i))));
+  stale = stale_few calls rs 65536 (omega (arith, few_views es k));
 }
   where
     calls : List Call
@@ -146,6 +151,7 @@ ranges_fit es k from middle to l m n =
       proximity = omega (arith, a.proximity, b.proximity, x, y, v);
       read = omega (arith, a.read, b.read, x, y, v);
       write = omega (arith, a.write, b.write, x, y, v);
+      stale = omega (arith, a.stale, b.stale, x, y, v);
     }
 
 -- a range that grows by one view, kind by kind
@@ -159,6 +165,7 @@ pub record RangeGrows (more range one : Tally) : Type 0 where
   pub proximity : Grows more.proximity range.proximity one.proximity
   pub read : Grows more.read range.read one.read
   pub write : Grows more.write range.write one.write
+  pub stale : more.stale ≡ range.stale + one.stale
 
 pub range_grows : (es : List Event) → IsKept es → (from place : ℕ) → from ≤ place → place < length (views_of (calls_of es)) →
     RangeGrows (tally_of (calls_of es) (views_between (calls_of es) from (place + 1))) (tally_of (calls_of es) (views_between (calls_of es) from place)) (tally_of (calls_of es) (get_or (views_of (calls_of es)) place nobody ∷ []))
@@ -173,6 +180,7 @@ range_grows es k from place l m =
       proximity = record { fit = fit.proximity; joined = ap (λ (t : Tally). t.proximity) joined };
       read = record { fit = fit.read; joined = ap (λ (t : Tally). t.read) joined };
       write = record { fit = fit.write; joined = ap (λ (t : Tally). t.write) joined };
+      stale = ap (λ (t : Tally). t.stale) joined;
     }
 
 pub range_starts : (calls : List Call) (from : ℕ) → tally_of calls (views_between calls from from) ≡ no_fault

@@ -18,6 +18,7 @@ use Rattle.snap_core.proofs.Begun.{Begun, Next, nothing, found, next, operation_
 use Rattle.snap_core.proofs.Histories.{begun_of, in_history}
 use Rattle.snap_core.proofs.Facts.{shown_in, shows_positive}
 use Rattle.snap_conditions.proofs.Exceeding.{exceeds_to}
+use Rattle.snap_conditions.proofs.StaleViews.{stale_joined}
 
 pub faults_join : (calls rs ss : List Call) → FaultsJoin calls rs ss
 unfolding integrity_faults proximity_faults read_faults write_faults
@@ -26,6 +27,7 @@ faults_join calls rs ss = record {
   proximity = flat_map-append _ rs ss;
   read = flat_map-append _ rs ss;
   write = flat_map-append _ rs ss;
+  stale = stale_joined calls rs ss;
 }
 
 -- the first number that passes, in a range that has one

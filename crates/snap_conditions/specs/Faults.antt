@@ -1,6 +1,6 @@
 -- The faults of a view against all views and all updates, and their tally.
 use Rattle.std.specs.Prelude.{ℕ, suc, Bool, false, not, ◌&&◌, ◌||◌, List, [], ◌≡◌, ◌==◌, nat_lt, Option, Some, None, filter, flat_map, map, find, ◌∷◌}
-use Rattle.std.specs.List.{list_any, range_with_len}
+use Rattle.std.specs.List.{count_by, list_any, range_with_len, sum_by}
 use Rattle.snap_core.specs.declared.entry.Entry.{Entry}
 use Rattle.snap_core.specs.Calls.{Call, Operation, Updates, Views, precedes, shown, shown_number, entries_of, is_update_numbered, views_of}
 
@@ -32,6 +32,10 @@ exceeds r s = list_any (λ e. nat_lt (shown_number s e.component) (shown_number 
 unfoldable pub read_fault : Call → Call → Bool
 read_fault r s = exceeds r s && (precedes r s || exceeds s r)
 
+-- r precedes s and shows more of some component
+unfoldable pub is_stale : Call → Call → Bool
+is_stale r s = exceeds r s && precedes r s
+
 -- the next update of j precedes the update of k that r shows
 unfoldable pub write_fault : List Call → Call → ℕ → ℕ → Bool
 write_fault calls r j k =
@@ -57,6 +61,10 @@ read_faults calls rs = flat_map (λ r. map (λ s. (r, s)) (filter (read_fault r)
 
 unfoldable pub write_faults : List Call → List Call → List (Call × ℕ × ℕ)
 write_faults calls rs = flat_map (λ r. flat_map (λ j. map (λ k. (r, j, k)) (filter (write_fault calls r j) (listed r))) components) rs
+
+-- of each of rs the completed views that are stale to it, counted together
+unfoldable pub stale_count : List Call → List Call → ℕ
+stale_count calls rs = sum_by (λ r. count_by (is_stale r) (views_of calls)) rs
 
 -- the write faults of a view that misses an update of component j
 abbrev pub missed_at : List Call → Call → ℕ → List (Call × ℕ × ℕ)

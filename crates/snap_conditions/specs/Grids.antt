@@ -5,8 +5,8 @@ use Rattle.snap_core.specs.declared.entry.Entry.{Entry}
 use Rattle.snap_core.specs.Entries.{AreEntries}
 use Rattle.snap_core.specs.Calls.{Call, calls_of, views_of, entries_of, shown_number, precedes}
 use Rattle.snap_core.specs.Events.{IsKept}
-use Rattle.snap_grid.specs.Columns.{GridValue, number, clashes, any_passes}
-use Rattle.snap_conditions.specs.Faults.{exceeds, read_fault}
+use Rattle.snap_grid.specs.Columns.{GridValue, number, clashes, any_passes, drops}
+use Rattle.snap_conditions.specs.Faults.{exceeds, read_fault, is_stale}
 use Rattle.snap_conditions.specs.Places.{end_or_never}
 use Rattle.snap_conditions.specs.Rows.{row_number}
 use Rattle.snap_conditions.specs.Seen.{view_in}
@@ -47,11 +47,12 @@ pub record ArePlacesOf (calls : List Call) (n : ℕ) (begins ends : List ℕ) : 
   pub ended : length ends ≡ n
   pub precede : (a b : ℕ) → a < n → b < n → precedes (view_in calls a) (view_in calls b) ≡ nat_lt (number ends a) (number begins b)
 
--- rows of the grid clash exactly where the views are a read fault
+-- rows of the grid clash exactly where the views are a read fault, and one drops to another exactly where that view is stale
 pub record IsGridOf (events : List Event) (grid : GridValue) : Type 0 where
   pub kept : IsKept events
   pub rows : length grid.begins ≡ length (views_of (calls_of events))
   pub clash : (a b : ℕ) → a < length (views_of (calls_of events)) → b < length (views_of (calls_of events)) → clashes grid a b ≡ read_fault (view_in (calls_of events) a) (view_in (calls_of events) b)
+  pub drop : (a b : ℕ) → a < length (views_of (calls_of events)) → b < length (views_of (calls_of events)) → drops grid a b ≡ is_stale (view_in (calls_of events) a) (view_in (calls_of events) b)
 
 pub record ArePlaced (calls : List Call) (n : ℕ) (begins ends : List ℕ) : Type 0 where
   pub begun : length begins ≡ n

@@ -1,11 +1,12 @@
 -- What faults say of regular histories and of the conditions, whatever the length of the history.
-use Rattle.std.specs.Prelude.{◌<◌, ◌≤◌, true, Some, Contains, ℕ, List, [], length, ◌++◌, ◌≡◌, ◌↔◌}
+use Rattle.std.specs.Prelude.{◌<◌, ◌≤◌, ◌+◌, true, Some, Contains, ℕ, List, [], length, ◌++◌, ◌≡◌, ◌↔◌}
 use Rattle.snap_core.specs.declared.event.Event.{Event}
 use Rattle.snap_core.specs.Events.{IsHistory, HasByteComponents, IsKept}
 use Rattle.snap_core.specs.Calls.{Call, calls_of, shown_number, views_of}
+use Rattle.snap_core.specs.Monotone.{IsMonotone}
 use Rattle.snap_core.specs.Regular.{IsRegular}
 use Rattle.snap_conditions.specs.Conditions.{MeetsConditions}
-use Rattle.snap_conditions.specs.Faults.{HasNoLocalFault, HasNoFault, integrity_faults, proximity_faults, read_faults, write_faults, read_fault, least_exceeding}
+use Rattle.snap_conditions.specs.Faults.{HasNoLocalFault, HasNoFault, integrity_faults, proximity_faults, read_faults, write_faults, stale_count, read_fault, least_exceeding}
 use Rattle.snap_conditions.specs.Tally.{tally_of, no_fault, merged, views_between, SumsFit, CountsNoLocalFault, CountsNoFault}
 
 -- regular exactly where there is no fault of one view alone
@@ -22,6 +23,7 @@ pub record FaultsJoin (calls rs ss : List Call) : Type 0 where
   pub proximity : proximity_faults calls (rs ++ ss) ≡ proximity_faults calls rs ++ proximity_faults calls ss
   pub read : read_faults calls (rs ++ ss) ≡ read_faults calls rs ++ read_faults calls ss
   pub write : write_faults calls (rs ++ ss) ≡ write_faults calls rs ++ write_faults calls ss
+  pub stale : stale_count calls (rs ++ ss) ≡ stale_count calls rs + stale_count calls ss
 
 -- the component of a read fault is the least of which the first view shows more
 pub record IsLeastExceeding (r s : Call) (k : ℕ) : Type 0 where
@@ -47,6 +49,14 @@ TalliesFit =
 -- regular exactly where the tally of all completed views counts no fault of one view alone
 abbrev pub RegularByTally : Type 0
 RegularByTally = (events : List Event) → IsHistory events → HasByteComponents events → CountsNoLocalFault (tally_of (calls_of events) (views_of (calls_of events))) ↔ IsRegular (calls_of events)
+
+-- monotone exactly where it counts no stale view
+abbrev pub MonotoneByTally : Type 0
+MonotoneByTally = (calls : List Call) → ((tally_of calls (views_of calls)).stale ≡ 0) ↔ IsMonotone calls
+
+-- where there is no read fault the views do not go back
+abbrev pub MonotoneWithoutReadFault : Type 0
+MonotoneWithoutReadFault = (calls : List Call) → read_faults calls (views_of calls) ≡ [] → IsMonotone calls
 
 -- the four conditions hold exactly where it counts no fault
 abbrev pub ConditionsByTally : Type 0

@@ -1,5 +1,6 @@
 -- The tally of a range of completed views: of each kind the number of faults whose first view is in the range, and the least
--- of them by that view, then by component, other view, or both components.
+-- of them by that view, then by component, other view, or both components; and the number of pairs of a view in the range and
+-- one that it precedes and that shows less of some component.
 use Rattle.std.specs.Prelude.{ℕ, suc, ◌+◌, ◌-◌, ◌<◌, ◌^◌, ◌≡◌, List, take, drop, unwrap_or, if◌then◌else◌}
 use Rattle.snap_core.specs.declared.entry.Entry.{Entry}
 use Rattle.snap_core.specs.Entries.{value_in}
@@ -10,7 +11,7 @@ use Rattle.snap_conditions.specs.declared.fault.ReadFault.{ReadFault}
 use Rattle.snap_conditions.specs.declared.fault.WriteFault.{WriteFault}
 use Rattle.snap_conditions.specs.declared.fault.Side.TheVariants.{Old, Early}
 use Rattle.snap_conditions.specs.declared.tally.Tally.{Tally}
-use Rattle.snap_conditions.specs.Faults.{integrity_faults, proximity_faults, read_faults, write_faults, old_fault, least_exceeding}
+use Rattle.snap_conditions.specs.Faults.{integrity_faults, proximity_faults, read_faults, write_faults, stale_count, old_fault, least_exceeding}
 use Rattle.snap_conditions.specs.Parts.{no_part, part_of, merged_part}
 
 -- what a view shows of a component, number and value 0 where it shows nothing
@@ -46,6 +47,7 @@ tally_of calls rs =
       proximity = part_of (reported_proximity calls) (proximity_faults calls rs);
       read = part_of reported_read (read_faults calls rs);
       write = part_of reported_write (write_faults calls rs);
+      stale = stale_count calls rs;
     }
 
 -- the completed views from one place to before another
@@ -53,11 +55,11 @@ abbrev pub views_between : List Call → ℕ → ℕ → List Call
 views_between calls from to = take (to - from) (drop from (views_of calls))
 
 abbrev pub no_fault : Tally
-no_fault = record { integrity = no_part; proximity = no_part; read = no_part; write = no_part }
+no_fault = record { integrity = no_part; proximity = no_part; read = no_part; write = no_part; stale = 0 }
 
--- a tally with no read fault counted
+-- a tally with no read fault counted, and no stale view
 abbrev pub without_read : Tally → Tally
-without_read t = record t { read = no_part }
+without_read t = record t { read = no_part; stale = 0 }
 
 -- part by part
 abbrev pub merged : Tally → Tally → Tally
@@ -67,6 +69,7 @@ merged a b =
       proximity = merged_part a.proximity b.proximity;
       read = merged_part a.read b.read;
       write = merged_part a.write b.write;
+      stale = a.stale + b.stale;
     }
 
 -- the counts of both fit together in the type of a count
@@ -75,6 +78,7 @@ pub record SumsFit (a b : Tally) : Type 0 where
   pub proximity : a.proximity.count + b.proximity.count < 2 ^ 64
   pub read : a.read.count + b.read.count < 2 ^ 64
   pub write : a.write.count + b.write.count < 2 ^ 64
+  pub stale : a.stale + b.stale < 2 ^ 64
 
 -- no fault of one view alone is counted
 pub record CountsNoLocalFault (t : Tally) : Type 0 where

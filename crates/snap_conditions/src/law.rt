@@ -1,7 +1,7 @@
 ghost use Rattle.std.specs.Prelude.{List};
 ghost use Rattle.snap_core.specs.Calls.{Call};
 ghost use Rattle.snap_conditions.specs.Quick.{NoReadFaultExactly};
-ghost use Rattle.snap_conditions.specs.Laws.{RegularExactly, ConditionsExactly, FaultsJoin, ReadFaultHasComponent, TalliesJoin, TalliesFit, RegularByTally, ConditionsByTally, NoFaultByTally};
+ghost use Rattle.snap_conditions.specs.Laws.{RegularExactly, ConditionsExactly, FaultsJoin, ReadFaultHasComponent, TalliesJoin, TalliesFit, RegularByTally, ConditionsByTally, NoFaultByTally, MonotoneByTally, MonotoneWithoutReadFault};
 
 /// A history is regular exactly where no view has a fault of its own.
 pub fn regular_by_local_faults()
@@ -34,6 +34,16 @@ pub fn regular_by_tally()
 pub fn conditions_by_tally()
     ensures conditions { ConditionsByTally }
     ensures faults { NoFaultByTally }
+{}
+
+/// A history is monotone exactly where the tally of all its completed views has no stale view.
+pub fn monotone_by_tally()
+    ensures { MonotoneByTally }
+{}
+
+/// A history without a read fault is monotone.
+pub fn monotone_without_read_fault()
+    ensures { MonotoneWithoutReadFault }
 {}
 
 /// There is no read fault exactly where of any two completed views one shows no component above the other's, and none

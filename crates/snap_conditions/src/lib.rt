@@ -13,6 +13,7 @@ mod read;
 mod row;
 mod seen;
 mod sweep;
+mod stale;
 mod tally;
 #[cfg(test)]
 mod tests;
@@ -22,13 +23,14 @@ mod write;
 
 pub use fault::{IntegrityFault, ProximityFault, ReadFault, Side, WriteFault};
 pub use law::{
-    conditions_by_faults, conditions_by_tally, faults_join, no_read_fault_by_sums,
-    regular_by_local_faults, regular_by_tally, tallies_join,
+    conditions_by_faults, conditions_by_tally, faults_join, monotone_by_tally,
+    monotone_without_read_fault, no_read_fault_by_sums, regular_by_local_faults, regular_by_tally,
+    tallies_join,
 };
 pub use part::Part;
 pub use quick_test::{entries_sum, view_sum, view_sums};
 pub use range::{tally_range, tally_without_read};
 pub use sweep::ordered;
-pub use tally::{Tally, is_atomic, is_regular, merge};
+pub use tally::{Tally, is_atomic, is_regular, merge, is_monotone};
 pub use view_chain::chain;
 pub use view_grid::ViewGrid;

@@ -12,6 +12,7 @@ use crate::proximity::proximity_part;
 use crate::read::read_part;
 use crate::row::COMPONENT_COUNT;
 use crate::seen::view_at;
+use crate::stale::stale_beside;
 use crate::tally::{Tally, merge};
 use crate::write::write_part;
 use snap_index::Index;
@@ -29,7 +30,7 @@ fn component_limit(index: &Index<'_>) -> usize
     limit
 }
 
-// The faults of the view at a place but for its read faults, where no component from a limit on has an update.
+// The faults of the view at a place but for its read faults and stale views, where no component from a limit on has an update.
 fn view_without_read(index: &Index<'_>, place: u32, limit: usize) -> Tally
     requires limit { IsLimit (calls_of index.now) limit }
     requires place { place < length (views_of (calls_of index.now)) }
@@ -43,6 +44,7 @@ fn view_without_read(index: &Index<'_>, place: u32, limit: usize) -> Tally
         proximity: proximity_part(index, place, &view, &around, limit),
         read: Part::none(),
         write: write_part(index, place, &view, &around, limit),
+        stale: 0,
     }
 }
 
@@ -54,11 +56,13 @@ fn view_tally(index: &Index<'_>, place: u32, limit: usize) -> Tally
     ensures { result ≡ tally_of (calls_of index.now) (view_in (calls_of index.now) place ∷ []) }
 {
     let others = view_without_read(index, place, limit);
+    let read = read_part(index, place);
     Tally {
         integrity: others.integrity,
         proximity: others.proximity,
-        read: read_part(index, place),
+        read,
         write: others.write,
+        stale: stale_beside(index, place, &read),
     }
 }
 
@@ -79,8 +83,8 @@ pub fn tally_range(index: &Index<'_>, from: u32, to: u32) -> Tally
     tally
 }
 
-/// The tally of the completed views from `from` to `to - 1` as `tally_range` gives it, but without read faults: for a history
-/// that has none, or where they are counted elsewhere. It takes no memory.
+/// The tally of the completed views from `from` to `to - 1` as `tally_range` gives it, but without read faults and stale views:
+/// for a history that has none, or where they are counted elsewhere. It takes no memory.
 pub fn tally_without_read(index: &Index<'_>, from: u32, to: u32) -> Tally
     requires order { from ≤ to }
     requires views { to ≤ length (views_of (calls_of index.now)) }

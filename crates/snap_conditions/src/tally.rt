@@ -4,13 +4,15 @@ ghost use Rattle.snap_conditions.specs.Tally.{no_fault, merged, SumsFit, CountsN
 use crate::fault::{IntegrityFault, ProximityFault, ReadFault, WriteFault};
 use crate::part::Part;
 
-/// The faults of a range of views, kind by kind.
+/// The faults of a range of views, kind by kind, and the number of pairs of a view in the range and a view that it precedes and
+/// that shows less of some component.
 #[derive(Clone, Copy, PartialEq, Eq, Debug)]
 pub struct Tally {
     pub integrity: Part<IntegrityFault>,
     pub proximity: Part<ProximityFault>,
     pub read: Part<ReadFault>,
     pub write: Part<WriteFault>,
+    pub stale: u64,
 }
 
 impl Tally {
@@ -23,6 +25,7 @@ impl Tally {
             proximity: Part::none(),
             read: Part::none(),
             write: Part::none(),
+            stale: 0,
         }
     }
 }
@@ -38,6 +41,7 @@ pub fn merge(first: Tally, second: Tally) -> Tally
         proximity: first.proximity.merge(second.proximity),
         read: first.read.merge(second.read),
         write: first.write.merge(second.write),
+        stale: first.stale + second.stale,
     }
 }
 
@@ -47,6 +51,13 @@ pub fn is_regular(tally: &Tally) -> bool
     ensures { IsTrue result ↔ CountsNoLocalFault tally.now }
 {
     tally.integrity.count() == 0 && tally.proximity.count() == 0
+}
+
+/// Whether no view goes back: of the tally of all completed views, exactly where the history is monotone.
+pub fn is_monotone(tally: &Tally) -> bool
+    ensures { IsTrue result ↔ (tally.now.stale ≡ 0) }
+{
+    tally.stale == 0
 }
 
 /// Whether there is no fault: of the tally of all completed views, exactly where the four conditions hold.

@@ -3,7 +3,7 @@ ghost use Rattle.snap_core.specs.Calls.{calls_of, views_of, shown_number};
 ghost use Rattle.snap_core.specs.Entries.{AreEntries};
 ghost use Rattle.snap_core.specs.Events.{IsKept};
 ghost use Rattle.snap_conditions.specs.Grids.{AreRowsOf, AreShownBy, IsColumnOf, AreColumnsOf, ShowAll, ArePlacesOf};
-ghost use Rattle.snap_conditions.specs.Faults.{read_faults};
+ghost use Rattle.snap_conditions.specs.Faults.{read_faults, stale_count};
 ghost use Rattle.snap_conditions.specs.Parts.{part_of};
 ghost use Rattle.snap_conditions.specs.Rows.{number_among};
 ghost use Rattle.snap_conditions.specs.Seen.{view_in};
@@ -22,7 +22,7 @@ use snap_index::Index;
 use std::alloc::{AllocError, Global};
 use std::marker::Model;
 
-/// What the completed views of an index show, kept so that their read faults are soon counted.
+/// What the completed views of an index show, kept so that their read faults and stale views are soon counted.
 #[derive(Drop)]
 pub struct ViewGrid<'i, 'h> {
     index: &'i Index<'h>,
@@ -217,19 +217,26 @@ impl<'i, 'h> ViewGrid<'i, 'h> {
         })
     }
 
-    // The read faults of the completed views from one place to before another.
-    fn read_faults(&self, alloc: Global, from: u32, to: u32) -> Result<Part<ReadFault>, AllocError>
+    // The read faults of the completed views from one place to before another, and how many views are stale to them.
+    fn read_faults(
+        &self,
+        alloc: Global,
+        from: u32,
+        to: u32,
+    ) -> Result<(Part<ReadFault>, u64), AllocError>
         requires order { from ≤ to }
         requires views { to ≤ length (views_of (calls_of self.now)) }
-        ensures { IfOk result (λ part. part ≡ part_of reported_read (read_faults (calls_of self.now) (views_between (calls_of self.now) from to))) }
+        ensures faults { IfOk result (λ found. found.0 ≡ part_of reported_read (read_faults (calls_of self.now) (views_between (calls_of self.now) from to))) }
+        ensures stale { IfOk result (λ found. found.1 ≡ stale_count (calls_of self.now) (views_between (calls_of self.now) from to)) }
     {
         let found = self.grid.clashes(alloc, from as usize, to as usize)?;
         match found.first {
             Some(place) => {
                 let first = first_read_fault(self.index, place as u32);
-                Ok(Part::none().note(first).counted(found.count))
+                let faults = Part::none().note(first).counted(found.count);
+                Ok((faults, found.drops))
             }
-            None => Ok(Part::none()),
+            None => Ok((Part::none(), found.drops)),
         }
     }
 
@@ -240,13 +247,14 @@ impl<'i, 'h> ViewGrid<'i, 'h> {
         requires views { to ≤ length (views_of (calls_of self.now)) }
         ensures { IfOk result (λ tally. tally ≡ tally_of (calls_of self.now) (views_between (calls_of self.now) from to)) }
     {
-        let read = self.read_faults(alloc, from, to)?;
+        let (read, stale) = self.read_faults(alloc, from, to)?;
         let others = tally_without_read(self.index, from, to);
         Ok(Tally {
             integrity: others.integrity,
             proximity: others.proximity,
             read,
             write: others.write,
+            stale,
         })
     }
 }

@@ -1,6 +1,7 @@
 pub mod Worked
 mod WorkedCalls
 mod WorkedHistories
+mod WorkedMonotone
 mod WorkedOrders
 mod WorkedRefusals
 pub mod Lists

@@ -3,6 +3,7 @@ pub mod Events
 pub mod Calls
 pub mod Orders
 pub mod Regular
+pub mod Monotone
 pub mod Refusals
 pub mod Tables
 pub mod Laws

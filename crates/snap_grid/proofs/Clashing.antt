@@ -1,5 +1,5 @@
 -- How clashes are counted, and which rows have one.
-use Rattle.std.proofs.Common.{◌≡◌, ℕ, zero, suc, ◌+◌, ◌-◌, ◌*◌, ◌<◌, ◌≤◌, Bool, true, false, not, cond, ◌&&◌, ◌||◌, ◌⊎◌, List, [], ◌∷◌, ◌++◌, Some, None, map, take, drop, length, get_or, min, max, refl, sym, ap, ◌∙◌, subst, inl, inr, add-one, arith}
+use Rattle.std.proofs.Common.{◌≡◌, ℕ, zero, suc, ◌+◌, ◌*◌, ◌<◌, ◌≤◌, Bool, true, false, cond, ◌&&◌, ◌||◌, List, [], ◌∷◌, ◌++◌, Some, None, take, drop, length, min, max, refl, sym, ap, ◌∙◌, arith}
 use Rattle.std.specs.Prelude.{nat_lt, bit_or, bit_and, sum_by, count_by, count_ones, find}
 use Rattle.std.specs.List.{list_any, range_with_len}
 use Rattle.std.specs.Int.{bit_at}
@@ -7,12 +7,10 @@ use Rattle.std.proofs.lemmas.Nat.Bits.{bit_at_or, bit_at_and, bit_at-zero}
 use Rattle.std.proofs.lemmas.List.Sums.{sum_by-cons, sum_by-append, count_by-le-length}
 use Rattle.std.proofs.lemmas.List.Folds.{list_any-append, find-append}
 use Rattle.std.specs.Option.{option_or}
-use Rattle.std.proofs.lemmas.Bool.{false≢true}
 use Rattle.std.proofs.lemmas.List.FromFn.{length-range_with_len}
-use Rattle.snap_grid.specs.Columns.{GridValue, number, any_passes, clashes, clash_count, has_clash, rows_of}
-use Rattle.snap_grid.specs.declared.grid.Clashing.{Clashing}
+use Rattle.snap_grid.specs.Columns.{GridValue, number, any_passes, clashes, clash_count, drops, drop_count, has_clash, rows_of}
 use Rattle.snap_grid.specs.Masks.{mask_by, mask_below}
-use Rattle.snap_grid.specs.Clashes.{ClashesWith}
+use Rattle.snap_grid.specs.Clashes.{ClashesWith, pair_count}
 use Rattle.snap_grid.proofs.Bits.{bit_by, bit_past, bit_below, bit_not_below, mask_from_bits, ones_below}
 use Rattle.snap_grid.proofs.Passing.{row_at, row_count}
 
@@ -40,37 +38,7 @@ any_more p a n = ap (list_any p) (range-append a n 1) ∙ list_any-append p (ran
     or_none true = refl
     or_none false = refl
 
--- the mask of the rows that clash with one
-pub lane : (g : GridValue) (from n s more less before : ℕ) → more ≡ mask_below (λ a. any_passes true g.columns (from + a) s) n → less ≡ mask_below (λ a. any_passes false g.columns (from + a) s) n →
-    before ≡ mask_by (λ x. nat_lt x (number g.begins s)) (take n (drop from g.ends)) → from + n ≤ length g.ends → bit_and more (bit_or less before) ≡ mask_below (λ a. clashes g (from + a) s) n
-unfolding clashes
-lane g from n s more less before e f h l = mask_from_bits (λ a. clashes g (from + a) s) n (bit_and more (bit_or less before)) here past
-  where
-    bits : (a : ℕ) → bit_at (bit_and more (bit_or less before)) a ≡ min (bit_at more a) (max (bit_at less a) (bit_at before a))
-    bits a = bit_at_and more (bit_or less before) a ∙ ap (min (bit_at more a)) (bit_at_or less before a)
-
-    size : length (take n (drop from g.ends)) ≡ n
-    size = row_count g.ends from n l
-
-    before_at : (a : ℕ) → a < n → bit_at before a ≡ cond (nat_lt (number g.ends (from + a)) (number g.begins s)) 1 0
-    before_at a k =
-        ap (λ z. bit_at z a) h ∙ bit_by (λ x. nat_lt x (number g.begins s)) (take n (drop from g.ends)) a (omega (arith, k, size))
-        ∙ ap {B = ℕ} (λ z. cond (nat_lt z (number g.begins s)) 1 0) (row_at g.ends from n a k)
-
-    both : (p q r : Bool) (x y z : ℕ) → x ≡ cond p 1 0 → y ≡ cond q 1 0 → z ≡ cond r 1 0 → min x (max y z) ≡ cond (p && (r || q)) 1 0
-    both true true true x y z a b c = omega (arith, a, b, c)
-    both true true false x y z a b c = omega (arith, a, b, c)
-    both true false true x y z a b c = omega (arith, a, b, c)
-    both true false false x y z a b c = omega (arith, a, b, c)
-    both false q r x y z a b c = omega (arith, a)
-
-    here : (a : ℕ) → a < n → bit_at (bit_and more (bit_or less before)) a ≡ cond (clashes g (from + a) s) 1 0
-    here a k =
-        bits a ∙ both (any_passes true g.columns (from + a) s) (any_passes false g.columns (from + a) s) (nat_lt (number g.ends (from + a)) (number g.begins s)) (bit_at more a) (bit_at less a) (bit_at before a)
-        (ap (λ z. bit_at z a) e ∙ bit_below (λ a. any_passes true g.columns (from + a) s) n a k) (ap (λ z. bit_at z a) f ∙ bit_below (λ a. any_passes false g.columns (from + a) s) n a k) (before_at a k)
-
-    past : (a : ℕ) → n ≤ a → bit_at (bit_and more (bit_or less before)) a ≡ 0
-    past a k = omega (arith, bits a, ap (λ z. bit_at z a) e, bit_not_below (λ a. any_passes true g.columns (from + a) s) n a k)
+-- masks of rows that pass two tests, or one of them
 
 pub mask_or : (n : ℕ) (p q r : ℕ → Bool) → ((a : ℕ) → r a ≡ (p a || q a)) → bit_or (mask_below p n) (mask_below q n) ≡ mask_below r n
 mask_or n p q r h = mask_from_bits r n (bit_or (mask_below p n) (mask_below q n))
@@ -83,38 +51,98 @@ mask_or n p q r h = mask_from_bits r n (bit_or (mask_below p n) (mask_below q n)
     both false true x y a b = omega (arith, a, b)
     both false false x y a b = omega (arith, a, b)
 
+pub mask_and : (n : ℕ) (p q r : ℕ → Bool) → ((a : ℕ) → r a ≡ (p a && q a)) → bit_and (mask_below p n) (mask_below q n) ≡ mask_below r n
+mask_and n p q r h = mask_from_bits r n (bit_and (mask_below p n) (mask_below q n))
+    (λ a l. bit_at_and (mask_below p n) (mask_below q n) a ∙ both (p a) (q a) (bit_at (mask_below p n) a) (bit_at (mask_below q n) a) (bit_below p n a l) (bit_below q n a l) ∙ sym (ap {B = ℕ} (λ z. cond z 1 0) (h a)))
+    (λ a l. omega (arith, bit_at_and (mask_below p n) (mask_below q n) a, bit_not_below p n a l))
+  where
+    both : (p q : Bool) (x y : ℕ) → x ≡ cond p 1 0 → y ≡ cond q 1 0 → min x y ≡ cond (p && q) 1 0
+    both true true x y a b = omega (arith, a, b)
+    both true false x y a b = omega (arith, a, b)
+    both false true x y a b = omega (arith, a, b)
+    both false false x y a b = omega (arith, a, b)
+
+-- the mask of the rows that end before one begins
+before_below : (g : GridValue) (from n s before : ℕ) → before ≡ mask_by (λ x. nat_lt x (number g.begins s)) (take n (drop from g.ends)) → from + n ≤ length g.ends →
+    before ≡ mask_below (λ a. nat_lt (number g.ends (from + a)) (number g.begins s)) n
+before_below g from n s before h l = mask_from_bits (λ a. nat_lt (number g.ends (from + a)) (number g.begins s)) n before
+    (λ a k. ap (λ z. bit_at z a) h ∙ bit_by (λ x. nat_lt x (number g.begins s)) (take n (drop from g.ends)) a (omega (arith, k, size)) ∙ ap {B = ℕ} (λ z. cond (nat_lt z (number g.begins s)) 1 0) (row_at g.ends from n a k))
+    (λ a k. ap (λ z. bit_at z a) h ∙ bit_past (λ x. nat_lt x (number g.begins s)) (take n (drop from g.ends)) a (omega (arith, k, size)))
+  where
+    size : length (take n (drop from g.ends)) ≡ n
+    size = row_count g.ends from n l
+
+-- the mask of the rows that clash with one
+pub lane : (g : GridValue) (from n s more less before : ℕ) → more ≡ mask_below (λ a. any_passes true g.columns (from + a) s) n → less ≡ mask_below (λ a. any_passes false g.columns (from + a) s) n →
+    before ≡ mask_by (λ x. nat_lt x (number g.begins s)) (take n (drop from g.ends)) → from + n ≤ length g.ends → bit_and more (bit_or less before) ≡ mask_below (λ a. clashes g (from + a) s) n
+unfolding clashes
+lane g from n s more less before e f h l =
+    let greater : ℕ → Bool = λ a. any_passes true g.columns (from + a) s in
+    let lesser : ℕ → Bool = λ a. any_passes false g.columns (from + a) s in
+    let ended : ℕ → Bool = λ a. nat_lt (number g.ends (from + a)) (number g.begins s) in
+    (λ i. bit_and (e i) (bit_or (f i) (before_below g from n s before h l i)))
+    ∙ ap (bit_and (mask_below greater n)) (mask_or n lesser ended (λ a. ended a || lesser a) (λ a. either (ended a) (lesser a)))
+    ∙ mask_and n greater (λ a. ended a || lesser a) (λ a. clashes g (from + a) s) (λ a. refl)
+  where
+    either : (p q : Bool) → (p || q) ≡ (q || p)
+    either true true = refl
+    either true false = refl
+    either false true = refl
+    either false false = refl
+
+-- the mask of the rows that drop to one
+pub drop_lane : (g : GridValue) (from n s more before : ℕ) → more ≡ mask_below (λ a. any_passes true g.columns (from + a) s) n →
+    before ≡ mask_by (λ x. nat_lt x (number g.begins s)) (take n (drop from g.ends)) → from + n ≤ length g.ends → bit_and more before ≡ mask_below (λ a. drops g (from + a) s) n
+unfolding drops
+drop_lane g from n s more before e h l =
+    (λ i. bit_and (e i) (before_below g from n s before h l i))
+    ∙ mask_and n (λ a. any_passes true g.columns (from + a) s) (λ a. nat_lt (number g.ends (from + a)) (number g.begins s)) (λ a. drops g (from + a) s) (λ a. refl)
+
+-- how many pairs pass a test: against one row more, and against two ranges of rows that adjoin
+
+pair_more : (p : ℕ → ℕ → Bool) (from n first m count mask new : ℕ) → mask ≡ mask_below (λ a. p (from + a) (first + m)) n → new ≡ count + count_ones mask → count ≡ pair_count p from n first m → new ≡ pair_count p from n first (m + 1)
+pair_more p from n first m count mask new e c h =
+    omega (arith, c, h, ap count_ones e, ones_below (λ a. p (from + a) (first + m)) n, sum_more (λ b. count_by (λ a. p (from + a) b) (range_with_len 0 n)) first m)
+
+pair_both : (p : ℕ → ℕ → Bool) (from n first m k next count more : ℕ) → next ≡ first + m → count ≡ pair_count p from n first m → more ≡ pair_count p from n next k → count + more ≡ pair_count p from n first (m + k)
+pair_both p from n first m k next count more e a b =
+    omega (arith, a, b, ap (λ z. sum_by each (range_with_len z k)) e, ap (sum_by each) (range-append first m k), sum_by-append each (range_with_len first m) (range_with_len (first + m) k))
+  where
+    each : ℕ → ℕ
+    each b = count_by (λ a. p (from + a) b) (range_with_len 0 n)
+
 -- one more row
-pub with_none : (g : GridValue) (from n first : ℕ) → ClashesWith g from n first 0 (record { count = 0; rows = 0 })
-with_none g from n first = record { count = refl; rows = mask_from_bits (λ a. false) n 0 (λ i l. bit_zero i) (λ i l. bit_zero i) }
+pub with_none : (g : GridValue) (from n first : ℕ) → ClashesWith g from n first 0 (record { count = 0; drops = 0; rows = 0 })
+with_none g from n first = record { count = refl; drops = refl; rows = mask_from_bits (λ a. false) n 0 (λ i l. bit_zero i) (λ i l. bit_zero i) }
   where
     bit_zero : (i : ℕ) → bit_at 0 i ≡ 0
     bit_zero i = bit_at-zero i
 
-pub with_more : (g : GridValue) (from n first m count rows mask new_count new_rows : ℕ) → mask ≡ mask_below (λ a. clashes g (from + a) (first + m)) n → new_count ≡ count + count_ones mask → new_rows ≡ bit_or rows mask →
-    ClashesWith g from n first m (record { count = count; rows = rows }) → ClashesWith g from n first (m + 1) (record { count = new_count; rows = new_rows })
-with_more g from n first m count rows mask new_count new_rows e c r h = record {
-  count = omega (arith, c, h.count, ap count_ones e, ones_below (λ a. clashes g (from + a) (first + m)) n, sum_more (λ b. count_by (λ a. clashes g (from + a) b) (range_with_len 0 n)) first m);
+pub with_more : (g : GridValue) (from n first m count dropped rows mask dropping new_count new_dropped new_rows : ℕ) → mask ≡ mask_below (λ a. clashes g (from + a) (first + m)) n → dropping ≡ mask_below (λ a. drops g (from + a) (first + m)) n →
+    new_count ≡ count + count_ones mask → new_dropped ≡ dropped + count_ones dropping → new_rows ≡ bit_or rows mask →
+    ClashesWith g from n first m (record { count = count; drops = dropped; rows = rows }) → ClashesWith g from n first (m + 1) (record { count = new_count; drops = new_dropped; rows = new_rows })
+with_more g from n first m count dropped rows mask dropping new_count new_dropped new_rows e f c d r h = record {
+  count = pair_more (clashes g) from n first m count mask new_count e c h.count;
+  drops = pair_more (drops g) from n first m dropped dropping new_dropped f d h.drops;
   rows = r ∙ ap (λ z. bit_or z mask) h.rows ∙ ap (bit_or (mask_below (λ a. list_any (clashes g (from + a)) (range_with_len first m)) n)) e
       ∙ mask_or n (λ a. list_any (clashes g (from + a)) (range_with_len first m)) (λ a. clashes g (from + a) (first + m)) (λ a. list_any (clashes g (from + a)) (range_with_len first (m + 1))) (λ a. any_more (clashes g (from + a)) first m);
 }
 
--- few rows clash with one
+-- few rows pass a test against one
 pub few_ones : (p : ℕ → Bool) (n mask : ℕ) → mask ≡ mask_below p n → count_ones mask ≤ n
 few_ones p n mask e = omega (arith, ap count_ones e, ones_below p n, count_by-le-length p (range_with_len 0 n), length-range_with_len 0 n)
 
 -- the clashes with two ranges of rows that adjoin
-pub with_both : (g : GridValue) (from n first m k next count rows more_count more_rows : ℕ) → next ≡ first + m → ClashesWith g from n first m (record { count = count; rows = rows }) → ClashesWith g from n next k (record { count = more_count; rows = more_rows }) →
-    ClashesWith g from n first (m + k) (record { count = count + more_count; rows = bit_or rows more_rows })
-with_both g from n first m k next count rows more_count more_rows e a b = record {
-  count = omega (arith, a.count, b.count, ap (λ z. sum_by each (range_with_len z k)) e, ap (sum_by each) (range-append first m k), sum_by-append each (range_with_len first m) (range_with_len (first + m) k));
+pub with_both : (g : GridValue) (from n first m k next count dropped rows more_count more_dropped more_rows : ℕ) → next ≡ first + m → ClashesWith g from n first m (record { count = count; drops = dropped; rows = rows }) →
+    ClashesWith g from n next k (record { count = more_count; drops = more_dropped; rows = more_rows }) → ClashesWith g from n first (m + k) (record { count = count + more_count; drops = dropped + more_dropped; rows = bit_or rows more_rows })
+with_both g from n first m k next count dropped rows more_count more_dropped more_rows e a b = record {
+  count = pair_both (clashes g) from n first m k next count more_count e a.count b.count;
+  drops = pair_both (drops g) from n first m k next dropped more_dropped e a.drops b.drops;
   rows = (λ i. bit_or (a.rows i) (b.rows i))
       ∙ ap (λ z. bit_or (mask_below (λ a. list_any (clashes g (from + a)) (range_with_len first m)) n) (mask_below (λ a. list_any (clashes g (from + a)) (range_with_len z k)) n)) e
       ∙ mask_or n (λ a. list_any (clashes g (from + a)) (range_with_len first m)) (λ a. list_any (clashes g (from + a)) (range_with_len (first + m) k)) (λ a. list_any (clashes g (from + a)) (range_with_len first (m + k)))
       (λ a. ap (list_any (clashes g (from + a))) (range-append first m k) ∙ list_any-append (clashes g (from + a)) (range_with_len first m) (range_with_len (first + m) k));
 }
-  where
-    each : ℕ → ℕ
-    each b = count_by (λ a. clashes g (from + a) b) (range_with_len 0 n)
 
 pub sum_small : (f : ℕ → ℕ) (k : ℕ) → ((b : ℕ) → f b ≤ k) → (n a : ℕ) → sum_by f (range_with_len a n) ≤ n * k
 sum_small f k h zero a = omega arith
@@ -123,9 +151,9 @@ sum_small f k h (suc n) a = omega (arith, sum_by-cons f a (range_with_len (a + 1
     mul_suc : (n k : ℕ) → suc n * k ≡ k + n * k
     mul_suc n k = grind arith
 
-pub few_with : (g : GridValue) (from n first m : ℕ) (c : Clashing) → n ≤ 64 → ClashesWith g from n first m c → c.count ≤ m * 64
-few_with g from n first m c l h =
-    omega (arith, h.count, sum_small (λ b. count_by (λ a. clashes g (from + a) b) (range_with_len 0 n)) 64 (λ b. omega (arith, l, count_by-le-length (λ a. clashes g (from + a) b) (range_with_len 0 n), length-range_with_len 0 n)) m first)
+pub few_pairs : (p : ℕ → ℕ → Bool) (from n first m count : ℕ) → n ≤ 64 → count ≡ pair_count p from n first m → count ≤ m * 64
+few_pairs p from n first m count l h =
+    omega (arith, h, sum_small (λ b. count_by (λ a. p (from + a) b) (range_with_len 0 n)) 64 (λ b. omega (arith, l, count_by-le-length (λ a. p (from + a) b) (range_with_len 0 n), length-range_with_len 0 n)) m first)
 
 -- a sum over pairs, in either order
 
@@ -151,24 +179,39 @@ sum_shift h c (suc n) d =
     assoc : c + (d + 1) ≡ c + d + 1
     assoc = omega arith
 
--- the clashes with all rows, row by row
-pub counted : (g : GridValue) (from n m count rows : ℕ) → m ≡ length g.begins → ClashesWith g from n 0 m (record { count = count; rows = rows }) → count ≡ sum_by (clash_count g) (range_with_len from n)
-unfolding clash_count
-counted g from n m count rows e h =
-    h.count ∙ ap (λ z. sum_by (λ b. count_by (λ a. clashes g (from + a) b) (range_with_len 0 n)) (range_with_len 0 z)) e
-    ∙ sum_swap (λ a b. cond (clashes g (from + a) b) 1 0) (range_with_len 0 n) (rows_of g)
-    ∙ sum_shift (λ a. count_by (clashes g a) (rows_of g)) from n 0 ∙ ap (λ z. sum_by (λ a. count_by (clashes g a) (rows_of g)) (range_with_len z n)) none
+-- the pairs with all rows, row by row
+
+by_row : (p : ℕ → ℕ → Bool) (g : GridValue) (from n m count : ℕ) → m ≡ length g.begins → count ≡ pair_count p from n 0 m → count ≡ sum_by (λ a. count_by (p a) (rows_of g)) (range_with_len from n)
+by_row p g from n m count e h =
+    h ∙ ap (pair_count p from n 0) e
+    ∙ sum_swap (λ a b. cond (p (from + a) b) 1 0) (range_with_len 0 n) (rows_of g)
+    ∙ sum_shift (λ a. count_by (p a) (rows_of g)) from n 0 ∙ ap (λ z. sum_by (λ a. count_by (p a) (rows_of g)) (range_with_len z n)) none
   where
     none : from + 0 ≡ from
     none = omega arith
 
-pub marked : (g : GridValue) (from n m count rows : ℕ) → m ≡ length g.begins → ClashesWith g from n 0 m (record { count = count; rows = rows }) → rows ≡ mask_below (λ a. has_clash g (from + a)) n
-unfolding has_clash
-marked g from n m count rows e h = h.rows ∙ ap (λ z. mask_below (λ a. list_any (clashes g (from + a)) (range_with_len 0 z)) n) e
+few_by_row : (p : ℕ → ℕ → Bool) (g : GridValue) (from n : ℕ) → length g.begins ≤ 65536 → sum_by (λ a. count_by (p a) (rows_of g)) (range_with_len from n) ≤ n * 65536
+few_by_row p g from n l = sum_small (λ a. count_by (p a) (rows_of g)) 65536 (λ a. omega (arith, l, count_by-le-length (p a) (rows_of g), length-range_with_len 0 (length g.begins))) n from
+
+pub counted : (g : GridValue) (from n m count : ℕ) → m ≡ length g.begins → count ≡ pair_count (clashes g) from n 0 m → count ≡ sum_by (clash_count g) (range_with_len from n)
+unfolding clash_count
+counted g = by_row (clashes g) g
+
+pub dropped : (g : GridValue) (from n m count : ℕ) → m ≡ length g.begins → count ≡ pair_count (drops g) from n 0 m → count ≡ sum_by (drop_count g) (range_with_len from n)
+unfolding drop_count
+dropped g = by_row (drops g) g
 
 pub few_counted : (g : GridValue) (from n : ℕ) → length g.begins ≤ 65536 → sum_by (clash_count g) (range_with_len from n) ≤ n * 65536
 unfolding clash_count
-few_counted g from n l = sum_small (λ a. count_by (clashes g a) (rows_of g)) 65536 (λ a. omega (arith, l, count_by-le-length (clashes g a) (rows_of g), length-range_with_len 0 (length g.begins))) n from
+few_counted g = few_by_row (clashes g) g
+
+pub few_dropped : (g : GridValue) (from n : ℕ) → length g.begins ≤ 65536 → sum_by (drop_count g) (range_with_len from n) ≤ n * 65536
+unfolding drop_count
+few_dropped g = few_by_row (drops g) g
+
+pub marked : (g : GridValue) (from n m rows : ℕ) → m ≡ length g.begins → rows ≡ mask_below (λ a. list_any (clashes g (from + a)) (range_with_len 0 m)) n → rows ≡ mask_below (λ a. has_clash g (from + a)) n
+unfolding has_clash
+marked g from n m rows e h = h ∙ ap (λ z. mask_below (λ a. list_any (clashes g (from + a)) (range_with_len 0 z)) n) e
 
 -- the first row that passes
 

@@ -1,5 +1,5 @@
 -- Rows of numbers, kept by columns, and which of two rows has a greater number in some column.
-use Rattle.std.specs.Prelude.{true, false, ℕ, ◌+◌, ◌-◌, ◌/◌, ◌*◌, ◌<◌, ◌≤◌, ◌≡◌, Bool, ◌&&◌, ◌||◌, cond, List, [], length, get_or, nat_lt, take, drop}
+use Rattle.std.specs.Prelude.{true, false, ℕ, ◌/◌, ◌<◌, ◌≤◌, ◌≡◌, Bool, ◌&&◌, ◌||◌, cond, List, [], length, get_or, nat_lt}
 use Rattle.std.specs.List.{list_any, range_with_len, count_by}
 
 -- the number of a row in a column
@@ -28,6 +28,10 @@ pub record GridValue : Type 0 where
 unfoldable pub clashes : GridValue → ℕ → ℕ → Bool
 clashes g a b = any_passes true g.columns a b && (nat_lt (number g.ends a) (number g.begins b) || any_passes false g.columns a b)
 
+-- row a has a greater number than row b in some column, and ends before b begins
+unfoldable pub drops : GridValue → ℕ → ℕ → Bool
+drops g a b = any_passes true g.columns a b && nat_lt (number g.ends a) (number g.begins b)
+
 pub record HaveSameRows (columns : List (List ℕ)) (begins ends : List ℕ) : Type 0 where
   pub few : length begins ≤ 65536
   pub ended : length ends ≡ length begins
@@ -40,6 +44,10 @@ rows_of g = range_with_len 0 (length g.begins)
 -- how many rows a row clashes with
 unfoldable pub clash_count : GridValue → ℕ → ℕ
 clash_count g a = count_by (clashes g a) (rows_of g)
+
+-- how many rows a row drops to
+unfoldable pub drop_count : GridValue → ℕ → ℕ
+drop_count g a = count_by (drops g a) (rows_of g)
 
 unfoldable pub has_clash : GridValue → ℕ → Bool
 has_clash g a = list_any (clashes g a) (rows_of g)

@@ -1,6 +1,6 @@
 ghost use Rattle.std.specs.Prelude.{◌≡◌, ◌≤◌, ◌<◌, ◌+◌, ◌*◌, ◌-◌, ℕ, Bool, [], length, get_or, take, drop, sum_by, count_by, find, IfOk};
 ghost use Rattle.std.specs.List.{range_with_len, list_any};
-ghost use Rattle.snap_grid.specs.Columns.{GridValue, clashes, clash_count, has_clash, HaveSameRows};
+ghost use Rattle.snap_grid.specs.Columns.{GridValue, clashes, clash_count, drop_count, has_clash, HaveSameRows};
 ghost use Rattle.snap_grid.specs.Masks.{mask_below};
 ghost use Rattle.snap_grid.specs.Clashes.{ClashesWith};
 
@@ -28,17 +28,19 @@ impl Model for Grid {
     ghost invariant = { λ g. HaveSameRows g.columns.items g.begins.items g.ends.items };
 }
 
-/// How many clashes there are, and the first row that has one.
+/// How many clashes there are, how many drops, and the first row that has a clash.
 #[derive(Clone, Copy)]
 pub struct Clashes {
     pub count: u64,
+    pub drops: u64,
     pub first: Option<usize>,
 }
 
-// How many clashes there are, and the mask of our rows that have one.
+// How many clashes there are, how many drops, and the mask of our rows that have a clash.
 #[derive(Clone, Copy)]
 pub(crate) struct Clashing {
     pub(crate) count: u64,
+    pub(crate) drops: u64,
     pub(crate) rows: u64,
 }
 
@@ -80,14 +82,21 @@ impl Grid {
         let more = ours.passing(true, block, count);
         let less = ours.passing(false, block, count);
         let mut found = 0;
+        let mut drops = 0;
         let mut rows = 0;
         for i in 0..count {
             let before = ends.before(begins[block * WIDTH + i]);
             let mask = more[i] & (less[i] | before);
+            let dropping = more[i] & before;
             found += u64::from(mask.count_ones());
+            drops += u64::from(dropping.count_ones());
             rows |= mask;
         }
-        Clashing { count: found, rows }
+        Clashing {
+            count: found,
+            drops,
+            rows,
+        }
     }
 
     // Some of our rows against all rows.
@@ -100,13 +109,16 @@ impl Grid {
         requires few { count ≤ 64 }
         requires within { from + count ≤ length self.now.begins }
         ensures count { IfOk result (λ c. c.count ≡ sum_by (clash_count self.now) (range_with_len from count)) }
+        ensures drops { IfOk result (λ c. c.drops ≡ sum_by (drop_count self.now) (range_with_len from count)) }
         ensures few { IfOk result (λ c. c.count ≤ count * 65536) }
+        ensures few_drops { IfOk result (λ c. c.drops ≤ count * 65536) }
         ensures rows { IfOk result (λ c. c.rows ≡ mask_below (λ a. has_clash self.now (from + a)) count) }
     {
         let all = self.begins.len();
         let ours = Block::of(alloc, &self.columns, from, count)?;
         let ends = Masks::of(alloc, &self.ends[from..from + count], 0)?;
         let mut found = 0;
+        let mut drops = 0;
         let mut rows = 0;
         let mut block = 0;
         let mut done = 0;
@@ -114,33 +126,46 @@ impl Grid {
             let theirs = (all - done).min(WIDTH);
             let more = self.clashing(&ours, &ends, block, theirs);
             found += more.count;
+            drops += more.drops;
             rows |= more.rows;
             block += 1;
             done += theirs;
         }
-        Ok(Clashing { count: found, rows })
+        Ok(Clashing {
+            count: found,
+            drops,
+            rows,
+        })
     }
 
-    /// The clashes of the rows from `from` to before `to` with all rows: how many there are, and the first of our rows that
-    /// has one.
+    /// The clashes and the drops of the rows from `from` to before `to` with all rows: how many there are, and the first of our
+    /// rows that has a clash. A row clashes with one that has a lesser number in some column and either begins behind the row's
+    /// end or has a greater number in some column; it drops to one that has a lesser number and begins behind its end.
     pub fn clashes(&self, alloc: Global, from: usize, to: usize) -> Result<Clashes, AllocError>
         requires order { from ≤ to }
         requires within { to ≤ length self.now.begins }
         ensures count { IfOk result (λ c. c.count ≡ sum_by (clash_count self.now) (range_with_len from (to - from))) }
+        ensures drops { IfOk result (λ c. c.drops ≡ sum_by (drop_count self.now) (range_with_len from (to - from))) }
         ensures first { IfOk result (λ c. c.first ≡ find (has_clash self.now) (range_with_len from (to - from))) }
     {
         // that there are few rows
         let _rows = self.begins.len();
         let mut count = 0;
+        let mut drops = 0;
         let mut first = None;
         let mut start = from;
         while start < to {
             let rows = (to - start).min(WIDTH);
             let more = self.block_clashing(alloc, start, rows)?;
             count += more.count;
+            drops += more.drops;
             first = first.or(first_row(start, more.rows));
             start += rows;
         }
-        Ok(Clashes { count, first })
+        Ok(Clashes {
+            count,
+            drops,
+            first,
+        })
     }
 }

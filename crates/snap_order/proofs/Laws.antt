@@ -5,10 +5,11 @@ use Rattle.snap_order.specs.Levels.{printed_order, IsPrintedOrder}
 use Rattle.snap_order.proofs.Starts.{start_push, start_back}
 use Rattle.snap_order.proofs.Keys.{keys_give_order}
 use Rattle.snap_order.proofs.Unique.{printed_is, printed_alone}
-use Rattle.snap_order.specs.Laws.{PrintsLegalOrder, LegalOrderHasNoFault, AtomicExactly, PrintedOrderAlone, LegalStartGrows, KeysGiveOrder}
+use Rattle.snap_order.specs.Laws.{PrintsLegalOrder, LegalOrderHasNoFault, AtomicExactly, AtomicIsMonotone, PrintedOrderAlone, LegalStartGrows, KeysGiveOrder}
 use Rattle.snap_order.proofs.Forward.{printed_legal}
 use Rattle.snap_order.proofs.Backward.{legal_meets}
 use Rattle.snap_conditions.proofs.Laws.{meets_from_none, none_from_meets}
+use Rattle.snap_conditions.proofs.StaleViews.{monotone_without_read_fault}
 use Rattle.snap_core.proofs.Histories.{are_calls}
 
 pub prints_legal_order : PrintsLegalOrder
@@ -19,6 +20,9 @@ legal_order_has_no_fault es h order o = none_from_meets es (legal_meets (calls_o
 
 pub atomic_exactly : AtomicExactly
 atomic_exactly es h b = (λ a. legal_order_has_no_fault es h a.0 a.1, λ n. (printed_order (calls_of es), prints_legal_order es h b n))
+
+pub atomic_is_monotone : AtomicIsMonotone
+atomic_is_monotone es h a = monotone_without_read_fault (calls_of es) (legal_order_has_no_fault es h a.0 a.1).read
 
 pub printed_order_alone : PrintedOrderAlone
 printed_order_alone es h order =

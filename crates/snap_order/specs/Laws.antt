@@ -3,6 +3,7 @@ use Rattle.std.specs.Prelude.{ℕ, map, List, [], ◌∷◌, ◌++◌, ◌≡◌
 use Rattle.snap_core.specs.declared.event.Event.{Event}
 use Rattle.snap_core.specs.Events.{IsHistory, HasByteComponents}
 use Rattle.snap_core.specs.Calls.{Call, calls_of}
+use Rattle.snap_core.specs.Monotone.{IsMonotone}
 use Rattle.snap_core.specs.Orders.{IsLegalOrder, IsAtomic}
 use Rattle.snap_conditions.specs.Faults.{HasNoFault}
 use Rattle.snap_order.specs.Levels.{printed_order, IsPrintedOrder}
@@ -20,6 +21,10 @@ LegalOrderHasNoFault = (events : List Event) → IsHistory events → (order : L
 -- atomic exactly where there is no fault
 abbrev pub AtomicExactly : Type 0
 AtomicExactly = (events : List Event) → IsHistory events → HasByteComponents events → IsAtomic (calls_of events) ↔ HasNoFault (calls_of events)
+
+-- an atomic history is monotone
+abbrev pub AtomicIsMonotone : Type 0
+AtomicIsMonotone = (events : List Event) → IsHistory events → IsAtomic (calls_of events) → IsMonotone (calls_of events)
 
 -- the printed order is the only sorted list of the printed calls
 abbrev pub PrintedOrderAlone : Type 0

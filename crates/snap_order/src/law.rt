@@ -1,10 +1,15 @@
-ghost use Rattle.snap_order.specs.Laws.{PrintsLegalOrder, LegalOrderHasNoFault, AtomicExactly, PrintedOrderAlone, LegalStartGrows, KeysGiveOrder};
+ghost use Rattle.snap_order.specs.Laws.{PrintsLegalOrder, LegalOrderHasNoFault, AtomicExactly, AtomicIsMonotone, PrintedOrderAlone, LegalStartGrows, KeysGiveOrder};
 
 /// The Shrinking Lemma: a history is atomic exactly where it has no fault, and then the printed order is a legal one.
 pub fn shrinking_lemma()
     ensures printed { PrintsLegalOrder }
     ensures no_fault { LegalOrderHasNoFault }
     ensures atomic { AtomicExactly }
+{}
+
+/// An atomic history is monotone.
+pub fn atomic_is_monotone()
+    ensures { AtomicIsMonotone }
 {}
 
 /// The printed order is the one sorted list of the printed calls.

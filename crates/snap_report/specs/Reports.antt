@@ -15,7 +15,7 @@ count_line events =
     ∷ codes "pending" ∷ decimal (count_by is_pending (calls_of events))
     ∷ codes "views" ∷ decimal (length (views_of (calls_of events))) ∷ []
 
--- regular yes, or no, and so for atomic
+-- regular yes, or no, and so for monotone and atomic
 abbrev pub verdict_line : Word → Bool → Line
 verdict_line word holds = word ∷ (if holds then codes "yes" else codes "no") ∷ []
 
@@ -31,14 +31,18 @@ call_line c = call_word c.number ∷ process_word c.process ∷ operation_words 
 abbrev pub order_lines : List Call → List Line
 order_lines order = (codes "order" ∷ decimal (length order) ∷ []) ∷ map call_line order
 
--- the numbers of the history, the two verdicts, and what they stand on
-abbrev pub report_lines : List Event → Bool → Bool → List Line → List Line
-report_lines events regular atomic findings =
-    count_line events ∷ verdict_line (codes "regular") regular ∷ verdict_line (codes "atomic") atomic ∷ findings
+-- the numbers of the history, the three verdicts, and what they stand on
+abbrev pub report_lines : List Event → Bool → Bool → Bool → List Line → List Line
+report_lines events regular monotone atomic findings =
+    count_line events ∷ verdict_line (codes "regular") regular ∷ verdict_line (codes "monotone") monotone ∷ verdict_line (codes "atomic") atomic ∷ findings
 
 -- no fault of one view alone
 abbrev pub has_no_local_fault : Tally → Bool
 has_no_local_fault t = (t.integrity.count == 0) && (t.proximity.count == 0)
+
+-- no view goes back
+abbrev pub has_no_stale_view : Tally → Bool
+has_no_stale_view t = t.stale == 0
 
 abbrev pub has_no_fault : Tally → Bool
 has_no_fault t = has_no_local_fault t && ((t.read.count == 0) && (t.write.count == 0))
@@ -50,4 +54,4 @@ finding_lines t None = fault_lines t
 
 -- the report of a history by a tally of its faults, and by an order of its calls where there is one
 abbrev pub report_text : List Event → Tally → Option (List Call) → List ℕ
-report_text events t order = text_of (report_lines events (has_no_local_fault t) (has_no_fault t) (finding_lines t order))
+report_text events t order = text_of (report_lines events (has_no_local_fault t) (has_no_stale_view t) (has_no_fault t) (finding_lines t order))

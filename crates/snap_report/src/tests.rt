@@ -21,7 +21,7 @@ fn a_stale_view_is_reported_with_the_number_that_it_shows(rt: HostRuntime) -> Re
     assert!(rt; !is_atomic(&tally));
     let text = report(alloc, &index, &tally, None)?;
     let expected =
-        b"events 4 calls 2 pending 0 views 1\nregular no\natomic no\nproximity 1 first view 2 entry 0:0 old\n";
+        b"events 4 calls 2 pending 0 views 1\nregular no\nmonotone yes\natomic no\nproximity 1 first view 2 entry 0:0 old\n";
     assert_eq!(rt; text.as_slice(), expected.as_slice());
     Ok(())
 }

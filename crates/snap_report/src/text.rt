@@ -8,7 +8,7 @@ ghost use Rattle.snap_report.specs.Reports.{count_line, has_no_fault, report_tex
 use crate::faults::put_faults;
 use crate::order::put_order;
 use crate::words::put_number;
-use snap_conditions::{Tally, is_atomic, is_regular};
+use snap_conditions::{Tally, is_atomic, is_monotone, is_regular};
 use snap_index::Index;
 use std::alloc::{AllocError, Global};
 
@@ -67,6 +67,7 @@ pub fn report_in(
     out.clear();
     put_counts(&mut out, index)?;
     put_verdict(&mut out, b"regular", is_regular(tally))?;
+    put_verdict(&mut out, b"monotone", is_monotone(tally))?;
     put_verdict(&mut out, b"atomic", is_atomic(tally))?;
     match order {
         Some(order) => put_order(&mut out, index, order)?,

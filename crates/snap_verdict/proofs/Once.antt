@@ -24,9 +24,10 @@ verdict_once : (xs ys : List Event) (s t : Status) (o u : List ℕ) → xs ≡ y
 verdict_once xs ys s t o u e v w =
     let same = subst (λ (zs : List Event). IsVerdict zs t u) (sym e) w in
     let regular = one_bool v.regular same.regular (λ h. same.regular_exactly.1 (v.regular_exactly.0 h)) (λ h. v.regular_exactly.1 (same.regular_exactly.0 h)) in
+    let monotone = one_bool v.monotone same.monotone (λ h. same.monotone_exactly.1 (v.monotone_exactly.0 h)) (λ h. v.monotone_exactly.1 (same.monotone_exactly.0 h)) in
     let atomic = one_bool v.atomic same.atomic (λ h. same.atomic_exactly.1 (v.atomic_exactly.0 h)) (λ h. v.atomic_exactly.1 (same.atomic_exactly.0 h)) in (
       v.answers ∙ (λ i. status_of (regular i) (atomic i)) ∙ sym same.answers,
-      v.writes ∙ (λ i. text_of (report_lines xs (regular i) (atomic i) (findings (atomic i) (calls_of xs)))) ∙ sym same.writes,
+      v.writes ∙ (λ i. text_of (report_lines xs (regular i) (monotone i) (atomic i) (findings (atomic i) (calls_of xs)))) ∙ sym same.writes,
     )
 
 pub one_report : (text : List ℕ) (status other : Status) (out others : List ℕ) → IsReport text status out → IsReport text other others → (status ≡ other) × (out ≡ others)

@@ -10,6 +10,7 @@ use Rattle.std.proofs.lemmas.List.{take_all}
 use Rattle.snap_core.specs.declared.event.Event.{Event}
 use Rattle.snap_core.specs.Calls.{Call, Operation, Updates, Views, calls_of, is_view, views_of}
 use Rattle.snap_core.specs.Events.{HasByteComponents, IsKept}
+use Rattle.snap_core.specs.Monotone.{IsMonotone}
 use Rattle.snap_core.specs.Orders.{IsAtomic, is_update}
 use Rattle.snap_core.specs.Regular.{IsRegular}
 use Rattle.snap_core.proofs.Fits.{bytes_of_events}
@@ -19,6 +20,7 @@ use Rattle.snap_conditions.specs.declared.tally.Tally.{Tally}
 use Rattle.snap_conditions.specs.Faults.{HasNoFault}
 use Rattle.snap_conditions.specs.Tally.{CountsNoFault, CountsNoLocalFault, tally_of, views_between}
 use Rattle.snap_conditions.proofs.Ranges.{no_fault_by_tally, regular_by_tally}
+use Rattle.snap_conditions.proofs.StaleViews.{monotone_by_tally}
 use Rattle.snap_index.proofs.Known.{number_within, own_number}
 use Rattle.snap_order.specs.Levels.{is_printed, printed_order, stands_by}
 use Rattle.snap_order.specs.Numbers.{picked}
@@ -26,7 +28,7 @@ use Rattle.snap_order.proofs.Laws.{atomic_exactly, prints_legal_order}
 use Rattle.snap_order.proofs.Numbers.{order_picked}
 use Rattle.snap_order.proofs.Printed.{in_printed}
 use Rattle.snap_report.specs.Orders.{HasLine, calls_numbered}
-use Rattle.snap_report.specs.Reports.{finding_lines, has_no_fault, has_no_local_fault, report_lines, report_text}
+use Rattle.snap_report.specs.Reports.{finding_lines, has_no_fault, has_no_local_fault, has_no_stale_view, report_lines, report_text}
 use Rattle.snap_report.specs.Lines.{Line, text_of}
 use Rattle.snap_verdict.specs.declared.status.Status.{Status}
 use Rattle.snap_verdict.specs.Statuses.{status_of}
@@ -100,6 +102,12 @@ regular_is es t w =
     let law = regular_by_tally es w.kept.history (bytes_in es w.kept) in
     (λ e. law.0 (subst CountsNoLocalFault w.whole (local_from t e)), λ r. local_to t (subst CountsNoLocalFault (sym w.whole) (law.1 r)))
 
+monotone_is : (es : List Event) (t : Tally) → IsTallied es t → IsTrue (has_no_stale_view t) ↔ IsMonotone (calls_of es)
+monotone_is es t w =
+    let law = monotone_by_tally (calls_of es) in
+    let same = ap (λ (t : Tally). t.stale) w.whole in
+    (λ e. law.0 (sym same ∙ eqb-true _ _ e), λ m. eq-eqb _ _ (same ∙ law.1 m))
+
 atomic_is : (es : List Event) (t : Tally) → IsTallied es t → IsTrue (has_no_fault t) ↔ IsAtomic (calls_of es)
 atomic_is es t w =
     let law = atomic_exactly es w.kept.history (bytes_in es w.kept) in (
@@ -117,12 +125,14 @@ pub verdict_is : (es : List Event) (t : Tally) → IsTallied es t → (order : O
 verdict_is es t w order f g status out s o =
     record {
       regular = has_no_local_fault t;
+      monotone = has_no_stale_view t;
       atomic = has_no_fault t;
       regular_exactly = regular_is es t w;
+      monotone_exactly = monotone_is es t w;
       atomic_exactly = atomic_is es t w;
       legal = λ e. prints_legal_order es w.kept.history (bytes_in es w.kept) (no_fault_then es t w.whole (all_from t e));
       answers = s;
-      writes = o ∙ ap (λ (lines : List Line). text_of (report_lines es (has_no_local_fault t) (has_no_fault t) lines)) (finding_is es t w order (has_no_fault t) refl f g);
+      writes = o ∙ ap (λ (lines : List Line). text_of (report_lines es (has_no_local_fault t) (has_no_stale_view t) (has_no_fault t) lines)) (finding_is es t w order (has_no_fault t) refl f g);
     }
 
 pub verdict_by : (es : List Event) (t : Tally) → IsTallied es t → (order : Option (Bor (List ℕ))) → is_some order ≡ has_no_fault t →

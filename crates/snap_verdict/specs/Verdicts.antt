@@ -2,6 +2,7 @@
 use Rattle.std.specs.Prelude.{ℕ, Bool, true, false, List, ◌≡◌, ◌↔◌, IsTrue}
 use Rattle.snap_core.specs.declared.event.Event.{Event}
 use Rattle.snap_core.specs.Calls.{Call, calls_of, views_of}
+use Rattle.snap_core.specs.Monotone.{IsMonotone}
 use Rattle.snap_core.specs.Orders.{IsAtomic, IsLegalOrder}
 use Rattle.snap_core.specs.Regular.{IsRegular}
 use Rattle.snap_conditions.specs.Tally.{tally_of}
@@ -20,14 +21,17 @@ findings false calls = fault_lines (tally_of calls (views_of calls))
 -- the status and the report of a history
 pub record IsVerdict (events : List Event) (status : Status) (out : List ℕ) : Type 0 where
   pub regular : Bool
+  pub monotone : Bool
   pub atomic : Bool
   -- regular exactly where each completed view gives each component a value neither older than its last update ended before the
   -- view nor begun after it
   pub regular_exactly : IsTrue regular ↔ IsRegular (calls_of events)
+  -- monotone exactly where no completed view precedes one that shows an older number of some component
+  pub monotone_exactly : IsTrue monotone ↔ IsMonotone (calls_of events)
   -- atomic exactly where some order of all completed calls and some pending updates keeps precedence and gives each view the
   -- latest updates (Herlihy and Wing 1990)
   pub atomic_exactly : IsTrue atomic ↔ IsAtomic (calls_of events)
   -- the order that is printed is such an order
   pub legal : IsTrue atomic → IsLegalOrder (calls_of events) (printed_order (calls_of events))
   pub answers : status ≡ status_of regular atomic
-  pub writes : out ≡ text_of (report_lines events regular atomic (findings atomic (calls_of events)))
+  pub writes : out ≡ text_of (report_lines events regular monotone atomic (findings atomic (calls_of events)))

@@ -6,7 +6,7 @@ use Rattle.snap_conditions.proofs.Ranges.{tallies_join, ranges_fit, one_between,
 use Rattle.snap_conditions.proofs.range.tally_without_read.Goals as goal
 
 fit_without : (a b : Tally) → SumsFit a b → SumsFit (without_read a) (without_read b)
-fit_without a b s = record { integrity = s.integrity; proximity = s.proximity; read = omega arith; write = s.write }
+fit_without a b s = record { integrity = s.integrity; proximity = s.proximity; read = omega arith; write = s.write; stale = omega arith }
 
 pub loop-place-init : goal.loop-place-init
 loop-place-init c =

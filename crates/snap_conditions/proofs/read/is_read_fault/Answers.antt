@@ -8,17 +8,8 @@ use Rattle.snap_conditions.specs.Faults.{read_fault}
 use Rattle.snap_conditions.specs.Rows.{AreNumbersOf, IsLessSomewhere, number_among, row_number}
 use Rattle.snap_conditions.specs.Seen.{IsSeen}
 use Rattle.snap_conditions.proofs.Finds.{read_fault_is}
-use Rattle.snap_conditions.proofs.Rows.{among_is_shown}
+use Rattle.snap_conditions.proofs.SeenPairs.{less_seen, more_seen, same_before}
 use Rattle.snap_conditions.proofs.read.is_read_fault.Goals as goal
-
-same_before : (r s : Call) (view other : SeenView) → IsSeen r view → IsSeen s other → is_before view.call.ended other.call.begun ≡ is_before r.ended s.begun
-same_before r s view other v w = ap (λ (z : BareCall). is_before z.ended other.call.begun) v.call ∙ ap (λ (z : BareCall). is_before r.ended z.begun) w.call
-
-same_less : (P : Type 0) (f g p q : ℕ → ℕ) → ((k : ℕ) → k < 256 → f k ≡ p k) → ((k : ℕ) → k < 256 → g k ≡ q k) → P ↔ IsLessSomewhere f g → P ↔ IsLessSomewhere p q
-same_less P f g p q e h d = (
-  λ t. let m = d.0 t in (m.0, m.1, omega (arith, m.2, e m.0 m.1, h m.0 m.1)),
-  λ m. d.1 (m.0, m.1, omega (arith, m.2, e m.0 m.1, h m.0 m.1)),
-)
 
 -- by what was compared of the views that were seen
 seen_fault : (r s : Call) (view other : SeenView) (row : List ℕ) (x : Excess) (before : Bool) → IsSeen r view → IsSeen s other → AreNumbersOf view.entries.now row →
@@ -26,15 +17,7 @@ seen_fault : (r s : Call) (view other : SeenView) (row : List ℕ) (x : Excess) 
     before ≡ is_before view.call.ended other.call.begun → read_fault r s ≡ (x.first && (before || x.second))
 seen_fault r s view other row x before v w n m l b =
     read_fault_is r s x.first x.second before v.shape w.shape
-    (same_less (IsTrue x.first) (number_among other.entries.now) (row_number row) (shown_number s) (shown_number r) theirs mine m)
-    (same_less (IsTrue x.second) (row_number row) (number_among other.entries.now) (shown_number r) (shown_number s) mine theirs l)
-    (b ∙ same_before r s view other v w)
-  where
-    mine : (k : ℕ) → k < 256 → row_number row k ≡ shown_number r k
-    mine k i = n k i ∙ ap (λ es. number_among es k) v.entries ∙ among_is_shown r k
-
-    theirs : (k : ℕ) → k < 256 → number_among other.entries.now k ≡ shown_number s k
-    theirs k i = ap (λ es. number_among es k) w.entries ∙ among_is_shown s k
+    (more_seen (IsTrue x.first) r s view other row v w n m) (less_seen (IsTrue x.second) r s view other row v w n l) (b ∙ same_before r s view other v w)
 
 or_true : (b : Bool) → (b || true) ≡ true
 or_true true = refl

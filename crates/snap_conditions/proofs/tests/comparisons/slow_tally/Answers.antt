@@ -7,4 +7,4 @@ pub returns : goal.returns
 unfolding tally_of
 returns c =
     let calls = calls_of c.args.index.now in
-    tally_is _ (tally_of calls (views_between calls c.args.from c.args.to)) c.slow_integrity.ensures c.slow_proximity.ensures c.slow_read.ensures c.slow_write.ensures
+    tally_is _ (tally_of calls (views_between calls c.args.from c.args.to)) c.slow_integrity.ensures c.slow_proximity.ensures c.slow_read.ensures c.slow_write.ensures c.slow_stale.ensures

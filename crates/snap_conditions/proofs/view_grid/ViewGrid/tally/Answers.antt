@@ -11,4 +11,4 @@ unfolding tally_of
 returns c =
     let here = tally_of (calls_of c.args.self.now) (views_between (calls_of c.args.self.now) c.args.from c.args.to) in
     let others : c.tally_without_read-others.result ≡ without_read here = c.tally_without_read-others.ensures ∙ ap (λ (z : List Event). without_read (tally_of (calls_of z) (views_between (calls_of z) c.args.from c.args.to))) c.self.view_is in
-    tally_is _ here (ap (λ (t : Tally). t.integrity) others) (ap (λ (t : Tally). t.proximity) others) c.in_ok-read.ensures (ap (λ (t : Tally). t.write) others)
+    tally_is _ here (ap (λ (t : Tally). t.integrity) others) (ap (λ (t : Tally). t.proximity) others) c.in_ok-read.ensures.faults (ap (λ (t : Tally). t.write) others) c.in_ok-read.ensures.stale

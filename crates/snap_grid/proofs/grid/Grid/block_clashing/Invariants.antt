@@ -1,4 +1,4 @@
-use Rattle.std.proofs.Common.{◌≡◌, ◌≤◌, ◌*◌, ◌-◌, min, length}
+use Rattle.std.proofs.Common.{◌≡◌, ◌≤◌, ◌*◌, ◌-◌, min}
 use Rattle.snap_grid.specs.Clashes.{ClashesWith}
 use Rattle.snap_grid.proofs.grid.Grid.block_clashing.Given as goal
 
@@ -6,7 +6,7 @@ abbrev pub invariant-loop-done : goal.invariant-loop-done
 invariant-loop-done l = record {
   at : l.done ≡ min (l.block * 64) l.all;
   small : l.found ≤ l.done * 64;
-  found : ClashesWith l.self l.from l.count 0 l.done (record { count = l.found; rows = l.rows });
+  found : ClashesWith l.self l.from l.count 0 l.done (record { count = l.found; drops = l.drops; rows = l.rows });
 }
 
 abbrev pub decreases-loop-done : goal.decreases-loop-done
