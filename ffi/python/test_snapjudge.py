@@ -45,7 +45,8 @@ class Judge(unittest.TestCase):
             return
         judged = snapjudge.check(text)
         self.assertEqual((judged.status, judged.report), (status, wanted))
-        self.assertEqual((judged.regular, judged.atomic), ("regular yes" in wanted, "atomic yes" in wanted))
+        verdicts = tuple(f"{word} yes" in wanted for word in ("regular", "monotone", "atomic"))
+        self.assertEqual((judged.regular, judged.monotone, judged.atomic), verdicts)
         if judged.atomic:
             self.assertEqual(len(judged.order), int(wanted.split("order ")[1].split("\n")[0]))
 

@@ -5,7 +5,7 @@ const TEXT: &[u8] =
     b"event,process,op,data\nbegin,0,update,0:1:7\nend,0,update,\nbegin,1,view,\nend,1,view,0:1:7\n";
 
 const REPORT: &[u8] =
-    b"events 4 calls 2 pending 0 views 1\nregular yes\natomic yes\norder 2\n1 p0 update 0:1:7\n2 p1 view 0:1:7\n";
+    b"events 4 calls 2 pending 0 views 1\nregular yes\nmonotone yes\natomic yes\norder 2\n1 p0 update 0:1:7\n2 p1 view 0:1:7\n";
 
 #[test]
 fn a_report_fills_the_front_of_the_room(rt: HostRuntime) {

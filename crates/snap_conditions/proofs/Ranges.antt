@@ -160,12 +160,16 @@ pub record Grows {F : Type 0} (more part one : PartValue F) : Type 0 where
   pub fit : part.count + one.count < 2 ^ 64
   pub joined : more ≡ merged_part part one
 
+pub record CountGrows (more count one : ℕ) : Type 0 where
+  pub fit : count + one < 2 ^ 64
+  pub joined : more ≡ count + one
+
 pub record RangeGrows (more range one : Tally) : Type 0 where
   pub integrity : Grows more.integrity range.integrity one.integrity
   pub proximity : Grows more.proximity range.proximity one.proximity
   pub read : Grows more.read range.read one.read
   pub write : Grows more.write range.write one.write
-  pub stale : more.stale ≡ range.stale + one.stale
+  pub stale : CountGrows more.stale range.stale one.stale
 
 pub range_grows : (es : List Event) → IsKept es → (from place : ℕ) → from ≤ place → place < length (views_of (calls_of es)) →
     RangeGrows (tally_of (calls_of es) (views_between (calls_of es) from (place + 1))) (tally_of (calls_of es) (views_between (calls_of es) from place)) (tally_of (calls_of es) (get_or (views_of (calls_of es)) place nobody ∷ []))
@@ -180,7 +184,7 @@ range_grows es k from place l m =
       proximity = record { fit = fit.proximity; joined = ap (λ (t : Tally). t.proximity) joined };
       read = record { fit = fit.read; joined = ap (λ (t : Tally). t.read) joined };
       write = record { fit = fit.write; joined = ap (λ (t : Tally). t.write) joined };
-      stale = ap (λ (t : Tally). t.stale) joined;
+      stale = record { fit = fit.stale; joined = ap (λ (t : Tally). t.stale) joined };
     }
 
 pub range_starts : (calls : List Call) (from : ℕ) → tally_of calls (views_between calls from from) ≡ no_fault

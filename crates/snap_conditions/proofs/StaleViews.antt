@@ -44,6 +44,11 @@ count_none : {X : Type 0} (p : X → Bool) (xs : List X) → ((x : X) → In x x
 count_none p xs h = sum_none (λ x. cond (p x) 1 0) xs (λ x i. ap {B = ℕ} (λ b. cond b 1 0) (h x i))
 
 -- one element more, by the byte of its test
+
+pub byte_small : (b : Bool) → bool_byte b ≤ 1
+byte_small true = omega arith
+byte_small false = omega arith
+
 pub counted_more : {X : Type 0} (p : X → Bool) (xs : List X) (i : ℕ) (d : X) (b : Bool) (count byte : ℕ) → i < length xs → b ≡ p (get_or xs i d) → byte ≡ bool_byte b → count ≡ count_by p (take i xs) → count + byte ≡ count_by p (take (i + 1) xs)
 counted_more p xs i d true count byte l e h c = omega (arith, c, h, count_by_more_yes p xs i d l (sym e))
 counted_more p xs i d false count byte l e h c = omega (arith, c, h, count_by_more_no p xs i d l (sym e))

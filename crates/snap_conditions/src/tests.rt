@@ -68,12 +68,13 @@ fn one_proximity(fault: ProximityFault) -> Tally {
     }
 }
 
-fn counts(tally: &Tally) -> [u64; 4] {
+fn counts(tally: &Tally) -> [u64; 5] {
     [
         tally.integrity.count(),
         tally.proximity.count(),
         tally.read.count(),
         tally.write.count(),
+        tally.stale,
     ]
 }
 
@@ -106,6 +107,7 @@ fn each_of_two_crossed_views_has_a_read_fault(rt: HostRuntime) -> Result<(), Fai
     let both = merge(one_read(of_first), one_read(of_second));
     assert_eq!(rt; both.read.count(), 2);
     assert_eq!(rt; both.read.first(), Some(of_first));
+    assert!(rt; is_monotone(&both));
     expect(&rt, rt.alloc(), CROSSED_VIEWS, &[(0, 2, both)])
 }
 
@@ -168,7 +170,12 @@ fn a_view_after_a_newer_one_has_no_fault_of_its_own(rt: HostRuntime) -> Result<(
         other: 2,
         component: 0,
     };
-    let known = [(0, 1, one_read(newer)), (1, 2, Tally::none())];
+    let going_back = Tally {
+        stale: 1,
+        ..one_read(newer)
+    };
+    assert!(rt; !is_monotone(&going_back));
+    let known = [(0, 1, going_back), (1, 2, Tally::none())];
     expect(&rt, rt.alloc(), NEW_THEN_OLD, &known)
 }
 

@@ -20,6 +20,7 @@ pub mod Hand
 pub mod DeskEvents
 pub mod Merging
 pub mod Ordering
+pub mod Monotone
 pub mod Pushing
 pub mod Sorting
 pub mod ByWorker

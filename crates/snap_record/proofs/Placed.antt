@@ -111,15 +111,15 @@ spans es h c place i e = at (next (process_of b.event) (suc c.begun) b.after)
             none_at (process_of b.event) mid none m e fourth q
 
 -- a view's begin and end
-record ViewSpan (es : List Event) (r : Call) (place : ℕ) : Type 0 where
-  process : ℕ
-  entries : List Entry
-  begins : At es r.begun (BeginView process)
-  ends : At es place (EndView process entries)
-  span : IsSpan es process r.begun place
-  shows : entries_of r.operation ≡ entries
+pub record ViewSpan (es : List Event) (r : Call) (place : ℕ) : Type 0 where
+  pub process : ℕ
+  pub entries : List Entry
+  pub begins : At es r.begun (BeginView process)
+  pub ends : At es place (EndView process entries)
+  pub span : IsSpan es process r.begun place
+  pub shows : entries_of r.operation ≡ entries
 
-view_span : (es : List Event) (r : Call) (place : ℕ) → is_view r ≡ true → Spans es r place → ViewSpan es r place
+pub view_span : (es : List Event) (r : Call) (place : ℕ) → is_view r ≡ true → Spans es r place → ViewSpan es r place
 unfolding is_view
 view_span es r place v s = go s.begin s.end refl refl s.pair
   where

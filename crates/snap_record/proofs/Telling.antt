@@ -3,6 +3,7 @@ use Rattle.std.proofs.Common.{◌≡◌, ℕ, map, zero, suc, ◌*◌, List, [],
 use Rattle.std.specs.List.Sorted.{IsPermutation}
 use Rattle.snap_core.specs.Events.{events_of, IsHistory}
 use Rattle.snap_core.specs.Calls.{calls_of}
+use Rattle.snap_core.specs.Monotone.{IsMonotone}
 use Rattle.snap_core.specs.Regular.{IsRegular}
 use Rattle.snap_core.specs.Orders.{IsAtomic}
 use Rattle.snap_record.specs.Scans.{without_collects}
@@ -17,6 +18,7 @@ use Rattle.snap_record.proofs.ByWorker.{by_worker, sorted_out}
 use Rattle.snap_record.proofs.Stamps.{Stamp}
 use Rattle.snap_record.proofs.DeskEvents.{events_at}
 use Rattle.snap_record.proofs.Merging.{InOrder, history, completed, regular, of_process, of_no_process}
+use Rattle.snap_record.proofs.Monotone.{monotone}
 use Rattle.snap_record.proofs.Ordering.{few_stamps, in_order_of}
 use Rattle.snap_record.proofs.Sorting.{apart_permuted, merged_permuted}
 
@@ -45,6 +47,9 @@ module _ (all : List Record) (l0 l1 : List ℕ) (v0 v1 : ℕ) (s : AreSettled (o
 
   pub told_regular : (es : List Stamp) → Merged all es → IsRegular (calls_of (events_in es))
   told_regular es m = regular 2 hand es s.settled (in_hand es m)
+
+  pub told_monotone : (es : List Stamp) → Merged all es → IsMonotone (calls_of (events_in es))
+  told_monotone es m = monotone 2 hand es s.settled (in_hand es m)
 
   -- where no desk collected, the accounts without collects have the same records
   same_records : v0 ≡ 0 → v1 ≡ 0 → all_records (map without_collects hand) ≡ all_records hand

@@ -1,6 +1,7 @@
 ghost use Rattle.std.specs.Prelude.{◌≡◌, ◌+◌, ◌<◌, ◌≤◌, ◌↔◌, [], ◌++◌, Some, None, IfOk, IfErr, OnOk, OnErr, IsOk, IfNone, MatchOption, IfSome, IsTrue, slice_index_or, slice_set, length};
 ghost use Rattle.snap_core.specs.Events.{IsHistory};
 ghost use Rattle.snap_core.specs.Calls.{calls_of};
+ghost use Rattle.snap_core.specs.Monotone.{IsMonotone};
 ghost use Rattle.snap_core.specs.Orders.{IsAtomic};
 ghost use Rattle.snap_core.specs.Regular.{IsRegular};
 ghost use Rattle.snap_record.specs.Scans.{scan_history};
@@ -138,7 +139,7 @@ impl Board {
     }
 
     /// Ends the board where all its desks are in. The begins and ends of all records, in the order of their stamps, are
-    /// then a regular history with no call pending, and those of the stores and scans alone are atomic. Where a desk is out both come back unchanged.
+    /// then a regular and monotone history with no call pending, and those of the stores and scans alone are atomic. Where a desk is out both come back unchanged.
     pub fn close(self, gathered: Gathered) -> Result<Closed, (Board, Gathered)>
         requires { IsGatheredOf self gathered }
         ensures exact { IsOk result ↔ AllIn self.desks gathered.slots }
@@ -147,6 +148,7 @@ impl Board {
         ensures history { IsOk result → IsHistory (history_of (all_records (accounts gathered))) }
         ensures completed { IsOk result → AllCompleted (calls_of (history_of (all_records (accounts gathered)))) }
         ensures regular { IsOk result → IsRegular (calls_of (history_of (all_records (accounts gathered)))) }
+        ensures monotone { IsOk result → IsMonotone (calls_of (history_of (all_records (accounts gathered)))) }
         ensures interfered { IsOk result → WereInterfered (accounts gathered) }
         ensures atomic { IsOk result → IsAtomic (calls_of (scan_history (accounts gathered))) }
         ensures desks { IfOk result (λ c. c.desks ≡ self.desks) }

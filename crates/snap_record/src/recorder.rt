@@ -1,6 +1,7 @@
 ghost use Rattle.std.specs.Prelude.{◌≡◌, ◌*◌, ◌≤◌, [], IfOk, length, true};
 ghost use Rattle.snap_core.specs.Events.{event_limit};
 ghost use Rattle.snap_core.specs.Calls.{calls_of};
+ghost use Rattle.snap_core.specs.Monotone.{IsMonotone};
 ghost use Rattle.snap_core.specs.Regular.{IsRegular};
 ghost use Rattle.snap_record.specs.Delivery.{of_worker};
 ghost use Rattle.snap_record.specs.Desks.{records, ticks, lost, collects, accounts, IsDeskOf, IsGatheredOf};
@@ -191,6 +192,7 @@ fn tell(
     requires did { DidScripts plan.now all.items interfered }
     requires short { 2 * length all.items ≤ event_limit }
     ensures regular { IfOk result (λ r. IsRegular (calls_of r.history)) }
+    ensures monotone { IfOk result (λ r. IsMonotone (calls_of r.history)) }
     ensures completed { IfOk result (λ r. AllCompleted (calls_of r.history)) }
     ensures atomic { IfOk result (λ r. HasNoViews plan.now → IsAtomic (calls_of r.history)) }
     ensures scripts { IfOk result (λ r. HasScripts plan.now r.history r.interfered) }
@@ -209,7 +211,7 @@ fn tell(
 /// the answer is then `Memory`. The records come to the calling thread through a relay, so the call may wait for the
 /// relay's queue, as it waits for the workers.
 ///
-/// The history is regular and has no pending call, and it is atomic where no script has a collect. Worker w is process w
+/// The history is regular and monotone and has no pending call, and it is atomic where no script has a collect. Worker w is process w
 /// in it, with the calls of its script in their order, each once, and there is no other call; but scans that were
 /// interfered with are left out, as many in all as `interfered` says.
 pub fn record_plan<R: Threads + Wait + Sync, G: Gate>(
@@ -219,6 +221,7 @@ pub fn record_plan<R: Threads + Wait + Sync, G: Gate>(
     gate: &G,
 ) -> Result<Recording, RecordRefusal>
     ensures regular { IfOk result (λ r. IsRegular (calls_of r.history)) }
+    ensures monotone { IfOk result (λ r. IsMonotone (calls_of r.history)) }
     ensures completed { IfOk result (λ r. AllCompleted (calls_of r.history)) }
     ensures atomic { IfOk result (λ r. HasNoViews plan.now → IsAtomic (calls_of r.history)) }
     ensures scripts { IfOk result (λ r. HasScripts plan.now r.history r.interfered) }

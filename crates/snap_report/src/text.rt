@@ -1,9 +1,9 @@
-ghost use Rattle.std.specs.Prelude.{◌≡◌, ◌++◌, All, IfOk, OnOk, is_some};
+ghost use Rattle.std.specs.Prelude.{◌≡◌, ◌++◌, All, IfOk, OnOk, codes, is_some};
 ghost use Rattle.std.specs.Option.{ForSome, option_copied, option_map};
 ghost use Rattle.snap_core.specs.Calls.{calls_of};
 ghost use Rattle.snap_report.specs.Lines.{line_text};
 ghost use Rattle.snap_report.specs.Orders.{HasLine, calls_numbered};
-ghost use Rattle.snap_report.specs.Reports.{count_line, has_no_fault, report_text, verdict_line};
+ghost use Rattle.snap_report.specs.Reports.{count_line, has_no_fault, has_no_local_fault, has_no_stale_view, report_text, verdict_line};
 
 use crate::faults::put_faults;
 use crate::order::put_order;
@@ -33,6 +33,18 @@ fn put_verdict(out: &mut Vec<u8>, word: &[u8], holds: bool) -> Result<(), AllocE
     } else {
         out.extend_from_slice(b" no\n")
     }
+}
+
+// Adds the lines of the three verdicts.
+fn put_verdicts(out: &mut Vec<u8>, tally: &Tally) -> Result<(), AllocError>
+    ensures { OnOk result (out.new.items ≡ out.old.items
+        ++ line_text (verdict_line (codes "regular") (has_no_local_fault tally.now))
+        ++ line_text (verdict_line (codes "monotone") (has_no_stale_view tally.now))
+        ++ line_text (verdict_line (codes "atomic") (has_no_fault tally.now))) }
+{
+    put_verdict(out, b"regular", is_regular(tally))?;
+    put_verdict(out, b"monotone", is_monotone(tally))?;
+    put_verdict(out, b"atomic", is_atomic(tally))
 }
 
 /// The report of a history by the tally of its faults, one line for each kind that has some, or by an order of its calls,
@@ -66,9 +78,7 @@ pub fn report_in(
     let mut out = room;
     out.clear();
     put_counts(&mut out, index)?;
-    put_verdict(&mut out, b"regular", is_regular(tally))?;
-    put_verdict(&mut out, b"monotone", is_monotone(tally))?;
-    put_verdict(&mut out, b"atomic", is_atomic(tally))?;
+    put_verdicts(&mut out, tally)?;
     match order {
         Some(order) => put_order(&mut out, index, order)?,
         None => put_faults(&mut out, tally)?,

@@ -11,6 +11,6 @@ code_of Irregular = 2
 code_of Refused = 3
 code_of Recorded = 0
 
--- the status of a history, by its two verdicts
+-- the status of a history, by two of its verdicts
 abbrev pub status_of : Bool → Bool → Status
 status_of regular atomic = if atomic then Atomic else if regular then Regular else Irregular

@@ -5,6 +5,7 @@ use Rattle.snap_core.specs.declared.event.Event.{Event}
 use Rattle.snap_core.specs.Calls.{calls_of}
 use Rattle.snap_core.specs.Counting.{Rose}
 use Rattle.snap_core.specs.Events.{IsKept}
+use Rattle.snap_core.specs.Monotone.{IsMonotone}
 use Rattle.snap_core.specs.Regular.{IsRegular}
 use Rattle.snap_core.specs.Sending.{SendsFront}
 use Rattle.snap_csv.specs.Spelling.{history_text}
@@ -17,11 +18,12 @@ use Rattle.snap_verdict.specs.declared.status.Status.{Status}
 use Rattle.snap_verdict.specs.declared.status.Status.TheVariants.{Atomic, Recorded, Regular}
 use Rattle.snap_verdict.specs.Reports.{IsReport}
 
--- a history that a board's run of these scripts has: regular, without a pending call, and with the calls of each worker's script but for
+-- a history that a board's run of these scripts has: regular and monotone, without a pending call, and with the calls of each worker's script but for
 -- scans that were interfered with, as the process of its number, in their order, each once, and no other
 pub record IsRecordingOf (scripts : List (List Step)) (events : List Event) : Type 0 where
   pub kept : IsKept events
   pub regular : IsRegular (calls_of events)
+  pub monotone : IsMonotone (calls_of events)
   pub completed : AllCompleted (calls_of events)
   pub interfered : ℕ
   pub calls : HasScripts scripts events interfered

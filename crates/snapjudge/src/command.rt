@@ -29,6 +29,7 @@ shows, entries of the same form with spaces between. `snapjudge check < history.
 
     events 4 calls 2 pending 0 views 1
     regular yes
+    monotone yes
     atomic yes
     order 2
     1 p0 update 0:1:7

@@ -74,7 +74,7 @@ fn write_report<Rt: Threads + Wait + Sync, W: Write>(
 /// judged, it writes the history's report in place of the text, and the status is that report's, `Atomic` or `Regular`. The
 /// workers call the gate; the judge has the cutting, and no gate.
 ///
-/// The history is regular, has no pending call, and has for each worker, as the process of its number, the calls of its
+/// The history is regular and monotone, has no pending call, and has for each worker, as the process of its number, the calls of its
 /// script in their order, each once, and no other. It is one run's: another run may give another.
 ///
 /// Nothing is written until the whole text or report is built: after `Memory` nothing went out and the writer's count of

@@ -96,6 +96,7 @@ class Judged:
     status: str
     counts: Counts
     report: str
+    monotone: bool = True
     order: tuple = ()
     faults: tuple = ()
 
@@ -169,7 +170,7 @@ def check(text):
         raise Refused(out)
     lines = [line.split(" ") for line in out.splitlines()]
     counts = Counts(*map(int, lines[0][1::2]))
-    found = [words for words in lines[3:] if words[0] != "order"]
+    found = [words for words in lines[4:] if words[0] != "order"]
     order = tuple(_step(words) for words in found if words[0].isdigit())
     faults = tuple(_fault(words) for words in found if not words[0].isdigit())
-    return Judged(status, counts, out, order, faults)
+    return Judged(status, counts, out, lines[2][1] == "yes", order, faults)

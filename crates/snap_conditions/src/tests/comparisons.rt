@@ -7,6 +7,7 @@ use super::histories::WORKED;
 use super::slow::integrity::slow_integrity;
 use super::slow::proximity::slow_proximity;
 use super::slow::read::slow_read;
+use super::slow::stale::slow_stale;
 use super::slow::write::slow_write;
 use crate::{Tally, merge, tally_range};
 use snap_index::Index;
@@ -25,6 +26,7 @@ fn slow_tally(index: &Index<'_>, from: u32, to: u32) -> Tally
         proximity: slow_proximity(index, from, to),
         read: slow_read(index, from, to),
         write: slow_write(index, from, to),
+        stale: slow_stale(index, from, to),
     }
 }
 

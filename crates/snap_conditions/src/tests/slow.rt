@@ -11,6 +11,7 @@ use snap_index::Index;
 pub(super) mod integrity;
 pub(super) mod proximity;
 pub(super) mod read;
+pub(super) mod stale;
 pub(super) mod write;
 
 // The call number of the view at a place.

@@ -13,6 +13,7 @@ const STALE_VIEW: &str = "begin,0,update,0:1:7\nend,0,update,\nbegin,1,view,\nen
 const STALE_REPORT: &str = "\
 events 4 calls 2 pending 0 views 1
 regular no
+monotone yes
 atomic no
 proximity 1 first view 2 entry 0:0 old
 ";

@@ -57,7 +57,7 @@ fn one_round_of_two_workers_has_nine_lines(rt: HostRuntime) -> Result<(), Fail> 
 // Whether this is how the judged recording of one round ends, and the head of its report, where its history is regular.
 fn is_regular_report(end: &str, report: &[u8]) -> bool {
     (end == "atomic" || end == "regular")
-        && report.starts_with(b"events 8 calls 4 pending 0 views 2\nregular yes\n")
+        && report.starts_with(b"events 8 calls 4 pending 0 views 2\nregular yes\nmonotone yes\n")
 }
 
 #[test]

@@ -12,7 +12,7 @@ const VIEWS_DISAGREE: Worked = (
     "begin,0,update,0:1:1\nbegin,1,update,1:1:1\nbegin,2,view,\nbegin,3,view,\nend,2,view,0:1:1\n\
      end,3,view,1:1:1\nend,0,update,\nend,1,update,\n",
     "regular",
-    "events 8 calls 4 pending 0 views 2\nregular yes\natomic no\n\
+    "events 8 calls 4 pending 0 views 2\nregular yes\nmonotone yes\natomic no\n\
      read 2 first view 3 view 4 component 0\n",
 );
 
@@ -21,7 +21,7 @@ const ATOMIC_RUN: Worked = (
      begin,0,update,0:2:11\nend,2,view,0:1:10\nend,0,update,\nbegin,3,view,\n\
      end,3,view,0:2:11 1:1:20\nend,1,update,\n",
     "atomic",
-    "events 10 calls 5 pending 0 views 2\nregular yes\natomic yes\norder 5\n\
+    "events 10 calls 5 pending 0 views 2\nregular yes\nmonotone yes\natomic yes\norder 5\n\
      1 p0 update 0:1:10\n3 p2 view 0:1:10\n2 p1 update 1:1:20\n4 p0 update 0:2:11\n\
      5 p3 view 0:2:11 1:1:20\n",
 );
@@ -31,7 +31,7 @@ const STALE_AND_WRONG: Worked = (
     "begin,0,update,0:1:7\nend,0,update,\nbegin,1,view,\nend,1,view,\nbegin,2,view,\n\
      end,2,view,0:1:9\n",
     "irregular",
-    "events 6 calls 3 pending 0 views 2\nregular no\natomic no\n\
+    "events 6 calls 3 pending 0 views 2\nregular no\nmonotone yes\natomic no\n\
      integrity 1 first view 3 entry 0:1:9\nproximity 1 first view 2 entry 0:0 old\n",
 );
 
@@ -40,20 +40,20 @@ const ATOMIC: &[Worked] = &[
     (
         "",
         "atomic",
-        "events 0 calls 0 pending 0 views 0\nregular yes\natomic yes\norder 0\n",
+        "events 0 calls 0 pending 0 views 0\nregular yes\nmonotone yes\natomic yes\norder 0\n",
     ),
     // one pending update was seen, the other is left out
     (
         "begin,0,update,0:1:3\nbegin,1,update,1:1:4\nbegin,2,view,\nend,2,view,0:1:3\n",
         "atomic",
-        "events 4 calls 3 pending 2 views 1\nregular yes\natomic yes\norder 2\n\
+        "events 4 calls 3 pending 2 views 1\nregular yes\nmonotone yes\natomic yes\norder 2\n\
          1 p0 update 0:1:3\n3 p2 view 0:1:3\n",
     ),
     // a view that misses the update beside it stands before it
     (
         "begin,0,update,0:1:3\nbegin,1,view,\nend,1,view,\nend,0,update,\n",
         "atomic",
-        "events 4 calls 2 pending 0 views 1\nregular yes\natomic yes\norder 2\n\
+        "events 4 calls 2 pending 0 views 1\nregular yes\nmonotone yes\natomic yes\norder 2\n\
          2 p1 view\n1 p0 update 0:1:3\n",
     ),
     ATOMIC_RUN,
@@ -61,7 +61,7 @@ const ATOMIC: &[Worked] = &[
     (
         "begin,0,update,0:1:1\nbegin,1,update,1:1:1\nbegin,2,view,\nbegin,3,view,\n",
         "atomic",
-        "events 4 calls 4 pending 4 views 0\nregular yes\natomic yes\norder 0\n",
+        "events 4 calls 4 pending 4 views 0\nregular yes\nmonotone yes\natomic yes\norder 0\n",
     ),
 ];
 
@@ -71,7 +71,7 @@ const REGULAR: &[Worked] = &[
         "begin,0,update,0:1:7\nbegin,1,view,\nend,1,view,0:1:7\nbegin,2,view,\nend,2,view,\n\
          end,0,update,\n",
         "regular",
-        "events 6 calls 3 pending 0 views 2\nregular yes\natomic no\n\
+        "events 6 calls 3 pending 0 views 2\nregular yes\nmonotone no\natomic no\n\
          read 1 first view 2 view 3 component 0\n",
     ),
     VIEWS_DISAGREE,
@@ -79,7 +79,7 @@ const REGULAR: &[Worked] = &[
         "begin,2,view,\nbegin,0,update,0:1:5\nend,0,update,\nbegin,1,update,1:1:6\n\
          end,1,update,\nend,2,view,1:1:6\n",
         "regular",
-        "events 6 calls 3 pending 0 views 1\nregular yes\natomic no\n\
+        "events 6 calls 3 pending 0 views 1\nregular yes\nmonotone yes\natomic no\n\
          write 1 first view 1 misses 0:1 shows 1:1\n",
     ),
 ];
@@ -89,25 +89,25 @@ const IRREGULAR: &[Worked] = &[
     (
         "begin,0,update,0:1:7\nend,0,update,\nbegin,1,view,\nend,1,view,\n",
         "irregular",
-        "events 4 calls 2 pending 0 views 1\nregular no\natomic no\n\
+        "events 4 calls 2 pending 0 views 1\nregular no\nmonotone yes\natomic no\n\
          proximity 1 first view 2 entry 0:0 old\n",
     ),
     (
         "begin,1,view,\nend,1,view,0:1:7\nbegin,0,update,0:1:7\nend,0,update,\n",
         "irregular",
-        "events 4 calls 2 pending 0 views 1\nregular no\natomic no\n\
+        "events 4 calls 2 pending 0 views 1\nregular no\nmonotone yes\natomic no\n\
          proximity 1 first view 1 entry 0:1 early\n",
     ),
     (
         "begin,0,update,0:1:7\nend,0,update,\nbegin,1,view,\nend,1,view,0:1:8\n",
         "irregular",
-        "events 4 calls 2 pending 0 views 1\nregular no\natomic no\n\
+        "events 4 calls 2 pending 0 views 1\nregular no\nmonotone yes\natomic no\n\
          integrity 1 first view 2 entry 0:1:8\n",
     ),
     (
         "begin,0,update,0:1:7\nend,0,update,\nbegin,1,view,\nend,1,view,0:4294967295:7\n",
         "irregular",
-        "events 4 calls 2 pending 0 views 1\nregular no\natomic no\n\
+        "events 4 calls 2 pending 0 views 1\nregular no\nmonotone yes\natomic no\n\
          integrity 1 first view 2 entry 0:4294967295:7\n",
     ),
     STALE_AND_WRONG,

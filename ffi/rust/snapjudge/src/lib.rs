@@ -55,6 +55,8 @@ pub enum Verdict {
 #[derive(Clone, Debug, PartialEq, Eq)]
 pub struct Judged {
     pub counts: Counts,
+    /// No view precedes one that shows an older number of some component.
+    pub monotone: bool,
     pub verdict: Verdict,
     /// The report, as `snapjudge check` prints it.
     pub report: String,
@@ -157,5 +159,5 @@ pub fn check(text: &str) -> Result<Judged, Error> {
         Status::Regular => Verdict::Regular { faults: found.faults },
         _ => Verdict::Irregular { faults: found.faults },
     };
-    Ok(Judged { counts: found.counts, verdict, report })
+    Ok(Judged { counts: found.counts, monotone: found.monotone, verdict, report })
 }

@@ -56,6 +56,7 @@ pub struct Refusal {
 #[derive(Default)]
 pub(crate) struct Read {
     pub counts: Counts,
+    pub monotone: bool,
     pub order: Vec<Step>,
     pub faults: Vec<Fault>,
 }
@@ -120,6 +121,7 @@ pub(crate) fn read(report: &str) -> Option<Read> {
                 let at = |i: usize| words.get(i)?.parse().ok();
                 found.counts = Counts { events: at(1)?, calls: at(3)?, pending: at(5)?, views: at(7)? };
             }
+            "monotone" => found.monotone = words.get(1) == Some(&"yes"),
             "regular" | "atomic" | "order" => {}
             "integrity" | "proximity" | "read" | "write" => found.faults.push(fault(&words)?),
             _ => found.order.push(step(&words)?),

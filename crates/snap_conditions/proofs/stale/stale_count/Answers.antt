@@ -1,4 +1,3 @@
-use mir.Val.{bool_byte}
 use Rattle.std.proofs.Common.{◌≡◌, ◌<◌, ◌≤◌, Bool, true, false, take, length, sym, ap, ◌∙◌, arith}
 use Rattle.std.specs.List.{count_by}
 use Rattle.std.proofs.lemmas.List.{length-take, take_all}
@@ -6,12 +5,8 @@ use Rattle.std.proofs.lemmas.List.Sums.{count_by-le-length}
 use Rattle.snap_core.specs.Calls.{calls_of, views_of, nobody}
 use Rattle.snap_conditions.specs.Faults.{is_stale}
 use Rattle.snap_conditions.specs.Seen.{view_in}
-use Rattle.snap_conditions.proofs.StaleViews.{counted_more, stale_alone}
+use Rattle.snap_conditions.proofs.StaleViews.{byte_small, counted_more, stale_alone}
 use Rattle.snap_conditions.proofs.stale.stale_count.Goals as goal
-
-byte_small : (b : Bool) → bool_byte b ≤ 1
-byte_small true = omega arith
-byte_small false = omega arith
 
 pub overflow_add-count : goal.overflow_add-count
 overflow_add-count c =

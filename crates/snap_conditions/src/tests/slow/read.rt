@@ -22,7 +22,7 @@ fn shows_more(index: &Index<'_>, place: u32, other: u32, k: u8) -> bool
 }
 
 // The least component of which the view at a place shows more than another.
-fn least_excess(index: &Index<'_>, place: u32, other: u32) -> Option<u8>
+pub(super) fn least_excess(index: &Index<'_>, place: u32, other: u32) -> Option<u8>
     requires place { place < length (views_of (calls_of index.now)) }
     requires other { other < length (views_of (calls_of index.now)) }
     ensures { result ≡ least_exceeding (view_in (calls_of index.now) place) (view_in (calls_of index.now) other) }

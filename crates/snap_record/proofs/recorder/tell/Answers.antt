@@ -2,10 +2,11 @@ use Rattle.std.proofs.Common.{List, sym, subst, arith}
 use Rattle.snap_core.specs.declared.event.Event.{Event}
 use Rattle.snap_core.specs.Calls.{calls_of}
 use Rattle.snap_core.specs.Orders.{IsAtomic}
+use Rattle.snap_core.specs.Monotone.{IsMonotone}
 use Rattle.snap_core.specs.Regular.{IsRegular}
 use Rattle.snap_record.specs.History.{AllCompleted}
 use Rattle.snap_record.specs.Plans.{HasScripts}
-use Rattle.snap_record.proofs.Telling.{apart, told_history, told_completed, told_regular, told_atomic, told, stamped_length}
+use Rattle.snap_record.proofs.Telling.{apart, told_history, told_completed, told_regular, told_monotone, told_atomic, told, stamped_length}
 use Rattle.snap_record.proofs.Planning.{has_scripts}
 use Rattle.snap_record.proofs.recorder.tell.Goals as goal
 
@@ -21,6 +22,10 @@ history_of-requires-clause-short c = omega (arith, c.in_ok-events.ensures.len, c
 pub returns-clause-regular : goal.returns-clause-regular
 returns-clause-regular c = let d = c.requires.did in
     subst (λ (es : List Event). IsRegular (calls_of es)) (sym c.in_ok-history.ensures) (told_regular c.args.all.items d.lost d.lost' _ _ d.settled d.no_other c.in_ok-events.events.items c.in_ok-events.ensures.merged)
+
+pub returns-clause-monotone : goal.returns-clause-monotone
+returns-clause-monotone c = let d = c.requires.did in
+    subst (λ (es : List Event). IsMonotone (calls_of es)) (sym c.in_ok-history.ensures) (told_monotone c.args.all.items d.lost d.lost' _ _ d.settled d.no_other c.in_ok-events.events.items c.in_ok-events.ensures.merged)
 
 pub returns-clause-completed : goal.returns-clause-completed
 returns-clause-completed c = let d = c.requires.did in

@@ -4,6 +4,7 @@ use Rattle.snap_record.specs.Rule.{Boarded}
 use Rattle.snap_record.specs.Regular.{AllIn}
 use Rattle.snap_record.proofs.Closing.{settles, settles_scans}
 use Rattle.snap_record.proofs.Ordering.{close_history, close_completed, close_regular}
+use Rattle.snap_record.proofs.Monotone.{close_monotone}
 use Rattle.snap_record.proofs.Atomic.{close_atomic}
 use Rattle.snap_record.proofs.Climbing.{were_interfered}
 use Rattle.snap_record.proofs.Slotting.{last_stores}
@@ -25,6 +26,9 @@ returns-clause-completed c e = close_completed c.args.self.desks c.args.gathered
 
 pub returns-clause-regular : goal.returns-clause-regular
 returns-clause-regular c e = close_regular c.args.self.desks c.args.gathered.seat.me.0 (returns-clause-settled c e)
+
+pub returns-clause-monotone : goal.returns-clause-monotone
+returns-clause-monotone c e = close_monotone c.args.self.desks c.args.gathered.seat.me.0 (returns-clause-settled c e)
 
 pub returns-clause-scans : goal.returns-clause-scans
 returns-clause-scans c _ =

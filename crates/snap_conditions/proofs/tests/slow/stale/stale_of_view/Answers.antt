@@ -1,0 +1,28 @@
+use Rattle.std.proofs.Common.{◌≡◌, ◌<◌, ◌≤◌, Bool, true, false, take, length, sym, ap, ◌∙◌, arith}
+use Rattle.std.specs.List.{count_by}
+use Rattle.std.proofs.lemmas.List.{length-take, take_all}
+use Rattle.std.proofs.lemmas.List.Sums.{count_by-le-length}
+use Rattle.snap_core.specs.Calls.{calls_of, views_of, nobody}
+use Rattle.snap_conditions.specs.Faults.{is_stale}
+use Rattle.snap_conditions.specs.Seen.{view_in}
+use Rattle.snap_conditions.proofs.StaleViews.{byte_small, counted_more, stale_alone}
+use Rattle.snap_conditions.proofs.tests.slow.stale.stale_of_view.Goals as goal
+
+pub overflow_add-count : goal.overflow_add-count
+overflow_add-count c =
+    let calls = calls_of c.args.index.now in
+    let r = view_in calls c.args.place in
+    let few = count_by-le-length (is_stale r) (take c.loop-other.other (views_of calls)) in
+    record { fits = omega (arith, c.loop-other.invariant, few, length-take c.loop-other.other (views_of calls), c.from-count.ensures, byte_small c.is_stale.result) }
+
+pub loop-other-preserved : goal.loop-other-preserved
+loop-other-preserved c =
+    let calls = calls_of c.args.index.now in
+    let r = view_in calls c.args.place in
+    counted_more (is_stale r) (views_of calls) c.loop-other.other nobody c.is_stale.result c.loop-other.count c.from-count.result (omega arith) c.is_stale.ensures c.from-count.ensures c.loop-other.invariant
+
+pub returns : goal.returns
+returns c =
+    let calls = calls_of c.args.index.now in
+    let r = view_in calls c.args.place in
+    c.loop-other.invariant ∙ ap (count_by (is_stale r)) (take_all c.loop-other.other (views_of calls) (omega arith)) ∙ sym (stale_alone calls r)
