@@ -11,7 +11,7 @@ use Rattle.snap_record.specs.Rule.{Own}
 use Rattle.snap_record.proofs.Lists.{mem_split, mem_left, mem_right, mem_one, numbered_mem}
 
 abbrev pub acct : ℕ → List Answered → Doing → ℕ → Account
-acct d rs o t = record { desk = d; records = rs; doing = o; ticks = t }
+acct d rs o t = record { desk = d; calls = rs; doing = o; ticks = t }
 
 abbrev pub rec : ℕ → ℕ → Answer → Answered
 rec b e o = record { begun = b; ended = e; op = o }
@@ -52,7 +52,7 @@ latest_there p (r ∷ rs) = ⊎_elim
     first b e (Interfered n xs ys) l is = inl is
 
 pub word_there : (a : Account) → ((in_word a).0 ≡ 0) ⊎ ((w : Write) × Mem w (writes_of a) × (w.number ≡ (in_word a).0) × (w.value ≡ (in_word a).1))
-word_there a = by a.records a.doing
+word_there a = by a.calls a.doing
   where
     old : (rs : List Answered) (ws : List Write) → ((latest (0, 0) rs).0 ≡ 0) ⊎ ((w : Write) × Mem w (writes_in rs ++ ws) × (w.number ≡ (latest (0, 0) rs).0) × (w.value ≡ (latest (0, 0) rs).1))
     old rs ws = ⊎_elim (λ (e : latest (0, 0) rs ≡ (0, 0)). inl (λ i. (e i).0))
@@ -68,7 +68,7 @@ word_there a = by a.records a.doing
 
 -- the begin of a call is a stamp
 pub look_stamp : (a : Account) (v : Look) → Mem v (looks_of a) → Mem v.begun (stamps_of a)
-look_stamp a v m = ⊎_elim (λ q. mem_left (stamps_in a.records) (open_stamps a.doing) v.begun (done a.records v q)) (λ q. mem_right (stamps_in a.records) (open_stamps a.doing) v.begun (now a.doing v q)) (mem_split (looks_in a.records) (open_looks a.doing) v m)
+look_stamp a v m = ⊎_elim (λ q. mem_left (stamps_in a.calls) (open_stamps a.doing) v.begun (done a.calls v q)) (λ q. mem_right (stamps_in a.calls) (open_stamps a.doing) v.begun (now a.doing v q)) (mem_split (looks_in a.calls) (open_looks a.doing) v m)
   where
     now : (o : Doing) (u : Look) → Mem u (open_looks o) → Mem u.begun (open_stamps o)
     now Idle u q = absurd q
@@ -91,7 +91,7 @@ look_stamp a v m = ⊎_elim (λ q. mem_left (stamps_in a.records) (open_stamps a
     done (r ∷ rs) u q = ⊎_elim (λ x. inl (one r.begun r.ended r.op u x)) (λ x. inr (inr (done rs u x))) (mem_split (op_looks r.begun r.ended r.op) (looks_in rs) u q)
 
 pub write_stamp : (a : Account) (w : Write) → Mem w (writes_of a) → Mem w.begun (stamps_of a)
-write_stamp a v m = ⊎_elim (λ q. mem_left (stamps_in a.records) (open_stamps a.doing) v.begun (done a.records v q)) (λ q. mem_right (stamps_in a.records) (open_stamps a.doing) v.begun (now a.doing v q)) (mem_split (writes_in a.records) (open_writes a.doing) v m)
+write_stamp a v m = ⊎_elim (λ q. mem_left (stamps_in a.calls) (open_stamps a.doing) v.begun (done a.calls v q)) (λ q. mem_right (stamps_in a.calls) (open_stamps a.doing) v.begun (now a.doing v q)) (mem_split (writes_in a.calls) (open_writes a.doing) v m)
   where
     now : (o : Doing) (u : Write) → Mem u (open_writes o) → Mem u.begun (open_stamps o)
     now Idle u q = absurd q
@@ -136,7 +136,7 @@ latest_none p (r ∷ rs) e = by (latest_none p rs) r.op e
     by rest (Interfered n xs ys) z = rest z
 
 pub word_blank : (n k : ℕ) (a : Account) → Own n k a → (in_word a).0 ≡ 0 → (in_word a).1 ≡ 0
-word_blank n k a own zero_there = by a.records a.doing (own.count ∙ zero_there)
+word_blank n k a own zero_there = by a.calls a.doing (own.count ∙ zero_there)
   where
     old : (rs : List Answered) → length (writes_in rs) ≡ 0 → (latest (0, 0) rs).1 ≡ 0
     old rs e = ap (λ (p : ℕ × ℕ). p.1) (latest_none (0, 0) rs e)

@@ -2,7 +2,7 @@
 use Rattle.std.proofs.Common.{◌≡◌, ◌≢◌, ℕ, suc, ◌+◌, ◌<◌, ◌≤◌, ◌⊎◌, ◌==◌, Bool, true, false, cond, if◌then◌else◌, List, [], ◌∷◌, ◌++◌, length, map, get_or, Option, Some, None, sym, refl, ap, ◌∙◌, subst, inl, inr, ⊎_elim, arith, eq-eqb, eqb-true}
 use Rattle.std.specs.List.{Contains}
 use Rattle.std.proofs.lemmas.Bool.{false≢true, false_from_ne_true}
-use native.Mathlib.Decide.{dec_le, ℕ_discrete}
+use native.Mathlib.Decide.{ℕ_discrete}
 use mathlib.Core.Option.{some}
 use lib.ListN.{get_elem?}
 use Rattle.snap_core.specs.declared.entry.Entry.{Entry}
@@ -34,11 +34,13 @@ use Rattle.snap_record.proofs.Stamps.{Stamp, stamped_at, mem_place, at_event}
 use Rattle.snap_record.proofs.Placed.{Spans, spans, update_at}
 use Rattle.snap_record.proofs.DeskEvents.{entry, write_event}
 use Rattle.snap_record.proofs.Merging.{InOrder, the_view, the_update, history, completed}
+use Rattle.snap_record.proofs.ByKey as keys
+use Rattle.snap_record.proofs.ByKey.{In-map, In-from_map, pairs_map, pairs_from_map}
 use Rattle.snap_record.proofs.ScanOrder.{Key, Less, ScanAt, StoreAt, Given, scan_key, store_key, scan_at, store_at, scans_of, stores_of, scan_there, store_there, scan_scan, store_scan, scan_store, store_store, by_number, shown_before, before_shown, mark_whole, given}
 
 -- each view of the accounts is a scan
 abbrev pub AllScans : List Account → Type 0
-AllScans hand = (a : Account) → Mem a hand → (v : Look) → Mem v (looks_in a.records) → (m : Mark) × Mem m (marks_in a.records) × (m.begun ≡ v.begun) × (m.ended ≡ v.ended) × (m.before ≡ v.shown)
+AllScans hand = (a : Account) → Mem a hand → (v : Look) → Mem v (looks_in a.calls) → (m : Mark) × Mem m (marks_in a.calls) × (m.begun ≡ v.begun) × (m.ended ≡ v.ended) × (m.before ≡ v.shown)
 
 completed_some : (c : Call) → is_completed c ≡ true → (place : ℕ) × (c.ended ≡ Some place)
 unfolding is_completed
@@ -47,21 +49,6 @@ completed_some c t = go c.ended refl t
     go : (o : Option ℕ) → c.ended ≡ o → Rattle.std.proofs.Common.is_some o ≡ true → (place : ℕ) × (c.ended ≡ Some place)
     go None e t = absurd (false≢true t)
     go (Some p) e t = (p, e)
-
-dec_less : (a b : Key) → Dec (Less a b)
-dec_less a b = at (dec_le (suc a.0) b.0) (ℕ_discrete a.0 b.0) (dec_le (suc a.1) b.1)
-  where
-    at : Dec (suc a.0 ≤ b.0) → Dec (a.0 ≡ b.0) → Dec (suc a.1 ≤ b.1) → Dec (Less a b)
-    at (yes l) e m = yes (inl l)
-    at (no nl) (yes e) (yes l) = yes (inr (e, l))
-    at (no nl) (yes e) (no m) = no (λ x. ⊎_elim (λ l. nl l) (λ (t : (a.0 ≡ b.0) × (a.1 < b.1)). m t.1) x)
-    at (no nl) (no ne) m = no (λ x. ⊎_elim (λ l. nl l) (λ (t : (a.0 ≡ b.0) × (a.1 < b.1)). ne t.0) x)
-
-less_trans : (a b c : Key) → Less a b → Less b c → Less a c
-less_trans a b c x y = ⊎_elim
-    (λ l. ⊎_elim (λ l'. inl (omega arith)) (λ (t : (b.0 ≡ c.0) × (b.1 < c.1)). let e = t.0 in inl (omega arith)) y)
-    (λ (t : (a.0 ≡ b.0) × (a.1 < b.1)). ⊎_elim (λ l'. let e = t.0 in inl (omega arith)) (λ (t' : (b.0 ≡ c.0) × (b.1 < c.1)). let e = t.1 in let f = t'.1 in inr (t.0 ∙ t'.0, omega arith)) y)
-    x
 
 module _ (n : ℕ) (hand : List Account) (es : List Stamp) (h : Settled n hand) (g : ScansSettled hand) (plain : AllScans hand) (m : InOrder hand es) where
   abbrev calls : List Call
@@ -78,7 +65,7 @@ module _ (n : ℕ) (hand : List Account) (es : List Stamp) (h : Settled n hand) 
     account : Account
     there : Mem account hand
     store : Write
-    store_in : Mem store (writes_in account.records)
+    store_in : Mem store (writes_in account.calls)
     op : c.operation ≡ Updates (entry account.desk store.number store.value)
     place : ℕ
     ended : c.ended ≡ Some place
@@ -91,7 +78,7 @@ module _ (n : ℕ) (hand : List Account) (es : List Stamp) (h : Settled n hand) 
     account : Account
     there : Mem account hand
     scan : Mark
-    scan_in : Mem scan (marks_in account.records)
+    scan_in : Mem scan (marks_in account.calls)
     op : c.operation ≡ Views (Some (listed 0 scan.before))
     place : ℕ
     ended : c.ended ≡ Some place
@@ -195,104 +182,11 @@ module _ (n : ℕ) (hand : List Account) (es : List Stamp) (h : Settled n hand) 
   itemed_calls [] sub = refl
   itemed_calls (c ∷ cs) sub = ap (λ l. c ∷ l) (itemed_calls cs (λ d i. sub d (inr i)))
 
-  choose : {P : Type 0} → Dec P → List Item → List Item → List Item
-  choose (yes p) xs ys = xs
-  choose (no np) xs ys = ys
-
-  put : Item → List Item → List Item
-  put x [] = x ∷ []
-  put x (y ∷ ys) = choose (dec_less (key x) (key y)) (x ∷ y ∷ ys) (y ∷ put x ys)
-
-  sort : List Item → List Item
-  sort [] = []
-  sort (x ∷ xs) = put x (sort xs)
-
-  in_choose : {P : Type 0} (d : Dec P) (xs ys : List Item) (z : Item) → In z xs → In z ys → In z (choose d xs ys)
-  unfolding choose
-  in_choose (yes p) xs ys z a b = a
-  in_choose (no np) xs ys z a b = b
-
-  choose_in : {P : Type 0} (d : Dec P) (xs ys : List Item) (z : Item) → In z (choose d xs ys) → In z xs ⊎ In z ys
-  unfolding choose
-  choose_in (yes p) xs ys z a = inl a
-  choose_in (no np) xs ys z a = inr a
-
-  in_put : (x : Item) (ys : List Item) (z : Item) → (x ≡ z) ⊎ In z ys → In z (put x ys)
-  unfolding put
-  in_put x [] z i = ⊎_elim (λ e. inl e) (λ q. absurd q) i
-  in_put x (y ∷ ys) z i = in_choose (dec_less (key x) (key y)) (x ∷ y ∷ ys) (y ∷ put x ys) z (⊎_elim (λ e. inl e) (λ q. inr q) i)
-      (⊎_elim (λ e. inr (in_put x ys z (inl e))) (λ q. ⊎_elim (λ e. inl e) (λ r. inr (in_put x ys z (inr r))) q) i)
-
-  put_in : (x : Item) (ys : List Item) (z : Item) → In z (put x ys) → (x ≡ z) ⊎ In z ys
-  unfolding put
-  put_in x [] z i = ⊎_elim (λ e. inl e) (λ q. absurd q) i
-  put_in x (y ∷ ys) z i = ⊎_elim (λ q. ⊎_elim (λ e. inl e) (λ r. inr r) q) (λ q. ⊎_elim (λ e. inr (inl e)) (λ r. ⊎_elim (λ e. inl e) (λ w. inr (inr w)) (put_in x ys z r)) q)
-      (choose_in (dec_less (key x) (key y)) (x ∷ y ∷ ys) (y ∷ put x ys) z i)
-
-  in_sort : (xs : List Item) (z : Item) → In z xs → In z (sort xs)
-  unfolding sort
-  in_sort [] z i = i
-  in_sort (x ∷ xs) z i = in_put x (sort xs) z (⊎_elim (λ e. inl e) (λ q. inr (in_sort xs z q)) i)
-
-  sort_in : (xs : List Item) (z : Item) → In z (sort xs) → In z xs
-  unfolding sort
-  sort_in [] z i = i
-  sort_in (x ∷ xs) z i = ⊎_elim (λ e. inl e) (λ q. inr (sort_in xs z q)) (put_in x (sort xs) z i)
+  abbrev sort : List Item → List Item
+  sort xs = keys.sort Item key xs
 
   abbrev NotAfter : Item → Item → Type 0
-  NotAfter x y = Less (key y) (key x) → ⊥
-
-  sorted_choose : {P : Type 0} (R : Item → Item → Type 0) (d : Dec P) (xs ys : List Item) → (P → Pairs R xs) → ((P → ⊥) → Pairs R ys) → Pairs R (choose d xs ys)
-  unfolding choose
-  sorted_choose R (yes p) xs ys a b = a p
-  sorted_choose R (no np) xs ys a b = b np
-
-  sorted_put : (x : Item) (ys : List Item) → Pairs NotAfter ys → Pairs NotAfter (put x ys)
-  unfolding put
-  sorted_put x [] s = ((λ y i. absurd i), tt)
-  sorted_put x (y ∷ ys) s = sorted_choose NotAfter (dec_less (key x) (key y)) (x ∷ y ∷ ys) (y ∷ put x ys)
-      (λ lt. ((λ z i. ⊎_elim (λ (e : y ≡ z). λ l. irreflexive (key x) (less_trans (key x) (key y) (key x) lt (subst (λ (w : Item). Less (key w) (key x)) (sym e) l))) (λ q. λ l. s.0 z q (less_trans (key z) (key x) (key y) l lt)) i), s))
-      (λ nlt. ((λ z i. ⊎_elim (λ (e : x ≡ z). subst (λ (w : Item). NotAfter y w) e nlt) (λ q. s.0 z q) (put_in x ys z i)), sorted_put x ys s.1))
-    where
-      irreflexive : (k : Key) → Less k k → ⊥
-      irreflexive k l = ⊎_elim (λ a. omega arith) (λ (t : (k.0 ≡ k.0) × (k.1 < k.1)). let b = t.1 in omega arith) l
-
-  sorted : (xs : List Item) → Pairs NotAfter (sort xs)
-  unfolding sort
-  sorted [] = tt
-  sorted (x ∷ xs) = sorted_put x (sort xs) (sorted xs)
-
-  abbrev Apart : Item → Item → Type 0
-  Apart x y = x.call ≢ y.call
-
-  apart_put : (x : Item) (ys : List Item) → ((y : Item) → In y ys → Apart x y) → Pairs Apart ys → Pairs Apart (put x ys)
-  unfolding put
-  apart_put x [] other s = ((λ y i. absurd i), tt)
-  apart_put x (y ∷ ys) other s = sorted_choose Apart (dec_less (key x) (key y)) (x ∷ y ∷ ys) (y ∷ put x ys)
-      (λ _. (other, s))
-      (λ _. ((λ z i. ⊎_elim (λ (e : x ≡ z). λ same. other y (inl refl) (ap (λ (w : Item). w.call) e ∙ sym same)) (λ q. s.0 z q) (put_in x ys z i)), apart_put x ys (λ z i. other z (inr i)) s.1))
-
-  apart_sort : (xs : List Item) → Pairs Apart xs → Pairs Apart (sort xs)
-  unfolding sort
-  apart_sort [] s = tt
-  apart_sort (x ∷ xs) s = apart_put x (sort xs) (λ y i. s.0 y (sort_in xs y i)) (apart_sort xs s.1)
-
-  -- pairs and members of the calls
-  In-map : (xs : List Item) (x : Item) → In x xs → In x.call (map (λ (z : Item). z.call) xs)
-  In-map [] x i = i
-  In-map (y ∷ xs) x i = ⊎_elim (λ e. inl (ap (λ (z : Item). z.call) e)) (λ q. inr (In-map xs x q)) i
-
-  In-from_map : (xs : List Item) (c : Call) → In c (map (λ (z : Item). z.call) xs) → (x : Item) × In x xs × (x.call ≡ c)
-  In-from_map [] c i = absurd i
-  In-from_map (y ∷ xs) c i = ⊎_elim (λ e. (y, inl refl, e)) (λ q. let r = In-from_map xs c q in (r.0, inr r.1, r.2)) i
-
-  pairs_map : (R : Call → Call → Type 0) (xs : List Item) → Pairs (λ x y. R x.call y.call) xs → Pairs R (map (λ (z : Item). z.call) xs)
-  pairs_map R [] p = tt
-  pairs_map R (x ∷ xs) p = ((λ c i. let r = In-from_map xs c i in subst (λ (z : Call). R x.call z) r.2 (p.0 r.0 r.1)), pairs_map R xs p.1)
-
-  pairs_items : (R : Call → Call → Type 0) (xs : List Item) → Pairs R (map (λ (z : Item). z.call) xs) → Pairs (λ x y. R x.call y.call) xs
-  pairs_items R [] p = tt
-  pairs_items R (x ∷ xs) p = ((λ y i. p.0 y.call (In-map xs y i)), pairs_items R xs p.1)
+  NotAfter x y = keys.NotAfter Item key x y
 
   items : List Item
   items = itemed calls (λ c i. i)
@@ -305,7 +199,7 @@ module _ (n : ℕ) (hand : List Account) (es : List Stamp) (h : Settled n hand) 
   order = map (λ (x : Item). x.call) (sort items)
 
   item_of : (c : Call) → In c calls → (x : Item) × In x (sort items) × (x.call ≡ c)
-  item_of c i = let r = In-from_map items c (subst (λ (l : List Call). In c l) (sym items_calls) i) in (r.0, in_sort items r.0 r.1, r.2)
+  item_of c i = let r = In-from_map (λ (z : Item). z.call) items c (subst (λ (l : List Call). In c l) (sym items_calls) i) in (r.0, keys.in_sort Item key items r.0 r.1, r.2)
 
   -- where a list of calls is cut
   record Cut (xs : List Item) (before after : List Call) (r : Call) : Type 0 where
@@ -351,7 +245,7 @@ module _ (n : ℕ) (hand : List Account) (es : List Stamp) (h : Settled n hand) 
   one_entry : (c d : Call) (u : IsStore c) (v : IsStore d) → u.account.desk ≡ v.account.desk → u.store.number ≡ v.store.number → entry_by c u ≡ entry_by d v
   one_entry c d u v same num =
       let is = hand_one n hand h.desks u.account v.account u.there v.there same in
-      let value = numbered_one 1 (writes_in v.account.records) u.store v.store (h.numbered v.account v.there) (subst (λ (z : Account). Mem u.store (writes_in z.records)) is u.store_in) v.store_in num in
+      let value = numbered_one 1 (writes_in v.account.calls) u.store v.store (h.numbered v.account v.there) (subst (λ (z : Account). Mem u.store (writes_in z.calls)) is u.store_in) v.store_in num in
       λ i. entry (same i) (num i) (value i)
 
   -- a list with a store of the largest number of its component
@@ -390,11 +284,11 @@ module _ (n : ℕ) (hand : List Account) (es : List Stamp) (h : Settled n hand) 
     kind : item.kind ≡ inl store
     is : entry_by item.call store ≡ entry k p.0 p.1
 
-  find_store : (c : Account) → Mem c hand → (w : Write) → Mem w (writes_in c.records) → Found c.desk (w.number, w.value)
+  find_store : (c : Account) → Mem c hand → (w : Write) → Mem w (writes_in c.calls) → Found c.desk (w.number, w.value)
   unfolding calls_of
   find_store c mc w mw =
       let ev : Event = BeginUpdate c.desk (entry c.desk w.number w.value) in
-      let place = mem_place es (w.begun, ev) (m.all c mc (w.begun, ev) (write_event c.desk c.records w mw)) in
+      let place = mem_place es (w.begun, ev) (m.all c mc (w.begun, ev) (write_event c.desk c.calls w mw)) in
       let u = update_at 0 0 (events_in es) place.0 c.desk (entry c.desk w.number w.value) (at_event es place.0 (w.begun, ev) place.1) in
       let i = item_of u.call u.there in
       go i.0 i.1 (ap (λ (z : Call). z.operation) i.2 ∙ u.writes) i.0.kind refl
@@ -416,13 +310,13 @@ module _ (n : ℕ) (hand : List Account) (es : List Stamp) (h : Settled n hand) 
       p = shown_at s.scan.before k
 
       pairs : Pairs NotAfter (front ++ x ∷ back)
-      pairs = subst (Pairs NotAfter) split (sorted items)
+      pairs = subst (Pairs NotAfter) split (keys.sorted Item key items)
 
       low : (y : Item) → In y front → (v : IsStore y.call) → y.kind ≡ inl v → v.account.desk ≡ k → v.store.number ≤ (shown_at s.scan.before k).0
       low y i v f d = subst (λ (z : ℕ). v.store.number ≤ (shown_at s.scan.before z).0) d (shown_low_at y x v s f e (Rattle.snap_core.proofs.Lists.Pairs-across NotAfter front (x ∷ back) pairs y x i (inl refl)))
 
       positive : (y : Item) (v : IsStore y.call) → 0 < v.store.number
-      positive y v = numbered_positive 1 (writes_in v.account.records) (omega arith) (h.numbered v.account v.there) v.store v.store_in
+      positive y v = numbered_positive 1 (writes_in v.account.calls) (omega arith) (h.numbered v.account v.there) v.store v.store_in
 
       found_in : Found k p → entry_at k p ≡ last_written k None (map (λ (z : Item). z.call) front)
       found_in q =
@@ -449,7 +343,7 @@ module _ (n : ℕ) (hand : List Account) (es : List Stamp) (h : Settled n hand) 
           let len = shown_low s.scan.before k (omega arith) in
           let whole = mark_whole n hand h g s.account s.there s.scan s.scan_in in
           let c = hand_there n hand h.desks k (omega arith) in
-          let shows = h.regular s.account s.there (look s.scan.begun s.scan.ended true s.scan.before) (Rattle.snap_record.proofs.ScanOrder.mark_look s.account.records s.scan s.scan_in) c.0 c.1 (shown_at s.scan.before k) (ap (λ z. get_elem? s.scan.before z) c.2 ∙ shown_some s.scan.before k len) in
+          let shows = h.regular s.account s.there (look s.scan.begun s.scan.ended true s.scan.before) (Rattle.snap_record.proofs.ScanOrder.mark_look s.account.calls s.scan s.scan_in) c.0 c.1 (shown_at s.scan.before k) (ap (λ z. get_elem? s.scan.before z) c.2 ∙ shown_some s.scan.before k len) in
           let w = shows.real (omega arith) in
           found_in (subst (λ (z : ℕ × (ℕ × ℕ)). Found z.0 z.1) (λ i. (c.2 i, (w.2 i, w.3 i))) (find_store c.0 c.1 w.0 w.1))
 
@@ -466,13 +360,13 @@ module _ (n : ℕ) (hand : List Account) (es : List Stamp) (h : Settled n hand) 
   legal : IsLegalOrder calls order
   unfolding order
   legal = record {
-    only = λ k d lt. (let i = In-from_map (sort items) (get_or order k d) (In-get_or order k d lt) in subst (λ (c : Call). Contains calls c × ((is_completed c ≡ true) ⊎ (is_update c ≡ true))) i.2
+    only = λ k d lt. (let i = In-from_map (λ (z : Item). z.call) (sort items) (get_or order k d) (In-get_or order k d lt) in subst (λ (c : Call). Contains calls c × ((is_completed c ≡ true) ⊎ (is_update c ≡ true))) i.2
         (Contains-from_In calls i.0.call i.0.there, inl (completed n hand es h m i.0.call (Contains-from_In calls i.0.call i.0.there))));
-    distinct = AllPairs-from_Pairs (λ a b. a ≢ b) order (pairs_map (λ a b. a ≢ b) (sort items) (apart_sort items (pairs_items (λ a b. a ≢ b) items (subst (Pairs (λ a b. a ≢ b)) (sym items_calls)
+    distinct = AllPairs-from_Pairs (λ a b. a ≢ b) order (pairs_map (λ a b. a ≢ b) (λ (z : Item). z.call) (sort items) (keys.pairs_sort Item key (λ x y. x.call ≢ y.call) (λ x y other same. other (sym same)) items (pairs_from_map (λ a b. a ≢ b) (λ (z : Item). z.call) items (subst (Pairs (λ a b. a ≢ b)) (sym items_calls)
         (Pairs-weaker (λ a b. a.number < b.number) (λ a b. a ≢ b) calls (λ a b _ _ lt same. let e = ap (λ (z : Call). z.number) same in absurd (omega arith)) are.numbered)))));
-    completed = λ c i _. (let x = item_of c (In-from_Contains calls c i) in Contains-from_In order c (subst (λ (z : Call). In z order) x.2 (In-map (sort items) x.0 x.1)));
-    precedence = AllPairs-from_Pairs (λ a b. precedes b a ≡ false) order (pairs_map (λ a b. precedes b a ≡ false) (sort items)
-        (Pairs-weaker NotAfter (λ x y. precedes y.call x.call ≡ false) (sort items) (λ x y _ _ not_after. false_from_ne_true (precedes y.call x.call) (λ t. not_after (before_less y x t))) (sorted items)));
+    completed = λ c i _. (let x = item_of c (In-from_Contains calls c i) in Contains-from_In order c (subst (λ (z : Call). In z order) x.2 (In-map (λ (z : Item). z.call) (sort items) x.0 x.1)));
+    precedence = AllPairs-from_Pairs (λ a b. precedes b a ≡ false) order (pairs_map (λ a b. precedes b a ≡ false) (λ (z : Item). z.call) (sort items)
+        (Pairs-weaker NotAfter (λ x y. precedes y.call x.call ≡ false) (sort items) (λ x y _ _ not_after. false_from_ne_true (precedes y.call x.call) (λ t. not_after (before_less y x t))) (keys.sorted Item key items)));
     latest = latest_part;
   }
 
@@ -483,7 +377,7 @@ module _ (n : ℕ) (hand : List Account) (es : List Stamp) (h : Settled n hand) 
 pub all_scans : (hand : List Account) → AllScans (map without_collects hand)
 all_scans [] a ma v q = absurd ma
 all_scans (x ∷ hand) a ma v q = ⊎_elim
-    (λ e. subst (λ (z : Account). (m : Mark) × Mem m (marks_in z.records) × (m.begun ≡ v.begun) × (m.ended ≡ v.ended) × (m.before ≡ v.shown)) e (look_mark x.records v (subst (λ (z : Account). Mem v (looks_in z.records)) (sym e) q)))
+    (λ e. subst (λ (z : Account). (m : Mark) × Mem m (marks_in z.calls) × (m.begun ≡ v.begun) × (m.ended ≡ v.ended) × (m.before ≡ v.shown)) e (look_mark x.calls v (subst (λ (z : Account). Mem v (looks_in z.calls)) (sym e) q)))
     (λ r. all_scans hand a r v q)
     ma
 

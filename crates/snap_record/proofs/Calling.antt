@@ -1,6 +1,5 @@
 -- What the steps of a call leave in the desk's seat.
 use Rattle.std.proofs.Common.{◌≡◌, ℕ, ◌+◌, ◌<◌, false, length, List, [], ◌∷◌, ◌++◌, sym, refl, ap, ◌∙◌, inl, arith}
-use Rattle.atomic_table.specs.Table.{Me}
 use Rattle.snap_record.specs.declared.account.Account.{Account}
 use Rattle.snap_record.specs.declared.account.Answered.{Answered}
 use Rattle.snap_record.specs.declared.account.Answer.TheVariants.{Stored, Viewed, Scanned, Interfered}
@@ -10,20 +9,17 @@ use Rattle.snap_record.specs.declared.account.Scan.{Scan}
 use Rattle.snap_record.proofs.Lists.{mem_left, mem_right}
 use Rattle.snap_record.specs.Calls.{Mem, Look, look, looks_in, stamps_in, begun_store, begun_view, wrote, ended, middled, middle_open, gave_up}
 use Rattle.snap_record.specs.Rule.{code, first_step}
-use Rattle.snap_record.specs.Plays.{entry_of, Above, ReadAll}
-use Rattle.snap_record.specs.Hands.{idle, records_of, showing, has_read}
+use Rattle.snap_record.specs.Plays.{Seated, entry_of, Above, ReadAll}
+use Rattle.snap_record.specs.Hands.{idle, answered_of, showing, has_read}
 use Rattle.snap_record.proofs.Accounts.{acct, rec}
 use Rattle.snap_record.proofs.Moves.{code_number}
 use Rattle.snap_record.proofs.Reading.{looks_over}
 
-abbrev Seated : Type 0
-Seated = Me (Unit {0}) (List Account)
-
 abbrev pub at_desk : Account → Seated
 at_desk a = (a ∷ [], [])
 
-pub alone_of : (me : Seated) (d : ℕ) (rs : List Answered) (t u : ℕ) → me ≡ at_desk (idle d rs t) → t ≡ u → (me ≡ at_desk (idle d (records_of me.0) u)) × (records_of me.0 ≡ rs)
-alone_of me d rs t u is same = let r : records_of me.0 ≡ rs = ap (λ (m : Seated). records_of m.0) is in (is ∙ (λ i. at_desk (idle d (sym r i) (same i))), r)
+pub alone_of : (me : Seated) (d : ℕ) (rs : List Answered) (t u : ℕ) → me ≡ at_desk (idle d rs t) → t ≡ u → (me ≡ at_desk (idle d (answered_of me.0) u)) × (answered_of me.0 ≡ rs)
+alone_of me d rs t u is same = let r : answered_of me.0 ≡ rs = ap (λ (m : Seated). answered_of m.0) is in (is ∙ (λ i. at_desk (idle d (sym r i) (same i))), r)
 
 pub begun_after : (me now : Seated) (d : ℕ) (rs : List Answered) (t b : ℕ) → me ≡ at_desk (idle d rs t) → now ≡ (first_step (begun_store b) me.0, me.1) → now ≡ at_desk (acct d rs (Begun b) (t + 1))
 begun_after me now d rs t b is told = told ∙ ap (λ (m : Seated). (first_step (begun_store b) m.0, m.1)) is

@@ -153,7 +153,7 @@ module _ (n : ℕ) (hand : List Account) (h : Settled n hand) (g : ScansSettled 
 
   -- the stores of the other desks
   abbrev pub N : ℕ
-  N = total (λ (c : Account). cond (c.desk == a.desk) 0 (length (writes_in c.records))) hand
+  N = total (λ (c : Account). cond (c.desk == a.desk) 0 (length (writes_in c.calls))) hand
 
   whole_sum : (xs : List (ℕ × ℕ)) → length xs ≡ n → sum xs ≡ W xs + (shown_at xs a.desk).0
   whole_sum xs size =
@@ -163,20 +163,20 @@ module _ (n : ℕ) (hand : List Account) (h : Settled n hand) (g : ScansSettled 
       let t = ap sum (take_all n xs (omega arith)) in omega arith
 
   -- what a collect shows was stored
-  stored : (v : Look) → Mem v (looks_in a.records) → (c : Account) → Mem c hand → (shown_at v.shown c.desk).0 ≤ length (writes_in c.records)
+  stored : (v : Look) → Mem v (looks_in a.calls) → (c : Account) → Mem c hand → (shown_at v.shown c.desk).0 ≤ length (writes_in c.calls)
   stored v mv c mc = at (dec_le 1 (shown_at v.shown c.desk).0)
     where
-      at : Dec (1 ≤ (shown_at v.shown c.desk).0) → (shown_at v.shown c.desk).0 ≤ length (writes_in c.records)
+      at : Dec (1 ≤ (shown_at v.shown c.desk).0) → (shown_at v.shown c.desk).0 ≤ length (writes_in c.calls)
       at (no nle) = omega arith
       at (yes pos) =
           let len = shown_low v.shown c.desk (omega arith) in
           let s = (h.regular a ma v mv c mc (shown_at v.shown c.desk) (shown_some v.shown c.desk len)).real (omega arith) in
-          let l = numbered_mem 1 (writes_in c.records) s.0 (h.numbered c mc) s.1 in let e = s.2 in omega arith
+          let l = numbered_mem 1 (writes_in c.calls) s.0 (h.numbered c mc) s.1 in let e = s.2 in omega arith
 
-  below_stores : (v : Look) → Mem v (looks_in a.records) → W v.shown ≤ N
-  below_stores v mv = total_le (λ (c : Account). but a.desk (λ k. (shown_at v.shown k).0) c.desk) (λ (c : Account). cond (c.desk == a.desk) 0 (length (writes_in c.records))) hand (λ c mc. by (c.desk == a.desk) c (stored v mv c mc))
+  below_stores : (v : Look) → Mem v (looks_in a.calls) → W v.shown ≤ N
+  below_stores v mv = total_le (λ (c : Account). but a.desk (λ k. (shown_at v.shown k).0) c.desk) (λ (c : Account). cond (c.desk == a.desk) 0 (length (writes_in c.calls))) hand (λ c mc. by (c.desk == a.desk) c (stored v mv c mc))
     where
-      by : (t : Bool) (c : Account) → (shown_at v.shown c.desk).0 ≤ length (writes_in c.records) → cond t 0 (shown_at v.shown c.desk).0 ≤ cond t 0 (length (writes_in c.records))
+      by : (t : Bool) (c : Account) → (shown_at v.shown c.desk).0 ≤ length (writes_in c.calls) → cond t 0 (shown_at v.shown c.desk).0 ≤ cond t 0 (length (writes_in c.calls))
       by true c le = omega arith
       by false c le = le
 
@@ -188,7 +188,7 @@ module _ (n : ℕ) (hand : List Account) (h : Settled n hand) (g : ScansSettled 
       by false c le = le
 
   -- an unrecorded scan
-  one_scan : (r : Answered) (m : ℕ) (fs ls : List (ℕ × ℕ)) → Mem r a.records → r.op ≡ Interfered m fs ls → Mem (look r.begun r.ended true fs) (looks_in a.records) → Mem (look r.begun r.ended true ls) (looks_in a.records) → W fs + m ≤ W ls
+  one_scan : (r : Answered) (m : ℕ) (fs ls : List (ℕ × ℕ)) → Mem r a.calls → r.op ≡ Interfered m fs ls → Mem (look r.begun r.ended true fs) (looks_in a.calls) → Mem (look r.begun r.ended true ls) (looks_in a.calls) → W fs + m ≤ W ls
   one_scan r m fs ls mr op mf ml =
       let sf = whole_sum fs (h.whole a ma (look r.begun r.ended true fs) mf) in
       let sl = whole_sum ls (h.whole a ma (look r.begun r.ended true ls) ml) in
@@ -203,43 +203,43 @@ module _ (n : ℕ) (hand : List Account) (h : Settled n hand) (g : ScansSettled 
           let s = (h.regular a ma (look r.begun r.ended true ls) ml a ma (shown_at ls a.desk) (shown_some ls a.desk (omega arith))).real (omega arith) in
           let num = s.2 in let beg = s.4 in
           let f = (h.regular a ma (look r.begun r.ended true fs) mf a ma (shown_at fs a.desk) (shown_some fs a.desk (omega arith))).fresh s.0 s.1 (omega arith) in
-          ⊎_elim (λ x. absurd (omega arith)) (λ x. absurd (omega arith)) (write_apart a.records r s.0 m fs ls (h.rising a ma) mr op s.1)
+          ⊎_elim (λ x. absurd (omega arith)) (λ x. absurd (omega arith)) (write_apart a.calls r s.0 m fs ls (h.rising a ma) mr op s.1)
 
   -- and what stood beside it
-  one_beside : (r : Answered) (m : ℕ) (fs ls : List (ℕ × ℕ)) → Mem r a.records → r.op ≡ Interfered m fs ls → Mem (look r.begun r.ended true fs) (looks_in a.records) → Mem (look r.begun r.ended true ls) (looks_in a.records) → m ≤ stores_beside hand a r
+  one_beside : (r : Answered) (m : ℕ) (fs ls : List (ℕ × ℕ)) → Mem r a.calls → r.op ≡ Interfered m fs ls → Mem (look r.begun r.ended true fs) (looks_in a.calls) → Mem (look r.begun r.ended true ls) (looks_in a.calls) → m ≤ stores_beside hand a r
   one_beside r m fs ls mr op mf ml =
       let climb = one_scan r m fs ls mr op mf ml in
-      let t = total_le_sum (λ (c : Account). but a.desk (λ k. (shown_at ls k).0) c.desk) (λ (c : Account). but a.desk (λ k. (shown_at fs k).0) c.desk) (λ (c : Account). cond (c.desk == a.desk) 0 (total (beside r) (writes_in c.records))) hand
+      let t = total_le_sum (λ (c : Account). but a.desk (λ k. (shown_at ls k).0) c.desk) (λ (c : Account). but a.desk (λ k. (shown_at fs k).0) c.desk) (λ (c : Account). cond (c.desk == a.desk) 0 (total (beside r) (writes_in c.calls))) hand
       (λ c mc. by (c.desk == a.desk) c (each c mc)) in omega arith
     where
-      by : (t : Bool) (c : Account) → (shown_at ls c.desk).0 ≤ (shown_at fs c.desk).0 + total (beside r) (writes_in c.records) → cond t 0 (shown_at ls c.desk).0 ≤ cond t 0 (shown_at fs c.desk).0 + cond t 0 (total (beside r) (writes_in c.records))
+      by : (t : Bool) (c : Account) → (shown_at ls c.desk).0 ≤ (shown_at fs c.desk).0 + total (beside r) (writes_in c.calls) → cond t 0 (shown_at ls c.desk).0 ≤ cond t 0 (shown_at fs c.desk).0 + cond t 0 (total (beside r) (writes_in c.calls))
       by true c le = omega arith
       by false c le = le
 
-      each : (c : Account) → Mem c hand → (shown_at ls c.desk).0 ≤ (shown_at fs c.desk).0 + total (beside r) (writes_in c.records)
+      each : (c : Account) → Mem c hand → (shown_at ls c.desk).0 ≤ (shown_at fs c.desk).0 + total (beside r) (writes_in c.calls)
       each c mc =
           let most = stored (look r.begun r.ended true ls) ml c mc in
-          count_between (beside r) 1 (writes_in c.records) (shown_at fs c.desk).0 (shown_at ls c.desk).0 (h.numbered c mc) (omega arith) (omega arith) counted
+          count_between (beside r) 1 (writes_in c.calls) (shown_at fs c.desk).0 (shown_at ls c.desk).0 (h.numbered c mc) (omega arith) (omega arith) counted
         where
           low : c.desk < n
           low = hand_low n hand h.desks c mc
 
-          counted : (w : Write) → Mem w (writes_in c.records) → (shown_at fs c.desk).0 < w.number → w.number ≤ (shown_at ls c.desk).0 → 1 ≤ beside r w
+          counted : (w : Write) → Mem w (writes_in c.calls) → (shown_at fs c.desk).0 < w.number → w.number ≤ (shown_at ls c.desk).0 → 1 ≤ beside r w
           counted w mw above up_to =
               let wf = h.whole a ma (look r.begun r.ended true fs) mf in let wl = h.whole a ma (look r.begun r.ended true ls) ml in let lo = low in
               let late = (h.regular a ma (look r.begun r.ended true fs) mf c mc (shown_at fs c.desk) (shown_some fs c.desk (omega arith))).fresh w mw above in
               let s = (h.regular a ma (look r.begun r.ended true ls) ml c mc (shown_at ls c.desk) (shown_some ls c.desk (omega arith))).real (omega arith) in
               is_beside r w late (begins s (dec_le s.0.number w.number))
             where
-              begins : (s : (v : Write) × Mem v (writes_in c.records) × (v.number ≡ (shown_at ls c.desk).0) × (v.value ≡ (shown_at ls c.desk).1) × (v.begun < r.ended)) → Dec (s.0.number ≤ w.number) → w.begun < r.ended
+              begins : (s : (v : Write) × Mem v (writes_in c.calls) × (v.number ≡ (shown_at ls c.desk).0) × (v.value ≡ (shown_at ls c.desk).1) × (v.begun < r.ended)) → Dec (s.0.number ≤ w.number) → w.begun < r.ended
               begins s (no less) =
-                  let t = write_turns 1 c.records w s.0 (h.rising c mc) (h.numbered c mc) mw s.1 (omega arith) in
-                  let l = write_lasts c.records w (h.rising c mc) mw in let b = s.4 in omega arith
+                  let t = write_turns 1 c.calls w s.0 (h.rising c mc) (h.numbered c mc) mw s.1 (omega arith) in
+                  let l = write_lasts c.calls w (h.rising c mc) mw in let b = s.4 in omega arith
               begins s (yes le) =
                   let e : w.number ≡ s.0.number = (let k = s.2 in omega arith) in
-                  let same = numbered_begun 1 (writes_in c.records) w s.0 (h.numbered c mc) mw s.1 e in let b = s.4 in omega arith
+                  let same = numbered_begun 1 (writes_in c.calls) w s.0 (h.numbered c mc) mw s.1 e in let b = s.4 in omega arith
 
-  from_on : (rs : List Answered) → ((r : Answered) → Mem r rs → Mem r a.records) → ((v : Look) → Mem v (looks_in rs) → Mem v (looks_in a.records)) → Rising (stamps_in rs) → (xs : List (ℕ × ℕ)) → W xs ≤ N
+  from_on : (rs : List Answered) → ((r : Answered) → Mem r rs → Mem r a.calls) → ((v : Look) → Mem v (looks_in rs) → Mem v (looks_in a.calls)) → Rising (stamps_in rs) → (xs : List (ℕ × ℕ)) → W xs ≤ N
       → ((v : Look) → Mem v (looks_in rs) → (c : Account) → Mem c hand → (shown_at xs c.desk).0 ≤ (shown_at v.shown c.desk).0) → total (λ x. x) (lost_in rs) + W xs ≤ N
   from_on [] sub looks up xs most le = omega arith
   from_on (r ∷ rs) sub looks up xs most le =
@@ -247,7 +247,7 @@ module _ (n : ℕ) (hand : List Account) (h : Settled n hand) (g : ScansSettled 
       one r.op refl (λ q m. sub q (inr m)) (λ v m. looks v (mem_right (op_looks r.begun r.ended r.op) (looks_in rs) v m)) tail
       (λ ys big below. from_on rs (λ q m. sub q (inr m)) (λ v m. looks v (mem_right (op_looks r.begun r.ended r.op) (looks_in rs) v m)) (rising_tail r.ended (stamps_in rs) tail) ys big below)
     where
-      one : (o : Answer) → r.op ≡ o → ((q : Answered) → Mem q rs → Mem q a.records) → ((v : Look) → Mem v (looks_in rs) → Mem v (looks_in a.records)) → Rising (r.ended ∷ stamps_in rs)
+      one : (o : Answer) → r.op ≡ o → ((q : Answered) → Mem q rs → Mem q a.calls) → ((v : Look) → Mem v (looks_in rs) → Mem v (looks_in a.calls)) → Rising (r.ended ∷ stamps_in rs)
           → ((ys : List (ℕ × ℕ)) → W ys ≤ N → ((v : Look) → Mem v (looks_in rs) → (c : Account) → Mem c hand → (shown_at ys c.desk).0 ≤ (shown_at v.shown c.desk).0) → total (λ x. x) (lost_in rs) + W ys ≤ N)
           → total (λ x. x) (op_lost o ++ lost_in rs) + W xs ≤ N
       one (Stored k v) e s l t rest = rest xs most (λ v m. le v (mem_right (op_looks r.begun r.ended r.op) (looks_in rs) v m))
@@ -263,16 +263,16 @@ module _ (n : ℕ) (hand : List Account) (h : Settled n hand) (g : ScansSettled 
           let b = below_stores (look r.begun r.ended true ls) (looks (look r.begun r.ended true ls) last') in
           let r = rest ls b (λ v m c mc. later v c mc (looks (look r.begun r.ended true ls) last') (l v m) (rising_head r.ended (stamps_in rs) t v.begun (look_in rs v m))) in omega arith
         where
-          later : (v : Look) (c : Account) → Mem c hand → Mem (look r.begun r.ended true ls) (looks_in a.records) → Mem v (looks_in a.records) → r.ended < v.begun → (shown_at ls c.desk).0 ≤ (shown_at v.shown c.desk).0
+          later : (v : Look) (c : Account) → Mem c hand → Mem (look r.begun r.ended true ls) (looks_in a.calls) → Mem v (looks_in a.calls) → r.ended < v.begun → (shown_at ls c.desk).0 ≤ (shown_at v.shown c.desk).0
           later v c mc ml mv lt =
               let low = hand_low n hand h.desks c mc in
               let wl = h.whole a ma (look r.begun r.ended true ls) ml in let wv = h.whole a ma v mv in
               h.monotone a a ma ma (look r.begun r.ended true ls) v ml mv lt c.desk (shown_at ls c.desk) (shown_at v.shown c.desk) (shown_some ls c.desk (omega arith)) (shown_some v.shown c.desk (omega arith))
 
-  pub few_tries : total (λ x. x) (lost_in a.records) ≤ N
+  pub few_tries : total (λ x. x) (lost_in a.calls) ≤ N
   few_tries =
       let z = no_desks hand in
-      let r = from_on a.records (λ q m. m) (λ v m. m) (h.rising a ma) [] (omega arith) (λ v m c mc. omega arith) in omega arith
+      let r = from_on a.calls (λ q m. m) (λ v m. m) (h.rising a ma) [] (omega arith) (λ v m c mc. omega arith) in omega arith
     where
       no_desks : (l : List Account) → total (λ (c : Account). but a.desk (λ k. (shown_at [] k).0) c.desk) l ≡ 0
       no_desks [] = refl
@@ -286,8 +286,8 @@ module _ (n : ℕ) (hand : List Account) (h : Settled n hand) (g : ScansSettled 
 pub were_interfered : (n : ℕ) (hand : List Account) → Settled n hand → ScansSettled hand → WereInterfered hand
 were_interfered n hand h g a ma r mr = one r.op refl
   where
-    there : (v : Look) → Mem v (op_looks r.begun r.ended r.op) → Mem v (looks_in a.records)
-    there v m = within a.records mr
+    there : (v : Look) → Mem v (op_looks r.begun r.ended r.op) → Mem v (looks_in a.calls)
+    there v m = within a.calls mr
       where
         within : (rs : List Answered) → Mem r rs → Mem v (looks_in rs)
         within [] x = absurd x

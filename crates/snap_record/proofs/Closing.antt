@@ -88,27 +88,27 @@ settles n id hand slots s r at matches all =
     let whole : take n b ≡ b = take_all n b (omega (arith, h.size)) in
     let sums : (f : Account → ℕ) → total f hand ≡ total f b = λ f. total-hand f b hand n desks fits ∙ ap (total f) whole in
     let idle : (a : Account) → Mem a hand → a.doing ≡ Idle = λ a m. idle_doing a.doing (ins_idle n slots (brief a) (subst (λ (l : List Brief). Mem (brief a) l) matches (mem_map brief hand a m))) in
-    let stamps : (a : Account) → Mem a hand → stamps_of a ≡ stamps_in a.records = λ a m. ap (λ o. stamps_in a.records ++ Rattle.snap_record.specs.Calls.open_stamps o) (idle a m) ∙ append-nil (stamps_in a.records) in
-    let writes : (a : Account) → Mem a hand → writes_of a ≡ writes_in a.records = λ a m. ap (λ o. writes_in a.records ++ Rattle.snap_record.specs.Calls.open_writes o) (idle a m) ∙ append-nil (writes_in a.records) in
-    let marks : (a : Account) → Mem a hand → marks_of a ≡ marks_in a.records = λ a m. ap (λ o. marks_in a.records ++ Rattle.snap_record.specs.Calls.open_marks o) (idle a m) ∙ append-nil (marks_in a.records) in
-    let every : (a : Account) → Mem a hand → all_stamps a ≡ all_stamps_in a.records = λ a m i. stamps a m i ++ map (λ (z : Mark). z.middle) (marks a m i) in
-    let look_there : (a : Account) (v : Look) → Mem v (looks_in a.records) → Mem v (looks_of a) = λ a v m. mem_left (looks_in a.records) (Rattle.snap_record.specs.Calls.open_looks a.doing) v m in
-    let all_over : (a : Account) → Mem a hand → (w : Write) → Mem w (writes_in a.records) → Mem w (writes_of a) = λ a m w q. mem_left (writes_in a.records) (Rattle.snap_record.specs.Calls.open_writes a.doing) w q in
+    let stamps : (a : Account) → Mem a hand → stamps_of a ≡ stamps_in a.calls = λ a m. ap (λ o. stamps_in a.calls ++ Rattle.snap_record.specs.Calls.open_stamps o) (idle a m) ∙ append-nil (stamps_in a.calls) in
+    let writes : (a : Account) → Mem a hand → writes_of a ≡ writes_in a.calls = λ a m. ap (λ o. writes_in a.calls ++ Rattle.snap_record.specs.Calls.open_writes o) (idle a m) ∙ append-nil (writes_in a.calls) in
+    let marks : (a : Account) → Mem a hand → marks_of a ≡ marks_in a.calls = λ a m. ap (λ o. marks_in a.calls ++ Rattle.snap_record.specs.Calls.open_marks o) (idle a m) ∙ append-nil (marks_in a.calls) in
+    let every : (a : Account) → Mem a hand → all_stamps a ≡ all_stamps_in a.calls = λ a m i. stamps a m i ++ map (λ (z : Mark). z.middle) (marks a m i) in
+    let look_there : (a : Account) (v : Look) → Mem v (looks_in a.calls) → Mem v (looks_of a) = λ a v m. mem_left (looks_in a.calls) (Rattle.snap_record.specs.Calls.open_looks a.doing) v m in
+    let all_over : (a : Account) → Mem a hand → (w : Write) → Mem w (writes_in a.calls) → Mem w (writes_of a) = λ a m w q. mem_left (writes_in a.calls) (Rattle.snap_record.specs.Calls.open_writes a.doing) w q in
     record {
       desks = desks;
       idle = idle;
       rising = λ a m. subst Rattle.snap_record.specs.Rule.Rising (stamps a m) (h.own a.desk a (fits a m)).rising;
       below = λ a m x q. let l = h.below a.desk a (fits a m) x (subst (λ (l : List ℕ). Mem x l) (sym (every a m)) q) in let e = sums (λ (c : Account). c.ticks) in omega arith;
-      apart = λ x. let e = h.apart x in let t = sums (λ (c : Account). times x (all_stamps c)) in let u = same_total (λ (c : Account). times x (all_stamps c)) (λ (c : Account). times x (all_stamps_in c.records)) hand (λ c m. ap (times x) (every c m)) in omega arith;
+      apart = λ x. let e = h.apart x in let t = sums (λ (c : Account). times x (all_stamps c)) in let u = same_total (λ (c : Account). times x (all_stamps c)) (λ (c : Account). times x (all_stamps_in c.calls)) hand (λ c m. ap (times x) (every c m)) in omega arith;
       numbered = λ a m. subst (Rattle.snap_record.specs.Rule.Numbered 1) (writes a m) (h.own a.desk a (fits a m)).numbered;
-      whole = λ a m v q. (h.own a.desk a (fits a m)).whole v (look_there a v q) (looks_over a.records v q);
+      whole = λ a m v q. (h.own a.desk a (fits a m)).whole v (look_there a v q) (looks_over a.calls v q);
       regular = λ a m v q c mc p at_p.
           let see = h.sees a.desk a (fits a m) v (look_there a v q) c.desk c (fits c mc) p at_p in
           record {
-            fresh = λ w mw lt. see.fresh w (all_over c mc w mw) lt (writes_over c.records w mw);
-            real = λ pos. let t = see.real pos in (t.0, subst (λ (l : List Write). Mem t.0 l) (writes c mc) t.1, t.2, t.3, t.4 (looks_over a.records v q));
+            fresh = λ w mw lt. see.fresh w (all_over c mc w mw) lt (writes_over c.calls w mw);
+            real = λ pos. let t = see.real pos in (t.0, subst (λ (l : List Write). Mem t.0 l) (writes c mc) t.1, t.2, t.3, t.4 (looks_over a.calls v q));
           };
-      monotone = λ a c ma mc v u mv mu lt k p q at_p at_q. h.after a.desk a (fits a ma) v (look_there a v mv) c.desk c (fits c mc) u (look_there c u mu) (looks_over a.records v mv) lt k p q at_p at_q;
+      monotone = λ a c ma mc v u mv mu lt k p q at_p at_q. h.after a.desk a (fits a ma) v (look_there a v mv) c.desk c (fits c mc) u (look_there c u mu) (looks_over a.calls v mv) lt k p q at_p at_q;
     }
   where
     same_total : (f g : Account → ℕ) (l : List Account) → ((c : Account) → Mem c l → f c ≡ g c) → total f l ≡ total g l
@@ -130,14 +130,14 @@ pub settles_scans : (n id : ℕ) (hand : List Account) (s : State (Unit {0}) (Li
 settles_scans n id hand s r at =
     let g = r.scans in
     let fits : (a : Account) → Mem a hand → get_elem? r.accounts a.desk ≡ some a = λ a m. r.held.fits id hand at a m in
-    let there : (a : Account) (m : Mark) → Mem m (marks_in a.records) → Mem m (marks_of a) = λ a m q. mem_left (marks_in a.records) (open_marks a.doing) m q in
+    let there : (a : Account) (m : Mark) → Mem m (marks_in a.calls) → Mem m (marks_of a) = λ a m q. mem_left (marks_in a.calls) (open_marks a.doing) m q in
     record {
-      inside = λ a ma m q. let i = g.inside a.desk a (fits a ma) m (there a m q) in (i.begins, i.ends (marks_same a.records m q).1);
+      inside = λ a ma m q. let i = g.inside a.desk a (fits a ma) m (there a m q) in (i.begins, i.ends (marks_same a.calls m q).1);
       shows = λ a ma m q c mc p at_p. (let x = g.spans a.desk a (fits a ma) m (there a m q) c.desk c (fits c mc) in record {
-        began = λ w mw is. x.began p at_p w (mem_left (writes_in c.records) (open_writes c.doing) w mw) is;
-        fresh = λ w mw lt. x.fresh p (ap (λ l. get_elem? l c.desk) (sym (marks_same a.records m q).0) ∙ at_p) w (mem_left (writes_in c.records) (open_writes c.doing) w mw) (writes_over c.records w mw) lt;
+        began = λ w mw is. x.began p at_p w (mem_left (writes_in c.calls) (open_writes c.doing) w mw) is;
+        fresh = λ w mw lt. x.fresh p (ap (λ l. get_elem? l c.desk) (sym (marks_same a.calls m q).0) ∙ at_p) w (mem_left (writes_in c.calls) (open_writes c.doing) w mw) (writes_over c.calls w mw) lt;
       });
-      in_turn = λ a c ma mc u v mu mv lt k p q at_p at_q. g.in_turn a.desk a (fits a ma) u (there a u mu) c.desk c (fits c mc) v (there c v mv) lt k p q at_p (ap (λ l. get_elem? l k) (sym (marks_same c.records v mv).0) ∙ at_q);
+      in_turn = λ a c ma mc u v mu mv lt k p q at_p at_q. g.in_turn a.desk a (fits a ma) u (there a u mu) c.desk c (fits c mc) v (there c v mv) lt k p q at_p (ap (λ l. get_elem? l k) (sym (marks_same c.calls v mv).0) ∙ at_q);
       climbed = λ a ma x q. (g.climbs a.desk a (fits a ma)).answered x q;
     }
 

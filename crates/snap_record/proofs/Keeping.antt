@@ -134,29 +134,29 @@ few_kept rs x =
     let b = total-append (λ y. one_if (y == x)) (stamps_in rs) (map (λ (z : Mark). z.middle) (marks_in rs)) in
     let c = ap (λ (l : List Mark). times x (map (λ (z : Mark). z.middle) l)) (marks_kept rs) in let d = times_kept rs x in omega arith
 
-total_kept : (hand : List Account) (x : ℕ) → total (λ (a : Account). times x (all_stamps_in a.records)) (map without_collects hand) ≤ total (λ (a : Account). times x (all_stamps_in a.records)) hand
+total_kept : (hand : List Account) (x : ℕ) → total (λ (a : Account). times x (all_stamps_in a.calls)) (map without_collects hand) ≤ total (λ (a : Account). times x (all_stamps_in a.calls)) hand
 total_kept [] x = omega arith
-total_kept (a ∷ hand) x = let f = few_kept a.records x in let r = total_kept hand x in omega arith
+total_kept (a ∷ hand) x = let f = few_kept a.calls x in let r = total_kept hand x in omega arith
 
 pub settled_kept : (n : ℕ) (hand : List Account) → Settled n hand → Settled n (map without_collects hand)
 settled_kept n hand h = record {
   desks = desks_kept hand ∙ h.desks;
   idle = λ c m. let a = from_map hand c m in ap (λ (z : Account). z.doing) (sym a.2) ∙ h.idle a.0 a.1;
-  rising = λ c m. let a = from_map hand c m in subst (λ (z : Account). Rising (stamps_in z.records)) a.2 (rising_kept a.0.records (h.rising a.0 a.1));
+  rising = λ c m. let a = from_map hand c m in subst (λ (z : Account). Rising (stamps_in z.calls)) a.2 (rising_kept a.0.calls (h.rising a.0 a.1));
   below = λ c m x q. let a = from_map hand c m in let e = clock_kept hand in
-      let l = h.below a.0 a.1 x (all_kept a.0.records x (subst (λ (z : Account). Mem x (all_stamps_in z.records)) (sym a.2) q)) in omega arith;
+      let l = h.below a.0 a.1 x (all_kept a.0.calls x (subst (λ (z : Account). Mem x (all_stamps_in z.calls)) (sym a.2) q)) in omega arith;
   apart = λ x. let t = total_kept hand x in let f = h.apart x in omega arith;
-  numbered = λ c m. let a = from_map hand c m in subst (λ (z : Account). Numbered 1 (writes_in z.records)) a.2 (subst (Numbered 1) (sym (writes_kept a.0.records)) (h.numbered a.0 a.1));
-  whole = λ c m v q. let a = from_map hand c m in h.whole a.0 a.1 v (looks_kept a.0.records v (subst (λ (z : Account). Mem v (looks_in z.records)) (sym a.2) q));
+  numbered = λ c m. let a = from_map hand c m in subst (λ (z : Account). Numbered 1 (writes_in z.calls)) a.2 (subst (Numbered 1) (sym (writes_kept a.0.calls)) (h.numbered a.0 a.1));
+  whole = λ c m v q. let a = from_map hand c m in h.whole a.0 a.1 v (looks_kept a.0.calls v (subst (λ (z : Account). Mem v (looks_in z.calls)) (sym a.2) q));
   regular = λ c m v q d md p at_p. let a = from_map hand c m in let e = from_map hand d md in
-      let s = h.regular a.0 a.1 v (looks_kept a.0.records v (subst (λ (z : Account). Mem v (looks_in z.records)) (sym a.2) q)) e.0 e.1 p (ap (λ (z : Account). get_elem? v.shown z.desk) e.2 ∙ at_p) in
-      let ws = ap (λ (z : Account). writes_in z.records) (sym e.2) ∙ writes_kept e.0.records in
+      let s = h.regular a.0 a.1 v (looks_kept a.0.calls v (subst (λ (z : Account). Mem v (looks_in z.calls)) (sym a.2) q)) e.0 e.1 p (ap (λ (z : Account). get_elem? v.shown z.desk) e.2 ∙ at_p) in
+      let ws = ap (λ (z : Account). writes_in z.calls) (sym e.2) ∙ writes_kept e.0.calls in
       record {
         fresh = λ w mw lt. s.fresh w (subst (λ (l : List Write). Mem w l) ws mw) lt;
         real = λ pos. let r = s.real pos in (r.0, subst (λ (l : List Write). Mem r.0 l) (sym ws) r.1, r.2, r.3, r.4);
       };
   monotone = λ c d mc md r s mr ms lt k p q at_p at_q. let a = from_map hand c mc in let e = from_map hand d md in
-      h.monotone a.0 e.0 a.1 e.1 r s (looks_kept a.0.records r (subst (λ (z : Account). Mem r (looks_in z.records)) (sym a.2) mr)) (looks_kept e.0.records s (subst (λ (z : Account). Mem s (looks_in z.records)) (sym e.2) ms)) lt k p q at_p at_q;
+      h.monotone a.0 e.0 a.1 e.1 r s (looks_kept a.0.calls r (subst (λ (z : Account). Mem r (looks_in z.calls)) (sym a.2) mr)) (looks_kept e.0.calls s (subst (λ (z : Account). Mem s (looks_in z.calls)) (sym e.2) ms)) lt k p q at_p at_q;
 }
 
 pub scans_kept : (hand : List Account) → ScansSettled hand → ScansSettled (map without_collects hand)
@@ -164,15 +164,15 @@ scans_kept hand g = record {
   inside = λ c mc m q. let a = from_map hand c mc in g.inside a.0 a.1 m (here a.0 c a.2 m q);
   shows = λ c mc m q d md p at_p. let a = from_map hand c mc in let e = from_map hand d md in
       let s = g.shows a.0 a.1 m (here a.0 c a.2 m q) e.0 e.1 p (ap (λ (z : Account). get_elem? m.before z.desk) e.2 ∙ at_p) in
-      let ws = ap (λ (z : Account). writes_in z.records) (sym e.2) ∙ writes_kept e.0.records in
+      let ws = ap (λ (z : Account). writes_in z.calls) (sym e.2) ∙ writes_kept e.0.calls in
       record { began = λ w mw is. s.began w (subst (λ (l : List Write). Mem w l) ws mw) is; fresh = λ w mw lt. s.fresh w (subst (λ (l : List Write). Mem w l) ws mw) lt };
   in_turn = λ c d mc md r s mr ms lt k p q at_p at_q. let a = from_map hand c mc in let e = from_map hand d md in
       g.in_turn a.0 e.0 a.1 e.1 r s (here a.0 c a.2 r mr) (here e.0 d e.2 s ms) lt k p q at_p at_q;
-  climbed = λ c mc r q. let a = from_map hand c mc in g.climbed a.0 a.1 r (mem_kept a.0.records r (subst (λ (z : Account). Mem r z.records) (sym a.2) q));
+  climbed = λ c mc r q. let a = from_map hand c mc in g.climbed a.0 a.1 r (mem_kept a.0.calls r (subst (λ (z : Account). Mem r z.calls) (sym a.2) q));
 }
   where
-    here : (a c : Account) → without_collects a ≡ c → (m : Mark) → Mem m (marks_in c.records) → Mem m (marks_in a.records)
-    here a c e m q = subst (λ (l : List Mark). Mem m l) (ap (λ (z : Account). marks_in z.records) (sym e) ∙ marks_kept a.records) q
+    here : (a c : Account) → without_collects a ≡ c → (m : Mark) → Mem m (marks_in c.calls) → Mem m (marks_in a.calls)
+    here a c e m q = subst (λ (l : List Mark). Mem m l) (ap (λ (z : Account). marks_in z.calls) (sym e) ∙ marks_kept a.calls) q
 
 -- where nothing was collected, all records are left
 pub records_kept : (d : ℕ) (rs : List Answered) → collects_in rs ≡ 0 → records_at d (kept rs) ≡ records_at d rs

@@ -28,8 +28,10 @@ pub mod Delivering
 pub mod Finishing
 pub mod Scripting
 pub mod Planning
+pub mod Whole
 pub mod Telling
 pub mod Keeping
 pub mod ScanOrder
+pub mod ByKey
 pub mod Atomic
 pub mod Climbing

@@ -36,8 +36,8 @@ use Rattle.snap_record.proofs.DeskEvents.{entry, op_events, desk_events, event_s
 -- the events of all accounts, in the order of their stamps
 pub record InOrder (hand : List Account) (es : List Stamp) : Type 0 where
   pub stamped : Stamped es
-  pub all : (a : Account) → Mem a hand → (x : Stamp) → Mem x (desk_events a.desk a.records) → Mem x es
-  pub only : (x : Stamp) → Mem x es → (a : Account) × Mem a hand × Mem x (desk_events a.desk a.records)
+  pub all : (a : Account) → Mem a hand → (x : Stamp) → Mem x (desk_events a.desk a.calls) → Mem x es
+  pub only : (x : Stamp) → Mem x es → (a : Account) × Mem a hand × Mem x (desk_events a.desk a.calls)
 
 -- an entry that is listed
 entry_at_some : (k : ℕ) (p : ℕ × ℕ) (e : Entry) → entry_at k p ≡ Some e → (0 < p.0) × (entry k p.0 p.1 ≡ e)
@@ -57,17 +57,17 @@ unfolding is_completed
 completed_at c place e = ap is_some e
 
 module _ (n : ℕ) (hand : List Account) (es : List Stamp) (h : Settled n hand) (m : InOrder hand es) where
-  owner : (x : Stamp) → Mem x es → (a : Account) × Mem a hand × Mem x (desk_events a.desk a.records) × (process_of x.1 ≡ a.desk)
-  owner x mx = let o = m.only x mx in (o.0, o.1, o.2, (event_stamp o.0.desk o.0.records x o.2).1)
+  owner : (x : Stamp) → Mem x es → (a : Account) × Mem a hand × Mem x (desk_events a.desk a.calls) × (process_of x.1 ≡ a.desk)
+  owner x mx = let o = m.only x mx in (o.0, o.1, o.2, (event_stamp o.0.desk o.0.calls x o.2).1)
 
   -- the begin of a call is that of its record
   same_begin : (a : Account) → Mem a hand → (p i j i2 s t b : ℕ) (e f e2 : Event) → get_elem? es i ≡ some (s, e) → get_elem? es j ≡ some (t, f) → get_elem? es i2 ≡ some (b, e2)
-      → process_of e ≡ p → process_of e2 ≡ p → p ≡ a.desk → b < t → IsSpan (events_in es) p i j → Quiet b t a.records → i2 ≡ i
+      → process_of e ≡ p → process_of e2 ≡ p → p ≡ a.desk → b < t → IsSpan (events_in es) p i j → Quiet b t a.calls → i2 ≡ i
   same_begin a ma p i j i2 s t b e f e2 ei ej e2i pe pe2 pa lt call quiet =
       let before = place_lt es m.stamped i2 j (b, e2) (t, f) e2i ej lt in
       let o = owner (s, e) (mem_at es i (s, e) ei) in
       let is : o.0 ≡ a = hand_one n hand h.desks o.0 a o.1 ma (sym o.3 ∙ pe ∙ pa) in
-      let there : Mem s (stamps_in a.records) = subst (λ (c : Account). Mem s (stamps_in c.records)) is (event_stamp o.0.desk o.0.records (s, e) o.2).0 in
+      let there : Mem s (stamps_in a.calls) = subst (λ (c : Account). Mem s (stamps_in c.calls)) is (event_stamp o.0.desk o.0.calls (s, e) o.2).0 in
       let late = stamped_at es m.stamped i j (s, e) (t, f) ei ej call.order in
       let up : i < i2 → ⊥ = λ l. call.quiet i2 e2 l before (at_event es i2 (b, e2) e2i) pe2 in
       let down : i2 < i → ⊥ = λ l. quiet s there (stamped_at es m.stamped i2 i (b, e2) (s, e) e2i ei l) late in
@@ -88,7 +88,7 @@ module _ (n : ℕ) (hand : List Account) (es : List Stamp) (h : Settled n hand) 
     pub begun : ℕ
     pub ended : ℕ
     pub read : List (ℕ × ℕ)
-    pub look_there : Mem (look begun ended true read) (looks_in account.records)
+    pub look_there : Mem (look begun ended true read) (looks_in account.calls)
     pub lists : listed 0 read ≡ shown
     pub at_begin : get_elem? es i ≡ some (begun, BeginView p)
     pub at_end : get_elem? es j ≡ some (ended, EndView p shown)
@@ -98,7 +98,7 @@ module _ (n : ℕ) (hand : List Account) (es : List Stamp) (h : Settled n hand) 
       let ei = event_at es i (BeginView p) at_i in
       let ej = event_at es j (EndView p shown) at_j in
       let o = owner (ej.0, EndView p shown) (mem_at es j (ej.0, EndView p shown) ej.1) in
-      let v = view_of o.0.desk o.0.records (h.rising o.0 o.1) ej.0 p shown o.2 in
+      let v = view_of o.0.desk o.0.calls (h.rising o.0 o.1) ej.0 p shown o.2 in
       let place = mem_place es (v.begun, BeginView o.0.desk) (m.all o.0 o.1 (v.begun, BeginView o.0.desk) v.begins) in
       let same = same_begin o.0 o.1 p i j place.0 ei.0 ej.0 v.begun (BeginView p) (EndView p shown) (BeginView o.0.desk) ei.1 ej.1 place.1 refl (sym o.3) o.3 v.order call v.quiet in
       let one : (ei.0, BeginView p) ≡ (v.begun, BeginView o.0.desk) = some-injective _ _ (sym ei.1 ∙ ap (λ k. get_elem? es k) (sym same) ∙ place.1) in
@@ -111,7 +111,7 @@ module _ (n : ℕ) (hand : List Account) (es : List Stamp) (h : Settled n hand) 
     pub there : Mem account hand
     pub begun : ℕ
     pub ended : ℕ
-    pub write_there : Mem (write e.number e.value begun ended true) (writes_in account.records)
+    pub write_there : Mem (write e.number e.value begun ended true) (writes_in account.calls)
     pub component : account.desk ≡ e.component
     pub at_begin : get_elem? es i ≡ some (begun, BeginUpdate q e)
     pub at_end : get_elem? es j ≡ some (ended, EndUpdate q)
@@ -121,7 +121,7 @@ module _ (n : ℕ) (hand : List Account) (es : List Stamp) (h : Settled n hand) 
       let ei = event_at es i (BeginUpdate p e) at_i in
       let ej = event_at es j (EndUpdate p) at_j in
       let o = owner (ej.0, EndUpdate p) (mem_at es j (ej.0, EndUpdate p) ej.1) in
-      let u = update_of o.0.desk o.0.records (h.rising o.0 o.1) ej.0 p o.2 in
+      let u = update_of o.0.desk o.0.calls (h.rising o.0 o.1) ej.0 p o.2 in
       let e2 : Event = BeginUpdate o.0.desk (entry o.0.desk u.number u.value) in
       let place = mem_place es (u.begun, e2) (m.all o.0 o.1 (u.begun, e2) u.begins) in
       let same = same_begin o.0 o.1 p i j place.0 ei.0 ej.0 u.begun (BeginUpdate p e) (EndUpdate p) e2 ei.1 ej.1 place.1 refl (sym o.3) o.3 u.order call u.quiet in
@@ -132,7 +132,7 @@ module _ (n : ℕ) (hand : List Account) (es : List Stamp) (h : Settled n hand) 
         there = o.1;
         begun = u.begun;
         ended = ej.0;
-        write_there = subst (λ (w : Write). Mem w (writes_in o.0.records)) (λ q. write (is q).number (is q).value u.begun ej.0 true) u.there;
+        write_there = subst (λ (w : Write). Mem w (writes_in o.0.calls)) (λ q. write (is q).number (is q).value u.begun ej.0 true) u.there;
         component = ap (λ (z : Entry). z.component) is;
         at_begin = ei.1 ∙ (λ z. some ((ap (λ (x : Stamp). x.0) one) z, BeginUpdate p e));
         at_end = ej.1;
@@ -161,19 +161,19 @@ module _ (n : ℕ) (hand : List Account) (es : List Stamp) (h : Settled n hand) 
         let sh = h.regular r.account r.there (look r.begun r.ended true r.read) r.look_there c.0 c.1 (shown_at r.read k) is in
         let w = sh.real x.0 in
         let ev : Event = BeginUpdate c.0.desk (entry c.0.desk w.0.number w.0.value) in
-        let place = mem_place es (w.0.begun, ev) (m.all c.0 c.1 (w.0.begun, ev) (write_event c.0.desk c.0.records w.0 w.1)) in
+        let place = mem_place es (w.0.begun, ev) (m.all c.0 c.1 (w.0.begun, ev) (write_event c.0.desk c.0.calls w.0 w.1)) in
         let same : ev ≡ BeginUpdate c.0.desk e = (λ z. BeginUpdate c.0.desk (entry (c.2 z) (w.2 z) (w.3 z))) ∙ ap (BeginUpdate c.0.desk) x.1 in
         (place.0, c.0.desk, at_event es place.0 (w.0.begun, ev) place.1 ∙ ap some same, place_lt es m.stamped place.0 j (w.0.begun, ev) (r.ended, EndView p shown) place.1 r.at_end w.4);
   }
 
   -- the events of process a.desk are those of its records
-  one_process : (a : Account) → Mem a hand → pick a.desk es ≡ desk_events a.desk a.records
-  one_process a ma = unique (pick a.desk es) (desk_events a.desk a.records) (stamped_pick a.desk es m.stamped) (desk_stamped a.desk a.records (h.rising a ma))
+  one_process : (a : Account) → Mem a hand → pick a.desk es ≡ desk_events a.desk a.calls
+  one_process a ma = unique (pick a.desk es) (desk_events a.desk a.calls) (stamped_pick a.desk es m.stamped) (desk_stamped a.desk a.calls (h.rising a ma))
       (λ x mx. let q = pick_mem a.desk es x mx in let o = owner x q.0 in
-      subst (λ (c : Account). Mem x (desk_events c.desk c.records)) (hand_one n hand h.desks o.0 a o.1 ma (sym o.3 ∙ q.1)) o.2)
-      (λ x mx. mem_pick a.desk es x (m.all a ma x mx) (event_stamp a.desk a.records x mx).1)
+      subst (λ (c : Account). Mem x (desk_events c.desk c.calls)) (hand_one n hand h.desks o.0 a o.1 ma (sym o.3 ∙ q.1)) o.2)
+      (λ x mx. mem_pick a.desk es x (m.all a ma x mx) (event_stamp a.desk a.calls x mx).1)
 
-  pub of_process : (a : Account) → Mem a hand → events_of a.desk (events_in es) ≡ events_in (desk_events a.desk a.records)
+  pub of_process : (a : Account) → Mem a hand → events_of a.desk (events_in es) ≡ events_in (desk_events a.desk a.calls)
   of_process a ma = sym (pick_history a.desk es) ∙ ap events_in (one_process a ma)
 
   no_process : (p : ℕ) → n ≤ p → pick p es ≡ []
@@ -201,13 +201,13 @@ module _ (n : ℕ) (hand : List Account) (es : List Stamp) (h : Settled n hand) 
       at (yes high) = subst TakeTurns (sym (of_no_process p high)) tt
       at (no nh) =
           let a = hand_there n hand h.desks p (omega arith) in
-          subst TakeTurns (sym (of_process a.0 a.1) ∙ ap (λ z. events_of z (events_in es)) a.2) (turns a.0.desk a.0.records)
+          subst TakeTurns (sym (of_process a.0 a.1) ∙ ap (λ z. events_of z (events_in es)) a.2) (turns a.0.desk a.0.calls)
 
   own : (p : ℕ) (e : Entry) → Mem (BeginUpdate p e) (events_in es) → p ≡ e.component
   own p e x =
       let s = mem_event es (BeginUpdate p e) x in
       let o = owner (s.0, BeginUpdate p e) s.1 in
-      own_update o.0.desk o.0.records s.0 p e o.2
+      own_update o.0.desk o.0.calls s.0 p e o.2
 
   update_by : (k : ℕ) (y : Event) → Mem y (events_in es) → begins_update_of k y ≡ true → process_of y ≡ k
   update_by k (BeginUpdate q c) my t = own q c my ∙ eqb-true _ _ t
@@ -235,9 +235,9 @@ module _ (n : ℕ) (hand : List Account) (es : List Stamp) (h : Settled n hand) 
       let o = owner (s.0, x) s.1 in
       let d : ℕ = o.0.desk in
       let comp : d ≡ e.component = sym o.3 ∙ own p e here in
-      let inner : events_in (desk_events d o.0.records) ≡ events_of d before ++ x ∷ events_of d after =
+      let inner : events_in (desk_events d o.0.calls) ≡ events_of d before ++ x ∷ events_of d after =
       sym (of_process o.0 o.1) ∙ ap (events_of d) split ∙ filter-append (λ z. process_of z == d) before (x ∷ after) ∙ ap (λ z. events_of d before ++ z) (events_of-cons d x after o.3) in
-      let num = desk_numbered 1 d o.0.records (events_of d before) (events_of d after) p e (h.numbered o.0 o.1) inner in
+      let num = desk_numbered 1 d o.0.calls (events_of d before) (events_of d after) p e (h.numbered o.0 o.1) inner in
       let same = count_same d before (λ y my. subst (λ (l : List Event). Mem y l) (sym split) (mem_left before (x ∷ after) y my)) in
       let all : e.number ≡ suc (count_by (begins_update_of d) before) = omega arith in
       subst (λ (k : ℕ). e.number ≡ suc (count_by (begins_update_of k) before)) comp all
@@ -267,7 +267,7 @@ module _ (n : ℕ) (hand : List Account) (es : List Stamp) (h : Settled n hand) 
               let here : Mem b.event (events_in es) = subst (λ (l : List Event). Mem b.event l) (sym b.split) (mem_right b.before (b.event ∷ b.after) b.event (inl refl)) in
               let s = mem_event es b.event here in
               let o = owner (s.0, b.event) s.1 in
-              let inner : events_in (desk_events o.0.desk o.0.records) ≡ events_of o.0.desk b.before ++ b.event ∷ [] =
+              let inner : events_in (desk_events o.0.desk o.0.calls) ≡ events_of o.0.desk b.before ++ b.event ∷ [] =
               sym (of_process o.0 o.1) ∙ ap (events_of o.0.desk) b.split ∙ filter-append (λ z. process_of z == o.0.desk) b.before (b.event ∷ b.after)
               ∙ ap (λ z. events_of o.0.desk b.before ++ z) (events_of-cons o.0.desk b.event b.after o.3 ∙ ap (λ z. b.event ∷ z) (ap (λ z. events_of z b.after) (sym o.3) ∙ none)) in
-              absurd (no_open_end o.0.desk o.0.records (events_of o.0.desk b.before) b.event inner b.opens)
+              absurd (no_open_end o.0.desk o.0.calls (events_of o.0.desk b.before) b.event inner b.opens)

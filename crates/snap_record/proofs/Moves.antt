@@ -3,7 +3,7 @@ use Rattle.std.proofs.Common.{◌≡◌, ℕ, zero, suc, ◌+◌, ◌/◌, ◌%�
 use mathlib.Core.Option.{none, some, some-injective}
 use lib.ListN.{get_elem?}
 use Rattle.std.specs.Prelude.{slice_index}
-use Rattle.atomic_table.specs.Table.{Me, step, keeps, stepped, Allows}
+use Rattle.atomic_table.specs.Table.{step, keeps, stepped, Allows}
 use Rattle.snap_record.specs.declared.account.Account.{Account}
 use Rattle.snap_record.specs.declared.account.Answered.{Answered}
 use Rattle.snap_record.specs.declared.account.Answer.TheVariants.{Stored, Viewed, Scanned, Interfered}
@@ -14,16 +14,13 @@ use Rattle.snap_record.specs.Calls.{Mem, latest, in_word, writes_of, looks_of, s
 use Rattle.snap_core.proofs.Sums.{total-set}
 use Rattle.snap_record.specs.Marks.{Marked}
 use Rattle.snap_record.specs.Rule.{tick_limit, Core, Boarded, clock, code, words_of, first_step}
-use Rattle.snap_record.specs.Plays.{entry_of, BeginsStore, BeginsView, Writes, Ends, Learns, Reads, Above, HasRead, ReadAll, Middles, GivesUp}
+use Rattle.snap_record.specs.Plays.{Seated, entry_of, BeginsStore, BeginsView, Writes, Ends, Learns, Reads, Above, HasRead, ReadAll, Middles, GivesUp}
 use Rattle.snap_record.proofs.Accounts.{acct, rec, latest-push}
 use Rattle.snap_record.proofs.Lists.{mem_left, numbered_positive}
 use Rattle.snap_record.proofs.Stores.{begins_store, writes, ends_store}
 use Rattle.snap_record.proofs.Steps.{begins_view, reads, ends_view, middles_first, middles, reads_again, ends_scan, gives_up, scan}
 use Rattle.snap_record.proofs.Marking as marking
 use Rattle.snap_record.proofs.Seats.{St, held_step, words_ticked, words_quiet, words_written, clock_word, desk_word, set_self, clock_small}
-
-abbrev Seated : Type 0
-Seated = Me (Unit {0}) (List Account)
 
 -- the account of the seat, among all
 here : (n : ℕ) (s : St) (r : Boarded n s) (id : ℕ) (a : Account) → get_elem? s.views id ≡ some (a ∷ []) → get_elem? r.accounts a.desk ≡ some a

@@ -91,25 +91,25 @@ events_few s d (r ∷ rs) = one r.op (events_few s d rs)
     one (Scanned t xs) rest = omega arith
     one (Interfered n xs ys) rest = omega arith
 
-times_all : (s : ℕ) (hand : List Account) → times s (stamps (stamped_events (all_records hand))) ≤ total (λ (a : Account). times s (all_stamps_in a.records)) hand
+times_all : (s : ℕ) (hand : List Account) → times s (stamps (stamped_events (all_records hand))) ≤ total (λ (a : Account). times s (all_stamps_in a.calls)) hand
 times_all s [] = omega arith
 times_all s (a ∷ hand) =
     let r = times_all s hand in
-    let e = events_few s a.desk a.records in
-    let more = total-append (λ y. one_if (y == s)) (stamps_in a.records) (map (λ (m : Mark). m.middle) (marks_in a.records)) in
+    let e = events_few s a.desk a.calls in
+    let more = total-append (λ y. one_if (y == s)) (stamps_in a.calls) (map (λ (m : Mark). m.middle) (marks_in a.calls)) in
     let t = ap (λ l. times s (stamps l)) (events-append (records_in a) (all_records hand)) ∙ ap (times s) (map-append (λ (x : Stamp). x.0) (stamped_events (records_in a)) (stamped_events (all_records hand)))
     ∙ total-append (λ y. one_if (y == s)) (stamps (stamped_events (records_in a))) (stamps (stamped_events (all_records hand))) in
-    let same = ap (λ l. times s (stamps l)) (events_at a.desk a.records) in omega arith
+    let same = ap (λ l. times s (stamps l)) (events_at a.desk a.calls) in omega arith
 
-events_mem : (hand : List Account) (x : Stamp) → Mem x (stamped_events (all_records hand)) → (a : Account) × Mem a hand × Mem x (desk_events a.desk a.records)
+events_mem : (hand : List Account) (x : Stamp) → Mem x (stamped_events (all_records hand)) → (a : Account) × Mem a hand × Mem x (desk_events a.desk a.calls)
 events_mem [] x m = absurd m
-events_mem (a ∷ hand) x m = ⊎_elim (λ q. (a, inl refl, subst (λ (l : List Stamp). Mem x l) (events_at a.desk a.records) q)) (λ q. let r = events_mem hand x q in (r.0, inr r.1, r.2))
+events_mem (a ∷ hand) x m = ⊎_elim (λ q. (a, inl refl, subst (λ (l : List Stamp). Mem x l) (events_at a.desk a.calls) q)) (λ q. let r = events_mem hand x q in (r.0, inr r.1, r.2))
     (mem_split (stamped_events (records_in a)) (stamped_events (all_records hand)) x (subst (λ (l : List Stamp). Mem x l) (events-append (records_in a) (all_records hand)) m))
 
-mem_events : (hand : List Account) (a : Account) → Mem a hand → (x : Stamp) → Mem x (desk_events a.desk a.records) → Mem x (stamped_events (all_records hand))
+mem_events : (hand : List Account) (a : Account) → Mem a hand → (x : Stamp) → Mem x (desk_events a.desk a.calls) → Mem x (stamped_events (all_records hand))
 mem_events [] a m x q = absurd m
 mem_events (c ∷ hand) a m x q = subst (λ (l : List Stamp). Mem x l) (sym (events-append (records_in c) (all_records hand))) (⊎_elim
-    (λ e. mem_left (stamped_events (records_in c)) (stamped_events (all_records hand)) x (subst (λ (l : List Stamp). Mem x l) (sym (events_at c.desk c.records)) (subst (λ (z : Account). Mem x (desk_events z.desk z.records)) (sym e) q)))
+    (λ e. mem_left (stamped_events (records_in c)) (stamped_events (all_records hand)) x (subst (λ (l : List Stamp). Mem x l) (sym (events_at c.desk c.calls)) (subst (λ (z : Account). Mem x (desk_events z.desk z.calls)) (sym e) q)))
     (λ r. mem_right (stamped_events (records_in c)) (stamped_events (all_records hand)) x (mem_events hand a r x q))
     m)
 

@@ -145,13 +145,13 @@ did_stores d (s ∷ steps) (r ∷ rs) did = let k = did_stores d steps rs did.1 
     one (Scan tries) (Kind.Stored e) is = absurd is
     one (Scan tries) (Kind.Viewed es) is = refl
 
+pub all_kept : (l : List Step) → LeavesScans [] l
+all_kept [] = tt
+all_kept (x ∷ l) = tt
+
 chosen_stores : (bs : List Bool) (ss : List Step) → LeavesScans bs ss → stores_in (chosen bs ss) ≡ stores_in ss
 chosen_stores bs [] h = refl
 chosen_stores [] (s ∷ ss) h = let r = chosen_stores [] ss (all_kept ss) in omega arith
-  where
-    all_kept : (l : List Step) → LeavesScans [] l
-    all_kept [] = tt
-    all_kept (x ∷ l) = tt
 chosen_stores (true ∷ bs) (s ∷ ss) h = let r = chosen_stores bs ss h.1 in omega arith
 chosen_stores (false ∷ bs) (s ∷ ss) h = let r = chosen_stores bs ss h.1 in let o = one s (h.0 refl) in omega arith
   where
@@ -161,9 +161,9 @@ chosen_stores (false ∷ bs) (s ∷ ss) h = let r = chosen_stores bs ss h.1 in l
     one (Scan tries) h = refl
 
 -- the stores of a desk are those of its script
-desk_stores : (a : Account) (d : ℕ) (steps : List Step) (rs : List Record) (lost : List ℕ) → records_in a ≡ rs → DidSome d steps rs lost → length (writes_in a.records) ≡ stores_in steps
+desk_stores : (a : Account) (d : ℕ) (steps : List Step) (rs : List Record) (lost : List ℕ) → records_in a ≡ rs → DidSome d steps rs lost → length (writes_in a.calls) ≡ stores_in steps
 desk_stores a d steps rs lost is did =
-    writes_count a.desk a.records ∙ ap (λ l. total (λ (r : Record). op_store r.op) l) is ∙ did_stores d (chosen did.choice steps) rs did.did ∙ chosen_stores did.choice steps did.scans
+    writes_count a.desk a.calls ∙ ap (λ l. total (λ (r : Record). op_store r.op) l) is ∙ did_stores d (chosen did.choice steps) rs did.did ∙ chosen_stores did.choice steps did.scans
 
 abbrev choice_of : List Bool → List Bool → ℕ → List Bool
 choice_of a b zero = a
@@ -193,18 +193,18 @@ has_scripts scripts rs history interfered told did = record {
     tries : (w : ℕ) → total (λ x. x) (left_out (choice_of did.zero.choice did.one.choice w) (get_or scripts w [])) ≤ stores_but w scripts
     tries zero =
         let s = did.settled in
-        let z : total (λ x. x) (left_out did.zero.choice (get_or scripts 0 [])) ≡ total (λ x. x) (lost_in s.zero_account.records) = ap (λ l. total (λ x. x) l) (did.zero.left ∙ sym s.zero_lost) in
+        let z : total (λ x. x) (left_out did.zero.choice (get_or scripts 0 [])) ≡ total (λ x. x) (lost_in s.zero_account.calls) = ap (λ l. total (λ x. x) l) (did.zero.left ∙ sym s.zero_lost) in
         let f = few_tries 2 (s.one_account ∷ s.zero_account ∷ []) s.settled s.scans s.zero_account (inr (inl refl)) in
-        let own : cond (s.zero_account.desk == s.zero_account.desk) 0 (length (writes_in s.zero_account.records)) ≡ 0 = ap (λ t. cond t 0 (length (writes_in s.zero_account.records))) (eq-eqb s.zero_account.desk s.zero_account.desk refl) in
-        let other = few (s.one_account.desk == s.zero_account.desk) (length (writes_in s.one_account.records)) in
+        let own : cond (s.zero_account.desk == s.zero_account.desk) 0 (length (writes_in s.zero_account.calls)) ≡ 0 = ap (λ t. cond t 0 (length (writes_in s.zero_account.calls))) (eq-eqb s.zero_account.desk s.zero_account.desk refl) in
+        let other = few (s.one_account.desk == s.zero_account.desk) (length (writes_in s.one_account.calls)) in
         let n = desk_stores s.one_account 1 (get_or scripts 1 []) (of_worker 1 rs) did.lost' s.one_records did.one in
         let t = two 0 in omega arith
     tries (suc zero) =
         let s = did.settled in
-        let z : total (λ x. x) (left_out did.one.choice (get_or scripts 1 [])) ≡ total (λ x. x) (lost_in s.one_account.records) = ap (λ l. total (λ x. x) l) (did.one.left ∙ sym s.one_lost) in
+        let z : total (λ x. x) (left_out did.one.choice (get_or scripts 1 [])) ≡ total (λ x. x) (lost_in s.one_account.calls) = ap (λ l. total (λ x. x) l) (did.one.left ∙ sym s.one_lost) in
         let f = few_tries 2 (s.one_account ∷ s.zero_account ∷ []) s.settled s.scans s.one_account (inl refl) in
-        let own : cond (s.one_account.desk == s.one_account.desk) 0 (length (writes_in s.one_account.records)) ≡ 0 = ap (λ t. cond t 0 (length (writes_in s.one_account.records))) (eq-eqb s.one_account.desk s.one_account.desk refl) in
-        let other = few (s.zero_account.desk == s.one_account.desk) (length (writes_in s.zero_account.records)) in
+        let own : cond (s.one_account.desk == s.one_account.desk) 0 (length (writes_in s.one_account.calls)) ≡ 0 = ap (λ t. cond t 0 (length (writes_in s.one_account.calls))) (eq-eqb s.one_account.desk s.one_account.desk refl) in
+        let other = few (s.zero_account.desk == s.one_account.desk) (length (writes_in s.zero_account.calls)) in
         let n = desk_stores s.zero_account 0 (get_or scripts 0 []) (of_worker 0 rs) did.lost s.zero_records did.zero in
         let t = two 1 in omega arith
     tries (suc (suc w)) = let e = ap (λ (l : List Step). total (λ x. x) (left_out [] l)) (none w) in omega arith

@@ -1,7 +1,6 @@
 -- A view grows by one component.
 use Rattle.std.proofs.Common.{◌≡◌, ℕ, suc, ◌+◌, ◌<◌, ◌≤◌, Bool, true, false, cond, nat_lt, List, [], ◌∷◌, ◌++◌, length, sym, refl, ap, subst, ◌∙◌, ⊎_elim, arith, append_assoc, length-append, lt-ltb, le-ltb, append-nil}
 use lib.ListN.{get_elem?}
-use Rattle.atomic_table.specs.Table.{Me}
 use Rattle.snap_record.specs.declared.account.Account.{Account}
 use Rattle.snap_record.specs.declared.account.Answered.{Answered}
 use Rattle.snap_record.specs.declared.account.Answer.{Answer}
@@ -12,14 +11,11 @@ use Rattle.snap_record.specs.declared.account.Doing.TheVariants.{Idle, Begun, Wr
 use Rattle.snap_core.specs.declared.entry.Entry.{Entry}
 use Rattle.snap_record.specs.Calls.{Mem, Look, look, reading, writes_in, looks_in, open_writes, open_looks, open_entry, latest, op_looks, read, read_open}
 use Rattle.snap_record.specs.Rule.{first_step}
-use Rattle.snap_record.specs.Plays.{entry_of, HasRead, Learns}
-use Rattle.snap_record.specs.Hands.{showing, has_read, pairs, doing_of, desk_of, records_of, ticks_of, Told}
+use Rattle.snap_record.specs.Plays.{Seated, entry_of, HasRead, Learns}
+use Rattle.snap_record.specs.Hands.{showing, has_read, pairs, doing_of, desk_of, answered_of, ticks_of, Told}
 use Rattle.snap_record.specs.Desks.{listed, shown_entry}
 use Rattle.snap_record.proofs.Lists.{mem_split, mem_left, mem_one, at_push}
 use Rattle.snap_record.proofs.Accounts.{acct}
-
-abbrev Seated : Type 0
-Seated = Me (Unit {0}) (List Account)
 
 pub looks_over : (rs : List Answered) (r : Look) → Mem r (looks_in rs) → r.over ≡ true
 looks_over [] r m = absurd m
@@ -74,7 +70,7 @@ pairs-push ws w = map-append entry_of ws (w ∷ [])
 pub has_read_more : (me0 me now : Seated) (ws : List ℕ) (w : ℕ) → me ≡ has_read me0 (pairs ws) → HasRead (doing_of me0.0) [] → now ≡ (first_step (read (entry_of w)) me.0, me.1) → now ≡ has_read me0 (pairs (ws ++ w ∷ []))
 has_read_more me0 me now ws w is has told =
     told ∙ ap (λ (x : Seated). (first_step (read (entry_of w)) x.0, x.1)) is
-    ∙ (λ i. (acct (desk_of me0.0) (records_of me0.0) (read_more (doing_of me0.0) [] (pairs ws) (entry_of w) has i) (ticks_of me0.0) ∷ [], []))
+    ∙ (λ i. (acct (desk_of me0.0) (answered_of me0.0) (read_more (doing_of me0.0) [] (pairs ws) (entry_of w) has i) (ticks_of me0.0) ∷ [], []))
     ∙ ap (λ ys. has_read me0 ys) (sym (pairs-push ws w))
 
 pub listed-push : (k : ℕ) (xs : List (ℕ × ℕ)) (p : ℕ × ℕ) → listed k (xs ++ p ∷ []) ≡ listed k xs ++ shown_entry (k + length xs) p
@@ -105,11 +101,11 @@ list_same es xs k p is nil =
 
 pub told_more : (me0 me : Seated) (ws : List ℕ) (w n : ℕ) → me ≡ has_read me0 (pairs ws) → HasRead (doing_of me0.0) [] → w ≡ suc (length ws)
     → ((k : ℕ) (a : Account) → w ≡ suc k → me.0 ≡ a ∷ [] → Learns k a (entry_of n))
-    → Told (desk_of me0.0) (records_of me0.0) (pairs ws) → Told (desk_of me0.0) (records_of me0.0) (pairs (ws ++ n ∷ []))
+    → Told (desk_of me0.0) (answered_of me0.0) (pairs ws) → Told (desk_of me0.0) (answered_of me0.0) (pairs (ws ++ n ∷ []))
 told_more me0 me ws w n is has at learns told k p e =
     let xs = pairs ws in
     let size : length xs ≡ length ws = length-map ws entry_of in
-    let rs = records_of me0.0 in
+    let rs = answered_of me0.0 in
     let o = showing xs (doing_of me0.0) in
     let a = acct (desk_of me0.0) rs o (ticks_of me0.0) in
     let l = learns (length ws) a at (ap (λ (x : Seated). x.0) is) in ⊎_elim

@@ -169,11 +169,11 @@ store_at d w = record { comp = d; number = w.number; begun = w.begun; ended = w.
 
 abbrev pub scans_of : List Account → List ScanAt
 scans_of [] = []
-scans_of (a ∷ hand) = map scan_at (marks_in a.records) ++ scans_of hand
+scans_of (a ∷ hand) = map scan_at (marks_in a.calls) ++ scans_of hand
 
 abbrev pub stores_of : List Account → List StoreAt
 stores_of [] = []
-stores_of (a ∷ hand) = map (store_at a.desk) (writes_in a.records) ++ stores_of hand
+stores_of (a ∷ hand) = map (store_at a.desk) (writes_in a.calls) ++ stores_of hand
 
 module _ {A B : Type 0} where
   mem_map : (f : A → B) (l : List A) (a : A) → Mem a l → Mem (f a) (map f l)
@@ -184,27 +184,27 @@ module _ {A B : Type 0} where
   map_mem f [] y m = absurd m
   map_mem f (x ∷ l) y m = ⊎_elim (λ e. (x, inl refl, e)) (λ q. let r = map_mem f l y q in (r.0, inr r.1, r.2)) m
 
-pub scan_there : (hand : List Account) (a : Account) (m : Mark) → Mem a hand → Mem m (marks_in a.records) → Mem (scan_at m) (scans_of hand)
+pub scan_there : (hand : List Account) (a : Account) (m : Mark) → Mem a hand → Mem m (marks_in a.calls) → Mem (scan_at m) (scans_of hand)
 scan_there [] a m ma q = absurd ma
 scan_there (x ∷ hand) a m ma q = ⊎_elim
-    (λ e. mem_left (map scan_at (marks_in x.records)) (scans_of hand) (scan_at m) (mem_map scan_at (marks_in x.records) m (subst (λ (z : Account). Mem m (marks_in z.records)) (sym e) q)))
-    (λ r. mem_right (map scan_at (marks_in x.records)) (scans_of hand) (scan_at m) (scan_there hand a m r q))
+    (λ e. mem_left (map scan_at (marks_in x.calls)) (scans_of hand) (scan_at m) (mem_map scan_at (marks_in x.calls) m (subst (λ (z : Account). Mem m (marks_in z.calls)) (sym e) q)))
+    (λ r. mem_right (map scan_at (marks_in x.calls)) (scans_of hand) (scan_at m) (scan_there hand a m r q))
     ma
 
-pub store_there : (hand : List Account) (a : Account) (w : Write) → Mem a hand → Mem w (writes_in a.records) → Mem (store_at a.desk w) (stores_of hand)
+pub store_there : (hand : List Account) (a : Account) (w : Write) → Mem a hand → Mem w (writes_in a.calls) → Mem (store_at a.desk w) (stores_of hand)
 store_there [] a w ma q = absurd ma
 store_there (x ∷ hand) a w ma q = ⊎_elim
-    (λ (e : x ≡ a). subst (λ (z : Account). Mem (store_at z.desk w) (stores_of (x ∷ hand))) e (mem_left (map (store_at x.desk) (writes_in x.records)) (stores_of hand) (store_at x.desk w) (mem_map (store_at x.desk) (writes_in x.records) w (subst (λ (z : Account). Mem w (writes_in z.records)) (sym e) q))))
-    (λ r. mem_right (map (store_at x.desk) (writes_in x.records)) (stores_of hand) (store_at a.desk w) (store_there hand a w r q))
+    (λ (e : x ≡ a). subst (λ (z : Account). Mem (store_at z.desk w) (stores_of (x ∷ hand))) e (mem_left (map (store_at x.desk) (writes_in x.calls)) (stores_of hand) (store_at x.desk w) (mem_map (store_at x.desk) (writes_in x.calls) w (subst (λ (z : Account). Mem w (writes_in z.calls)) (sym e) q))))
+    (λ r. mem_right (map (store_at x.desk) (writes_in x.calls)) (stores_of hand) (store_at a.desk w) (store_there hand a w r q))
     ma
 
-there_scan : (hand : List Account) (s : ScanAt) → Mem s (scans_of hand) → (a : Account) × Mem a hand × ((m : Mark) × Mem m (marks_in a.records) × (scan_at m ≡ s))
+there_scan : (hand : List Account) (s : ScanAt) → Mem s (scans_of hand) → (a : Account) × Mem a hand × ((m : Mark) × Mem m (marks_in a.calls) × (scan_at m ≡ s))
 there_scan [] s q = absurd q
-there_scan (x ∷ hand) s q = ⊎_elim (λ y. (x, inl refl, map_mem scan_at (marks_in x.records) s y)) (λ y. let r = there_scan hand s y in (r.0, inr r.1, r.2)) (mem_split (map scan_at (marks_in x.records)) (scans_of hand) s q)
+there_scan (x ∷ hand) s q = ⊎_elim (λ y. (x, inl refl, map_mem scan_at (marks_in x.calls) s y)) (λ y. let r = there_scan hand s y in (r.0, inr r.1, r.2)) (mem_split (map scan_at (marks_in x.calls)) (scans_of hand) s q)
 
-there_store : (hand : List Account) (u : StoreAt) → Mem u (stores_of hand) → (a : Account) × Mem a hand × ((w : Write) × Mem w (writes_in a.records) × (store_at a.desk w ≡ u))
+there_store : (hand : List Account) (u : StoreAt) → Mem u (stores_of hand) → (a : Account) × Mem a hand × ((w : Write) × Mem w (writes_in a.calls) × (store_at a.desk w ≡ u))
 there_store [] u q = absurd q
-there_store (x ∷ hand) u q = ⊎_elim (λ y. (x, inl refl, map_mem (store_at x.desk) (writes_in x.records) u y)) (λ y. let r = there_store hand u y in (r.0, inr r.1, r.2)) (mem_split (map (store_at x.desk) (writes_in x.records)) (stores_of hand) u q)
+there_store (x ∷ hand) u q = ⊎_elim (λ y. (x, inl refl, map_mem (store_at x.desk) (writes_in x.calls) u y)) (λ y. let r = there_store hand u y in (r.0, inr r.1, r.2)) (mem_split (map (store_at x.desk) (writes_in x.calls)) (stores_of hand) u q)
 
 -- a scan is a view
 pub mark_look : (rs : List Answered) (m : Mark) → Mem m (marks_in rs) → Mem (look m.begun m.ended true m.before) (looks_in rs)
@@ -301,34 +301,34 @@ middle_times m (x ∷ ms) q = ⊎_elim
     q
 
 module _ (n : ℕ) (hand : List Account) (h : Settled n hand) (g : ScansSettled hand) where
-  few : (x : ℕ) (a : Account) → times x (map (λ (m : Mark). m.middle) (marks_in a.records)) ≤ times x (all_stamps_in a.records)
-  few x a = let t = total-append (λ y. one_if (y == x)) (stamps_in a.records) (map (λ (m : Mark). m.middle) (marks_in a.records)) in omega arith
+  few : (x : ℕ) (a : Account) → times x (map (λ (m : Mark). m.middle) (marks_in a.calls)) ≤ times x (all_stamps_in a.calls)
+  few x a = let t = total-append (λ y. one_if (y == x)) (stamps_in a.calls) (map (λ (m : Mark). m.middle) (marks_in a.calls)) in omega arith
 
   -- two scans with one middle tick are one
-  one_mark : (a c : Account) → Mem a hand → Mem c hand → (r s : Mark) → Mem r (marks_in a.records) → Mem s (marks_in c.records) → r.middle ≡ s.middle → r ≡ s
+  one_mark : (a c : Account) → Mem a hand → Mem c hand → (r s : Mark) → Mem r (marks_in a.calls) → Mem s (marks_in c.calls) → r.middle ≡ s.middle → r ≡ s
   one_mark a c ma mc r s mr ns same = at (ℕ_discrete a.desk c.desk)
     where
       f : Account → ℕ
-      f z = times r.middle (all_stamps_in z.records)
+      f z = times r.middle (all_stamps_in z.calls)
 
       at : Dec (a.desk ≡ c.desk) → r ≡ s
       at (yes e) =
           let is = hand_one n hand h.desks a c ma mc e in
-          let t = total_mem (λ (z : Account). times r.middle (all_stamps_in z.records)) hand a ma in let u = h.apart r.middle in let w = few r.middle a in
-          marks_one r.middle (marks_in a.records) (omega arith) r s mr (subst (λ (z : Account). Mem s (marks_in z.records)) (sym is) ns) refl (sym same)
+          let t = total_mem (λ (z : Account). times r.middle (all_stamps_in z.calls)) hand a ma in let u = h.apart r.middle in let w = few r.middle a in
+          marks_one r.middle (marks_in a.calls) (omega arith) r s mr (subst (λ (z : Account). Mem s (marks_in z.calls)) (sym is) ns) refl (sym same)
       at (no ne) =
-          let t = total_pair (λ (z : Account). times r.middle (all_stamps_in z.records)) hand a c ma mc ne in let u = h.apart r.middle in
+          let t = total_pair (λ (z : Account). times r.middle (all_stamps_in z.calls)) hand a c ma mc ne in let u = h.apart r.middle in
           let w = few r.middle a in let v = few r.middle c in
-          let x = middle_times r (marks_in a.records) mr in
-          let y : 1 ≤ times r.middle (map (λ (z : Mark). z.middle) (marks_in c.records)) = subst (λ (z : ℕ). 1 ≤ times z (map (λ (z : Mark). z.middle) (marks_in c.records))) (sym same) (middle_times s (marks_in c.records) ns) in absurd (omega arith)
+          let x = middle_times r (marks_in a.calls) mr in
+          let y : 1 ≤ times r.middle (map (λ (z : Mark). z.middle) (marks_in c.calls)) = subst (λ (z : ℕ). 1 ≤ times z (map (λ (z : Mark). z.middle) (marks_in c.calls))) (sym same) (middle_times s (marks_in c.calls) ns) in absurd (omega arith)
 
-  pub mark_whole : (a : Account) → Mem a hand → (m : Mark) → Mem m (marks_in a.records) → length m.before ≡ n
-  mark_whole a ma m q = h.whole a ma (look m.begun m.ended true m.before) (mark_look a.records m q)
+  pub mark_whole : (a : Account) → Mem a hand → (m : Mark) → Mem m (marks_in a.calls) → length m.before ≡ n
+  mark_whole a ma m q = h.whole a ma (look m.begun m.ended true m.before) (mark_look a.calls m q)
 
-  pub mark_low : (a : Account) → Mem a hand → (m : Mark) → Mem m (marks_in a.records) → m.middle < clock hand
-  mark_low a ma m q = h.below a ma m.middle (mem_right (stamps_in a.records) (map (λ (z : Mark). z.middle) (marks_in a.records)) m.middle (mem_middle (marks_in a.records) m q))
+  pub mark_low : (a : Account) → Mem a hand → (m : Mark) → Mem m (marks_in a.calls) → m.middle < clock hand
+  mark_low a ma m q = h.below a ma m.middle (mem_right (stamps_in a.calls) (map (λ (z : Mark). z.middle) (marks_in a.calls)) m.middle (mem_middle (marks_in a.calls) m q))
 
-  shows_less : (a c : Account) → Mem a hand → Mem c hand → (r s : Mark) → Mem r (marks_in a.records) → Mem s (marks_in c.records) → r.middle ≤ s.middle → (k : ℕ) → (shown_at r.before k).0 ≤ (shown_at s.before k).0
+  shows_less : (a c : Account) → Mem a hand → Mem c hand → (r s : Mark) → Mem r (marks_in a.calls) → Mem s (marks_in c.calls) → r.middle ≤ s.middle → (k : ℕ) → (shown_at r.before k).0 ≤ (shown_at s.before k).0
   shows_less a c ma mc r s mr ns le k = ⊎_elim (λ lt. less lt (dec_le (suc k) n)) (λ e. let is = ap (λ (z : Mark). (shown_at z.before k).0) (one_mark a c ma mc r s mr ns e) in omega arith) (le_cases r.middle s.middle le)
     where
       less : r.middle < s.middle → Dec (suc k ≤ n) → (shown_at r.before k).0 ≤ (shown_at s.before k).0
@@ -337,19 +337,19 @@ module _ (n : ℕ) (hand : List Account) (h : Settled n hand) (g : ScansSettled 
           g.in_turn a c ma mc r s mr ns lt k (shown_at r.before k) (shown_at s.before k) (shown_some r.before k (omega arith)) (shown_some s.before k (omega arith))
       less lt (no high) = let wr = mark_whole a ma r mr in let z = ap (λ (p : ℕ × ℕ). p.0) (shown_high r.before k (omega arith)) in omega arith
 
-  mark_ended : (a c : Account) → Mem a hand → Mem c hand → (m : Mark) → Mem m (marks_in a.records) → (w : Write) → Mem w (writes_in c.records) → w.ended < m.middle → w.number ≤ (shown_at m.before c.desk).0
+  mark_ended : (a c : Account) → Mem a hand → Mem c hand → (m : Mark) → Mem m (marks_in a.calls) → (w : Write) → Mem w (writes_in c.calls) → w.ended < m.middle → w.number ≤ (shown_at m.before c.desk).0
   mark_ended a c ma mc m q w mw lt =
       let wm = mark_whole a ma m q in let low = hand_low n hand h.desks c mc in
       (g.shows a ma m q c mc (shown_at m.before c.desk) (shown_some m.before c.desk (omega arith))).fresh w mw lt
 
-  mark_began : (a c : Account) → Mem a hand → Mem c hand → (m : Mark) → Mem m (marks_in a.records) → (w : Write) → Mem w (writes_in c.records) → w.number ≤ (shown_at m.before c.desk).0 → w.begun < m.middle
+  mark_began : (a c : Account) → Mem a hand → Mem c hand → (m : Mark) → Mem m (marks_in a.calls) → (w : Write) → Mem w (writes_in c.calls) → w.number ≤ (shown_at m.before c.desk).0 → w.begun < m.middle
   mark_began a c ma mc m q w mw le = ⊎_elim
       (λ lt.
       let r = see.real (omega arith) in
       let b = shows.began r.0 r.1 r.2 in
       let u = r.2 in
-      let t = write_turns 1 c.records w r.0 (h.rising c mc) (h.numbered c mc) mw r.1 (omega arith) in
-      let l = write_lasts c.records w (h.rising c mc) mw in omega arith)
+      let t = write_turns 1 c.calls w r.0 (h.rising c mc) (h.numbered c mc) mw r.1 (omega arith) in
+      let l = write_lasts c.calls w (h.rising c mc) mw in omega arith)
       (λ e. shows.began w mw e)
       (le_cases w.number (shown_at m.before c.desk).0 le)
     where
@@ -357,7 +357,7 @@ module _ (n : ℕ) (hand : List Account) (h : Settled n hand) (g : ScansSettled 
       at_there = let wm = mark_whole a ma m q in let low = hand_low n hand h.desks c mc in shown_some m.before c.desk (omega arith)
 
       see : Rattle.snap_record.specs.Regular.Shows (look m.begun m.ended true m.before) (shown_at m.before c.desk) c
-      see = h.regular a ma (look m.begun m.ended true m.before) (mark_look a.records m q) c mc (shown_at m.before c.desk) at_there
+      see = h.regular a ma (look m.begun m.ended true m.before) (mark_look a.calls m q) c mc (shown_at m.before c.desk) at_there
 
       shows : Rattle.snap_record.specs.Regular.ShowsAt m (shown_at m.before c.desk) c
       shows = g.shows a ma m q c mc (shown_at m.before c.desk) at_there
@@ -374,11 +374,11 @@ module _ (n : ℕ) (hand : List Account) (h : Settled n hand) (g : ScansSettled 
         subst (λ (z : ScanAt × StoreAt). z.1.ended < z.0.middle → z.1.number ≤ z.0.shows z.1.comp) (λ i. (r.2.2 i, w.2.2 i)) (mark_ended r.0 w.0 r.1 w.1 r.2.0 r.2.1 w.2.0 w.2.1) lt;
     began = λ s u ms mu le. let r = there_scan hand s ms in let w = there_store hand u mu in
         subst (λ (z : ScanAt × StoreAt). z.1.number ≤ z.0.shows z.1.comp → z.1.begun < z.0.middle) (λ i. (r.2.2 i, w.2.2 i)) (mark_began r.0 w.0 r.1 w.1 r.2.0 r.2.1 w.2.0 w.2.1) le;
-    lasts = λ u mu. let w = there_store hand u mu in subst (λ (z : StoreAt). z.begun < z.ended) w.2.2 (write_lasts w.0.records w.2.0 (h.rising w.0 w.1) w.2.1);
+    lasts = λ u mu. let w = there_store hand u mu in subst (λ (z : StoreAt). z.begun < z.ended) w.2.2 (write_lasts w.0.calls w.2.0 (h.rising w.0 w.1) w.2.1);
     turns = λ u v mu mv same lt. let x = there_store hand u mu in let y = there_store hand v mv in
         let comp : x.0.desk ≡ y.0.desk = ap (λ (z : StoreAt). z.comp) x.2.2 ∙ same ∙ sym (ap (λ (z : StoreAt). z.comp) y.2.2) in
         let is = hand_one n hand h.desks x.0 y.0 x.1 y.1 comp in
         let a = ap (λ (z : StoreAt). z.number) x.2.2 in let c = ap (λ (z : StoreAt). z.number) y.2.2 in
-        let t = write_turns 1 y.0.records x.2.0 y.2.0 (h.rising y.0 y.1) (h.numbered y.0 y.1) (subst (λ (z : Account). Mem x.2.0 (writes_in z.records)) is x.2.1) y.2.1 (omega arith) in
+        let t = write_turns 1 y.0.calls x.2.0 y.2.0 (h.rising y.0 y.1) (h.numbered y.0 y.1) (subst (λ (z : Account). Mem x.2.0 (writes_in z.calls)) is x.2.1) y.2.1 (omega arith) in
         let d = ap (λ (z : StoreAt). z.ended) x.2.2 in let e = ap (λ (z : StoreAt). z.begun) y.2.2 in omega arith;
   }

@@ -1,6 +1,5 @@
 -- What the steps of a scan leave in the desk's seat.
 use Rattle.std.proofs.Common.{◌≡◌, ◌≢◌, ℕ, ◌+◌, ◌<◌, List, [], ◌∷◌, ◌++◌, length, sym, refl, ap, ◌∙◌, subst, inl, arith}
-use Rattle.atomic_table.specs.Table.{Me}
 use Rattle.snap_record.specs.declared.account.Account.{Account}
 use Rattle.snap_record.specs.declared.account.Answered.{Answered}
 use Rattle.snap_record.specs.declared.account.Answer.TheVariants.{Scanned, Interfered}
@@ -9,16 +8,13 @@ use Rattle.snap_record.specs.declared.account.Doing.TheVariants.{Idle, Begun, Wr
 use Rattle.snap_record.specs.declared.account.Scan.{Scan}
 use Rattle.snap_record.specs.Calls.{Mem, Look, looks_in, open_looks, stamps_in, begun_view, ended, gave_up}
 use Rattle.snap_record.specs.Rule.{first_step}
-use Rattle.snap_record.specs.Plays.{Above, ReadAll}
-use Rattle.snap_record.specs.Hands.{idle, has_read, one_desk, doing_of, desk_of, records_of, ticks_of, begun_of, begun_in}
+use Rattle.snap_record.specs.Plays.{Seated, Above, ReadAll}
+use Rattle.snap_record.specs.Hands.{idle, has_read, one_desk, doing_of, desk_of, answered_of, ticks_of, begun_of, begun_in}
 use Rattle.snap_record.specs.Tries.{IsRead, IsTrying, HasAgreed, made_in, made_of, middle_in}
 use Rattle.snap_record.proofs.Lists.{mem_left, mem_right}
 use Rattle.snap_record.proofs.Accounts.{acct, rec}
 use Rattle.snap_record.proofs.Reading.{looks_over}
 use Rattle.snap_record.proofs.Calling.{at_desk, viewing_after, grew, scanned_after, gave_up_after, above_old}
-
-abbrev Seated : Type 0
-Seated = Me (Unit {0}) (List Account)
 
 pub agreed_scan : (ys : List (ℕ × ℕ)) (o : Doing) → HasAgreed ys o → (s : Scan) × (o ≡ Scanning s) × (s.before ≡ ys) × (s.since ≡ ys)
 agreed_scan ys Idle h = absurd h
@@ -50,21 +46,21 @@ made_same (a ∷ v) = refl
 pub record Ready (d : ℕ) (rs : List Answered) (t b : ℕ) (xs : List (ℕ × ℕ)) (seat : Seated) : Type 0 where
   pub me : seat ≡ at_desk (acct d rs (Viewing b xs) (t + 1))
   pub one : seat ≡ one_desk seat
-  pub trying : (n : ℕ) → IsTrying n (desk_of seat.0) (records_of seat.0) xs (doing_of seat.0)
+  pub trying : (n : ℕ) → IsTrying n (desk_of seat.0) (answered_of seat.0) xs (doing_of seat.0)
 
 pub get_ready : (me0 me1 me2 : Seated) (d : ℕ) (rs : List Answered) (t b : ℕ) (xs : List (ℕ × ℕ)) → me0 ≡ at_desk (idle d rs t) → me1 ≡ (first_step (begun_view b) me0.0, me0.1) → me2 ≡ has_read me1 xs → Ready d rs t b xs me2
 get_ready me0 me1 me2 d rs t b xs is first second =
     let at1 = viewing_after me0 me1 d rs t b is first in
     let at2 = grew me1 me2 d rs (Viewing b []) (t + 1) xs at1 second in
-    record { me = at2; one = at2 ∙ ap one_desk (sym at2); trying = λ n. subst (λ (m : Seated). IsTrying n (desk_of m.0) (records_of m.0) xs (doing_of m.0)) (sym at2) refl }
+    record { me = at2; one = at2 ∙ ap one_desk (sym at2); trying = λ n. subst (λ (m : Seated). IsTrying n (desk_of m.0) (answered_of m.0) xs (doing_of m.0)) (sym at2) refl }
 
 -- the seat after the tries
 pub after_tries : (me2 me3 : Seated) (d : ℕ) (rs : List Answered) (t b m : ℕ) (xs : List (ℕ × ℕ)) (o : Doing) → Ready d rs t b xs me2 → me3 ≡ one_desk me3
-    → (desk_of me3.0 ≡ desk_of me2.0) × (records_of me3.0 ≡ records_of me2.0) × (begun_of me3.0 ≡ begun_of me2.0) → ticks_of me3.0 ≡ ticks_of me2.0 + m → doing_of me3.0 ≡ o
+    → (desk_of me3.0 ≡ desk_of me2.0) × (answered_of me3.0 ≡ answered_of me2.0) × (begun_of me3.0 ≡ begun_of me2.0) → ticks_of me3.0 ≡ ticks_of me2.0 + m → doing_of me3.0 ≡ o
     → (me3 ≡ at_desk (acct d rs o (t + 1 + m))) × (begun_in o ≡ b)
 after_tries me2 me3 d rs t b m xs o r one same ticks is =
     let desk = same.0 ∙ ap (λ (x : Seated). desk_of x.0) r.me in
-    let recs = same.1 ∙ ap (λ (x : Seated). records_of x.0) r.me in
+    let recs = same.1 ∙ ap (λ (x : Seated). answered_of x.0) r.me in
     let count = ticks ∙ ap (λ (x : Seated). ticks_of x.0 + m) r.me in
     let whole : me3 ≡ at_desk (acct d rs o (t + 1 + m)) = one ∙ (λ i. at_desk (acct (desk i) (recs i) (is i) (count i))) in
     (whole, ap (λ (x : Seated). begun_of x.0) (sym whole) ∙ same.2 ∙ ap (λ (x : Seated). begun_of x.0) r.me)
@@ -77,7 +73,7 @@ pub record ScanDone (d : ℕ) (rs : List Answered) (t b e m middle : ℕ) (ys : 
   pub whole : (v : Look) → Mem v (looks_in rs) → length v.shown ≡ length ys
 
 pub scan_done : (me0 me1 me2 me3 me4 : Seated) (d : ℕ) (rs : List Answered) (t b e m : ℕ) (xs ys : List (ℕ × ℕ)) → me0 ≡ at_desk (idle d rs t) → (me1 ≡ (first_step (begun_view b) me0.0, me0.1)) × Above b me0 → me2 ≡ has_read me1 xs
-    → me3 ≡ one_desk me3 → (desk_of me3.0 ≡ desk_of me2.0) × (records_of me3.0 ≡ records_of me2.0) × (begun_of me3.0 ≡ begun_of me2.0) → ticks_of me3.0 ≡ ticks_of me2.0 + m → HasAgreed ys (doing_of me3.0)
+    → me3 ≡ one_desk me3 → (desk_of me3.0 ≡ desk_of me2.0) × (answered_of me3.0 ≡ answered_of me2.0) × (begun_of me3.0 ≡ begun_of me2.0) → ticks_of me3.0 ≡ ticks_of me2.0 + m → HasAgreed ys (doing_of me3.0)
     → (me4 ≡ (first_step (ended e) me3.0, me3.1)) × Above e me3 × ReadAll me3 → ScanDone d rs t b e m (middle_in (doing_of me3.0)) ys me4
 scan_done me0 me1 me2 me3 me4 d rs t b e m xs ys is first second one same ticks agreed last =
     let r = get_ready me0 me1 me2 d rs t b xs is first.0 second in
@@ -96,7 +92,7 @@ scan_done me0 me1 me2 me3 me4 d rs t b e m xs ys is first second one same ticks 
 
 -- what a scan without a record leaves
 pub scan_lost : (me2 me3 me4 : Seated) (n d : ℕ) (rs : List Answered) (t b e m : ℕ) (xs ys : List (ℕ × ℕ)) → Ready d rs t b xs me2 → me3 ≡ one_desk me3
-    → (desk_of me3.0 ≡ desk_of me2.0) × (records_of me3.0 ≡ records_of me2.0) × (begun_of me3.0 ≡ begun_of me2.0) → ticks_of me3.0 ≡ ticks_of me2.0 + m → made_in (doing_of me3.0) ≡ m → 0 < m → IsTrying n d rs ys (doing_of me3.0)
+    → (desk_of me3.0 ≡ desk_of me2.0) × (answered_of me3.0 ≡ answered_of me2.0) × (begun_of me3.0 ≡ begun_of me2.0) → ticks_of me3.0 ≡ ticks_of me2.0 + m → made_in (doing_of me3.0) ≡ m → 0 < m → IsTrying n d rs ys (doing_of me3.0)
     → me4 ≡ (first_step (gave_up e) me3.0, me3.1) → (fs : List (ℕ × ℕ)) × (me4 ≡ at_desk (idle d (rs ++ rec b e (Interfered m fs ys) ∷ []) (t + m + 2)))
 scan_lost me2 me3 me4 n d rs t b e m xs ys r one same ticks made pos try last =
     let s = trying_scan n d rs ys (doing_of me3.0) try (omega arith) in

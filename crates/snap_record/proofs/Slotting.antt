@@ -3,14 +3,13 @@ use Rattle.std.proofs.Common.{◌≡◌, ℕ, zero, suc, ◌+◌, ◌<◌, ◌�
 use native.Mathlib.Decide.{dec_le, ℕ_discrete}
 use Rattle.std.specs.Prelude.{slice_index_or}
 use Rattle.std.proofs.lemmas.List.{take-replicate}
-use Rattle.atomic_table.specs.Table.{Me}
 use Rattle.snap_record.specs.declared.account.Account.{Account}
 use Rattle.snap_record.specs.declared.account.Doing.TheVariants.{Idle}
 use Rattle.snap_record.specs.declared.kept.Kept.{Kept}
 use Rattle.snap_record.specs.Calls.{Mem, writes_in, latest}
 use Rattle.snap_record.specs.Rule.{tick_limit, newcomers}
-use Rattle.snap_record.specs.Plays.{insert, merge, only_first, but_first}
-use Rattle.snap_record.specs.Hands.{Brief, brief, idle, records_of}
+use Rattle.snap_record.specs.Plays.{Seated, insert, merge, only_first, but_first}
+use Rattle.snap_record.specs.Hands.{Brief, brief, idle, answered_of}
 use Rattle.snap_record.specs.Slots.{ins, slot_brief, brief_of, Smalls}
 use Rattle.snap_record.specs.Regular.{NoneFrom, Fresh, no_calls, kept_entry, Settled, LastStores}
 use Rattle.snap_record.proofs.Lists.{mem_split, mem_one, numbered_positive}
@@ -172,28 +171,25 @@ head_of (a ∷ hand) x xs e = (a, refl, first e, ap (tail_of xs) e)
     first : brief a ∷ map brief hand ≡ x ∷ xs → brief a ≡ x
     first q = ap (head_or x) q
 
-abbrev Seated : Type 0
-Seated = Me (Unit {0}) (List Account)
-
 -- what a desk gets that goes out
 pub out_of : (me now : Seated) (d : ℕ) (k : Kept) (xs : List Brief) → map brief me.0 ≡ brief_of d k ∷ xs → now ≡ (only_first me.0, [])
-    → (now ≡ (idle d (records_of now.0) k.ticks ∷ [], [])) × (latest (0, 0) (records_of now.0) ≡ (k.stores, k.value))
+    → (now ≡ (idle d (answered_of now.0) k.ticks ∷ [], [])) × (latest (0, 0) (answered_of now.0) ≡ (k.stores, k.value))
 out_of me now d k xs e is =
     let h = head_of me.0 (brief_of d k) xs e in
     let whole : now ≡ (h.0 ∷ [], []) = is ∙ (λ i. (h.1 i, [])) in
-    let rs : records_of now.0 ≡ h.0.records = ap (λ (m : Seated). records_of m.0) whole in
+    let rs : answered_of now.0 ≡ h.0.calls = ap (λ (m : Seated). answered_of m.0) whole in
     let desk : h.0.desk ≡ d = ap (λ (z : Brief). z.desk) h.2 in
     let ticks : h.0.ticks ≡ k.ticks = ap (λ (z : Brief). z.ticks) h.2 in
     let doing : h.0.doing ≡ Idle = idle_doing h.0.doing (ap (λ (z : Brief). z.idle) h.2) in (
-      whole ∙ (λ i. (record { desk = desk i; records = sym rs i; doing = doing i; ticks = ticks i } ∷ [], [])),
+      whole ∙ (λ i. (record { desk = desk i; calls = sym rs i; doing = doing i; ticks = ticks i } ∷ [], [])),
       ap (λ r. latest (0, 0) r) rs ∙ (λ i. ((h.2 i).number, (h.2 i).value)),
     )
 
 -- the desk that comes in
 pub put_in : (n d : ℕ) (slots : List (Option Kept)) (k : Kept) (hand : List Account) (me : Seated) → map brief hand ≡ ins n slots → d < n → n ≤ length slots
-    → me ≡ (idle d (records_of me.0) k.ticks ∷ [], []) → latest (0, 0) (records_of me.0) ≡ (k.stores, k.value) → map brief (merge hand me.0) ≡ ins n (set slots d (Some k))
+    → me ≡ (idle d (answered_of me.0) k.ticks ∷ [], []) → latest (0, 0) (answered_of me.0) ≡ (k.stores, k.value) → map brief (merge hand me.0) ≡ ins n (set slots d (Some k))
 put_in n d slots k hand me is lt le alone stored =
-    let a = idle d (records_of me.0) k.ticks in
+    let a = idle d (answered_of me.0) k.ticks in
     let b : brief a ≡ brief_of d k = λ i. record { desk = d; ticks = k.ticks; number = (stored i).0; value = (stored i).1; idle = true } in
     ap (λ (m : Seated). map brief (merge hand m.0)) alone ∙ map_insert a hand ∙ (λ i. insert_brief (b i) (is i)) ∙ ins_put n d slots k lt le
 
@@ -215,10 +211,10 @@ pub last_stores : (n : ℕ) (c : Closed) (hand : List Account) → c.desks ≡ n
 last_stores n c hand size h matches a m =
     let q = ins_kept n c.slots (brief a) (subst (λ (l : List Brief). Mem (brief a) l) matches (mem_map brief hand a m)) in
     let low = hand_low n hand h.desks a m in
-    let stored : latest (0, 0) a.records ≡ (q.0.stores, q.0.value) = λ i. ((sym q.2 i).number, (sym q.2 i).value) in
+    let stored : latest (0, 0) a.calls ≡ (q.0.stores, q.0.value) = λ i. ((sym q.2 i).number, (sym q.2 i).value) in
     ap (λ b. cond b (kept_entry a.desk (slice_index_or c.slots a.desk None)) None) (lt-ltb a.desk c.desks (omega arith))
     ∙ ap (kept_entry a.desk) q.1 ∙ ap (entry_at a.desk) (sym stored)
-    ∙ last_entry a.desk (0, 0) a.records (numbered_positive 1 (writes_in a.records) (omega arith) (h.numbered a m))
+    ∙ last_entry a.desk (0, 0) a.calls (numbered_positive 1 (writes_in a.calls) (omega arith) (h.numbered a m))
 
 pub length_more : (d : ℕ) (slots : List (Option Kept)) → length (ins (suc d) slots) ≡ length (slot_brief d (slice_index_or slots d None)) + length (ins d slots)
 length_more d slots = length-append (slot_brief d (slice_index_or slots d None)) (ins d slots)

@@ -53,7 +53,7 @@ module _ (all : List Record) (l0 l1 : List ℕ) (v0 v1 : ℕ) (s : AreSettled (o
 
   -- where no desk collected, the accounts without collects have the same records
   same_records : v0 ≡ 0 → v1 ≡ 0 → all_records (map without_collects hand) ≡ all_records hand
-  same_records z0 z1 = λ i. records_kept s.one_account.desk s.one_account.records (s.one_views ∙ z1) i ++ (records_kept s.zero_account.desk s.zero_account.records (s.zero_views ∙ z0) i ++ [])
+  same_records z0 z1 = λ i. records_kept s.one_account.desk s.one_account.calls (s.one_views ∙ z1) i ++ (records_kept s.zero_account.desk s.zero_account.calls (s.zero_views ∙ z0) i ++ [])
 
   pub told_atomic : (es : List Stamp) → Merged all es → v0 ≡ 0 → v1 ≡ 0 → IsAtomic (calls_of (events_in es))
   told_atomic es m z0 z1 =
@@ -62,8 +62,8 @@ module _ (all : List Record) (l0 l1 : List ℕ) (v0 v1 : ℕ) (s : AreSettled (o
       (in_order_of only es (subst (λ (l : List Record). Merged l es) (sym (same_records z0 z1)) (merged_permuted all (all_records hand) es permuted m)))
 
   pub told : (es : List Stamp) → Merged all es → IsTold all (events_in es)
-  told es m zero = ap (λ p. events_of p (events_in es)) (sym s.zero_desk) ∙ of_process 2 hand es s.settled (in_hand es m) s.zero_account (inr (inl refl)) ∙ ap events_in (sym (events_at s.zero_account.desk s.zero_account.records)) ∙ ap (λ rs. events_in (stamped_events rs)) s.zero_records
-  told es m (suc zero) = ap (λ p. events_of p (events_in es)) (sym s.one_desk) ∙ of_process 2 hand es s.settled (in_hand es m) s.one_account (inl refl) ∙ ap events_in (sym (events_at s.one_account.desk s.one_account.records)) ∙ ap (λ rs. events_in (stamped_events rs)) s.one_records
+  told es m zero = ap (λ p. events_of p (events_in es)) (sym s.zero_desk) ∙ of_process 2 hand es s.settled (in_hand es m) s.zero_account (inr (inl refl)) ∙ ap events_in (sym (events_at s.zero_account.desk s.zero_account.calls)) ∙ ap (λ rs. events_in (stamped_events rs)) s.zero_records
+  told es m (suc zero) = ap (λ p. events_of p (events_in es)) (sym s.one_desk) ∙ of_process 2 hand es s.settled (in_hand es m) s.one_account (inl refl) ∙ ap events_in (sym (events_at s.one_account.desk s.one_account.calls)) ∙ ap (λ rs. events_in (stamped_events rs)) s.one_records
   told es m (suc (suc p)) = of_no_process 2 hand es s.settled (in_hand es m) (suc (suc p)) (omega arith) ∙ sym (ap (λ rs. events_in (stamped_events rs)) (below (suc (suc p)) (omega arith)))
 
 pub stamped_length : (rs : List Record) → length (stamped_events rs) ≡ 2 * length rs

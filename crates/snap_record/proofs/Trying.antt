@@ -2,22 +2,18 @@
 use Rattle.std.proofs.Common.{◌≡◌, ◌≢◌, ℕ, ◌+◌, ◌*◌, ◌/◌, ◌%◌, ◌^◌, ◌<◌, ◌≤◌, suc, List, [], ◌∷◌, length, sym, refl, ap, ◌∙◌, subst, arith}
 use mathlib.Core.Option.{none, some-injective}
 use lib.ListN.{get_elem?}
-use Rattle.atomic_table.specs.Table.{Me, step, Allows}
-use Rattle.snap_record.specs.declared.account.Account.{Account}
+use Rattle.atomic_table.specs.Table.{step, Allows}
 use Rattle.snap_record.specs.declared.account.Answered.{Answered}
 use Rattle.snap_record.specs.declared.account.Doing.{Doing}
 use Rattle.snap_record.specs.declared.account.Doing.TheVariants.{Idle, Begun, Written, Viewing, Scanning}
 use Rattle.snap_record.specs.Calls.{middle_open, middled}
 use Rattle.snap_record.specs.Rule.{tick_limit, Boarded, first_step}
-use Rattle.snap_record.specs.Plays.{entry_of, HasRead, Middles}
-use Rattle.snap_record.specs.Hands.{showing, has_read, one_desk, pairs, doing_of, desk_of, records_of, ticks_of, begun_of, begun_in}
+use Rattle.snap_record.specs.Plays.{Seated, entry_of, HasRead, Middles}
+use Rattle.snap_record.specs.Hands.{showing, has_read, one_desk, pairs, doing_of, desk_of, answered_of, ticks_of, begun_of, begun_in}
 use Rattle.snap_record.specs.Tries.{IsRead, IsTrying, HasAgreed, made_in, made_of}
 use Rattle.snap_record.proofs.Accounts.{acct}
 use Rattle.snap_record.proofs.Moves.{middles_first_as, middles_as}
 use Rattle.snap_record.proofs.Calling.{at_desk, middled_after, grew}
-
-abbrev Seated : Type 0
-Seated = Me (Unit {0}) (List Account)
 
 -- different words stand for different entries
 pub pairs_same : (ws vs : List ℕ) → pairs ws ≡ pairs vs → ws ≡ vs
@@ -68,13 +64,13 @@ one_more n d rs xs ys t (Scanning s) try = (omega arith, refl)
 
 -- what one try leaves in the desk's seat
 pub record Tried (n : ℕ) (me0 me2 : Seated) (t : ℕ) (xs ys : List (ℕ × ℕ)) : Type 0 where
-  pub me : me2 ≡ at_desk (acct (desk_of me0.0) (records_of me0.0) (showing ys (middle_open t (doing_of me0.0))) (ticks_of me0.0 + 1))
+  pub me : me2 ≡ at_desk (acct (desk_of me0.0) (answered_of me0.0) (showing ys (middle_open t (doing_of me0.0))) (ticks_of me0.0 + 1))
   pub made : made_of me2.0 ≡ made_of me0.0 + 1
   pub begun : begun_of me2.0 ≡ begun_of me0.0
 
-pub tried : (n : ℕ) (me0 me1 me2 : Seated) (t : ℕ) (xs ys : List (ℕ × ℕ)) → me0 ≡ one_desk me0 → IsTrying n (desk_of me0.0) (records_of me0.0) xs (doing_of me0.0) → me1 ≡ (first_step (middled t) me0.0, me0.1) → me2 ≡ has_read me1 ys → Tried n me0 me2 t xs ys
+pub tried : (n : ℕ) (me0 me1 me2 : Seated) (t : ℕ) (xs ys : List (ℕ × ℕ)) → me0 ≡ one_desk me0 → IsTrying n (desk_of me0.0) (answered_of me0.0) xs (doing_of me0.0) → me1 ≡ (first_step (middled t) me0.0, me0.1) → me2 ≡ has_read me1 ys → Tried n me0 me2 t xs ys
 tried n me0 me1 me2 t xs ys is try first second =
-    let d = desk_of me0.0 in let rs = records_of me0.0 in let o = doing_of me0.0 in let k = ticks_of me0.0 in
+    let d = desk_of me0.0 in let rs = answered_of me0.0 in let o = doing_of me0.0 in let k = ticks_of me0.0 in
     let at1 = middled_after me0 me1 d rs o k t is first in
     let at2 = grew me1 me2 d rs (middle_open t o) (k + 1) ys at1 second in
     let m = one_more n d rs xs ys t o try in

@@ -85,14 +85,14 @@ stamps_in (r ∷ rs) = r.begun ∷ r.ended ∷ stamps_in rs
 
 -- the stores of an account that are written, in order
 abbrev pub writes_of : Account → List Write
-writes_of a = writes_in a.records ++ open_writes a.doing
+writes_of a = writes_in a.calls ++ open_writes a.doing
 
 abbrev pub looks_of : Account → List Look
-looks_of a = looks_in a.records ++ open_looks a.doing
+looks_of a = looks_in a.calls ++ open_looks a.doing
 
 -- the stamps of an account's begins and ends, in the order of its calls
 abbrev pub stamps_of : Account → List ℕ
-stamps_of a = stamps_in a.records ++ open_stamps a.doing
+stamps_of a = stamps_in a.calls ++ open_stamps a.doing
 
 -- a scan with a middle tick, answered (`over`) or open: its last middle tick, what the collect before it read, and what was read since
 pub record Mark : Type 0 where
@@ -124,7 +124,7 @@ open_marks (Viewing b xs) = []
 open_marks (Scanning s) = mark s.begun s.middle 0 false s.before s.since ∷ []
 
 abbrev pub marks_of : Account → List Mark
-marks_of a = marks_in a.records ++ open_marks a.doing
+marks_of a = marks_in a.calls ++ open_marks a.doing
 
 -- the stamps of answered calls, and the last middle ticks of those that are scans with a record
 abbrev pub all_stamps_in : List Answered → List ℕ
@@ -158,14 +158,14 @@ open_entry p (Scanning s) = p
 
 -- what the desk's word has: number and value of the last store that was written, (0, 0) where there is none
 abbrev pub in_word : Account → ℕ × ℕ
-in_word a = open_entry (latest (0, 0) a.records) a.doing
+in_word a = open_entry (latest (0, 0) a.calls) a.doing
 
 -- the steps of a call, kinds 1 to 6 and 9 to 11. A step that does not fit the open call changes nothing
 abbrev pub begun_store : ℕ → Account → Account
-begun_store t a = record { desk = a.desk; records = a.records; doing = Begun t; ticks = a.ticks + 1 }
+begun_store t a = record { desk = a.desk; calls = a.calls; doing = Begun t; ticks = a.ticks + 1 }
 
 abbrev pub begun_view : ℕ → Account → Account
-begun_view t a = record { desk = a.desk; records = a.records; doing = Viewing t []; ticks = a.ticks + 1 }
+begun_view t a = record { desk = a.desk; calls = a.calls; doing = Viewing t []; ticks = a.ticks + 1 }
 
 abbrev pub write_open : ℕ × ℕ → Doing → Doing
 write_open p Idle = Idle
@@ -175,7 +175,7 @@ write_open p (Viewing b xs) = Viewing b xs
 write_open p (Scanning s) = Scanning s
 
 abbrev pub wrote : ℕ × ℕ → Account → Account
-wrote p a = record { desk = a.desk; records = a.records; doing = write_open p a.doing; ticks = a.ticks }
+wrote p a = record { desk = a.desk; calls = a.calls; doing = write_open p a.doing; ticks = a.ticks }
 
 -- the scan, which has read these since its last middle tick
 abbrev pub reading : Scan → List (ℕ × ℕ) → Scan
@@ -189,7 +189,7 @@ read_open p (Viewing b xs) = Viewing b (xs ++ p ∷ [])
 read_open p (Scanning s) = Scanning (reading s (s.since ++ p ∷ []))
 
 abbrev pub read : ℕ × ℕ → Account → Account
-read p a = record { desk = a.desk; records = a.records; doing = read_open p a.doing; ticks = a.ticks }
+read p a = record { desk = a.desk; calls = a.calls; doing = read_open p a.doing; ticks = a.ticks }
 
 abbrev pub closing : ℕ → Doing → List Answered
 closing t Idle = []
@@ -199,7 +199,7 @@ closing t (Viewing b xs) = record { begun = b; ended = t; op = Viewed xs } ∷ [
 closing t (Scanning s) = record { begun = s.begun; ended = t; op = Scanned s.middle s.since } ∷ []
 
 abbrev pub ended : ℕ → Account → Account
-ended t a = record { desk = a.desk; records = a.records ++ closing t a.doing; doing = Idle; ticks = a.ticks + 1 }
+ended t a = record { desk = a.desk; calls = a.calls ++ closing t a.doing; doing = Idle; ticks = a.ticks + 1 }
 
 abbrev pub middle_open : ℕ → Doing → Doing
 middle_open t Idle = Idle
@@ -209,7 +209,7 @@ middle_open t (Viewing b xs) = Scanning (record { begun = b; first = xs; made = 
 middle_open t (Scanning s) = Scanning (record { begun = s.begun; first = s.first; made = suc s.made; middle = t; before = s.since; since = [] })
 
 abbrev pub middled : ℕ → Account → Account
-middled t a = record { desk = a.desk; records = a.records; doing = middle_open t a.doing; ticks = a.ticks + 1 }
+middled t a = record { desk = a.desk; calls = a.calls; doing = middle_open t a.doing; ticks = a.ticks + 1 }
 
 abbrev pub giving_up : ℕ → Doing → List Answered
 giving_up t Idle = []
@@ -219,4 +219,4 @@ giving_up t (Viewing b xs) = []
 giving_up t (Scanning s) = record { begun = s.begun; ended = t; op = Interfered s.made s.first s.since } ∷ []
 
 abbrev pub gave_up : ℕ → Account → Account
-gave_up t a = record { desk = a.desk; records = a.records ++ giving_up t a.doing; doing = Idle; ticks = a.ticks + 1 }
+gave_up t a = record { desk = a.desk; calls = a.calls ++ giving_up t a.doing; doing = Idle; ticks = a.ticks + 1 }

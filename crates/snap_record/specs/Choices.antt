@@ -42,6 +42,15 @@ one_view (Scan tries) = 0
 abbrev pub views_in : List Step → ℕ
 views_in steps = total one_view steps
 
+abbrev pub one_scan : Step → ℕ
+one_scan (Store v) = 0
+one_scan View = 0
+one_scan (Scan tries) = 1
+
+-- how many scans a script has
+abbrev pub scans_in : List Step → ℕ
+scans_in steps = total one_scan steps
+
 abbrev pub one_store : Step → ℕ
 one_store (Store v) = 1
 one_store View = 0

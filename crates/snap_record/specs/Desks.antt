@@ -1,5 +1,5 @@
 -- Desks of a board, and their records.
-use Rattle.std.specs.Prelude.{◌≡◌, ℕ, ◌<◌, ◌≤◌, suc, cond, nat_lt, List, [], ◌∷◌, ◌++◌, Option, Some, Contains}
+use Rattle.std.specs.Prelude.{◌≡◌, ℕ, ◌<◌, ◌≤◌, suc, cond, nat_lt, List, [], ◌∷◌, ◌++◌, Option, Some, None, Contains}
 use Rattle.snap_core.specs.declared.entry.Entry.{Entry}
 use Rattle.snap_core.specs.Entries.{entry_of, number_in}
 use Rattle.snap_core.specs.Sums.{total}
@@ -13,7 +13,7 @@ use Rattle.snap_record.specs.declared.board.Gathered.{Gathered}
 use Rattle.snap_record.specs.declared.record.Record.{Record}
 use Rattle.snap_record.specs.declared.record.RecordedOp.{RecordedOp}
 use Rattle.snap_record.specs.declared.record.RecordedOp.TheVariants as Kind
-use Rattle.snap_record.specs.Hands.{records_of}
+use Rattle.snap_record.specs.Hands.{answered_of}
 
 -- a desk of the board
 abbrev pub IsDeskOf : Board → Desk → Type 0
@@ -46,11 +46,11 @@ records_at d (r ∷ rs) = op_records d r.begun r.ended r.op ++ records_at d rs
 
 -- the records of an account
 abbrev pub records_in : Account → List Record
-records_in a = records_at a.desk a.records
+records_in a = records_at a.desk a.calls
 
 -- the records of a desk, in its order
 abbrev pub records : Desk → List Record
-records d = records_at d.desk (records_of d.seat.me.0)
+records d = records_at d.desk (answered_of d.seat.me.0)
 
 -- the tries of the scans without a record, in their order
 abbrev pub op_lost : Answer → List ℕ
@@ -64,7 +64,7 @@ lost_in [] = []
 lost_in (r ∷ rs) = op_lost r.op ++ lost_in rs
 
 abbrev pub lost : Desk → List ℕ
-lost d = lost_in (records_of d.seat.me.0)
+lost d = lost_in (answered_of d.seat.me.0)
 
 -- how many collects have a record
 abbrev pub op_collects : Answer → ℕ
@@ -77,7 +77,7 @@ abbrev pub collects_in : List Answered → ℕ
 collects_in rs = total (λ r. op_collects r.op) rs
 
 abbrev pub collects : Desk → ℕ
-collects d = collects_in (records_of d.seat.me.0)
+collects d = collects_in (answered_of d.seat.me.0)
 
 -- how many ticks a desk has drawn
 abbrev pub ticks : Desk → ℕ
@@ -115,3 +115,7 @@ number_shown r k = number_in (entry_of k (shown_by r))
 -- no component is older in the record than in one before it
 abbrev pub IsNoOlder : List Record → Record → Type 0
 IsNoOlder earlier r = (q : Record) → Contains earlier q → (k : ℕ) → number_shown q k ≤ number_shown r k
+
+-- of the component of desk d the record shows the desk's last store, nothing where there was none
+abbrev pub ShowsOwnLast : ℕ → List Record → Record → Type 0
+ShowsOwnLast d earlier r = entry_of d (shown_by r) ≡ last_stored None earlier

@@ -2,21 +2,20 @@
 use Rattle.std.specs.Prelude.{◌≡◌, ℕ, ◌≤◌, Bool, true, false, List, [], ◌∷◌, map}
 use mathlib.Core.Option.{some}
 use lib.ListN.{get_elem?}
-use Rattle.atomic_table.specs.Table.{Me}
 use Rattle.snap_record.specs.Calls.{Mem, Look, AllNumbered, reading, writes_in, looks_in, latest}
-use Rattle.snap_record.specs.Plays.{entry_of}
+use Rattle.snap_record.specs.Plays.{Seated, entry_of}
 use Rattle.snap_record.specs.declared.account.Account.{Account}
 use Rattle.snap_record.specs.declared.account.Answered.{Answered}
 use Rattle.snap_record.specs.declared.account.Doing.{Doing}
 use Rattle.snap_record.specs.declared.account.Doing.TheVariants.{Idle, Begun, Written, Viewing, Scanning}
 
 abbrev pub idle : ℕ → List Answered → ℕ → Account
-idle d rs t = record { desk = d; records = rs; doing = Idle; ticks = t }
+idle d rs t = record { desk = d; calls = rs; doing = Idle; ticks = t }
 
--- the records of the first account
-abbrev pub records_of : List Account → List Answered
-records_of [] = []
-records_of (a ∷ v) = a.records
+-- the answered calls of the first account
+abbrev pub answered_of : List Account → List Answered
+answered_of [] = []
+answered_of (a ∷ v) = a.calls
 
 abbrev pub desk_of : List Account → ℕ
 desk_of [] = 0
@@ -37,9 +36,6 @@ abbrev pub begun_of : List Account → ℕ
 begun_of [] = 0
 begun_of (a ∷ v) = begun_in a.doing
 
-abbrev Seated : Type 0
-Seated = Me (Unit {0}) (List Account)
-
 abbrev pub doing_of : List Account → Doing
 doing_of [] = Idle
 doing_of (a ∷ v) = a.doing
@@ -54,11 +50,11 @@ showing xs (Scanning s) = Scanning (reading s xs)
 
 -- the seat of one desk, in whose open collect xs were read
 abbrev pub has_read : Seated → List (ℕ × ℕ) → Seated
-has_read me xs = (record { desk = desk_of me.0; records = records_of me.0; doing = showing xs (doing_of me.0); ticks = ticks_of me.0 } ∷ [], [])
+has_read me xs = (record { desk = desk_of me.0; calls = answered_of me.0; doing = showing xs (doing_of me.0); ticks = ticks_of me.0 } ∷ [], [])
 
 -- the seat of one desk
 abbrev pub one_desk : Seated → Seated
-one_desk me = (record { desk = desk_of me.0; records = records_of me.0; doing = doing_of me.0; ticks = ticks_of me.0 } ∷ [], [])
+one_desk me = (record { desk = desk_of me.0; calls = answered_of me.0; doing = doing_of me.0; ticks = ticks_of me.0 } ∷ [], [])
 
 -- what words stand for
 abbrev pub pairs : List ℕ → List (ℕ × ℕ)
@@ -85,4 +81,4 @@ pub record Brief : Type 0 where
   pub idle : Bool
 
 abbrev pub brief : Account → Brief
-brief a = record { desk = a.desk; ticks = a.ticks; number = (latest (0, 0) a.records).0; value = (latest (0, 0) a.records).1; idle = is_idle a.doing }
+brief a = record { desk = a.desk; ticks = a.ticks; number = (latest (0, 0) a.calls).0; value = (latest (0, 0) a.calls).1; idle = is_idle a.doing }

@@ -61,6 +61,10 @@ in_order (x ∷ xs) = put x (in_order xs)
 abbrev pub history_of : List Record → List Event
 history_of rs = events_in (in_order (stamped_events rs))
 
+-- the records of a hand as a history
+abbrev pub board_history : List Account → List Event
+board_history hand = history_of (all_records hand)
+
 -- no call is pending
 abbrev pub AllCompleted : List Call → Type 0
 AllCompleted calls = (c : Call) → Contains calls c → is_completed c ≡ true

@@ -50,7 +50,7 @@ IsClimbing (Viewing b xs) = ⊤
 IsClimbing (Scanning s) = sum s.first + s.made ≤ sum s.before + 1
 
 pub record Climbs (a : Account) : Type 0 where
-  pub answered : (r : Answered) → Mem r a.records → HasClimbed r.op
+  pub answered : (r : Answered) → Mem r a.calls → HasClimbed r.op
   pub doing : IsClimbing a.doing
 
 -- the scans of all accounts together, desk by desk

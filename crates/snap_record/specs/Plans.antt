@@ -7,7 +7,7 @@ use Rattle.snap_core.specs.Events.{events_of, event_limit}
 use Rattle.snap_core.specs.Sums.{total}
 use Rattle.snap_record.specs.Regular.{falling}
 use Rattle.snap_record.specs.Rule.{tick_limit}
-use Rattle.snap_record.specs.Choices.{chosen, left_out, LeavesScans, stores_but}
+use Rattle.snap_record.specs.Choices.{chosen, left_out, LeavesScans, scans_in, stores_but, views_in}
 use Rattle.snap_record.specs.declared.plan.Step.{Step}
 use Rattle.snap_record.specs.declared.plan.Step.TheVariants.{Store, View, Scan}
 use Rattle.snap_record.specs.declared.plan.PlanRefusal.{PlanRefusal}
@@ -72,6 +72,18 @@ IsRun w (Store v ∷ steps) (BeginUpdate p e ∷ EndUpdate q ∷ es) = (e.compon
 IsRun w (View ∷ steps) (BeginView p ∷ EndView q shown ∷ es) = IsRun w steps es
 IsRun w (Scan tries ∷ steps) (BeginView p ∷ EndView q shown ∷ es) = IsRun w steps es
 IsRun w _ _ = ⊥
+
+-- each worker w, as process w, did its script, and no other process did anything
+abbrev pub HasWholeScripts : List (List Step) → List Event → Type 0
+HasWholeScripts scripts es = (w : ℕ) → IsRun w (slice_index_or scripts w []) (events_of w es)
+
+-- no script has a collect
+abbrev pub HasNoViews : List (List Step) → Type 0
+HasNoViews scripts = (w : ℕ) → views_in (slice_index_or scripts w []) ≡ 0
+
+-- no script has a scan
+abbrev pub HasNoScans : List (List Step) → Type 0
+HasNoScans scripts = (w : ℕ) → scans_in (slice_index_or scripts w []) ≡ 0
 
 -- each worker w, as process w, did its script but for scans that the choices leave out, as many as were interfered with, and no other process did anything
 pub record HasScripts (scripts : List (List Step)) (es : List Event) (interfered : ℕ) : Type 0 where

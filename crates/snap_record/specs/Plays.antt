@@ -9,7 +9,7 @@ use Rattle.snap_record.specs.declared.account.Doing.{Doing}
 use Rattle.snap_record.specs.declared.account.Doing.TheVariants.{Idle, Begun, Written, Viewing, Scanning}
 use Rattle.snap_record.specs.Rule.{first_step}
 
-abbrev Seated : Type 0
+abbrev pub Seated : Type 0
 Seated = Me (Unit {0}) (List Account)
 
 -- the entry that a word stands for

@@ -22,10 +22,10 @@ pub record AreSettled (first second : List Record) (lost lost' : List ℕ) (view
   pub one_desk : one_account.desk ≡ 1
   pub zero_records : records_in zero_account ≡ first
   pub one_records : records_in one_account ≡ second
-  pub zero_lost : lost_in zero_account.records ≡ lost
-  pub one_lost : lost_in one_account.records ≡ lost'
-  pub zero_views : collects_in zero_account.records ≡ views
-  pub one_views : collects_in one_account.records ≡ views'
+  pub zero_lost : lost_in zero_account.calls ≡ lost
+  pub one_lost : lost_in one_account.calls ≡ lost'
+  pub zero_views : collects_in zero_account.calls ≡ views
+  pub one_views : collects_in one_account.calls ≡ views'
 
 -- the records are those of worker 0 and those of worker 1, each in its order
 pub record AreFrom (first second records : List Record) : Type 0 where
@@ -43,10 +43,6 @@ pub record DidScripts (scripts : List (List Step)) (records : List Record) (inte
   pub one : DidSome 1 (slice_index_or scripts 1 []) (of_worker 1 records) lost'
   pub no_other : AreBelow 2 records
   pub count : length lost + length lost' ≡ interfered
-
--- no script has a collect
-abbrev pub HasNoViews : List (List Step) → Type 0
-HasNoViews scripts = (w : ℕ) → views_in (slice_index_or scripts w []) ≡ 0
 
 -- each process has in the history the events of its records, and no others
 abbrev pub IsTold : List Record → List Event → Type 0

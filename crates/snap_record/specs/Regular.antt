@@ -23,35 +23,35 @@ falling (suc n) = n ∷ falling n
 
 -- one component of one view, against the stores of the component's desk: no later store ended before the view began, and what is shown was stored by a call that began before the view ended
 pub record Shows (r : Look) (p : ℕ × ℕ) (c : Account) : Type 0 where
-  pub fresh : (w : Write) → Mem w (writes_in c.records) → p.0 < w.number → r.begun ≤ w.ended
-  pub real : 0 < p.0 → (w : Write) × Mem w (writes_in c.records) × (w.number ≡ p.0) × (w.value ≡ p.1) × (w.begun < r.ended)
+  pub fresh : (w : Write) → Mem w (writes_in c.calls) → p.0 < w.number → r.begun ≤ w.ended
+  pub real : 0 < p.0 → (w : Write) × Mem w (writes_in c.calls) × (w.number ≡ p.0) × (w.value ≡ p.1) × (w.begun < r.ended)
 
 -- the accounts of a closed board of n desks
 pub record Settled (n : ℕ) (hand : List Account) : Type 0 where
   pub desks : map (λ (a : Account). a.desk) hand ≡ falling n
   pub idle : (a : Account) → Mem a hand → a.doing ≡ Idle
-  pub rising : (a : Account) → Mem a hand → Rising (stamps_in a.records)
-  pub below : (a : Account) → Mem a hand → (x : ℕ) → Mem x (all_stamps_in a.records) → x < clock hand
-  pub apart : (x : ℕ) → total (λ (a : Account). times x (all_stamps_in a.records)) hand ≤ 1
-  pub numbered : (a : Account) → Mem a hand → Numbered 1 (writes_in a.records)
-  pub whole : (a : Account) → Mem a hand → (r : Look) → Mem r (looks_in a.records) → length r.shown ≡ n
-  pub regular : (a : Account) → Mem a hand → (r : Look) → Mem r (looks_in a.records) → (c : Account) → Mem c hand → (p : ℕ × ℕ) → get_elem? r.shown c.desk ≡ some p → Shows r p c
-  pub monotone : (a c : Account) → Mem a hand → Mem c hand → (r s : Look) → Mem r (looks_in a.records) → Mem s (looks_in c.records) → r.ended < s.begun
+  pub rising : (a : Account) → Mem a hand → Rising (stamps_in a.calls)
+  pub below : (a : Account) → Mem a hand → (x : ℕ) → Mem x (all_stamps_in a.calls) → x < clock hand
+  pub apart : (x : ℕ) → total (λ (a : Account). times x (all_stamps_in a.calls)) hand ≤ 1
+  pub numbered : (a : Account) → Mem a hand → Numbered 1 (writes_in a.calls)
+  pub whole : (a : Account) → Mem a hand → (r : Look) → Mem r (looks_in a.calls) → length r.shown ≡ n
+  pub regular : (a : Account) → Mem a hand → (r : Look) → Mem r (looks_in a.calls) → (c : Account) → Mem c hand → (p : ℕ × ℕ) → get_elem? r.shown c.desk ≡ some p → Shows r p c
+  pub monotone : (a c : Account) → Mem a hand → Mem c hand → (r s : Look) → Mem r (looks_in a.calls) → Mem s (looks_in c.calls) → r.ended < s.begun
       → (k : ℕ) (p q : ℕ × ℕ) → get_elem? r.shown k ≡ some p → get_elem? s.shown k ≡ some q → p.0 ≤ q.0
 
 -- one component of one scan, against the stores of the component's desk: what it shows was stored before its middle tick, and so was nothing later
 pub record ShowsAt (m : Mark) (p : ℕ × ℕ) (c : Account) : Type 0 where
-  pub began : (w : Write) → Mem w (writes_in c.records) → w.number ≡ p.0 → w.begun < m.middle
-  pub fresh : (w : Write) → Mem w (writes_in c.records) → w.ended < m.middle → w.number ≤ p.0
+  pub began : (w : Write) → Mem w (writes_in c.calls) → w.number ≡ p.0 → w.begun < m.middle
+  pub fresh : (w : Write) → Mem w (writes_in c.calls) → w.ended < m.middle → w.number ≤ p.0
 
 -- the scans of a closed board
 pub record ScansSettled (hand : List Account) : Type 0 where
-  pub inside : (a : Account) → Mem a hand → (m : Mark) → Mem m (marks_in a.records) → (m.begun < m.middle) × (m.middle < m.ended)
-  pub shows : (a : Account) → Mem a hand → (m : Mark) → Mem m (marks_in a.records) → (c : Account) → Mem c hand → (p : ℕ × ℕ) → get_elem? m.before c.desk ≡ some p → ShowsAt m p c
-  pub in_turn : (a c : Account) → Mem a hand → Mem c hand → (r s : Mark) → Mem r (marks_in a.records) → Mem s (marks_in c.records) → r.middle < s.middle
+  pub inside : (a : Account) → Mem a hand → (m : Mark) → Mem m (marks_in a.calls) → (m.begun < m.middle) × (m.middle < m.ended)
+  pub shows : (a : Account) → Mem a hand → (m : Mark) → Mem m (marks_in a.calls) → (c : Account) → Mem c hand → (p : ℕ × ℕ) → get_elem? m.before c.desk ≡ some p → ShowsAt m p c
+  pub in_turn : (a c : Account) → Mem a hand → Mem c hand → (r s : Mark) → Mem r (marks_in a.calls) → Mem s (marks_in c.calls) → r.middle < s.middle
       → (k : ℕ) (p q : ℕ × ℕ) → get_elem? r.before k ≡ some p → get_elem? s.before k ≡ some q → p.0 ≤ q.0
   -- each unequal collect of a scan without a record added at least one to the numbers
-  pub climbed : (a : Account) → Mem a hand → (r : Answered) → Mem r a.records → HasClimbed r.op
+  pub climbed : (a : Account) → Mem a hand → (r : Answered) → Mem r a.calls → HasClimbed r.op
 
 -- 1 where the store neither ended before the call began nor began after it ended
 abbrev pub beside : Answered → Write → ℕ
@@ -59,7 +59,7 @@ beside r w = cond (nat_lt w.ended r.begun) 0 (cond (nat_lt r.ended w.begun) 0 1)
 
 -- how many stores of other desks did neither
 abbrev pub stores_beside : List Account → Account → Answered → ℕ
-stores_beside hand a r = total (λ (c : Account). cond (c.desk == a.desk) 0 (total (beside r) (writes_in c.records))) hand
+stores_beside hand a r = total (λ (c : Account). cond (c.desk == a.desk) 0 (total (beside r) (writes_in c.calls))) hand
 
 abbrev pub op_tries : Answer → ℕ
 op_tries (Stored n v) = 0
@@ -69,7 +69,7 @@ op_tries (Interfered n xs ys) = n
 
 -- a scan without a record had as many stores of other desks beside it as it has tries
 abbrev pub WereInterfered : List Account → Type 0
-WereInterfered hand = (a : Account) → Mem a hand → (r : Answered) → Mem r a.records → op_tries r.op ≤ stores_beside hand a r
+WereInterfered hand = (a : Account) → Mem a hand → (r : Answered) → Mem r a.calls → op_tries r.op ≤ stores_beside hand a r
 
 -- all desks below n are in
 abbrev pub AllIn : ℕ → List (Option Kept) → Type 0

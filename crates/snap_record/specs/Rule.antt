@@ -89,7 +89,7 @@ pub record Boarded (n : ℕ) (s : State (Unit {0}) (List Account)) : Type 0 wher
   pub scans : Marked n accounts
 
 abbrev pub newcomer : ℕ → Account
-newcomer d = record { desk = d; records = []; doing = Idle; ticks = 0 }
+newcomer d = record { desk = d; calls = []; doing = Idle; ticks = 0 }
 
 -- the highest desk first
 abbrev pub newcomers : ℕ → List Account

@@ -5,7 +5,7 @@ use Rattle.snap_record.specs.declared.account.Account.{Account}
 use Rattle.snap_record.specs.declared.account.Answered.{Answered}
 use Rattle.snap_record.specs.declared.account.Answer.{Answer}
 use Rattle.snap_record.specs.declared.account.Answer.TheVariants.{Stored, Viewed, Scanned, Interfered}
-use Rattle.snap_record.specs.History.{all_records, history_of}
+use Rattle.snap_record.specs.History.{board_history}
 
 -- a store, or a scan with a record
 abbrev pub op_kept : Answer → Answered → List Answered
@@ -19,8 +19,8 @@ kept [] = []
 kept (r ∷ rs) = op_kept r.op r ++ kept rs
 
 abbrev pub without_collects : Account → Account
-without_collects a = record { desk = a.desk; records = kept a.records; doing = a.doing; ticks = a.ticks }
+without_collects a = record { desk = a.desk; calls = kept a.calls; doing = a.doing; ticks = a.ticks }
 
 -- the events of the stores and scans of a hand, in the order of their stamps
 abbrev pub scan_history : List Account → List Event
-scan_history hand = history_of (all_records (map without_collects hand))
+scan_history hand = board_history (map without_collects hand)

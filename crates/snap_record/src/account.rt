@@ -50,7 +50,7 @@ pub enum Doing {
 /// What one desk did: its answered calls, its open call, and how many ticks it drew.
 pub struct Account {
     pub desk: u64,
-    pub records: LinkedList<Answered>,
+    pub calls: LinkedList<Answered>,
     pub doing: Doing,
     pub ticks: u64,
 }

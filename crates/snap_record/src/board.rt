@@ -1,7 +1,7 @@
 ghost use Rattle.std.specs.Prelude.{◌≡◌, ◌+◌, ◌<◌, ◌≤◌, [], ◌∷◌, map, length};
 ghost use Rattle.snap_record.specs.Calls.{latest};
 ghost use Rattle.snap_record.specs.Rule.{tick_limit};
-ghost use Rattle.snap_record.specs.Hands.{idle, records_of, brief};
+ghost use Rattle.snap_record.specs.Hands.{idle, answered_of, brief};
 ghost use Rattle.snap_record.specs.Slots.{ins, Smalls};
 
 use crate::account::Hand;
@@ -27,8 +27,8 @@ pub struct Desk {
     pub(crate) seat: Seat<(), Hand>,
     pub(crate) desk: u8,
     pub(crate) kept: Kept,
-    ghost alone: { seat.me ≡ (idle desk (records_of seat.me.0) kept.ticks ∷ [], []) },
-    ghost stored: { latest (0, 0) (records_of seat.me.0) ≡ (kept.stores, kept.value) },
+    ghost alone: { seat.me ≡ (idle desk (answered_of seat.me.0) kept.ticks ∷ [], []) },
+    ghost stored: { latest (0, 0) (answered_of seat.me.0) ≡ (kept.stores, kept.value) },
     ghost small: { (kept.stores ≤ kept.ticks) × (kept.ticks ≤ tick_limit) },
 }
 

@@ -1,9 +1,9 @@
 ghost use Rattle.std.specs.Prelude.{◌≡◌, ◌+◌, ◌<◌, ◌≤◌, [], ◌∷◌, ◌++◌, None, length, vec_capacity, IfOk, IfErr, OnOk, OnErr};
-ghost use Rattle.snap_core.specs.Entries.{view_refusal, entry_of, number_in};
+ghost use Rattle.snap_core.specs.Entries.{view_refusal, number_in};
 ghost use Rattle.snap_record.specs.Rule.{tick_limit};
 ghost use Rattle.snap_record.specs.Refusals.{IsNotCollected};
-ghost use Rattle.snap_record.specs.Desks.{records, ticks, collects, lost, IsDeskOf, listed, IsLater, last_stored, shown_by, IsNoOlder};
-ghost use Rattle.snap_record.specs.Hands.{has_read, doing_of, desk_of, records_of, pairs, Told};
+ghost use Rattle.snap_record.specs.Desks.{records, ticks, collects, lost, IsDeskOf, listed, IsLater, last_stored, shown_by, IsNoOlder, ShowsOwnLast};
+ghost use Rattle.snap_record.specs.Hands.{has_read, doing_of, desk_of, answered_of, pairs, Told};
 ghost use Rattle.snap_record.specs.Plays.{HasRead};
 
 use crate::account::Hand;
@@ -23,7 +23,7 @@ pub(crate) const TICK_LIMIT: u32 = 1_048_576;
 const NUMBER_UNIT: u64 = 4_294_967_296;
 
 // Lists the components whose words have a number.
-pub(crate) fn list_words(words: &Vec<u64>, entries: &mut Vec<Entry>)
+fn list_words(words: &Vec<u64>, entries: &mut Vec<Entry>)
     requires room { (entries.old.items ≡ []) × (length words.now.items ≤ vec_capacity entries.old) }
     requires short { length words.now.items ≤ 8 }
     ensures listed { entries.new.items ≡ listed 0 (pairs words.now.items) }
@@ -41,6 +41,19 @@ pub(crate) fn list_words(words: &Vec<u64>, entries: &mut Vec<Entry>)
             });
         }
     }
+}
+
+// The view that the words of all components give. Its entries take the memory of a vector.
+pub(crate) fn view_of(words: &Vec<u64>, mut entries: Vec<Entry>) -> View
+    requires room { (entries.items ≡ []) × (length words.now.items ≤ vec_capacity entries) }
+    requires short { length words.now.items ≤ 8 }
+    ensures { result ≡ listed 0 (pairs words.now.items) }
+{
+    list_words(words, &mut entries);
+    let Ok(view) = View::from_entries(entries) else {
+        unreachable!()
+    };
+    view
 }
 
 impl Board {
@@ -96,7 +109,7 @@ impl Board {
         ensures seat { seat.new.table_id ≡ seat.old.table_id }
         ensures read { seat.new.me ≡ has_read seat.old.me (pairs words.new.items) }
         ensures all { length words.new.items ≡ self.now.desks }
-        ensures told { Told (desk_of seat.old.me.0) (records_of seat.old.me.0) (pairs words.new.items) }
+        ensures told { Told (desk_of seat.old.me.0) (answered_of seat.old.me.0) (pairs words.new.items) }
         ensures room { self.now.desks ≤ vec_capacity words.new }
     {
         'words: for k in 0..self.desks {
@@ -119,7 +132,7 @@ impl Board {
         ensures later { IfOk result (IsLater (records desk.old)) }
         ensures process { IfOk result (λ r. r.process ≡ desk.old.desk) }
         ensures view { IfOk result (λ r. r.op ≡ RecordedOp.Viewed (shown_by r)) }
-        ensures own { IfOk result (λ r. entry_of desk.old.desk (shown_by r) ≡ last_stored None (records desk.old)) }
+        ensures own { IfOk result (ShowsOwnLast desk.old.desk (records desk.old)) }
         ensures no_older { IfOk result (IsNoOlder (records desk.old)) }
         ensures collects { OnOk result (collects desk.new ≡ collects desk.old + 1) }
         ensures lost { lost desk.new ≡ lost desk.old }
@@ -130,27 +143,19 @@ impl Board {
         let Ok(mut words) = Vec::with_capacity(alloc, usize::from(self.desks)) else {
             return Err(CollectRefusal::Memory);
         };
-        let Ok(mut entries) = Vec::with_capacity(alloc, usize::from(self.desks)) else {
+        let Ok(entries) = Vec::with_capacity(alloc, usize::from(self.desks)) else {
             return Err(CollectRefusal::Memory);
         };
         let shared = &self.table.shared;
         let begun = shared.fetch_add::<BeginView>(&mut desk.seat, 0, 1);
         self.load_words(&mut desk.seat, &mut words);
         let ended = shared.fetch_add::<EndCall>(&mut desk.seat, 0, 1);
-        desk.kept = Kept {
-            ticks: desk.kept.ticks + 2,
-            stores: desk.kept.stores,
-            value: desk.kept.value,
-        };
-        list_words(&words, &mut entries);
-        let Ok(view) = View::from_entries(entries) else {
-            unreachable!()
-        };
+        desk.kept.ticks += 2;
         Ok(Record {
             process: u16::from(desk.desk),
             begun,
             ended,
-            op: RecordedOp::Viewed(view),
+            op: RecordedOp::Viewed(view_of(&words, entries)),
         })
     }
 }

@@ -9,7 +9,7 @@ ghost use Rattle.snap_record.specs.Rule.{newcomers};
 ghost use Rattle.snap_record.specs.Plays.{but_first, only_first, merge};
 ghost use Rattle.snap_record.specs.Slots.{ins};
 ghost use Rattle.snap_record.specs.Desks.{accounts, IsDeskOf, IsGatheredOf};
-ghost use Rattle.snap_record.specs.History.{all_records, history_of, AllCompleted};
+ghost use Rattle.snap_record.specs.History.{board_history, AllCompleted};
 ghost use Rattle.snap_record.specs.Regular.{AllIn, Settled, ScansSettled, WereInterfered, Fresh, NoneFrom, LastStores, kept_entry, entry_in};
 ghost use Rattle.snap_record.specs.Refusals.{IsNotOpened};
 
@@ -139,16 +139,19 @@ impl Board {
     }
 
     /// Ends the board where all its desks are in. The begins and ends of all records, in the order of their stamps, are
-    /// then a regular and monotone history with no call pending, and those of the stores and scans alone are atomic. Where a desk is out both come back unchanged.
+    /// then a regular and monotone history with no call pending, and those of the stores and scans alone are an atomic
+    /// one. Each scan
+    /// that was interfered with had at least as many stores of other desks beside it as it had tries. Where a desk is out
+    /// both come back unchanged.
     pub fn close(self, gathered: Gathered) -> Result<Closed, (Board, Gathered)>
         requires { IsGatheredOf self gathered }
         ensures exact { IsOk result ↔ AllIn self.desks gathered.slots }
         ensures settled { IsOk result → Settled self.desks (accounts gathered) }
         ensures scans { IsOk result → ScansSettled (accounts gathered) }
-        ensures history { IsOk result → IsHistory (history_of (all_records (accounts gathered))) }
-        ensures completed { IsOk result → AllCompleted (calls_of (history_of (all_records (accounts gathered)))) }
-        ensures regular { IsOk result → IsRegular (calls_of (history_of (all_records (accounts gathered)))) }
-        ensures monotone { IsOk result → IsMonotone (calls_of (history_of (all_records (accounts gathered)))) }
+        ensures history { IsOk result → IsHistory (board_history (accounts gathered)) }
+        ensures completed { IsOk result → AllCompleted (calls_of (board_history (accounts gathered))) }
+        ensures regular { IsOk result → IsRegular (calls_of (board_history (accounts gathered))) }
+        ensures monotone { IsOk result → IsMonotone (calls_of (board_history (accounts gathered))) }
         ensures interfered { IsOk result → WereInterfered (accounts gathered) }
         ensures atomic { IsOk result → IsAtomic (calls_of (scan_history (accounts gathered))) }
         ensures desks { IfOk result (λ c. c.desks ≡ self.desks) }

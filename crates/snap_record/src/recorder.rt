@@ -6,10 +6,10 @@ ghost use Rattle.snap_core.specs.Regular.{IsRegular};
 ghost use Rattle.snap_record.specs.Delivery.{of_worker};
 ghost use Rattle.snap_record.specs.Desks.{records, ticks, lost, collects, accounts, IsDeskOf, IsGatheredOf};
 ghost use Rattle.snap_record.specs.History.{AllCompleted};
-ghost use Rattle.snap_record.specs.Plans.{HasScripts, draws_within};
+ghost use Rattle.snap_record.specs.Plans.{HasScripts, HasWholeScripts, HasNoScans, HasNoViews, draws_within};
 ghost use Rattle.snap_record.specs.Rule.{tick_limit};
 ghost use Rattle.snap_core.specs.Orders.{IsAtomic};
-ghost use Rattle.snap_record.specs.Recording.{AreSettled, DidScripts, HasNoViews};
+ghost use Rattle.snap_record.specs.Recording.{AreSettled, DidScripts};
 ghost use Rattle.snap_record.specs.Relays.{IsSenderOf, IsTakerOf};
 ghost use Rattle.snap_record.specs.Workers.{IsWorkerOf, IsUnused, HasRun, IsTakenOf};
 
@@ -194,8 +194,10 @@ fn tell(
     ensures regular { IfOk result (λ r. IsRegular (calls_of r.history)) }
     ensures monotone { IfOk result (λ r. IsMonotone (calls_of r.history)) }
     ensures completed { IfOk result (λ r. AllCompleted (calls_of r.history)) }
-    ensures atomic { IfOk result (λ r. HasNoViews plan.now → IsAtomic (calls_of r.history)) }
+    ensures atomic { HasNoViews plan.now → IfOk result (λ r. IsAtomic (calls_of r.history)) }
     ensures scripts { IfOk result (λ r. HasScripts plan.now r.history r.interfered) }
+    ensures whole { HasNoScans plan.now → IfOk result (λ r. HasWholeScripts plan.now r.history) }
+    ensures none_left { HasNoScans plan.now → IfOk result (λ r. r.interfered ≡ 0) }
 {
     let events = in_order(alloc, all)?;
     let history = history_of(alloc, events)?;
@@ -223,8 +225,10 @@ pub fn record_plan<R: Threads + Wait + Sync, G: Gate>(
     ensures regular { IfOk result (λ r. IsRegular (calls_of r.history)) }
     ensures monotone { IfOk result (λ r. IsMonotone (calls_of r.history)) }
     ensures completed { IfOk result (λ r. AllCompleted (calls_of r.history)) }
-    ensures atomic { IfOk result (λ r. HasNoViews plan.now → IsAtomic (calls_of r.history)) }
+    ensures atomic { HasNoViews plan.now → IfOk result (λ r. IsAtomic (calls_of r.history)) }
     ensures scripts { IfOk result (λ r. HasScripts plan.now r.history r.interfered) }
+    ensures whole { HasNoScans plan.now → IfOk result (λ r. HasWholeScripts plan.now r.history) }
+    ensures none_left { HasNoScans plan.now → IfOk result (λ r. r.interfered ≡ 0) }
 {
     let Ok((all, interfered)) = run_plan(rt, alloc, plan, gate) else {
         return Err(RecordRefusal::Memory);

@@ -1,21 +1,17 @@
 ghost use Rattle.std.specs.Prelude.{◌≡◌, ◌≢◌, ◌↔◌, ◌+◌, ◌<◌, ◌≤◌, [], ◌∷◌, ◌++◌, length, vec_capacity, IfOk, IfErr, OnOk, OnErr, IsTrue, MatchOption, true, false};
-ghost use Rattle.snap_core.specs.Entries.{entry_of};
-ghost use Rattle.std.specs.Prelude.{None};
 ghost use Rattle.snap_record.specs.Rule.{tick_limit};
 ghost use Rattle.snap_record.specs.Refusals.{IsNotScanned, IsLeft, IsNotInterfered};
-ghost use Rattle.snap_record.specs.Desks.{records, ticks, collects, lost, IsDeskOf, IsLater, last_stored, shown_by, IsNoOlder};
-ghost use Rattle.snap_record.specs.Hands.{one_desk, doing_of, desk_of, records_of, ticks_of, begun_of, pairs};
-ghost use Rattle.snap_record.specs.Tries.{IsRead, IsTrying, HasAgreed, made_of};
+ghost use Rattle.snap_record.specs.Desks.{records, ticks, collects, lost, IsDeskOf, IsLater, shown_by, IsNoOlder, ShowsOwnLast};
+ghost use Rattle.snap_record.specs.Hands.{one_desk, ticks_of};
+ghost use Rattle.snap_record.specs.Tries.{HasReadAll, StillTries, AgreesOn, IsSameCall, made_of};
 
 use crate::account::Hand;
 use crate::board::{Board, Desk};
-use crate::calls::{TICK_LIMIT, list_words};
-use crate::kept::Kept;
+use crate::calls::{TICK_LIMIT, view_of};
 use crate::record::{Record, RecordedOp};
 use crate::refusals::ScanRefusal;
 use crate::rule::{BeginView, EndCall, GiveUp, MiddleTick};
 use atomic_table::Seat;
-use snap_core::View;
 use std::alloc::Global;
 
 // Whether two collects read the same.
@@ -29,16 +25,16 @@ impl Board {
     // Makes a middle tick, and a collect after it. Tells whether that read what the collect before it did.
     fn try_once(&self, seat: &mut Seat<(), Hand>, before: &Vec<u64>, since: &mut Vec<u64>) -> bool
         requires seat { (seat.old.table_id ≡ self.now.table.shared.table_id) × (seat.old.me ≡ one_desk seat.old.me) }
-        requires trying { IsTrying self.now.desks (desk_of seat.old.me.0) (records_of seat.old.me.0) (pairs before.now.items) (doing_of seat.old.me.0) }
-        requires read { IsRead self.now.desks (desk_of seat.old.me.0) (records_of seat.old.me.0) (pairs before.now.items) }
+        requires trying { StillTries self.now.desks seat.old.me before.now.items seat.old.me }
+        requires read { HasReadAll self.now.desks seat.old.me before.now.items }
         requires room { self.now.desks ≤ vec_capacity since.old }
         requires ticks { ticks_of seat.old.me.0 + 1 ≤ tick_limit }
         ensures seat { (seat.new.table_id ≡ seat.old.table_id) × (seat.new.me ≡ one_desk seat.new.me) }
-        ensures account { (desk_of seat.new.me.0 ≡ desk_of seat.old.me.0) × (records_of seat.new.me.0 ≡ records_of seat.old.me.0) × (begun_of seat.new.me.0 ≡ begun_of seat.old.me.0) }
+        ensures account { IsSameCall seat.old.me seat.new.me }
         ensures ticks { (ticks_of seat.new.me.0 ≡ ticks_of seat.old.me.0 + 1) × (made_of seat.new.me.0 ≡ made_of seat.old.me.0 + 1) }
-        ensures read { IsRead self.now.desks (desk_of seat.old.me.0) (records_of seat.old.me.0) (pairs since.new.items) }
-        ensures agreed { result ≡ true → HasAgreed (pairs since.new.items) (doing_of seat.new.me.0) }
-        ensures trying { result ≡ false → IsTrying self.now.desks (desk_of seat.old.me.0) (records_of seat.old.me.0) (pairs since.new.items) (doing_of seat.new.me.0) }
+        ensures read { HasReadAll self.now.desks seat.old.me since.new.items }
+        ensures agreed { result ≡ true → AgreesOn since.new.items seat.new.me }
+        ensures trying { result ≡ false → StillTries self.now.desks seat.old.me since.new.items seat.new.me }
         ensures room { self.now.desks ≤ vec_capacity since.new }
     {
         self.table.shared.fetch_add::<MiddleTick>(seat, 0, 1);
@@ -57,16 +53,16 @@ impl Board {
         tries: u32,
     ) -> Option<u32>
         requires seat { (seat.old.table_id ≡ self.now.table.shared.table_id) × (seat.old.me ≡ one_desk seat.old.me) × (made_of seat.old.me.0 ≡ 0) }
-        requires trying { IsTrying self.now.desks (desk_of seat.old.me.0) (records_of seat.old.me.0) (pairs before.old.items) (doing_of seat.old.me.0) }
-        requires read { IsRead self.now.desks (desk_of seat.old.me.0) (records_of seat.old.me.0) (pairs before.old.items) }
+        requires trying { StillTries self.now.desks seat.old.me before.old.items seat.old.me }
+        requires read { HasReadAll self.now.desks seat.old.me before.old.items }
         requires room { (self.now.desks ≤ vec_capacity before.old) × (self.now.desks ≤ vec_capacity since.old) }
         requires ticks { ticks_of seat.old.me.0 + tries ≤ tick_limit }
         ensures seat { (seat.new.table_id ≡ seat.old.table_id) × (seat.new.me ≡ one_desk seat.new.me) }
-        ensures account { (desk_of seat.new.me.0 ≡ desk_of seat.old.me.0) × (records_of seat.new.me.0 ≡ records_of seat.old.me.0) × (begun_of seat.new.me.0 ≡ begun_of seat.old.me.0) }
+        ensures account { IsSameCall seat.old.me seat.new.me }
         ensures ticks { ticks_of seat.new.me.0 ≡ ticks_of seat.old.me.0 + made_of seat.new.me.0 }
         ensures made { MatchOption result (made_of seat.new.me.0 ≡ tries) (λ made. (made_of seat.new.me.0 ≡ made) × (0 < made) × (made ≤ tries)) }
-        ensures read { MatchOption result (IsRead self.now.desks (desk_of seat.old.me.0) (records_of seat.old.me.0) (pairs before.new.items)) (λ _. IsRead self.now.desks (desk_of seat.old.me.0) (records_of seat.old.me.0) (pairs since.new.items)) }
-        ensures ends { MatchOption result (IsTrying self.now.desks (desk_of seat.old.me.0) (records_of seat.old.me.0) (pairs before.new.items) (doing_of seat.new.me.0)) (λ _. HasAgreed (pairs since.new.items) (doing_of seat.new.me.0)) }
+        ensures read { MatchOption result (HasReadAll self.now.desks seat.old.me before.new.items) (λ _. HasReadAll self.now.desks seat.old.me since.new.items) }
+        ensures ends { MatchOption result (StillTries self.now.desks seat.old.me before.new.items seat.new.me) (λ _. AgreesOn since.new.items seat.new.me) }
     {
         'tries: for made in 0..tries {
             if self.try_once(seat, before, since) {
@@ -89,12 +85,13 @@ impl Board {
         ensures refused { IfErr result (IsNotScanned (ticks desk.old) tries) }
         ensures left { IfErr result (IsLeft tries desk.old desk.new) }
         ensures recorded { IfOk result (λ r. records desk.new ≡ records desk.old ++ r ∷ []) }
-        ensures ticks { OnOk result ((ticks desk.old + 3 ≤ ticks desk.new) × (ticks desk.new ≤ ticks desk.old + tries + 2)) }
+        ensures ticks { OnOk result (ticks desk.old + 3 ≤ ticks desk.new) }
+        ensures most_ticks { OnOk result (ticks desk.new ≤ ticks desk.old + tries + 2) }
         ensures stamps { IfOk result (λ r. r.begun < r.ended) }
         ensures later { IfOk result (IsLater (records desk.old)) }
         ensures process { IfOk result (λ r. r.process ≡ desk.old.desk) }
         ensures view { IfOk result (λ r. r.op ≡ RecordedOp.Viewed (shown_by r)) }
-        ensures own { IfOk result (λ r. entry_of desk.old.desk (shown_by r) ≡ last_stored None (records desk.old)) }
+        ensures own { IfOk result (ShowsOwnLast desk.old.desk (records desk.old)) }
         ensures no_older { IfOk result (IsNoOlder (records desk.old)) }
         ensures collects { collects desk.new ≡ collects desk.old }
         ensures lost { OnOk result (lost desk.new ≡ lost desk.old) }
@@ -109,7 +106,7 @@ impl Board {
         let Ok(mut since) = Vec::with_capacity(alloc, usize::from(self.desks)) else {
             return Err(ScanRefusal::Memory);
         };
-        let Ok(mut entries) = Vec::with_capacity(alloc, usize::from(self.desks)) else {
+        let Ok(entries) = Vec::with_capacity(alloc, usize::from(self.desks)) else {
             return Err(ScanRefusal::Memory);
         };
         let shared = &self.table.shared;
@@ -117,28 +114,16 @@ impl Board {
         self.load_words(&mut desk.seat, &mut before);
         let Some(made) = self.try_until(&mut desk.seat, &mut before, &mut since, tries) else {
             shared.fetch_add::<GiveUp>(&mut desk.seat, 0, 1);
-            desk.kept = Kept {
-                ticks: desk.kept.ticks + tries + 2,
-                stores: desk.kept.stores,
-                value: desk.kept.value,
-            };
+            desk.kept.ticks += tries + 2;
             return Err(ScanRefusal::Interfered);
         };
         let ended = shared.fetch_add::<EndCall>(&mut desk.seat, 0, 1);
-        desk.kept = Kept {
-            ticks: desk.kept.ticks + made + 2,
-            stores: desk.kept.stores,
-            value: desk.kept.value,
-        };
-        list_words(&since, &mut entries);
-        let Ok(view) = View::from_entries(entries) else {
-            unreachable!()
-        };
+        desk.kept.ticks += made + 2;
         Ok(Record {
             process: u16::from(desk.desk),
             begun,
             ended,
-            op: RecordedOp::Viewed(view),
+            op: RecordedOp::Viewed(view_of(&since, entries)),
         })
     }
 }

@@ -8,6 +8,7 @@ use Rattle.snap_record.specs.History.{AllCompleted}
 use Rattle.snap_record.specs.Plans.{HasScripts}
 use Rattle.snap_record.proofs.Telling.{apart, told_history, told_completed, told_regular, told_monotone, told_atomic, told, stamped_length}
 use Rattle.snap_record.proofs.Planning.{has_scripts}
+use Rattle.snap_record.proofs.Whole.{whole_scripts, none_interfered}
 use Rattle.snap_record.proofs.recorder.tell.Goals as goal
 
 pub in_order-requires : goal.in_order-requires
@@ -39,3 +40,9 @@ pub returns-clause-scripts : goal.returns-clause-scripts
 returns-clause-scripts c = let d = c.requires.did in
     subst (λ (es : List Event). HasScripts c.args.plan.now es c.args.interfered) (sym c.in_ok-history.ensures)
     (has_scripts c.args.plan.now c.args.all.items _ c.args.interfered (told c.args.all.items d.lost d.lost' _ _ d.settled d.no_other c.in_ok-events.events.items c.in_ok-events.ensures.merged) d)
+
+pub returns-clause-whole : goal.returns-clause-whole
+returns-clause-whole c none = whole_scripts c.args.plan.now c.in_ok-history.history c.args.interfered (returns-clause-scripts c) none
+
+pub returns-clause-none_left : goal.returns-clause-none_left
+returns-clause-none_left c none = none_interfered c.args.plan.now c.in_ok-history.history c.args.interfered (returns-clause-scripts c) none

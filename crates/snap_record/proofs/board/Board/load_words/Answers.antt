@@ -1,6 +1,6 @@
 use Rattle.std.proofs.Common.{ℕ, ◌+◌, List, [], length, sym, ap, ◌∙◌, subst, arith}
 use Rattle.std.proofs.lemmas.List.{length_push, length-map}
-use Rattle.snap_record.specs.Hands.{showing, pairs, doing_of, desk_of, records_of, ticks_of, Told}
+use Rattle.snap_record.specs.Hands.{showing, pairs, doing_of, desk_of, answered_of, ticks_of, Told}
 use Rattle.snap_record.specs.Plays.{entry_of}
 use Rattle.snap_record.proofs.Moves.{loads_at}
 use Rattle.snap_record.proofs.Reading.{has_showing, has_read_more, told_more}
@@ -13,7 +13,7 @@ load-word-requires c =
     let keyed = self.keyed in let few = self.few.1 in let wide = self.words in let count = i.count in let size = length-map c.words.words.items entry_of in (
       i.at ∙ c.requires.seat,
       omega (arith, c.from.ensures, c.words-test.true),
-      loads_at self.table.shared.key.desks self.table.shared.table_id.slots c.words.seat.id c.words.seat.me (desk_of me0.0) (records_of me0.0) (ticks_of me0.0) (omega arith) (showing xs (doing_of me0.0)) xs (c.from.result + 1)
+      loads_at self.table.shared.key.desks self.table.shared.table_id.slots c.words.seat.id c.words.seat.me (desk_of me0.0) (answered_of me0.0) (ticks_of me0.0) (omega arith) (showing xs (doing_of me0.0)) xs (c.from.result + 1)
           (ap (λ m. m.0) i.reads) (has_showing (doing_of me0.0) [] xs c.requires.ready.1) (omega (arith, c.words-test.true)) (omega (arith, c.from.ensures)),
     )
 
@@ -29,6 +29,6 @@ words-preserved c =
       reads = has_read_more me0 c.words.seat.me now ws n i.reads c.requires.ready.1 told.0 ∙ ap (λ l. Rattle.snap_record.specs.Hands.has_read me0 (pairs l)) (sym items);
       count = ap length items ∙ length_push ws n ∙ ap (λ z. z + 1) i.count;
       room = omega (arith, i.room, c.push_reserved.ensures.capacity);
-      told = subst (λ (l : List ℕ). Told (desk_of me0.0) (records_of me0.0) (pairs l)) (sym items)
+      told = subst (λ (l : List ℕ). Told (desk_of me0.0) (answered_of me0.0) (pairs l)) (sym items)
           (told_more me0 c.words.seat.me ws (c.from.result + 1) n i.reads c.requires.ready.1 (omega (arith, c.from.ensures, i.count)) told.1 i.told);
     }

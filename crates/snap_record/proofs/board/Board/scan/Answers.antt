@@ -1,10 +1,8 @@
 use Rattle.std.proofs.Common.{◌≡◌, ℕ, ◌+◌, ◌≤◌, ◌<◌, List, [], ◌∷◌, ◌++◌, length, refl, sym, ap, ◌∙◌, subst, arith, append-nil}
 use Rattle.std.proofs.lemmas.List.{length-map}
-use Rattle.atomic_table.specs.Table.{Me}
 use Rattle.snap_core.specs.declared.entry.Entry.{Entry}
 use Rattle.snap_core.specs.Entries.{number_in}
 use Rattle.snap_core.specs.Entries as entries
-use Rattle.snap_record.specs.declared.account.Account.{Account}
 use Rattle.snap_record.specs.declared.account.Answer.TheVariants.{Scanned, Interfered}
 use Rattle.snap_record.specs.declared.account.Doing.TheVariants.{Viewing, Scanning}
 use Rattle.snap_record.specs.declared.board.Desk.{Desk}
@@ -12,8 +10,8 @@ use Rattle.snap_record.specs.declared.record.RecordedOp.TheVariants as Kind
 use Rattle.snap_record.specs.Calls.{latest, begun_view, ended, gave_up}
 use Rattle.snap_record.specs.Rule.{first_step}
 use Rattle.snap_record.specs.Desks.{records, records_at, lost_in, collects_in, number_shown}
-use Rattle.snap_record.specs.Hands.{idle, pairs, has_read, one_desk, records_of, desk_of, doing_of, ticks_of, begun_of, Told}
-use Rattle.snap_record.specs.Plays.{entry_of, Above, ReadAll}
+use Rattle.snap_record.specs.Hands.{idle, pairs, has_read, one_desk, answered_of, desk_of, doing_of, ticks_of, begun_of, Told}
+use Rattle.snap_record.specs.Plays.{Seated, entry_of, Above, ReadAll}
 use Rattle.snap_record.specs.Tries.{IsRead, IsTrying, HasAgreed, made_of, middle_in}
 use Rattle.snap_record.proofs.Accounts.{rec, latest-push}
 use Rattle.snap_record.proofs.Moves.{begins_view_as, ends_scan_as, gives_up_as}
@@ -23,21 +21,18 @@ use Rattle.snap_record.proofs.Listing.{later, own_entry, no_older, records-push,
 use Rattle.snap_record.proofs.Scanning.{made_same, agreed_scan, trying_scan, one_read, Ready, get_ready, after_tries, ScanDone, scan_done, scan_lost}
 use Rattle.snap_record.proofs.board.Board.scan.Goals as goal
 
-abbrev Seated : Type 0
-Seated = Me (Unit {0}) (List Account)
-
 pub fetch_add-begun-requires : goal.fetch_add-begun-requires
 fetch_add-begun-requires c =
     let desk = c.args.desk.now in let self = c.args.self.now in
     let key = self.table.shared.key.desks in
-    let rs = records_of desk.seat.me.0 in
+    let rs = answered_of desk.seat.me.0 in
     let keyed = self.keyed in let few = self.few.1 in
     (c.requires.desk.0, omega (arith, self.words), begins_view_as key self.table.shared.table_id.slots desk.seat.id desk.seat.me desk.desk rs desk.kept.ticks (omega arith) (ap (λ m. m.0) desk.alone) (omega (arith, c.if-from.false, c.from.ensures, c.from-2.ensures, c.from-3.ensures)))
 
 pub load_words-requires : goal.load_words-requires
 load_words-requires c =
     let desk = c.args.desk.now in
-    let rs = records_of desk.seat.me.0 in
+    let rs = answered_of desk.seat.me.0 in
     let seat1 = c.fetch_add-begun.new.seat in
     let t1 = c.fetch_add-begun.result in
     let me1 = viewing_after desk.seat.me seat1.me desk.desk rs desk.kept.ticks t1 desk.alone c.fetch_add-begun.ensures.2.0 in
@@ -50,27 +45,27 @@ load_words-requires c =
 pub try_until-requires-clause-read : goal.try_until-requires-clause-read
 try_until-requires-clause-read c =
     let desk = c.args.desk.now in
-    let rs = records_of desk.seat.me.0 in
+    let rs = answered_of desk.seat.me.0 in
     let ws = c.load_words.new.words.items in
     let t1 = c.fetch_add-begun.result in
     let me1 = viewing_after desk.seat.me c.fetch_add-begun.new.seat.me desk.desk rs desk.kept.ticks t1 desk.alone c.fetch_add-begun.ensures.2.0 in
     let r = get_ready desk.seat.me _ c.load_words.new.seat.me desk.desk rs desk.kept.ticks t1 (pairs ws) desk.alone c.fetch_add-begun.ensures.2.0 c.load_words.ensures.read in (
       length-map ws entry_of ∙ c.load_words.ensures.all,
-      subst (λ (m : Seated). Told (desk_of m.0) (records_of m.0) (pairs ws)) (sym r.me) (subst (λ (m : Seated). Told (desk_of m.0) (records_of m.0) (pairs ws)) me1 c.load_words.ensures.told),
+      subst (λ (m : Seated). Told (desk_of m.0) (answered_of m.0) (pairs ws)) (sym r.me) (subst (λ (m : Seated). Told (desk_of m.0) (answered_of m.0) (pairs ws)) me1 c.load_words.ensures.told),
     )
 
 -- what the desk had before is what a collect was told of
-read_of : (n : ℕ) (desk : Desk) (t1 : ℕ) (xs ys : List (ℕ × ℕ)) (me2 : Seated) → Ready desk.desk (records_of desk.seat.me.0) desk.kept.ticks t1 xs me2 → IsRead n (desk_of me2.0) (records_of me2.0) ys → IsRead n desk.desk (records_of desk.seat.me.0) ys
-read_of n desk t1 xs ys me2 r read = subst (λ (m : Seated). IsRead n (desk_of m.0) (records_of m.0) ys) r.me read
+read_of : (n : ℕ) (desk : Desk) (t1 : ℕ) (xs ys : List (ℕ × ℕ)) (me2 : Seated) → Ready desk.desk (answered_of desk.seat.me.0) desk.kept.ticks t1 xs me2 → IsRead n (desk_of me2.0) (answered_of me2.0) ys → IsRead n desk.desk (answered_of desk.seat.me.0) ys
+read_of n desk t1 xs ys me2 r read = subst (λ (m : Seated). IsRead n (desk_of m.0) (answered_of m.0) ys) r.me read
 
-trying_of : (n : ℕ) (desk : Desk) (t1 : ℕ) (xs ys : List (ℕ × ℕ)) (me2 me3 : Seated) → Ready desk.desk (records_of desk.seat.me.0) desk.kept.ticks t1 xs me2 → IsTrying n (desk_of me2.0) (records_of me2.0) ys (doing_of me3.0) → IsTrying n desk.desk (records_of desk.seat.me.0) ys (doing_of me3.0)
-trying_of n desk t1 xs ys me2 me3 r try = subst (λ (m : Seated). IsTrying n (desk_of m.0) (records_of m.0) ys (doing_of me3.0)) r.me try
+trying_of : (n : ℕ) (desk : Desk) (t1 : ℕ) (xs ys : List (ℕ × ℕ)) (me2 me3 : Seated) → Ready desk.desk (answered_of desk.seat.me.0) desk.kept.ticks t1 xs me2 → IsTrying n (desk_of me2.0) (answered_of me2.0) ys (doing_of me3.0) → IsTrying n desk.desk (answered_of desk.seat.me.0) ys (doing_of me3.0)
+trying_of n desk t1 xs ys me2 me3 r try = subst (λ (m : Seated). IsTrying n (desk_of m.0) (answered_of m.0) ys (doing_of me3.0)) r.me try
 
 pub fetch_add-requires : goal.fetch_add-requires
 fetch_add-requires c =
     let desk = c.args.desk.now in let self = c.args.self.now in
     let key = self.table.shared.key.desks in
-    let rs = records_of desk.seat.me.0 in
+    let rs = answered_of desk.seat.me.0 in
     let keyed = self.keyed in let few = self.few.1 in
     let t1 = c.fetch_add-begun.result in
     let xs = pairs c.load_words.new.words.items in
@@ -89,21 +84,21 @@ fetch_add-requires c =
 
 -- what a scan without a record leaves
 gone : (n : ℕ) (desk : Desk) (t1 t4 m : ℕ) (xs ys : List (ℕ × ℕ)) (me1 me2 me3 me4 : Seated) → me1 ≡ (first_step (begun_view t1) desk.seat.me.0, desk.seat.me.1) → me2 ≡ has_read me1 xs → me3 ≡ one_desk me3
-    → (desk_of me3.0 ≡ desk_of me2.0) × (records_of me3.0 ≡ records_of me2.0) × (begun_of me3.0 ≡ begun_of me2.0) → ticks_of me3.0 ≡ ticks_of me2.0 + m → made_of me3.0 ≡ m → 0 < m → IsTrying n (desk_of me2.0) (records_of me2.0) ys (doing_of me3.0)
-    → me4 ≡ (first_step (gave_up t4) me3.0, me3.1) → (fs : List (ℕ × ℕ)) × (me4 ≡ at_desk (idle desk.desk (records_of desk.seat.me.0 ++ rec t1 t4 (Interfered m fs ys) ∷ []) (desk.kept.ticks + m + 2)))
+    → (desk_of me3.0 ≡ desk_of me2.0) × (answered_of me3.0 ≡ answered_of me2.0) × (begun_of me3.0 ≡ begun_of me2.0) → ticks_of me3.0 ≡ ticks_of me2.0 + m → made_of me3.0 ≡ m → 0 < m → IsTrying n (desk_of me2.0) (answered_of me2.0) ys (doing_of me3.0)
+    → me4 ≡ (first_step (gave_up t4) me3.0, me3.1) → (fs : List (ℕ × ℕ)) × (me4 ≡ at_desk (idle desk.desk (answered_of desk.seat.me.0 ++ rec t1 t4 (Interfered m fs ys) ∷ []) (desk.kept.ticks + m + 2)))
 gone n desk t1 t4 m xs ys me1 me2 me3 me4 first second one same ticks made pos try last =
-    let r = get_ready desk.seat.me me1 me2 desk.desk (records_of desk.seat.me.0) desk.kept.ticks t1 xs desk.alone first second in
-    scan_lost me2 me3 me4 n desk.desk (records_of desk.seat.me.0) desk.kept.ticks t1 t4 m xs ys r one same ticks (sym (made_same me3.0) ∙ made) pos (trying_of n desk t1 xs ys me2 me3 r try) last
+    let r = get_ready desk.seat.me me1 me2 desk.desk (answered_of desk.seat.me.0) desk.kept.ticks t1 xs desk.alone first second in
+    scan_lost me2 me3 me4 n desk.desk (answered_of desk.seat.me.0) desk.kept.ticks t1 t4 m xs ys r one same ticks (sym (made_same me3.0) ∙ made) pos (trying_of n desk t1 xs ys me2 me3 r try) last
 
 pub invariant_of-desk : goal.invariant_of-desk
 invariant_of-desk c =
     let desk = c.args.desk.now in
-    let rs = records_of desk.seat.me.0 in
+    let rs = answered_of desk.seat.me.0 in
     let t1 = c.fetch_add-begun.result in let t4 = c.fetch_add.result in
     let ys = pairs c.try_until.new.before.items in
     let e = c.in_default-try_until.ensures in
     let g = gone c.args.self.now.desks desk t1 t4 c.args.tries (pairs c.load_words.new.words.items) ys _ _ _ _ c.fetch_add-begun.ensures.2.0 c.load_words.ensures.read e.seat.1 e.account (omega (arith, e.ticks, e.made)) e.made c.requires.tries e.ends c.fetch_add.ensures.2.0 in
-    let a = alone_of c.fetch_add.new.seat.me desk.desk (rs ++ rec t1 t4 (Interfered c.args.tries g.0 ys) ∷ []) (desk.kept.ticks + c.args.tries + 2) (desk.kept.ticks + c.args.tries + 2) g.1 refl in
+    let a = alone_of c.fetch_add.new.seat.me desk.desk (rs ++ rec t1 t4 (Interfered c.args.tries g.0 ys) ∷ []) (desk.kept.ticks + c.args.tries + 2) (desk.kept.ticks + (c.args.tries + 2)) g.1 (omega arith) in
     record {
       alone = a.0;
       stored = ap (λ l. latest (0, 0) l) a.1 ∙ latest-push (0, 0) rs (rec t1 t4 (Interfered c.args.tries g.0 ys)) ∙ desk.stored;
@@ -113,33 +108,33 @@ invariant_of-desk c =
 pub returns-in_default-try_until-clause-left : goal.returns-in_default-try_until-clause-left
 returns-in_default-try_until-clause-left c =
     let desk = c.args.desk.now in
-    let rs = records_of desk.seat.me.0 in
+    let rs = answered_of desk.seat.me.0 in
     let t1 = c.fetch_add-begun.result in let t4 = c.fetch_add.result in
     let ys = pairs c.try_until.new.before.items in
     let e = c.in_default-try_until.ensures in
     let g = gone c.args.self.now.desks desk t1 t4 c.args.tries (pairs c.load_words.new.words.items) ys _ _ _ _ c.fetch_add-begun.ensures.2.0 c.load_words.ensures.read e.seat.1 e.account (omega (arith, e.ticks, e.made)) e.made c.requires.tries e.ends c.fetch_add.ensures.2.0 in
     let r = rec t1 t4 (Interfered c.args.tries g.0 ys) in
-    let is = ap (λ (m : Seated). records_of m.0) g.1 in (
+    let is = ap (λ (m : Seated). answered_of m.0) g.1 in (
       ap (records_at desk.desk) is ∙ records-push desk.desk rs r ∙ append-nil (records_at desk.desk rs),
-      refl,
+      omega arith,
       ap lost_in is ∙ lost-push rs r,
     )
 
 pub returns-in_default-try_until-clause-collects : goal.returns-in_default-try_until-clause-collects
 returns-in_default-try_until-clause-collects c =
     let desk = c.args.desk.now in
-    let rs = records_of desk.seat.me.0 in
+    let rs = answered_of desk.seat.me.0 in
     let t1 = c.fetch_add-begun.result in let t4 = c.fetch_add.result in
     let ys = pairs c.try_until.new.before.items in
     let e = c.in_default-try_until.ensures in
     let g = gone c.args.self.now.desks desk t1 t4 c.args.tries (pairs c.load_words.new.words.items) ys _ _ _ _ c.fetch_add-begun.ensures.2.0 c.load_words.ensures.read e.seat.1 e.account (omega (arith, e.ticks, e.made)) e.made c.requires.tries e.ends c.fetch_add.ensures.2.0 in
     let r = rec t1 t4 (Interfered c.args.tries g.0 ys) in
-    let is = ap (λ (m : Seated). collects_in (records_of m.0)) g.1 in let n = collects-push rs r in omega arith
+    let is = ap (λ (m : Seated). collects_in (answered_of m.0)) g.1 in let n = collects-push rs r in omega arith
 
 pub returns-in_default-try_until-clause-alone : goal.returns-in_default-try_until-clause-alone
 returns-in_default-try_until-clause-alone c one =
     let desk = c.args.desk.now in let self = c.args.self.now in
-    let rs = records_of desk.seat.me.0 in
+    let rs = answered_of desk.seat.me.0 in
     let t1 = c.fetch_add-begun.result in
     let xs = pairs c.load_words.new.words.items in
     let ys = pairs c.try_until.new.before.items in
@@ -154,15 +149,15 @@ returns-in_default-try_until-clause-alone c one =
 
 -- what a scan with a record leaves
 done : (desk : Desk) (t1 t4 m : ℕ) (xs ys : List (ℕ × ℕ)) (me1 me2 me3 me4 : Seated) → (me1 ≡ (first_step (begun_view t1) desk.seat.me.0, desk.seat.me.1)) × Above t1 desk.seat.me → me2 ≡ has_read me1 xs → me3 ≡ one_desk me3
-    → (desk_of me3.0 ≡ desk_of me2.0) × (records_of me3.0 ≡ records_of me2.0) × (begun_of me3.0 ≡ begun_of me2.0) → ticks_of me3.0 ≡ ticks_of me2.0 + m → HasAgreed ys (doing_of me3.0)
-    → (me4 ≡ (first_step (ended t4) me3.0, me3.1)) × Above t4 me3 × ReadAll me3 → ScanDone desk.desk (records_of desk.seat.me.0) desk.kept.ticks t1 t4 m (middle_in (doing_of me3.0)) ys me4
-done desk t1 t4 m xs ys me1 me2 me3 me4 first second one same ticks agreed last = scan_done desk.seat.me me1 me2 me3 me4 desk.desk (records_of desk.seat.me.0) desk.kept.ticks t1 t4 m xs ys desk.alone first second one same ticks agreed last
+    → (desk_of me3.0 ≡ desk_of me2.0) × (answered_of me3.0 ≡ answered_of me2.0) × (begun_of me3.0 ≡ begun_of me2.0) → ticks_of me3.0 ≡ ticks_of me2.0 + m → HasAgreed ys (doing_of me3.0)
+    → (me4 ≡ (first_step (ended t4) me3.0, me3.1)) × Above t4 me3 × ReadAll me3 → ScanDone desk.desk (answered_of desk.seat.me.0) desk.kept.ticks t1 t4 m (middle_in (doing_of me3.0)) ys me4
+done desk t1 t4 m xs ys me1 me2 me3 me4 first second one same ticks agreed last = scan_done desk.seat.me me1 me2 me3 me4 desk.desk (answered_of desk.seat.me.0) desk.kept.ticks t1 t4 m xs ys desk.alone first second one same ticks agreed last
 
 pub fetch_add-ended-requires : goal.fetch_add-ended-requires
 fetch_add-ended-requires c =
     let desk = c.args.desk.now in let self = c.args.self.now in
     let key = self.table.shared.key.desks in
-    let rs = records_of desk.seat.me.0 in
+    let rs = answered_of desk.seat.me.0 in
     let keyed = self.keyed in let few = self.few.1 in
     let t1 = c.fetch_add-begun.result in
     let xs = pairs c.load_words.new.words.items in
@@ -178,8 +173,8 @@ fetch_add-ended-requires c =
       ends_scan_as key self.table.shared.table_id.slots c.try_until.new.seat.id c.try_until.new.seat.me desk.desk rs (desk.kept.ticks + 1 + m) (omega arith) s.0 (ap (λ m. m.0) a.0) (ap length s.3 ∙ read.0 ∙ sym keyed) (s.2 ∙ sym s.3) (omega (arith, e.made.2, c.if-from.false, c.from.ensures, c.from-2.ensures, c.from-3.ensures)),
     )
 
-pub list_words-requires : goal.list_words-requires
-list_words-requires c =
+pub view_of-requires : goal.view_of-requires
+view_of-requires c =
     let e = c.in-Some.ensures in
     let l = e.read.0 in let m = length-map c.try_until.new.since.items entry_of in
     record {
@@ -190,7 +185,7 @@ list_words-requires c =
 pub invariant_of-desk-2 : goal.invariant_of-desk-2
 invariant_of-desk-2 c =
     let desk = c.args.desk.now in
-    let rs = records_of desk.seat.me.0 in
+    let rs = answered_of desk.seat.me.0 in
     let t1 = c.fetch_add-begun.result in let t4 = c.fetch_add-ended.result in
     let m = c.in-Some.made in
     let xs = pairs c.load_words.new.words.items in
@@ -199,7 +194,7 @@ invariant_of-desk-2 c =
     let mid = middle_in (doing_of c.try_until.new.seat.me.0) in
     let s = done desk t1 t4 m xs ys _ _ _ _ c.fetch_add-begun.ensures.2 c.load_words.ensures.read e.seat.1 e.account (omega (arith, e.ticks, e.made.0)) e.ends c.fetch_add-ended.ensures.2 in
     let r = rec t1 t4 (Scanned mid ys) in
-    let a = alone_of c.fetch_add-ended.new.seat.me desk.desk (rs ++ r ∷ []) (desk.kept.ticks + m + 2) (desk.kept.ticks + m + 2) s.me refl in
+    let a = alone_of c.fetch_add-ended.new.seat.me desk.desk (rs ++ r ∷ []) (desk.kept.ticks + m + 2) (desk.kept.ticks + (m + 2)) s.me (omega arith) in
     record {
       alone = a.0;
       stored = ap (λ l. latest (0, 0) l) a.1 ∙ latest-push (0, 0) rs r ∙ desk.stored;
@@ -209,7 +204,7 @@ invariant_of-desk-2 c =
 pub returns-clause-recorded : goal.returns-clause-recorded
 returns-clause-recorded c =
     let desk = c.args.desk.now in
-    let rs = records_of desk.seat.me.0 in
+    let rs = answered_of desk.seat.me.0 in
     let t1 = c.fetch_add-begun.result in let t4 = c.fetch_add-ended.result in
     let m = c.in-Some.made in
     let xs = pairs c.load_words.new.words.items in
@@ -218,14 +213,14 @@ returns-clause-recorded c =
     let mid = middle_in (doing_of c.try_until.new.seat.me.0) in
     let s = done desk t1 t4 m xs ys _ _ _ _ c.fetch_add-begun.ensures.2 c.load_words.ensures.read e.seat.1 e.account (omega (arith, e.ticks, e.made.0)) e.ends c.fetch_add-ended.ensures.2 in
     let r = rec t1 t4 (Scanned mid ys) in
-    let is = ap (λ (z : Seated). records_of z.0) s.me in
+    let is = ap (λ (z : Seated). answered_of z.0) s.me in
     ap (records_at desk.desk) is ∙ records-push desk.desk rs r
-    ∙ (λ i. records desk ++ record { process = sym c.from-7.ensures i; begun = t1; ended = t4; op = Kind.Viewed (sym (c.in-Ok-from_entries.ensures.ok ∙ c.list_words.ensures.listed) i) } ∷ [])
+    ∙ (λ i. records desk ++ record { process = sym c.from-7.ensures i; begun = t1; ended = t4; op = Kind.Viewed (sym c.view_of.ensures i) } ∷ [])
 
 pub returns-clause-collects : goal.returns-clause-collects
 returns-clause-collects c =
     let desk = c.args.desk.now in
-    let rs = records_of desk.seat.me.0 in
+    let rs = answered_of desk.seat.me.0 in
     let t1 = c.fetch_add-begun.result in let t4 = c.fetch_add-ended.result in
     let m = c.in-Some.made in
     let xs = pairs c.load_words.new.words.items in
@@ -234,12 +229,12 @@ returns-clause-collects c =
     let mid = middle_in (doing_of c.try_until.new.seat.me.0) in
     let s = done desk t1 t4 m xs ys _ _ _ _ c.fetch_add-begun.ensures.2 c.load_words.ensures.read e.seat.1 e.account (omega (arith, e.ticks, e.made.0)) e.ends c.fetch_add-ended.ensures.2 in
     let r = rec t1 t4 (Scanned mid ys) in
-    let is = ap (λ (z : Seated). collects_in (records_of z.0)) s.me in let n = collects-push rs r in omega arith
+    let is = ap (λ (z : Seated). collects_in (answered_of z.0)) s.me in let n = collects-push rs r in omega arith
 
 pub returns-clause-lost : goal.returns-clause-lost
 returns-clause-lost c =
     let desk = c.args.desk.now in
-    let rs = records_of desk.seat.me.0 in
+    let rs = answered_of desk.seat.me.0 in
     let t1 = c.fetch_add-begun.result in let t4 = c.fetch_add-ended.result in
     let m = c.in-Some.made in
     let xs = pairs c.load_words.new.words.items in
@@ -248,12 +243,12 @@ returns-clause-lost c =
     let mid = middle_in (doing_of c.try_until.new.seat.me.0) in
     let s = done desk t1 t4 m xs ys _ _ _ _ c.fetch_add-begun.ensures.2 c.load_words.ensures.read e.seat.1 e.account (omega (arith, e.ticks, e.made.0)) e.ends c.fetch_add-ended.ensures.2 in
     let r = rec t1 t4 (Scanned mid ys) in
-    ap (λ (z : Seated). lost_in (records_of z.0)) s.me ∙ lost-push rs r ∙ append-nil (lost_in rs)
+    ap (λ (z : Seated). lost_in (answered_of z.0)) s.me ∙ lost-push rs r ∙ append-nil (lost_in rs)
 
 pub returns-clause-stamps : goal.returns-clause-stamps
 returns-clause-stamps c =
     let desk = c.args.desk.now in
-    let rs = records_of desk.seat.me.0 in
+    let rs = answered_of desk.seat.me.0 in
     let t1 = c.fetch_add-begun.result in let t4 = c.fetch_add-ended.result in
     let m = c.in-Some.made in
     let xs = pairs c.load_words.new.words.items in
@@ -266,7 +261,7 @@ returns-clause-stamps c =
 pub returns-clause-later : goal.returns-clause-later
 returns-clause-later c =
     let desk = c.args.desk.now in
-    let rs = records_of desk.seat.me.0 in
+    let rs = answered_of desk.seat.me.0 in
     let t1 = c.fetch_add-begun.result in let t4 = c.fetch_add-ended.result in
     let m = c.in-Some.made in
     let xs = pairs c.load_words.new.words.items in
@@ -279,7 +274,7 @@ returns-clause-later c =
 pub returns-clause-own : goal.returns-clause-own
 returns-clause-own c =
     let desk = c.args.desk.now in
-    let rs = records_of desk.seat.me.0 in
+    let rs = answered_of desk.seat.me.0 in
     let t1 = c.fetch_add-begun.result in let t4 = c.fetch_add-ended.result in
     let m = c.in-Some.made in
     let xs = pairs c.load_words.new.words.items in
@@ -290,12 +285,12 @@ returns-clause-own c =
     let r = get_ready desk.seat.me _ c.load_words.new.seat.me desk.desk rs desk.kept.ticks t1 xs desk.alone c.fetch_add-begun.ensures.2.0 c.load_words.ensures.read in
     let read = read_of c.args.self.now.desks desk t1 xs ys c.load_words.new.seat.me r e.read in
     let size = read.0 in let low = c.requires.desk.1 in
-    ap (entries.entry_of desk.desk) (c.in-Ok-from_entries.ensures.ok ∙ c.list_words.ensures.listed) ∙ own_entry desk.desk rs ys read.1 (omega arith)
+    ap (entries.entry_of desk.desk) c.view_of.ensures ∙ own_entry desk.desk rs ys read.1 (omega arith)
 
 pub returns-clause-no_older : goal.returns-clause-no_older
 returns-clause-no_older c =
     let desk = c.args.desk.now in
-    let rs = records_of desk.seat.me.0 in
+    let rs = answered_of desk.seat.me.0 in
     let t1 = c.fetch_add-begun.result in let t4 = c.fetch_add-ended.result in
     let m = c.in-Some.made in
     let xs = pairs c.load_words.new.words.items in
@@ -306,4 +301,4 @@ returns-clause-no_older c =
     let r = get_ready desk.seat.me _ c.load_words.new.seat.me desk.desk rs desk.kept.ticks t1 xs desk.alone c.fetch_add-begun.ensures.2.0 c.load_words.ensures.read in
     let read = read_of c.args.self.now.desks desk t1 xs ys c.load_words.new.seat.me r e.read in
     let older = no_older desk.desk rs ys read.1 s.whole in
-    λ q mq k. subst (λ (es : List Entry). number_shown q k ≤ number_in (entries.entry_of k es)) (sym (c.in-Ok-from_entries.ensures.ok ∙ c.list_words.ensures.listed)) (older q mq k)
+    λ q mq k. subst (λ (es : List Entry). number_shown q k ≤ number_in (entries.entry_of k es)) (sym c.view_of.ensures) (older q mq k)

@@ -1,6 +1,6 @@
 use Rattle.std.proofs.Common.{ℕ, ◌+◌, List, vec_capacity, sym, ap, ◌∙◌, subst, arith}
 use Rattle.snap_record.specs.declared.account.Answered.{Answered}
-use Rattle.snap_record.specs.Hands.{pairs, desk_of, records_of, doing_of}
+use Rattle.snap_record.specs.Hands.{pairs, desk_of, answered_of, doing_of}
 use Rattle.snap_record.specs.Tries.{IsRead, IsTrying}
 use Rattle.snap_record.proofs.board.Board.try_until.Goals as goal
 
@@ -27,9 +27,9 @@ tries-preserved c =
       begun = e.account.2 ∙ i.begun;
       ticks = omega (arith, e.ticks.0, i.ticks);
       made = e.ticks.1 ∙ ap (λ z. z + 1) i.made;
-      trying = subst (λ (l : List ℕ). IsTrying n (desk_of c.args.seat.now.me.0) (records_of c.args.seat.now.me.0) (pairs l) (doing_of c.try_once.new.seat.me.0)) (sym items)
+      trying = subst (λ (l : List ℕ). IsTrying n (desk_of c.args.seat.now.me.0) (answered_of c.args.seat.now.me.0) (pairs l) (doing_of c.try_once.new.seat.me.0)) (sym items)
           (subst (λ (z : ℕ × List Answered). IsTrying n z.0 z.1 (pairs c.try_once.new.since.items) (doing_of c.try_once.new.seat.me.0)) (λ k. (i.desk k, i.answered k)) (e.trying c.if-try_once.false));
-      read = subst (λ (l : List ℕ). IsRead n (desk_of c.args.seat.now.me.0) (records_of c.args.seat.now.me.0) (pairs l)) (sym items)
+      read = subst (λ (l : List ℕ). IsRead n (desk_of c.args.seat.now.me.0) (answered_of c.args.seat.now.me.0) (pairs l)) (sym items)
           (subst (λ (z : ℕ × List Answered). IsRead n z.0 z.1 (pairs c.try_once.new.since.items)) (λ k. (i.desk k, i.answered k)) e.read);
       room = (omega (arith, e.room, ap (λ (v : _). vec_capacity v) c.swap.ensures.x_after), omega (arith, i.room.0, ap (λ (v : _). vec_capacity v) c.swap.ensures.y_after));
     }
