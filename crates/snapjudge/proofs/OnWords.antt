@@ -37,7 +37,7 @@ unfolding clap_on_literals
 record_is_taken name = refl
 
 -- the matches of `record` alone: its options have their defaults
-pub record_alone : (name : List ℕ) → (rows : List Row) × (subcommand_of program_app (name ∷ codes "record" ∷ []) ≡ Some (codes "record", rows)) × AsksRecord rows 16 false
+pub record_alone : (name : List ℕ) → (rows : List Row) × (subcommand_of program_app (name ∷ codes "record" ∷ []) ≡ Some (codes "record", rows)) × AsksRecord rows 16 false false
 unfolding clap_on_literals
 record_alone name = (
   rows_in (subcommand_of program_app (name ∷ codes "record" ∷ [])),
@@ -48,6 +48,7 @@ record_alone name = (
     workers_are = ap Some (sym two_text);
     rounds_are = ap Some (sym sixteen_text);
     judge_is = refl;
+    scan_is = refl;
   },
 )
 
@@ -56,7 +57,7 @@ unfolding clap_on_literals
 judged_is_taken name = refl
 
 -- the matches of `record --rounds 5 --judge`
-pub record_judged : (name : List ℕ) → (rows : List Row) × (subcommand_of program_app (name ∷ codes "record" ∷ codes "--rounds" ∷ codes "5" ∷ codes "--judge" ∷ []) ≡ Some (codes "record", rows)) × AsksRecord rows 5 true
+pub record_judged : (name : List ℕ) → (rows : List Row) × (subcommand_of program_app (name ∷ codes "record" ∷ codes "--rounds" ∷ codes "5" ∷ codes "--judge" ∷ []) ≡ Some (codes "record", rows)) × AsksRecord rows 5 true false
 unfolding clap_on_literals
 record_judged name = (
   rows_in (subcommand_of program_app (name ∷ codes "record" ∷ codes "--rounds" ∷ codes "5" ∷ codes "--judge" ∷ [])),
@@ -67,5 +68,26 @@ record_judged name = (
     workers_are = ap Some (sym two_text);
     rounds_are = ap Some (sym five_text);
     judge_is = refl;
+    scan_is = refl;
+  },
+)
+
+pub scanned_is_taken : (name : List ℕ) → takes program_app (name ∷ codes "record" ∷ codes "--scan" ∷ []) ≡ true
+unfolding clap_on_literals
+scanned_is_taken name = refl
+
+-- the matches of `record --scan`
+pub record_scanned : (name : List ℕ) → (rows : List Row) × (subcommand_of program_app (name ∷ codes "record" ∷ codes "--scan" ∷ []) ≡ Some (codes "record", rows)) × AsksRecord rows 16 false true
+unfolding clap_on_literals
+record_scanned name = (
+  rows_in (subcommand_of program_app (name ∷ codes "record" ∷ codes "--scan" ∷ [])),
+  refl,
+  record {
+    some_rounds = omega arith;
+    rounds_fit = omega arith;
+    workers_are = ap Some (sym two_text);
+    rounds_are = ap Some (sym sixteen_text);
+    judge_is = refl;
+    scan_is = refl;
   },
 )

@@ -1,6 +1,9 @@
 -- What a recording writes and answers.
 use Rattle.std.proofs.Common.{◌≡◌, ◌⊎◌, ◌∙◌, ℕ, Bool, true, false, List, Option, Result, Ok, Err, ap, inl, inr}
+use Rattle.std.specs.Prelude.{IfOk}
 use Rattle.snap_core.specs.declared.event.Event.{Event}
+use Rattle.snap_core.specs.Calls.{calls_of}
+use Rattle.snap_core.specs.Orders.{IsAtomic}
 use Rattle.snap_csv.specs.Spelling.{history_text}
 use Rattle.snap_csv.proofs.LengthFacts.{text_short}
 use Rattle.snap_csv.proofs.TextFacts.{text_reads}
@@ -41,3 +44,11 @@ text_written scripts events recording old new answer h =
 pub report_written : (scripts : List (List Step)) (events : List Event) → IsRecordingOf scripts events → (old new : Option (List ℕ)) (answer : Result Status RunFault) →
     WroteAs (IsVerdict events) old new answer → WroteAs (IsRecorded true scripts) old new answer
 report_written scripts events recording old new answer h = wrote_also (IsVerdict events) (IsRecorded true scripts) (report_of scripts events recording) old new answer h
+
+-- the verdict on an atomic history
+pub atomic_status : (events : List Event) (status : Status) (out : List ℕ) → IsAtomic (calls_of events) → IsVerdict events status out → status ≡ Atomic
+atomic_status events status out atomic v = v.answers ∙ ap (status_of v.regular) (v.atomic_exactly.1 atomic)
+
+pub judged_atomic : (events : List Event) → IsAtomic (calls_of events) → (old new : Option (List ℕ)) (answer : Result Status RunFault) → WroteAs (IsVerdict events) old new answer → IfOk answer (λ status. status ≡ Atomic)
+judged_atomic events atomic old new (Ok status) h = atomic_status events status h.0 atomic h.1
+judged_atomic events atomic old new (Err fault) h = tt

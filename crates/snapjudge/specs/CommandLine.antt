@@ -28,13 +28,17 @@ rounds_rule = record (new_rule (codes "rounds")) { long = Some (codes "rounds");
 abbrev pub judge_rule : Rule
 judge_rule = record (new_rule (codes "judge")) { long = Some (codes "judge"); action = Some SetTrue }
 
+-- --scan
+abbrev pub scan_rule : Rule
+scan_rule = record (new_rule (codes "scan")) { long = Some (codes "scan"); action = Some SetTrue }
+
 -- record [--workers W] [--rounds R] ..
 abbrev pub rounds_app : App
 rounds_app = with_rule (with_rule (new_app (codes "record")) two_workers_rule) rounds_rule
 
--- .. [--judge]
+-- .. [--judge] [--scan]
 abbrev pub record_app : App
-record_app = with_rule rounds_app judge_rule
+record_app = with_rule (with_rule rounds_app judge_rule) scan_rule
 
 abbrev pub needs_subcommand : App → App
 needs_subcommand app = record app { top = record app.top { subcommand_required = true } }

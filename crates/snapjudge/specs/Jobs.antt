@@ -8,17 +8,17 @@ use Rattle.snapjudge.specs.declared.job.Job.TheVariants.{Check, Record}
 -- the numbers of a job are in their ranges
 abbrev pub IsInRange : Job → Type 0
 IsInRange (Check cutting) = IsPieces cutting.pieces × IsWorkers cutting.workers
-IsInRange (Record workers rounds judge) = (workers ≡ 2) × (0 < rounds) × (rounds ≤ 2048)
+IsInRange (Record workers rounds judge scan) = (workers ≡ 2) × (0 < rounds) × (rounds ≤ 2048)
 
 -- a check with so many pieces and workers
 abbrev pub IsCheck : ℕ → ℕ → Job → Type 0
 IsCheck pieces workers (Check cutting) = (cutting.pieces ≡ pieces) × (cutting.workers ≡ workers)
-IsCheck pieces workers (Record w rounds judge) = ⊥
+IsCheck pieces workers (Record w rounds judge scan) = ⊥
 
--- a recording of so many workers and rounds, judged or not
-abbrev pub IsRecord : ℕ → ℕ → Bool → Job → Type 0
-IsRecord workers rounds judge (Check cutting) = ⊥
-IsRecord workers rounds judge (Record w r j) = (w ≡ workers) × (r ≡ rounds) × (j ≡ judge)
+-- a recording of so many workers and rounds, judged or not, of views or of scans
+abbrev pub IsRecord : ℕ → ℕ → Bool → Bool → Job → Type 0
+IsRecord workers rounds judge scan (Check cutting) = ⊥
+IsRecord workers rounds judge scan (Record w r j s) = (w ≡ workers) × (r ≡ rounds) × (j ≡ judge) × (s ≡ scan)
 
 -- the text of a flag that was given or not
 abbrev pub flag_text : Bool → List ℕ
@@ -32,10 +32,11 @@ pub record AsksCheck (rows : List Row) (pieces : ℕ) (workers : ℕ) : Type 0 w
   pub pieces_are : one_of (codes "pieces") rows ≡ Some (decimal pieces)
   pub workers_are : one_of (codes "workers") rows ≡ Some (decimal workers)
 
--- the options of `record` have two workers and this number of rounds, which is in its range, and judge is given or not
-pub record AsksRecord (rows : List Row) (rounds : ℕ) (judge : Bool) : Type 0 where
+-- the options of `record` have two workers and this number of rounds, which is in its range, and each flag is given or not
+pub record AsksRecord (rows : List Row) (rounds : ℕ) (judge scan : Bool) : Type 0 where
   pub some_rounds : 0 < rounds
   pub rounds_fit : rounds ≤ 2048
   pub workers_are : one_of (codes "workers") rows ≡ Some (decimal 2)
   pub rounds_are : one_of (codes "rounds") rows ≡ Some (decimal rounds)
   pub judge_is : one_of (codes "judge") rows ≡ Some (flag_text judge)
+  pub scan_is : one_of (codes "scan") rows ≡ Some (flag_text scan)

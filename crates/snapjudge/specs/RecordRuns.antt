@@ -6,20 +6,22 @@ use Rattle.snap_core.specs.Calls.{calls_of}
 use Rattle.snap_core.specs.Counting.{Rose}
 use Rattle.snap_core.specs.Events.{IsKept}
 use Rattle.snap_core.specs.Monotone.{IsMonotone}
+use Rattle.snap_core.specs.Orders.{IsAtomic}
 use Rattle.snap_core.specs.Regular.{IsRegular}
 use Rattle.snap_core.specs.Sending.{SendsFront}
 use Rattle.snap_csv.specs.Spelling.{history_text}
 use Rattle.snap_record.specs.declared.plan.Step.{Step}
 use Rattle.snap_record.specs.History.{AllCompleted}
-use Rattle.snap_record.specs.Plans.{HasScripts}
+use Rattle.snap_record.specs.Plans.{HasScripts, HasWholeScripts, HasNoScans, HasNoViews}
 use Rattle.snapjudge.specs.declared.fault.RunFault.{RunFault}
 use Rattle.snapjudge.specs.declared.fault.RunFault.TheVariants as faults
 use Rattle.snap_verdict.specs.declared.status.Status.{Status}
 use Rattle.snap_verdict.specs.declared.status.Status.TheVariants.{Atomic, Recorded, Regular}
 use Rattle.snap_verdict.specs.Reports.{IsReport}
 
--- a history that a board's run of these scripts has: regular and monotone, without a pending call, and with the calls of each worker's script but for
--- scans that were interfered with, as the process of its number, in their order, each once, and no other
+-- a history that a board's run of these scripts has: regular and monotone, atomic where no script has a collect, without a pending call, and
+-- with the calls of each worker's script but for scans that were interfered with, as the process of its number, in their order, each once,
+-- and no other
 pub record IsRecordingOf (scripts : List (List Step)) (events : List Event) : Type 0 where
   pub kept : IsKept events
   pub regular : IsRegular (calls_of events)
@@ -27,6 +29,8 @@ pub record IsRecordingOf (scripts : List (List Step)) (events : List Event) : Ty
   pub completed : AllCompleted (calls_of events)
   pub interfered : ℕ
   pub calls : HasScripts scripts events interfered
+  pub whole : HasNoScans scripts → HasWholeScripts scripts events
+  pub atomic : HasNoViews scripts → IsAtomic (calls_of events)
 
 -- the text of such a history
 pub record IsRecordingText (scripts : List (List Step)) (status : Status) (out : List ℕ) : Type 0 where

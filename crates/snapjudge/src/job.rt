@@ -16,11 +16,13 @@ pub enum Job {
     Check {
         cutting: Cutting,
     },
-    /// Record so many workers in so many rounds, and judge the history where that is asked for.
+    /// Record so many workers in so many rounds of a store and a view, or a scan in place of the view, and judge the
+    /// history where that is asked for.
     Record {
         workers: u32,
         rounds: u32,
         judge: bool,
+        scan: bool,
     },
 }
 
@@ -73,11 +75,12 @@ fn flag_in(matches: &ArgMatches<'_>, id: &str) -> bool
 // The recording that the options of `record` ask for.
 fn record_in(matches: &ArgMatches<'_>) -> Option<Job>
     ensures job { IfSome result IsInRange }
-    ensures asked { (rounds : ℕ) (judge : Bool) → AsksRecord (rows_of (found_of matches.now)) rounds judge → IsSomeAnd result (IsRecord 2 rounds judge) }
+    ensures asked { (rounds : ℕ) (judge scan : Bool) → AsksRecord (rows_of (found_of matches.now)) rounds judge scan → IsSomeAnd result (IsRecord 2 rounds judge scan) }
 {
     let workers = number_in(matches, "workers")?;
     let rounds = number_in(matches, "rounds")?;
     let judge = flag_in(matches, "judge");
+    let scan = flag_in(matches, "scan");
     if workers != 2 || rounds == 0 || rounds > 2048 {
         return None;
     }
@@ -85,6 +88,7 @@ fn record_in(matches: &ArgMatches<'_>) -> Option<Job>
         workers,
         rounds,
         judge,
+        scan,
     })
 }
 
@@ -93,8 +97,8 @@ fn job_in(matches: &ArgMatches<'_>) -> Option<Job>
     ensures job { IfSome result IsInRange }
     ensures check { (rows : List Row) (pieces workers : ℕ) → subcommand_rows_of matches.now ≡ Some (codes "check", rows)
         → AsksCheck rows pieces workers → IsSomeAnd result (IsCheck pieces workers) }
-    ensures recording { (rows : List Row) (rounds : ℕ) (judge : Bool) → subcommand_rows_of matches.now ≡ Some (codes "record", rows)
-        → AsksRecord rows rounds judge → IsSomeAnd result (IsRecord 2 rounds judge) }
+    ensures recording { (rows : List Row) (rounds : ℕ) (judge scan : Bool) → subcommand_rows_of matches.now ≡ Some (codes "record", rows)
+        → AsksRecord rows rounds judge scan → IsSomeAnd result (IsRecord 2 rounds judge scan) }
 {
     let (name, inner) = matches.subcommand()?;
     if name == "check" {
@@ -122,10 +126,12 @@ pub fn job_of(alloc: Global, words: Vec<String>) -> Result<Job, JobFault>
     ensures check_alone { (name : List ℕ) → map string_bytes words.items ≡ name ∷ codes "check" ∷ []
         → MatchResult result (IsCheck 8 2) (λ fault. fault ≡ JobFault.Memory) }
     ensures record_alone { (name : List ℕ) → map string_bytes words.items ≡ name ∷ codes "record" ∷ []
-        → MatchResult result (IsRecord 2 16 false) (λ fault. fault ≡ JobFault.Memory) }
+        → MatchResult result (IsRecord 2 16 false false) (λ fault. fault ≡ JobFault.Memory) }
     ensures record_judged { (name : List ℕ)
         → map string_bytes words.items ≡ name ∷ codes "record" ∷ codes "--rounds" ∷ codes "5" ∷ codes "--judge" ∷ []
-        → MatchResult result (IsRecord 2 5 true) (λ fault. fault ≡ JobFault.Memory) }
+        → MatchResult result (IsRecord 2 5 true false) (λ fault. fault ≡ JobFault.Memory) }
+    ensures record_scanned { (name : List ℕ) → map string_bytes words.items ≡ name ∷ codes "record" ∷ codes "--scan" ∷ []
+        → MatchResult result (IsRecord 2 16 false true) (λ fault. fault ≡ JobFault.Memory) }
 {
     let command = program(alloc)?;
     match command.try_get_matches_from(words.as_slice()) {

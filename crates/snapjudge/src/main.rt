@@ -51,8 +51,9 @@ fn main(rt: HostRuntime) -> ExitCode {
                 workers,
                 rounds,
                 judge,
+                scan,
             },
-        ) => record_rounds(&rt, rt.alloc(), workers, rounds, judge, &mut writer),
+        ) => record_rounds(&rt, rt.alloc(), workers, rounds, judge, scan, &mut writer),
         Err(JobFault::Usage(text)) => {
             let _ = eprint!(rt; "{text}");
             return ExitCode::from(5);

@@ -2,7 +2,7 @@
 ghost use Rattle.std.specs.Prelude.{◌≡◌, IfOk, false};
 ghost use Rattle.clap.specs.Words.{app_of, rule_of};
 ghost use Rattle.clap.specs.declared.builder.command.Command.TheViews.{out-Command as fields_of};
-ghost use Rattle.snapjudge.specs.CommandLine.{judge_rule, record_app, rounds_app, rounds_rule, two_workers_rule};
+ghost use Rattle.snapjudge.specs.CommandLine.{judge_rule, record_app, rounds_app, rounds_rule, scan_rule, two_workers_rule};
 
 use clap::{Arg, ArgAction, Command};
 use std::alloc::{AllocError, Global};
@@ -26,6 +26,11 @@ went. `snapjudge record --rounds 1` prints, in one of its runs:
     end,1,update,
     begin,1,view,
     end,1,view,0:1:1 1:1:65537
+
+With --scan a worker scans in place of taking a view: it reads all words again and again, and
+draws a stamp between two readings, until two readings in a row are equal; this equal reading
+is its view. The history is then always atomic. A scan that has found none after 64 stamps is
+left out.
 
 With --judge it prints the history's report in place of the history: see
 `snapjudge check --help`.
@@ -70,6 +75,16 @@ fn judge_argument<'a>(alloc: Global) -> Arg<'a>
         .action(ArgAction::SetTrue)
 }
 
+fn scan_argument<'a>(alloc: Global) -> Arg<'a>
+    ensures rule { rule_of result ≡ scan_rule }
+    ensures own { result.global ≡ false }
+{
+    Arg::new(alloc, "scan")
+        .long("scan")
+        .help("Scan in place of each view")
+        .action(ArgAction::SetTrue)
+}
+
 // `record` with its help and its two numbers.
 fn rounds_command<'a>(alloc: Global) -> Result<Command<'a>, AllocError>
     ensures { IfOk result (λ command. (app_of command ≡ rounds_app) × ((fields_of command).has_globals ≡ false)) }
@@ -85,5 +100,7 @@ fn rounds_command<'a>(alloc: Global) -> Result<Command<'a>, AllocError>
 pub fn record_command<'a>(alloc: Global) -> Result<Command<'a>, AllocError>
     ensures { IfOk result (λ command. (app_of command ≡ record_app) × ((fields_of command).has_globals ≡ false)) }
 {
-    rounds_command(alloc)?.arg(judge_argument(alloc))
+    rounds_command(alloc)?
+        .arg(judge_argument(alloc))?
+        .arg(scan_argument(alloc))
 }

@@ -1,10 +1,10 @@
-ghost use Rattle.std.specs.Prelude.{◌≡◌, ◌<◌, ◌≤◌, IfOk, false};
+ghost use Rattle.std.specs.Prelude.{◌≡◌, ◌<◌, ◌≤◌, IfOk, true};
 ghost use Rattle.snap_core.specs.Counting.{failures_in, inner_of};
 ghost use Rattle.snap_csv.specs.Spelling.{history_text};
-ghost use Rattle.snap_record.specs.Plans.{rounds_scripts};
+ghost use Rattle.snap_record.specs.Plans.{HasNoViews, rounds_scripts};
 ghost use Rattle.snapjudge.specs.RecordRuns.{IsRecorded, IsRecordingOf, WriteCounts, WroteAs};
 ghost use Rattle.snap_verdict.specs.Verdicts.{IsVerdict};
-ghost use Rattle.snap_verdict.specs.declared.status.Status.TheVariants.{Recorded};
+ghost use Rattle.snap_verdict.specs.declared.status.Status.TheVariants.{Atomic, Recorded};
 
 use crate::check::verdict;
 use crate::fault::RunFault;
@@ -74,8 +74,9 @@ fn write_report<Rt: Threads + Wait + Sync, W: Write>(
 /// judged, it writes the history's report in place of the text, and the status is that report's, `Atomic` or `Regular`. The
 /// workers call the gate; the judge has the cutting, and no gate.
 ///
-/// The history is regular and monotone, has no pending call, and has for each worker, as the process of its number, the calls of its
-/// script in their order, each once, and no other. It is one run's: another run may give another.
+/// The history is regular and monotone, has no pending call, and has for each worker, as the process of its number, the calls of
+/// its script in their order, each once, and no other; but scans that were interfered with are left out. It is one run's:
+/// another run may give another. Where no script has a collect it is atomic, and so is the verdict.
 ///
 /// Nothing is written until the whole text or report is built: after `Memory` nothing went out and the writer's count of
 /// failures is unchanged, after `Write` a front of it, perhaps all of it, and that count rose, or stood at its last value.
@@ -91,6 +92,7 @@ pub fn record_run<Rt: Threads + Wait + Sync, W: Write, G: Gate>(
 ) -> Result<Status, RunFault>
     ensures wrote { WroteAs (IsRecorded judge plan.now) (W.contents (inner_of writer.old)) (W.contents (inner_of writer.new)) result }
     ensures counts { WriteCounts (failures_in writer.old) (failures_in writer.new) result }
+    ensures atomic { judge ≡ true → HasNoViews plan.now → IfOk result (λ status. status ≡ Atomic) }
 {
     let history = recorded(rt, alloc, plan, gate)?;
     if judge {
@@ -100,24 +102,25 @@ pub fn record_run<Rt: Threads + Wait + Sync, W: Write, G: Gate>(
     }
 }
 
-/// Records two workers in so many rounds of a store and a view each, and judges with 8 pieces and 2 workers where that is
-/// asked for. Otherwise as `record_run`.
+/// Records two workers in so many rounds of a store and a view each, or a scan in place of the view, and judges with 8
+/// pieces and 2 workers where that is asked for. Otherwise as `record_run`.
 pub fn record_rounds<Rt: Threads + Wait + Sync, W: Write>(
     rt: &Rt,
     alloc: Global,
     workers: u32,
     rounds: u32,
     judge: bool,
+    scan: bool,
     writer: &mut Counted<W>,
 ) -> Result<Status, RunFault>
     requires { (workers ≡ 2) × (0 < rounds) × (rounds ≤ 2048) }
-    ensures wrote { WroteAs (IsRecorded judge (rounds_scripts false rounds)) (W.contents (inner_of writer.old)) (W.contents (inner_of writer.new)) result }
+    ensures wrote { WroteAs (IsRecorded judge (rounds_scripts scan rounds)) (W.contents (inner_of writer.old)) (W.contents (inner_of writer.new)) result }
     ensures counts { WriteCounts (failures_in writer.old) (failures_in writer.new) result }
 {
     let Ok(cutting) = Cutting::new(8, 2) else {
         unreachable!()
     };
-    match rounds_plan(alloc, workers, rounds, false) {
+    match rounds_plan(alloc, workers, rounds, scan) {
         Ok(plan) => record_run(rt, alloc, &plan, judge, writer, cutting, &OpenGate),
         Err(PlanRefusal::Memory) => Err(RunFault::Memory),
         Err(_) => unreachable!(),

@@ -37,32 +37,40 @@ fn check_takes_pieces_and_workers(rt: HostRuntime) -> Result<(), Fail> {
     Ok(())
 }
 
-// The rounds of the recording that each line asks for, and whether to judge.
-const RECORDS: &[(&str, u32, bool)] = &[
-    ("snapjudge record", 16, false),
-    ("snapjudge record --rounds 5 --judge", 5, true),
-    ("snapjudge record --workers 2 --rounds=2048", 2048, false),
-    ("snapjudge record --judge --rounds 1", 1, true),
+// The rounds of the recording that each line asks for, and whether to judge and to scan.
+const RECORDS: &[(&str, u32, bool, bool)] = &[
+    ("snapjudge record", 16, false, false),
+    ("snapjudge record --rounds 5 --judge", 5, true, false),
+    (
+        "snapjudge record --workers 2 --rounds=2048",
+        2048,
+        false,
+        false,
+    ),
+    ("snapjudge record --judge --rounds 1", 1, true, false),
+    ("snapjudge record --scan", 16, false, true),
+    ("snapjudge record --scan --rounds 3 --judge", 3, true, true),
 ];
 
-// The workers, the rounds and whether to judge of the recording that a line asks for.
-fn record_of(alloc: Global, line: &str) -> Result<(u32, u32, bool), Fail> {
+// The workers, the rounds and whether to judge and to scan of the recording that a line asks for.
+fn record_of(alloc: Global, line: &str) -> Result<(u32, u32, bool, bool), Fail> {
     match job_of(alloc, words(alloc, line)?) {
         Ok(
             Job::Record {
                 workers,
                 rounds,
                 judge,
+                scan,
             },
-        ) => Ok((workers, rounds, judge)),
+        ) => Ok((workers, rounds, judge, scan)),
         _ => Err(Fail::from(line)),
     }
 }
 
 #[test]
-fn record_takes_workers_rounds_and_judge(rt: HostRuntime) -> Result<(), Fail> {
-    for (line, rounds, judge) in RECORDS {
-        same(record_of(rt.alloc(), line)?, (2, *rounds, *judge))?;
+fn record_takes_workers_rounds_and_flags(rt: HostRuntime) -> Result<(), Fail> {
+    for (line, rounds, judge, scan) in RECORDS {
+        same(record_of(rt.alloc(), line)?, (2, *rounds, *judge, *scan))?;
     }
     Ok(())
 }
@@ -83,6 +91,8 @@ const OTHER_LINES: &[&str] = &[
     "snapjudge record --rounds 2049",
     "snapjudge record --pieces 8",
     "snapjudge record --judge=yes",
+    "snapjudge record --scan=64",
+    "snapjudge check --scan",
     "snapjudge --help",
     "snapjudge check --help",
     "snapjudge record --help",

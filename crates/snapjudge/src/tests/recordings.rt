@@ -54,6 +54,41 @@ fn one_round_of_two_workers_has_nine_lines(rt: HostRuntime) -> Result<(), Fail> 
     )
 }
 
+// Two workers, each of which stores one value and then scans.
+fn one_scanned_round(alloc: Global) -> Result<Plan, Fail> {
+    Ok(rounds_plan(alloc, 2, 1, true)?)
+}
+
+#[test]
+fn one_scanned_round_of_two_workers_has_nine_lines(rt: HostRuntime) -> Result<(), Fail> {
+    let plan = one_scanned_round(rt.alloc())?;
+    let (end, text) = record(&rt, rt.alloc(), &plan, false, cutting(8, 2)?, &OpenGate);
+    same(end, "recorded")?;
+    expect_text(
+        &text,
+        8,
+        &["begin,0,update,0:1:1", "begin,1,update,1:1:65537"],
+    )
+}
+
+// The head of the report on the history of one scanned round.
+const ATOMIC_HEAD: &[u8] =
+    b"events 8 calls 4 pending 0 views 2\nregular yes\natomic yes\norder 4\n";
+
+#[test]
+fn a_judged_recording_of_scans_is_atomic_in_every_run(rt: HostRuntime) -> Result<(), Fail> {
+    let plan = one_scanned_round(rt.alloc())?;
+    let cutting = cutting(8, 2)?;
+    for _ in 0..20 {
+        let (end, report) = record(&rt, rt.alloc(), &plan, true, cutting, &OpenGate);
+        same(end, "atomic")?;
+        if !report.starts_with(ATOMIC_HEAD) {
+            return Err(Fail::from("another report"));
+        }
+    }
+    Ok(())
+}
+
 // Whether this is how the judged recording of one round ends, and the head of its report, where its history is regular.
 fn is_regular_report(end: &str, report: &[u8]) -> bool {
     (end == "atomic" || end == "regular")
