@@ -94,7 +94,7 @@ same_end es a b end i j g h = go (compare_splits (x.before ++ x.opener ∷ x.mid
     go (first mid s t) = absurd (let l = ap length s ∙ length-append (x.before ++ x.opener ∷ x.mid) (x.last ∷ mid) in omega (arith, l, x.at_end, y.at_end))
     go (second mid s t) = absurd (let l = ap length s ∙ length-append (y.before ++ y.opener ∷ y.mid) (y.last ∷ mid) in omega (arith, l, x.at_end, y.at_end))
 
-ends_true : (o : Option ℕ) (place : ℕ) → ends_at o place ≡ true → o ≡ Some place
+pub ends_true : (o : Option ℕ) (place : ℕ) → ends_at o place ≡ true → o ≡ Some place
 ends_true None place h = absurd (false≢true h)
 ends_true (Some end) place h = ap Some (eqb-true _ _ h)
 

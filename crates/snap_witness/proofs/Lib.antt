@@ -3,6 +3,12 @@ pub mod Histories
 pub mod Chosen
 pub mod Shown
 pub mod Witnesses
+pub mod Pairs
 pub mod Regular
+pub mod Integrity
+pub mod Proximity
+pub mod Read
+pub mod Write
+pub mod Sizes
 pub mod Faults
 pub mod Steps

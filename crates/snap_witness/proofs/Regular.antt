@@ -9,16 +9,17 @@ use Rattle.snap_core.specs.declared.event.Event.{Event}
 use Rattle.snap_core.specs.Events.{IsKept}
 use Rattle.snap_core.specs.Calls.{Call, Operation, Updates, Views, calls_of, precedes, is_view, is_answer, shown, shown_number}
 use Rattle.snap_core.specs.Regular.{IsViewOf, IsUpdateOf, IsBegunBeforeEnd, IsRegular}
-use Rattle.snap_core.proofs.Lists.{In, In-from_Contains, Contains-from_In}
+use Rattle.snap_core.proofs.Lists.{In, In-from_Contains}
 use Rattle.snap_core.proofs.Facts.{shows_positive, shown_number_at, shown_in}
 use Rattle.snap_core.proofs.Histories.{are_calls}
 use Rattle.snap_conditions.proofs.Local.{numbered_from}
 use Rattle.snap_witness.specs.Kept.{alone, rank, is_place_of, kept_call, kept_events, kept_from, kept_operation}
 use Rattle.snap_witness.specs.Laws.{KeepsCalls, AreChosen}
-use Rattle.snap_witness.specs.Witness.{numbers_of, witness_calls, witness_of, AreWitnesses, Covers}
+use Rattle.snap_witness.specs.Witness.{numbers_of, witness_calls, witness_of, AreWitnesses}
 use Rattle.snap_witness.proofs.Kept.{rank_order}
 use Rattle.snap_witness.proofs.Chosen.{chosen_begun, chosen_is_choice}
 use Rattle.snap_witness.proofs.Shown.{shown_kept, shown_left, shown_nothing, shape}
+use Rattle.snap_witness.proofs.Pairs.{Covers}
 use Rattle.snap_witness.proofs.Witnesses.{keeps_calls, are_chosen, update_place, chosen_view}
 
 -- a view of the witness was a view
@@ -72,7 +73,7 @@ regular_kept es h rs ps w covers g = record { not_old = not_old; not_early = not
             let q : precedes b.0 a.0 ≡ true = sym (kc.precedence b.0 a.0 c.number r.number b.1 a.1 b.2 a.2) ∙ ap (λ z. precedes z (kept_call keeps (numbers_of ps) r.number a.0)) (sym b.3) ∙ ap (precedes c) (sym a.3) ∙ p in
             let n : d.0.number ≡ numbers_of ps d.0.component = (chosen_is_choice es h.history (witness_calls (calls_of es) rs ps) (numbers_of ps) chosen).one b.0 d.0 bu b.2 in
             let t = (are_calls es h.history).positive b.0 d.0 bu in
-            let m : shown_number a.0 d.0.component ≤ numbers_of ps d.0.component = covers a.0 (d.0.component, numbers_of ps d.0.component) (chosen_view es rs ps a.0 av.completed (chosen_begun es h.history (witness_calls (calls_of es) rs ps) (numbers_of ps) chosen a.0 a.1 a.2)) (Contains-from_In ps _ (listed_pair ps d.0.component (omega (arith, t, n)))) in
+            let m : shown_number a.0 d.0.component ≤ numbers_of ps d.0.component = covers a.0 (d.0.component, numbers_of ps d.0.component) (chosen_view es rs ps a.0 av.completed (chosen_begun es h.history (witness_calls (calls_of es) rs ps) (numbers_of ps) chosen a.0 a.1 a.2)) (listed_pair ps d.0.component (omega (arith, t, n))) in
             elim (cases_eq (shown_number a.0 d.0.component) (numbers_of ps d.0.component)) [
               | inl same ↦ same_number a.0 d.0 same (omega (arith, t, n)) (subst (λ z. shown_number z d.0.component < 1) a.3 (subst (λ (z : Entry). shown_number r z.component < z.number) d.2 l))
               | inr other ↦ false≢true (sym (g.not_old a.0 b.0 d.0 av bu (omega (arith, m, other, n))) ∙ q)

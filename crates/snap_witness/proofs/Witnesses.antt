@@ -1,4 +1,4 @@
--- The witness of a fault has a fault of the same kind.
+-- The calls of the history of some views and some updates.
 use Rattle.std.proofs.Common.{◌≡◌, ◌≢◌, ◌⊎◌, ℕ, ◌<◌, ◌≤◌, Bool, true, false, cond, List, [], ◌∷◌, ◌++◌, length, Option, Some, None, refl, sym, ap, ◌∙◌, subst, inl, inr, arith, length-append}
 use Rattle.std.specs.Prelude.{find}
 use Rattle.std.specs.List.{Contains}
@@ -198,12 +198,12 @@ unfolding in_witness
 shown_there es rs ps n r k e h m = shown_kept (is_place_of (witness_calls (calls_of es) rs ps)) (numbers_of ps) n r k e h m
 
 -- a view that is kept is one of the views
-pub chosen_view : (es : List Event) (rs : List Call) (ps : List (ℕ × ℕ)) (r : Call) → is_view r ≡ true → In r (witness_calls (calls_of es) rs ps) → Contains rs r
+pub chosen_view : (es : List Event) (rs : List Call) (ps : List (ℕ × ℕ)) (r : Call) → is_view r ≡ true → In r (witness_calls (calls_of es) rs ps) → In r rs
 unfolding witness_calls is_view
 chosen_view es rs ps r v i = go (In-append_cases r rs (updates_kept (calls_of es) ps) i)
   where
-    go : In r rs ⊎ In r (updates_kept (calls_of es) ps) → Contains rs r
-    go (inl j) = Contains-from_In rs r j
+    go : In r rs ⊎ In r (updates_kept (calls_of es) ps) → In r rs
+    go (inl j) = j
     go (inr j) =
         let p = paired (calls_of es) ps r j in
         let n = numbered_to (calls_of es) p.pair.0 p.pair.1 r p.there p.is in

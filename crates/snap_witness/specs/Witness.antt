@@ -1,7 +1,7 @@
 -- The history of some views and, of each of some components, one update.
-use Rattle.std.specs.Prelude.{ℕ, ◌≤◌, List, [], ◌∷◌, ◌++◌, ◌==◌, ◌≡◌, Option, Some, None, if◌then◌else◌, Contains}
+use Rattle.std.specs.Prelude.{ℕ, List, [], ◌∷◌, ◌++◌, ◌==◌, ◌≡◌, Option, Some, None, if◌then◌else◌, Contains}
 use Rattle.snap_core.specs.declared.event.Event.{Event}
-use Rattle.snap_core.specs.Calls.{Call, calls_of, shown_number}
+use Rattle.snap_core.specs.Calls.{Call, calls_of}
 use Rattle.snap_core.specs.Regular.{IsViewOf}
 use Rattle.snap_conditions.specs.Places.{update_of}
 use Rattle.snap_witness.specs.Kept.{is_place_of, kept_call, kept_events}
@@ -34,7 +34,3 @@ in_witness events rs ps n c = kept_call (is_place_of (witness_calls (calls_of ev
 pub record AreWitnesses (events : List Event) (rs : List Call) (ps : List (ℕ × ℕ)) : Type 0 where
   pub views : (r : Call) → Contains rs r → IsViewOf (calls_of events) r
   pub apart : (p : ℕ × ℕ) → Contains ps p → numbers_of ps p.0 ≡ p.1
-
--- no view shows more of a component than the number it is paired with
-abbrev pub Covers : List Call → List (ℕ × ℕ) → Type 0
-Covers rs ps = (r : Call) (p : ℕ × ℕ) → Contains rs r → Contains ps p → shown_number r p.0 ≤ p.1
