@@ -1,5 +1,5 @@
 -- Each fault has a witness, and a history is atomic exactly where it has none.
-use Rattle.std.proofs.Common.{◌≡◌, ℕ, ◌+◌, ◌*◌, ◌≤◌, Bool, true, false, List, length, refl, sym, ◌∙◌, arith}
+use Rattle.std.proofs.Common.{◌≡◌, ℕ, Bool, true, false, List, refl, sym, ◌∙◌, arith}
 use Rattle.std.proofs.lemmas.Bool.{false≢true, false_from_ne_true}
 use Rattle.snap_core.specs.declared.event.Event.{Event}
 use Rattle.snap_core.specs.Events.{IsKept, IsHistory}
@@ -11,7 +11,7 @@ use Rattle.snap_core.proofs.Histories.{are_calls}
 use Rattle.snap_conditions.proofs.Local.{PassesAll, PassesLocal, local_tests, regular_meets}
 use Rattle.snap_conditions.proofs.Tallies.{none_from_passes}
 use Rattle.snap_order.proofs.Laws.{atomic_exactly}
-use Rattle.snap_witness.specs.Faults.{Fault, Integrity, Old, Early, Read, Write, IsFaultOf, is_local, fault_views, fault_updates, fault_witness, fault_kept, call_limit, IsWitness, HasWitness, EachFaultHasWitness, AtomicWithoutWitness}
+use Rattle.snap_witness.specs.Faults.{Fault, Integrity, Old, Early, Read, Write, IsFaultOf, is_local, fault_views, fault_updates, fault_witness, fault_kept, HasWitness, EachFaultHasWitness, AtomicWithoutWitness}
 use Rattle.snap_witness.specs.Witness.{in_witness, AreWitnesses}
 use Rattle.snap_witness.proofs.Integrity.{integrity_shows}
 use Rattle.snap_witness.proofs.Pairs.{Shows, few_chosen}

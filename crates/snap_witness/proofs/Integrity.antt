@@ -1,8 +1,8 @@
 -- The view and the update that show an integrity fault.
-use Rattle.std.proofs.Common.{◌≡◌, ℕ, Bool, true, false, ◌&&◌, List, [], ◌∷◌, Option, Some, None, refl, sym, ap, ◌∙◌, inl, arith}
+use Rattle.std.proofs.Common.{◌≡◌, ℕ, true, false, ◌&&◌, List, [], ◌∷◌, Option, Some, None, refl, sym, ap, ◌∙◌, inl, arith}
 use Rattle.std.specs.Prelude.{◌==◌, not}
 use Rattle.std.specs.List.{list_any}
-use Rattle.std.proofs.lemmas.Bool.{eqb-true, eq-eqb, false≢true, false_from_ne_true, and_parts, and_from, not-true, not_from_false}
+use Rattle.std.proofs.lemmas.Bool.{eqb-true, eq-eqb, false≢true, false_from_ne_true, and_parts, and_from, not-true}
 use Rattle.snap_core.specs.declared.entry.Entry.{Entry}
 use Rattle.snap_core.specs.declared.event.Event.{Event}
 use Rattle.snap_core.specs.Events.{IsKept}
@@ -11,7 +11,7 @@ use Rattle.snap_core.specs.Regular.{IsViewOf}
 use Rattle.snap_core.proofs.Lists.{In, any_from, any_to}
 use Rattle.snap_core.proofs.Facts.{shown_in, shown_number_at}
 use Rattle.snap_conditions.specs.Faults.{integrity_fault, is_unwritten, writes_entry}
-use Rattle.snap_witness.specs.Faults.{Fault, Integrity, fault_updates}
+use Rattle.snap_witness.specs.Faults.{Integrity, fault_updates}
 use Rattle.snap_witness.specs.Kept.{alone, kept_operation}
 use Rattle.snap_witness.specs.Witness.{numbers_of, witness_of, in_witness, AreWitnesses}
 use Rattle.snap_witness.proofs.Pairs.{Shows, of_one, one_apart, first_number, witnesses}

@@ -11,4 +11,10 @@ pub mod Read
 pub mod Write
 pub mod Sizes
 pub mod Faults
+pub mod First
 pub mod Steps
+pub mod Places
+pub mod Named
+pub mod Excess
+pub mod Answered
+pub mod Tallied

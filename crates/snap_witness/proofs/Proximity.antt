@@ -1,5 +1,5 @@
 -- The view and the update that show a proximity fault.
-use Rattle.std.proofs.Common.{◌≡◌, ℕ, suc, ◌<◌, true, false, ◌&&◌, List, [], ◌∷◌, refl, sym, ap, ◌∙◌, inl, arith}
+use Rattle.std.proofs.Common.{◌≡◌, ℕ, suc, ◌<◌, true, ◌&&◌, List, [], ◌∷◌, refl, sym, ap, ◌∙◌, inl, arith}
 use Rattle.std.proofs.lemmas.Bool.{and_parts, and_from, false≢true}
 use Rattle.snap_core.specs.declared.event.Event.{Event}
 use Rattle.snap_core.specs.Events.{IsKept}
@@ -9,7 +9,7 @@ use Rattle.snap_core.proofs.Lists.{In-from_Contains, any_from, any_to, Passes}
 use Rattle.snap_core.proofs.Histories.{are_calls}
 use Rattle.snap_conditions.specs.Faults.{old_fault, early_fault}
 use Rattle.snap_conditions.proofs.Local.{numbered_to}
-use Rattle.snap_witness.specs.Faults.{Fault, Old, Early, fault_updates}
+use Rattle.snap_witness.specs.Faults.{Old, Early, fault_updates}
 use Rattle.snap_witness.specs.Witness.{witness_of, in_witness, AreWitnesses}
 use Rattle.snap_witness.proofs.Pairs.{Shows, of_one, one_apart, first_number, witnesses}
 use Rattle.snap_witness.proofs.Witnesses.{shows_one, shows_none, precedence_there, view_place, update_place, ViewKept, view_there, UpdateKept, update_there}

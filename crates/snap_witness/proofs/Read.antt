@@ -1,7 +1,7 @@
 -- The views and updates that show a read fault.
 use Rattle.std.proofs.Common.{◌≡◌, ◌≢◌, ℕ, ◌<◌, ◌≤◌, Bool, true, false, cond, ◌&&◌, ◌||◌, List, [], ◌∷◌, ◌++◌, length, Some, refl, sym, ap, ◌∙◌, subst, inl, inr, arith}
 use Rattle.std.specs.List.{All}
-use Rattle.std.proofs.lemmas.Bool.{and_parts, and_from, or_left, or_right, or_cases, false≢true}
+use Rattle.std.proofs.lemmas.Bool.{and_parts, and_from, or_left, or_right}
 use Rattle.snap_core.specs.declared.event.Event.{Event}
 use Rattle.snap_core.specs.Entries.{HasByteComponent}
 use Rattle.snap_core.specs.Events.{IsKept}
@@ -10,7 +10,7 @@ use Rattle.snap_core.specs.Regular.{IsViewOf}
 use Rattle.snap_core.proofs.Lists.{In, In-from_Contains}
 use Rattle.snap_conditions.specs.Faults.{exceeds, read_fault, least_exceeding}
 use Rattle.snap_conditions.proofs.Reports.{least_exceeded}
-use Rattle.snap_witness.specs.Faults.{Fault, Read, shown_update, excess_of, fault_updates}
+use Rattle.snap_witness.specs.Faults.{Read, shown_update, excess_of, fault_updates}
 use Rattle.snap_witness.specs.Witness.{numbers_of, in_witness, AreWitnesses}
 use Rattle.snap_witness.proofs.Pairs.{Shows, Covers, of_two, one_apart, two_apart, first_number, second_number, witnesses, covers_one, covers_two, more_there}
 use Rattle.snap_witness.proofs.Shown.{shape}

@@ -33,7 +33,7 @@ find_passes {X} f (x ∷ xs) c h = go (f x) refl (find_passes f xs c)
         (inl e, ap f (sym e) ∙ t)
     go false t more = let r = more (sym (ap (λ b. cond b (Some x) (find f xs)) t) ∙ h) in (inr r.0, r.1)
 
-find_there : {X : Type 0} (f : X → Bool) (xs : List X) (c : X) → In c xs → f c ≡ true → (y : X) × (find f xs ≡ Some y)
+pub find_there : {X : Type 0} (f : X → Bool) (xs : List X) (c : X) → In c xs → f c ≡ true → (y : X) × (find f xs ≡ Some y)
 find_there f [] c i t = absurd i
 find_there {X} f (x ∷ xs) c i t = go (f x) refl i (find_there f xs c)
   where

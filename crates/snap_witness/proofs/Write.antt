@@ -1,5 +1,5 @@
 -- The view and the updates that show a write fault.
-use Rattle.std.proofs.Common.{◌≡◌, ◌≢◌, ℕ, suc, ◌<◌, ◌≤◌, true, false, ◌&&◌, List, [], ◌∷◌, refl, sym, ap, ◌∙◌, inl, inr, arith}
+use Rattle.std.proofs.Common.{◌≡◌, ◌≢◌, ℕ, suc, ◌<◌, ◌≤◌, true, ◌&&◌, List, [], ◌∷◌, refl, sym, ap, ◌∙◌, inl, inr, arith}
 use Rattle.std.specs.List.{list_any}
 use Rattle.std.proofs.lemmas.Bool.{and_parts, and_from}
 use Rattle.snap_core.specs.declared.event.Event.{Event}
@@ -11,7 +11,7 @@ use Rattle.snap_core.proofs.Facts.{precedes_to}
 use Rattle.snap_core.proofs.Histories.{are_calls}
 use Rattle.snap_conditions.specs.Faults.{write_fault}
 use Rattle.snap_conditions.proofs.Local.{IsNumbered, numbered_to}
-use Rattle.snap_witness.specs.Faults.{Fault, Write, fault_updates}
+use Rattle.snap_witness.specs.Faults.{Write, fault_updates}
 use Rattle.snap_witness.specs.Witness.{witness_of, in_witness, AreWitnesses}
 use Rattle.snap_witness.proofs.Pairs.{Shows, Covers, of_one, two_apart, first_number, second_number, witnesses, covers_two}
 use Rattle.snap_witness.proofs.Witnesses.{shows_one, shows_none, precedence_there, update_place, ViewKept, view_there, UpdateKept, update_there}

@@ -1,12 +1,11 @@
--- The faults of a history one by one, the first of them, and the witness of each.
+-- The faults of a history one by one, and the witness of each.
 use Rattle.std.specs.Prelude.{ℕ, suc, ◌≤◌, ◌*◌, Bool, true, false, List, [], ◌∷◌, ◌++◌, ◌≡◌, ◌↔◌, Option, Some, None, length, if◌then◌else◌}
-use Rattle.std.specs.Option.{option_map, option_or}
 use Rattle.snap_core.specs.declared.event.Event.{Event}
 use Rattle.snap_core.specs.Events.{IsKept}
-use Rattle.snap_core.specs.Calls.{Call, calls_of, views_of, precedes, shown_number}
+use Rattle.snap_core.specs.Calls.{Call, calls_of, precedes, shown_number}
 use Rattle.snap_core.specs.Orders.{IsAtomic}
 use Rattle.snap_core.specs.Regular.{IsViewOf, IsRegular}
-use Rattle.snap_conditions.specs.Faults.{integrity_fault, old_fault, early_fault, read_fault, write_fault, least_exceeding, first_of, integrity_faults, proximity_faults, read_faults, write_faults}
+use Rattle.snap_conditions.specs.Faults.{integrity_fault, old_fault, early_fault, read_fault, write_fault, least_exceeding}
 use Rattle.snap_witness.specs.Kept.{is_place_of}
 use Rattle.snap_witness.specs.Laws.{KeepsCalls}
 use Rattle.snap_witness.specs.Witness.{numbers_of, witness_calls, witness_of, in_witness}
@@ -34,28 +33,6 @@ is_local (Old r k) = true
 is_local (Early r k) = true
 is_local (Read r s) = false
 is_local (Write r j k) = false
-
--- the faults of lists of faults
-
-abbrev pub integrity_of : Call × ℕ → Fault
-integrity_of f = Integrity f.0 f.1
-
-abbrev pub proximity_of : List Call → Call × ℕ → Fault
-proximity_of calls f = if old_fault calls f.0 f.1 then Old f.0 f.1 else Early f.0 f.1
-
-abbrev pub read_of : Call × Call → Fault
-read_of f = Read f.0 f.1
-
-abbrev pub write_of : Call × ℕ × ℕ → Fault
-write_of f = Write f.0 f.1 f.2
-
--- the first integrity fault, or else proximity fault, or else read fault, or else write fault
-unfoldable pub first_fault : List Call → Option Fault
-first_fault calls =
-    option_or (option_map integrity_of (first_of (integrity_faults calls (views_of calls))))
-    (option_or (option_map (proximity_of calls) (first_of (proximity_faults calls (views_of calls))))
-    (option_or (option_map read_of (first_of (read_faults calls (views_of calls))))
-    (option_map write_of (first_of (write_faults calls (views_of calls))))))
 
 -- the views of a fault
 abbrev pub fault_views : Fault → List Call

@@ -101,10 +101,10 @@ fn append(history: &mut History, event: Event) -> Result<(), AllocError>
     }
 }
 
-/// The history of the events at some places, where that is one. Of each component at most one update is among them, whose
-/// number is paired with it; it becomes update 1, and a view shows what it showed of these updates. The error is want of
-/// memory.
-pub fn keep(
+// The history of the events at some places, where that is one. Of each component at most one update is among them, whose
+// number is paired with it; it becomes update 1, and a view shows what it showed of these updates. The error is want of
+// memory.
+pub(crate) fn keep(
     alloc: Global,
     events: &[Event],
     places: &[u32],

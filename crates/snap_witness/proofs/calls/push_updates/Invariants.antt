@@ -1,0 +1,8 @@
+use Rattle.std.proofs.Common.{◌≡◌, ◌++◌, take}
+use Rattle.snap_core.specs.Calls.{calls_of}
+use Rattle.snap_witness.specs.Places.{places_of}
+use Rattle.snap_witness.specs.Witness.{updates_kept}
+use Rattle.snap_witness.proofs.calls.push_updates.Given as goal
+
+abbrev pub invariant-loop-i : goal.invariant-loop-i
+invariant-loop-i l = l.places.items ≡ l.initial.places.items ++ places_of (updates_kept (calls_of l.index) (take l.i l.updates))

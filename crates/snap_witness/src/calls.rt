@@ -1,0 +1,68 @@
+ghost use Rattle.std.specs.Prelude.{◌≡◌, ◌<◌, ◌++◌, All, IfOk, OnOk, length};
+ghost use Rattle.snap_core.specs.Calls.{calls_of};
+ghost use Rattle.snap_witness.specs.Places.{begin_and_end, places_of, calls_numbered};
+ghost use Rattle.snap_witness.specs.Witness.{updates_kept, witness_of, AreWitnesses};
+
+use crate::keeping::keep;
+use snap_core::History;
+use snap_index::{Call, Index};
+use std::alloc::{AllocError, Global};
+
+// Appends the places of a call's begin and, where there is one, of its end.
+fn push_call(call: &Call, places: &mut Vec<u32>) -> Result<(), AllocError>
+    ensures { OnOk result (places.new.items ≡ places.old.items ++ begin_and_end call.now.begun call.now.ended) }
+{
+    places.push(call.begun)?;
+    if let Some(ended) = call.ended {
+        places.push(ended)?;
+    }
+    Ok(())
+}
+
+// Appends the places of the calls of these numbers.
+fn push_views(index: &Index<'_>, views: &[u32], places: &mut Vec<u32>) -> Result<(), AllocError>
+    requires { All (λ c. c < length (calls_of index.now)) views.now }
+    ensures { OnOk result (places.new.items ≡ places.old.items ++ places_of (calls_numbered (calls_of index.now) views.now)) }
+{
+    for i in 0..views.len() {
+        let Some(call) = index.call(views[i]) else {
+            unreachable!()
+        };
+        push_call(call, places)?;
+    }
+    Ok(())
+}
+
+// Appends the places of the updates of these components and numbers, where there are such.
+fn push_updates(
+    index: &Index<'_>,
+    updates: &[(u8, u32)],
+    places: &mut Vec<u32>,
+) -> Result<(), AllocError>
+    ensures { OnOk result (places.new.items ≡ places.old.items ++ places_of (updates_kept (calls_of index.now) updates.now)) }
+{
+    for i in 0..updates.len() {
+        let (component, number) = updates[i];
+        if let Some(call) = index.update(component, number) {
+            push_call(call, places)?;
+        }
+    }
+    Ok(())
+}
+
+// The history of some completed views, by call number, and of some components one update, by its number.
+pub(crate) fn keep_calls(
+    alloc: Global,
+    index: &Index<'_>,
+    views: &[u32],
+    updates: &[(u8, u32)],
+) -> Result<History, AllocError>
+    requires within { All (λ c. c < length (calls_of index.now)) views.now }
+    requires calls { AreWitnesses index.now (calls_numbered (calls_of index.now) views.now) updates.now }
+    ensures { IfOk result (λ kept. kept ≡ witness_of index.now (calls_numbered (calls_of index.now) views.now) updates.now) }
+{
+    let mut places = Vec::new(alloc);
+    push_views(index, views, &mut places)?;
+    push_updates(index, updates, &mut places)?;
+    keep(alloc, index.events(), &places, updates)
+}

@@ -1,0 +1,192 @@
+ghost use Rattle.std.specs.Prelude.{◌≡◌, ◌<◌, ◌≤◌, ◌↔◌, ◌++◌, ℕ, Some, IfOk, OnOk, IfSome, IsNone, length, option_map};
+ghost use Rattle.snap_core.specs.Calls.{calls_of, views_of, call_numbered, entries_of};
+ghost use Rattle.snap_core.specs.Entries.{entry_of, number_in};
+ghost use Rattle.snap_core.specs.Events.{IsKept};
+ghost use Rattle.snap_core.specs.Orders.{IsAtomic};
+ghost use Rattle.snap_core.specs.Regular.{IsRegular};
+ghost use Rattle.snap_conditions.specs.Faults.{first_of, integrity_faults, proximity_faults, read_faults, write_faults};
+ghost use Rattle.snap_conditions.specs.Rows.{first_less};
+ghost use Rattle.snap_conditions.specs.Tally.{tally_of, reported_integrity, reported_proximity, reported_read, reported_write};
+ghost use Rattle.snap_witness.specs.Faults.{Read, excess_of, fault_updates, fault_witness};
+ghost use Rattle.snap_witness.specs.First.{first_integrity, first_proximity, first_read, first_write, first_fault, AreWholeCalls, HasFirstFault};
+ghost use Rattle.snap_witness.specs.Places.{IsViewAt, side_number as spec_side_number};
+
+use crate::calls::keep_calls;
+use snap_conditions::{IntegrityFault, ProximityFault, ReadFault, Side, Tally, WriteFault};
+use snap_core::{History, View};
+use snap_index::Index;
+use std::alloc::{AllocError, Global};
+
+// How many components there are.
+const COMPONENT_COUNT: usize = 256;
+
+// The witness of the first integrity fault.
+fn integrity_witness(
+    alloc: Global,
+    index: &Index<'_>,
+    fault: IntegrityFault,
+) -> Result<History, AllocError>
+    requires kept { IsKept index.now }
+    requires first { option_map reported_integrity (first_of (integrity_faults (calls_of index.now) (views_of (calls_of index.now)))) ≡ Some fault }
+    ensures { IfOk result (λ witness. option_map (fault_witness index.now) (first_integrity (calls_of index.now)) ≡ Some witness) }
+{
+    let shown = (fault.entry.component, fault.entry.number);
+    keep_calls(alloc, index, &[fault.view], &[shown])
+}
+
+// The number of the update that shows a proximity fault: the one that the view misses, or the one that it shows.
+fn side_number(side: Side, number: u32) -> u32
+    requires { number < 4294967295 }
+    ensures { result ≡ spec_side_number side number }
+{
+    match side {
+        Side::Old => number + 1,
+        Side::Early => number,
+    }
+}
+
+// The witness of the first proximity fault.
+fn proximity_witness(
+    alloc: Global,
+    index: &Index<'_>,
+    fault: ProximityFault,
+) -> Result<History, AllocError>
+    requires kept { IsKept index.now }
+    requires first { option_map (reported_proximity (calls_of index.now)) (first_of (proximity_faults (calls_of index.now) (views_of (calls_of index.now)))) ≡ Some fault }
+    ensures { IfOk result (λ witness. option_map (fault_witness index.now) (first_proximity (calls_of index.now)) ≡ Some witness) }
+{
+    let update = (fault.component, side_number(fault.side, fault.number));
+    keep_calls(alloc, index, &[fault.view], &[update])
+}
+
+// The least component of which a view shows more than another.
+fn least_exceeding(view: &View, other: &View) -> Option<u8>
+    ensures { result ≡ first_less (λ k. number_in (entry_of k other.now)) (λ k. number_in (entry_of k view.now)) }
+{
+    for k in 0..COMPONENT_COUNT {
+        let k = k as u8;
+        if other.number(k) < view.number(k) {
+            return Some(k);
+        }
+    }
+    None
+}
+
+// What the completed view of a call number shows.
+fn view_numbered<'i>(index: &'i Index<'_>, c: u32) -> &'i View
+    requires { IsViewAt (calls_of index.now) c }
+    ensures { result.now ≡ entries_of (call_numbered (calls_of index.entry.now) c).operation }
+{
+    let Some(view) = index.answer(c) else {
+        unreachable!()
+    };
+    view
+}
+
+// Appends what a view shows of the least component of which it shows more than another, where there is one.
+fn push_excess(
+    index: &Index<'_>,
+    view: u32,
+    other: u32,
+    updates: &mut Vec<(u8, u32)>,
+) -> Result<(), AllocError>
+    requires view { IsViewAt (calls_of index.now) view }
+    requires other { IsViewAt (calls_of index.now) other }
+    ensures { OnOk result (updates.new.items ≡ updates.old.items ++ excess_of (call_numbered (calls_of index.now) view) (call_numbered (calls_of index.now) other)) }
+{
+    let shown = view_numbered(index, view);
+    if let Some(k) = least_exceeding(shown, view_numbered(index, other)) {
+        updates.push((k, shown.number(k)))?;
+    }
+    Ok(())
+}
+
+// The updates that show a read fault.
+fn read_updates(
+    alloc: Global,
+    index: &Index<'_>,
+    view: u32,
+    other: u32,
+) -> Result<Vec<(u8, u32)>, AllocError>
+    requires view { IsViewAt (calls_of index.now) view }
+    requires other { IsViewAt (calls_of index.now) other }
+    ensures { IfOk result (λ updates. updates.items ≡ fault_updates (Read (call_numbered (calls_of index.now) view) (call_numbered (calls_of index.now) other))) }
+{
+    let mut updates = Vec::new(alloc);
+    push_excess(index, view, other, &mut updates)?;
+    if !index.precedes(view, other) {
+        push_excess(index, other, view, &mut updates)?;
+    }
+    Ok(updates)
+}
+
+// The witness of the first read fault.
+fn read_witness(alloc: Global, index: &Index<'_>, fault: ReadFault) -> Result<History, AllocError>
+    requires kept { IsKept index.now }
+    requires first { option_map reported_read (first_of (read_faults (calls_of index.now) (views_of (calls_of index.now)))) ≡ Some fault }
+    ensures { IfOk result (λ witness. option_map (fault_witness index.now) (first_read (calls_of index.now)) ≡ Some witness) }
+{
+    let updates = read_updates(alloc, index, fault.view, fault.other)?;
+    keep_calls(alloc, index, &[fault.view, fault.other], &updates)
+}
+
+// The witness of the first write fault.
+fn write_witness(alloc: Global, index: &Index<'_>, fault: WriteFault) -> Result<History, AllocError>
+    requires kept { IsKept index.now }
+    requires first { option_map reported_write (first_of (write_faults (calls_of index.now) (views_of (calls_of index.now)))) ≡ Some fault }
+    ensures { IfOk result (λ witness. option_map (fault_witness index.now) (first_write (calls_of index.now)) ≡ Some witness) }
+{
+    let missed = (fault.missed_component, fault.missed_number);
+    let shown = (fault.shown_component, fault.shown_number);
+    keep_calls(alloc, index, &[fault.view], &[missed, shown])
+}
+
+// The witness of the first fault.
+fn first_witness(
+    alloc: Global,
+    index: &Index<'_>,
+    tally: &Tally,
+) -> Result<Option<History>, AllocError>
+    requires kept { IsKept index.now }
+    requires tally { tally.now ≡ tally_of (calls_of index.now) (views_of (calls_of index.now)) }
+    ensures { IfOk result (λ answer. answer ≡ option_map (fault_witness index.now) (first_fault (calls_of index.now))) }
+{
+    if let Some(fault) = tally.integrity.first() {
+        return Ok(Some(integrity_witness(alloc, index, fault)?));
+    }
+    if let Some(fault) = tally.proximity.first() {
+        return Ok(Some(proximity_witness(alloc, index, fault)?));
+    }
+    if let Some(fault) = tally.read.first() {
+        return Ok(Some(read_witness(alloc, index, fault)?));
+    }
+    if let Some(fault) = tally.write.first() {
+        return Ok(Some(write_witness(alloc, index, fault)?));
+    }
+    Ok(None)
+}
+
+/// The witness of the first fault of a history, where it has one: of the first kind that the tally counts a fault of, in the
+/// order integrity, proximity, read, write, and of that kind the first that the tally has. It is a history of the views of
+/// the fault and of the updates that show it, at most four calls with at most eight events, in the order that they had. A
+/// call keeps its process and its value; an update is number 1, and a view shows of each component the update that is kept,
+/// if it showed it, and nothing else. The tally is that of all completed views. The error is want of memory.
+pub fn witness(
+    alloc: Global,
+    index: &Index<'_>,
+    tally: &Tally,
+) -> Result<Option<History>, AllocError>
+    requires tally { tally.now ≡ tally_of (calls_of index.now) (views_of (calls_of index.now)) }
+    ensures none { IfOk result (λ answer. IsNone answer ↔ IsAtomic (calls_of index.now)) }
+    ensures first { IfOk result (λ answer. answer ≡ option_map (fault_witness index.now) (first_fault (calls_of index.now))) }
+    ensures calls { IfOk result (λ answer. IfSome answer (λ witness. AreWholeCalls index.now witness)) }
+    ensures few_calls { IfOk result (λ answer. IfSome answer (λ witness. length (calls_of witness) ≤ 4)) }
+    ensures few_events { IfOk result (λ answer. IfSome answer (λ witness. length witness ≤ 8)) }
+    ensures fault { IfOk result (λ answer. IfSome answer (λ witness. HasFirstFault index.now witness)) }
+    ensures not_atomic { IfOk result (λ answer. IfSome answer (λ witness. IsAtomic (calls_of witness) → ⊥)) }
+    ensures regular { IfOk result (λ answer. IfSome answer (λ witness. IsRegular (calls_of witness) ↔ IsRegular (calls_of index.now))) }
+{
+    // what is known of the history that the index is of
+    let _events = index.event_count();
+    first_witness(alloc, index, tally)
+}
