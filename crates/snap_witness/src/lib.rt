@@ -5,6 +5,8 @@ mod calls;
 mod finding;
 mod keeping;
 mod law;
+#[cfg(test)]
+mod tests;
 
 pub use finding::witness;
 pub use law::{atomic_without_witness, choices_keep_calls, faults_have_witnesses};
