@@ -56,7 +56,8 @@ fn updates_order(alloc: Global, updates: u32) -> Result<String, AllocError> {
 fn a_history_may_have_16384_events(rt: HostRuntime) -> Result<(), Fail> {
     let text = updates_text(rt.alloc(), 8192)?;
     let order = updates_order(rt.alloc(), 8192)?;
-    let head = "events 16384 calls 8192 pending 0 views 0\nregular yes\nmonotone yes\natomic yes\norder 8192\n";
+    let head =
+        "events 16384 calls 8192 pending 0 views 0\nregular yes\nmonotone yes\natomic yes\norder 8192\n";
     let report = format!(in rt.alloc(); "{head}{order}")?;
     expect_default(&rt, rt.alloc(), text.as_bytes(), "atomic", &report)
 }
