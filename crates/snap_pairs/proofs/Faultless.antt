@@ -1,17 +1,18 @@
 -- What the quick test tells of read faults, and what their absence tells of a piece.
-use Rattle.std.proofs.Common.{◌≡◌, ℕ, ◌-◌, List, [], ◌∷◌, ◌++◌, take, drop, refl, sym, ap, ◌∙◌}
+use Rattle.std.proofs.Common.{◌≡◌, ℕ, ◌+◌, ◌-◌, List, [], ◌∷◌, ◌++◌, length, take, drop, refl, sym, ap, ◌∙◌, arith}
 use Rattle.std.proofs.lemmas.List.{take-append-drop}
 use Rattle.snap_core.specs.declared.event.Event.{Event}
 use Rattle.snap_core.specs.Events.{IsKept}
 use Rattle.snap_core.specs.Calls.{Call, calls_of, views_of}
 use Rattle.snap_core.proofs.Fits.{bytes_of_events}
-use Rattle.snap_conditions.specs.Faults.{read_faults}
+use Rattle.snap_conditions.specs.Faults.{read_faults, stale_count}
 use Rattle.snap_conditions.specs.Parts.{part_of}
 use Rattle.snap_conditions.specs.Quick.{AreComparable, AreOrdered}
 use Rattle.snap_conditions.specs.Tally.{tally_of, without_read, reported_read, views_between}
 use Rattle.snap_conditions.proofs.Quick.{no_read_fault_exactly}
 use Rattle.snap_conditions.proofs.Ranges.{tally_is}
 use Rattle.snap_conditions.proofs.Reports.{faults_join}
+use Rattle.snap_conditions.proofs.StaleViews.{none_stale_alone, stale_joined}
 
 pub none_by_test : (es : List Event) → IsKept es → AreComparable (calls_of es) → AreOrdered (calls_of es) → read_faults (calls_of es) (views_of (calls_of es)) ≡ []
 none_by_test es kept c o = (no_read_fault_exactly es (bytes_of_events es kept.fit)).1 (record { comparable = c; ordered = o })
@@ -37,9 +38,20 @@ none_between calls from to e =
     nil_left (read_faults calls (take (to - from) behind)) (read_faults calls (drop (to - from) behind))
     (sym ((faults_join calls (take (to - from) behind) (drop (to - from) behind)).read) ∙ ap (read_faults calls) (take-append-drop (to - from) behind) ∙ rest)
 
+-- views without a read fault have no stale view
+none_stale : (calls rs : List Call) → read_faults calls rs ≡ [] → stale_count calls rs ≡ 0
+unfolding stale_count
+none_stale calls [] e = refl
+none_stale calls (r ∷ rs) e =
+    let parts = sym ((faults_join calls (r ∷ []) rs).read) ∙ e in
+    let first : stale_count calls (r ∷ []) ≡ 0 = none_stale_alone calls r (ap length (nil_left (read_faults calls (r ∷ [])) (read_faults calls rs) parts)) in
+    let others : stale_count calls rs ≡ 0 = none_stale calls rs (nil_right (read_faults calls (r ∷ [])) (read_faults calls rs) parts) in
+    omega (arith, stale_joined calls (r ∷ []) rs, first, others)
+
 -- and its tally is the one without read faults
 pub faultless_tally : (calls : List Call) (from to : ℕ) → read_faults calls (views_of calls) ≡ [] → without_read (tally_of calls (views_between calls from to)) ≡ tally_of calls (views_between calls from to)
 unfolding tally_of
 faultless_tally calls from to e =
     let rs = views_between calls from to in
-    tally_is (without_read (tally_of calls rs)) (tally_of calls rs) refl refl (sym (ap (part_of reported_read) (none_between calls from to e))) refl
+    let none = none_between calls from to e in
+    tally_is (without_read (tally_of calls rs)) (tally_of calls rs) refl refl (sym (ap (part_of reported_read) none)) refl (sym (none_stale calls rs none))
