@@ -12,8 +12,8 @@ mod range;
 mod read;
 mod row;
 mod seen;
-mod sweep;
 mod stale;
+mod sweep;
 mod tally;
 #[cfg(test)]
 mod tests;
@@ -31,6 +31,6 @@ pub use part::Part;
 pub use quick_test::{entries_sum, view_sum, view_sums};
 pub use range::{tally_range, tally_without_read};
 pub use sweep::ordered;
-pub use tally::{Tally, is_atomic, is_regular, merge, is_monotone};
+pub use tally::{Tally, is_atomic, is_monotone, is_regular, merge};
 pub use view_chain::chain;
 pub use view_grid::ViewGrid;

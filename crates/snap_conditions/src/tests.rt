@@ -1,4 +1,4 @@
-//! The tallies of worked histories, against faults known from outside and against plain programs.
+//! The tallies of worked histories, against faults known from outside.
 ghost use Rattle.std.specs.Prelude.{◌≡◌, Some};
 ghost use Rattle.snap_conditions.specs.Tally.{no_fault};
 
@@ -15,9 +15,7 @@ use std::process::Abort;
 use std::test::Fail;
 
 mod chains;
-mod comparisons;
 mod histories;
-mod slow;
 
 // Each of these ranges of views of a history, from one place to before another, has this tally.
 fn expect(

@@ -1,7 +1,7 @@
 -- What columns and blocks keep.
-use Rattle.std.specs.Prelude.{ℕ, true, ◌+◌, ◌*◌, ◌<◌, ◌≤◌, ◌≡◌, List, [], length, get_or, take, drop, nat_lt}
+use Rattle.std.specs.Prelude.{ℕ, true, ◌+◌, ◌*◌, ◌<◌, ◌≤◌, ◌≡◌, List, [], length, get_or, take, drop}
 use Rattle.snap_grid.specs.declared.bounds.Bounds.{Bounds}
-use Rattle.snap_grid.specs.Masks.{mask_by, mask_below}
+use Rattle.snap_grid.specs.Masks.{mask_below}
 
 -- the numbers of a block of rows are within bounds
 abbrev pub IsBounded : List ℕ → ℕ → Bounds → Type 0

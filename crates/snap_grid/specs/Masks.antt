@@ -1,9 +1,7 @@
 -- Masks of at most 64 rows: bit i is of the i-th.
-use Rattle.std.specs.Prelude.{ℕ, ◌+◌, ◌<◌, ◌≡◌, Bool, true, List, map, nat_lt, length, take}
-use Rattle.std.specs.List.{range_with_len, list_any}
-use Rattle.std.specs.Int.{bit_at}
+use Rattle.std.specs.Prelude.{ℕ, Bool, List, map}
+use Rattle.std.specs.List.{range_with_len}
 use Rattle.std.specs.Simd.Lanes.{mask_l}
-use Rattle.snap_grid.specs.Columns.{any_passes, passes}
 
 -- the mask of the numbers that a test lets through
 abbrev pub mask_by : (ℕ → Bool) → List ℕ → ℕ

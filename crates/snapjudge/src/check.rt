@@ -14,11 +14,10 @@ use snap_report::refusal_text;
 use snap_verdict::{Status, verdict_of};
 use std::alloc::{AllocError, Global};
 use std::io::{Read, Write};
-use std::sync::Wait;
 use std::thread::Threads;
 
 // The status and the report of a history. The report takes the memory of a vector.
-pub(crate) fn verdict<Rt: Threads + Wait + Sync, G: Gate>(
+pub(crate) fn verdict<Rt: Threads + Sync, G: Gate>(
     rt: &Rt,
     alloc: Global,
     history: &History,
@@ -39,7 +38,7 @@ pub(crate) fn verdict<Rt: Threads + Wait + Sync, G: Gate>(
 }
 
 // The status and the report of the text that a reader has.
-fn judge<Rt: Threads + Wait + Sync, R: Read, G: Gate>(
+fn judge<Rt: Threads + Sync, R: Read, G: Gate>(
     rt: &Rt,
     alloc: Global,
     reader: &mut Counted<R>,
@@ -67,9 +66,9 @@ fn judge<Rt: Threads + Wait + Sync, R: Read, G: Gate>(
 ///
 /// Nothing is written until the whole report is built: after `Read` or `Memory` nothing went out, after `Write` a front of
 /// the report, perhaps all of it. The first error of a device ends the run, and `Read` and `Write` come only where the count
-/// of that device rose, or stood at its last value. The writer is flushed once at the end. The run waits for its workers, and
-/// so for the gate.
-pub fn check_run<Rt: Threads + Wait + Sync, R: Read, W: Write, G: Gate>(
+/// of that device rose, or stood at its last value. The writer is flushed once at the end. The run returns where the reader and
+/// the writer do, and the gate.
+pub fn check_run<Rt: Threads + Sync, R: Read, W: Write, G: Gate>(
     rt: &Rt,
     alloc: Global,
     reader: &mut Counted<R>,

@@ -1,5 +1,4 @@
-use Rattle.std.proofs.Common.{◌≡◌, ◌+◌, ◌*◌, ◌<◌, ◌≤◌, ℕ, true, refl, arith}
-use Rattle.snap_grid.specs.Masks.{mask_below}
+use Rattle.std.proofs.Common.{arith}
 use Rattle.snap_grid.proofs.Bits.{all_more, all_lt}
 use Rattle.snap_grid.proofs.block.mask_of_all.Goals as goal
 

@@ -1,5 +1,5 @@
 use mir.Val.{bool_byte}
-use Rattle.std.proofs.Common.{Bool, true, false, ℕ, ◌≤◌, ◌<◌, drop, length, List, ◌≡◌, subst, sym, arith, Fits, w64}
+use Rattle.std.proofs.Common.{Bool, true, false, ℕ, ◌≤◌, ◌<◌, drop, length, List, ◌≡◌, arith}
 use Rattle.std.specs.Prelude.{nat_lt}
 use Rattle.std.proofs.lemmas.List.{length-drop}
 use Rattle.snap_grid.specs.Masks.{mask_by}

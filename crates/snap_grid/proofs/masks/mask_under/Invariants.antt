@@ -1,4 +1,4 @@
-use Rattle.std.proofs.Common.{◌≡◌, ◌≤◌, ℕ, drop, length}
+use Rattle.std.proofs.Common.{◌≡◌, ◌≤◌, drop, length}
 use Rattle.std.specs.Prelude.{nat_lt}
 use Rattle.snap_grid.specs.Masks.{mask_by}
 use Rattle.snap_grid.proofs.masks.mask_under.Given as goal

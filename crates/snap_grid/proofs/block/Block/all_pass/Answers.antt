@@ -1,4 +1,4 @@
-use Rattle.std.proofs.Common.{◌≡◌, ◌<◌, ◌+◌, ℕ, List, [], length, get_or, sym, subst, ◌∙◌, arith}
+use Rattle.std.proofs.Common.{◌+◌, sym, ◌∙◌}
 use Rattle.snap_grid.proofs.Passing.{any_at, all_passes, ours_at, theirs_at}
 use Rattle.snap_grid.proofs.block.Block.all_pass.Goals as goal
 

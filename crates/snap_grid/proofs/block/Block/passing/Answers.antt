@@ -1,6 +1,6 @@
-use Rattle.std.proofs.Common.{◌≡◌, ◌<◌, ◌+◌, ◌*◌, ℕ, List, [], length, get_or, refl, sym, ap, subst, ◌∙◌, arith}
+use Rattle.std.proofs.Common.{◌+◌, ◌*◌, length, get_or, sym, ap, subst, ◌∙◌, arith}
 use Rattle.std.proofs.lemmas.List.{get_or-replicate}
-use Rattle.snap_grid.proofs.Passing.{IsBetween, between_none, between_full, between_stays, between_all, between_added, between_skipped, theirs_count, none_at}
+use Rattle.snap_grid.proofs.Passing.{IsBetween, between_full, between_stays, between_all, between_added, between_skipped, theirs_count, none_at}
 use Rattle.snap_grid.proofs.block.Block.passing.Goals as goal
 use Rattle.snap_grid.proofs.block.Block.passing.Goals.{then-some_pass+else-are_full, else-some_pass}
 

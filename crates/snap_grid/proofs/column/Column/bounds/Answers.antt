@@ -1,5 +1,4 @@
-use Rattle.std.proofs.Common.{◌≡◌, ◌≤◌, ◌<◌, ◌+◌, ◌*◌, ℕ, List, length, get_or, sym, subst, arith}
-use Rattle.snap_grid.specs.declared.bounds.Bounds.{Bounds}
+use Rattle.std.proofs.Common.{sym, subst, arith}
 use Rattle.snap_grid.specs.Kept.{IsBounded}
 use Rattle.snap_grid.proofs.column.Column.bounds.Goals as goal
 

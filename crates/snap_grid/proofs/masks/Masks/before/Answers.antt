@@ -1,7 +1,6 @@
-use Rattle.std.proofs.Common.{ℕ, ◌≡◌, ◌≤◌, ◌<◌, true, false, List, get_or, length, subst, sym, ◌∙◌, arith}
+use Rattle.std.proofs.Common.{sym, ◌∙◌, arith}
 use Rattle.std.specs.Prelude.{nat_lt}
 use Rattle.std.proofs.lemmas.Bool.{lt-ltb, le-ltb}
-use Rattle.snap_grid.specs.Masks.{mask_by}
 use Rattle.snap_grid.proofs.Bits.{mask_none, mask_same}
 use Rattle.snap_grid.proofs.masks.Masks.before.Goals as goal
 
