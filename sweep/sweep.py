@@ -1,0 +1,360 @@
+#!/usr/bin/env python3
+"""Refuses snapjudge memory, threads and devices in turn, and gives it awkward texts.
+
+usage: sweep.py SHIM PROGRAM        where SHIM is built from refuse.c
+
+Each run has to end with its whole answer, or say what failed and have written nothing, or a front of its text where it was a
+write that failed. Texts that are cut or damaged are judged by the library in one process, where ffi/build has it, and some of
+them by the program. The last line is 'N passed, M failed'; the line before it says how much was refused.
+"""
+import ctypes
+import errno
+import faulthandler
+import glob
+import mmap
+import os
+import subprocess
+import sys
+import tempfile
+
+HERE = os.path.dirname(os.path.abspath(__file__))
+LIBRARY = os.environ.get("SNAPJUDGE_LIBRARY") or os.path.join(HERE, "..", "ffi", "build", "libsnapjudge.so")
+LIMIT = 60
+ALL = 2**64 - 1
+# the verdicts of a report, in the order of their lines
+VERDICTS = ("regular", "atomic")
+HEADER, STAMPED = b"event,process,op,data\n", b"at,event,process,op,data\n"
+# what a program says that was refused memory, or whose device failed
+OUT_OF_MEMORY, READ_FAILED, WRITE_FAILED = (b"snapjudge: %s\n" % why for why in (b"out of memory", b"read failed", b"write failed"))
+ROUNDS = 4
+
+
+class Page(ctypes.Structure):
+    """What is refused, and what was asked for: the struct of refuse.c."""
+
+    WISHES = ("allocation", "all_after", "thread", "read", "write", "error", "longest")
+    COUNTS = ("allocations", "threads", "reads", "writes")
+    _fields_ = [(name, ctypes.c_uint64) for name in WISHES + COUNTS]
+
+
+class Shim:
+    """Runs a program under the shim."""
+
+    def __init__(self, shim, folder):
+        name = os.path.join(folder, "page")
+        with open(name, "w+b") as file:
+            file.truncate(ctypes.sizeof(Page))
+            self.page = Page.from_buffer(mmap.mmap(file.fileno(), ctypes.sizeof(Page)))
+        self.environment = dict(os.environ, LD_PRELOAD=shim, SWEEP=name)
+
+    def run(self, command, text, **wishes):
+        """Status, standard output and standard error of one run; `page` has the counts."""
+        for name in Page.WISHES + Page.COUNTS:
+            setattr(self.page, name, wishes.get(name, 0))
+        ended = subprocess.run(command, input=text, capture_output=True, env=self.environment, timeout=LIMIT)
+        return ended.returncode, ended.stdout, ended.stderr
+
+
+class Case:
+    """A command, the text that it reads, and what its whole answer is."""
+
+    def __init__(self, name, words, text, is_whole, report=None):
+        self.name, self.command, self.text, self.is_whole, self.report = name, [PROGRAM] + words, text, is_whole, report
+
+
+def status_of(report):
+    """The status that belongs to a report."""
+    if report.startswith(b"refused "):
+        return 3
+    if b"\nregular no\n" in report:
+        return 2
+    return 1 if b"\natomic no\n" in report else 0
+
+
+def check(name, text, report, workers=2):
+    """A check, with its report."""
+    whole = status_of(report), report, b""
+    return Case(f"check {name}, {workers} workers", ["check", "--workers", str(workers)], text, lambda run: run == whole, report)
+
+
+def is_history(text, is_stamped, has_scans):
+    """Whether these are the calls of two workers in so many rounds, each once and ended. A scan may have no record."""
+    header = STAMPED if is_stamped else HEADER
+    if not text.startswith(header) or not text.endswith(b"\n"):
+        return False
+    records = [record.split(b",") for record in text[len(header):].splitlines()]
+    if is_stamped:
+        records = [fields for _, *fields in sorted(records, key=lambda fields: int(fields[0]))]
+    for worker in range(2):
+        found = [(event, op, data) for event, process, op, data in records if int(process) == worker]
+        for number in range(1, ROUNDS + 1):
+            value = worker * 65536 + number
+            if found[:2] != [(b"begin", b"update", b"%d:%d:%d" % (worker, number, value)), (b"end", b"update", b"")]:
+                return False
+            del found[:2]
+            if [fields[:2] for fields in found[:2]] == [(b"begin", b"view"), (b"end", b"view")]:
+                del found[:2]
+            elif not has_scans:
+                return False
+        if found:
+            return False
+    return True
+
+
+def record(*options):
+    """A recording, whose whole answer is a history of all its calls that is regular, and of scans atomic; or its report."""
+    is_stamped, has_scans = "--stamped" in options, "--scan" in options
+    statuses = (0,) if has_scans else (0, 1)
+
+    def is_report(status, report):
+        counts = b"events %d calls %d pending 0 views %d\n" % (8 * ROUNDS, 4 * ROUNDS, 2 * ROUNDS)
+        return status in statuses and status == status_of(report) and (has_scans or report.startswith(counts))
+
+    def is_whole(run):
+        status, out, error = run
+        if error:
+            return False
+        if "--judge" in options:
+            return is_report(status, out)
+        judged = subprocess.run([PROGRAM, "check"], input=out, capture_output=True, timeout=LIMIT)
+        return status == 0 and is_history(out, is_stamped, has_scans) and is_report(judged.returncode, judged.stdout)
+
+    words = ["record", "--rounds", str(ROUNDS), *options]
+    return Case(" ".join(words), words, b"", is_whole)
+
+
+def usage(*words):
+    """Words that are not taken: what is said of them with ample memory is said whole."""
+    said = subprocess.run([PROGRAM, *words], capture_output=True, timeout=LIMIT).stderr
+    return Case(" ".join(("no job:",) + words), list(words), b"", lambda run: bool(said) and run == (5, b"", said))
+
+
+class Tests:
+    """Counts what passed, and what was refused."""
+
+    def __init__(self, shim):
+        self.shim, self.passed, self.failed = shim, 0, 0
+        self.allocations = self.threads = self.devices = self.texts = 0
+
+    def test(self, name, faults):
+        """One test, which passes where there is no fault."""
+        faults = list(faults)
+        self.passed, self.failed = self.passed + (not faults), self.failed + bool(faults)
+        for fault in faults[:3]:
+            print(f"sweep: {name}: {fault}")
+
+    def refused_memory(self, case, all_after=0, thread=0):
+        """Each allocation refused in turn, until a run meets no refusal."""
+        for number in range(1, 10**6):
+            run = self.shim.run(case.command, case.text, allocation=number, all_after=all_after, thread=thread)
+            is_met = self.shim.page.allocations >= number
+            self.allocations += is_met
+            if not case.is_whole(run) and not (is_met and run == (4, b"", OUT_OF_MEMORY)):
+                yield f"allocation {number}: {run}"
+            if not is_met:
+                return
+
+    def refused_threads(self, case):
+        """All starts of threads refused, and each in turn."""
+        for number in (ALL, *range(1, 10**6)):
+            run = self.shim.run(case.command, case.text, thread=number)
+            started = self.shim.page.threads
+            self.threads += started if number == ALL else started >= number
+            if not case.is_whole(run):
+                yield f"thread {number}: {run}"
+            if number != ALL and started < number:
+                return
+
+    def failed_reads(self, case, longest, error):
+        """Each read failed in turn: it is said, and nothing was written."""
+        for number in range(1, 10**6):
+            run = self.shim.run(case.command, case.text, read=number, error=error, longest=longest)
+            if self.shim.page.reads < number:
+                if not case.is_whole(run):
+                    yield f"no read failed: {run}"
+                return
+            self.devices += 1
+            if run != (4, b"", READ_FAILED):
+                yield f"read {number}: {run}"
+
+    def failed_writes(self, case, longest, error):
+        """Each write failed in turn, where the error is 0 by taking no byte: it is said, and what went out before it is a front."""
+        for number in range(1, 10**6):
+            status, out, said = run = self.shim.run(case.command, case.text, write=number, error=error, longest=longest)
+            if self.shim.page.writes < number:
+                if not case.is_whole(run):
+                    yield f"no write failed: {run}"
+                return
+            self.devices += 1
+            is_front = len(out) == (number - 1) * longest and (case.report is None or case.report.startswith(out))
+            if (status, said) != (4, WRITE_FAILED) or not is_front:
+                yield f"write {number}: {run}"
+
+    def short_transfers(self, case):
+        """Reads and writes of at most so many bytes."""
+        for longest in range(1, 17):
+            run = self.shim.run(case.command, case.text, longest=longest)
+            if not case.is_whole(run):
+                yield f"{longest} bytes at a time: {run}"
+
+    def real_devices(self, text):
+        """Devices of the system that fail, and one that never ends."""
+        whole = subprocess.PIPE
+        with open("/dev/zero", "rb") as endless, open("/dev/null", "rb") as empty, open("/dev/full", "wb") as full:
+            folder, (pipe, closed) = os.open("/", os.O_RDONLY), os.pipe()
+            os.close(pipe)
+            for name, source, target, wanted in (
+                ("a reader that never ends", endless, whole, (3, b"refused record 0: toolong\n", b"")),
+                ("an empty text", empty, whole, (3, b"refused record 1: header\n", b"")),
+                ("a folder", folder, whole, (4, b"", READ_FAILED)),
+                ("a full device", empty, full, (4, None, WRITE_FAILED)),
+                ("a pipe that nobody reads", empty, closed, (4, None, WRITE_FAILED)),
+            ):
+                run = subprocess.run([PROGRAM, "check"], stdin=source, stdout=target, stderr=whole, timeout=LIMIT)
+                if (run.returncode, run.stdout, run.stderr) != wanted:
+                    yield f"{name}: {run}"
+            os.close(folder)
+            os.close(closed)
+
+    def awkward(self, texts, judge, every):
+        """Some of the texts judged: each gets a report or a refusal line, with the status that belongs to it."""
+        for number, text in enumerate(texts):
+            if number % every:
+                continue
+            self.texts += 1
+            status, report = judge(text)
+            if status not in range(4) or status != status_of(report) or not report.endswith(b"\n"):
+                yield f"{text}: {status}, {report}"
+
+
+def judge_by_program(text):
+    run = subprocess.run([PROGRAM, "check"], input=text, capture_output=True, timeout=LIMIT)
+    return run.returncode, run.stdout
+
+
+def judge_by_library():
+    """A function that judges in this process, or None where the library is not built."""
+    if not os.path.exists(LIBRARY):
+        return None
+    library = ctypes.CDLL(LIBRARY)
+    library.snapjudge_check.argtypes = (ctypes.c_char_p, ctypes.c_size_t, ctypes.c_char_p, ctypes.c_size_t, ctypes.c_void_p)
+    room, length = ctypes.create_string_buffer(1 << 16), ctypes.c_size_t()
+
+    def judge(text):
+        status = library.snapjudge_check(text, len(text), room, len(room), ctypes.byref(length))
+        return status, room.raw[: length.value]
+
+    return judge
+
+
+def accepted(counts, order):
+    """The report of an atomic history, with its counts and its order."""
+    verdicts = b"".join(b"%s yes\n" % verdict.encode() for verdict in VERDICTS)
+    numbered = b"".join(b"%d %s\n" % line for line in order)
+    return b"events %d calls %d pending %d views %d\n" % counts + verdicts + b"order %d\n" % len(order) + numbered
+
+
+def examples():
+    """Name, text and report of each example."""
+    for name in sorted(glob.glob(os.path.join(HERE, "..", "examples", "*.csv"))):
+        with open(name, "rb") as text, open(name[:-4] + ".report", "rb") as report:
+            yield os.path.basename(name)[:-4], text.read(), report.read()
+
+
+def small_texts():
+    """Name, text and report of small histories of both versions, and of texts that are none."""
+    quoted = b'"event","process","op","data"\r\n"begin","0","view",""\r\n'
+    yield "nothing", HEADER, accepted((0, 0, 0, 0), [])
+    yield "quoted", quoted, accepted((1, 1, 1, 0), [])
+    yield "busy", HEADER + b"begin,0,view,\nbegin,0,view,\n", b"refused record 3: busy\n"
+    update = accepted((2, 1, 0, 0), [(1, b"p0 update 0:1:7")])
+    yield "stamps in any order", STAMPED + b"7,end,0,update,\n3,begin,0,update,0:1:7\n", update
+    yield "a stamp twice", STAMPED + b"5,begin,0,view,\n5,end,0,view,\n", b"refused record 3: repeated\n"
+
+
+def cut_records():
+    """Texts that end within a record."""
+    yield "event,process,op,dat alone", b"event,process,op,dat", b"refused record 1: header\n"
+    yield "two commas", HEADER + b"begin,0,upd", b"refused record 2: fields\n"
+    yield "no value", HEADER + b"begin,0,update,0:1:", b"refused record 2: data\n"
+    yield "no newline", HEADER + b"begin,0,update,0:1:7", accepted((1, 1, 1, 0), [])
+    yield "a byte that is no text", HEADER + b"begin,0,view,\xff", b"refused record 2: data\n"
+
+
+def long_texts():
+    """Histories with as many events, and as many components, as there may be."""
+    turns, order = [], []
+    for i in range(1, 4097):
+        turns.append(b"begin,0,update,0:%d:0\nend,0,update,\nbegin,0,view,\nend,0,view,0:%d:0\n" % (i, i))
+        order += [(2 * i - 1, b"p0 update 0:%d:0" % i), (2 * i, b"p0 view 0:%d:0" % i)]
+    yield "4096 updates, each seen", HEADER + b"".join(turns), accepted((16384, 8192, 0, 4096), order)
+    shown = b" ".join(b"%d:1:%d" % (k, k) for k in range(256))
+    turns = [b"begin,%d,update,%d:1:%d\nend,%d,update,\n" % (k, k, k, k) for k in range(256)]
+    order = [(k + 1, b"p%d update %d:1:%d" % (k, k, k)) for k in range(256)] + [(257, b"p256 view " + shown)]
+    text = HEADER + b"".join(turns) + b"begin,256,view,\nend,256,view,%s\n" % shown
+    yield "256 components in one view", text, accepted((514, 257, 0, 1), order)
+
+
+def awkward_texts(texts):
+    """Each text cut after each byte, and with each byte replaced by some others."""
+    for _, text, _ in texts:
+        yield from (text[:length] for length in range(len(text)))
+        for place in range(len(text)):
+            yield from (text[:place] + other + text[place + 1:] for other in (b"\0", b"\n", b'"', b",", b" ", b"0", b"9", b"v", b"\xff"))
+
+
+def recordings():
+    """Each way to record that the program has."""
+    said = subprocess.run([PROGRAM, "record", "--help"], capture_output=True, timeout=LIMIT).stderr
+    yield record()
+    yield record("--judge")
+    if b"--scan" in said:
+        yield record("--scan")
+        yield record("--scan", "--judge")
+    if b"--stamped" in said:
+        yield record("--stamped")
+    if b"--scan" in said and b"--stamped" in said:
+        yield record("--scan", "--stamped")
+
+
+def main():
+    faulthandler.enable()
+    given, small, recorded = list(examples()), list(small_texts()), list(recordings())
+    checks = [check(*each, workers) for each in given + small for workers in (1, 2, 8)]
+    worked = [check(*each) for each in given + small]
+    jobless = [usage(), usage("judge"), usage("check", "--pieces", "0"), usage("record", "--help")]
+    with tempfile.TemporaryDirectory() as folder:
+        tests = Tests(Shim(os.path.abspath(sys.argv[1]), folder))
+        for case in checks + recorded + jobless:
+            tests.test(f"{case.name}: each allocation", tests.refused_memory(case))
+        for case in worked + recorded + jobless:
+            tests.test(f"{case.name}: all from each allocation on", tests.refused_memory(case, all_after=1))
+        for case in recorded + [check(*given[0], 8)]:
+            tests.test(f"{case.name}: each allocation without threads", tests.refused_memory(case, thread=ALL))
+        for case in checks + recorded:
+            tests.test(f"{case.name}: threads", tests.refused_threads(case))
+        for case in worked:
+            for error in (errno.EIO, errno.EINTR):
+                tests.test(f"{case.name}: reads, {errno.errorcode[error]}", tests.failed_reads(case, 1, error))
+        for case in worked + recorded:
+            for error in (errno.EIO, errno.EINTR, 0):
+                tests.test(f"{case.name}: writes, error {error}", tests.failed_writes(case, 1, error))
+            tests.test(f"{case.name}: a few bytes at a time", tests.short_transfers(case))
+        tests.test("devices of the system", tests.real_devices(given[0][1]))
+        for each in list(cut_records()) + list(long_texts()):
+            case = check(*each, 8)
+            tests.test(case.name, [] if case.is_whole(tests.shim.run(case.command, case.text)) else ["another report"])
+    judge = judge_by_library()
+    if judge is None:
+        print("sweep: the library is not built: fewer awkward texts")
+    else:
+        tests.test("awkward texts, by the library", tests.awkward(awkward_texts(given + small), judge, 1))
+    tests.test("awkward texts, by the program", tests.awkward(awkward_texts(given + small), judge_by_program, 97))
+    print(f"sweep: refused {tests.allocations} allocations and {tests.threads} threads,",
+          f"failed {tests.devices} devices, cut or damaged {tests.texts} texts")
+    print(f"{tests.passed} passed, {tests.failed} failed")
+    return tests.failed != 0
+
+
+PROGRAM = os.path.abspath(sys.argv[2])
+sys.exit(main())
