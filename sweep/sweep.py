@@ -1,10 +1,10 @@
 #!/usr/bin/env python3
 """Refuses snapjudge memory, threads and devices in turn, and gives it awkward texts.
 
-usage: sweep.py SHIM PROGRAM        where SHIM is built from refuse.c
+usage: sweep.py SHIM PROGRAM [CALLS]        where SHIM is built from refuse.c and CALLS from the crate snap_sweep
 
 Each run has to end with its whole answer, or say what failed and have written nothing, or a front of its text where it was a
-write that failed. Texts that are cut or damaged are judged by the library in one process, where ffi/build has it, and some of
+write that failed. CALLS makes each public call that takes memory and says of each how it ended. Texts that are cut or damaged are judged by the library in one process, where ffi/build has it, and some of
 them by the program. The last line is 'N passed, M failed'; the line before it says how much was refused.
 """
 import ctypes
@@ -19,6 +19,7 @@ import tempfile
 
 HERE = os.path.dirname(os.path.abspath(__file__))
 LIBRARY = os.environ.get("SNAPJUDGE_LIBRARY") or os.path.join(HERE, "..", "ffi", "build", "libsnapjudge.so")
+CALLS = os.path.join(HERE, "..", "crates", "snap_sweep", "stdout")
 LIMIT = 60
 ALL = 2**64 - 1
 # the verdicts of a report, in the order of their lines
@@ -151,6 +152,23 @@ class Tests:
             self.allocations += is_met
             if not case.is_whole(run) and not (is_met and run == (4, b"", OUT_OF_MEMORY)):
                 yield f"allocation {number}: {run}"
+            if not is_met:
+                return
+
+    def refused_calls(self, program, all_after=0, thread=0):
+        """Each allocation of the public calls refused in turn: each is whole, or says that it was refused memory."""
+        with open(CALLS, "rb") as wanted:
+            whole = wanted.read().splitlines()
+        refused = [line.replace(b": whole", b": out of memory") for line in whole]
+        for number in range(1, 10**6):
+            status, out, said = self.shim.run([program], b"", allocation=number, all_after=all_after, thread=thread)
+            is_met = self.shim.page.allocations >= number
+            self.allocations += is_met
+            lines = out.splitlines()
+            is_each_right = len(lines) == len(whole) and all(line in both for line, both in zip(lines, zip(whole, refused)))
+            many = sum(map(refused.__contains__, lines))
+            if (status, said) != (0, b"") or not is_each_right or many > (len(whole) if all_after else is_met):
+                yield f"allocation {number}: {status}, {out}, {said}"
             if not is_met:
                 return
 
@@ -331,6 +349,10 @@ def main():
             tests.test(f"{case.name}: all from each allocation on", tests.refused_memory(case, all_after=1))
         for case in recorded + [check(*given[0], 8)]:
             tests.test(f"{case.name}: each allocation without threads", tests.refused_memory(case, thread=ALL))
+        for program in sys.argv[3:]:
+            tests.test("calls: each allocation", tests.refused_calls(program))
+            tests.test("calls: all from each allocation on", tests.refused_calls(program, all_after=1))
+            tests.test("calls: each allocation without threads", tests.refused_calls(program, thread=ALL))
         for case in checks + recorded:
             tests.test(f"{case.name}: threads", tests.refused_threads(case))
         for case in worked:

@@ -1,0 +1,58 @@
+//! Desks of a board, which are as before where memory is refused.
+use crate::fault::{Fault, expect};
+use snap_core::Entry;
+use snap_record::{Board, CollectRefusal, Record, RecordedOp, ScanRefusal};
+use snap_testing::entry;
+use std::alloc::Global;
+
+// The record has these stamps and is of a view that shows just this entry.
+fn expect_view(record: &Record, begun: u64, ended: u64, shown: Entry) -> Result<(), Fault> {
+    let shows = match &record.op {
+        RecordedOp::Stored(_) => false,
+        RecordedOp::Viewed(view) => view.entries().len() == 1 && view.entries()[0] == shown,
+    };
+    expect(record.begun == begun && record.ended == ended && shows)
+}
+
+/// The first desk stores and collects. After a refusal the next `take` gives the same desk, and the next collect has the
+/// stamps that the refused one would have had.
+pub fn collect(alloc: Global) -> Result<(), Fault> {
+    let (board, mut gathered) = Board::open(alloc, 2)?;
+    let taken = match board.take(alloc, &mut gathered) {
+        Ok(taken) => taken,
+        Err(_refused) => board.take(alloc, &mut gathered)?,
+    };
+    let Some(mut desk) = taken else {
+        return Err(Fault::Wrong);
+    };
+    let Ok(stored) = board.store(&mut desk, 9) else {
+        return Err(Fault::Wrong);
+    };
+    expect(desk.process() == 1 && stored.begun == 0 && stored.ended == 1)?;
+    let viewed = match board.collect(alloc, &mut desk) {
+        Err(CollectRefusal::Memory) => board.collect(alloc, &mut desk)?,
+        answer => answer?,
+    };
+    expect_view(&viewed, 2, 3, entry(1, 1, 9))?;
+    let gathered = board.give_back(gathered, desk);
+    let Ok(closed) = board.close(gathered) else {
+        return Err(Fault::Wrong);
+    };
+    expect(closed.entry(1) == Some(entry(1, 1, 9)) && closed.entry(0).is_none())
+}
+
+/// The first desk stores and scans. After a refusal the next scan has the stamps that the refused one would have had.
+pub fn scan(alloc: Global) -> Result<(), Fault> {
+    let (board, mut gathered) = Board::open(alloc, 2)?;
+    let Some(mut desk) = board.take(alloc, &mut gathered)? else {
+        return Err(Fault::Wrong);
+    };
+    let Ok(_stored) = board.store(&mut desk, 9) else {
+        return Err(Fault::Wrong);
+    };
+    let scanned = match board.scan(alloc, &mut desk, 3) {
+        Err(ScanRefusal::Memory) => board.scan(alloc, &mut desk, 3)?,
+        answer => answer?,
+    };
+    expect_view(&scanned, 2, 4, entry(1, 1, 9))
+}

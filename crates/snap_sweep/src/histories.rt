@@ -1,0 +1,100 @@
+//! Histories, their calls, their faults and their orders.
+use crate::fault::{Fault, expect};
+use snap_core::{Event, EventRefusal, History, OpenGate, View};
+use snap_index::Index;
+use snap_order::{build, check_order};
+use snap_pairs::{Claims, Cutting, tally};
+use snap_testing::worked::{CROSSED_VIEWS, SEEN_PENDING};
+use snap_testing::{entry, history_of};
+use std::alloc::Global;
+use std::thread::Threads;
+
+// Pushes an event. Where memory is refused the history is as long as before and the same event comes back, and it is pushed
+// again.
+fn push_event(history: &mut History, event: Event) -> Result<(), Fault> {
+    let length = history.len();
+    let (process, is_begin) = (event.process(), event.is_begin());
+    let Err((back, refusal)) = history.push(event) else {
+        return expect(history.len() > length);
+    };
+    let is_back = back.process() == process && back.is_begin() == is_begin;
+    expect(refusal == EventRefusal::Memory && is_back && history.len() == length)?;
+    match history.push(back) {
+        Ok(()) => expect(history.len() > length),
+        Err((_again, refusal)) => {
+            expect(refusal == EventRefusal::Memory && history.len() == length)?;
+            Err(Fault::Memory)
+        }
+    }
+}
+
+/// Events of many processes, the last process and the last component among them, and one that is refused.
+pub fn push(alloc: Global) -> Result<(), Fault> {
+    let shown = entry(255, 1, 7);
+    let mut history = History::new(alloc);
+    let update = Event::BeginUpdate {
+        process: 65535,
+        entry: shown,
+    };
+    push_event(&mut history, update)?;
+    for process in 0..20 {
+        push_event(&mut history, Event::BeginView { process })?;
+    }
+    let Ok(view) = View::from_entries(vec![in alloc; shown]?) else {
+        return Err(Fault::Wrong);
+    };
+    push_event(&mut history, Event::EndView { process: 7, view })?;
+    let Err((_back, refusal)) = history.push(Event::BeginView { process: 0 }) else {
+        return Err(Fault::Wrong);
+    };
+    expect(refusal == EventRefusal::Busy && history.len() == 22)
+}
+
+/// Of two pending updates one is shown by the view.
+pub fn index(alloc: Global) -> Result<(), Fault> {
+    let history = history_of(alloc, SEEN_PENDING)?;
+    let index = Index::build(alloc, &history)?;
+    expect(index.call_count() == 3 && index.pending_count() == 2 && index.view_count() == 1)?;
+    expect(index.update_call(1, 1) == Some(1) && index.update_call(1, 2).is_none())
+}
+
+/// The update that was shown and then the view are a legal order, and the one that is printed.
+pub fn order<R: Threads + Sync>(rt: &R, alloc: Global) -> Result<(), Fault> {
+    let history = history_of(alloc, SEEN_PENDING)?;
+    let index = Index::build(alloc, &history)?;
+    expect(!check_order(alloc, &index, &[2, 0])?)?;
+    if !check_order(alloc, &index, &[0, 2])? {
+        return Err(Fault::Wrong);
+    }
+    expect(build(rt, alloc, &index)?.as_slice() == [0, 2].as_slice())
+}
+
+/// Two views disagree, and eight workers see it.
+pub fn tally_of_pieces<R: Threads + Sync>(rt: &R, alloc: Global) -> Result<(), Fault> {
+    let history = history_of(alloc, CROSSED_VIEWS)?;
+    let index = Index::build(alloc, &history)?;
+    let Ok(cutting) = Cutting::new(1024, 8) else {
+        return Err(Fault::Wrong);
+    };
+    let found = tally(rt, alloc, &index, cutting, &OpenGate)?;
+    expect(found.integrity.count() == 0 && found.proximity.count() == 0)?;
+    expect(found.read.count() == 2 && found.write.count() == 0)
+}
+
+/// Of three pieces the first claim draws two, and both claims close the counter.
+pub fn claims(alloc: Global) -> Result<(), Fault> {
+    let Ok(cutting) = Cutting::new(3, 2) else {
+        return Err(Fault::Wrong);
+    };
+    let (counter, mut claims) = Claims::start(alloc, cutting)?;
+    let Some(mut second) = claims.pop() else {
+        return Err(Fault::Wrong);
+    };
+    let Some(mut first) = claims.pop() else {
+        return Err(Fault::Wrong);
+    };
+    expect(counter.draw(&mut first) == Some(0) && counter.draw(&mut second) == Some(1))?;
+    expect(counter.draw(&mut first) == Some(2) && counter.draw(&mut second).is_none())?;
+    let both = vec![in alloc; first, second]?;
+    expect(counter.close(both).is_ok())
+}

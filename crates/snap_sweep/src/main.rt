@@ -1,0 +1,47 @@
+//! Makes each call that takes memory on a small worked case and says of each whether its answer is the whole one. Where memory
+//! is refused, as from outside, a call says so, what it leaves is as it promises, and the next line is whole again. No user runs
+//! it; a script refuses it each allocation in turn.
+#![tactic(auto)]
+
+mod boards;
+mod fault;
+mod histories;
+mod recordings;
+mod texts;
+
+use fault::Fault;
+
+// How a case ended, in words.
+fn outcome(seen: Result<(), Fault>) -> &'static str {
+    match seen {
+        Ok(()) => "whole",
+        Err(Fault::Memory) => "out of memory",
+        Err(Fault::Wrong) => "wrong",
+    }
+}
+
+fn main(rt: HostRuntime) {
+    let alloc = rt.alloc();
+    let cases = [
+        ("push", histories::push(alloc)),
+        ("index", histories::index(alloc)),
+        ("order", histories::order(&rt, alloc)),
+        ("tally", histories::tally_of_pieces(&rt, alloc)),
+        ("claims", histories::claims(alloc)),
+        ("read", texts::read(alloc)),
+        ("write", texts::write(alloc)),
+        ("write with stamps", texts::write_stamped(alloc)),
+        ("fields", texts::fields(alloc)),
+        ("report", texts::report_of_faults(alloc)),
+        ("refusal", texts::refusal(alloc)),
+        ("verdict", texts::verdict(alloc)),
+        ("collect", boards::collect(alloc)),
+        ("scan", boards::scan(alloc)),
+        ("relay", recordings::relay(&rt, alloc)),
+        ("recording", recordings::recording(&rt, alloc)),
+    ];
+    for (name, seen) in cases {
+        let words = outcome(seen);
+        let _ = println!(rt; "{name}: {words}");
+    }
+}

@@ -1,0 +1,74 @@
+//! Records that go through a relay, and recordings.
+ghost use Rattle.std.specs.Prelude.{◌≡◌};
+ghost use Rattle.snap_record.specs.Relays.{IsSenderOf, IsTakerOf};
+
+use crate::fault::{Fault, expect};
+use snap_core::OpenGate;
+use snap_record::{Record, RecordedOp, Relay, Sender, Taker, record_plan, rounds_plan};
+use snap_testing::entry;
+use std::alloc::Global;
+use std::sync::Wait;
+use std::thread::Threads;
+
+// Sends a record of a process. Where it is refused it comes back, and is sent again.
+fn send<R: Wait>(
+    rt: &R,
+    alloc: Global,
+    relay: &Relay,
+    sender: &mut Sender,
+    process: u16,
+) -> Result<(), Fault>
+    requires start { IsSenderOf relay.now sender.old }
+    requires own { process ≡ sender.old.place }
+    ensures { IsSenderOf relay.now sender.new }
+{
+    let record = Record {
+        process,
+        begun: 0,
+        ended: 1,
+        op: RecordedOp::Stored(entry(0, 1, 7)),
+    };
+    let Err(back) = relay.send(rt, alloc, sender, record) else {
+        return Ok(());
+    };
+    match relay.send(rt, alloc, sender, back) {
+        Ok(()) => Ok(()),
+        Err(_again) => Err(Fault::Memory),
+    }
+}
+
+// The next record is one of this process.
+fn expect_next<R: Wait>(rt: &R, relay: &Relay, taker: &mut Taker, process: u16) -> Result<(), Fault>
+    requires { IsTakerOf relay.now taker.old }
+    ensures { IsTakerOf relay.now taker.new }
+{
+    let Some(record) = relay.next(rt, taker) else {
+        return Err(Fault::Wrong);
+    };
+    expect(record.process == process)
+}
+
+/// Records of two senders come in the order in which they were sent.
+pub fn relay<R: Wait>(rt: &R, alloc: Global) -> Result<(), Fault> {
+    let (relay, mut senders, mut taker) = Relay::start(rt, alloc, 2)?;
+    let Some(mut one) = senders.pop() else {
+        return Err(Fault::Wrong);
+    };
+    let Some(mut zero) = senders.pop() else {
+        return Err(Fault::Wrong);
+    };
+    expect(relay.next(rt, &mut taker).is_none())?;
+    send(rt, alloc, &relay, &mut one, 1)?;
+    send(rt, alloc, &relay, &mut zero, 0)?;
+    expect_next(rt, &relay, &mut taker, 1)?;
+    expect_next(rt, &relay, &mut taker, 0)?;
+    let both = vec![in alloc; zero, one]?;
+    expect(relay.finish(rt, both, taker).is_ok())
+}
+
+/// Two workers in three rounds of a store and a view each make 24 events.
+pub fn recording<R: Threads + Wait + Sync>(rt: &R, alloc: Global) -> Result<(), Fault> {
+    let plan = rounds_plan(alloc, 2, 3, false)?;
+    let recording = record_plan(rt, alloc, &plan, &OpenGate)?;
+    expect(recording.history.len() == 24)
+}

@@ -1,0 +1,114 @@
+//! Texts of histories, and reports.
+use crate::fault::{Fault, expect};
+use snap_conditions::{is_atomic, tally_range};
+use snap_core::{Counted, Event};
+use snap_csv::{
+    TextFault, WriteRefusal, fields_of, read_history, write_history, write_history_stamped,
+};
+use snap_index::Index;
+use snap_report::{refusal_text, report};
+use snap_testing::worked::{CROSSED_VIEWS, VIEW_BESIDE_UPDATE};
+use snap_testing::{Cup, entry, history_of};
+use snap_verdict::{Status, judge_text};
+use std::alloc::{AllocError, Global};
+
+const VIEW_BESIDE_UPDATE_TEXT: &[u8] =
+    b"event,process,op,data\nbegin,0,update,0:1:3\nbegin,1,view,\nend,1,view,\nend,0,update,\n";
+
+const VIEW_BESIDE_UPDATE_STAMPED: &[u8] =
+    b"at,event,process,op,data\n2,begin,0,update,0:1:3\n3,begin,1,view,\n5,end,1,view,\n\
+      8,end,0,update,\n";
+
+const VIEW_BESIDE_UPDATE_REPORT: &[u8] =
+    b"events 4 calls 2 pending 0 views 1\nregular yes\natomic yes\norder 2\n2 p1 view\n\
+      1 p0 update 0:1:3\n";
+
+const CROSSED_VIEWS_REPORT: &[u8] = b"events 8 calls 4 pending 0 views 2\nregular yes\natomic no\n\
+      read 2 first view 3 view 4 component 0\n";
+
+/// A text of each version is read.
+pub fn read(alloc: Global) -> Result<(), Fault> {
+    for text in [VIEW_BESIDE_UPDATE_TEXT, VIEW_BESIDE_UPDATE_STAMPED] {
+        let history = read_history(alloc, &mut Counted::new(text))?;
+        expect(history.len() == 4)?;
+    }
+    Ok(())
+}
+
+// A writer that has its memory already.
+fn cup(alloc: Global) -> Result<Counted<Cup>, AllocError> {
+    Ok(Counted::new(Cup {
+        held: Vec::with_capacity(alloc, 256)?,
+        room: 256,
+        at_once: 256,
+        fails_when_full: true,
+        fails_at_flush: false,
+    }))
+}
+
+// The text was written, or nothing, for want of memory, and no failure counted.
+fn expect_written(
+    answer: Result<(), WriteRefusal>,
+    writer: Counted<Cup>,
+    text: &[u8],
+) -> Result<(), Fault> {
+    let wanted: &[u8] = if answer.is_ok() { text } else { b"" };
+    expect(writer.failures() == 0 && writer.into_inner().held.as_slice() == wanted)?;
+    Ok(answer?)
+}
+
+/// A text is written whole, or nothing of it.
+pub fn write(alloc: Global) -> Result<(), Fault> {
+    let history = history_of(alloc, VIEW_BESIDE_UPDATE)?;
+    let mut writer = cup(alloc)?;
+    let answer = write_history(alloc, &mut writer, &history);
+    expect_written(answer, writer, VIEW_BESIDE_UPDATE_TEXT)
+}
+
+/// The same with stamps.
+pub fn write_stamped(alloc: Global) -> Result<(), Fault> {
+    let history = history_of(alloc, VIEW_BESIDE_UPDATE)?;
+    if history.len() != 4 {
+        return Err(Fault::Wrong);
+    }
+    let mut writer = cup(alloc)?;
+    let answer = write_history_stamped(alloc, &mut writer, &history, &[2, 3, 5, 8]);
+    expect_written(answer, writer, VIEW_BESIDE_UPDATE_STAMPED)
+}
+
+/// The four fields of an event.
+pub fn fields(alloc: Global) -> Result<(), Fault> {
+    let event = Event::BeginUpdate {
+        process: 0,
+        entry: entry(0, 1, 3),
+    };
+    let fields = fields_of(alloc, &event)?;
+    expect(fields[0].as_slice() == b"begin".as_slice())?;
+    expect(fields[1].as_slice() == b"0".as_slice())?;
+    expect(fields[2].as_slice() == b"update".as_slice())?;
+    expect(fields[3].as_slice() == b"0:1:3".as_slice())
+}
+
+/// The report of a history with faults.
+pub fn report_of_faults(alloc: Global) -> Result<(), Fault> {
+    let history = history_of(alloc, CROSSED_VIEWS)?;
+    let index = Index::build(alloc, &history)?;
+    let tally = tally_range(&index, 0, index.view_count());
+    if is_atomic(&tally) {
+        return Err(Fault::Wrong);
+    }
+    let text = report(alloc, &index, &tally, None)?;
+    expect(text.as_slice() == CROSSED_VIEWS_REPORT)
+}
+
+/// The line of a text that is refused.
+pub fn refusal(alloc: Global) -> Result<(), Fault> {
+    let text = refusal_text(alloc, 3, TextFault::Busy)?;
+    expect(text.as_slice() == b"refused record 3: busy\n".as_slice())
+}
+
+/// The status and the report of a text.
+pub fn verdict(alloc: Global) -> Result<(), Fault> {
+    let (status, text) = judge_text(alloc, VIEW_BESIDE_UPDATE_TEXT)?;
+    expect(status == Status::Atomic && text.as_slice() == VIEW_BESIDE_UPDATE_REPORT)
+}
