@@ -23,7 +23,7 @@ CALLS = os.path.join(HERE, "..", "crates", "snap_sweep", "stdout")
 LIMIT = 60
 ALL = 2**64 - 1
 # the verdicts of a report, in the order of their lines
-VERDICTS = ("regular", "atomic")
+VERDICTS = ("regular", "monotone", "atomic")
 HEADER, STAMPED = b"event,process,op,data\n", b"at,event,process,op,data\n"
 # what a program says that was refused memory, or whose device failed
 OUT_OF_MEMORY, READ_FAILED, WRITE_FAILED = (b"snapjudge: %s\n" % why for why in (b"out of memory", b"read failed", b"write failed"))
