@@ -89,3 +89,17 @@ fn a_writer_that_fails_has_a_front_of_the_report(rt: HostRuntime) -> Result<(), 
     }
     Ok(())
 }
+
+#[test]
+fn any_write_that_fails_ends_the_run_behind_the_bytes_before_it(
+    rt: HostRuntime,
+) -> Result<(), Fail> {
+    let text = history(rt.alloc(), STALE_VIEW)?;
+    let cutting = cutting(2, 2)?;
+    for room in 0..STALE_REPORT.len() {
+        let cup = Cup::new(rt.alloc(), room, 1, true, false);
+        let found = poured(&rt, rt.alloc(), text.as_bytes(), cutting, cup);
+        same(found, ("write failed", room, true))?;
+    }
+    Ok(())
+}

@@ -129,7 +129,7 @@ fn views_that_wait_for_both_stores_show_both(rt: HostRuntime) -> Result<(), Fail
     )
 }
 
-// The recording of a plan into a cup for ten bytes fails, and this is in the cup.
+// The recording of a plan fails into each cup with room for less than these bytes, and a front of them is in the cup.
 fn expect_front<Rt: Threads + Wait + Sync>(
     rt: &Rt,
     alloc: Global,
@@ -138,20 +138,44 @@ fn expect_front<Rt: Threads + Wait + Sync>(
     cutting: Cutting,
     front: &[u8],
 ) -> Result<(), Fail> {
-    let mut writer = Counted::new(Cup::new(alloc, 10, 100, true, false));
-    let answer = record_run(rt, alloc, plan, judge, &mut writer, cutting, &OpenGate);
-    let failures = writer.failures();
-    let is_front = writer.into_inner().held.as_slice() == front;
-    same(
-        (end_of(answer), failures, is_front),
-        ("write failed", 1, true),
-    )
+    for room in 0..front.len() {
+        let mut writer = Counted::new(Cup::new(alloc, room, 1, true, false));
+        let answer = record_run(rt, alloc, plan, judge, &mut writer, cutting, &OpenGate);
+        let failures = writer.failures();
+        let is_front = writer.into_inner().held.as_slice() == &front[..room];
+        same(
+            (end_of(answer), failures, is_front),
+            ("write failed", 1, true),
+        )?;
+    }
+    Ok(())
 }
 
 #[test]
 fn a_recording_whose_writer_fails_has_a_front_of_its_text(rt: HostRuntime) -> Result<(), Fail> {
     let plan = one_round(rt.alloc())?;
     let cutting = cutting(8, 2)?;
-    expect_front(&rt, rt.alloc(), &plan, false, cutting, b"event,proc")?;
-    expect_front(&rt, rt.alloc(), &plan, true, cutting, b"events 8 c")
+    let text = b"event,process,op,data\nbegin,";
+    expect_front(&rt, rt.alloc(), &plan, false, cutting, text)?;
+    let report = b"events 8 calls 4 pending 0 views 2\nregular yes\n";
+    expect_front(&rt, rt.alloc(), &plan, true, cutting, report)
+}
+
+#[test]
+fn a_recording_whose_flush_fails_is_written_whole(rt: HostRuntime) -> Result<(), Fail> {
+    let plan = one_round(rt.alloc())?;
+    let cutting = cutting(8, 2)?;
+    let mut writer = Counted::new(Cup::new(rt.alloc(), 1000, 1000, true, true));
+    let answer = record_run(
+        &rt,
+        rt.alloc(),
+        &plan,
+        false,
+        &mut writer,
+        cutting,
+        &OpenGate,
+    );
+    same(end_of(answer), "write failed")?;
+    same(writer.failures(), 1)?;
+    expect_text(&writer.into_inner().held, 8, &["end,1,update,"])
 }
