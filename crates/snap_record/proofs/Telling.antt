@@ -1,6 +1,7 @@
 -- The history of two desks' records.
-use Rattle.std.proofs.Common.{◌≡◌, ℕ, map, zero, suc, ◌*◌, List, [], ◌∷◌, ◌++◌, length, refl, sym, ap, ◌∙◌, subst, inl, inr, arith}
-use Rattle.std.specs.List.Sorted.{IsPermutation}
+use Rattle.std.proofs.Common.{◌≡◌, ℕ, map, zero, suc, ◌+◌, ◌<◌, ◌*◌, List, [], ◌∷◌, ◌++◌, length, refl, sym, ap, ◌∙◌, subst, inl, inr, arith}
+use Rattle.std.specs.List.Sorted.{IsPermutation, IsStrictlyIncreasing}
+use Rattle.std.specs.Prelude.{slice_index}
 use Rattle.snap_core.specs.Events.{events_of, IsHistory}
 use Rattle.snap_core.specs.Calls.{calls_of}
 use Rattle.snap_core.specs.Monotone.{IsMonotone}
@@ -12,8 +13,8 @@ use Rattle.snap_record.proofs.Atomic.{atomic, all_scans}
 use Rattle.snap_record.specs.declared.account.Account.{Account}
 use Rattle.snap_record.specs.declared.record.Record.{Record}
 use Rattle.snap_record.specs.Delivery.{of_worker, AreBelow}
-use Rattle.snap_record.specs.History.{stamped_events, events_in, Merged, AreApart, AllCompleted, all_records}
-use Rattle.snap_record.specs.Recording.{AreSettled, IsTold}
+use Rattle.snap_record.specs.History.{stamped_events, events_in, event_stamps, Merged, AreApart, AllCompleted, all_records, Stamped}
+use Rattle.snap_record.specs.Recording.{AreSettled, AreStamped, IsTold}
 use Rattle.snap_record.proofs.ByWorker.{by_worker, sorted_out}
 use Rattle.snap_record.proofs.Stamps.{Stamp}
 use Rattle.snap_record.proofs.DeskEvents.{events_at}
@@ -51,6 +52,16 @@ module _ (all : List Record) (l0 l1 : List ℕ) (v0 v1 : ℕ) (s : AreSettled (o
   pub told_monotone : (es : List Stamp) → Merged all es → IsMonotone (calls_of (events_in es))
   told_monotone es m = monotone 2 hand es s.settled (in_hand es m)
 
+  pub told_stamps : (es : List Stamp) → Merged all es → AreStamped 2 (events_in es) (event_stamps es)
+  told_stamps es m = record {
+    accounts = hand;
+    closed = s.settled;
+    timeline = es;
+    merged = merged_permuted all (all_records hand) es permuted m;
+    events_are = refl;
+    stamps_are = refl;
+  }
+
   -- where no desk collected, the accounts without collects have the same records
   same_records : v0 ≡ 0 → v1 ≡ 0 → all_records (map without_collects hand) ≡ all_records hand
   same_records z0 z1 = λ i. records_kept s.one_account.desk s.one_account.calls (s.one_views ∙ z1) i ++ (records_kept s.zero_account.desk s.zero_account.calls (s.zero_views ∙ z0) i ++ [])
@@ -69,3 +80,11 @@ module _ (all : List Record) (l0 l1 : List ℕ) (v0 v1 : ℕ) (s : AreSettled (o
 pub stamped_length : (rs : List Record) → length (stamped_events rs) ≡ 2 * length rs
 stamped_length [] = refl
 stamped_length (r ∷ rs) = let l = stamped_length rs in omega arith
+
+pub stamps_rise : (es : List Stamp) → Stamped es → IsStrictlyIncreasing (event_stamps es)
+stamps_rise [] s k lt = absurd (omega (arith, lt))
+stamps_rise (x ∷ []) s zero lt = absurd (omega (arith, lt))
+stamps_rise (x ∷ y ∷ es) s zero lt = s.0 y (inl refl)
+stamps_rise (x ∷ es) s (suc k) lt =
+    let e : suc (k + 1) ≡ suc k + 1 = omega arith in
+    subst (λ (z : ℕ). slice_index (event_stamps es) k < slice_index (event_stamps (x ∷ es)) z) e (stamps_rise es s.1 k (omega (arith, lt)))

@@ -45,6 +45,10 @@ pub record Merged (rs : List Record) (es : List (ℕ × Event)) : Type 0 where
   pub all : (x : ℕ × Event) → Mem x (stamped_events rs) → Mem x es
   pub only : (x : ℕ × Event) → Mem x es → Mem x (stamped_events rs)
 
+-- the stamps of events
+abbrev pub event_stamps : List (ℕ × Event) → List ℕ
+event_stamps es = map (λ (x : ℕ × Event). x.0) es
+
 abbrev pub events_in : List (ℕ × Event) → List Event
 events_in es = map (λ (x : ℕ × Event). x.1) es
 

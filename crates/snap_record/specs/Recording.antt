@@ -9,7 +9,7 @@ use Rattle.snap_record.specs.Delivery.{of_worker, AreBelow}
 use Rattle.snap_record.specs.Desks.{records_in, lost_in, collects_in}
 use Rattle.snap_record.specs.Regular.{Settled, ScansSettled}
 use Rattle.snap_record.specs.Choices.{views_in}
-use Rattle.snap_record.specs.History.{stamped_events, events_in}
+use Rattle.snap_record.specs.History.{all_records, event_stamps, events_in, stamped_events, Merged}
 use Rattle.snap_record.specs.Scripts.{DidSome}
 
 -- what two desks did on a board that was closed: their records, the tries of their scans without a record, and how often they collected
@@ -47,3 +47,12 @@ pub record DidScripts (scripts : List (List Step)) (records : List Record) (inte
 -- each process has in the history the events of its records, and no others
 abbrev pub IsTold : List Record → List Event → Type 0
 IsTold records history = (p : ℕ) → events_of p history ≡ events_in (stamped_events (of_worker p records))
+
+-- the events are the begins and ends of the records of n desks whose board was closed, in the order of their stamps, and these are the stamps
+pub record AreStamped (n : ℕ) (history : List Event) (stamps : List ℕ) : Type 0 where
+  pub accounts : List Account
+  pub closed : Settled n accounts
+  pub timeline : List (ℕ × Event)
+  pub merged : Merged (all_records accounts) timeline
+  pub events_are : history ≡ events_in timeline
+  pub stamps_are : stamps ≡ event_stamps timeline

@@ -1,4 +1,5 @@
 ghost use Rattle.std.specs.Prelude.{◌≡◌, ◌*◌, ◌≤◌, [], IfOk, length, true};
+ghost use Rattle.std.specs.List.Sorted.{IsStrictlyIncreasing};
 ghost use Rattle.snap_core.specs.Events.{event_limit};
 ghost use Rattle.snap_core.specs.Calls.{calls_of};
 ghost use Rattle.snap_core.specs.Monotone.{IsMonotone};
@@ -9,7 +10,7 @@ ghost use Rattle.snap_record.specs.History.{AllCompleted};
 ghost use Rattle.snap_record.specs.Plans.{HasScripts, HasWholeScripts, HasNoScans, HasNoViews, draws_within};
 ghost use Rattle.snap_record.specs.Rule.{tick_limit};
 ghost use Rattle.snap_core.specs.Orders.{IsAtomic};
-ghost use Rattle.snap_record.specs.Recording.{AreSettled, DidScripts};
+ghost use Rattle.snap_record.specs.Recording.{AreSettled, AreStamped, DidScripts};
 ghost use Rattle.snap_record.specs.Relays.{IsSenderOf, IsTakerOf};
 ghost use Rattle.snap_record.specs.Workers.{IsWorkerOf, IsUnused, HasRun, IsTakenOf};
 
@@ -18,18 +19,20 @@ use crate::plan::{Plan, Step};
 use crate::record::Record;
 use crate::relay::{Relay, Sender, Taker};
 use crate::taking::{Taken, take_all, take_some};
-use crate::timeline::{history_of, in_order};
+use crate::timeline::{history_of, in_order, stamps_of};
 use crate::worker::{Ran, Recorder, Worker, run_script};
 use snap_core::{Gate, History};
 use std::alloc::{AllocError, Global};
 use std::sync::Wait;
 use std::thread::{Threads, join};
 
-/// A history that was recorded, and how many scans without a record were left out of it.
+/// A history that was recorded, how many scans without a record were left out of it, and for each of its events the stamp
+/// that the board gave it.
 #[derive(Drop)]
 pub struct Recording {
     pub history: History,
     pub interfered: u32,
+    pub stamps: Vec<u64>,
 }
 
 /// Why nothing was recorded.
@@ -198,12 +201,17 @@ fn tell(
     ensures scripts { IfOk result (λ r. HasScripts plan.now r.history r.interfered) }
     ensures whole { HasNoScans plan.now → IfOk result (λ r. HasWholeScripts plan.now r.history) }
     ensures none_left { HasNoScans plan.now → IfOk result (λ r. r.interfered ≡ 0) }
+    ensures stamps { IfOk result (λ r. AreStamped (length plan.now) r.history r.stamps.items) }
+    ensures rising { IfOk result (λ r. IsStrictlyIncreasing r.stamps.items) }
+    ensures each_stamp { IfOk result (λ r. length r.stamps.items ≡ length r.history) }
 {
     let events = in_order(alloc, all)?;
+    let stamps = stamps_of(alloc, &events)?;
     let history = history_of(alloc, events)?;
     Ok(Recording {
         history,
         interfered,
+        stamps,
     })
 }
 
@@ -215,7 +223,8 @@ fn tell(
 ///
 /// The history is regular and monotone and has no pending call, and it is atomic where no script has a collect. Worker w is process w
 /// in it, with the calls of its script in their order, each once, and there is no other call; but scans that were
-/// interfered with are left out, as many in all as `interfered` says.
+/// interfered with are left out, as many in all as `interfered` says. The stamps are the board's: for each event that of
+/// its record's begin or end, strictly rising.
 pub fn record_plan<R: Threads + Wait + Sync, G: Gate>(
     rt: &R,
     alloc: Global,
@@ -229,6 +238,9 @@ pub fn record_plan<R: Threads + Wait + Sync, G: Gate>(
     ensures scripts { IfOk result (λ r. HasScripts plan.now r.history r.interfered) }
     ensures whole { HasNoScans plan.now → IfOk result (λ r. HasWholeScripts plan.now r.history) }
     ensures none_left { HasNoScans plan.now → IfOk result (λ r. r.interfered ≡ 0) }
+    ensures stamps { IfOk result (λ r. AreStamped (length plan.now) r.history r.stamps.items) }
+    ensures rising { IfOk result (λ r. IsStrictlyIncreasing r.stamps.items) }
+    ensures each_stamp { IfOk result (λ r. length r.stamps.items ≡ length r.history) }
 {
     let Ok((all, interfered)) = run_plan(rt, alloc, plan, gate) else {
         return Err(RecordRefusal::Memory);

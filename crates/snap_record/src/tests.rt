@@ -196,6 +196,7 @@ fn each_worker_sees_its_own_store(rt: HostRuntime) -> Result<(), Fail> {
         panic!(rt; "no memory")
     };
     assert!(rt; recording.history.len() == 8 && recording.interfered == 0);
+    assert!(rt; recording.stamps.as_slice() == [0, 1, 2, 3, 4, 5, 6, 7].as_slice());
     assert!(rt; updates(&recording, 0, 0, 5) && updates(&recording, 1, 1, 6));
     assert!(rt; shows(&recording, 0).0 && shows(&recording, 1).1);
     Ok(())

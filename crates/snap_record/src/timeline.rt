@@ -1,6 +1,6 @@
 ghost use Rattle.std.specs.Prelude.{◌≡◌, ◌≤◌, IfOk, length};
 ghost use Rattle.snap_core.specs.Events.{IsHistory, event_limit};
-ghost use Rattle.snap_record.specs.History.{begin_of, end_of, stamped_events, events_in, Merged, AreApart};
+ghost use Rattle.snap_record.specs.History.{begin_of, end_of, stamped_events, events_in, event_stamps, Merged, AreApart};
 
 use crate::record::{Record, RecordedOp};
 use snap_core::{Event, EventRefusal, History};
@@ -56,6 +56,17 @@ pub(crate) fn in_order(alloc: Global, all: Vec<Record>) -> Result<Vec<(u64, Even
         { event.0 },
     );
     Ok(events)
+}
+
+/// The stamps of these events.
+pub(crate) fn stamps_of(alloc: Global, events: &[(u64, Event)]) -> Result<Vec<u64>, AllocError>
+    ensures { IfOk result (λ stamps. stamps.items ≡ event_stamps events.now) }
+{
+    let mut stamps = Vec::new(alloc);
+    'each: for k in 0..events.len() {
+        stamps.push(events[k].0)?;
+    }
+    Ok(stamps)
 }
 
 /// The history of these events.

@@ -2,6 +2,7 @@ ghost use Rattle.snap_record.specs.Desks.{IsDeskOf};
 
 use super::{is_store, is_view};
 use crate::{Board, Desk, Plan, PlanRefusal, ScanRefusal, Step, record_plan};
+use snap_core::OpenGate;
 use snap_testing::{Meeting, entry};
 use std::alloc::Global;
 use std::test::Fail;
@@ -105,6 +106,20 @@ fn two_workers_scan_behind_their_stores(rt: HostRuntime) -> Result<(), Fail> {
         let seen = super::shows(&recording, process);
         assert!(rt; seen.0 && seen.1);
     }
+    Ok(())
+}
+
+#[test]
+fn the_stamps_of_a_lone_scan_leave_its_middle_tick_out(rt: HostRuntime) -> Result<(), Fail> {
+    let alloc = rt.alloc();
+    let first = vec![in alloc; Step::Store(9), Step::Scan(3), Step::Store(8)]?;
+    let Ok(plan) = Plan::new(vec![in alloc; first, Vec::new(alloc)]?) else {
+        panic!(rt; "no plan")
+    };
+    let Ok(recording) = record_plan(&rt, alloc, &plan, &OpenGate) else {
+        panic!(rt; "no memory")
+    };
+    assert!(rt; recording.stamps.as_slice() == [0, 1, 2, 4, 5, 6].as_slice());
     Ok(())
 }
 

@@ -1,12 +1,16 @@
-use Rattle.std.proofs.Common.{List, sym, subst, arith}
+use Rattle.std.proofs.Common.{ℕ, List, length, sym, ap, subst, arith, ◌∙◌}
+use Rattle.std.specs.List.Sorted.{IsStrictlyIncreasing}
+use Rattle.std.proofs.lemmas.List.{length-map}
+use Rattle.snap_record.specs.Recording.{AreStamped}
+use Rattle.snap_record.proofs.Stamps.{Stamp}
 use Rattle.snap_core.specs.declared.event.Event.{Event}
 use Rattle.snap_core.specs.Calls.{calls_of}
 use Rattle.snap_core.specs.Orders.{IsAtomic}
 use Rattle.snap_core.specs.Monotone.{IsMonotone}
 use Rattle.snap_core.specs.Regular.{IsRegular}
-use Rattle.snap_record.specs.History.{AllCompleted}
+use Rattle.snap_record.specs.History.{AllCompleted, event_stamps}
 use Rattle.snap_record.specs.Plans.{HasScripts}
-use Rattle.snap_record.proofs.Telling.{apart, told_history, told_completed, told_regular, told_monotone, told_atomic, told, stamped_length}
+use Rattle.snap_record.proofs.Telling.{apart, told_history, told_completed, told_regular, told_monotone, told_atomic, told, told_stamps, stamps_rise, stamped_length}
 use Rattle.snap_record.proofs.Planning.{has_scripts}
 use Rattle.snap_record.proofs.Whole.{whole_scripts, none_interfered}
 use Rattle.snap_record.proofs.recorder.tell.Goals as goal
@@ -46,3 +50,18 @@ returns-clause-whole c none = whole_scripts c.args.plan.now c.in_ok-history.hist
 
 pub returns-clause-none_left : goal.returns-clause-none_left
 returns-clause-none_left c none = none_interfered c.args.plan.now c.in_ok-history.history c.args.interfered (returns-clause-scripts c) none
+
+pub returns-clause-stamps : goal.returns-clause-stamps
+returns-clause-stamps c = let d = c.requires.did in
+    let stamps = c.in_ok-stamps.ensures ∙ ap event_stamps c.deref.ensures.value in
+    subst (λ (z : ℕ × (List Event × List ℕ)). AreStamped z.0 z.1.0 z.1.1) (λ i. (sym d.two i, (sym c.in_ok-history.ensures i, sym stamps i)))
+    (told_stamps c.args.all.items d.lost d.lost' _ _ d.settled d.no_other c.in_ok-events.events.items c.in_ok-events.ensures.merged)
+
+pub returns-clause-rising : goal.returns-clause-rising
+returns-clause-rising c =
+    subst IsStrictlyIncreasing (sym (c.in_ok-stamps.ensures ∙ ap event_stamps c.deref.ensures.value)) (stamps_rise c.in_ok-events.events.items c.in_ok-events.ensures.merged.stamped)
+
+pub returns-clause-each_stamp : goal.returns-clause-each_stamp
+returns-clause-each_stamp c =
+    ap length (c.in_ok-stamps.ensures ∙ ap event_stamps c.deref.ensures.value) ∙ length-map c.in_ok-events.events.items (λ (x : Stamp). x.0)
+    ∙ sym (ap length c.in_ok-history.ensures ∙ length-map c.in_ok-events.events.items (λ (x : Stamp). x.1))
