@@ -1,9 +1,10 @@
 -- What the parser makes of some words.
 use Rattle.std.proofs.Common.{◌≡◌, ℕ, List, Option, Some, None, [], ◌∷◌, true, false, refl, sym, ap, arith, codes}
+use Rattle.std.proofs.lemmas.Bool.{false≢true}
 use Rattle.clap.specs.Words.{is_simple, subcommand_of, takes, Row, Text}
 use Rattle.clap.proofs.OnLiterals.{clap_on_literals}
 use Rattle.snapjudge.specs.CommandLine.{program_app}
-use Rattle.snapjudge.specs.Jobs.{AsksCheck, AsksRecord}
+use Rattle.snapjudge.specs.Jobs.{AsksCheck, AsksRecord, no_flags}
 use Rattle.snapjudge.proofs.Numbers.{eight_text, five_text, sixteen_text, two_text}
 
 abbrev rows_in : Option (Text × List Row) → List Row
@@ -37,7 +38,7 @@ unfolding clap_on_literals
 record_is_taken name = refl
 
 -- the matches of `record` alone: its options have their defaults
-pub record_alone : (name : List ℕ) → (rows : List Row) × (subcommand_of program_app (name ∷ codes "record" ∷ []) ≡ Some (codes "record", rows)) × AsksRecord rows 16 false false
+pub record_alone : (name : List ℕ) → (rows : List Row) × (subcommand_of program_app (name ∷ codes "record" ∷ []) ≡ Some (codes "record", rows)) × AsksRecord rows 16 no_flags
 unfolding clap_on_literals
 record_alone name = (
   rows_in (subcommand_of program_app (name ∷ codes "record" ∷ [])),
@@ -45,10 +46,12 @@ record_alone name = (
   record {
     some_rounds = omega arith;
     rounds_fit = omega arith;
+    one_output = λ _. refl;
     workers_are = ap Some (sym two_text);
     rounds_are = ap Some (sym sixteen_text);
     judge_is = refl;
     scan_is = refl;
+    stamped_is = refl;
   },
 )
 
@@ -57,7 +60,7 @@ unfolding clap_on_literals
 judged_is_taken name = refl
 
 -- the matches of `record --rounds 5 --judge`
-pub record_judged : (name : List ℕ) → (rows : List Row) × (subcommand_of program_app (name ∷ codes "record" ∷ codes "--rounds" ∷ codes "5" ∷ codes "--judge" ∷ []) ≡ Some (codes "record", rows)) × AsksRecord rows 5 true false
+pub record_judged : (name : List ℕ) → (rows : List Row) × (subcommand_of program_app (name ∷ codes "record" ∷ codes "--rounds" ∷ codes "5" ∷ codes "--judge" ∷ []) ≡ Some (codes "record", rows)) × AsksRecord rows 5 (record no_flags { judge = true })
 unfolding clap_on_literals
 record_judged name = (
   rows_in (subcommand_of program_app (name ∷ codes "record" ∷ codes "--rounds" ∷ codes "5" ∷ codes "--judge" ∷ [])),
@@ -65,10 +68,12 @@ record_judged name = (
   record {
     some_rounds = omega arith;
     rounds_fit = omega arith;
+    one_output = λ _. refl;
     workers_are = ap Some (sym two_text);
     rounds_are = ap Some (sym five_text);
     judge_is = refl;
     scan_is = refl;
+    stamped_is = refl;
   },
 )
 
@@ -77,7 +82,7 @@ unfolding clap_on_literals
 scanned_is_taken name = refl
 
 -- the matches of `record --scan`
-pub record_scanned : (name : List ℕ) → (rows : List Row) × (subcommand_of program_app (name ∷ codes "record" ∷ codes "--scan" ∷ []) ≡ Some (codes "record", rows)) × AsksRecord rows 16 false true
+pub record_scanned : (name : List ℕ) → (rows : List Row) × (subcommand_of program_app (name ∷ codes "record" ∷ codes "--scan" ∷ []) ≡ Some (codes "record", rows)) × AsksRecord rows 16 (record no_flags { scan = true })
 unfolding clap_on_literals
 record_scanned name = (
   rows_in (subcommand_of program_app (name ∷ codes "record" ∷ codes "--scan" ∷ [])),
@@ -85,9 +90,33 @@ record_scanned name = (
   record {
     some_rounds = omega arith;
     rounds_fit = omega arith;
+    one_output = λ _. refl;
     workers_are = ap Some (sym two_text);
     rounds_are = ap Some (sym sixteen_text);
     judge_is = refl;
     scan_is = refl;
+    stamped_is = refl;
+  },
+)
+
+pub stamped_is_taken : (name : List ℕ) → takes program_app (name ∷ codes "record" ∷ codes "--stamped" ∷ []) ≡ true
+unfolding clap_on_literals
+stamped_is_taken name = refl
+
+-- the matches of `record --stamped`
+pub record_stamped : (name : List ℕ) → (rows : List Row) × (subcommand_of program_app (name ∷ codes "record" ∷ codes "--stamped" ∷ []) ≡ Some (codes "record", rows)) × AsksRecord rows 16 (record no_flags { stamped = true })
+unfolding clap_on_literals
+record_stamped name = (
+  rows_in (subcommand_of program_app (name ∷ codes "record" ∷ codes "--stamped" ∷ [])),
+  refl,
+  record {
+    some_rounds = omega arith;
+    rounds_fit = omega arith;
+    one_output = λ judged. absurd (false≢true judged);
+    workers_are = ap Some (sym two_text);
+    rounds_are = ap Some (sym sixteen_text);
+    judge_is = refl;
+    scan_is = refl;
+    stamped_is = refl;
   },
 )

@@ -4,7 +4,7 @@ use Rattle.std.specs.Prelude.{IfOk}
 use Rattle.snap_core.specs.declared.event.Event.{Event}
 use Rattle.snap_core.specs.Calls.{calls_of}
 use Rattle.snap_core.specs.Orders.{IsAtomic}
-use Rattle.snap_csv.specs.Spelling.{history_text}
+use Rattle.snap_csv.specs.Spelling.{history_text, stamped_text}
 use Rattle.snap_csv.proofs.LengthFacts.{text_short}
 use Rattle.snap_csv.proofs.TextFacts.{text_reads}
 use Rattle.snap_record.specs.declared.plan.Step.{Step}
@@ -12,7 +12,7 @@ use Rattle.snapjudge.specs.declared.fault.RunFault.{RunFault}
 use Rattle.snapjudge.specs.declared.fault.RunFault.TheVariants as faults
 use Rattle.snap_verdict.specs.declared.status.Status.{Status}
 use Rattle.snap_verdict.specs.declared.status.Status.TheVariants.{Atomic, Recorded, Regular}
-use Rattle.snapjudge.specs.RecordRuns.{IsRecorded, IsRecordingOf, IsRecordingReport, WroteAs}
+use Rattle.snapjudge.specs.RecordRuns.{HasStamps, IsRecorded, IsRecordingOf, IsRecordingReport, IsStampedRecording, WroteAs}
 use Rattle.snap_verdict.specs.Statuses.{status_of}
 use Rattle.snap_verdict.specs.Verdicts.{IsVerdict}
 
@@ -40,6 +40,12 @@ pub text_written : (scripts : List (List Step)) (events : List Event) → IsReco
 text_written scripts events recording old new answer h =
     wrote_also (λ status out. (status ≡ Recorded) × (out ≡ history_text events)) (IsRecorded false scripts)
     (λ status out w. record { events = events; recording = recording; answers = w.0; writes = w.1 }) old new answer h
+
+pub stamped_written : (scripts : List (List Step)) (events : List Event) (stamps : List ℕ) → IsRecordingOf scripts events → HasStamps scripts events stamps → (old new : Option (List ℕ)) (answer : Result Status RunFault) →
+    WroteAs (λ status out. (status ≡ Recorded) × (out ≡ stamped_text stamps events)) old new answer → WroteAs (IsStampedRecording scripts) old new answer
+stamped_written scripts events stamps recording has_stamps old new answer h =
+    wrote_also (λ status out. (status ≡ Recorded) × (out ≡ stamped_text stamps events)) (IsStampedRecording scripts)
+    (λ status out w. record { events = events; stamps = stamps; recording = recording; has_stamps = has_stamps; answers = w.0; writes = w.1 }) old new answer h
 
 pub report_written : (scripts : List (List Step)) (events : List Event) → IsRecordingOf scripts events → (old new : Option (List ℕ)) (answer : Result Status RunFault) →
     WroteAs (IsVerdict events) old new answer → WroteAs (IsRecorded true scripts) old new answer

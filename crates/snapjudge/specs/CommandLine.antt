@@ -32,13 +32,17 @@ judge_rule = record (new_rule (codes "judge")) { long = Some (codes "judge"); ac
 abbrev pub scan_rule : Rule
 scan_rule = record (new_rule (codes "scan")) { long = Some (codes "scan"); action = Some SetTrue }
 
+-- --stamped
+abbrev pub stamped_rule : Rule
+stamped_rule = record (new_rule (codes "stamped")) { long = Some (codes "stamped"); action = Some SetTrue }
+
 -- record [--workers W] [--rounds R] ..
 abbrev pub rounds_app : App
 rounds_app = with_rule (with_rule (new_app (codes "record")) two_workers_rule) rounds_rule
 
--- .. [--judge] [--scan]
+-- .. [--judge] [--scan] [--stamped]
 abbrev pub record_app : App
-record_app = with_rule (with_rule rounds_app judge_rule) scan_rule
+record_app = with_rule (with_rule (with_rule rounds_app judge_rule) scan_rule) stamped_rule
 
 abbrev pub needs_subcommand : App → App
 needs_subcommand app = record app { top = record app.top { subcommand_required = true } }

@@ -5,20 +5,30 @@ use Rattle.snap_pairs.specs.Cuttings.{IsPieces, IsWorkers}
 use Rattle.snapjudge.specs.declared.job.Job.{Job}
 use Rattle.snapjudge.specs.declared.job.Job.TheVariants.{Check, Record}
 
--- the numbers of a job are in their ranges
+-- the numbers of a job are in their ranges, and no report is asked for with stamps
 abbrev pub IsInRange : Job → Type 0
 IsInRange (Check cutting) = IsPieces cutting.pieces × IsWorkers cutting.workers
-IsInRange (Record workers rounds judge scan) = (workers ≡ 2) × (0 < rounds) × (rounds ≤ 2048)
+IsInRange (Record workers rounds judge scan stamped) = (workers ≡ 2) × (0 < rounds) × (rounds ≤ 2048) × (judge ≡ true → stamped ≡ false)
 
 -- a check with so many pieces and workers
 abbrev pub IsCheck : ℕ → ℕ → Job → Type 0
 IsCheck pieces workers (Check cutting) = (cutting.pieces ≡ pieces) × (cutting.workers ≡ workers)
-IsCheck pieces workers (Record w rounds judge scan) = ⊥
+IsCheck pieces workers (Record w rounds judge scan stamped) = ⊥
 
--- a recording of so many workers and rounds, judged or not, of views or of scans
-abbrev pub IsRecord : ℕ → ℕ → Bool → Bool → Job → Type 0
-IsRecord workers rounds judge scan (Check cutting) = ⊥
-IsRecord workers rounds judge scan (Record w r j s) = (w ≡ workers) × (r ≡ rounds) × (j ≡ judge) × (s ≡ scan)
+-- the flags of a recording: its report in place of its history, scans in place of views, and the stamps of its events
+pub record Flags : Type 0 where
+  pub judge : Bool
+  pub scan : Bool
+  pub stamped : Bool
+
+abbrev pub no_flags : Flags
+no_flags = record { judge = false; scan = false; stamped = false }
+
+-- a recording of so many workers and rounds with these flags
+abbrev pub IsRecord : ℕ → ℕ → Flags → Job → Type 0
+IsRecord workers rounds flags (Check cutting) = ⊥
+IsRecord workers rounds flags (Record w r judge scan stamped) =
+    (w ≡ workers) × (r ≡ rounds) × (judge ≡ flags.judge) × (scan ≡ flags.scan) × (stamped ≡ flags.stamped)
 
 -- the text of a flag that was given or not
 abbrev pub flag_text : Bool → List ℕ
@@ -32,11 +42,14 @@ pub record AsksCheck (rows : List Row) (pieces : ℕ) (workers : ℕ) : Type 0 w
   pub pieces_are : one_of (codes "pieces") rows ≡ Some (decimal pieces)
   pub workers_are : one_of (codes "workers") rows ≡ Some (decimal workers)
 
--- the options of `record` have two workers and this number of rounds, which is in its range, and each flag is given or not
-pub record AsksRecord (rows : List Row) (rounds : ℕ) (judge scan : Bool) : Type 0 where
+-- the options of `record` have two workers and this number of rounds, which is in its range, and each flag is given or not, but not
+-- a report with stamps
+pub record AsksRecord (rows : List Row) (rounds : ℕ) (flags : Flags) : Type 0 where
   pub some_rounds : 0 < rounds
   pub rounds_fit : rounds ≤ 2048
+  pub one_output : flags.judge ≡ true → flags.stamped ≡ false
   pub workers_are : one_of (codes "workers") rows ≡ Some (decimal 2)
   pub rounds_are : one_of (codes "rounds") rows ≡ Some (decimal rounds)
-  pub judge_is : one_of (codes "judge") rows ≡ Some (flag_text judge)
-  pub scan_is : one_of (codes "scan") rows ≡ Some (flag_text scan)
+  pub judge_is : one_of (codes "judge") rows ≡ Some (flag_text flags.judge)
+  pub scan_is : one_of (codes "scan") rows ≡ Some (flag_text flags.scan)
+  pub stamped_is : one_of (codes "stamped") rows ≡ Some (flag_text flags.stamped)

@@ -1,5 +1,6 @@
 -- What a recording answers, writes and counts.
-use Rattle.std.specs.Prelude.{◌≡◌, ◌⊎◌, ℕ, Bool, true, false, List, Option, Result, Ok, Err}
+use Rattle.std.specs.Prelude.{◌≡◌, ◌⊎◌, ℕ, Bool, true, false, List, length, Option, Result, Ok, Err}
+use Rattle.std.specs.List.Sorted.{IsStrictlyIncreasing}
 use Rattle.std.specs.Io.KnownBytes.{Appends, Keeps}
 use Rattle.snap_core.specs.declared.event.Event.{Event}
 use Rattle.snap_core.specs.Calls.{calls_of}
@@ -9,10 +10,11 @@ use Rattle.snap_core.specs.Monotone.{IsMonotone}
 use Rattle.snap_core.specs.Orders.{IsAtomic}
 use Rattle.snap_core.specs.Regular.{IsRegular}
 use Rattle.snap_core.specs.Sending.{SendsFront}
-use Rattle.snap_csv.specs.Spelling.{history_text}
+use Rattle.snap_csv.specs.Spelling.{history_text, stamped_text}
 use Rattle.snap_record.specs.declared.plan.Step.{Step}
 use Rattle.snap_record.specs.History.{AllCompleted}
 use Rattle.snap_record.specs.Plans.{HasScripts, HasWholeScripts, HasNoScans, HasNoViews}
+use Rattle.snap_record.specs.Recording.{AreStamped}
 use Rattle.snapjudge.specs.declared.fault.RunFault.{RunFault}
 use Rattle.snapjudge.specs.declared.fault.RunFault.TheVariants as faults
 use Rattle.snap_verdict.specs.declared.status.Status.{Status}
@@ -32,6 +34,12 @@ pub record IsRecordingOf (scripts : List (List Step)) (events : List Event) : Ty
   pub whole : HasNoScans scripts → HasWholeScripts scripts events
   pub atomic : HasNoViews scripts → IsAtomic (calls_of events)
 
+-- the stamps that the board gave the events of a run of these scripts, one for each event, strictly rising
+pub record HasStamps (scripts : List (List Step)) (events : List Event) (stamps : List ℕ) : Type 0 where
+  pub stamped : AreStamped (length scripts) events stamps
+  pub rising : IsStrictlyIncreasing stamps
+  pub each : length stamps ≡ length events
+
 -- the text of such a history
 pub record IsRecordingText (scripts : List (List Step)) (status : Status) (out : List ℕ) : Type 0 where
   pub events : List Event
@@ -39,7 +47,16 @@ pub record IsRecordingText (scripts : List (List Step)) (status : Status) (out :
   pub answers : status ≡ Recorded
   pub writes : out ≡ history_text events
 
--- the report of such a text
+-- the text of such a history with the stamps of its events
+pub record IsStampedRecording (scripts : List (List Step)) (status : Status) (out : List ℕ) : Type 0 where
+  pub events : List Event
+  pub stamps : List ℕ
+  pub recording : IsRecordingOf scripts events
+  pub has_stamps : HasStamps scripts events stamps
+  pub answers : status ≡ Recorded
+  pub writes : out ≡ stamped_text stamps events
+
+-- the report of such a history's text without stamps
 pub record IsRecordingReport (scripts : List (List Step)) (status : Status) (out : List ℕ) : Type 0 where
   pub events : List Event
   pub recording : IsRecordingOf scripts events

@@ -1,6 +1,8 @@
-ghost use Rattle.std.specs.Prelude.{◌≡◌};
-ghost use Rattle.snapjudge.specs.declared.fault.RunFault.TheVariants.{Memory};
+ghost use Rattle.std.specs.Prelude.{◌≡◌, ◌⊎◌};
+ghost use Rattle.snap_csv.specs.declared.refusal.WriteRefusal.TheVariants as refusals;
+ghost use Rattle.snapjudge.specs.declared.fault.RunFault.TheVariants.{Memory, Write};
 
+use snap_csv::WriteRefusal;
 use std::alloc::AllocError;
 use thiserror::Error;
 
@@ -20,5 +22,16 @@ impl From<AllocError> for RunFault {
 
     fn from(_error: AllocError) -> RunFault {
         RunFault::Memory
+    }
+}
+
+impl From<WriteRefusal> for RunFault {
+    ghost from_gives = { λ refusal fault. ((refusal ≡ refusals.Device) × (fault ≡ Write)) ⊎ ((refusal ≡ refusals.Memory) × (fault ≡ Memory)) };
+
+    fn from(refusal: WriteRefusal) -> RunFault {
+        match refusal {
+            WriteRefusal::Device => RunFault::Write,
+            WriteRefusal::Memory => RunFault::Memory,
+        }
     }
 }

@@ -1,7 +1,7 @@
 //! What the words of a command line ask for.
 ghost use Rattle.std.specs.Prelude.{◌≡◌, ◌<◌, ◌^◌, ◌∷◌, [], ℕ, Bool, List, Some, None, true, false, codes, decimal, IfOk, IfSome, IsSomeAnd, MatchResult, map, string_bytes};
 ghost use Rattle.clap.specs.Words.{Row, found_of, kind_of, one_of, rows_of, subcommand_rows_of};
-ghost use Rattle.snapjudge.specs.Jobs.{AsksCheck, AsksRecord, IsCheck, IsInRange, IsRecord, flag_text};
+ghost use Rattle.snapjudge.specs.Jobs.{AsksCheck, AsksRecord, Flags, IsCheck, IsInRange, IsRecord, flag_text, no_flags};
 
 use crate::command::program;
 use clap::error::ErrorKind;
@@ -17,12 +17,13 @@ pub enum Job {
         cutting: Cutting,
     },
     /// Record so many workers in so many rounds of a store and a view, or a scan in place of the view, and judge the
-    /// history where that is asked for.
+    /// history where that is asked for, or write it with the stamps of its events; not both.
     Record {
         workers: u32,
         rounds: u32,
         judge: bool,
         scan: bool,
+        stamped: bool,
     },
 }
 
@@ -75,12 +76,16 @@ fn flag_in(matches: &ArgMatches<'_>, id: &str) -> bool
 // The recording that the options of `record` ask for.
 fn record_in(matches: &ArgMatches<'_>) -> Option<Job>
     ensures job { IfSome result IsInRange }
-    ensures asked { (rounds : ℕ) (judge scan : Bool) → AsksRecord (rows_of (found_of matches.now)) rounds judge scan → IsSomeAnd result (IsRecord 2 rounds judge scan) }
+    ensures asked { (rounds : ℕ) (flags : Flags) → AsksRecord (rows_of (found_of matches.now)) rounds flags → IsSomeAnd result (IsRecord 2 rounds flags) }
 {
     let workers = number_in(matches, "workers")?;
     let rounds = number_in(matches, "rounds")?;
     let judge = flag_in(matches, "judge");
     let scan = flag_in(matches, "scan");
+    let stamped = flag_in(matches, "stamped");
+    if judge && stamped {
+        return None;
+    }
     if workers != 2 || rounds == 0 || rounds > 2048 {
         return None;
     }
@@ -89,6 +94,7 @@ fn record_in(matches: &ArgMatches<'_>) -> Option<Job>
         rounds,
         judge,
         scan,
+        stamped,
     })
 }
 
@@ -97,8 +103,8 @@ fn job_in(matches: &ArgMatches<'_>) -> Option<Job>
     ensures job { IfSome result IsInRange }
     ensures check { (rows : List Row) (pieces workers : ℕ) → subcommand_rows_of matches.now ≡ Some (codes "check", rows)
         → AsksCheck rows pieces workers → IsSomeAnd result (IsCheck pieces workers) }
-    ensures recording { (rows : List Row) (rounds : ℕ) (judge scan : Bool) → subcommand_rows_of matches.now ≡ Some (codes "record", rows)
-        → AsksRecord rows rounds judge scan → IsSomeAnd result (IsRecord 2 rounds judge scan) }
+    ensures recording { (rows : List Row) (rounds : ℕ) (flags : Flags) → subcommand_rows_of matches.now ≡ Some (codes "record", rows)
+        → AsksRecord rows rounds flags → IsSomeAnd result (IsRecord 2 rounds flags) }
 {
     let (name, inner) = matches.subcommand()?;
     if name == "check" {
@@ -126,22 +132,24 @@ pub fn job_of(alloc: Global, words: Vec<String>) -> Result<Job, JobFault>
     ensures check_alone { (name : List ℕ) → map string_bytes words.items ≡ name ∷ codes "check" ∷ []
         → MatchResult result (IsCheck 8 2) (λ fault. fault ≡ JobFault.Memory) }
     ensures record_alone { (name : List ℕ) → map string_bytes words.items ≡ name ∷ codes "record" ∷ []
-        → MatchResult result (IsRecord 2 16 false false) (λ fault. fault ≡ JobFault.Memory) }
+        → MatchResult result (IsRecord 2 16 no_flags) (λ fault. fault ≡ JobFault.Memory) }
     ensures record_judged { (name : List ℕ)
         → map string_bytes words.items ≡ name ∷ codes "record" ∷ codes "--rounds" ∷ codes "5" ∷ codes "--judge" ∷ []
-        → MatchResult result (IsRecord 2 5 true false) (λ fault. fault ≡ JobFault.Memory) }
+        → MatchResult result (IsRecord 2 5 (record no_flags { judge = true })) (λ fault. fault ≡ JobFault.Memory) }
     ensures record_scanned { (name : List ℕ) → map string_bytes words.items ≡ name ∷ codes "record" ∷ codes "--scan" ∷ []
-        → MatchResult result (IsRecord 2 16 false true) (λ fault. fault ≡ JobFault.Memory) }
+        → MatchResult result (IsRecord 2 16 (record no_flags { scan = true })) (λ fault. fault ≡ JobFault.Memory) }
+    ensures record_stamped { (name : List ℕ) → map string_bytes words.items ≡ name ∷ codes "record" ∷ codes "--stamped" ∷ []
+        → MatchResult result (IsRecord 2 16 (record no_flags { stamped = true })) (λ fault. fault ≡ JobFault.Memory) }
 {
     let command = program(alloc)?;
     match command.try_get_matches_from(words.as_slice()) {
         Err(error) => Err(fault_of(alloc, &error)),
         Ok(matches) => match job_in(&matches) {
             Some(job) => Ok(job),
-            // The parser tests each number, so no words lead here.
+            // The parser tests each number by itself, but not the flags beside one another.
             None => Err(JobFault::Usage(String::from_str(
                 alloc,
-                "error: a number is out of range\n",
+                "error: the argument '--judge' cannot be used with '--stamped'\n",
             )?)),
         },
     }

@@ -14,8 +14,8 @@ mod recording;
 pub use check::check_run;
 pub use fault::RunFault;
 pub use job::{Job, JobFault, job_of};
-use recording::record_rounds;
-pub use recording::record_run;
+use recording::{record_rounds, record_rounds_stamped};
+pub use recording::{record_run, record_run_stamped};
 use snap_core::{Counted, OpenGate};
 pub use snap_verdict::Status;
 use std::env;
@@ -52,8 +52,15 @@ fn main(rt: HostRuntime) -> ExitCode {
                 rounds,
                 judge,
                 scan,
+                stamped,
             },
-        ) => record_rounds(&rt, rt.alloc(), workers, rounds, judge, scan, &mut writer),
+        ) => {
+            if stamped {
+                record_rounds_stamped(&rt, rt.alloc(), workers, rounds, scan, &mut writer)
+            } else {
+                record_rounds(&rt, rt.alloc(), workers, rounds, judge, scan, &mut writer)
+            }
+        }
         Err(JobFault::Usage(text)) => {
             let _ = eprint!(rt; "{text}");
             return ExitCode::from(5);

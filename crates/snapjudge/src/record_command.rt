@@ -2,7 +2,7 @@
 ghost use Rattle.std.specs.Prelude.{◌≡◌, IfOk, false};
 ghost use Rattle.clap.specs.Words.{app_of, rule_of};
 ghost use Rattle.clap.specs.declared.builder.command.Command.TheViews.{out-Command as fields_of};
-ghost use Rattle.snapjudge.specs.CommandLine.{judge_rule, record_app, rounds_app, rounds_rule, scan_rule, two_workers_rule};
+ghost use Rattle.snapjudge.specs.CommandLine.{judge_rule, record_app, rounds_app, rounds_rule, scan_rule, stamped_rule, two_workers_rule};
 
 use clap::{Arg, ArgAction, Command};
 use std::alloc::{AllocError, Global};
@@ -33,7 +33,8 @@ is its view. The history is then always atomic. A scan that has found none after
 left out.
 
 With --judge it prints the history's report in place of the history: see
-`snapjudge check --help`.
+`snapjudge check --help`. With --stamped each record has its event's stamp before the other
+fields, and the header the word at. Not both can be asked for.
 
 Exit status:
     0  the history was written, or with --judge it is atomic
@@ -85,6 +86,16 @@ fn scan_argument<'a>(alloc: Global) -> Arg<'a>
         .action(ArgAction::SetTrue)
 }
 
+fn stamped_argument<'a>(alloc: Global) -> Arg<'a>
+    ensures rule { rule_of result ≡ stamped_rule }
+    ensures own { result.global ≡ false }
+{
+    Arg::new(alloc, "stamped")
+        .long("stamped")
+        .help("Write the stamp of each event before it; not with --judge")
+        .action(ArgAction::SetTrue)
+}
+
 // `record` with its help and its two numbers.
 fn rounds_command<'a>(alloc: Global) -> Result<Command<'a>, AllocError>
     ensures { IfOk result (λ command. (app_of command ≡ rounds_app) × ((fields_of command).has_globals ≡ false)) }
@@ -102,5 +113,6 @@ pub fn record_command<'a>(alloc: Global) -> Result<Command<'a>, AllocError>
 {
     rounds_command(alloc)?
         .arg(judge_argument(alloc))?
-        .arg(scan_argument(alloc))
+        .arg(scan_argument(alloc))?
+        .arg(stamped_argument(alloc))
 }

@@ -1,38 +1,44 @@
-ghost use Rattle.std.specs.Prelude.{◌≡◌, ◌<◌, ◌≤◌, IfOk, true};
+ghost use Rattle.std.specs.Prelude.{◌≡◌, ◌<◌, ◌≤◌, IfOk, length, true};
+ghost use Rattle.std.specs.List.Sorted.{IsStrictlyIncreasing};
 ghost use Rattle.snap_core.specs.Counting.{failures_in, inner_of};
-ghost use Rattle.snap_csv.specs.Spelling.{history_text};
+ghost use Rattle.snap_csv.specs.Spelling.{history_text, stamped_text};
 ghost use Rattle.snap_record.specs.Plans.{HasNoViews, rounds_scripts};
-ghost use Rattle.snapjudge.specs.RecordRuns.{IsRecorded, IsRecordingOf, WriteCounts, WroteAs};
+ghost use Rattle.snapjudge.specs.RecordRuns.{HasStamps, IsRecorded, IsRecordingOf, IsStampedRecording, WriteCounts, WroteAs};
 ghost use Rattle.snap_verdict.specs.Verdicts.{IsVerdict};
 ghost use Rattle.snap_verdict.specs.declared.status.Status.TheVariants.{Atomic, Recorded};
 
 use crate::check::verdict;
 use crate::fault::RunFault;
 use snap_core::{Counted, Gate, History, OpenGate};
-use snap_csv::{WriteRefusal, write_history};
+use snap_csv::{write_history, write_history_stamped};
 use snap_pairs::Cutting;
-use snap_record::{Plan, PlanRefusal, record_plan, rounds_plan};
+use snap_record::{Plan, PlanRefusal, Recording, record_plan, rounds_plan};
 use snap_verdict::Status;
 use std::alloc::{AllocError, Global};
 use std::io::Write;
 use std::sync::Wait;
 use std::thread::Threads;
 
-// The history of a run of the plan.
+// The history of a run of the plan, and the stamps of its events.
 fn recorded<Rt: Threads + Wait + Sync, G: Gate>(
     rt: &Rt,
     alloc: Global,
     plan: &Plan,
     gate: &G,
-) -> Result<History, AllocError>
-    ensures { IfOk result (IsRecordingOf plan.now) }
+) -> Result<(History, Vec<u64>), AllocError>
+    ensures history { IfOk result (λ r. IsRecordingOf plan.now r.0) }
+    ensures stamps { IfOk result (λ r. HasStamps plan.now r.0 r.1.items) }
 {
     let Ok(recording) = record_plan(rt, alloc, plan, gate) else {
         return Err(AllocError);
     };
-    let history = recording.history;
+    let Recording {
+        history,
+        interfered: _,
+        stamps,
+    } = recording;
     let _events = history.events();
-    Ok(history)
+    Ok((history, stamps))
 }
 
 // Writes the text of a history.
@@ -45,11 +51,25 @@ fn write_text<W: Write>(
         (W.contents (inner_of writer.old)) (W.contents (inner_of writer.new)) result }
     ensures counts { WriteCounts (failures_in writer.old) (failures_in writer.new) result }
 {
-    match write_history(alloc, writer, history) {
-        Ok(()) => Ok(Status::Recorded),
-        Err(WriteRefusal::Device) => Err(RunFault::Write),
-        Err(WriteRefusal::Memory) => Err(RunFault::Memory),
-    }
+    write_history(alloc, writer, history)?;
+    Ok(Status::Recorded)
+}
+
+// Writes the text of a history with a stamp for each event.
+fn write_stamped_text<W: Write>(
+    alloc: Global,
+    history: &History,
+    stamps: &[u64],
+    writer: &mut Counted<W>,
+) -> Result<Status, RunFault>
+    requires each { length stamps.now ≡ length history.now }
+    requires rising { IsStrictlyIncreasing stamps.now }
+    ensures wrote { WroteAs (λ status out. (status ≡ Recorded) × (out ≡ stamped_text stamps.now history.now))
+        (W.contents (inner_of writer.old)) (W.contents (inner_of writer.new)) result }
+    ensures counts { WriteCounts (failures_in writer.old) (failures_in writer.new) result }
+{
+    write_history_stamped(alloc, writer, history, stamps)?;
+    Ok(Status::Recorded)
 }
 
 // Judges a history, and writes its report.
@@ -94,11 +114,40 @@ pub fn record_run<Rt: Threads + Wait + Sync, W: Write, G: Gate>(
     ensures counts { WriteCounts (failures_in writer.old) (failures_in writer.new) result }
     ensures atomic { judge ≡ true → HasNoViews plan.now → IfOk result (λ status. status ≡ Atomic) }
 {
-    let history = recorded(rt, alloc, plan, gate)?;
+    let (history, _) = recorded(rt, alloc, plan, gate)?;
     if judge {
         write_report(rt, alloc, &history, writer, cutting)
     } else {
         write_text(alloc, &history, writer)
+    }
+}
+
+/// Records a run of the plan on a board, and writes its history as text with stamps, with the status `Recorded`: before
+/// each event the stamp that the board gave it, that of its record's begin or end. The stamps rise strictly. Of the
+/// history, the refusals, the writer and the waiting the same is true as in `record_run`.
+pub fn record_run_stamped<Rt: Threads + Wait + Sync, W: Write, G: Gate>(
+    rt: &Rt,
+    alloc: Global,
+    plan: &Plan,
+    writer: &mut Counted<W>,
+    gate: &G,
+) -> Result<Status, RunFault>
+    ensures wrote { WroteAs (IsStampedRecording plan.now) (W.contents (inner_of writer.old)) (W.contents (inner_of writer.new)) result }
+    ensures counts { WriteCounts (failures_in writer.old) (failures_in writer.new) result }
+{
+    let (history, stamps) = recorded(rt, alloc, plan, gate)?;
+    write_stamped_text(alloc, &history, stamps.as_slice(), writer)
+}
+
+// Two workers in so many rounds of a store and a view each, or a scan in place of the view.
+fn plan_of(alloc: Global, workers: u32, rounds: u32, scan: bool) -> Result<Plan, AllocError>
+    requires { (workers ≡ 2) × (0 < rounds) × (rounds ≤ 2048) }
+    ensures { IfOk result (λ plan. plan ≡ rounds_scripts scan rounds) }
+{
+    match rounds_plan(alloc, workers, rounds, scan) {
+        Ok(plan) => Ok(plan),
+        Err(PlanRefusal::Memory) => Err(AllocError),
+        Err(_) => unreachable!(),
     }
 }
 
@@ -120,9 +169,23 @@ pub fn record_rounds<Rt: Threads + Wait + Sync, W: Write>(
     let Ok(cutting) = Cutting::new(8, 2) else {
         unreachable!()
     };
-    match rounds_plan(alloc, workers, rounds, scan) {
-        Ok(plan) => record_run(rt, alloc, &plan, judge, writer, cutting, &OpenGate),
-        Err(PlanRefusal::Memory) => Err(RunFault::Memory),
-        Err(_) => unreachable!(),
-    }
+    let plan = plan_of(alloc, workers, rounds, scan)?;
+    record_run(rt, alloc, &plan, judge, writer, cutting, &OpenGate)
+}
+
+/// Records the same rounds, and writes their history with stamps, as `record_run_stamped`.
+pub fn record_rounds_stamped<Rt: Threads + Wait + Sync, W: Write>(
+    rt: &Rt,
+    alloc: Global,
+    workers: u32,
+    rounds: u32,
+    scan: bool,
+    writer: &mut Counted<W>,
+) -> Result<Status, RunFault>
+    requires { (workers ≡ 2) × (0 < rounds) × (rounds ≤ 2048) }
+    ensures wrote { WroteAs (IsStampedRecording (rounds_scripts scan rounds)) (W.contents (inner_of writer.old)) (W.contents (inner_of writer.new)) result }
+    ensures counts { WriteCounts (failures_in writer.old) (failures_in writer.new) result }
+{
+    let plan = plan_of(alloc, workers, rounds, scan)?;
+    record_run_stamped(rt, alloc, &plan, writer, &OpenGate)
 }

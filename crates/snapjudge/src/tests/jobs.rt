@@ -37,23 +37,41 @@ fn check_takes_pieces_and_workers(rt: HostRuntime) -> Result<(), Fail> {
     Ok(())
 }
 
-// The rounds of the recording that each line asks for, and whether to judge and to scan.
-const RECORDS: &[(&str, u32, bool, bool)] = &[
-    ("snapjudge record", 16, false, false),
-    ("snapjudge record --rounds 5 --judge", 5, true, false),
+// Whether a recording is judged, scans, and has stamps.
+type Flags = (bool, bool, bool);
+
+const NO_FLAGS: Flags = (false, false, false);
+
+// The rounds of the recording that each line asks for, and its flags.
+const RECORDS: &[(&str, u32, Flags)] = &[
+    ("snapjudge record", 16, NO_FLAGS),
     (
-        "snapjudge record --workers 2 --rounds=2048",
-        2048,
-        false,
-        false,
+        "snapjudge record --rounds 5 --judge",
+        5,
+        (true, false, false),
     ),
-    ("snapjudge record --judge --rounds 1", 1, true, false),
-    ("snapjudge record --scan", 16, false, true),
-    ("snapjudge record --scan --rounds 3 --judge", 3, true, true),
+    ("snapjudge record --workers 2 --rounds=2048", 2048, NO_FLAGS),
+    (
+        "snapjudge record --judge --rounds 1",
+        1,
+        (true, false, false),
+    ),
+    ("snapjudge record --scan", 16, (false, true, false)),
+    (
+        "snapjudge record --scan --rounds 3 --judge",
+        3,
+        (true, true, false),
+    ),
+    ("snapjudge record --stamped", 16, (false, false, true)),
+    (
+        "snapjudge record --stamped --rounds 7 --scan",
+        7,
+        (false, true, true),
+    ),
 ];
 
-// The workers, the rounds and whether to judge and to scan of the recording that a line asks for.
-fn record_of(alloc: Global, line: &str) -> Result<(u32, u32, bool, bool), Fail> {
+// The workers, the rounds and the flags of the recording that a line asks for.
+fn record_of(alloc: Global, line: &str) -> Result<(u32, u32, Flags), Fail> {
     match job_of(alloc, words(alloc, line)?) {
         Ok(
             Job::Record {
@@ -61,16 +79,17 @@ fn record_of(alloc: Global, line: &str) -> Result<(u32, u32, bool, bool), Fail> 
                 rounds,
                 judge,
                 scan,
+                stamped,
             },
-        ) => Ok((workers, rounds, judge, scan)),
+        ) => Ok((workers, rounds, (judge, scan, stamped))),
         _ => Err(Fail::from(line)),
     }
 }
 
 #[test]
 fn record_takes_workers_rounds_and_flags(rt: HostRuntime) -> Result<(), Fail> {
-    for (line, rounds, judge, scan) in RECORDS {
-        same(record_of(rt.alloc(), line)?, (2, *rounds, *judge, *scan))?;
+    for (line, rounds, flags) in RECORDS {
+        same(record_of(rt.alloc(), line)?, (2, *rounds, *flags))?;
     }
     Ok(())
 }
@@ -92,6 +111,10 @@ const OTHER_LINES: &[&str] = &[
     "snapjudge record --pieces 8",
     "snapjudge record --judge=yes",
     "snapjudge record --scan=64",
+    "snapjudge record --judge --stamped",
+    "snapjudge record --stamped --rounds 3 --judge",
+    "snapjudge record --stamped=yes",
+    "snapjudge check --stamped",
     "snapjudge check --scan",
     "snapjudge --help",
     "snapjudge check --help",

@@ -1,6 +1,6 @@
 //! Histories that a board's run leaves, and their reports.
 use super::checks::{cutting, end_of, same};
-use crate::record_run;
+use crate::{record_run, record_run_stamped};
 use snap_core::{Counted, Gate, OpenGate};
 use snap_pairs::Cutting;
 use snap_record::{Plan, Step, rounds_plan};
@@ -71,9 +71,51 @@ fn one_scanned_round_of_two_workers_has_nine_lines(rt: HostRuntime) -> Result<()
     )
 }
 
+// How the recording of a plan with stamps ends, what is in the writer, and the failures that it counts.
+fn record_stamped<Rt: Threads + Wait + Sync>(
+    rt: &Rt,
+    alloc: Global,
+    plan: &Plan,
+    room: usize,
+) -> (&'static str, Vec<u8>, u64) {
+    let mut writer = Counted::new(Cup::new(alloc, room, 100, true, false));
+    let answer = record_run_stamped(rt, alloc, plan, &mut writer, &OpenGate);
+    let failures = writer.failures();
+    (end_of(answer), writer.into_inner().held, failures)
+}
+
+// The text has the header of texts with stamps, and under it a record with each of these stamps, in this order.
+fn expect_stamps(text: &[u8], wanted: &[&str]) -> Result<(), Fail> {
+    let text = str::from_utf8(text)?;
+    same(text.lines().next(), Some("at,event,process,op,data"))?;
+    same(text.lines().skip(1).count(), wanted.len())?;
+    for (line, stamp) in text.lines().skip(1).zip(wanted) {
+        same(line.split(',').next(), Some(*stamp))?;
+    }
+    Ok(())
+}
+
+#[test]
+fn one_round_with_stamps_has_the_stamps_from_0_to_7_in_order(rt: HostRuntime) -> Result<(), Fail> {
+    let plan = one_round(rt.alloc())?;
+    let (end, text, failures) = record_stamped(&rt, rt.alloc(), &plan, 1000);
+    same((end, failures), ("recorded", 0))?;
+    expect_stamps(&text, &["0", "1", "2", "3", "4", "5", "6", "7"])
+}
+
+#[test]
+fn a_recording_with_stamps_whose_writer_fails_has_a_front_of_its_text(
+    rt: HostRuntime,
+) -> Result<(), Fail> {
+    let plan = one_round(rt.alloc())?;
+    let (end, text, failures) = record_stamped(&rt, rt.alloc(), &plan, 10);
+    same((end, failures), ("write failed", 1))?;
+    same(text.as_slice(), b"at,event,p".as_slice())
+}
+
 // The head of the report on the history of one scanned round.
 const ATOMIC_HEAD: &[u8] =
-    b"events 8 calls 4 pending 0 views 2\nregular yes\natomic yes\norder 4\n";
+    b"events 8 calls 4 pending 0 views 2\nregular yes\nmonotone yes\natomic yes\norder 4\n";
 
 #[test]
 fn a_judged_recording_of_scans_is_atomic_in_every_run(rt: HostRuntime) -> Result<(), Fail> {

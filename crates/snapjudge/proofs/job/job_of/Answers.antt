@@ -1,7 +1,8 @@
-use Rattle.std.proofs.Common.{◌∙◌, ap, ap₂, map, true, false}
+use Rattle.std.proofs.Common.{◌∙◌, ap, ap₂, map, true}
 use Rattle.std.specs.Prelude.{string_bytes}
 use Rattle.clap.specs.Words.{is_simple, takes, subcommand_of}
-use Rattle.snapjudge.proofs.OnWords.{program_is_simple, check_is_taken, check_alone, record_is_taken, record_alone, judged_is_taken, record_judged, scanned_is_taken, record_scanned}
+use Rattle.snapjudge.proofs.OnWords.{program_is_simple, check_is_taken, check_alone, record_is_taken, record_alone, judged_is_taken, record_judged, scanned_is_taken, record_scanned, stamped_is_taken, record_stamped}
+use Rattle.snapjudge.specs.Jobs.{no_flags}
 use Rattle.snapjudge.proofs.job.job_of.Goals as goal
 
 pub returns-in-Err-clause-check_alone : goal.returns-in-Err-clause-check_alone
@@ -33,14 +34,14 @@ returns-in-Some-clause-record_alone c = λ name e.
     let words_are = ap (map string_bytes) c.as_slice.ensures.value ∙ e in
     let matches = c.in-Ok.ensures.matches (ap is_simple c.in_ok-command.ensures ∙ program_is_simple) in
     let found = record_alone name in
-    c.in-Some.ensures.recording found.0 16 false false (matches.1 ∙ ap₂ subcommand_of c.in_ok-command.ensures words_are ∙ found.1) found.2
+    c.in-Some.ensures.recording found.0 16 no_flags (matches.1 ∙ ap₂ subcommand_of c.in_ok-command.ensures words_are ∙ found.1) found.2
 
 pub returns-clause-record_alone : goal.returns-clause-record_alone
 returns-clause-record_alone c = λ name e.
     let words_are = ap (map string_bytes) c.as_slice.ensures.value ∙ e in
     let matches = c.in-Ok.ensures.matches (ap is_simple c.in_ok-command.ensures ∙ program_is_simple) in
     let found = record_alone name in
-    absurd (c.in-None.ensures.recording found.0 16 false false (matches.1 ∙ ap₂ subcommand_of c.in_ok-command.ensures words_are ∙ found.1) found.2)
+    absurd (c.in-None.ensures.recording found.0 16 no_flags (matches.1 ∙ ap₂ subcommand_of c.in_ok-command.ensures words_are ∙ found.1) found.2)
 
 pub returns-in-Err-clause-record_judged : goal.returns-in-Err-clause-record_judged
 returns-in-Err-clause-record_judged c = λ name e.
@@ -52,14 +53,14 @@ returns-in-Some-clause-record_judged c = λ name e.
     let words_are = ap (map string_bytes) c.as_slice.ensures.value ∙ e in
     let matches = c.in-Ok.ensures.matches (ap is_simple c.in_ok-command.ensures ∙ program_is_simple) in
     let found = record_judged name in
-    c.in-Some.ensures.recording found.0 5 true false (matches.1 ∙ ap₂ subcommand_of c.in_ok-command.ensures words_are ∙ found.1) found.2
+    c.in-Some.ensures.recording found.0 5 (record no_flags { judge = true }) (matches.1 ∙ ap₂ subcommand_of c.in_ok-command.ensures words_are ∙ found.1) found.2
 
 pub returns-clause-record_judged : goal.returns-clause-record_judged
 returns-clause-record_judged c = λ name e.
     let words_are = ap (map string_bytes) c.as_slice.ensures.value ∙ e in
     let matches = c.in-Ok.ensures.matches (ap is_simple c.in_ok-command.ensures ∙ program_is_simple) in
     let found = record_judged name in
-    absurd (c.in-None.ensures.recording found.0 5 true false (matches.1 ∙ ap₂ subcommand_of c.in_ok-command.ensures words_are ∙ found.1) found.2)
+    absurd (c.in-None.ensures.recording found.0 5 (record no_flags { judge = true }) (matches.1 ∙ ap₂ subcommand_of c.in_ok-command.ensures words_are ∙ found.1) found.2)
 
 pub returns-in-Err-clause-record_scanned : goal.returns-in-Err-clause-record_scanned
 returns-in-Err-clause-record_scanned c = λ name e.
@@ -71,11 +72,30 @@ returns-in-Some-clause-record_scanned c = λ name e.
     let words_are = ap (map string_bytes) c.as_slice.ensures.value ∙ e in
     let matches = c.in-Ok.ensures.matches (ap is_simple c.in_ok-command.ensures ∙ program_is_simple) in
     let found = record_scanned name in
-    c.in-Some.ensures.recording found.0 16 false true (matches.1 ∙ ap₂ subcommand_of c.in_ok-command.ensures words_are ∙ found.1) found.2
+    c.in-Some.ensures.recording found.0 16 (record no_flags { scan = true }) (matches.1 ∙ ap₂ subcommand_of c.in_ok-command.ensures words_are ∙ found.1) found.2
 
 pub returns-clause-record_scanned : goal.returns-clause-record_scanned
 returns-clause-record_scanned c = λ name e.
     let words_are = ap (map string_bytes) c.as_slice.ensures.value ∙ e in
     let matches = c.in-Ok.ensures.matches (ap is_simple c.in_ok-command.ensures ∙ program_is_simple) in
     let found = record_scanned name in
-    absurd (c.in-None.ensures.recording found.0 16 false true (matches.1 ∙ ap₂ subcommand_of c.in_ok-command.ensures words_are ∙ found.1) found.2)
+    absurd (c.in-None.ensures.recording found.0 16 (record no_flags { scan = true }) (matches.1 ∙ ap₂ subcommand_of c.in_ok-command.ensures words_are ∙ found.1) found.2)
+
+pub returns-in-Err-clause-record_stamped : goal.returns-in-Err-clause-record_stamped
+returns-in-Err-clause-record_stamped c = λ name e.
+    let words_are = ap (map string_bytes) c.as_slice.ensures.value ∙ e in
+    c.fault_of.ensures (c.in-Err.ensures.passes (ap₂ takes c.in_ok-command.ensures words_are ∙ stamped_is_taken name))
+
+pub returns-in-Some-clause-record_stamped : goal.returns-in-Some-clause-record_stamped
+returns-in-Some-clause-record_stamped c = λ name e.
+    let words_are = ap (map string_bytes) c.as_slice.ensures.value ∙ e in
+    let matches = c.in-Ok.ensures.matches (ap is_simple c.in_ok-command.ensures ∙ program_is_simple) in
+    let found = record_stamped name in
+    c.in-Some.ensures.recording found.0 16 (record no_flags { stamped = true }) (matches.1 ∙ ap₂ subcommand_of c.in_ok-command.ensures words_are ∙ found.1) found.2
+
+pub returns-clause-record_stamped : goal.returns-clause-record_stamped
+returns-clause-record_stamped c = λ name e.
+    let words_are = ap (map string_bytes) c.as_slice.ensures.value ∙ e in
+    let matches = c.in-Ok.ensures.matches (ap is_simple c.in_ok-command.ensures ∙ program_is_simple) in
+    let found = record_stamped name in
+    absurd (c.in-None.ensures.recording found.0 16 (record no_flags { stamped = true }) (matches.1 ∙ ap₂ subcommand_of c.in_ok-command.ensures words_are ∙ found.1) found.2)
