@@ -1,5 +1,5 @@
 -- What the parser makes of some words.
-use Rattle.std.proofs.Common.{◌≡◌, ℕ, List, Option, Some, None, [], ◌∷◌, true, false, refl, sym, ap, arith, codes}
+use Rattle.std.proofs.Common.{◌≡◌, ℕ, List, Option, Some, None, [], ◌∷◌, true, refl, sym, ap, arith, codes}
 use Rattle.std.proofs.lemmas.Bool.{false≢true}
 use Rattle.clap.specs.Words.{is_simple, subcommand_of, takes, Row, Text}
 use Rattle.clap.proofs.OnLiterals.{clap_on_literals}
