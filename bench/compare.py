@@ -173,7 +173,7 @@ def main():
     global TEXTS
     words = argparse.ArgumentParser(description=__doc__.split("\n")[0])
     words.add_argument("--against", required=True)
-    words.add_argument("--program", default=os.path.join(TOP, "crates", "snapjudge", "out", "snapjudge"))
+    words.add_argument("--program", default=os.path.join(TOP, "built", "snapjudge"))
     words.add_argument("--texts", type=int, default=100000)
     words.add_argument("--seed", type=int, default=1)
     words.add_argument("--jobs", type=int, default=1)

@@ -13,7 +13,7 @@ import sys
 import tempfile
 
 HERE = os.path.dirname(os.path.abspath(__file__))
-SNAPJUDGE = os.environ.get("SNAPJUDGE", os.path.join(HERE, "..", "crates", "snapjudge", "out", "snapjudge"))
+SNAPJUDGE = os.environ.get("SNAPJUDGE", os.path.join(HERE, "..", "built", "snapjudge"))
 CASES = [
     ("atomic", 16, 8), ("atomic", 1024, 8), ("atomic", 4096, 8), ("atomic", 16384, 8), ("atomic", 4096, 256),
     ("pending", 4096, 256), ("overlapping", 4096, 4), ("toggling", 4096, 4), ("late", 4096, 32), ("stale", 4096, 8),

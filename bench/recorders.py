@@ -90,7 +90,7 @@ def print_caught(languages, program, runs, folder):
 
 def main():
     runs = int(sys.argv[1]) if len(sys.argv) > 1 else 60
-    program = os.path.realpath(sys.argv[2] if len(sys.argv) > 2 else os.path.join(HERE, "..", "crates", "snapjudge", "out", "snapjudge"))
+    program = os.path.realpath(sys.argv[2] if len(sys.argv) > 2 else os.path.join(HERE, "..", "built", "snapjudge"))
     with tempfile.TemporaryDirectory() as folder:
         languages = built(folder)
         if runs:

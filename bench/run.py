@@ -17,7 +17,7 @@ import tempfile
 import time
 
 HERE = os.path.dirname(os.path.abspath(__file__))
-SNAPJUDGE = os.environ.get("SNAPJUDGE", os.path.join(HERE, "..", "crates", "snapjudge", "out", "snapjudge"))
+SNAPJUDGE = os.environ.get("SNAPJUDGE", os.path.join(HERE, "..", "built", "snapjudge"))
 CASES = [
     ("atomic", 1024, 8), ("atomic", 4096, 8), ("atomic", 16384, 8), ("atomic", 16384, 256),
     ("pending", 16384, 8), ("pending", 16384, 256),
@@ -78,4 +78,5 @@ def main():
             print(f"| {kind} | {events} | {components} | {os.path.getsize(history)} | {alone[0]} | {alone[1]:.1f} | {both[1]:.1f} | {both[1] / alone[1]:.2f} | {max(alone[2], both[2]):.0f} | {told} | {same} |", flush=True)
 
 
-main()
+if __name__ == "__main__":
+    main()

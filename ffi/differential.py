@@ -16,7 +16,7 @@ HERE = os.path.dirname(os.path.abspath(__file__))
 sys.path.insert(0, os.path.join(HERE, "python"))
 import snapjudge  # noqa: E402
 
-PROGRAM = os.path.join(HERE, "..", "crates", "snapjudge", "out", "snapjudge")
+PROGRAM = os.path.join(HERE, "..", "built", "snapjudge")
 HEADER = "event,process,op,data"
 
 

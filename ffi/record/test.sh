@@ -5,7 +5,7 @@
 # usage: test.sh [PROGRAM], where PROGRAM judges; it may stand in SNAPJUDGE_PROGRAM too
 set -u
 here=$(cd "$(dirname "${BASH_SOURCE[0]}")" && pwd)
-program=$(realpath -m "${1:-${SNAPJUDGE_PROGRAM:-$here/../../crates/snapjudge/out/snapjudge}}")
+program=$(realpath -m "${1:-${SNAPJUDGE_PROGRAM:-$here/../../built/snapjudge}}")
 runs=20
 passed=0
 failed=0
