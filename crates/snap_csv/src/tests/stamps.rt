@@ -153,6 +153,7 @@ fn writes_each_event_with_its_stamp(rt: HostRuntime) -> Result<(), Fail> {
     let history = read_text(rt.alloc(), VIEW_BESIDE_UPDATE)
         .ok()
         .ok_or("a history")?;
+    assert!(rt; history.len() == 4);
     let mut writer = Counted::new(Vec::new(rt.alloc()));
     let answer = write_history_stamped(rt.alloc(), &mut writer, &history, &[2, 3, 5, 8]);
     assert_eq!(rt; answer, Ok(()));
