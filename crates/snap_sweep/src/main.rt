@@ -8,6 +8,7 @@ mod fault;
 mod histories;
 mod recordings;
 mod texts;
+mod views;
 
 use fault::Fault;
 
@@ -27,18 +28,27 @@ fn main(rt: HostRuntime) {
         ("index", histories::index(alloc)),
         ("order", histories::order(&rt, alloc)),
         ("tally", histories::tally_of_pieces(&rt, alloc)),
+        ("chains", views::chains(alloc)),
+        ("grids", views::grids(alloc)),
         ("claims", histories::claims(alloc)),
         ("read", texts::read(alloc)),
+        ("read in memory", texts::read_in_memory(alloc)),
         ("write", texts::write(alloc)),
         ("write with stamps", texts::write_stamped(alloc)),
         ("fields", texts::fields(alloc)),
         ("report", texts::report_of_faults(alloc)),
+        ("report in memory", texts::report_in_memory(alloc)),
+        ("witness", texts::witness_of_fault(alloc)),
         ("refusal", texts::refusal(alloc)),
         ("verdict", texts::verdict(alloc)),
         ("collect", boards::collect(alloc)),
         ("scan", boards::scan(alloc)),
         ("relay", recordings::relay(&rt, alloc)),
-        ("recording", recordings::recording(&rt, alloc)),
+        ("recording", recordings::recording(&rt, alloc, false)),
+        (
+            "recording of scans",
+            recordings::recording(&rt, alloc, true),
+        ),
     ];
     for (name, seen) in cases {
         let words = outcome(seen);

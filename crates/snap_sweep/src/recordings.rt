@@ -66,9 +66,17 @@ pub fn relay<R: Wait>(rt: &R, alloc: Global) -> Result<(), Fault> {
     expect(relay.finish(rt, both, taker).is_ok())
 }
 
-/// Two workers in three rounds of a store and a view each make 24 events.
-pub fn recording<R: Threads + Wait + Sync>(rt: &R, alloc: Global) -> Result<(), Fault> {
-    let plan = rounds_plan(alloc, 2, 3, false)?;
+/// Two workers in three rounds of a store and a view each make 24 events with as many stamps, and two fewer for each scan
+/// that was interfered with.
+pub fn recording<R: Threads + Wait + Sync>(
+    rt: &R,
+    alloc: Global,
+    has_scans: bool,
+) -> Result<(), Fault> {
+    let plan = rounds_plan(alloc, 2, 3, has_scans)?;
     let recording = record_plan(rt, alloc, &plan, &OpenGate)?;
-    expect(recording.history.len() == 24)
+    let event_count = recording.history.len() as u64;
+    expect(event_count + 2 * u64::from(recording.interfered) == 24)?;
+    expect(has_scans || recording.interfered == 0)?;
+    expect(recording.stamps.len() == recording.history.len())
 }

@@ -1,15 +1,17 @@
 //! Texts of histories, and reports.
 use crate::fault::{Fault, expect};
 use snap_conditions::{is_atomic, tally_range};
-use snap_core::{Counted, Event};
+use snap_core::{Counted, Event, History};
 use snap_csv::{
-    TextFault, WriteRefusal, fields_of, read_history, write_history, write_history_stamped,
+    TextFault, WriteRefusal, fields_of, read_history, read_history_in, read_text, write_history,
+    write_history_stamped,
 };
 use snap_index::Index;
-use snap_report::{refusal_text, report};
-use snap_testing::worked::{CROSSED_VIEWS, VIEW_BESIDE_UPDATE};
+use snap_report::{refusal_text, report, report_in};
+use snap_testing::worked::{CROSSED_VIEWS, STALE_AND_WRONG, VIEW_BESIDE_UPDATE};
 use snap_testing::{Cup, entry, history_of};
-use snap_verdict::{Status, judge_text};
+use snap_verdict::{Status, judge_text, verdict_alone, verdict_of};
+use snap_witness::witness;
 use std::alloc::{AllocError, Global};
 
 const VIEW_BESIDE_UPDATE_TEXT: &[u8] =
@@ -20,17 +22,37 @@ const VIEW_BESIDE_UPDATE_STAMPED: &[u8] =
       8,end,0,update,\n";
 
 const VIEW_BESIDE_UPDATE_REPORT: &[u8] =
-    b"events 4 calls 2 pending 0 views 1\nregular yes\natomic yes\norder 2\n2 p1 view\n\
-      1 p0 update 0:1:3\n";
+    b"events 4 calls 2 pending 0 views 1\nregular yes\nmonotone yes\natomic yes\norder 2\n\
+      2 p1 view\n1 p0 update 0:1:3\n";
 
-const CROSSED_VIEWS_REPORT: &[u8] = b"events 8 calls 4 pending 0 views 2\nregular yes\natomic no\n\
-      read 2 first view 3 view 4 component 0\n";
+const CROSSED_VIEWS_REPORT: &[u8] =
+    b"events 8 calls 4 pending 0 views 2\nregular yes\nmonotone yes\n\
+      atomic no\nread 2 first view 3 view 4 component 0\n";
+
+const WRONG_ALONE_TEXT: &[u8] =
+    b"event,process,op,data\nbegin,0,update,0:1:7\nend,0,update,\nbegin,2,view,\n\
+      end,2,view,0:1:9\n";
+
+const BUSY_TEXT: &[u8] = b"event,process,op,data\nbegin,0,view,\nbegin,0,view,\n";
 
 /// A text of each version is read.
 pub fn read(alloc: Global) -> Result<(), Fault> {
     for text in [VIEW_BESIDE_UPDATE_TEXT, VIEW_BESIDE_UPDATE_STAMPED] {
         let history = read_history(alloc, &mut Counted::new(text))?;
         expect(history.len() == 4)?;
+    }
+    Ok(())
+}
+
+/// The same from memory, and from a reader into a vector, which has the text then.
+pub fn read_in_memory(alloc: Global) -> Result<(), Fault> {
+    for text in [VIEW_BESIDE_UPDATE_TEXT, VIEW_BESIDE_UPDATE_STAMPED] {
+        expect(read_text(alloc, text)?.len() == 4)?;
+        let mut room = vec![in alloc; b'x']?;
+        let mut reader = Counted::new(text);
+        let answer = read_history_in(alloc, &mut reader, &mut room);
+        expect(reader.failures() == 0)?;
+        expect(answer?.len() == 4 && room.as_slice() == text)?;
     }
     Ok(())
 }
@@ -57,12 +79,17 @@ fn expect_written(
     Ok(answer?)
 }
 
+// The text of a history is written whole, or nothing of it.
+fn expect_text(alloc: Global, history: &History, text: &[u8]) -> Result<(), Fault> {
+    let mut writer = cup(alloc)?;
+    let answer = write_history(alloc, &mut writer, history);
+    expect_written(answer, writer, text)
+}
+
 /// A text is written whole, or nothing of it.
 pub fn write(alloc: Global) -> Result<(), Fault> {
     let history = history_of(alloc, VIEW_BESIDE_UPDATE)?;
-    let mut writer = cup(alloc)?;
-    let answer = write_history(alloc, &mut writer, &history);
-    expect_written(answer, writer, VIEW_BESIDE_UPDATE_TEXT)
+    expect_text(alloc, &history, VIEW_BESIDE_UPDATE_TEXT)
 }
 
 /// The same with stamps.
@@ -101,14 +128,45 @@ pub fn report_of_faults(alloc: Global) -> Result<(), Fault> {
     expect(text.as_slice() == CROSSED_VIEWS_REPORT)
 }
 
+/// The same in the memory of a vector, and then with its status.
+pub fn report_in_memory(alloc: Global) -> Result<(), Fault> {
+    let history = history_of(alloc, CROSSED_VIEWS)?;
+    let index = Index::build(alloc, &history)?;
+    let tally = tally_range(&index, 0, index.view_count());
+    if is_atomic(&tally) {
+        return Err(Fault::Wrong);
+    }
+    let room = vec![in alloc; b'x']?;
+    let text = report_in(room, &index, &tally, None)?;
+    expect(text.as_slice() == CROSSED_VIEWS_REPORT)?;
+    let (status, text) = verdict_of(&index, &tally, None, text)?;
+    expect(status == Status::Regular && text.as_slice() == CROSSED_VIEWS_REPORT)
+}
+
+/// Of a view that misses an update and one that shows a value that nobody wrote, the latter is the witness, with the update.
+pub fn witness_of_fault(alloc: Global) -> Result<(), Fault> {
+    let history = history_of(alloc, STALE_AND_WRONG)?;
+    let index = Index::build(alloc, &history)?;
+    let tally = tally_range(&index, 0, index.view_count());
+    match witness(alloc, &index, &tally)? {
+        Some(found) => expect_text(alloc, &found, WRONG_ALONE_TEXT),
+        None => Err(Fault::Wrong),
+    }
+}
+
 /// The line of a text that is refused.
 pub fn refusal(alloc: Global) -> Result<(), Fault> {
     let text = refusal_text(alloc, 3, TextFault::Busy)?;
     expect(text.as_slice() == b"refused record 3: busy\n".as_slice())
 }
 
-/// The status and the report of a text.
+/// The status and the report of a history, of its text, and of a text that is none.
 pub fn verdict(alloc: Global) -> Result<(), Fault> {
+    let history = history_of(alloc, VIEW_BESIDE_UPDATE)?;
+    let (status, text) = verdict_alone(alloc, &history)?;
+    expect(status == Status::Atomic && text.as_slice() == VIEW_BESIDE_UPDATE_REPORT)?;
     let (status, text) = judge_text(alloc, VIEW_BESIDE_UPDATE_TEXT)?;
-    expect(status == Status::Atomic && text.as_slice() == VIEW_BESIDE_UPDATE_REPORT)
+    expect(status == Status::Atomic && text.as_slice() == VIEW_BESIDE_UPDATE_REPORT)?;
+    let (status, text) = judge_text(alloc, BUSY_TEXT)?;
+    expect(status == Status::Refused && text.as_slice() == b"refused record 3: busy\n".as_slice())
 }
