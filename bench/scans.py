@@ -14,7 +14,7 @@ import subprocess
 import sys
 
 HERE = os.path.dirname(os.path.abspath(__file__))
-PROGRAM = os.path.join(HERE, "..", "snapjudge")
+PROGRAM = os.path.join(HERE, "..", "built", "snapjudge")
 WORKERS = 2
 STAMPS_OF_INTERFERED = 66
 
