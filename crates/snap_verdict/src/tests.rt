@@ -7,18 +7,18 @@ const WORKED: &[(&str, Status, &str)] = &[
     (
         "event,process,op,data\nbegin,0,update,0:1:3\nbegin,1,view,\nend,1,view,\nend,0,update,\n",
         Status::Atomic,
-        "events 4 calls 2 pending 0 views 1\nregular yes\natomic yes\norder 2\n2 p1 view\n1 p0 update 0:1:3\n",
+        "events 4 calls 2 pending 0 views 1\nregular yes\nmonotone yes\natomic yes\norder 2\n2 p1 view\n1 p0 update 0:1:3\n",
     ),
     (
         "event,process,op,data\nbegin,0,update,0:1:7\nbegin,1,view,\nend,1,view,0:1:7\nbegin,2,view,\n\
          end,2,view,\nend,0,update,\n",
         Status::Regular,
-        "events 6 calls 3 pending 0 views 2\nregular yes\natomic no\nread 1 first view 2 view 3 component 0\n",
+        "events 6 calls 3 pending 0 views 2\nregular yes\nmonotone no\natomic no\nread 1 first view 2 view 3 component 0\n",
     ),
     (
         "event,process,op,data\nbegin,0,update,0:1:7\nend,0,update,\nbegin,1,view,\nend,1,view,\n",
         Status::Irregular,
-        "events 4 calls 2 pending 0 views 1\nregular no\natomic no\nproximity 1 first view 2 entry 0:0 old\n",
+        "events 4 calls 2 pending 0 views 1\nregular no\nmonotone yes\natomic no\nproximity 1 first view 2 entry 0:0 old\n",
     ),
     (
         "event,process,op,data\nbegin,0,update,0:1:7\nend,0,view,\n",
