@@ -22,7 +22,7 @@ fn a_report_fills_the_front_of_the_room(rt: HostRuntime) {
 
 #[test]
 fn a_report_may_fill_the_room(rt: HostRuntime) {
-    let mut room = [238u8; 100];
+    let mut room = [238u8; 113];
     let mut length = 9usize;
     assert_eq!(rt; room.len(), REPORT.len());
     assert_eq!(rt;
