@@ -3,7 +3,8 @@ use Rattle.std.proofs.Common.{◌≡◌, ℕ, List, [], ◌∷◌, map, refl, ap
 use Rattle.std.specs.List.{filter}
 use Rattle.snap_core.specs.Calls.{Call}
 use Rattle.snap_order.specs.Levels.{is_printed, printed_order}
-use Rattle.snap_order.specs.Keys.{key_of, KeyLess, AreSortedKeys}
+use Rattle.snap_conditions.specs.Chains.{KeyLess}
+use Rattle.snap_order.specs.Keys.{key_of, AreSortedKeys}
 use Rattle.snap_core.proofs.Lists.{In, In-from_Contains, Contains-from_In, Pairs, Pairs-from_AllPairs, In-filter, In-from_filter}
 use Rattle.snap_core.proofs.Facts.{AreCalls}
 use Rattle.snap_conditions.proofs.Tallies.{in_map}

@@ -11,7 +11,7 @@ use Rattle.snap_core.specs.Calls.{Call, call_numbered, is_view, views_of, nobody
 use Rattle.snap_core.proofs.Lists.{count-cons}
 use Rattle.snap_index.specs.Bare.{entries_shown, answer_of}
 use Rattle.snap_index.proofs.Known.{call_within}
-use Rattle.snap_order.specs.Chains.{view_at}
+use Rattle.snap_conditions.specs.Seen.{view_in}
 
 pub found : {X Y : Type 0} (f : X → Y) (xs : List X) (place : ℕ) (d : X) (y : Y) → place < length xs → Some y ≡ option_map f (slice_get xs place) → y ≡ f (get_or xs place d)
 found f xs place d y l h = let e : Some y ≡ Some (f (get_or xs place d)) = h ∙ ap (option_map f) (slice_get-get_or xs place d l) in cc
@@ -50,14 +50,14 @@ any_views calls p = go calls
         at false e rest = ap (λ z. list_any p (cond z (x ∷ filter is_view xs) (filter is_view xs))) e ∙ rest ∙ ap (λ z. (z && p x) || list_any (λ s. is_view s && p s) xs) (sym e)
 
 -- what an index answers at a place
-pub read_view : (calls : List Call) (place : ℕ) (es : List Entry) → Some es ≡ option_map entries_shown (slice_get (views_of calls) place) → es ≡ entries_shown (view_at calls place)
+pub read_view : (calls : List Call) (place : ℕ) (es : List Entry) → Some es ≡ option_map entries_shown (slice_get (views_of calls) place) → es ≡ entries_shown (view_in calls place)
 read_view calls place es h = elim (cases_lt place (length (views_of calls))) [
   | inl within ↦ found entries_shown (views_of calls) place nobody es within h
   | inr past ↦ absurd (let none : Some es ≡ None = h ∙ ap (option_map entries_shown) (slice_get_past (views_of calls) place past) in cc)
 ]
 
 -- beyond the views it answers nothing
-pub no_view : (calls : List Call) (place : ℕ) → None ≡ option_map entries_shown (slice_get (views_of calls) place) → [] ≡ entries_shown (view_at calls place)
+pub no_view : (calls : List Call) (place : ℕ) → None ≡ option_map entries_shown (slice_get (views_of calls) place) → [] ≡ entries_shown (view_in calls place)
 no_view calls place h = elim (cases_lt place (length (views_of calls))) [
   | inl within ↦ absurd (not_lost entries_shown (views_of calls) place nobody within h)
   | inr past ↦ sym (ap entries_shown (get_or_past (views_of calls) place nobody past))

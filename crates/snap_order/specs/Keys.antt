@@ -1,6 +1,7 @@
 -- The keys by which a sort makes the printed order.
-use Rattle.std.specs.Prelude.{ℕ, List, Option, Some, None, if◌then◌else◌, map, filter, ◌≡◌, ◌<◌, ◌⊎◌, ◌↔◌, Contains, AllPairs}
+use Rattle.std.specs.Prelude.{ℕ, List, Option, Some, None, if◌then◌else◌, map, filter, ◌↔◌, Contains, AllPairs}
 use Rattle.snap_core.specs.Calls.{Call}
+use Rattle.snap_conditions.specs.Chains.{KeyLess}
 use Rattle.snap_order.specs.Levels.{rank, is_printed}
 
 abbrev pub key_of : List Call → Call → ℕ × ℕ
@@ -13,9 +14,6 @@ printed_keys calls = map (key_of calls) (filter (is_printed calls) calls)
 -- the rank of a call, if it is printed
 abbrev pub rank_of : List Call → Call → Option ℕ
 rank_of calls c = if is_printed calls c then Some (rank calls c) else None
-
-abbrev pub KeyLess : ℕ × ℕ → ℕ × ℕ → Type 0
-KeyLess a b = (a.0 < b.0) ⊎ ((a.0 ≡ b.0) × (a.1 < b.1))
 
 -- the keys of the printed calls, sorted
 pub record AreSortedKeys (calls : List Call) (keys : List (ℕ × ℕ)) : Type 0 where

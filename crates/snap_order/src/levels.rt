@@ -1,83 +1,43 @@
-ghost use Rattle.std.specs.Prelude.{◌≡◌, ◌<◌, ◌≤◌, length, nat_lt, count_by, IfOk};
-ghost use Rattle.std.specs.List.Sorted.{IsNonDecreasingBy};
-ghost use Rattle.snap_core.specs.Events.{IsKept, event_limit};
+//! The levels of calls: places in the chain of the completed views.
+ghost use Rattle.std.specs.Prelude.{◌≡◌, ◌<◌, ◌≤◌, length, get_or, nat_lt, count_by, IfOk};
 ghost use Rattle.snap_core.specs.Calls.{calls_of, call_numbered, views_of, shown_number};
 ghost use Rattle.snap_conditions.specs.Faults.{HasNoFault};
-ghost use Rattle.snap_order.specs.Keys.{rank_of};
+ghost use Rattle.snap_conditions.specs.Quick.{entry_sum, shown_sum};
+ghost use Rattle.snap_conditions.specs.Seen.{view_in};
+ghost use Rattle.snap_order.specs.Keys.{printed_keys, rank_of};
 ghost use Rattle.snap_order.specs.Levels.{update_level as spec_update_level};
-ghost use Rattle.snap_order.specs.Chains.{view_at, sum_shown, IsChain};
 
+use snap_conditions::{chain, entries_sum, view_sums};
 use snap_core::{Entry, View};
 use snap_index::{CallOp, Index};
 use std::alloc::{AllocError, Global};
+use std::marker::Model;
 
-// The completed views as a chain, each by the sum of its numbers and its place. Without a fault one of any two views
-// shows no more than the other, so a sort by the sums makes it.
-pub(crate) fn chain(alloc: Global, index: &Index<'_>) -> Result<Vec<(u64, u32)>, AllocError>
-    requires kept { IsKept index.now }
-    requires no_fault { HasNoFault (calls_of index.now) }
-    ensures { IfOk result (λ chain. IsChain (calls_of index.now) chain.items) }
-{
-    let mut chain = Vec::new(alloc);
-    for place in 0..index.view_count() {
-        if let Some(view) = index.view(place) {
-            chain.push((view_sum(view), place))?;
-        }
-    }
-    chain.sort_unstable();
-    Ok(chain)
+/// The levels of the calls of an index, in whose history no view has a fault.
+#[derive(Drop)]
+pub(crate) struct Levels<'i, 'h> {
+    index: &'i Index<'h>,
+    // the completed views as a chain, by their places, in which each shows no less than those before it
+    chain: Vec<u32>,
+    // the sum of the numbers that each completed view shows, by place
+    sums: Vec<u64>,
 }
 
-// The sum of the numbers that a view shows.
-fn view_sum(view: &View) -> u64
-    ensures { result ≡ sum_shown view.now }
-{
-    view.entries()
-        .iter()
-        .map(|entry| u64::from(entry.number))
-        .sum()
-}
+impl<'i, 'h> Model for Levels<'i, 'h> {
+    ghost use Rattle.std.specs.Prelude.{List};
+    ghost use Rattle.snap_core.specs.declared.event.Event.{Event};
+    ghost use Rattle.snap_order.specs.Chains.{IsSummedChain};
 
-// The rank of a printed call: twice its level, and one more for a view.
-pub(crate) fn printed_rank(index: &Index<'_>, chain: &[(u64, u32)], number: u32) -> Option<u32>
-    requires kept { IsKept index.now }
-    requires chain { IsChain (calls_of index.now) chain.now }
-    requires number { number < length (calls_of index.now) }
-    ensures { let calls = calls_of index.now in result ≡ rank_of calls (call_numbered calls number) }
-{
-    let call = index.call(number)?;
-    match call.op {
-        CallOp::Update(entry) => {
-            let level = update_level(index, chain, entry);
-            // a pending update is printed where some completed view shows its number or a later one
-            let is_printed = call.ended.is_some() || level < index.view_count();
-            is_printed.then_some(2 * level)
-        }
-        CallOp::View => {
-            let view = index.answer(number)?;
-            Some(2 * view_level(chain, view) + 1)
-        }
-    }
-}
+    ghost Value = { List Event };
 
-// How many completed views show an earlier number than the entry's of its component, or none.
-fn update_level(index: &Index<'_>, chain: &[(u64, u32)], entry: Entry) -> u32
-    requires kept { IsKept index.now }
-    requires chain { IsChain (calls_of index.now) chain.now }
-    ensures level { result ≡ spec_update_level (calls_of index.now) entry }
-    ensures few { result ≤ length (views_of (calls_of index.now)) }
-{
-    let Entry {
-        component,
-        number,
-        ..
-    } = entry;
-    chain.partition_point(|(_, place)| shown_at(index, *place, component) < number) as u32
+    ghost view = { λ a. a.index.now };
+
+    ghost invariant = { λ a. IsSummedChain a.index.now a.chain.items a.sums.items };
 }
 
 // The number that the completed view at a place shows of a component, 0 where it shows none.
 fn shown_at(index: &Index<'_>, place: u32, component: u8) -> u32
-    ensures { result ≡ shown_number (view_at (calls_of index.now) place) component }
+    ensures { result ≡ shown_number (view_in (calls_of index.now) place) component }
 {
     match index.view(place) {
         Some(view) => view.number(component),
@@ -85,12 +45,84 @@ fn shown_at(index: &Index<'_>, place: u32, component: u8) -> u32
     }
 }
 
-// How many views of a chain have a smaller sum than this one.
-fn view_level(chain: &[(u64, u32)], view: &View) -> u32
-    requires few { length chain.now ≤ event_limit }
-    requires sorted { IsNonDecreasingBy (λ at. at.0) chain.now }
-    ensures { result ≡ count_by (λ at. nat_lt at.0 (sum_shown view.now)) chain.now }
+// The sum at a place.
+fn sum_at(sums: &[u64], place: u32) -> u64
+    ensures { result ≡ get_or sums.now place 0 }
 {
-    let sum = view_sum(view);
-    chain.partition_point(|(other, _)| *other < sum) as u32
+    sums.get(place as usize).copied().unwrap_or(0)
+}
+
+impl<'i, 'h> Levels<'i, 'h> {
+    // Without a fault the completed views are a chain.
+    pub(crate) fn of(alloc: Global, index: &'i Index<'h>) -> Result<Levels<'i, 'h>, AllocError>
+        requires { HasNoFault (calls_of index.now) }
+        ensures { IfOk result (λ levels. levels ≡ index.now) }
+    {
+        // that the events are a history
+        let _events = index.event_count();
+        let sums = view_sums(alloc, index)?;
+        let Some(chain) = chain(alloc, index, &sums)? else {
+            unreachable!()
+        };
+        Ok(Levels { index, chain, sums })
+    }
+
+    // The keys of the printed calls, rank and number, by call number.
+    pub(crate) fn keys(&self, alloc: Global) -> Result<Vec<(u32, u32)>, AllocError>
+        ensures { IfOk result (λ keys. keys.items ≡ printed_keys (calls_of self.now)) }
+    {
+        let mut keys = Vec::new(alloc);
+        for number in 0..self.index.call_count() {
+            if let Some(rank) = self.rank(number) {
+                keys.push((rank, number))?;
+            }
+        }
+        Ok(keys)
+    }
+
+    // The rank of a printed call: twice its level, and one more for a view.
+    fn rank(&self, number: u32) -> Option<u32>
+        requires { number < length (calls_of self.now) }
+        ensures { let calls = calls_of self.now in result ≡ rank_of calls (call_numbered calls number) }
+    {
+        let call = self.index.call(number)?;
+        match call.op {
+            CallOp::Update(entry) => {
+                let level = self.update_level(entry);
+                // a pending update is printed where some completed view shows its number or a later one
+                let is_printed = call.ended.is_some() || level < self.index.view_count();
+                is_printed.then_some(2 * level)
+            }
+            CallOp::View => {
+                let view = self.index.answer(number)?;
+                Some(2 * self.view_level(view) + 1)
+            }
+        }
+    }
+
+    // How many completed views show an earlier number than the entry's of its component, or none.
+    fn update_level(&self, entry: Entry) -> u32
+        ensures level { result ≡ spec_update_level (calls_of self.now) entry }
+        ensures few { result ≤ length (views_of (calls_of self.now)) }
+    {
+        let Entry {
+            component,
+            number,
+            ..
+        } = entry;
+        let index = self.index;
+        self.chain
+            .partition_point(|place| shown_at(index, *place, component) < number) as u32
+    }
+
+    // How many completed views have a smaller sum than this one.
+    fn view_level(&self, view: &View) -> u32
+        ensures level { result ≡ count_by (λ s. nat_lt (shown_sum s) (entry_sum view.now)) (views_of (calls_of self.now)) }
+        ensures few { result ≤ length (views_of (calls_of self.now)) }
+    {
+        let sum = entries_sum(view.entries());
+        let sums = self.sums.as_slice();
+        self.chain
+            .partition_point(|place| sum_at(sums, *place) < sum) as u32
+    }
 }

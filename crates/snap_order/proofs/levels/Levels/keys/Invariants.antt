@@ -3,7 +3,7 @@ use Rattle.std.specs.List.{filter}
 use Rattle.snap_core.specs.Calls.{calls_of}
 use Rattle.snap_order.specs.Levels.{is_printed}
 use Rattle.snap_order.specs.Keys.{key_of}
-use Rattle.snap_order.proofs.printing.keys.Given as goal
+use Rattle.snap_order.proofs.levels.Levels.keys.Given as goal
 
 abbrev pub invariant-loop-number : goal.invariant-loop-number
-invariant-loop-number l = l.keys.items ≡ map (key_of (calls_of l.index)) (filter (is_printed (calls_of l.index)) (take l.number (calls_of l.index)))
+invariant-loop-number l = l.keys.items ≡ map (key_of (calls_of l.self)) (filter (is_printed (calls_of l.self)) (take l.number (calls_of l.self)))

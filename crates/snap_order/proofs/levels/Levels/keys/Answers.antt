@@ -1,14 +1,14 @@
-use Rattle.std.proofs.Common.{◌≡◌, ◌<◌, ◌+◌, ◌∙◌, ◌++◌, ◌∷◌, [], cond, Bool, true, false, ℕ, List, Option, Some, None, length, map, get_or, take, refl, sym, ap, arith}
+use Rattle.std.proofs.Common.{◌≡◌, ◌<◌, ◌+◌, ◌∙◌, ◌++◌, ◌∷◌, [], cond, Bool, true, false, ℕ, List, Some, None, length, map, take, refl, sym, ap, arith}
 use Rattle.std.specs.List.{filter}
-use Rattle.std.proofs.lemmas.List.{get_or-map, map-append, append-nil, take_more}
+use Rattle.std.proofs.lemmas.List.{map-append, append-nil, take_more}
 use Rattle.std.proofs.lemmas.List.Elements.{filter-append}
 use Rattle.snap_core.specs.declared.event.Event.{Event}
 use Rattle.snap_core.specs.Calls.{Call, calls_of, call_numbered, nobody}
 use Rattle.snap_core.proofs.Histories.{numbered_calls}
 use Rattle.snap_order.specs.Levels.{rank, is_printed}
 use Rattle.snap_order.specs.Keys.{key_of, rank_of}
-use Rattle.snap_order.proofs.printing.keys.Goals as goal
-use Rattle.snap_order.proofs.printing.keys.Goals.{in-Some+in_ok-push, in_default}
+use Rattle.snap_order.proofs.levels.Levels.keys.Goals as goal
+use Rattle.snap_order.proofs.levels.Levels.keys.Goals.{in-Some+in_ok-push, in_default}
 
 -- the keys of the printed calls among the first
 first_keys : List Call → ℕ → List (ℕ × ℕ)
@@ -37,26 +37,21 @@ unranked calls c h = at (is_printed calls c) refl
     at true e = absurd (h (rank calls c) (ap (λ z. cond z (Some (rank calls c)) None) e))
     at false e = e
 
-read_rank : (calls : List Call) (ranks : List (Option ℕ)) (i : ℕ) → ranks ≡ map (rank_of calls) calls → i < length calls → get_or ranks i None ≡ rank_of calls (call_numbered calls i)
-read_rank calls ranks i h l = ap (λ z. get_or z i None) h ∙ get_or-map (rank_of calls) calls i nobody None l
-
 pub loop-number-preserved : goal.loop-number-preserved
 unfolding first_keys
 loop-number-preserved c =
-    let es = c.args.index.now in
+    let es = c.args.self.now in
     let calls = calls_of es in
     let i = c.loop-number.number in
-    let within : i < length calls = (let l = c.loop-number-test.true in let e = c.call_count-number-end.ensures in omega (arith, l, e)) in
-    let read = read_rank calls c.args.ranks.now i c.requires within in
-    elim c.match-ranks-number.branch [
+    let within : i < length calls = (let l = c.loop-number-test.true in let e = c.call_count-number-end.ensures in omega (arith, l, e, ap (λ (z : List Event). length (calls_of z)) c.self.view_is)) in
+    elim c.match-rank.branch [
       | in-Some+in_ok-push w ↦
-          let at : get_or c.args.ranks.now i None ≡ Some w.in-Some.rank = w.in-Some.is in
-          let r = ranked calls (call_numbered calls i) w.in-Some.rank (sym read ∙ at) in
+          let r = ranked calls (call_numbered calls i) w.in-Some.rank (sym c.rank.ensures ∙ w.in-Some.is) in
           ap (λ z. z.items) w.keys-is ∙ w.in_ok-push.ensures.items ∙ ap (λ z. z ++ (w.in-Some.rank, i) ∷ []) c.loop-number.invariant
           ∙ ap (λ z. first_keys calls i ++ (z, i) ∷ []) (sym r.1) ∙ ap (λ z. first_keys calls i ++ (rank calls (call_numbered calls i), z) ∷ []) (sym (numbered_calls es i nobody within))
           ∙ ap (λ z. first_keys calls i ++ map (key_of calls) (cond z (call_numbered calls i ∷ []) [])) (sym r.0) ∙ sym (one_more es i within)
       | in_default w ↦
-          let none = unranked calls (call_numbered calls i) (λ r h. w.in_default.not-Some r (read ∙ h)) in
+          let none = unranked calls (call_numbered calls i) (λ r h. w.in_default.not-Some r (c.rank.ensures ∙ h)) in
           ap (λ z. z.items) w.keys-is ∙ c.loop-number.invariant ∙ sym (append-nil (first_keys calls i))
           ∙ ap (λ z. first_keys calls i ++ map (key_of calls) (cond z (call_numbered calls i ∷ []) [])) (sym none) ∙ sym (one_more es i within)
     ]
