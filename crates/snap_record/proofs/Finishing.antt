@@ -4,12 +4,12 @@ use Rattle.std.specs.Prelude.{find, IsSome}
 use Rattle.std.proofs.lemmas.Bool.{eqb-true}
 use Rattle.std.proofs.lemmas.List.{append-nil, nil_from_length}
 use Rattle.std.proofs.lemmas.List.Elements.{All-head, All-pop, All-push, All-tail}
-use Rattle.snap_record.specs.declared.record.Record.{Record}
+use Rattle.snap_board.specs.declared.record.Record.{Record}
 use Rattle.snap_record.specs.declared.delivery.Ended.{Ended}
 use Rattle.snap_record.specs.declared.delivery.Role.{Role}
 use Rattle.snap_record.specs.declared.delivery.Role.TheVariants.{Sends, Takes}
 use Rattle.snap_core.specs.Sums.{total}
-use Rattle.snap_record.specs.Regular.{falling}
+use Rattle.snap_board.specs.Regular.{falling}
 use Rattle.snap_record.specs.Delivery.{of_worker, taken_in, DidSend, AddsUp}
 use Rattle.snap_record.specs.Relays.{SenderView, sender_at, count_in, count_sent, HasPlaces, TookAll}
 use Rattle.snap_record.specs.Ends.{TookIn, taken_of, made_of}

@@ -7,24 +7,24 @@ use Rattle.snap_record.specs.declared.plan.Step.{Step}
 use Rattle.snap_record.specs.declared.plan.Step.TheVariants.{Store, View, Scan}
 use Rattle.snap_record.specs.declared.plan.PlanRefusal.{PlanRefusal}
 use Rattle.snap_record.specs.declared.plan.PlanRefusal.TheVariants.{TooLong}
-use Rattle.snap_record.specs.declared.record.Record.{Record}
-use Rattle.snap_record.specs.declared.record.RecordedOp.{RecordedOp}
-use Rattle.snap_record.specs.declared.record.RecordedOp.TheVariants as Kind
+use Rattle.snap_board.specs.declared.record.Record.{Record}
+use Rattle.snap_board.specs.declared.record.RecordedOp.{RecordedOp}
+use Rattle.snap_board.specs.declared.record.RecordedOp.TheVariants as Kind
 use Rattle.snap_core.specs.Sums.{total}
 use Rattle.snap_record.specs.Choices.{chosen, left_out, LeavesScans, IsScan, views_in, tries_of, one_store, stores_in, stores_but}
-use Rattle.snap_record.specs.declared.account.Account.{Account}
-use Rattle.snap_record.specs.declared.account.Answered.{Answered}
-use Rattle.snap_record.specs.declared.account.Answer.{Answer}
-use Rattle.snap_record.specs.declared.account.Answer.TheVariants.{Stored, Viewed, Scanned, Interfered}
-use Rattle.snap_record.specs.Calls.{op_writes, writes_in}
-use Rattle.snap_record.specs.Desks.{op_records, records_at, records_in, lost_in}
-use Rattle.snap_record.proofs.Climbing.{few_tries}
+use Rattle.snap_account.specs.declared.account.Account.{Account}
+use Rattle.snap_account.specs.declared.account.Answered.{Answered}
+use Rattle.snap_account.specs.declared.account.Answer.{Answer}
+use Rattle.snap_account.specs.declared.account.Answer.TheVariants.{Stored, Viewed, Scanned, Interfered}
+use Rattle.snap_account.specs.Calls.{op_writes, writes_in}
+use Rattle.snap_board.specs.Desks.{op_records, records_at, records_in, lost_in}
+use Rattle.snap_board.proofs.Climbing.{few_tries}
 use Rattle.std.proofs.lemmas.Bool.{eq-eqb}
-use Rattle.snap_record.specs.Regular.{falling}
-use Rattle.snap_record.specs.Rule.{tick_limit}
+use Rattle.snap_board.specs.Regular.{falling}
+use Rattle.snap_account.specs.Rule.{tick_limit}
 use Rattle.snap_record.specs.Plans.{steps_in, plan_refusal, each_draws, draws_within, last_step, round_script, rounds_scripts, IsRun, HasScripts}
 use Rattle.snap_record.specs.Scripts.{IsOpOf, DidScript, DidSome}
-use Rattle.snap_record.specs.History.{stamped_events, events_in, begin_of, end_of}
+use Rattle.snap_board.specs.History.{stamped_events, events_in, begin_of, end_of}
 use Rattle.snap_record.specs.Delivery.{of_worker}
 use Rattle.snap_record.specs.Recording.{AreSettled, AreFrom, DidScripts, IsTold}
 use Rattle.snap_record.proofs.ByWorker.{counted}

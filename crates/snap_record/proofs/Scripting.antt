@@ -4,7 +4,7 @@ use Rattle.std.proofs.lemmas.List.{take_more, drop_more}
 use Rattle.std.proofs.lemmas.Bool.{false≢true, and_from, le-leb, leb-true}
 use Rattle.snap_core.proofs.Sums.{total-append}
 use Rattle.snap_record.specs.declared.plan.Step.{Step}
-use Rattle.snap_record.specs.declared.record.Record.{Record}
+use Rattle.snap_board.specs.declared.record.Record.{Record}
 use Rattle.snap_record.specs.Choices.{chosen, left_out, LeavesScans, IsScan, tries_of, one_view, views_in}
 use Rattle.snap_record.specs.Plans.{has_tries, step_ticks, draws_within}
 use Rattle.snap_record.specs.Scripts.{IsStepOf, DidScript, DidSome}

@@ -4,13 +4,13 @@ use Rattle.std.specs.List.{Contains, sum_by}
 use Rattle.std.specs.List.Sorted.{IsPermutation, IsNonDecreasingBy}
 use Rattle.std.proofs.lemmas.List.Sums.{sum_by-cons}
 use Rattle.std.proofs.lemmas.List.Sorted.{Contains-permutation, IsPermutation-sym, sum_by-IsPermutation}
-use Rattle.snap_record.specs.declared.record.Record.{Record}
+use Rattle.snap_board.specs.declared.record.Record.{Record}
 use Rattle.snap_core.specs.Sums.{one_if, times, total}
-use Rattle.snap_record.specs.Calls.{Mem}
-use Rattle.snap_record.specs.History.{begin_of, end_of, Stamped, Merged, AreApart, stamped_events}
-use Rattle.snap_record.proofs.Lists.{one_here}
-use Rattle.snap_record.proofs.Listing.{mem_contains}
-use Rattle.snap_record.proofs.Stamps.{Stamp}
+use Rattle.snap_account.specs.Calls.{Mem}
+use Rattle.snap_board.specs.History.{begin_of, end_of, Stamped, Merged, AreApart, stamped_events}
+use Rattle.snap_account.proofs.Lists.{one_here}
+use Rattle.snap_board.proofs.Listing.{mem_contains}
+use Rattle.snap_board.proofs.Stamps.{Stamp}
 
 contains_mem : {X : Type 0} (xs : List X) (x : X) → Mem x xs → Contains xs x
 contains_mem [] x m = absurd m

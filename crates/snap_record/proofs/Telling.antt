@@ -7,20 +7,20 @@ use Rattle.snap_core.specs.Calls.{calls_of}
 use Rattle.snap_core.specs.Monotone.{IsMonotone}
 use Rattle.snap_core.specs.Regular.{IsRegular}
 use Rattle.snap_core.specs.Orders.{IsAtomic}
-use Rattle.snap_record.specs.Scans.{without_collects}
-use Rattle.snap_record.proofs.Keeping.{settled_kept, scans_kept, records_kept}
-use Rattle.snap_record.proofs.Atomic.{atomic, all_scans}
-use Rattle.snap_record.specs.declared.account.Account.{Account}
-use Rattle.snap_record.specs.declared.record.Record.{Record}
+use Rattle.snap_board.specs.Scans.{without_collects}
+use Rattle.snap_board.proofs.Keeping.{settled_kept, scans_kept, records_kept}
+use Rattle.snap_board.proofs.Atomic.{atomic, all_scans}
+use Rattle.snap_account.specs.declared.account.Account.{Account}
+use Rattle.snap_board.specs.declared.record.Record.{Record}
 use Rattle.snap_record.specs.Delivery.{of_worker, AreBelow}
-use Rattle.snap_record.specs.History.{stamped_events, events_in, event_stamps, Merged, AreApart, AllCompleted, all_records, Stamped}
+use Rattle.snap_board.specs.History.{stamped_events, events_in, event_stamps, Merged, AreApart, AllCompleted, all_records, Stamped}
 use Rattle.snap_record.specs.Recording.{AreSettled, AreStamped, IsTold}
 use Rattle.snap_record.proofs.ByWorker.{by_worker, sorted_out}
-use Rattle.snap_record.proofs.Stamps.{Stamp}
-use Rattle.snap_record.proofs.DeskEvents.{events_at}
-use Rattle.snap_record.proofs.Merging.{InOrder, history, completed, regular, of_process, of_no_process}
-use Rattle.snap_record.proofs.Monotone.{monotone}
-use Rattle.snap_record.proofs.Ordering.{few_stamps, in_order_of}
+use Rattle.snap_board.proofs.Stamps.{Stamp}
+use Rattle.snap_board.proofs.DeskEvents.{events_at}
+use Rattle.snap_board.proofs.Merging.{InOrder, history, completed, regular, of_process, of_no_process}
+use Rattle.snap_board.proofs.Monotone.{monotone}
+use Rattle.snap_board.proofs.Ordering.{few_stamps, in_order_of}
 use Rattle.snap_record.proofs.Sorting.{apart_permuted, merged_permuted}
 
 module _ (all : List Record) (l0 l1 : List ℕ) (v0 v1 : ℕ) (s : AreSettled (of_worker 0 all) (of_worker 1 all) l0 l1 v0 v1) (below : AreBelow 2 all) where

@@ -2,7 +2,7 @@
 use Rattle.std.specs.Prelude.{◌≡◌, ℕ, ◌+◌, ◌<◌, ◌≤◌, ◌==◌, List, [], ◌∷◌, ◌++◌, Option, Some, None, All, filter, ⊤}
 use mathlib.Core.Option.{some}
 use lib.ListN.{get_elem?}
-use Rattle.snap_record.specs.declared.record.Record.{Record}
+use Rattle.snap_board.specs.declared.record.Record.{Record}
 use Rattle.snap_record.specs.declared.delivery.Ended.{Ended}
 use Rattle.snap_record.specs.declared.delivery.Role.{Role}
 use Rattle.snap_record.specs.declared.delivery.Role.TheVariants.{Sends, Takes, Spent}

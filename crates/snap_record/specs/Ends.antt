@@ -1,6 +1,6 @@
 -- The fields of a sender and of a taker, and what the taker knows once it has taken the senders in.
 use Rattle.std.specs.Prelude.{◌≡◌, ℕ, List, [], None, All, length}
-use Rattle.snap_record.specs.declared.record.Record.{Record}
+use Rattle.snap_board.specs.declared.record.Record.{Record}
 use Rattle.snap_record.specs.declared.delivery.Ended.{Ended}
 use Rattle.snap_record.specs.declared.delivery.Role.{Role}
 use Rattle.snap_record.specs.declared.delivery.Role.TheVariants.{Sends, Takes, Spent}

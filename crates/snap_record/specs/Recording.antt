@@ -2,14 +2,14 @@
 use Rattle.std.specs.Prelude.{◌≡◌, ℕ, ◌+◌, List, [], ◌∷◌, slice_index_or, length}
 use Rattle.snap_core.specs.declared.event.Event.{Event}
 use Rattle.snap_core.specs.Events.{events_of}
-use Rattle.snap_record.specs.declared.account.Account.{Account}
+use Rattle.snap_account.specs.declared.account.Account.{Account}
 use Rattle.snap_record.specs.declared.plan.Step.{Step}
-use Rattle.snap_record.specs.declared.record.Record.{Record}
+use Rattle.snap_board.specs.declared.record.Record.{Record}
 use Rattle.snap_record.specs.Delivery.{of_worker, AreBelow}
-use Rattle.snap_record.specs.Desks.{records_in, lost_in, collects_in}
-use Rattle.snap_record.specs.Regular.{Settled, ScansSettled}
+use Rattle.snap_board.specs.Desks.{records_in, lost_in, collects_in}
+use Rattle.snap_board.specs.Regular.{Settled, ScansSettled}
 use Rattle.snap_record.specs.Choices.{views_in}
-use Rattle.snap_record.specs.History.{all_records, event_stamps, events_in, stamped_events, Merged}
+use Rattle.snap_board.specs.History.{all_records, event_stamps, events_in, stamped_events, Merged}
 use Rattle.snap_record.specs.Scripts.{DidSome}
 
 -- what two desks did on a board that was closed: their records, the tries of their scans without a record, and how often they collected

@@ -2,9 +2,9 @@
 use Rattle.std.specs.Prelude.{◌≡◌, ℕ, ◌<◌, ◌==◌, List, [], ◌∷◌, ◌++◌, length, slice_index_or, Option, Some, None, IsSome, find, All}
 use Rattle.std.specs.declared.alloc.Global.{Global}
 use Rattle.crossbeam_queue.specs.SegTies.{SegId}
-use Rattle.snap_record.specs.declared.record.Record.{Record}
+use Rattle.snap_board.specs.declared.record.Record.{Record}
 use Rattle.snap_core.specs.Sums.{total}
-use Rattle.snap_record.specs.Regular.{falling}
+use Rattle.snap_board.specs.Regular.{falling}
 use Rattle.snap_record.specs.Delivery.{of_worker, AreBelow}
 
 pub record RelayView : Type 0 where

@@ -3,9 +3,9 @@ use Rattle.std.specs.Prelude.{◌≡◌, ℕ, List, [], ◌∷◌, ⊤, Bool, le
 use Rattle.snap_record.specs.Choices.{chosen, left_out, LeavesScans}
 use Rattle.snap_record.specs.declared.plan.Step.{Step}
 use Rattle.snap_record.specs.declared.plan.Step.TheVariants.{Store, View, Scan}
-use Rattle.snap_record.specs.declared.record.Record.{Record}
-use Rattle.snap_record.specs.declared.record.RecordedOp.{RecordedOp}
-use Rattle.snap_record.specs.declared.record.RecordedOp.TheVariants as Kind
+use Rattle.snap_board.specs.declared.record.Record.{Record}
+use Rattle.snap_board.specs.declared.record.RecordedOp.{RecordedOp}
+use Rattle.snap_board.specs.declared.record.RecordedOp.TheVariants as Kind
 
 -- what desk d did is what the step asks for
 abbrev pub IsOpOf : ℕ → Step → RecordedOp → Type 0

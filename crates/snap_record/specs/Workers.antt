@@ -5,7 +5,7 @@ use Rattle.snap_record.specs.declared.taking.Taken.{Taken}
 use Rattle.snap_record.specs.declared.worker.Recorder.{Recorder}
 use Rattle.snap_record.specs.declared.worker.Worker.{Worker}
 use Rattle.snap_record.specs.declared.worker.Ran.{Ran}
-use Rattle.snap_record.specs.Desks.{records, ticks, lost, collects, IsDeskOf}
+use Rattle.snap_board.specs.Desks.{records, ticks, lost, collects, IsDeskOf}
 use Rattle.snap_record.specs.Relays.{RelayView, IsSenderOf, IsTakerOf}
 use Rattle.snap_record.specs.Scripts.{DidSome}
 use Rattle.snap_record.specs.Choices.{views_in}

@@ -1,7 +1,7 @@
 // The rule of the queue of records, and what each of its passes knows.
-use crate::record::Record;
 use crossbeam_queue::protocol::{Join, Lesson, Outcome, Protocol, Split};
 use crossbeam_queue::{RuledSegQueue, SegPass};
+use snap_board::Record;
 use std::collections::LinkedList;
 
 /// A sender that was taken in again: its place, and what it sent. No value of it is made.

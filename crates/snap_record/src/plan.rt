@@ -1,9 +1,9 @@
 ghost use Rattle.std.specs.Prelude.{◌≡◌, ◌+◌, ◌*◌, ◌<◌, ◌≤◌, [], ◌∷◌, Some, None, IfOk, IfErr, OnOk, length, true};
 ghost use Rattle.snap_core.specs.Events.{event_limit};
 ghost use Rattle.snap_record.specs.Plans.{lists_of, steps_in, plan_refusal, draws_within, round_script, rounds_scripts, IsRoundsRefusal};
-ghost use Rattle.snap_record.specs.Rule.{tick_limit};
+ghost use Rattle.snap_account.specs.Rule.{tick_limit};
 
-use crate::calls::TICK_LIMIT;
+use snap_board::TICK_LIMIT;
 use snap_core::EVENT_LIMIT;
 use std::alloc::{AllocError, Global};
 use std::marker::Model;

@@ -6,7 +6,7 @@ ghost use Rattle.snap_record.specs.Relays.{IsSenderOf, IsTakerOf, sent_more, tak
 ghost use Rattle.snap_record.specs.Ends.{TookIn, made_of, taken_of};
 
 use crate::delivery::{MakeSender, Pass, PopRecord, PushRecord, Queue, SumUp, TakeIn};
-use crate::record::Record;
+use snap_board::Record;
 use std::alloc::{AllocError, Global};
 use std::marker::Model;
 use std::sync::Wait;

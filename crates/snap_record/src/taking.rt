@@ -3,8 +3,8 @@ ghost use Rattle.snap_record.specs.Recording.{AreFrom};
 ghost use Rattle.snap_record.specs.Relays.{IsSenderOf, IsTakerOf};
 ghost use Rattle.snap_record.specs.Workers.{IsTakenOf};
 
-use crate::record::Record;
 use crate::relay::{Relay, Sender, Taker, count_all};
+use snap_board::Record;
 use std::alloc::{AllocError, Global};
 use std::sync::Wait;
 

@@ -1,8 +1,8 @@
 ghost use Rattle.std.specs.Prelude.{◌≡◌, ◌≤◌, IfOk, length};
 ghost use Rattle.snap_core.specs.Events.{IsHistory, event_limit};
-ghost use Rattle.snap_record.specs.History.{begin_of, end_of, stamped_events, events_in, event_stamps, Merged, AreApart};
+ghost use Rattle.snap_board.specs.History.{begin_of, end_of, stamped_events, events_in, event_stamps, Merged, AreApart};
 
-use crate::record::{Record, RecordedOp};
+use snap_board::{Record, RecordedOp};
 use snap_core::{Event, EventRefusal, History};
 use std::alloc::{AllocError, Global};
 

@@ -1,17 +1,15 @@
 ghost use Rattle.std.specs.Prelude.{◌≡◌, ◌+◌, ◌*◌, ◌≤◌, ◌++◌, ◌∷◌, [], IfOk, IfSome, IfNone, OnOk, MatchOption, length, true};
 ghost use Rattle.snap_core.specs.Events.{event_limit};
-ghost use Rattle.snap_record.specs.Desks.{records, ticks, lost, collects, IsDeskOf};
+ghost use Rattle.snap_board.specs.Desks.{records, ticks, lost, collects, IsDeskOf};
 ghost use Rattle.snap_record.specs.Scripts.{DidSome, IsStepOf};
 ghost use Rattle.snap_record.specs.Choices.{tries_of, IsScan, one_view, views_in};
 ghost use Rattle.snap_record.specs.Plans.{has_tries, step_ticks, draws_within};
-ghost use Rattle.snap_record.specs.Rule.{tick_limit};
+ghost use Rattle.snap_account.specs.Rule.{tick_limit};
 ghost use Rattle.snap_record.specs.Workers.{IsWorkerOf, IsUnused, HasRun};
 
-use crate::board::{Board, Desk};
 use crate::plan::Step;
-use crate::record::Record;
-use crate::refusals::{CollectRefusal, ScanRefusal};
 use crate::relay::{Relay, Sender};
+use snap_board::{Board, CollectRefusal, Desk, Record, ScanRefusal};
 use snap_core::Gate;
 use std::alloc::{AllocError, Global};
 use std::sync::Wait;

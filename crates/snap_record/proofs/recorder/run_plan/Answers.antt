@@ -1,7 +1,7 @@
 use Rattle.std.proofs.Common.{ℕ, subst, arith}
 use Rattle.std.proofs.lemmas.Result.{IfOk-at_ok}
 use Rattle.snap_record.specs.Scripts.{DidSome}
-use Rattle.snap_record.specs.Desks.{lost}
+use Rattle.snap_board.specs.Desks.{lost}
 use Rattle.snap_record.proofs.Planning.{did_both, both_short, left_short}
 use Rattle.snap_record.proofs.recorder.run_plan.Goals as goal
 

@@ -2,13 +2,13 @@ use Rattle.std.proofs.Common.{ℕ, List, length, sym, ap, subst, arith, ◌∙�
 use Rattle.std.specs.List.Sorted.{IsStrictlyIncreasing}
 use Rattle.std.proofs.lemmas.List.{length-map}
 use Rattle.snap_record.specs.Recording.{AreStamped}
-use Rattle.snap_record.proofs.Stamps.{Stamp}
+use Rattle.snap_board.proofs.Stamps.{Stamp}
 use Rattle.snap_core.specs.declared.event.Event.{Event}
 use Rattle.snap_core.specs.Calls.{calls_of}
 use Rattle.snap_core.specs.Orders.{IsAtomic}
 use Rattle.snap_core.specs.Monotone.{IsMonotone}
 use Rattle.snap_core.specs.Regular.{IsRegular}
-use Rattle.snap_record.specs.History.{AllCompleted, event_stamps}
+use Rattle.snap_board.specs.History.{AllCompleted, event_stamps}
 use Rattle.snap_record.specs.Plans.{HasScripts}
 use Rattle.snap_record.proofs.Telling.{apart, told_history, told_completed, told_regular, told_monotone, told_atomic, told, told_stamps, stamps_rise, stamped_length}
 use Rattle.snap_record.proofs.Planning.{has_scripts}

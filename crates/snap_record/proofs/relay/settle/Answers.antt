@@ -1,6 +1,6 @@
 use Rattle.std.proofs.Common.{◌∙◌, ◌≡◌, ℕ, List, ap}
 use Rattle.std.proofs.lemmas.List.Elements.{All-nil}
-use Rattle.snap_record.specs.declared.record.Record.{Record}
+use Rattle.snap_board.specs.declared.record.Record.{Record}
 use Rattle.snap_record.specs.declared.delivery.Role.TheVariants.{Takes}
 use Rattle.snap_record.specs.Relays.{TakerView}
 use Rattle.snap_record.specs.Ends.{taken_of, made_of}

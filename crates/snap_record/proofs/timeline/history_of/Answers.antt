@@ -4,8 +4,8 @@ use Rattle.std.proofs.lemmas.List.{length-map}
 use Rattle.std.specs.Vec.Iter.{into_iter_items}
 use Rattle.snap_core.specs.declared.history.EventRefusal.{EventRefusal}
 use Rattle.snap_core.specs.declared.history.EventRefusal.TheVariants.{Memory}
-use Rattle.snap_record.specs.History.{events_in}
-use Rattle.snap_record.proofs.Stamps.{Stamp}
+use Rattle.snap_board.specs.History.{events_in}
+use Rattle.snap_board.proofs.Stamps.{Stamp}
 use Rattle.snap_record.proofs.Pushing.{accepted}
 use Rattle.snap_record.proofs.timeline.history_of.Goals as goal
 

@@ -1,6 +1,6 @@
 use Rattle.std.proofs.Common.{◌≡◌, ◌++◌, length}
 use Rattle.std.specs.Vec.Iter.{into_iter_items, into_iter_len}
-use Rattle.snap_record.specs.History.{events_in}
+use Rattle.snap_board.specs.History.{events_in}
 use Rattle.snap_record.proofs.timeline.history_of.Given as goal
 
 abbrev pub invariant-each : goal.invariant-each

@@ -1,7 +1,7 @@
 use Rattle.std.proofs.Common.{rules, List, subst, ap, ◌∙◌, length}
 use Rattle.std.specs.List.Sorted.{IsPermutation}
 use Rattle.std.proofs.lemmas.List.Sorted.{IsNonDecreasingBy-from_sort_by_key, length_permutation}
-use Rattle.snap_record.proofs.Stamps.{Stamp}
+use Rattle.snap_board.proofs.Stamps.{Stamp}
 use Rattle.snap_record.proofs.Sorting.{sorted_merged}
 use Rattle.snap_record.proofs.timeline.in_order.Goals as goal
 

@@ -1,5 +1,5 @@
 use Rattle.std.proofs.Common.{◌≡◌, take}
-use Rattle.snap_record.specs.History.{event_stamps}
+use Rattle.snap_board.specs.History.{event_stamps}
 use Rattle.snap_record.proofs.timeline.stamps_of.Given as goal
 
 abbrev pub invariant-each : goal.invariant-each

@@ -2,11 +2,11 @@ use Rattle.std.proofs.Common.{◌≡◌, ℕ, ◌+◌, ◌-◌, ◌∷◌, [], �
 use Rattle.std.proofs.lemmas.List.{take_all}
 use Rattle.snap_record.specs.declared.plan.Step.{Step}
 use Rattle.snap_record.specs.declared.plan.Step.TheVariants.{Store, View, Scan}
-use Rattle.snap_record.specs.declared.record.Record.{Record}
+use Rattle.snap_board.specs.declared.record.Record.{Record}
 use Rattle.snap_record.specs.Choices.{IsScan, tries_of, one_view, views_in}
-use Rattle.snap_record.specs.Desks.{records, ticks, lost}
+use Rattle.snap_board.specs.Desks.{records, ticks, lost}
 use Rattle.snap_record.specs.Plans.{step_ticks}
-use Rattle.snap_record.specs.Rule.{tick_limit}
+use Rattle.snap_account.specs.Rule.{tick_limit}
 use Rattle.snap_record.specs.Relays.{SenderView}
 use Rattle.snap_record.specs.Scripts.{IsStepOf, DidSome}
 use Rattle.snap_record.proofs.Scripting.{did_push, did_leave, views-more, has_room, draws_more}

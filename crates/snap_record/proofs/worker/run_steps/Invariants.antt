@@ -1,8 +1,8 @@
 use Rattle.std.proofs.Common.{◌≡◌, ◌-◌, ◌≤◌, true, take, drop, length}
 use Rattle.snap_record.specs.Choices.{views_in}
-use Rattle.snap_record.specs.Desks.{records, ticks, lost, collects}
+use Rattle.snap_board.specs.Desks.{records, ticks, lost, collects}
 use Rattle.snap_record.specs.Plans.{draws_within}
-use Rattle.snap_record.specs.Rule.{tick_limit}
+use Rattle.snap_account.specs.Rule.{tick_limit}
 use Rattle.snap_record.specs.Scripts.{DidSome}
 use Rattle.snap_record.specs.Workers.{IsWorkerOf}
 use Rattle.snap_record.proofs.worker.run_steps.Given as goal

@@ -1,0 +1,13 @@
+pub mod Lists
+pub mod Accounts
+pub mod Core
+pub mod Ticks
+pub mod Stores
+pub mod Steps
+pub mod Marking
+pub mod Seats
+pub mod Moves
+pub mod Reading
+pub mod Calling
+pub mod Trying
+pub mod Scanning

@@ -1,0 +1,6 @@
+pub mod Calls
+pub mod Marks
+pub mod Rule
+pub mod Plays
+pub mod Hands
+pub mod Tries

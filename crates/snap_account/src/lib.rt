@@ -1,0 +1,12 @@
+//! What the desks of a board did, as accounts, and the rule of the board's words: which steps there are, and what each does to
+//! an account.
+#![tactic(auto)]
+
+mod account;
+mod rule;
+
+pub use account::{Account, Answer, Answered, Doing, Hand, Scan};
+pub use rule::{
+    BeginStore, BeginView, BoardRule, ComeIn, EndCall, GiveUp, GoOut, MiddleTick, ReadWord, Size,
+    WriteWord,
+};

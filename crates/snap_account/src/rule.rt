@@ -1,0 +1,106 @@
+// The rule of the board's table, and the kinds of step on its words.
+use crate::account::Hand;
+use atomic_table::{Join, Play, Split, TableRule};
+
+/// How many desks a board has.
+#[derive(Clone, Copy)]
+pub struct Size {
+    pub desks: u8,
+}
+
+/// What holds between any two steps on the board's words.
+pub struct BoardRule;
+
+impl TableRule<(), Hand, Size> for BoardRule {
+    ghost use Rattle.snap_account.specs.Rule.{Boarded, newcomers};
+
+    ghost holds = { λ k s. Boarded k.desks s };
+
+    ghost first = { λ k. newcomers k.desks };
+}
+
+/// The begin tick of a store.
+pub struct BeginStore;
+
+impl Play<(), Hand> for BeginStore {
+    ghost use Rattle.snap_account.specs.Plays.{BeginsStore};
+
+    ghost then = { BeginsStore };
+}
+
+/// The begin tick of a collect or a scan.
+pub struct BeginView;
+
+impl Play<(), Hand> for BeginView {
+    ghost use Rattle.snap_account.specs.Plays.{BeginsView};
+
+    ghost then = { BeginsView };
+}
+
+/// The store of a component's word.
+pub struct WriteWord;
+
+impl Play<(), Hand> for WriteWord {
+    ghost use Rattle.snap_account.specs.Plays.{Writes};
+
+    ghost then = { Writes };
+}
+
+/// The load of a component's word, by a collect or a scan.
+pub struct ReadWord;
+
+impl Play<(), Hand> for ReadWord {
+    ghost use Rattle.snap_account.specs.Plays.{Reads};
+
+    ghost then = { Reads };
+}
+
+/// The end tick of a call that has a record.
+pub struct EndCall;
+
+impl Play<(), Hand> for EndCall {
+    ghost use Rattle.snap_account.specs.Plays.{Ends};
+
+    ghost then = { Ends };
+}
+
+/// The middle tick of a scan, between two of its collects.
+pub struct MiddleTick;
+
+impl Play<(), Hand> for MiddleTick {
+    ghost use Rattle.snap_account.specs.Plays.{Middles};
+
+    ghost then = { Middles };
+}
+
+/// The closing tick of a scan that has no record.
+pub struct GiveUp;
+
+impl Play<(), Hand> for GiveUp {
+    ghost use Rattle.snap_account.specs.Plays.{GivesUp};
+
+    ghost then = { GivesUp };
+}
+
+/// The first account goes out to a seat of its own.
+pub struct GoOut;
+
+impl Split<Hand> for GoOut {
+    ghost use Rattle.snap_account.specs.Plays.{but_first, only_first};
+
+    ghost left = { but_first };
+
+    ghost right = { only_first };
+}
+
+/// The accounts of two seats become those of one.
+pub struct ComeIn;
+
+impl Join<Hand> for ComeIn {
+    ghost use Rattle.snap_account.specs.Plays.{merge};
+    ghost use Rattle.std.specs.Prelude.{[]};
+
+    ghost both = { merge };
+
+    ghost spent = { [] };
+}

@@ -1,0 +1,15 @@
+pub mod Closing
+pub mod Listing
+pub mod Slotting
+pub mod Placed
+pub mod Stamps
+pub mod Hand
+pub mod DeskEvents
+pub mod Merging
+pub mod Ordering
+pub mod Monotone
+pub mod Keeping
+pub mod ScanOrder
+pub mod ByKey
+pub mod Atomic
+pub mod Climbing

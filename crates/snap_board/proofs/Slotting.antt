@@ -1,0 +1,220 @@
+-- The desks that are in, as one goes out or comes in.
+use Rattle.std.proofs.Common.{◌≡◌, ℕ, zero, suc, ◌+◌, ◌<◌, ◌≤◌, ◌≢◌, ◌==◌, Bool, true, false, cond, nat_lt, List, [], ◌∷◌, ◌++◌, length, map, take, set, replicate, get_or, Option, Some, None, sym, refl, ap, ◌∙◌, subst, inl, ⊎_elim, arith, get_or-set_other, get_or-set_same, length-append, lt-ltb, le-ltb, eq-eqb, ne_eqb}
+use native.Mathlib.Decide.{dec_le, ℕ_discrete}
+use Rattle.std.specs.Prelude.{slice_index_or}
+use Rattle.std.proofs.lemmas.List.{take-replicate}
+use Rattle.snap_account.specs.declared.account.Account.{Account}
+use Rattle.snap_account.specs.declared.account.Doing.TheVariants.{Idle}
+use Rattle.snap_board.specs.declared.kept.Kept.{Kept}
+use Rattle.snap_account.specs.Calls.{Mem, writes_in, latest}
+use Rattle.snap_account.specs.Rule.{tick_limit, newcomers}
+use Rattle.snap_account.specs.Plays.{Seated, insert, merge, only_first, but_first}
+use Rattle.snap_account.specs.Hands.{Brief, brief, idle, answered_of}
+use Rattle.snap_board.specs.Slots.{ins, slot_brief, brief_of, Smalls}
+use Rattle.snap_board.specs.Regular.{NoneFrom, Fresh, no_calls, kept_entry, Settled, LastStores}
+use Rattle.snap_account.proofs.Lists.{mem_split, mem_one, numbered_positive}
+use Rattle.snap_board.proofs.Listing.{entry_at, last_entry}
+use Rattle.snap_board.proofs.Hand.{hand_low}
+use Rattle.snap_board.specs.declared.board.Closed.{Closed}
+use Rattle.snap_board.proofs.Closing.{idle_doing, mem_map}
+
+abbrev pub insert_brief : Brief → List Brief → List Brief
+insert_brief x [] = x ∷ []
+insert_brief x (c ∷ v) = cond (nat_lt c.desk x.desk) (x ∷ c ∷ v) (cond (c.desk == x.desk) (x ∷ v) (c ∷ insert_brief x v))
+
+map_cond : (b : Bool) (xs ys : List Account) (us vs : List Brief) → map brief xs ≡ us → map brief ys ≡ vs → map brief (cond b xs ys) ≡ cond b us vs
+map_cond true xs ys us vs e e' = e
+map_cond false xs ys us vs e e' = e'
+
+map_insert : (a : Account) (v : List Account) → map brief (insert a v) ≡ insert_brief (brief a) (map brief v)
+map_insert a [] = refl
+map_insert a (c ∷ v) = map_cond (nat_lt c.desk a.desk) (a ∷ c ∷ v) (cond (c.desk == a.desk) (a ∷ v) (c ∷ insert a v)) _ _ refl
+    (map_cond (c.desk == a.desk) (a ∷ v) (c ∷ insert a v) _ _ refl (ap (λ l. brief c ∷ l) (map_insert a v)))
+
+ins_below : (m : ℕ) (slots : List (Option Kept)) (x : Brief) → Mem x (ins m slots) → x.desk < m
+ins_below zero slots x q = absurd q
+ins_below (suc m) slots x q = ⊎_elim (λ a. one (slice_index_or slots m None) a) (λ b. let r = ins_below m slots x b in omega arith) (mem_split (slot_brief m (slice_index_or slots m None)) (ins m slots) x q)
+  where
+    one : (o : Option Kept) → Mem x (slot_brief m o) → x.desk < suc m
+    one None a = absurd a
+    one (Some k) a = let e = ap (λ (z : Brief). z.desk) (mem_one x (brief_of m k) a) in omega arith
+
+insert_front : (x : Brief) (l : List Brief) → ((c : Brief) → Mem c l → c.desk < x.desk) → insert_brief x l ≡ x ∷ l
+insert_front x [] below = refl
+insert_front x (c ∷ l) below = ap (λ b. cond b (x ∷ c ∷ l) (cond (c.desk == x.desk) (x ∷ l) (c ∷ insert_brief x l))) (lt-ltb c.desk x.desk (below c (inl refl)))
+
+insert_same : (x c : Brief) (l : List Brief) → c.desk ≡ x.desk → insert_brief x (c ∷ l) ≡ x ∷ l
+insert_same x c l e = ap (λ b. cond b (x ∷ c ∷ l) (cond (c.desk == x.desk) (x ∷ l) (c ∷ insert_brief x l))) (le-ltb c.desk x.desk (omega arith))
+    ∙ ap (λ b. cond b (x ∷ l) (c ∷ insert_brief x l)) (eq-eqb c.desk x.desk e)
+
+insert_behind : (x c : Brief) (l : List Brief) → x.desk < c.desk → insert_brief x (c ∷ l) ≡ c ∷ insert_brief x l
+insert_behind x c l lt = ap (λ b. cond b (x ∷ c ∷ l) (cond (c.desk == x.desk) (x ∷ l) (c ∷ insert_brief x l))) (le-ltb c.desk x.desk (omega arith))
+    ∙ ap (λ b. cond b (x ∷ l) (c ∷ insert_brief x l)) (ne_eqb c.desk x.desk (λ e. omega arith))
+
+-- a slot at m or above does not matter below m
+pub ins_set_above : (m d : ℕ) (slots : List (Option Kept)) (y : Option Kept) → m ≤ d → ins m (set slots d y) ≡ ins m slots
+ins_set_above zero d slots y le = refl
+ins_set_above (suc m) d slots y le =
+    let ne : m ≢ d = λ e. omega arith in
+    let here : slice_index_or (set slots d y) m None ≡ slice_index_or slots m None = get_or-set_other slots d m y None ne in
+    let rest = ins_set_above m d slots y (omega arith) in
+    λ i. slot_brief m (here i) ++ rest i
+
+pub ins_put : (n d : ℕ) (slots : List (Option Kept)) (k : Kept) → d < n → n ≤ length slots → insert_brief (brief_of d k) (ins n slots) ≡ ins n (set slots d (Some k))
+ins_put zero d slots k lt le = absurd (omega arith)
+ins_put (suc m) d slots k lt le = at (ℕ_discrete d m) (λ l. ins_put m d slots k l (omega arith))
+  where
+    same : (o : Option Kept) → d ≡ m → insert_brief (brief_of d k) (slot_brief m o ++ ins m slots) ≡ brief_of d k ∷ ins m slots
+    same None e = insert_front (brief_of d k) (ins m slots) (λ c q. let r = ins_below m slots c q in omega arith)
+    same (Some j) e = insert_same (brief_of d k) (brief_of m j) (ins m slots) (sym e)
+
+    behind : (o : Option Kept) → d < m → insert_brief (brief_of d k) (ins m slots) ≡ ins m (set slots d (Some k)) → insert_brief (brief_of d k) (slot_brief m o ++ ins m slots) ≡ slot_brief m o ++ ins m (set slots d (Some k))
+    behind None l e = e
+    behind (Some j) l e = insert_behind (brief_of d k) (brief_of m j) (ins m slots) l ∙ ap (λ z. brief_of m j ∷ z) e
+
+    at : Dec (d ≡ m) → (d < m → insert_brief (brief_of d k) (ins m slots) ≡ ins m (set slots d (Some k))) → insert_brief (brief_of d k) (slot_brief m (slice_index_or slots m None) ++ ins m slots) ≡ slot_brief m (slice_index_or (set slots d (Some k)) m None) ++ ins m (set slots d (Some k))
+    at (yes e) rest =
+        let here : slice_index_or (set slots d (Some k)) m None ≡ Some k = ap (λ z. slice_index_or (set slots d (Some k)) z None) (sym e) ∙ get_or-set_same slots d (Some k) None (omega arith) in
+        let low = ins_set_above m d slots (Some k) (omega arith) in
+        same (slice_index_or slots m None) e ∙ (λ i. brief_of (e i) k ∷ sym low i) ∙ (λ i. slot_brief m (sym here i) ++ ins m (set slots d (Some k)))
+    at (no ne) rest =
+        let l : d < m = omega arith in
+        let here : slice_index_or (set slots d (Some k)) m None ≡ slice_index_or slots m None = get_or-set_other slots d m (Some k) None (λ e. ne (sym e)) in
+        behind (slice_index_or slots m None) l (rest l) ∙ (λ i. slot_brief m (sym here i) ++ ins m (set slots d (Some k)))
+
+-- nothing is in from d on
+pub ins_none : (n d : ℕ) (slots : List (Option Kept)) → d ≤ n → NoneFrom d n slots → ins n slots ≡ ins d slots
+ins_none zero d slots le none = let e : 0 ≡ d = omega arith in ap (λ z. ins z slots) e
+ins_none (suc m) d slots le none = at (dec_le d m) (λ l. ins_none m d slots l (λ j a b. none j a (omega arith)))
+  where
+    at : Dec (d ≤ m) → (d ≤ m → ins m slots ≡ ins d slots) → slot_brief m (slice_index_or slots m None) ++ ins m slots ≡ ins d slots
+    at (yes l) rest = ap (λ o. slot_brief m o ++ ins m slots) (none m l (omega arith)) ∙ rest l
+    at (no nl) rest = let e : suc m ≡ d = omega arith in ap (λ z. ins z slots) e
+
+no_hand : (hand : List Account) → map brief hand ≡ [] → hand ≡ []
+no_hand [] e = refl
+no_hand (a ∷ hand) e = absurd (cc)
+
+-- where no desk is in there is no account
+pub none_in : (n : ℕ) (slots : List (Option Kept)) (hand : List Account) → map brief hand ≡ ins n slots → NoneFrom 0 n slots → hand ≡ []
+none_in n slots hand e none = no_hand hand (e ∙ ins_none n 0 slots (omega arith) none)
+
+pub ins_top : (n d : ℕ) (slots : List (Option Kept)) (k : Kept) → d < n → slice_index_or slots d None ≡ Some k → NoneFrom (d + 1) n slots → ins n slots ≡ brief_of d k ∷ ins d slots
+ins_top n d slots k lt here none =
+    let e : suc d ≡ d + 1 = omega arith in
+    ins_none n (suc d) slots (omega arith) (subst (λ (z : ℕ). NoneFrom z n slots) (sym e) none) ∙ ap (λ o. slot_brief d o ++ ins d slots) here
+
+set_none : (slots : List (Option Kept)) (d : ℕ) → get_or (set slots d None) d None ≡ None
+set_none [] d = refl
+set_none (x ∷ slots) zero = refl
+set_none (x ∷ slots) (suc d) = set_none slots d
+
+pub ins_clear : (n d : ℕ) (slots : List (Option Kept)) → d < n → NoneFrom (d + 1) n slots → ins n (set slots d None) ≡ ins d slots
+ins_clear n d slots lt none = ins_none n d (set slots d None) (omega arith) (λ j le l. at j le l (ℕ_discrete j d)) ∙ ins_set_above d d slots None (omega arith)
+  where
+    at : (j : ℕ) → d ≤ j → j < n → Dec (j ≡ d) → slice_index_or (set slots d None) j None ≡ None
+    at j le l (yes e) = ap (λ z. slice_index_or (set slots d None) z None) e ∙ set_none slots d
+    at j le l (no ne) = get_or-set_other slots d j None None ne ∙ none j (omega arith) l
+
+pub ins_fresh : (n m : ℕ) (slots : List (Option Kept)) → m ≤ n → Fresh n slots → map brief (newcomers m) ≡ ins m slots
+ins_fresh n zero slots le fresh = refl
+ins_fresh n (suc m) slots le fresh =
+    let here : slice_index_or slots m None ≡ Some no_calls = fresh m ∙ ap (λ b. cond b (Some no_calls) None) (lt-ltb m n (omega arith)) in
+    let rest = ins_fresh n m slots (omega arith) fresh in
+    λ i. slot_brief m (sym here i) ++ rest i
+
+some_kept : (x y : Kept) → Some x ≡ Some y → x ≡ y
+some_kept x y e = ap (of x) e
+  where
+    of : Kept → Option Kept → Kept
+    of d None = d
+    of d (Some z) = z
+
+pub smalls_fresh : (n : ℕ) (slots : List (Option Kept)) → Fresh n slots → Smalls slots
+smalls_fresh n slots fresh d k e = by (nat_lt d n) (sym (fresh d) ∙ e)
+  where
+    by : (b : Bool) → cond b (Some no_calls) None ≡ Some k → (k.stores ≤ k.ticks) × (k.ticks ≤ tick_limit)
+    by true q = let is = some_kept no_calls k q in let a = ap (λ (z : Kept). z.stores) is in let c = ap (λ (z : Kept). z.ticks) is in (omega arith, omega arith)
+    by false q = absurd (cc)
+
+pub smalls_put : (slots : List (Option Kept)) (d : ℕ) (k : Kept) → Smalls slots → (k.stores ≤ k.ticks) × (k.ticks ≤ tick_limit) → d < length slots → Smalls (set slots d (Some k))
+smalls_put slots d k small mine lt j y e = at (ℕ_discrete j d)
+  where
+    at : Dec (j ≡ d) → (y.stores ≤ y.ticks) × (y.ticks ≤ tick_limit)
+    at (yes q) = let is : k ≡ y = some_kept k y (sym (get_or-set_same slots d (Some k) None lt) ∙ ap (λ z. slice_index_or (set slots d (Some k)) z None) (sym q) ∙ e) in
+        subst (λ (z : Kept). (z.stores ≤ z.ticks) × (z.ticks ≤ tick_limit)) is mine
+    at (no ne) = small j y (sym (get_or-set_other slots d j (Some k) None ne) ∙ e)
+
+pub smalls_clear : (slots : List (Option Kept)) (d : ℕ) → Smalls slots → Smalls (set slots d None)
+smalls_clear slots d small j y e = at (ℕ_discrete j d)
+  where
+    at : Dec (j ≡ d) → (y.stores ≤ y.ticks) × (y.ticks ≤ tick_limit)
+    at (yes q) = absurd (none_some (sym (set_none slots d) ∙ ap (λ z. slice_index_or (set slots d None) z None) (sym q) ∙ e))
+      where
+        none_some : None ≡ Some y → ⊥
+        none_some p = cc
+    at (no ne) = small j y (sym (get_or-set_other slots d j None None ne) ∙ e)
+
+-- the hand, where its highest desk is d
+pub head_of : (hand : List Account) (x : Brief) (xs : List Brief) → map brief hand ≡ x ∷ xs → (a : Account) × (only_first hand ≡ a ∷ []) × (brief a ≡ x) × (map brief (but_first hand) ≡ xs)
+head_of [] x xs e = absurd (cc)
+head_of (a ∷ hand) x xs e = (a, refl, first e, ap (tail_of xs) e)
+  where
+    head_or : Brief → List Brief → Brief
+    head_or d [] = d
+    head_or d (z ∷ zs) = z
+
+    tail_of : List Brief → List Brief → List Brief
+    tail_of d [] = d
+    tail_of d (z ∷ zs) = zs
+
+    first : brief a ∷ map brief hand ≡ x ∷ xs → brief a ≡ x
+    first q = ap (head_or x) q
+
+-- what a desk gets that goes out
+pub out_of : (me now : Seated) (d : ℕ) (k : Kept) (xs : List Brief) → map brief me.0 ≡ brief_of d k ∷ xs → now ≡ (only_first me.0, [])
+    → (now ≡ (idle d (answered_of now.0) k.ticks ∷ [], [])) × (latest (0, 0) (answered_of now.0) ≡ (k.stores, k.value))
+out_of me now d k xs e is =
+    let h = head_of me.0 (brief_of d k) xs e in
+    let whole : now ≡ (h.0 ∷ [], []) = is ∙ (λ i. (h.1 i, [])) in
+    let rs : answered_of now.0 ≡ h.0.calls = ap (λ (m : Seated). answered_of m.0) whole in
+    let desk : h.0.desk ≡ d = ap (λ (z : Brief). z.desk) h.2 in
+    let ticks : h.0.ticks ≡ k.ticks = ap (λ (z : Brief). z.ticks) h.2 in
+    let doing : h.0.doing ≡ Idle = idle_doing h.0.doing (ap (λ (z : Brief). z.idle) h.2) in (
+      whole ∙ (λ i. (record { desk = desk i; calls = sym rs i; doing = doing i; ticks = ticks i } ∷ [], [])),
+      ap (λ r. latest (0, 0) r) rs ∙ (λ i. ((h.2 i).number, (h.2 i).value)),
+    )
+
+-- the desk that comes in
+pub put_in : (n d : ℕ) (slots : List (Option Kept)) (k : Kept) (hand : List Account) (me : Seated) → map brief hand ≡ ins n slots → d < n → n ≤ length slots
+    → me ≡ (idle d (answered_of me.0) k.ticks ∷ [], []) → latest (0, 0) (answered_of me.0) ≡ (k.stores, k.value) → map brief (merge hand me.0) ≡ ins n (set slots d (Some k))
+put_in n d slots k hand me is lt le alone stored =
+    let a = idle d (answered_of me.0) k.ticks in
+    let b : brief a ≡ brief_of d k = λ i. record { desk = d; ticks = k.ticks; number = (stored i).0; value = (stored i).1; idle = true } in
+    ap (λ (m : Seated). map brief (merge hand m.0)) alone ∙ map_insert a hand ∙ (λ i. insert_brief (b i) (is i)) ∙ ins_put n d slots k lt le
+
+pub zero_words : (n w : ℕ) → n ≤ 8 → w ≡ n + 1 → take {A = ℕ} w (replicate {A = ℕ} 9 0) ≡ replicate {A = ℕ} (suc n) 0
+zero_words n w le is = let e : w ≡ suc n = omega arith in ap (λ z. take {A = ℕ} z (replicate {A = ℕ} 9 0)) e ∙ take-replicate (suc n) 9 0 (omega arith)
+
+ins_kept : (n : ℕ) (slots : List (Option Kept)) (x : Brief) → Mem x (ins n slots) → (k : Kept) × (slice_index_or slots x.desk None ≡ Some k) × (brief_of x.desk k ≡ x)
+ins_kept zero slots x m = absurd m
+ins_kept (suc n) slots x m = ⊎_elim (λ a. one (slice_index_or slots n None) refl a) (λ b. ins_kept n slots x b) (mem_split (slot_brief n (slice_index_or slots n None)) (ins n slots) x m)
+  where
+    one : (o : Option Kept) → slice_index_or slots n None ≡ o → Mem x (slot_brief n o) → (k : Kept) × (slice_index_or slots x.desk None ≡ Some k) × (brief_of x.desk k ≡ x)
+    one None e a = absurd a
+    one (Some k) e a =
+        let is = mem_one x (brief_of n k) a in
+        let d : n ≡ x.desk = ap (λ (z : Brief). z.desk) is in
+        (k, ap (λ z. slice_index_or slots z None) (sym d) ∙ e, ap (λ z. brief_of z k) (sym d) ∙ is)
+
+pub last_stores : (n : ℕ) (c : Closed) (hand : List Account) → c.desks ≡ n → Settled n hand → map brief hand ≡ ins n c.slots → LastStores c hand
+last_stores n c hand size h matches a m =
+    let q = ins_kept n c.slots (brief a) (subst (λ (l : List Brief). Mem (brief a) l) matches (mem_map brief hand a m)) in
+    let low = hand_low n hand h.desks a m in
+    let stored : latest (0, 0) a.calls ≡ (q.0.stores, q.0.value) = λ i. ((sym q.2 i).number, (sym q.2 i).value) in
+    ap (λ b. cond b (kept_entry a.desk (slice_index_or c.slots a.desk None)) None) (lt-ltb a.desk c.desks (omega arith))
+    ∙ ap (kept_entry a.desk) q.1 ∙ ap (entry_at a.desk) (sym stored)
+    ∙ last_entry a.desk (0, 0) a.calls (numbered_positive 1 (writes_in a.calls) (omega arith) (h.numbered a m))
+
+pub length_more : (d : ℕ) (slots : List (Option Kept)) → length (ins (suc d) slots) ≡ length (slot_brief d (slice_index_or slots d None)) + length (ins d slots)
+length_more d slots = length-append (slot_brief d (slice_index_or slots d None)) (ins d slots)

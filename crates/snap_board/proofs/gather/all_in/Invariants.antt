@@ -1,0 +1,5 @@
+use Rattle.snap_board.specs.Regular.{AllIn}
+use Rattle.snap_board.proofs.gather.all_in.Given as goal
+
+abbrev pub invariant-each : goal.invariant-each
+invariant-each l = AllIn l.d l.slots

@@ -1,0 +1,9 @@
+pub use Rattle.snap_account.specs.Rule
+pub use Rattle.snap_account.specs.Plays
+pub mod Desks
+pub mod Slots
+pub mod Regular
+pub mod History
+pub mod Refusals
+pub mod Scans
+pub mod Placed

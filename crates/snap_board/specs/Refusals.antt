@@ -1,0 +1,39 @@
+-- When a call is refused.
+use Rattle.std.specs.Prelude.{◌≡◌, ℕ, ◌+◌, ◌<◌, ◌≤◌, ◌⊎◌, ◌++◌, ◌∷◌, []}
+use Rattle.snap_account.specs.Rule.{tick_limit}
+use Rattle.snap_board.specs.declared.refusals.OpenRefusal.{OpenRefusal}
+use Rattle.snap_board.specs.declared.refusals.OpenRefusal.TheVariants as Opening
+use Rattle.snap_board.specs.declared.refusals.CollectRefusal.{CollectRefusal}
+use Rattle.snap_board.specs.declared.refusals.CollectRefusal.TheVariants as Collecting
+use Rattle.snap_board.specs.declared.refusals.ScanRefusal.{ScanRefusal}
+use Rattle.snap_board.specs.declared.refusals.ScanRefusal.TheVariants as Scanning
+use Rattle.snap_board.specs.declared.board.Desk.{Desk}
+use Rattle.snap_board.specs.Desks.{records, ticks, lost}
+
+-- why a board of so many desks was not opened
+abbrev pub IsNotOpened : ℕ → OpenRefusal → Type 0
+IsNotOpened desks Opening.Desks = (desks ≡ 0) ⊎ (8 < desks)
+IsNotOpened desks Opening.Memory = (0 < desks) × (desks ≤ 8)
+
+-- why a desk with so many ticks did not collect
+abbrev pub IsNotCollected : ℕ → CollectRefusal → Type 0
+IsNotCollected ticks Collecting.Spent = tick_limit < ticks + 2
+IsNotCollected ticks Collecting.Memory = ticks + 2 ≤ tick_limit
+
+-- why a desk with so many ticks has no record of a scan with so many tries
+abbrev pub IsNotScanned : ℕ → ℕ → ScanRefusal → Type 0
+IsNotScanned ticks tries Scanning.Spent = tick_limit < ticks + tries + 2
+IsNotScanned ticks tries Scanning.Memory = ticks + tries + 2 ≤ tick_limit
+IsNotScanned ticks tries Scanning.Interfered = ticks + tries + 2 ≤ tick_limit
+
+-- what a scan without a record leaves of its desk
+abbrev pub IsLeft : ℕ → Desk → Desk → ScanRefusal → Type 0
+IsLeft tries old new Scanning.Spent = new ≡ old
+IsLeft tries old new Scanning.Memory = new ≡ old
+IsLeft tries old new Scanning.Interfered = (records new ≡ records old) × (ticks new ≡ ticks old + tries + 2) × (lost new ≡ lost old ++ tries ∷ [])
+
+-- that scan was not the only one to step
+abbrev pub IsNotInterfered : ScanRefusal → Type 0
+IsNotInterfered Scanning.Spent = Unit {0}
+IsNotInterfered Scanning.Memory = Unit {0}
+IsNotInterfered Scanning.Interfered = ⊥

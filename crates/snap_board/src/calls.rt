@@ -1,0 +1,160 @@
+ghost use Rattle.std.specs.Prelude.{◌≡◌, ◌+◌, ◌<◌, ◌≤◌, [], ◌∷◌, ◌++◌, None, length, vec_capacity, IfOk, IfErr, OnOk, OnErr};
+ghost use Rattle.snap_core.specs.Entries.{view_refusal, number_in};
+ghost use Rattle.snap_account.specs.Rule.{tick_limit};
+ghost use Rattle.snap_board.specs.Refusals.{IsNotCollected};
+ghost use Rattle.snap_board.specs.Desks.{records, ticks, collects, lost, IsDeskOf, listed, IsLater, last_stored, shown_by, IsNoOlder, ShowsOwnLast};
+ghost use Rattle.snap_account.specs.Hands.{has_read, doing_of, desk_of, answered_of, pairs, Told};
+ghost use Rattle.snap_account.specs.Plays.{HasRead};
+
+use crate::board::{Board, Desk};
+use crate::kept::Kept;
+use crate::record::{Record, RecordedOp};
+use crate::refusals::{CollectRefusal, StoreRefusal};
+use atomic_table::Seat;
+use snap_account::{BeginStore, BeginView, EndCall, Hand, ReadWord, WriteWord};
+use snap_core::{Entry, View};
+use std::alloc::Global;
+
+/// How many ticks a desk may draw.
+pub const TICK_LIMIT: u32 = 1_048_576;
+
+/// A component's word is the number times this, and the value.
+const NUMBER_UNIT: u64 = 4_294_967_296;
+
+// Lists the components whose words have a number.
+fn list_words(words: &Vec<u64>, entries: &mut Vec<Entry>)
+    requires room { (entries.old.items ≡ []) × (length words.now.items ≤ vec_capacity entries.old) }
+    requires short { length words.now.items ≤ 8 }
+    ensures listed { entries.new.items ≡ listed 0 (pairs words.now.items) }
+    ensures view { view_refusal entries.new.items ≡ None }
+{
+    'each: for k in 0..words.len() {
+        let word = words[k];
+        let number = (word / NUMBER_UNIT) as u32;
+        let value = (word % NUMBER_UNIT) as u32;
+        if number > 0 {
+            entries.push_reserved(Entry {
+                component: k as u8,
+                number,
+                value,
+            });
+        }
+    }
+}
+
+// The view that the words of all components give. Its entries take the memory of a vector.
+pub(crate) fn view_of(words: &Vec<u64>, mut entries: Vec<Entry>) -> View
+    requires room { (entries.items ≡ []) × (length words.now.items ≤ vec_capacity entries) }
+    requires short { length words.now.items ≤ 8 }
+    ensures { result ≡ listed 0 (pairs words.now.items) }
+{
+    list_words(words, &mut entries);
+    let Ok(view) = View::from_entries(entries) else {
+        unreachable!()
+    };
+    view
+}
+
+impl Board {
+    /// Writes a value to the desk's component, in three steps: a begin tick, the store of the component's word, and an
+    /// end tick. It waits for nobody. After a refusal no step was made and the desk is unchanged.
+    pub fn store(&self, desk: &mut Desk, value: u32) -> Result<Record, StoreRefusal>
+        requires { IsDeskOf self.now desk.old }
+        ensures desk { IsDeskOf self.now desk.new × (desk.new.desk ≡ desk.old.desk) }
+        ensures room { OnOk result (ticks desk.old + 2 ≤ tick_limit) }
+        ensures spent { OnErr result (tick_limit < ticks desk.old + 2) }
+        ensures kept { OnErr result (desk.new ≡ desk.old) }
+        ensures recorded { IfOk result (λ r. records desk.new ≡ records desk.old ++ r ∷ []) }
+        ensures ticks { OnOk result (ticks desk.new ≡ ticks desk.old + 2) }
+        ensures stamps { IfOk result (λ r. r.begun < r.ended) }
+        ensures later { IfOk result (IsLater (records desk.old)) }
+        ensures process { IfOk result (λ r. r.process ≡ desk.old.desk) }
+        ensures entry { IfOk result (λ r. r.op ≡ RecordedOp.Stored (record { component = desk.old.desk; number = number_in (last_stored None (records desk.old)) + 1; value = value })) }
+        ensures collects { collects desk.new ≡ collects desk.old }
+        ensures lost { lost desk.new ≡ lost desk.old }
+    {
+        if desk.kept.ticks > TICK_LIMIT - 2 {
+            return Err(StoreRefusal::Spent);
+        }
+        let shared = &self.table.shared;
+        let begun = shared.fetch_add::<BeginStore>(&mut desk.seat, 0, 1);
+        let number = desk.kept.stores + 1;
+        let word = u64::from(number) * NUMBER_UNIT + u64::from(value);
+        shared.store::<WriteWord>(&mut desk.seat, usize::from(desk.desk) + 1, word);
+        let ended = shared.fetch_add::<EndCall>(&mut desk.seat, 0, 1);
+        desk.kept = Kept {
+            ticks: desk.kept.ticks + 2,
+            stores: number,
+            value,
+        };
+        let component = desk.desk;
+        Ok(Record {
+            process: u16::from(component),
+            begun,
+            ended,
+            op: RecordedOp::Stored(Entry {
+                component,
+                number,
+                value,
+            }),
+        })
+    }
+
+    // Loads the word of each component, from 0 on.
+    pub(crate) fn load_words(&self, seat: &mut Seat<(), Hand>, words: &mut Vec<u64>)
+        requires seat { seat.old.table_id ≡ self.now.table.shared.table_id }
+        requires ready { (seat.old.me ≡ has_read seat.old.me []) × HasRead (doing_of seat.old.me.0) [] }
+        requires room { (words.old.items ≡ []) × (self.now.desks ≤ vec_capacity words.old) }
+        ensures seat { seat.new.table_id ≡ seat.old.table_id }
+        ensures read { seat.new.me ≡ has_read seat.old.me (pairs words.new.items) }
+        ensures all { length words.new.items ≡ self.now.desks }
+        ensures told { Told (desk_of seat.old.me.0) (answered_of seat.old.me.0) (pairs words.new.items) }
+        ensures room { self.now.desks ≤ vec_capacity words.new }
+    {
+        'words: for k in 0..self.desks {
+            let word = self.table.shared.load::<ReadWord>(seat, usize::from(k) + 1);
+            words.push_reserved(word);
+        }
+    }
+
+    /// Reads each component, from 0 on, between a begin tick and an end tick. It waits for nobody. Memory is taken
+    /// before the first step. After a refusal no step was made and the desk is unchanged.
+    pub fn collect(&self, alloc: Global, desk: &mut Desk) -> Result<Record, CollectRefusal>
+        requires { IsDeskOf self.now desk.old }
+        ensures desk { IsDeskOf self.now desk.new × (desk.new.desk ≡ desk.old.desk) }
+        ensures room { OnOk result (ticks desk.old + 2 ≤ tick_limit) }
+        ensures refused { IfErr result (IsNotCollected (ticks desk.old)) }
+        ensures kept { OnErr result (desk.new ≡ desk.old) }
+        ensures recorded { IfOk result (λ r. records desk.new ≡ records desk.old ++ r ∷ []) }
+        ensures ticks { OnOk result (ticks desk.new ≡ ticks desk.old + 2) }
+        ensures stamps { IfOk result (λ r. r.begun < r.ended) }
+        ensures later { IfOk result (IsLater (records desk.old)) }
+        ensures process { IfOk result (λ r. r.process ≡ desk.old.desk) }
+        ensures view { IfOk result (λ r. r.op ≡ RecordedOp.Viewed (shown_by r)) }
+        ensures own { IfOk result (ShowsOwnLast desk.old.desk (records desk.old)) }
+        ensures no_older { IfOk result (IsNoOlder (records desk.old)) }
+        ensures collects { OnOk result (collects desk.new ≡ collects desk.old + 1) }
+        ensures lost { lost desk.new ≡ lost desk.old }
+    {
+        if desk.kept.ticks > TICK_LIMIT - 2 {
+            return Err(CollectRefusal::Spent);
+        }
+        let Ok(mut words) = Vec::with_capacity(alloc, usize::from(self.desks)) else {
+            return Err(CollectRefusal::Memory);
+        };
+        let Ok(entries) = Vec::with_capacity(alloc, usize::from(self.desks)) else {
+            return Err(CollectRefusal::Memory);
+        };
+        let shared = &self.table.shared;
+        let begun = shared.fetch_add::<BeginView>(&mut desk.seat, 0, 1);
+        self.load_words(&mut desk.seat, &mut words);
+        let ended = shared.fetch_add::<EndCall>(&mut desk.seat, 0, 1);
+        desk.kept.ticks += 2;
+        Ok(Record {
+            process: u16::from(desk.desk),
+            begun,
+            ended,
+            op: RecordedOp::Viewed(view_of(&words, entries)),
+        })
+    }
+}

@@ -1,0 +1,220 @@
+ghost use Rattle.std.specs.Prelude.{◌≡◌, ◌+◌, ◌<◌, ◌≤◌, ◌↔◌, [], ◌++◌, Some, None, IfOk, IfErr, OnOk, OnErr, IsOk, IfNone, MatchOption, IfSome, IsTrue, slice_index_or, slice_set, length};
+ghost use Rattle.snap_core.specs.Events.{IsHistory};
+ghost use Rattle.snap_core.specs.Calls.{calls_of};
+ghost use Rattle.snap_core.specs.Monotone.{IsMonotone};
+ghost use Rattle.snap_core.specs.Orders.{IsAtomic};
+ghost use Rattle.snap_core.specs.Regular.{IsRegular};
+ghost use Rattle.snap_board.specs.Scans.{scan_history};
+ghost use Rattle.snap_account.specs.Rule.{newcomers};
+ghost use Rattle.snap_account.specs.Plays.{but_first, only_first, merge};
+ghost use Rattle.snap_board.specs.Slots.{ins};
+ghost use Rattle.snap_board.specs.Desks.{accounts, IsDeskOf, IsGatheredOf};
+ghost use Rattle.snap_board.specs.History.{board_history, AllCompleted};
+ghost use Rattle.snap_board.specs.Regular.{AllIn, Settled, ScansSettled, WereInterfered, Fresh, NoneFrom, LastStores, kept_entry, entry_in};
+ghost use Rattle.snap_board.specs.Refusals.{IsNotOpened};
+
+use crate::board::{Board, Closed, Desk, Gathered};
+use crate::kept::Kept;
+use crate::refusals::OpenRefusal;
+use atomic_table::Table;
+use snap_account::{ComeIn, GoOut, Size};
+use snap_core::Entry;
+use std::alloc::{AllocError, Global};
+
+// What is kept of each desk below `desks` that has done nothing.
+fn fresh(desks: u8) -> [Option<Kept>; 8]
+    requires { desks ≤ 8 }
+    ensures { Fresh desks result × (length result ≡ 8) }
+{
+    let mut slots = [None; 8];
+    'rows: for d in 0..desks {
+        slots[usize::from(d)] = Some(Kept {
+            ticks: 0,
+            stores: 0,
+            value: 0,
+        });
+    }
+    slots
+}
+
+// The highest desk that is in.
+fn highest(desks: u8, slots: &[Option<Kept>; 8]) -> Option<u8>
+    requires { desks ≤ 8 }
+    ensures { MatchOption result (NoneFrom 0 desks slots.now) (λ d. (d < desks) × ((k : Kept) × (slice_index_or slots.now d None ≡ Some k)) × NoneFrom (d + 1) desks slots.now) }
+{
+    let mut d = desks;
+    'down: while d > 0 {
+        d -= 1;
+        if slots[usize::from(d)].is_some() {
+            return Some(d);
+        }
+    }
+    None
+}
+
+// Whether all desks are in.
+fn all_in(desks: u8, slots: &[Option<Kept>; 8]) -> bool
+    requires { desks ≤ 8 }
+    ensures { IsTrue result ↔ AllIn desks slots.now }
+{
+    'each: for d in 0..desks {
+        if slots[usize::from(d)].is_none() {
+            return false;
+        }
+    }
+    true
+}
+
+impl Board {
+    /// A board of 1 to 8 desks, which are all in. Desk d is process d and writes component d.
+    pub fn open(alloc: Global, desks: u8) -> Result<(Board, Gathered), OpenRefusal>
+        ensures gathered { IfOk result (λ r. IsGatheredOf r.0 r.1) }
+        ensures desks { IfOk result (λ r. r.0.desks ≡ desks) }
+        ensures range { OnOk result ((0 < desks) × (desks ≤ 8)) }
+        ensures empty { IfOk result (λ r. accounts r.1 ≡ newcomers desks) }
+        ensures refused { IfErr result (IsNotOpened desks) }
+    {
+        if desks == 0 || desks > 8 {
+            return Err(OpenRefusal::Desks);
+        }
+        let words = [0u64; 9];
+        let Ok((table, seat)) = Table::of_words(
+            alloc,
+            &words[..usize::from(desks) + 1],
+            &Size { desks },
+        ) else {
+            return Err(OpenRefusal::Memory);
+        };
+        let slots = fresh(desks);
+        Ok((Board { table, desks }, Gathered { seat, desks, slots }))
+    }
+
+    /// Hands out the highest desk that is in, with its account as it stands, or nothing where none is in. After a
+    /// refusal the gathered desks are unchanged.
+    pub fn take(&self, _alloc: Global, gathered: &mut Gathered) -> Result<Option<Desk>, AllocError>
+        requires { IsGatheredOf self.now gathered.old }
+        ensures gathered { IsGatheredOf self.now gathered.new }
+        ensures refused { OnErr result (gathered.new ≡ gathered.old) }
+        ensures none { IfOk result (λ o. IfNone o (gathered.new ≡ gathered.old)) }
+        ensures empty { IfOk result (λ o. IfNone o (accounts gathered.old ≡ [])) }
+        ensures desk { IfOk result (λ o. IfSome o (λ d. IsDeskOf self.now d)) }
+        ensures highest { IfOk result (λ o. IfSome o (λ d. NoneFrom (d.desk + 1) self.now.desks gathered.old.slots)) }
+        ensures kept { IfOk result (λ o. IfSome o (λ d. slice_index_or gathered.old.slots d.desk None ≡ Some d.kept)) }
+        ensures account { IfOk result (λ o. IfSome o (λ d. d.seat.me.0 ≡ only_first (accounts gathered.old))) }
+        ensures others { IfOk result (λ o. IfSome o (λ d. accounts gathered.new ≡ but_first (accounts gathered.old))) }
+        ensures left { IfOk result (λ o. IfSome o (λ d. gathered.new.slots ≡ slice_set gathered.old.slots d.desk None)) }
+    {
+        let Some(desk) = highest(gathered.desks, &gathered.slots) else {
+            return Ok(None);
+        };
+        let Some(kept) = gathered.slots[usize::from(desk)] else {
+            unreachable!()
+        };
+        let seat = self.table.shared.split_seat::<GoOut>(&mut gathered.seat);
+        gathered.slots[usize::from(desk)] = None;
+        Ok(Some(Desk { seat, desk, kept }))
+    }
+
+    /// Puts a desk in.
+    pub fn give_back(&self, gathered: Gathered, desk: Desk) -> Gathered
+        requires gathered { IsGatheredOf self.now gathered }
+        requires desk { IsDeskOf self.now desk }
+        ensures same { IsGatheredOf self.now result }
+        ensures slot { result.slots ≡ slice_set gathered.slots desk.desk (Some desk.kept) }
+        ensures account { accounts result ≡ merge (accounts gathered) desk.seat.me.0 }
+    {
+        let Gathered {
+            seat: mut all,
+            desks,
+            mut slots,
+        } = gathered;
+        let Desk { seat, desk, kept } = desk;
+        self.table.shared.join_seat::<ComeIn>(&mut all, seat);
+        slots[usize::from(desk)] = Some(kept);
+        Gathered {
+            seat: all,
+            desks,
+            slots,
+        }
+    }
+
+    /// Ends the board where all its desks are in. The begins and ends of all records, in the order of their stamps, are
+    /// then a regular and monotone history with no call pending, and those of the stores and scans alone are an atomic
+    /// one. Each scan
+    /// that was interfered with had at least as many stores of other desks beside it as it had tries. Where a desk is out
+    /// both come back unchanged.
+    pub fn close(self, gathered: Gathered) -> Result<Closed, (Board, Gathered)>
+        requires { IsGatheredOf self gathered }
+        ensures exact { IsOk result ↔ AllIn self.desks gathered.slots }
+        ensures settled { IsOk result → Settled self.desks (accounts gathered) }
+        ensures scans { IsOk result → ScansSettled (accounts gathered) }
+        ensures history { IsOk result → IsHistory (board_history (accounts gathered)) }
+        ensures completed { IsOk result → AllCompleted (calls_of (board_history (accounts gathered))) }
+        ensures regular { IsOk result → IsRegular (calls_of (board_history (accounts gathered))) }
+        ensures monotone { IsOk result → IsMonotone (calls_of (board_history (accounts gathered))) }
+        ensures interfered { IsOk result → WereInterfered (accounts gathered) }
+        ensures atomic { IsOk result → IsAtomic (calls_of (scan_history (accounts gathered))) }
+        ensures desks { IfOk result (λ c. c.desks ≡ self.desks) }
+        ensures last { IfOk result (λ c. LastStores c (accounts gathered)) }
+        ensures back { IfErr result (λ r. (r.0 ≡ self) × (r.1 ≡ gathered)) }
+    {
+        if !all_in(gathered.desks, &gathered.slots) {
+            return Err((self, gathered));
+        }
+        let Gathered { seat, desks, slots } = gathered;
+        let Board { table, desks: _ } = self;
+        table.close_with(seat).free();
+        Ok(Closed { desks, slots })
+    }
+}
+
+impl Desk {
+    /// The desk's process, which is the desk's number.
+    pub fn process(&self) -> u16
+        ensures { result ≡ self.now.desk }
+    {
+        u16::from(self.desk)
+    }
+}
+
+impl Gathered {
+    /// How many desks are in.
+    pub fn held(&self) -> u8
+        ensures { result ≡ length (accounts self.now) }
+    {
+        let mut count = 0;
+        'each: for d in 0..self.desks {
+            if self.slots[usize::from(d)].is_some() {
+                count += 1;
+            }
+        }
+        count
+    }
+}
+
+impl Closed {
+    /// The number of desks that the board was opened with.
+    pub fn desks(&self) -> u8
+        ensures { result ≡ self.now.desks }
+    {
+        self.desks
+    }
+
+    /// The last stored entry of component k, nothing where there is none.
+    pub fn entry(&self, k: u8) -> Option<Entry>
+        ensures { result ≡ entry_in self.now k }
+    {
+        if k >= self.desks {
+            return None;
+        }
+        let kept = self.slots[usize::from(k)]?;
+        if kept.stores == 0 {
+            return None;
+        }
+        Some(Entry {
+            component: k,
+            number: kept.stores,
+            value: kept.value,
+        })
+    }
+}

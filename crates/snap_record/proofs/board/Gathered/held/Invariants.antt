@@ -1,6 +1,0 @@
-use Rattle.std.proofs.Common.{◌≡◌, ◌≤◌, length}
-use Rattle.snap_record.specs.Slots.{ins}
-use Rattle.snap_record.proofs.board.Gathered.held.Given as goal
-
-abbrev pub invariant-each : goal.invariant-each
-invariant-each l = record { counted : l.count ≡ length (ins l.d l.self.slots); low : l.count ≤ l.d }

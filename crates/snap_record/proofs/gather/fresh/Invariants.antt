@@ -1,6 +1,0 @@
-use Rattle.std.proofs.Common.{◌≡◌, length}
-use Rattle.snap_record.specs.Regular.{Fresh}
-use Rattle.snap_record.proofs.gather.fresh.Given as goal
-
-abbrev pub invariant-rows : goal.invariant-rows
-invariant-rows l = record { rows : Fresh l.d l.slots; eight : length l.slots ≡ 8 }
