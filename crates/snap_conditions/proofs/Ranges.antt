@@ -9,7 +9,7 @@ use Rattle.std.proofs.lemmas.Bool.{and_parts, ltb-true}
 use Rattle.snap_core.specs.declared.entry.Entry.{Entry}
 use Rattle.snap_core.specs.declared.event.Event.{Event}
 use Rattle.snap_core.specs.Entries.{HasByteComponent, rises}
-use Rattle.snap_core.specs.Events.{IsKept}
+use Rattle.snap_core.specs.Events.{IsKept, event_limit}
 use Rattle.snap_core.specs.declared.event.Event.TheVariants.{BeginUpdate, BeginView, EndUpdate, EndView}
 use Rattle.snap_core.specs.Calls.{Call, calls_of, calls_from, is_view, entries_of, views_of, nobody}
 use Rattle.snap_core.proofs.Lists.{In}
@@ -113,7 +113,7 @@ few_listed es k r i =
     let f = fit_views es k.fit r (from_views (calls_of es) r i).there in
     omega (arith, length-map (entries_of r.operation) (λ e. e.component), rising_few (entries_of r.operation) f.rising (λ j d l. (f.fit j d l).0))
 
-pub few_views : (es : List Event) → IsKept es → length (views_of (calls_of es)) ≤ 16384
+pub few_views : (es : List Event) → IsKept es → length (views_of (calls_of es)) ≤ event_limit
 unfolding views_of calls_of
 few_views es k = omega (arith, filter_short is_view (calls_of es), few_calls 0 0 es, k.short)
   where

@@ -2,6 +2,7 @@
 use Rattle.std.specs.Prelude.{ℕ, suc, Bool, false, List, [], ◌∷◌, ◌++◌, ◌≡◌, ◌==◌, filter, count_by, Contains, ⊤, ◌≤◌, ◌<◌, length, All}
 use Rattle.snap_core.specs.declared.entry.Entry.{Entry}
 use Rattle.snap_core.specs.Entries.{HasByteComponent, EntryFits, AreEntries}
+use Rattle.snap_core.specs.declared.history.TheConstants.{EVENT_LIMIT}
 pub use Rattle.snap_core.specs.declared.event.Event.{Event}
 pub use Rattle.snap_core.specs.declared.event.Event.TheVariants.{BeginUpdate, BeginView, EndUpdate, EndView}
 
@@ -74,7 +75,7 @@ EventFits (EndView p es) = (p < 65536) × AreEntries es
 
 -- how many events a history may have
 abbrev pub event_limit : ℕ
-event_limit = 16384
+event_limit = EVENT_LIMIT
 
 -- what a `History` keeps: the three properties, its limit, and fields as their types have them
 pub record IsKept (es : List Event) : Type 0 where

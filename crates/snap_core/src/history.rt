@@ -10,7 +10,7 @@ use std::alloc::Global;
 use std::marker::Model;
 
 /// How many events a history may have.
-pub const EVENT_LIMIT: usize = 16384;
+pub const EVENT_LIMIT: usize = 65_536;
 
 /// Why an event is refused, in the order in which the reasons are tested.
 #[derive(Clone, Copy, PartialEq, Eq, Debug)]

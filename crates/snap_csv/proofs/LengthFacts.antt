@@ -16,6 +16,7 @@ use Rattle.snap_core.specs.declared.event.Event.TheVariants.{BeginUpdate, BeginV
 use Rattle.snap_core.specs.Entries.{AreEntries, EntryFits, rises}
 use Rattle.snap_core.specs.Events.{EventFits, TakeTurns, IsBegin, Ends, IsKept, IsWellFormed, events_of, process_of}
 use Rattle.snap_core.specs.Refusals.{is_begin}
+use Rattle.snap_csv.specs.Laws.{ListsAtMost}
 use Rattle.snap_csv.specs.Texts.{byte_limit}
 use Rattle.snap_csv.specs.Fields.{header}
 use Rattle.snap_csv.specs.Spelling.{entries_text, entry_text, history_text, record_text, spelled}
@@ -162,12 +163,26 @@ map_weights [] = refl
 map_weights (x ∷ xs) =
     sum_by-cons (λ r. length (record_text r)) (spelled x) (map spelled xs) ∙ ap (λ n. weight x + n) (map_weights xs) ∙ sym (sum_by-cons weight x xs)
 
-pub text_short : (xs : List Event) → IsKept xs → length (history_text xs) ≤ byte_limit
+-- as all records weigh together, the text weighs with its header
+text_weight : (xs : List Event) → length (history_text xs) ≡ 22 + sum_by weight xs
 unfolding history_text
-text_short xs k =
-    let whole = length-flat_map record_text (header ∷ map spelled xs) in
-    let parts = sum_by-cons (λ r. length (record_text r)) header (map spelled xs) in
-    let head = record_long (codes "event") (codes "process") (codes "op") (codes "data") in
-    let all = all_short (length xs) xs (omega arith) k.history.well_formed k.fit in
-    let same = map_weights xs in
-    omega (arith, whole, parts, head, all, same, k.short)
+text_weight xs = omega (arith, length-flat_map record_text (header ∷ map spelled xs), sum_by-cons (λ r. length (record_text r)) header (map spelled xs), record_long (codes "event") (codes "process") (codes "op") (codes "data"), map_weights xs)
+
+pub text_short : (xs : List Event) → IsKept xs → length xs ≤ 16384 → length (history_text xs) ≤ byte_limit
+text_short xs k few = omega (arith, text_weight xs, all_short (length xs) xs (omega arith) k.history.well_formed k.fit, few)
+
+-- ---- views of few entries
+
+narrow_short : (x : Event) → EventFits x → ListsAtMost 36 x → weight x ≤ 1000
+narrow_short (BeginUpdate p e) f few = omega (arith, record_short (BeginUpdate p e) f)
+narrow_short (BeginView p) f few = omega (arith, record_short (BeginView p) f)
+narrow_short (EndUpdate p) f few = omega (arith, record_long (codes "end") (decimal p) (codes "update") [], process_short p f)
+narrow_short (EndView p es) f few = omega (arith, record_long (codes "end") (decimal p) (codes "view") (entries_text es), process_short p f.0, entries_short es f.1.fit, few)
+
+each_narrow : (xs : List Event) → All EventFits xs → All (ListsAtMost 36) xs → sum_by weight xs ≤ 1000 * length xs
+each_narrow [] f few = omega arith
+each_narrow (x ∷ xs) f few =
+    omega (arith, narrow_short x (All-head EventFits x xs f) (All-head (ListsAtMost 36) x xs few), each_narrow xs (All-tail EventFits x xs f) (All-tail (ListsAtMost 36) x xs few), sum_by-cons weight x xs)
+
+pub narrow_text_short : (xs : List Event) → IsKept xs → All (ListsAtMost 36) xs → length (history_text xs) ≤ byte_limit
+narrow_text_short xs k few = omega (arith, text_weight xs, each_narrow xs k.fit few, k.short)

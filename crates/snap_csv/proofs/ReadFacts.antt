@@ -9,6 +9,7 @@ use Rattle.std.proofs.lemmas.List.Elements.{filter_map-append}
 use Rattle.std.proofs.Math.Seq.{drop-cons, take-suc}
 use Rattle.csv.specs.declared.reader.Reader.{Reader}
 use Rattle.snap_core.specs.declared.event.Event.{Event}
+use Rattle.snap_core.specs.Events.{event_limit}
 use Rattle.snap_csv.specs.declared.refusal.TextFault.TheVariants as faults
 use Rattle.snap_csv.specs.declared.refusal.ReadRefusal.{ReadRefusal}
 use Rattle.snap_csv.specs.declared.refusal.ReadRefusal.TheVariants as refusals
@@ -39,29 +40,29 @@ row_short old r h = let test : (length r == 4) ≡ false = grind (arith, nat_tes
 four_long : (r : Fields) (a p o d : List ℕ) → r ≡ a ∷ p ∷ o ∷ d ∷ [] → (length r == 4) ≡ true
 four_long r a p o d e = rw e refl
 
-pub row_full : (old : List Event) (r : Fields) (a p o d : List ℕ) → r ≡ a ∷ p ∷ o ∷ d ∷ [] → 16384 ≤ length old → row_fault old r ≡ Some faults.TooMany
+pub row_full : (old : List Event) (r : Fields) (a p o d : List ℕ) → r ≡ a ∷ p ∷ o ∷ d ∷ [] → event_limit ≤ length old → row_fault old r ≡ Some faults.TooMany
 unfolding row_fault
 row_full old r a p o d e h =
-    let test : nat_le 16384 (length old) ≡ true = le-leb _ _ h in
+    let test : nat_le event_limit (length old) ≡ true = le-leb _ _ h in
     rw (four_long r a p o d e, test) refl
 
-pub row_fits : (old : List Event) (r : Fields) (a p o d : List ℕ) → r ≡ a ∷ p ∷ o ∷ d ∷ [] → length old < 16384 → row_fault old r ≡ fault_with old (event_of a p o d)
+pub row_fits : (old : List Event) (r : Fields) (a p o d : List ℕ) → r ≡ a ∷ p ∷ o ∷ d ∷ [] → length old < event_limit → row_fault old r ≡ fault_with old (event_of a p o d)
 unfolding row_fault row_event
 row_fits old r a p o d e h =
-    let test : nat_le 16384 (length old) ≡ false = grind (arith, nat_tests) in
+    let test : nat_le event_limit (length old) ≡ false = grind (arith, nat_tests) in
     rw (four_long r a p o d e, test, e) refl
 
 event_is : (r : Fields) (a p o d : List ℕ) → r ≡ a ∷ p ∷ o ∷ d ∷ [] → row_event r ≡ event_of a p o d
 unfolding row_event
 event_is r a p o d e = rw e refl
 
-pub row_fails : (place : ℕ) (old : List Event) (r : Fields) (a p o d : List ℕ) (e : ReadRefusal) → r ≡ a ∷ p ∷ o ∷ d ∷ [] → length old < 16384
+pub row_fails : (place : ℕ) (old : List Event) (r : Fields) (a p o d : List ℕ) (e : ReadRefusal) → r ≡ a ∷ p ∷ o ∷ d ∷ [] → length old < event_limit
     → FailsEvent place e (event_of a p o d) → RefusesRow place old r e
 row_fails place old r a p o d (refusals.Text q f) e h g = (g.0, row_fits old r a p o d e h ∙ rw g.1 refl)
 row_fails place old r a p o d refusals.Device e h g = g
 row_fails place old r a p o d refusals.Memory e h g = tt
 
-pub row_pushed : (place : ℕ) (old new : List Event) (r : Fields) (a p o d : List ℕ) (x : Event) (res : Result (Unit {0}) ReadRefusal) → r ≡ a ∷ p ∷ o ∷ d ∷ [] → length old < 16384
+pub row_pushed : (place : ℕ) (old new : List Event) (r : Fields) (a p o d : List ℕ) (x : Event) (res : Result (Unit {0}) ReadRefusal) → r ≡ a ∷ p ∷ o ∷ d ∷ [] → length old < event_limit
     → event_of a p o d ≡ Ok x → TakesEvent place old new x res → TakesRow place old new r res
 row_pushed place old new r a p o d x (Ok u) e h is t = (row_fits old r a p o d e h ∙ rw is t.0, x, event_is r a p o d e ∙ is, t.1)
 row_pushed place old new r a p o d x (Err (refusals.Text q f)) e h is t = (t.0, row_fits old r a p o d e h ∙ rw is t.1)

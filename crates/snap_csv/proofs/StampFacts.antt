@@ -17,6 +17,7 @@ use Rattle.std.proofs.lemmas.Map.Keys.{IsDistinct-IsPermutation, IsDistinct-push
 use Rattle.std.proofs.Math.Seq.{drop-cons, take-suc}
 use Rattle.csv.specs.declared.reader.Reader.{Reader}
 use Rattle.snap_core.specs.declared.event.Event.{Event}
+use Rattle.snap_core.specs.Events.{event_limit}
 use Rattle.snap_csv.specs.declared.refusal.TextFault.{TextFault}
 use Rattle.snap_csv.specs.declared.refusal.TextFault.TheVariants as faults
 use Rattle.snap_csv.specs.declared.refusal.ReadRefusal.{ReadRefusal}
@@ -59,16 +60,16 @@ row_short n earlier r h = let test : (length r == 5) ≡ false = grind (arith, n
 five_long : (r : Fields) (t a p o d : List ℕ) → r ≡ t ∷ a ∷ p ∷ o ∷ d ∷ [] → (length r == 5) ≡ true
 five_long r t a p o d e = rw e refl
 
-pub row_full : (n : ℕ) (earlier : List ℕ) (r : Fields) (t a p o d : List ℕ) → r ≡ t ∷ a ∷ p ∷ o ∷ d ∷ [] → 16384 ≤ n → shape_fault n earlier r ≡ Some faults.TooMany
+pub row_full : (n : ℕ) (earlier : List ℕ) (r : Fields) (t a p o d : List ℕ) → r ≡ t ∷ a ∷ p ∷ o ∷ d ∷ [] → event_limit ≤ n → shape_fault n earlier r ≡ Some faults.TooMany
 unfolding shape_fault
 row_full n earlier r t a p o d e h =
-    let test : nat_le 16384 n ≡ true = le-leb _ _ h in
+    let test : nat_le event_limit n ≡ true = le-leb _ _ h in
     rw (five_long r t a p o d e, test) refl
 
-row_fits : (n : ℕ) (earlier : List ℕ) (r : Fields) (t a p o d : List ℕ) → r ≡ t ∷ a ∷ p ∷ o ∷ d ∷ [] → n < 16384 → shape_fault n earlier r ≡ repeat_fault earlier (stamped_row r)
+row_fits : (n : ℕ) (earlier : List ℕ) (r : Fields) (t a p o d : List ℕ) → r ≡ t ∷ a ∷ p ∷ o ∷ d ∷ [] → n < event_limit → shape_fault n earlier r ≡ repeat_fault earlier (stamped_row r)
 unfolding shape_fault
 row_fits n earlier r t a p o d e h =
-    let test : nat_le 16384 n ≡ false = grind (arith, nat_tests) in
+    let test : nat_le event_limit n ≡ false = grind (arith, nat_tests) in
     rw (five_long r t a p o d e, test) refl
 
 no_stamp : (r : Fields) (t a p o d : List ℕ) → r ≡ t ∷ a ∷ p ∷ o ∷ d ∷ [] → None ≡ number_at (2 ^ 64) t → stamped_row r ≡ Err faults.BadAt
@@ -90,20 +91,20 @@ full_fails false true x y o e h = cc
 full_fails false false x y o e h = cc
 
 -- a record is taken only where the history is not full
-has_room : (n : ℕ) (earlier : List ℕ) (r : Fields) → shape_fault n earlier r ≡ None → n < 16384
+has_room : (n : ℕ) (earlier : List ℕ) (r : Fields) → shape_fault n earlier r ≡ None → n < event_limit
 unfolding shape_fault
-has_room n earlier r h = elim (cases_lt n 16384) [
+has_room n earlier r h = elim (cases_lt n event_limit) [
   | inl lt ↦ lt
-  | inr le ↦ absurd (full_fails (length r == 5) (nat_le 16384 n) faults.Fields faults.TooMany (repeat_fault earlier (stamped_row r)) (le-leb _ _ le) h)
+  | inr le ↦ absurd (full_fails (length r == 5) (nat_le event_limit n) faults.Fields faults.TooMany (repeat_fault earlier (stamped_row r)) (le-leb _ _ le) h)
 ]
 
-pub one_longer : (place : ℕ) (old new : List Stamped) (r : Fields) → TakesStamped place old new r (Ok tt) → (length old < 16384) × (length new ≡ length old + 1)
+pub one_longer : (place : ℕ) (old new : List Stamped) (r : Fields) → TakesStamped place old new r (Ok tt) → (length old < event_limit) × (length new ≡ length old + 1)
 one_longer place old new r (none, x, is, longer) = (has_room _ _ r none, rw longer (omega (arith, length-append old (record { at = x.0; place = place; event = x.1 } ∷ []))))
 
-pub row_bad_at : (n : ℕ) (earlier : List ℕ) (r : Fields) (t a p o d : List ℕ) → r ≡ t ∷ a ∷ p ∷ o ∷ d ∷ [] → n < 16384 → None ≡ number_at (2 ^ 64) t → shape_fault n earlier r ≡ Some faults.BadAt
+pub row_bad_at : (n : ℕ) (earlier : List ℕ) (r : Fields) (t a p o d : List ℕ) → r ≡ t ∷ a ∷ p ∷ o ∷ d ∷ [] → n < event_limit → None ≡ number_at (2 ^ 64) t → shape_fault n earlier r ≡ Some faults.BadAt
 row_bad_at n earlier r t a p o d e lt h = row_fits n earlier r t a p o d e lt ∙ ap (repeat_fault earlier) (no_stamp r t a p o d e h)
 
-pub row_fails : (place : ℕ) (old : List Stamped) (r : Fields) (t a p o d : List ℕ) (at : ℕ) (e : ReadRefusal) → r ≡ t ∷ a ∷ p ∷ o ∷ d ∷ [] → length old < 16384
+pub row_fails : (place : ℕ) (old : List Stamped) (r : Fields) (t a p o d : List ℕ) (at : ℕ) (e : ReadRefusal) → r ≡ t ∷ a ∷ p ∷ o ∷ d ∷ [] → length old < event_limit
     → Some at ≡ number_at (2 ^ 64) t → FailsEvent place e (event_of a p o d) → RefusesStamped place old r e
 row_fails place old r t a p o d at (refusals.Text q f) e lt h g =
     (g.0, row_fits (length old) (stamps_of old) r t a p o d e lt ∙ ap (repeat_fault (stamps_of old)) (no_event r t a p o d at f e h g.1))
@@ -121,13 +122,13 @@ not_true true e = absurd (cc)
 known_stamp : (seen : BTreeSet ℕ) (old : List Stamped) (at : ℕ) (b : Bool) → HasSeen seen old → contains nat_cmp seen at ≡ b → list_any (λ s. at == s) (stamps_of old) ≡ b
 known_stamp seen old at b h e = sym (h.has at) ∙ e
 
-pub row_repeats : (seen : BTreeSet ℕ) (old : List Stamped) (r : Fields) (t a p o d : List ℕ) (at : ℕ) (x : Event) → r ≡ t ∷ a ∷ p ∷ o ∷ d ∷ [] → length old < 16384
+pub row_repeats : (seen : BTreeSet ℕ) (old : List Stamped) (r : Fields) (t a p o d : List ℕ) (at : ℕ) (x : Event) → r ≡ t ∷ a ∷ p ∷ o ∷ d ∷ [] → length old < event_limit
     → Some at ≡ number_at (2 ^ 64) t → event_of a p o d ≡ Ok x → HasSeen seen old → not (contains nat_cmp seen at) ≡ false → shape_fault (length old) (stamps_of old) r ≡ Some faults.Repeated
 row_repeats seen old r t a p o d at x e lt h g s n =
     row_fits (length old) (stamps_of old) r t a p o d e lt ∙ ap (repeat_fault (stamps_of old)) (has_event r t a p o d at x e h g)
     ∙ rw (known_stamp seen old at true s (not_false _ n)) refl
 
-pub row_taken : (place : ℕ) (seen : BTreeSet ℕ) (old new : List Stamped) (r : Fields) (t a p o d : List ℕ) (at : ℕ) (x : Event) → r ≡ t ∷ a ∷ p ∷ o ∷ d ∷ [] → length old < 16384
+pub row_taken : (place : ℕ) (seen : BTreeSet ℕ) (old new : List Stamped) (r : Fields) (t a p o d : List ℕ) (at : ℕ) (x : Event) → r ≡ t ∷ a ∷ p ∷ o ∷ d ∷ [] → length old < event_limit
     → Some at ≡ number_at (2 ^ 64) t → event_of a p o d ≡ Ok x → HasSeen seen old → not (contains nat_cmp seen at) ≡ true
     → new ≡ old ++ record { at = at; place = place; event = x } ∷ [] → TakesStamped place old new r (Ok tt)
 row_taken place seen old new r t a p o d at x e lt h g s n is =

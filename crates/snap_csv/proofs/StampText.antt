@@ -142,13 +142,13 @@ five_fields (n, BeginView p) = refl
 five_fields (n, EndUpdate p) = refl
 five_fields (n, EndView p es) = refl
 
-shape_fine : (n : ℕ) (earlier : List ℕ) (p : Stamp) → n < 16384 → stamped_row (stamped_fields p) ≡ Ok p → list_any (λ s. p.0 == s) earlier ≡ false → shape_fault n earlier (stamped_fields p) ≡ None
+shape_fine : (n : ℕ) (earlier : List ℕ) (p : Stamp) → n < event_limit → stamped_row (stamped_fields p) ≡ Ok p → list_any (λ s. p.0 == s) earlier ≡ false → shape_fault n earlier (stamped_fields p) ≡ None
 unfolding shape_fault
 shape_fine n earlier p lt b none =
-    let test : nat_le 16384 n ≡ false = grind (arith, nat_tests) in
+    let test : nat_le event_limit n ≡ false = grind (arith, nat_tests) in
     rw (five_fields p, test, b, none) refl
 
-shapes_fine : (at : List ℕ) (xs : List Event) → length at ≡ length xs → length xs ≤ 16384 → IsStrictlyIncreasing at → AllBack (zip at xs) → NoneOf (shape_at (map stamped_fields (zip at xs))) (length (map stamped_fields (zip at xs)))
+shapes_fine : (at : List ℕ) (xs : List Event) → length at ≡ length xs → length xs ≤ event_limit → IsStrictlyIncreasing at → AllBack (zip at xs) → NoneOf (shape_at (map stamped_fields (zip at xs))) (length (map stamped_fields (zip at xs)))
 shapes_fine at xs same short up b i lt =
     let ps = zip at xs in
     let d : Stamp = (0, BeginView 0) in

@@ -1,7 +1,8 @@
 -- What is proved of all events, histories and texts.
-use Rattle.std.specs.Prelude.{◌≡◌, ◌<◌, ◌^◌, All, ◌≤◌, ℕ, List, length, Ok, true}
+use Rattle.std.specs.Prelude.{◌≡◌, ◌<◌, ◌^◌, ⊤, All, ◌≤◌, ℕ, List, length, Ok, true}
 use Rattle.std.specs.List.Sorted.{IsStrictlyIncreasing}
 use Rattle.snap_core.specs.declared.event.Event.{Event}
+use Rattle.snap_core.specs.declared.event.Event.TheVariants.{EndView}
 use Rattle.snap_core.specs.Events.{EventFits, IsKept}
 use Rattle.snap_csv.specs.declared.refusal.TextFault.{TextFault}
 use Rattle.snap_csv.specs.Rows.{Fields}
@@ -18,13 +19,22 @@ RecordsAreSpelled = (record_fields : Fields) (event : Event) → row_event recor
 abbrev pub FieldsAreOneEvents : Type 0
 FieldsAreOneEvents = (x y : Event) → EventFits x → EventFits y → spelled x ≡ spelled y → x ≡ y
 
--- the text of every history is within the limit of bytes
+-- the text of every history of at most 16,384 events is within the limit of bytes
 abbrev pub TextsAreShort : Type 0
-TextsAreShort = (events : List Event) → IsKept events → length (history_text events) ≤ byte_limit
+TextsAreShort = (events : List Event) → IsKept events → length events ≤ 16384 → length (history_text events) ≤ byte_limit
 
--- the text of a history has no fault and is that of this history
+-- the end of a view lists at most so many entries
+abbrev pub ListsAtMost : ℕ → Event → Type 0
+ListsAtMost n (EndView p entries) = length entries ≤ n
+ListsAtMost n _ = ⊤
+
+-- so is that of every history whose views list at most 36 entries each
+abbrev pub NarrowTextsAreShort : Type 0
+NarrowTextsAreShort = (events : List Event) → IsKept events → All (ListsAtMost 36) events → length (history_text events) ≤ byte_limit
+
+-- the text of a history has no fault and is that of this history, where it is within the limit of bytes
 abbrev pub TextsReadBack : Type 0
-TextsReadBack = (events : List Event) → IsKept events → IsText (history_text events) events
+TextsReadBack = (events : List Event) → IsKept events → length (history_text events) ≤ byte_limit → IsText (history_text events) events
 
 -- a text that is one of a history has no fault
 abbrev pub TextsHaveNoFault : Type 0

@@ -1,11 +1,11 @@
-ghost use Rattle.snap_csv.specs.Laws.{FieldsAreOneEvents, HeadersDiffer, RecordsAreSpelled, StampedTextsReadBack, TextsAreShort, TextsHaveNoFault, TextsHaveOneFault, TextsHaveOneReading, TextsReadBack};
+ghost use Rattle.snap_csv.specs.Laws.{FieldsAreOneEvents, HeadersDiffer, NarrowTextsAreShort, RecordsAreSpelled, StampedTextsReadBack, TextsAreShort, TextsHaveNoFault, TextsHaveOneFault, TextsHaveOneReading, TextsReadBack};
 
 /// No two events have the same four fields.
 pub fn fields_are_one_events()
     ensures { FieldsAreOneEvents }
 {}
 
-/// The text of a history has no fault and is that of this history.
+/// The text of a history has no fault and is that of this history, within the limit of bytes.
 pub fn texts_read_back()
     ensures { TextsReadBack }
 {}
@@ -15,9 +15,14 @@ pub fn texts_have_no_fault()
     ensures { TextsHaveNoFault }
 {}
 
-/// The text of every history is within the limit of bytes.
+/// The text of every history of at most 16,384 events is within the limit of bytes.
 pub fn texts_are_short()
     ensures { TextsAreShort }
+{}
+
+/// The text of every history whose views list at most 36 entries each is within the limit of bytes.
+pub fn narrow_texts_are_short()
+    ensures { NarrowTextsAreShort }
 {}
 
 /// A record is read as an event only where it has the event's four fields.

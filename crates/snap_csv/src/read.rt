@@ -17,7 +17,7 @@ use std::alloc::Global;
 use std::io::Read;
 
 // One record more than a history has events: that one has a fault.
-pub const ROW_LIMIT: u32 = 16385;
+pub const ROW_LIMIT: u32 = EVENT_LIMIT as u32 + 1;
 
 // The fault that a refusal of a history stands for; memory aside.
 fn fault_for(refusal: EventRefusal) -> Option<TextFault>

@@ -109,10 +109,10 @@ fn count_of(alloc: Global, text: &[u8]) -> Option<usize> {
     }
 }
 
-// The header, and process 0's begins and ends of 8,192 updates.
+// The header, and process 0's begins and ends of 32,768 updates.
 fn full_text(alloc: Global) -> Result<Vec<u8>, std::alloc::AllocError> {
     let mut text = Vec::from_slice(alloc, b"event,process,op,data\n")?;
-    for i in 1..8193u32 {
+    for i in 1..32769u32 {
         text.extend_from_slice(b"begin,0,update,0:")?;
         text.extend_from_slice(itoa::Buffer::new().format(i).as_bytes())?;
         text.extend_from_slice(b":0\nend,0,update,\n")?;
@@ -141,9 +141,9 @@ fn names_the_first_of_two_faults(rt: HostRuntime) {
 #[test]
 fn takes_a_history_as_long_as_it_may_be_and_no_event_more(rt: HostRuntime) -> Result<(), Fail> {
     let mut text = full_text(rt.alloc())?;
-    assert_eq!(rt; count_of(rt.alloc(), &text), Some(16384));
+    assert_eq!(rt; count_of(rt.alloc(), &text), Some(65536));
     text.extend_from_slice(b"begin,0,view,\n")?;
-    assert_eq!(rt; refusal_of(rt.alloc(), text.as_slice()).0, 16386);
+    assert_eq!(rt; refusal_of(rt.alloc(), text.as_slice()).0, 65538);
     assert_eq!(rt; refusal_of(rt.alloc(), text.as_slice()).1, "toomany");
     Ok(())
 }

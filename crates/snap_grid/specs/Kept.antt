@@ -11,7 +11,7 @@ pub record IsColumn (numbers : List ℕ) (bounds : List Bounds) (limit : ℕ) : 
   pub few : length numbers ≤ 65536
   pub blocks : (block : ℕ) → block * 64 < length numbers → block < length bounds
   pub bounded : (block : ℕ) (b : Bounds) → block * 64 < length numbers → IsBounded numbers block (get_or bounds block b)
-  pub small : limit < 65536
+  pub small : limit ≤ 65536
 
 -- each column has so many rows
 abbrev pub HaveRows : List (List ℕ) → ℕ → Type 0

@@ -30,7 +30,7 @@ impl Column {
     /// The column of some numbers. Comparing is fast for numbers up to the limit, and takes memory by it.
     pub fn new(alloc: Global, numbers: Vec<u32>, limit: u32) -> Result<Column, AllocError>
         requires few { length numbers.items ≤ 65536 }
-        requires limit { limit < 65536 }
+        requires limit { limit ≤ 65536 }
         ensures { IfOk result (λ column. column ≡ numbers.items) }
     {
         let mut bounds = Vec::new(alloc);

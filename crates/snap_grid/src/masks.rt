@@ -68,7 +68,7 @@ impl<'c> Masks<'c> {
     // The masks of some numbers, with a table for those up to a limit.
     pub(crate) fn of(alloc: Global, numbers: &'c [u32], limit: u32) -> Result<Masks<'c>, AllocError>
         requires numbers { length numbers.now ≤ 64 }
-        requires limit { limit < 65536 }
+        requires limit { limit ≤ 65536 }
         ensures { IfOk result (λ masks. masks ≡ numbers.now) }
     {
         let mut under = vec![in alloc; 0; limit as usize + 2]?;

@@ -1,4 +1,4 @@
-ghost use Rattle.std.specs.Prelude.{◌≡◌, ◌*◌, ◌≤◌, [], IfOk, length, true};
+ghost use Rattle.std.specs.Prelude.{◌≡◌, ◌*◌, ◌≤◌, [], IfOk, OnOk, length, true};
 ghost use Rattle.std.specs.List.Sorted.{IsStrictlyIncreasing};
 ghost use Rattle.snap_core.specs.Events.{event_limit};
 ghost use Rattle.snap_core.specs.Calls.{calls_of};
@@ -230,6 +230,7 @@ pub fn record_plan<R: Threads + Wait + Sync, G: Gate>(
     plan: &Plan,
     gate: &G,
 ) -> Result<Recording, RecordRefusal>
+    ensures few { OnOk result (length plan.now ≤ 8) }
     ensures regular { IfOk result (λ r. IsRegular (calls_of r.history)) }
     ensures monotone { IfOk result (λ r. IsMonotone (calls_of r.history)) }
     ensures completed { IfOk result (λ r. AllCompleted (calls_of r.history)) }

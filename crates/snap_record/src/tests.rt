@@ -20,19 +20,19 @@ impl Gate for Count {
     }
 }
 
-/// A list of so many views.
-fn views(alloc: Global, steps: usize) -> Result<Vec<Step>, Fail> {
-    Ok(vec![in alloc; Step::View; steps]?)
+/// A list of so many stores of 0.
+fn stores(alloc: Global, steps: usize) -> Result<Vec<Step>, Fail> {
+    Ok(vec![in alloc; Step::Store(0); steps]?)
 }
 
 #[test]
 fn plans_have_two_lists_within_the_limit(rt: HostRuntime) -> Result<(), Fail> {
     let alloc = rt.alloc();
-    let one = Plan::new(vec![in alloc; views(alloc, 1)?]?);
+    let one = Plan::new(vec![in alloc; stores(alloc, 1)?]?);
     assert!(rt; matches!(&one, Err(PlanRefusal::Workers)));
-    let long = Plan::new(vec![in alloc; views(alloc, 4096)?, views(alloc, 4097)?]?);
+    let long = Plan::new(vec![in alloc; stores(alloc, 16384)?, stores(alloc, 16385)?]?);
     assert!(rt; matches!(&long, Err(PlanRefusal::TooLong)));
-    let full = Plan::new(vec![in alloc; views(alloc, 4096)?, views(alloc, 4096)?]?);
+    let full = Plan::new(vec![in alloc; stores(alloc, 16384)?, stores(alloc, 16384)?]?);
     assert!(rt; full.is_ok());
     Ok(())
 }

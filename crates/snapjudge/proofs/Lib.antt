@@ -1,4 +1,5 @@
 pub mod OnWords
 pub mod Numbers
 pub mod Runs
+pub mod Narrow
 pub mod Recordings

@@ -1,11 +1,11 @@
 -- What a recording writes and answers.
-use Rattle.std.proofs.Common.{◌≡◌, ◌⊎◌, ◌∙◌, ℕ, Bool, true, false, List, Option, Result, Ok, Err, ap, inl, inr}
+use Rattle.std.proofs.Common.{◌≡◌, ◌⊎◌, ◌∙◌, ◌≤◌, ℕ, Bool, true, false, List, length, Option, Result, Ok, Err, ap, inl, inr}
 use Rattle.std.specs.Prelude.{IfOk}
 use Rattle.snap_core.specs.declared.event.Event.{Event}
 use Rattle.snap_core.specs.Calls.{calls_of}
 use Rattle.snap_core.specs.Orders.{IsAtomic}
 use Rattle.snap_csv.specs.Spelling.{history_text, stamped_text}
-use Rattle.snap_csv.proofs.LengthFacts.{text_short}
+use Rattle.snap_csv.specs.Texts.{byte_limit}
 use Rattle.snap_csv.proofs.TextFacts.{text_reads}
 use Rattle.snap_record.specs.declared.plan.Step.{Step}
 use Rattle.snapjudge.specs.declared.fault.RunFault.{RunFault}
@@ -15,6 +15,7 @@ use Rattle.snap_verdict.specs.declared.status.Status.TheVariants.{Atomic, Record
 use Rattle.snapjudge.specs.RecordRuns.{HasStamps, IsRecorded, IsRecordingOf, IsRecordingReport, IsStampedRecording, WroteAs}
 use Rattle.snap_verdict.specs.Statuses.{status_of}
 use Rattle.snap_verdict.specs.Verdicts.{IsVerdict}
+use Rattle.snapjudge.proofs.Narrow.{recording_short}
 
 wrote_also : (Is Also : Status → List ℕ → Type 0) → ((status : Status) (out : List ℕ) → Is status out → Also status out) → (old new : Option (List ℕ)) (answer : Result Status RunFault) → WroteAs Is old new answer → WroteAs Also old new answer
 wrote_also Is Also then old new (Ok status) h = (h.0, then status h.0 h.1, h.2)
@@ -26,13 +27,13 @@ regular_status : (regular atomic : Bool) (status : Status) → regular ≡ true 
 regular_status regular true status is_true e = inl e
 regular_status regular false status is_true e = inr (e ∙ ap (λ b. status_of b false) is_true)
 
-report_of : (scripts : List (List Step)) (events : List Event) → IsRecordingOf scripts events → (status : Status) (out : List ℕ) → IsVerdict events status out → IsRecordingReport scripts status out
-report_of scripts events recording status out v =
+report_of : (scripts : List (List Step)) (events : List Event) → IsRecordingOf scripts events → length (history_text events) ≤ byte_limit → (status : Status) (out : List ℕ) → IsVerdict events status out → IsRecordingReport scripts status out
+report_of scripts events recording short status out v =
     record {
       events = events;
       recording = recording;
       answers = regular_status v.regular v.atomic status (v.regular_exactly.1 recording.regular) v.answers;
-      report = inr (record { events = events; history = text_reads events recording.kept (text_short events recording.kept); verdict = v });
+      report = inr (record { events = events; history = text_reads events recording.kept short; verdict = v });
     }
 
 pub text_written : (scripts : List (List Step)) (events : List Event) → IsRecordingOf scripts events → (old new : Option (List ℕ)) (answer : Result Status RunFault) →
@@ -47,9 +48,10 @@ stamped_written scripts events stamps recording has_stamps old new answer h =
     wrote_also (λ status out. (status ≡ Recorded) × (out ≡ stamped_text stamps events)) (IsStampedRecording scripts)
     (λ status out w. record { events = events; stamps = stamps; recording = recording; has_stamps = has_stamps; answers = w.0; writes = w.1 }) old new answer h
 
-pub report_written : (scripts : List (List Step)) (events : List Event) → IsRecordingOf scripts events → (old new : Option (List ℕ)) (answer : Result Status RunFault) →
+pub report_written : (scripts : List (List Step)) (events : List Event) (stamps : List ℕ) → length scripts ≤ 8 → IsRecordingOf scripts events → HasStamps scripts events stamps → (old new : Option (List ℕ)) (answer : Result Status RunFault) →
     WroteAs (IsVerdict events) old new answer → WroteAs (IsRecorded true scripts) old new answer
-report_written scripts events recording old new answer h = wrote_also (IsVerdict events) (IsRecorded true scripts) (report_of scripts events recording) old new answer h
+report_written scripts events stamps few recording has_stamps old new answer h =
+    wrote_also (IsVerdict events) (IsRecorded true scripts) (report_of scripts events recording (recording_short (length scripts) events stamps recording.kept few has_stamps.stamped)) old new answer h
 
 -- the verdict on an atomic history
 pub atomic_status : (events : List Event) (status : Status) (out : List ℕ) → IsAtomic (calls_of events) → IsVerdict events status out → status ≡ Atomic

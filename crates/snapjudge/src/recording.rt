@@ -1,4 +1,4 @@
-ghost use Rattle.std.specs.Prelude.{◌≡◌, ◌<◌, ◌≤◌, IfOk, length, true};
+ghost use Rattle.std.specs.Prelude.{◌≡◌, ◌<◌, ◌≤◌, IfOk, OnOk, length, true};
 ghost use Rattle.std.specs.List.Sorted.{IsStrictlyIncreasing};
 ghost use Rattle.snap_core.specs.Counting.{failures_in, inner_of};
 ghost use Rattle.snap_csv.specs.Spelling.{history_text, stamped_text};
@@ -26,6 +26,7 @@ fn recorded<Rt: Threads + Wait + Sync, G: Gate>(
     plan: &Plan,
     gate: &G,
 ) -> Result<(History, Vec<u64>), AllocError>
+    ensures few { OnOk result (length plan.now ≤ 8) }
     ensures history { IfOk result (λ r. IsRecordingOf plan.now r.0) }
     ensures stamps { IfOk result (λ r. HasStamps plan.now r.0 r.1.items) }
 {

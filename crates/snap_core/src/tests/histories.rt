@@ -118,13 +118,13 @@ fn a_second_writer_is_refused_before_a_wrong_number(rt: HostRuntime) -> Result<(
 }
 
 #[test]
-fn the_16385th_event_is_too_many(rt: HostRuntime) -> Result<(), Fail> {
+fn the_65537th_event_is_too_many(rt: HostRuntime) -> Result<(), Fail> {
     let mut history = History::new(rt.alloc());
-    for number in 1..=8192 {
+    for number in 1..=32768 {
         history.push(begin_update(65535, 0, number))?;
         history.push(Event::EndUpdate { process: 65535 })?;
     }
-    assert_eq!(rt; history.len(), 16384);
+    assert_eq!(rt; history.len(), 65536);
     assert_eq!(rt;
         refusal(&mut history, Event::BeginView { process: 0 }),
         Some(EventRefusal::TooMany)
@@ -133,6 +133,6 @@ fn the_16385th_event_is_too_many(rt: HostRuntime) -> Result<(), Fail> {
         refusal(&mut history, Event::EndUpdate { process: 0 }),
         Some(EventRefusal::TooMany)
     );
-    assert_eq!(rt; history.len(), 16384);
+    assert_eq!(rt; history.len(), 65536);
     Ok(())
 }

@@ -94,10 +94,10 @@ fn takes_the_greatest_stamp_and_the_header_alone(rt: HostRuntime) {
 }
 
 // As many views as a history may have, one after the other: their records in the order of their stamps, without stamps, or
-// the last record first, with stamps from 3,617 to 20,000.
+// the last record first, with stamps from 14,465 to 80,000.
 fn views(alloc: Global) -> Result<Vec<u8>, AllocError> {
     let mut text = Vec::from_slice(alloc, b"event,process,op,data\n")?;
-    for _ in 0..8192u32 {
+    for _ in 0..32768u32 {
         text.extend_from_slice(b"begin,0,view,\nend,0,view,\n")?;
     }
     Ok(text)
@@ -105,10 +105,10 @@ fn views(alloc: Global) -> Result<Vec<u8>, AllocError> {
 
 fn views_in_reverse(alloc: Global) -> Result<Vec<u8>, AllocError> {
     let mut text = Vec::from_slice(alloc, b"at,event,process,op,data\n")?;
-    for i in 0..8192u32 {
-        text.extend_from_slice(itoa::Buffer::new().format(20000 - 2 * i).as_bytes())?;
+    for i in 0..32768u32 {
+        text.extend_from_slice(itoa::Buffer::new().format(80000 - 2 * i).as_bytes())?;
         text.extend_from_slice(b",end,0,view,\n")?;
-        text.extend_from_slice(itoa::Buffer::new().format(19999 - 2 * i).as_bytes())?;
+        text.extend_from_slice(itoa::Buffer::new().format(79999 - 2 * i).as_bytes())?;
         text.extend_from_slice(b",begin,0,view,\n")?;
     }
     Ok(text)
@@ -122,7 +122,7 @@ fn takes_as_many_records_in_reverse_order_as_a_history_may_have(
     let plain = views(rt.alloc())?;
     assert_eq!(rt; plain_text_of(rt.alloc(), &text)?, plain);
     text.extend_from_slice(b"x,begin,0,view,\n")?;
-    assert_eq!(rt; refusal_of(rt.alloc(), text.as_slice()).0, 16386);
+    assert_eq!(rt; refusal_of(rt.alloc(), text.as_slice()).0, 65538);
     assert_eq!(rt; refusal_of(rt.alloc(), text.as_slice()).1, "toomany");
     Ok(())
 }

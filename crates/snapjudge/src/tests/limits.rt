@@ -53,20 +53,20 @@ fn updates_order(alloc: Global, updates: u32) -> Result<String, AllocError> {
 }
 
 #[test]
-fn a_history_may_have_16384_events(rt: HostRuntime) -> Result<(), Fail> {
-    let text = updates_text(rt.alloc(), 8192)?;
-    let order = updates_order(rt.alloc(), 8192)?;
+fn a_history_may_have_65536_events(rt: HostRuntime) -> Result<(), Fail> {
+    let text = updates_text(rt.alloc(), 32768)?;
+    let order = updates_order(rt.alloc(), 32768)?;
     let head =
-        "events 16384 calls 8192 pending 0 views 0\nregular yes\nmonotone yes\natomic yes\norder 8192\n";
+        "events 65536 calls 32768 pending 0 views 0\nregular yes\nmonotone yes\natomic yes\norder 32768\n";
     let report = format!(in rt.alloc(); "{head}{order}")?;
     expect_default(&rt, rt.alloc(), text.as_bytes(), "atomic", &report)
 }
 
 #[test]
-fn a_history_may_not_have_16385_events(rt: HostRuntime) -> Result<(), Fail> {
-    let mut text = updates_text(rt.alloc(), 8192)?;
+fn a_history_may_not_have_65537_events(rt: HostRuntime) -> Result<(), Fail> {
+    let mut text = updates_text(rt.alloc(), 32768)?;
     text.push_str("begin,0,view,\n")?;
-    let report = "refused record 16386: toomany\n";
+    let report = "refused record 65538: toomany\n";
     expect_default(&rt, rt.alloc(), text.as_bytes(), "refused", report)
 }
 
