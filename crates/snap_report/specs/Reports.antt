@@ -1,5 +1,5 @@
 -- The lines of a report.
-use Rattle.std.specs.Prelude.{ℕ, Bool, List, [], ◌∷◌, ◌==◌, ◌&&◌, Option, Some, None, if◌then◌else◌, codes, count_by, decimal, length, map}
+use Rattle.std.specs.Prelude.{ℕ, Bool, List, [], ◌∷◌, ◌++◌, ◌==◌, ◌&&◌, Option, Some, None, if◌then◌else◌, codes, count_by, decimal, length, map}
 use Rattle.snap_core.specs.declared.event.Event.{Event}
 use Rattle.snap_core.specs.Calls.{Call, Operation, Updates, Views, calls_of, entries_of, views_of}
 use Rattle.snap_conditions.specs.declared.tally.Tally.{Tally}
@@ -31,10 +31,14 @@ call_line c = call_word c.number ∷ process_word c.process ∷ operation_words 
 abbrev pub order_lines : List Call → List Line
 order_lines order = (codes "order" ∷ decimal (length order) ∷ []) ∷ map call_line order
 
+-- the three verdicts
+abbrev pub verdict_lines : Bool → Bool → Bool → List Line
+verdict_lines regular monotone atomic =
+    verdict_line (codes "regular") regular ∷ verdict_line (codes "monotone") monotone ∷ verdict_line (codes "atomic") atomic ∷ []
+
 -- the numbers of the history, the three verdicts, and what they stand on
 abbrev pub report_lines : List Event → Bool → Bool → Bool → List Line → List Line
-report_lines events regular monotone atomic findings =
-    count_line events ∷ verdict_line (codes "regular") regular ∷ verdict_line (codes "monotone") monotone ∷ verdict_line (codes "atomic") atomic ∷ findings
+report_lines events regular monotone atomic findings = count_line events ∷ verdict_lines regular monotone atomic ++ findings
 
 -- no fault of one view alone
 abbrev pub has_no_local_fault : Tally → Bool

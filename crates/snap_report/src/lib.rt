@@ -8,7 +8,7 @@ mod text;
 mod words;
 
 pub use refusal::refusal_text;
-pub use text::{report, report_in};
+pub use text::{report, report_in, verdict_text};
 
 #[cfg(test)]
 mod tests;

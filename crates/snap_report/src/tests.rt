@@ -25,3 +25,15 @@ fn a_stale_view_is_reported_with_the_number_that_it_shows(rt: HostRuntime) -> Re
     assert_eq!(rt; text.as_slice(), expected.as_slice());
     Ok(())
 }
+
+#[test]
+fn the_verdicts_alone_are_three_lines(rt: HostRuntime) -> Result<(), Fail> {
+    let alloc = rt.alloc();
+    let history = history_of(alloc, worked::NEW_THEN_OLD)?;
+    let index = Index::build(alloc, &history)?;
+    let tally = tally_range(&index, 0, index.view_count());
+    let text = verdict_text(alloc, &tally)?;
+    let expected = b"regular yes\nmonotone no\natomic no\n";
+    assert_eq!(rt; text.as_slice(), expected.as_slice());
+    Ok(())
+}

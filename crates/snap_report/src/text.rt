@@ -1,9 +1,9 @@
 ghost use Rattle.std.specs.Prelude.{◌≡◌, ◌++◌, All, IfOk, OnOk, codes, is_some};
 ghost use Rattle.std.specs.Option.{ForSome, option_copied, option_map};
 ghost use Rattle.snap_core.specs.Calls.{calls_of};
-ghost use Rattle.snap_report.specs.Lines.{line_text};
+ghost use Rattle.snap_report.specs.Lines.{line_text, text_of};
 ghost use Rattle.snap_report.specs.Orders.{HasLine, calls_numbered};
-ghost use Rattle.snap_report.specs.Reports.{count_line, has_no_fault, has_no_local_fault, has_no_stale_view, report_text, verdict_line};
+ghost use Rattle.snap_report.specs.Reports.{count_line, has_no_fault, has_no_local_fault, has_no_stale_view, report_text, verdict_line, verdict_lines};
 
 use crate::faults::put_faults;
 use crate::order::put_order;
@@ -45,6 +45,15 @@ fn put_verdicts(out: &mut Vec<u8>, tally: &Tally) -> Result<(), AllocError>
     put_verdict(out, b"regular", is_regular(tally))?;
     put_verdict(out, b"monotone", is_monotone(tally))?;
     put_verdict(out, b"atomic", is_atomic(tally))
+}
+
+/// The lines of the three verdicts alone, by the tally of the faults of a history.
+pub fn verdict_text(alloc: Global, tally: &Tally) -> Result<Vec<u8>, AllocError>
+    ensures { IfOk result (λ text. text.items ≡ text_of (verdict_lines (has_no_local_fault tally.now) (has_no_stale_view tally.now) (has_no_fault tally.now))) }
+{
+    let mut out = Vec::new(alloc);
+    put_verdicts(&mut out, tally)?;
+    Ok(out)
 }
 
 /// The report of a history by the tally of its faults, one line for each kind that has some, or by an order of its calls,

@@ -28,11 +28,11 @@ use Rattle.snap_order.proofs.Laws.{atomic_exactly, prints_legal_order}
 use Rattle.snap_order.proofs.Numbers.{order_picked}
 use Rattle.snap_order.proofs.Printed.{in_printed}
 use Rattle.snap_report.specs.Orders.{HasLine, calls_numbered}
-use Rattle.snap_report.specs.Reports.{finding_lines, has_no_fault, has_no_local_fault, has_no_stale_view, report_lines, report_text}
+use Rattle.snap_report.specs.Reports.{finding_lines, has_no_fault, has_no_local_fault, has_no_stale_view, report_lines, report_text, verdict_lines}
 use Rattle.snap_report.specs.Lines.{Line, text_of}
 use Rattle.snap_verdict.specs.declared.status.Status.{Status}
 use Rattle.snap_verdict.specs.Statuses.{status_of}
-use Rattle.snap_verdict.specs.Verdicts.{IsVerdict, findings}
+use Rattle.snap_verdict.specs.Verdicts.{IsBriefVerdict, IsVerdict, findings}
 
 -- ---- counts and tests
 
@@ -141,3 +141,18 @@ pub verdict_by : (es : List Event) (t : Tally) → IsTallied es t → (order : O
 verdict_by es t w None given h status out s o = verdict_is es t w None (λ u. absurd (cc)) (λ u. refl) status out s o
 verdict_by es t w (Some numbers) given h status out s o =
     verdict_is es t w (Some (calls_numbered (calls_of es) numbers.now)) (λ u. ap Some (calls_of_order es numbers.now (h numbers refl))) (λ u. absurd (cc)) status out s o
+
+-- ---- the verdict, whatever of its report is written
+
+abbrev pub order_by : List Event → Bool → Option (List Call)
+order_by es true = Some (printed_order (calls_of es))
+order_by es false = None
+
+pub has_status : (es : List Event) (t : Tally) → IsTallied es t → (status : Status) → status ≡ status_of (has_no_local_fault t) (has_no_fault t) → IsVerdict es status (report_text es t (order_by es (has_no_fault t)))
+has_status es t w status s = verdict_is es t w (order_by es (has_no_fault t)) (λ e. ap (order_by es) e) (λ e. ap (order_by es) e) status (report_text es t (order_by es (has_no_fault t))) s refl
+
+pub brief_verdict : (es : List Event) (t : Tally) → IsTallied es t → (status : Status) (out : List ℕ) → status ≡ status_of (has_no_local_fault t) (has_no_fault t) →
+    out ≡ text_of (verdict_lines (has_no_local_fault t) (has_no_stale_view t) (has_no_fault t)) → IsBriefVerdict es status out
+unfolding verdict_is has_status
+brief_verdict es t w status out s o =
+    record { report = report_text es t (order_by es (has_no_fault t)); verdict = has_status es t w status s; writes = o }

@@ -9,7 +9,7 @@ use Rattle.snap_conditions.specs.Tally.{tally_of}
 use Rattle.snap_order.specs.Levels.{printed_order}
 use Rattle.snap_report.specs.Faults.{fault_lines}
 use Rattle.snap_report.specs.Lines.{Line, text_of}
-use Rattle.snap_report.specs.Reports.{order_lines, report_lines}
+use Rattle.snap_report.specs.Reports.{order_lines, report_lines, verdict_lines}
 use Rattle.snap_verdict.specs.declared.status.Status.{Status}
 use Rattle.snap_verdict.specs.Statuses.{status_of}
 
@@ -35,3 +35,13 @@ pub record IsVerdict (events : List Event) (status : Status) (out : List ℕ) : 
   pub legal : IsTrue atomic → IsLegalOrder (calls_of events) (printed_order (calls_of events))
   pub answers : status ≡ status_of regular atomic
   pub writes : out ≡ text_of (report_lines events regular monotone atomic (findings atomic (calls_of events)))
+
+-- the status of a history, whatever is written of it
+abbrev pub HasStatus : List Event → Status → Type 0
+HasStatus events status = (report : List ℕ) × IsVerdict events status report
+
+-- the status of a history, and of its report the lines of the verdicts alone
+pub record IsBriefVerdict (events : List Event) (status : Status) (out : List ℕ) : Type 0 where
+  pub report : List ℕ
+  pub verdict : IsVerdict events status report
+  pub writes : out ≡ text_of (verdict_lines verdict.regular verdict.monotone verdict.atomic)

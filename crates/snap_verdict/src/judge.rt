@@ -4,7 +4,7 @@ ghost use Rattle.snap_core.specs.Calls.{calls_of, views_of};
 ghost use Rattle.snap_conditions.specs.Tally.{tally_of};
 ghost use Rattle.snap_order.specs.Levels.{printed_order};
 ghost use Rattle.snap_report.specs.Reports.{has_no_fault};
-ghost use Rattle.snap_verdict.specs.Verdicts.{IsVerdict};
+ghost use Rattle.snap_verdict.specs.Verdicts.{HasStatus, IsBriefVerdict, IsVerdict};
 ghost use Rattle.snap_verdict.specs.Reports.{IsReport};
 
 use crate::status::{Status, status_by};
@@ -13,7 +13,7 @@ use snap_core::History;
 use snap_csv::{ReadRefusal, read_text};
 use snap_index::Index;
 use snap_order::build_alone;
-use snap_report::{refusal_text, report_in};
+use snap_report::{refusal_text, report_in, verdict_text};
 use std::alloc::{AllocError, Global};
 
 /// The status and the report of a history, by its index, the tally of all its completed views, and the numbers of its printed
@@ -33,6 +33,32 @@ pub fn verdict_of(
     // what is known of the history that the index is of
     let _events = index.event_count();
     let text = report_in(room, index, tally, order)?;
+    Ok((status_by(tally), text))
+}
+
+/// The status of a history, by its index and the tally of all its completed views.
+pub fn status_of(index: &Index<'_>, tally: &Tally) -> Status
+    requires tally { tally.now ≡ tally_of (calls_of index.now) (views_of (calls_of index.now)) }
+    ensures { HasStatus index.now result }
+{
+    // what is known of the history that the index is of
+    let _events = index.event_count();
+    status_by(tally)
+}
+
+/// The status of a history, and of its report the lines of the verdicts alone, by its index and the tally of all its completed
+/// views.
+pub fn brief_verdict_of(
+    alloc: Global,
+    index: &Index<'_>,
+    tally: &Tally,
+) -> Result<(Status, Vec<u8>), AllocError>
+    requires tally { tally.now ≡ tally_of (calls_of index.now) (views_of (calls_of index.now)) }
+    ensures { IfOk result (λ answer. IsBriefVerdict index.now answer.0 answer.1.items) }
+{
+    // what is known of the history that the index is of
+    let _events = index.event_count();
+    let text = verdict_text(alloc, tally)?;
     Ok((status_by(tally), text))
 }
 

@@ -5,7 +5,7 @@ mod judge;
 mod law;
 mod status;
 
-pub use judge::{judge_text, verdict_alone, verdict_of};
+pub use judge::{brief_verdict_of, judge_text, status_of, verdict_alone, verdict_of};
 pub use law::one_report;
 pub use status::Status;
 

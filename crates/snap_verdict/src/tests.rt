@@ -1,5 +1,8 @@
-//! The status and the report of worked texts, judged on the calling thread.
-use crate::{Status, judge_text};
+//! The status of worked texts, and the report or the lines of the verdicts, judged on the calling thread.
+use crate::{Status, brief_verdict_of, judge_text, status_of};
+use snap_conditions::tally_range;
+use snap_csv::read_text;
+use snap_index::Index;
 use std::test::Fail;
 
 // Texts, how each is judged, and its report.
@@ -34,6 +37,41 @@ fn each_worked_text_has_its_status_and_report(rt: HostRuntime) -> Result<(), Fai
         let (found, out) = judge_text(rt.alloc(), text.as_bytes())?;
         assert_eq!(rt; found, *status);
         assert_eq!(rt; str::from_utf8(&out)?, *report);
+    }
+    Ok(())
+}
+
+// Texts of histories, how each is judged, and the lines of its verdicts.
+const VERDICTS: &[(&str, Status, &str)] = &[
+    (
+        "event,process,op,data\n",
+        Status::Atomic,
+        "regular yes\nmonotone yes\natomic yes\n",
+    ),
+    (
+        "event,process,op,data\nbegin,0,update,0:1:7\nbegin,1,view,\nend,1,view,0:1:7\nbegin,2,view,\n\
+         end,2,view,\nend,0,update,\n",
+        Status::Regular,
+        "regular yes\nmonotone no\natomic no\n",
+    ),
+    (
+        "event,process,op,data\nbegin,0,update,0:1:7\nend,0,update,\nbegin,1,view,\nend,1,view,\n",
+        Status::Irregular,
+        "regular no\nmonotone yes\natomic no\n",
+    ),
+];
+
+#[test]
+fn each_history_has_its_status_and_its_verdicts(rt: HostRuntime) -> Result<(), Fail> {
+    let alloc = rt.alloc();
+    for (text, status, verdicts) in VERDICTS {
+        let history = read_text(alloc, text.as_bytes())?;
+        let index = Index::build(alloc, &history)?;
+        let tally = tally_range(&index, 0, index.view_count());
+        let (found, out) = brief_verdict_of(alloc, &index, &tally)?;
+        assert_eq!(rt; found, *status);
+        assert_eq!(rt; str::from_utf8(&out)?, *verdicts);
+        assert_eq!(rt; status_of(&index, &tally), *status);
     }
     Ok(())
 }

@@ -1,4 +1,4 @@
-use Rattle.std.proofs.Common.{◌≡◌, ◌++◌, ℕ, List, [], Some, None, Vec, Global, append_assoc, codes, sym, ap, ◌∙◌}
+use Rattle.std.proofs.Common.{◌≡◌, ◌++◌, ℕ, List, Vec, Global, append_assoc, codes, sym, ap, ◌∙◌}
 use Rattle.std.specs.Option.{option_copied, option_map}
 use Rattle.snap_core.specs.Calls.{calls_of}
 use Rattle.snap_report.specs.Faults.{fault_lines}
