@@ -4,7 +4,7 @@ use Rattle.std.specs.List.{list_any, range_with_len, count_by}
 
 -- the number of a row in a column
 abbrev pub number : List ℕ → ℕ → ℕ
-number column row = get_or column row 0
+number column place = get_or column place 0
 
 -- the first number is greater than the second, or less
 abbrev pub passes : Bool → ℕ → ℕ → Bool

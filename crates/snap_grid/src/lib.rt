@@ -6,6 +6,8 @@ mod bounds;
 mod column;
 mod grid;
 mod masks;
+#[cfg(test)]
+mod tests;
 
 pub use bounds::Bounds;
 pub use column::Column;
