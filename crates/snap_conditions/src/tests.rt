@@ -17,7 +17,7 @@ use std::test::Fail;
 mod chains;
 mod histories;
 
-// Each of these ranges of views of a history, from one place to before another, has this tally.
+// Each of these ranges of views of a history, from one place to before another, has this tally, with a grid and without.
 fn expect(
     rt: &impl Abort,
     alloc: Global,
@@ -26,9 +26,11 @@ fn expect(
 ) -> Result<(), Fail> {
     let history = history_of(alloc, steps)?;
     let index = Index::build(alloc, &history)?;
+    let grid = ViewGrid::build(alloc, &index)?;
     for &(from, to, tally) in known {
         assert!(rt; from <= to && to <= index.view_count());
         assert_eq!(rt; tally_range(&index, from, to), tally, "{from}..{to}");
+        assert_eq!(rt; grid.tally(alloc, from, to)?, tally, "{from}..{to}");
     }
     Ok(())
 }
@@ -198,4 +200,82 @@ fn an_atomic_run_and_an_empty_range_have_no_fault(rt: HostRuntime) -> Result<(),
     assert!(rt; is_atomic(&Tally::none()));
     expect(&rt, rt.alloc(), ATOMIC_RUN, &[(0, 2, Tally::none())])?;
     expect(&rt, rt.alloc(), CROSSED_VIEWS, &[(1, 1, Tally::none())])
+}
+
+#[test]
+fn the_last_view_of_a_block_is_compared_with_all_of_the_next(rt: HostRuntime) -> Result<(), Fail> {
+    let mut steps = Vec::new(rt.alloc());
+    for step in [
+        Step::Update(0, (0, 1, 7)),
+        Step::Updated(0),
+        Step::Update(0, (0, 2, 8)),
+    ] {
+        steps.push(step)?;
+    }
+    for place in 0..128 {
+        steps.push(Step::View(1))?;
+        steps.push(Step::Viewed(
+            1,
+            if place == 63 {
+                &[(0, 2, 8)]
+            } else {
+                &[(0, 1, 7)]
+            },
+        ))?;
+    }
+    let going_back = Tally {
+        read: one(ReadFault {
+            view: 65,
+            other: 66,
+            component: 0,
+        })
+        .counted(64),
+        stale: 64,
+        ..Tally::none()
+    };
+    let known = [
+        (0, 128, going_back),
+        (63, 64, going_back),
+        (0, 63, Tally::none()),
+        (64, 128, Tally::none()),
+    ];
+    expect(&rt, rt.alloc(), &steps, &known)
+}
+
+#[test]
+fn a_number_above_that_of_each_update_is_compared_too(rt: HostRuntime) -> Result<(), Fail> {
+    let steps = [
+        Step::Update(0, (0, 1, 7)),
+        Step::Updated(0),
+        Step::View(1),
+        Step::Viewed(1, &[(0, 9, 7)]),
+        Step::View(1),
+        Step::Viewed(1, &[(0, 1, 7)]),
+        Step::View(1),
+        Step::Viewed(1, &[(0, 9, 7)]),
+    ];
+    let first_wrong = IntegrityFault {
+        view: 1,
+        entry: entry(0, 9, 7),
+    };
+    let last_wrong = IntegrityFault {
+        view: 3,
+        entry: entry(0, 9, 7),
+    };
+    let newer = ReadFault {
+        view: 1,
+        other: 2,
+        component: 0,
+    };
+    let all = Tally {
+        integrity: one(first_wrong).counted(2),
+        stale: 1,
+        ..one_read(newer)
+    };
+    let known = [
+        (0, 3, all),
+        (1, 2, Tally::none()),
+        (2, 3, one_integrity(last_wrong)),
+    ];
+    expect(&rt, rt.alloc(), &steps, &known)
 }
