@@ -1,16 +1,16 @@
 -- Views sorted by their sums are a chain exactly where each shows no more than the next.
-use Rattle.std.proofs.Common.{◌≡◌, ◌≢◌, ℕ, zero, suc, ◌+◌, ◌-◌, ◌<◌, ◌≤◌, true, false, List, [], ◌∷◌, map, length, get_or, eqb, refl, sym, ap, ◌∙◌, subst, inl, inr, arith}
+use Rattle.std.proofs.Common.{◌≡◌, ℕ, zero, suc, ◌+◌, ◌-◌, ◌<◌, ◌≤◌, false, List, [], ◌∷◌, map, length, get_or, eqb, refl, sym, ap, ◌∙◌, subst, inl, inr, arith}
 use Rattle.std.specs.List.{All, AllPairs, Contains, IsDistinct, range_with_len}
 use Rattle.std.specs.List.Sorted.{IsPermutation, IsSorted}
 use Rattle.std.proofs.lemmas.Bool.{false_from_ne_true, false≢true, cases_lt, ne_eqb}
 use Rattle.std.proofs.lemmas.List.{get_or_default, get_or-map, length-map}
 use Rattle.std.proofs.lemmas.List.Elements.{All-map}
 use Rattle.std.proofs.lemmas.List.FromFn.{get_or-range_with_len, length-range_with_len, length-map-range_with_len, get_or-map-range_with_len}
-use Rattle.std.proofs.lemmas.List.Sorted.{All-permutation, Contains-permutation, IsPermutation-map, length_permutation}
+use Rattle.std.proofs.lemmas.List.Sorted.{All-permutation, Contains-permutation, IsPermutation-map}
 use Rattle.std.proofs.lemmas.Map.Keys.{IsDistinct-from_apart}
 use Rattle.snap_core.specs.declared.event.Event.{Event}
 use Rattle.snap_core.specs.Events.{IsKept}
-use Rattle.snap_core.specs.Calls.{Call, calls_of, views_of, entries_of, shown_number, nobody}
+use Rattle.snap_core.specs.Calls.{Call, calls_of, views_of, shown_number, nobody}
 use Rattle.snap_core.specs.Regular.{IsViewOf}
 use Rattle.snap_core.proofs.Fits.{bytes_of_events}
 use Rattle.snap_core.proofs.Lists.{In-get_or, Contains-from_In}
@@ -22,7 +22,7 @@ use Rattle.snap_conditions.proofs.Exceeding.{exceeds_not, not_exceeds}
 use Rattle.snap_conditions.proofs.Quick.{smaller}
 use Rattle.snap_conditions.proofs.Reports.{byte_views}
 use Rattle.snap_conditions.proofs.SortedKeys.{key_cmp, seconds, keys_rise}
-use Rattle.snap_conditions.proofs.Tallies.{from_views, in_views, in_range}
+use Rattle.snap_conditions.proofs.Tallies.{from_views, in_views}
 
 pub sum_in : (calls : List Call) (sums : List ℕ) (place : ℕ) (d : ℕ) → AreViewSums calls sums → place < length (views_of calls) → get_or sums place d ≡ shown_sum (view_in calls place)
 sum_in calls sums place d h l = ap (λ z. get_or z place d) h ∙ get_or-map shown_sum (views_of calls) place nobody d l

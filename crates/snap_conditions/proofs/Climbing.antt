@@ -1,5 +1,5 @@
 -- A row into which the numbers of a view are taken, entry by entry.
-use Rattle.std.proofs.Common.{◌≡◌, ℕ, zero, suc, ◌+◌, ◌<◌, ◌≤◌, ◌↔◌, true, List, replicate, set, length, get_or, min, eqb, refl, sym, ap, ◌∙◌, inl, inr, arith, get_or-set_same, get_or-set_other, length-set}
+use Rattle.std.proofs.Common.{◌≡◌, ℕ, zero, suc, ◌+◌, ◌<◌, ◌≤◌, ◌↔◌, true, List, replicate, set, length, get_or, min, refl, sym, ap, ◌∙◌, inl, inr, arith, get_or-set_same, get_or-set_other, length-set}
 use Rattle.std.specs.Prelude.{◌==◌, ◌⊎◌}
 use Rattle.std.specs.List.{All, sum_by, range_with_len}
 use Rattle.std.proofs.Math.Nat.{min-le_left, min-le_right}
@@ -12,7 +12,6 @@ use Rattle.snap_core.specs.Entries.{AreEntries, number_in}
 use Rattle.snap_core.specs.Events.{IsKept}
 use Rattle.snap_core.specs.Calls.{Call, calls_of, entries_of, shown_number}
 use Rattle.snap_conditions.specs.Chains.{IsSummed, Climbs}
-use Rattle.snap_conditions.specs.Faults.{components}
 use Rattle.snap_conditions.specs.Quick.{shown_sum}
 use Rattle.snap_conditions.specs.Seen.{view_in}
 use Rattle.snap_conditions.specs.Rows.{number_among, row_number, sum_below, AreNumbersOf}

@@ -9,8 +9,6 @@ use Rattle.snap_core.specs.declared.event.Event.{Event}
 use Rattle.snap_core.specs.Calls.{Call, calls_of, views_of, nobody}
 use Rattle.snap_grid.specs.Columns.{GridValue, clashes, clash_count, has_clash, rows_of, drops, drop_count}
 use Rattle.snap_conditions.specs.Faults.{read_fault, read_faults, first_of, is_stale, stale_count}
-use Rattle.snap_conditions.specs.PartValue.{PartValue}
-use Rattle.snap_conditions.specs.Parts.{part_of, no_part}
 use Rattle.snap_conditions.specs.Seen.{view_in}
 use Rattle.snap_conditions.specs.Tally.{views_between}
 use Rattle.snap_conditions.specs.Grids.{IsGridOf}

@@ -7,7 +7,7 @@ use Rattle.std.proofs.Math.Seq.{get_or-append_seam}
 use Rattle.snap_core.specs.declared.entry.Entry.{Entry}
 use Rattle.snap_core.specs.declared.event.Event.{Event}
 use Rattle.snap_core.specs.Events.{IsKept}
-use Rattle.snap_core.specs.Calls.{Call, calls_of, views_of, entries_of, shown_number, precedes, is_before}
+use Rattle.snap_core.specs.Calls.{Call, calls_of, views_of, entries_of, shown_number, precedes}
 use Rattle.snap_grid.specs.Columns.{GridValue, number, clashes, any_passes, passes, drops}
 use Rattle.snap_grid.proofs.Passing.{any_at}
 use Rattle.snap_conditions.specs.Faults.{exceeds, is_stale, read_fault}

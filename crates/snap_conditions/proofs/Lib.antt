@@ -30,3 +30,4 @@ pub mod Climbing
 pub mod Ordering
 mod Worked
 mod Surrounded
+pub mod Rising

@@ -1,14 +1,12 @@
 -- How many views are stale to others, and what none says.
 use mir.Val.{bool_byte}
-use Rattle.std.proofs.Common.{◌≡◌, ℕ, suc, ◌+◌, ◌*◌, ◌<◌, ◌≤◌, get_or, take, ◌↔◌, Bool, true, false, cond, ◌&&◌, ◌||◌, List, [], ◌∷◌, ◌++◌, length, map, refl, sym, ap, ◌∙◌, inl, inr, arith}
-use Rattle.std.specs.List.{count_by, filter, flat_map, sum_by}
-use Rattle.std.proofs.lemmas.Bool.{and_parts, false≢true, false_from_ne_true}
+use Rattle.std.proofs.Common.{◌≡◌, ℕ, ◌+◌, ◌*◌, ◌<◌, ◌≤◌, get_or, take, Bool, true, false, cond, ◌&&◌, ◌||◌, List, [], ◌∷◌, ◌++◌, length, map, refl, sym, ap, ◌∙◌, inl, inr, arith}
+use Rattle.std.specs.List.{count_by, filter, sum_by}
+use Rattle.std.proofs.lemmas.Bool.{false≢true, false_from_ne_true}
 use Rattle.std.proofs.lemmas.List.Sums.{count_by-le-length, count_by_more_no, count_by_more_yes, length-filter, sum_by-append, sum_by-cons}
 use Rattle.snap_core.specs.Calls.{Call, precedes, shown_number, views_of}
 use Rattle.snap_core.specs.Monotone.{IsMonotone}
-use Rattle.snap_core.specs.Regular.{IsViewOf}
 use Rattle.snap_core.proofs.Lists.{In}
-use Rattle.snap_conditions.specs.declared.tally.Tally.{Tally}
 use Rattle.snap_conditions.specs.Faults.{exceeds, is_stale, read_fault, read_faults, stale_count}
 use Rattle.snap_conditions.specs.Laws.{MonotoneByTally, MonotoneWithoutReadFault}
 use Rattle.snap_conditions.specs.Tally.{tally_of}

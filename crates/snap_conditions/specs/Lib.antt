@@ -13,3 +13,4 @@ pub mod Around
 pub mod Limits
 pub mod Chains
 pub mod Sweeps
+pub mod Rising

@@ -1,6 +1,7 @@
 ghost use Rattle.std.specs.Prelude.{List};
 ghost use Rattle.snap_core.specs.Calls.{Call};
 ghost use Rattle.snap_conditions.specs.Quick.{NoReadFaultExactly};
+ghost use Rattle.snap_conditions.specs.Rising.{FaultsRiseAlways, UpdatesAreAlone};
 ghost use Rattle.snap_conditions.specs.Laws.{RegularExactly, ConditionsExactly, FaultsJoin, ReadFaultHasComponent, TalliesJoin, TalliesFit, RegularByTally, ConditionsByTally, NoFaultByTally, MonotoneByTally, MonotoneWithoutReadFault};
 
 /// A history is regular exactly where no view has a fault of its own.
@@ -44,6 +45,16 @@ pub fn monotone_by_tally()
 /// A history without a read fault is monotone.
 pub fn monotone_without_read_fault()
     ensures { MonotoneWithoutReadFault }
+{}
+
+/// The faults of each kind, in the order of a report, rise strictly: none stands twice, and the first is the least.
+pub fn faults_rise()
+    ensures { FaultsRiseAlways }
+{}
+
+/// An update of a component and a number is the only one.
+pub fn updates_are_alone()
+    ensures { UpdatesAreAlone }
 {}
 
 /// There is no read fault exactly where of any two completed views one shows no component above the other's, and none

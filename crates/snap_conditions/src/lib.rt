@@ -23,9 +23,9 @@ mod write;
 
 pub use fault::{IntegrityFault, ProximityFault, ReadFault, Side, WriteFault};
 pub use law::{
-    conditions_by_faults, conditions_by_tally, faults_join, monotone_by_tally,
+    conditions_by_faults, conditions_by_tally, faults_join, faults_rise, monotone_by_tally,
     monotone_without_read_fault, no_read_fault_by_sums, regular_by_local_faults, regular_by_tally,
-    tallies_join,
+    tallies_join, updates_are_alone,
 };
 pub use part::Part;
 pub use quick_test::{entries_sum, view_sum, view_sums};

@@ -5,20 +5,12 @@ use Rattle.snap_core.specs.Calls.{Call}
 use Rattle.snap_order.specs.Levels.{is_printed, printed_order}
 use Rattle.snap_conditions.specs.Chains.{KeyLess}
 use Rattle.snap_order.specs.Keys.{key_of, AreSortedKeys}
-use Rattle.snap_core.proofs.Lists.{In, In-from_Contains, Contains-from_In, Pairs, Pairs-from_AllPairs, In-filter, In-from_filter}
+use Rattle.snap_core.proofs.Lists.{In, In-from_Contains, Contains-from_In, Pairs-from_AllPairs, In-filter, In-from_filter}
 use Rattle.snap_core.proofs.Facts.{AreCalls}
+use Rattle.snap_conditions.proofs.Rising.{in_map_from, pairs_map}
 use Rattle.snap_conditions.proofs.Tallies.{in_map}
 use Rattle.snap_order.proofs.Printed.{in_printed, to_printed, printed_pairs}
 use Rattle.snap_order.proofs.Unique.{same_list}
-
-pub in_map_from : {X Y : Type 0} (f : X → Y) (xs : List X) (y : Y) → In y (map f xs) → (x : X) × In x xs × (f x ≡ y)
-in_map_from f [] y i = absurd i
-in_map_from f (x ∷ xs) y (inl e) = (x, inl refl, e)
-in_map_from f (x ∷ xs) y (inr i) = let r = in_map_from f xs y i in (r.0, inr r.1, r.2)
-
-pub pairs_map : {X Y : Type 0} (R : Y → Y → Type 0) (f : X → Y) (xs : List X) → Pairs (λ a b. R (f a) (f b)) xs → Pairs R (map f xs)
-pairs_map R f [] p = tt
-pairs_map R f (x ∷ xs) p = (λ y i. let r = in_map_from f xs y i in subst (R (f x)) r.2 (p.0 r.0 r.1), pairs_map R f xs p.1)
 
 map_map : {X Y Z : Type 0} (g : Y → Z) (f : X → Y) (xs : List X) → map g (map f xs) ≡ map (λ x. g (f x)) xs
 map_map g f [] = refl

@@ -11,7 +11,7 @@ use Rattle.snap_core.specs.Calls.{nobody}
 use Rattle.snap_core.proofs.Lists.{In, In-from_Contains, Contains-from_In, In-append_left, In-get_or, Pairs-left, Pairs-from_AllPairs, AllPairs-from_Pairs}
 use Rattle.snap_order.proofs.Starts.{start_back, start_of_order, order_from_start}
 use Rattle.snap_conditions.proofs.Tallies.{in_map}
-use Rattle.snap_order.proofs.Keys.{in_map_from}
+use Rattle.snap_conditions.proofs.Rising.{in_map_from}
 
 -- a call's place in the list is its number
 abbrev pub AreNumbered : List Call → Type 0

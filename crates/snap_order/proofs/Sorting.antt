@@ -11,7 +11,7 @@ use Rattle.snap_core.proofs.Facts.{AreCalls}
 use Rattle.snap_conditions.proofs.SortedKeys.{key_cmp, seconds, keys_rise}
 use Rattle.snap_order.specs.Levels.{is_printed}
 use Rattle.snap_order.specs.Keys.{key_of, printed_keys, AreSortedKeys}
-use Rattle.snap_order.proofs.Keys.{pairs_map}
+use Rattle.snap_conditions.proofs.Rising.{pairs_map}
 
 -- no two printed calls have one number
 printed_apart : (calls : List Call) → AreCalls calls → IsDistinct eqb (seconds (printed_keys calls))

@@ -17,7 +17,7 @@ use Rattle.snap_order.specs.Shown.{component_count}
 use Rattle.snap_order.specs.Stands.{MayStand, SeesCompleted}
 use Rattle.snap_order.proofs.Last.{Writes, last_written-append, last_written_none}
 use Rattle.snap_order.proofs.Starts.{start_push, start_nil}
-use Rattle.snap_order.proofs.Keys.{in_map_from}
+use Rattle.snap_conditions.proofs.Rising.{in_map_from}
 use Rattle.snap_order.proofs.Numbers.{AreNumbered, picks, picked-more, legal_next, legal_number, legal_completed, legal_list, placed_call}
 
 -- the components of all updates and entries are bytes

@@ -1,7 +1,6 @@
-use Rattle.std.proofs.Common.{◌≡◌, ◌<◌, ◌↔◌, ◌&&◌, ◌||◌, ℕ, Bool, true, false, List, refl, sym, ap, ◌∙◌, arith}
+use Rattle.std.proofs.Common.{◌≡◌, ◌↔◌, ◌&&◌, ◌||◌, ℕ, Bool, true, false, List, refl, sym, ap, ◌∙◌}
 use Rattle.std.specs.Prelude.{IsTrue}
-use Rattle.snap_core.specs.Calls.{Call, is_before, shown_number}
-use Rattle.snap_index.specs.declared.call.Call.{Call as BareCall}
+use Rattle.snap_core.specs.Calls.{Call, is_before}
 use Rattle.snap_conditions.specs.declared.seen.SeenView.{SeenView}
 use Rattle.snap_conditions.specs.declared.row.Excess.{Excess}
 use Rattle.snap_conditions.specs.Faults.{read_fault}

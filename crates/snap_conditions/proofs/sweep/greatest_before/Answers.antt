@@ -1,8 +1,8 @@
-use Rattle.std.proofs.Common.{◌≡◌, ◌+◌, ◌-◌, ◌<◌, ◌∙◌, ℕ, length, set, get_or, max, sym, ap, subst, arith}
+use Rattle.std.proofs.Common.{◌≡◌, ◌+◌, ◌-◌, ◌<◌, ◌∙◌, length, set, get_or, max, sym, subst, arith}
 use Rattle.std.proofs.lemmas.List.{length-set, get_or_default}
 use Rattle.snap_core.specs.Calls.{calls_of, views_of}
 use Rattle.snap_conditions.specs.Sweeps.{IsSwept}
-use Rattle.snap_conditions.proofs.Ordering.{first_swept, place_swept}
+use Rattle.snap_conditions.proofs.Ordering.{place_swept}
 use Rattle.snap_conditions.proofs.sweep.greatest_before.Goals as goal
 
 pub loop-place-preserved : goal.loop-place-preserved

@@ -1,7 +1,7 @@
-use Rattle.std.proofs.Common.{◌≡◌, ◌+◌, ◌<◌, ◌≤◌, ◌∙◌, ℕ, length, get_or, refl, sym, ap, subst, inl, inr, arith}
+use Rattle.std.proofs.Common.{◌≡◌, ◌<◌, ◌≤◌, ◌∙◌, length, get_or, refl, ap, subst, inl, inr, arith}
 use Rattle.std.proofs.lemmas.Bool.{false≢true, cases_lt}
 use Rattle.std.proofs.lemmas.List.{get_or_default}
-use Rattle.snap_core.specs.Calls.{Call, calls_of, views_of}
+use Rattle.snap_core.specs.Calls.{calls_of, views_of}
 use Rattle.snap_index.specs.declared.call.Call.{Call as Bare}
 use Rattle.snap_conditions.specs.Quick.{shown_sum}
 use Rattle.snap_conditions.specs.Seen.{view_in}

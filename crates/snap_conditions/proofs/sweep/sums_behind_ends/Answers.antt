@@ -1,11 +1,11 @@
-use Rattle.std.proofs.Common.{◌≡◌, ◌+◌, ◌<◌, ◌∙◌, ℕ, Some, length, set, get_or, max, sym, ap, subst, arith}
+use Rattle.std.proofs.Common.{◌≡◌, ◌+◌, ◌<◌, ◌∙◌, Some, length, set, get_or, max, sym, ap, subst, arith}
 use Rattle.std.proofs.lemmas.List.{length-set, get_or_default}
-use Rattle.snap_core.specs.Calls.{Call, calls_of, views_of}
+use Rattle.snap_core.specs.Calls.{calls_of, views_of}
 use Rattle.snap_index.specs.declared.call.Call.{Call as Bare}
 use Rattle.snap_conditions.specs.Seen.{view_in}
 use Rattle.snap_conditions.specs.Sweeps.{IsSwept}
 use Rattle.snap_conditions.proofs.Chains.{sum_in, view_is}
-use Rattle.snap_conditions.proofs.Ordering.{nothing_swept, view_swept, view_places}
+use Rattle.snap_conditions.proofs.Ordering.{view_swept, view_places}
 use Rattle.snap_conditions.proofs.sweep.sums_behind_ends.Goals as goal
 use Rattle.snap_conditions.proofs.sweep.sums_behind_ends.Goals.{in-Some, in_default}
 

@@ -1,4 +1,4 @@
-use Rattle.std.proofs.Common.{◌≡◌, ◌<◌, ◌-◌, Option, Some, None, [], ◌∷◌, List, length, refl, sym, ap, subst, ◌∙◌, arith, ◌≤◌, ◌+◌, ℕ, Fits, w32}
+use Rattle.std.proofs.Common.{◌≡◌, ◌<◌, ◌-◌, Option, Some, None, [], ◌∷◌, List, length, refl, sym, ap, subst, ◌∙◌, arith, ◌≤◌, ℕ}
 use Rattle.std.specs.Prelude.{option_map, filter}
 use Rattle.std.specs.List.{range_with_len, sum_by}
 use Rattle.snap_core.specs.declared.event.Event.{Event}
