@@ -1,5 +1,5 @@
 -- What an index keeps of the calls of its history.
-use Rattle.std.specs.Prelude.{ℕ, ◌≡◌, ◌<◌, List, [], length, map, count_by, get_or}
+use Rattle.std.specs.Prelude.{ℕ, ◌≡◌, ◌<◌, ◌-◌, ◌++◌, List, [], length, replicate, map, count_by, get_or}
 use Rattle.std.specs.declared.alloc.Global.{Global}
 use Rattle.std.specs.declared.vec.Vec.{Vec}
 use Rattle.snap_core.specs.Calls.{calls_of, views_of}
@@ -13,6 +13,10 @@ use Rattle.snap_index.specs.Updates.{updates_of, is_pending}
 
 abbrev pub rows : {T : Type 0} → List (Vec T Global) → List (List T)
 rows table = map (λ row. row.items) table
+
+-- a list for each of the 256 components, where none is kept for the last of them
+abbrev pub padded : {A : Type 0} → List (List A) → List (List A)
+padded rows = rows ++ replicate (256 - length rows) []
 
 -- the call numbers of the views, those of the updates of each component, what these write, and how many calls are pending
 pub record AreTables (calls : List SpecCall) (views : List ℕ) (updates : List (List ℕ)) (writes : List (List Write)) (pending : ℕ) : Type 0 where

@@ -45,8 +45,8 @@ impl<'h> Index<'h> {
     {
         let calls = list_calls(alloc, history.events())?;
         let mut views = Vec::new(alloc);
-        let mut updates = UpdateTable::new(alloc)?;
-        let mut writes = UpdateTable::new(alloc)?;
+        let mut updates = UpdateTable::new(alloc);
+        let mut writes = UpdateTable::new(alloc);
         let mut pending = 0;
         for (c, call) in calls.iter().enumerate() {
             match call.op {

@@ -1,44 +1,56 @@
-ghost use Rattle.std.specs.Prelude.{◌≡◌, ◌<◌, [], ◌∷◌, ◌++◌, IfOk, OnOk, get_or, replicate, slice_set};
+ghost use Rattle.std.specs.Prelude.{◌≡◌, ◌≤◌, ◌<◌, [], ◌∷◌, ◌++◌, OnOk, get_or, length, replicate, slice_set};
+ghost use Rattle.snap_index.specs.Tables.{padded, rows};
 
 use std::alloc::{AllocError, Global};
 use std::marker::Model;
 
-const COMPONENT_COUNT: usize = 256;
-
-// What is kept of the updates of each component, in their order.
+// What is kept of the updates of each component, in their order: a list for each component up to the last that has an update.
 #[derive(Drop)]
 pub(crate) struct UpdateTable<T> {
     by_component: Vec<Vec<T>>,
 }
 
 impl<T> Model for UpdateTable<T> {
-    ghost use Rattle.std.specs.Prelude.{◌≡◌, List, length};
+    ghost use Rattle.std.specs.Prelude.{◌≤◌, List, length};
 
     ghost Value = { List (List T) };
 
-    ghost use Rattle.snap_index.specs.Tables.{rows};
+    ghost use Rattle.snap_index.specs.Tables.{padded, rows};
 
-    ghost view = { λ t. rows t.by_component.items };
+    ghost view = { λ t. padded (rows t.by_component.items) };
 
-    ghost invariant = { λ t. length t.by_component.items ≡ 256 };
+    ghost invariant = { λ t. length t.by_component.items ≤ 256 };
+}
+
+// Makes a list of lists as long as component k needs.
+fn make_room<T: Drop>(table: &mut Vec<Vec<T>>, k: u8) -> Result<(), AllocError>
+    requires { length table.old.items ≤ 256 }
+    ensures same { padded (rows table.new.items) ≡ padded (rows table.old.items) }
+    ensures limit { length table.new.items ≤ 256 }
+    ensures room { OnOk result (k < length table.new.items) }
+{
+    let alloc = *table.allocator();
+    while table.len() <= k as usize {
+        table.push(Vec::new(alloc))?;
+    }
+    Ok(())
 }
 
 impl<T: Drop> UpdateTable<T> {
     // No update.
-    pub(crate) fn new(alloc: Global) -> Result<UpdateTable<T>, AllocError>
-        ensures { IfOk result (λ table. table ≡ replicate 256 []) }
+    pub(crate) fn new(alloc: Global) -> UpdateTable<T>
+        ensures { result ≡ replicate 256 [] }
     {
-        let mut by_component = Vec::new(alloc);
-        for _k in 0..COMPONENT_COUNT {
-            by_component.push(Vec::new(alloc))?;
+        UpdateTable {
+            by_component: Vec::new(alloc),
         }
-        Ok(UpdateTable { by_component })
     }
 
     // Puts an update behind those of component k.
     pub(crate) fn put(&mut self, k: u8, update: T) -> Result<(), AllocError>
         ensures { OnOk result (self.new ≡ slice_set self.old k (get_or self.old k [] ++ update ∷ [])) }
     {
+        make_room(&mut self.by_component, k)?;
         self.by_component[k as usize].push(update)?;
         Ok(())
     }
@@ -47,6 +59,9 @@ impl<T: Drop> UpdateTable<T> {
     pub(crate) fn of(&self, k: u8) -> &[T]
         ensures { result.now ≡ get_or self.now k [] }
     {
-        &self.by_component[k as usize]
+        match self.by_component.get(k as usize) {
+            Some(updates) => updates,
+            None => &[],
+        }
     }
 }

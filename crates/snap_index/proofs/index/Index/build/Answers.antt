@@ -12,8 +12,8 @@ use Rattle.snap_index.proofs.index.Index.build.Goals.{in-Update+in_ok-put-in-Upd
 
 pub loop-c-init : goal.loop-c-init
 loop-c-init c =
-    subst (λ z. AreTables (take 0 (calls_of c.args.history.now)) z c.in_ok-updates.updates c.in_ok-writes.writes 0) (sym c.new-views.ensures.items)
-    (none_noted (calls_of c.args.history.now) c.in_ok-updates.updates c.in_ok-writes.writes c.in_ok-updates.ensures c.in_ok-writes.ensures)
+    subst (λ z. AreTables (take 0 (calls_of c.args.history.now)) z c.new-updates.result c.new-writes.result 0) (sym c.new-views.ensures.items)
+    (none_noted (calls_of c.args.history.now) c.new-updates.result c.new-writes.result c.new-updates.ensures c.new-writes.ensures)
 
 pub overflow_cast-c : goal.overflow_cast-c
 overflow_cast-c c =

@@ -1,14 +1,16 @@
-use Rattle.std.proofs.Common.{◌≡◌, ◌++◌, ◌∷◌, [], ℕ, Vec, Global, get_or, set, sym, ap, ◌∙◌, arith}
-use Rattle.std.proofs.lemmas.List.{map-set, get_or-map}
+use Rattle.std.proofs.Common.{◌≡◌, ◌++◌, ◌∷◌, [], Vec, Global, set, get_or, sym, ap, ◌∙◌}
+use Rattle.snap_index.specs.Tables.{padded, rows}
+use Rattle.snap_index.proofs.Padding.{row_read, row_set}
 use Rattle.snap_index.proofs.table.UpdateTable.put.Goals as goal
 
 pub returns : goal.returns
 returns g c =
-    let table = c.self.inside.by_component.items in
+    let table = c.make_room.new.table.items in
     let k = c.args.k in
+    let room = c.in_ok-make_room.ensures.room in
+    let same : padded (rows table) ≡ c.args.self.now = c.in_ok-make_room.ensures.same ∙ c.self.view_is in
     let row : c.index_mut.result.now.items ≡ get_or c.args.self.now k [] =
-    ap (λ (v : Vec _ Global). v.items) c.index_mut.ensures.value ∙ sym (get_or-map (λ (v : Vec _ Global). v.items) table k c.index_mut.result.now [] (omega (arith, c.self.invariant)))
-    ∙ ap (λ z. get_or z k []) c.self.view_is in
-    map-set (λ (v : Vec _ Global). v.items) table k c.push.new.self
-    ∙ ap (λ z. set z k c.push.new.self.items) c.self.view_is
+    ap (λ (v : Vec _ Global). v.items) c.index_mut.ensures.value ∙ sym (row_read table k c.index_mut.result.now room) ∙ ap (λ z. get_or z k []) same in
+    row_set table k c.push.new.self room
+    ∙ ap (λ z. set z k c.push.new.self.items) same
     ∙ ap (set c.args.self.now k) (c.in_ok-push.ensures.items ∙ ap (λ z. z ++ c.args.update ∷ []) row)

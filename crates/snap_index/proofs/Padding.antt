@@ -1,0 +1,34 @@
+-- Tables that are kept as far as they have something.
+use Rattle.std.proofs.Common.{◌≡◌, ◌<◌, ◌+◌, ◌-◌, ◌++◌, ◌∷◌, [], ℕ, suc, List, Vec, Global, length, set, get_or, replicate, sym, ap, ◌∙◌, append_assoc, arith}
+use Rattle.std.proofs.lemmas.List.{map-append, map-set, length-map, length-append, get_or-map, get_or_append_left, set-append_left}
+use Rattle.std.proofs.Common.{length-set}
+use Rattle.snap_index.specs.Tables.{padded, rows}
+
+padded_more : {A : Type 0} (table : List (List A)) → length table < 256 → padded (table ++ [] ∷ []) ≡ padded table
+padded_more table small =
+    append_assoc table ([] ∷ []) (replicate (256 - length (table ++ [] ∷ [])) [])
+    ∙ ap (λ n. table ++ [] ∷ replicate (256 - n) []) (length-append table ([] ∷ []))
+    ∙ ap (λ n. table ++ replicate n []) left
+  where
+    left : suc (256 - (length table + 1)) ≡ 256 - length table
+    left = omega arith
+
+-- a list more, with nothing in it
+pub room_made : {A : Type 0} (table : List (Vec A Global)) (row : Vec A Global) → row.items ≡ [] → length table < 256 → padded (rows (table ++ row ∷ [])) ≡ padded (rows table)
+room_made table row empty small =
+    ap padded (map-append (λ (v : Vec _ Global). v.items) table (row ∷ []))
+    ∙ ap (λ items. padded (rows table ++ items ∷ [])) empty
+    ∙ padded_more (rows table) (rw length-map small)
+
+-- a list that is kept, changed
+pub row_set : {A : Type 0} (table : List (Vec A Global)) (k : ℕ) (row : Vec A Global) → k < length table → padded (rows (set table k row)) ≡ set (padded (rows table)) k row.items
+row_set table k row within =
+    ap padded (map-set (λ (v : Vec _ Global). v.items) table k row)
+    ∙ ap (λ n. set (rows table) k row.items ++ replicate (256 - n) []) (length-set (rows table) k row.items)
+    ∙ sym (set-append_left (rows table) (replicate (256 - length (rows table)) []) k row.items (rw length-map within))
+
+-- a list that is kept, read
+pub row_read : {A : Type 0} (table : List (Vec A Global)) (k : ℕ) (row : Vec A Global) → k < length table → get_or (padded (rows table)) k [] ≡ (get_or table k row).items
+row_read table k row within =
+    get_or_append_left (rows table) (replicate (256 - length (rows table)) []) [] k (rw length-map within)
+    ∙ get_or-map (λ (v : Vec _ Global). v.items) table k row [] within
