@@ -1,11 +1,12 @@
 //! Words of lines.
-ghost use Rattle.std.specs.Prelude.{◌≡◌, ◌+◌, ◌<◌, ◌≤◌, ◌++◌, ◌∷◌, IfOk, OnOk, codes, decimal, drop, length};
+ghost use Rattle.std.specs.Prelude.{◌≡◌, ◌+◌, ◌*◌, ◌≤◌, ◌++◌, IfOk, OnOk, codes, decimal, drop, length};
 ghost use Rattle.std.specs.Bool.{OnTrue};
 ghost use Rattle.std.specs.List.{flat_map};
-ghost use Rattle.snap_report.specs.Lines.{call_word, entry_word, update_word};
+ghost use Rattle.snap_report.specs.Lines.{call_word, entry_word, process_word, update_word};
 
 use itoa::write_digits;
 use snap_core::Entry;
+use snap_csv::{ENTRY_SIZE, write_entry, write_number, write_text};
 use std::alloc::{AllocError, Global};
 
 /// Adds a text, and behind it a number.
@@ -49,6 +50,9 @@ pub(crate) fn put_entry(out: &mut Vec<u8>, text: &[u8], entry: &Entry) -> Result
 // How many entries are put together.
 const GROUP: usize = 16;
 
+// The most bytes that a group takes, each entry behind a space.
+const GROUP_SIZE: usize = 416;
+
 /// Entries that were added, and their words.
 #[derive(Drop)]
 pub(crate) struct Group {
@@ -57,42 +61,21 @@ pub(crate) struct Group {
     ghost spelled: { text.items ≡ flat_map (λ entry. codes " " ++ entry_word entry) entries.items },
 }
 
-// Writes a byte and behind it a number, so that they end at a place, and says where they begin.
-#[inline]
-fn write_number(mark: u8, number: u64, buffer: &mut [u8], end: usize) -> usize
-    requires { (length (decimal number) < end) × (end ≤ length buffer.old) }
-    ensures start { result + (1 + length (decimal number)) ≡ end }
-    ensures written { drop result buffer.new ≡ mark ∷ decimal number ++ drop end buffer.old }
+// Writes entries, each behind a space, so that they end at a place, and says where they begin.
+fn write_entries(entries: &[Entry], buffer: &mut [u8], end: usize) -> usize
+    requires room { 26 * length entries.now ≤ end }
+    requires within { end ≤ length buffer.old }
+    ensures start { (result ≤ end) × (end ≤ result + 26 * length entries.now) }
+    ensures written { drop result buffer.new ≡ flat_map (λ entry. codes " " ++ entry_word entry) entries.now ++ drop end buffer.old }
+    ensures same { length buffer.new ≡ length buffer.old }
 {
-    let at = write_digits(number, buffer, end) - 1;
-    buffer[at] = mark;
+    let mut at = end;
+    let mut i = entries.len();
+    while i > 0 {
+        i -= 1;
+        at = write_entry(b" ", &entries[i], buffer, at);
+    }
     at
-}
-
-// Writes a space and behind it an entry, so that they end at a place, and says where they begin.
-#[inline]
-fn write_entry(entry: &Entry, buffer: &mut [u8], end: usize) -> usize
-    requires { (26 ≤ end) × (end ≤ length buffer.old) }
-    ensures start { (result ≤ end) × (end ≤ result + 26) }
-    ensures written { drop result buffer.new ≡ codes " " ++ entry_word entry.now ++ drop end buffer.old }
-{
-    let at = write_number(b':', u64::from(entry.value), buffer, end);
-    let at = write_number(b':', u64::from(entry.number), buffer, at);
-    write_number(b' ', u64::from(entry.component), buffer, at)
-}
-
-/// Adds a text, and behind it a space and an entry.
-pub(crate) fn put_spaced_entry(
-    out: &mut Vec<u8>,
-    text: &[u8],
-    entry: &Entry,
-) -> Result<(), AllocError>
-    ensures { OnOk result (out.new.items ≡ out.old.items ++ text.now ++ codes " " ++ entry_word entry.now) }
-{
-    out.extend_from_slice(text)?;
-    let mut word = [0u8; 26];
-    let at = write_entry(entry, &mut word, 26);
-    out.extend_from_slice(&word[at..])
 }
 
 // The words of entries, each behind a space.
@@ -100,13 +83,8 @@ fn group_text(alloc: Global, entries: &[Entry]) -> Result<Vec<u8>, AllocError>
     requires { length entries.now ≤ 16 }
     ensures { IfOk result (λ text. text.items ≡ flat_map (λ entry. codes " " ++ entry_word entry) entries.now) }
 {
-    let mut buffer = [0u8; 416];
-    let mut at = buffer.len();
-    let mut i = entries.len();
-    while i > 0 {
-        i -= 1;
-        at = write_entry(&entries[i], &mut buffer, at);
-    }
+    let mut buffer = [0u8; GROUP_SIZE];
+    let at = write_entries(entries, &mut buffer, GROUP_SIZE);
     Vec::from_slice(alloc, &buffer[at..])
 }
 
@@ -147,9 +125,9 @@ fn put_group(
     Ok(())
 }
 
-/// Adds entries, each behind a space. Those of one view are often those of the view before it, so that groups of them are
-/// compared with the groups that were added before.
-pub(crate) fn put_entries(
+// Adds entries, each behind a space. Those of one view are often those of the view before it, so that groups of them are
+// compared with the groups that were added before.
+fn put_groups(
     out: &mut Vec<u8>,
     known: &mut Vec<Group>,
     entries: &[Entry],
@@ -164,4 +142,66 @@ pub(crate) fn put_entries(
         left = rest;
     }
     Ok(())
+}
+
+// The most bytes of a call's line before its last words: its number, its process and ` update `.
+const FRONT_SIZE: usize = 25;
+
+// The most bytes of the line of an update.
+const UPDATE_SIZE: usize = FRONT_SIZE + ENTRY_SIZE + 1;
+
+// Writes the front of a call's line, up to what it does, so that it ends at a place, and says where it begins.
+fn write_front(number: u32, process: u16, does: &[u8], buffer: &mut [u8], end: usize) -> usize
+    requires word { length does.now ≤ 8 }
+    requires room { FRONT_SIZE ≤ end }
+    requires within { end ≤ length buffer.old }
+    ensures start { (result ≤ end) × (end ≤ result + FRONT_SIZE) }
+    ensures written { drop result buffer.new ≡ call_word number ++ codes " " ++ process_word process ++ does.now ++ drop end buffer.old }
+    ensures same { length buffer.new ≡ length buffer.old }
+{
+    let at = write_text(does, buffer, end);
+    let at = write_number(b" p", u64::from(process), buffer, at);
+    write_number(b"", u64::from(number) + 1, buffer, at)
+}
+
+/// Adds the line of an update, in one piece.
+pub(crate) fn put_update_line(
+    out: &mut Vec<u8>,
+    number: u32,
+    process: u16,
+    entry: &Entry,
+) -> Result<(), AllocError>
+    ensures { OnOk result (out.new.items ≡ out.old.items ++ call_word number ++ codes " " ++ process_word process
+        ++ codes " update " ++ entry_word entry.now ++ codes "\n") }
+{
+    let mut line = [0u8; UPDATE_SIZE];
+    let at = write_text(b"\n", &mut line, UPDATE_SIZE);
+    let at = write_entry(b"", entry, &mut line, at);
+    let at = write_front(number, process, b" update ", &mut line, at);
+    out.extend_from_slice(&line[at..])
+}
+
+// Adds the front of the line of a view.
+fn put_view_front(out: &mut Vec<u8>, number: u32, process: u16) -> Result<(), AllocError>
+    ensures { OnOk result (out.new.items ≡ out.old.items ++ call_word number ++ codes " " ++ process_word process ++ codes " view") }
+{
+    let mut front = [0u8; FRONT_SIZE];
+    let at = write_front(number, process, b" view", &mut front, FRONT_SIZE);
+    out.extend_from_slice(&front[at..])
+}
+
+/// Adds the line of a view.
+pub(crate) fn put_view_line(
+    out: &mut Vec<u8>,
+    known: &mut Vec<Group>,
+    number: u32,
+    process: u16,
+    entries: &[Entry],
+) -> Result<(), AllocError>
+    ensures { OnOk result (out.new.items ≡ out.old.items ++ call_word number ++ codes " " ++ process_word process
+        ++ codes " view" ++ flat_map (λ entry. codes " " ++ entry_word entry) entries.now ++ codes "\n") }
+{
+    put_view_front(out, number, process)?;
+    put_groups(out, known, entries)?;
+    out.extend_from_slice(b"\n")
 }

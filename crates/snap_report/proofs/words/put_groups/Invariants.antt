@@ -1,7 +1,7 @@
 use Rattle.std.proofs.Common.{◌≡◌, ◌++◌, ◌≤◌, codes, length}
 use Rattle.std.specs.List.{flat_map}
 use Rattle.snap_report.specs.Lines.{entry_word}
-use Rattle.snap_report.proofs.words.put_entries.Given as goal
+use Rattle.snap_report.proofs.words.put_groups.Given as goal
 
 abbrev pub invariant-loop-left : goal.invariant-loop-left
 invariant-loop-left l = record {

@@ -1,0 +1,20 @@
+use Rattle.std.proofs.Common.{◌+◌, arith}
+use Rattle.std.proofs.lemmas.Fmt.{length-decimal-le}
+use Rattle.snap_report.proofs.words.write_front.Goals as goal
+
+pub write_number-at-requires-clause-room : goal.write_number-at-requires-clause-room
+write_number-at-requires-clause-room c =
+    let process = length-decimal-le 5 c.from.result (omega arith) (omega arith) (omega arith) in
+    omega arith
+
+pub write_number-requires-clause-room : goal.write_number-requires-clause-room
+write_number-requires-clause-room c =
+    let process = length-decimal-le 5 c.from.result (omega arith) (omega arith) (omega arith) in
+    let number = length-decimal-le 10 (c.from-2.result + 1) (omega arith) (omega arith) (omega arith) in
+    omega arith
+
+pub returns-clause-start : goal.returns-clause-start
+returns-clause-start c =
+    let process = length-decimal-le 5 c.from.result (omega arith) (omega arith) (omega arith) in
+    let number = length-decimal-le 10 (c.from-2.result + 1) (omega arith) (omega arith) (omega arith) in
+    (omega arith, omega arith)
