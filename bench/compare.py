@@ -24,7 +24,7 @@ import tempfile
 HERE = os.path.dirname(os.path.abspath(__file__))
 TOP = os.path.dirname(HERE)
 SPLIT = 500
-KINDS = ["atomic", "pending", "reads", "late", "writes"]
+KINDS = ["atomic", "pending", "overlapping", "late", "writes"]
 SHAPES = [(24, 2), (40, 3), (60, 8), (120, 20), (160, 40)]
 NUMBERS = [b"", b"0", b"00", b"01", b"+1", b"-1", b"1", b"2", b"255", b"256", b"65535", b"65536", b"999999999", b"4294967295",
            b"4294967296", b"4294967297", b"9999999999", b"42949672960", b"18446744073709551615", b"18446744073709551616"]

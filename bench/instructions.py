@@ -16,7 +16,7 @@ import tempfile
 
 HERE = os.path.dirname(os.path.abspath(__file__))
 PROGRAM = os.path.join(HERE, "..", "built", "snapjudge")
-HISTORIES = [("atomic", 16384, 8), ("reads", 16384, 8), ("atomic", 2048, 256), ("writes", 2048, 256), ("atomic", 10, 3)]
+HISTORIES = [("atomic", 16384, 8), ("overlapping", 16384, 8), ("atomic", 2048, 256), ("writes", 2048, 256), ("atomic", 10, 3)]
 # by part: the outermost functions, which do not call one another
 PARTS = [
     ("tally", [r"snap_pairs::workers::each_job"]),

@@ -13,7 +13,7 @@ import tempfile
 HERE = os.path.dirname(os.path.abspath(__file__))
 FFI = os.path.join(HERE, "..", "ffi")
 PROGRAM = os.path.join(HERE, "..", "built", "snapjudge")
-CASES = [("atomic", 10, 3), ("reads", 10, 2), ("atomic", 64, 4), ("atomic", 1024, 8), ("reads", 1024, 4), ("writes", 1024, 4)]
+CASES = [("atomic", 10, 3), ("overlapping", 10, 2), ("atomic", 64, 4), ("atomic", 1024, 8), ("overlapping", 1024, 4), ("writes", 1024, 4)]
 REPEATS, SECONDS = 3, 1
 
 
