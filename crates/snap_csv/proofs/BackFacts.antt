@@ -14,6 +14,7 @@ use Rattle.snap_core.specs.Events.{EventFits}
 use Rattle.snap_csv.specs.Spelling.{entries_text, entry_text, spelled}
 use Rattle.snap_csv.specs.Fields.{all_of, entry_at, entries_at, event_of, parts, update_at, view_at}
 use Rattle.snap_csv.specs.Faults.{row_event}
+use Rattle.snap_csv.specs.Laws.{HasNumber}
 use Rattle.snap_csv.proofs.NumberFacts.{number_some}
 use Rattle.snap_csv.proofs.ByteFacts.{AllFit, Lacks, digits_lack, entry_lacks_space}
 use Rattle.snap_csv.proofs.PartFacts.{some_text}
@@ -76,13 +77,6 @@ unfolding view_at
 view_back es f = rw (entries_back es (fit_each es f.fit), f.rising, f.positive) refl
 
 -- ---- an event
-
--- the number of an update is at least 1
-abbrev pub HasNumber : Event → Type 0
-HasNumber (BeginUpdate p e) = 0 < e.number
-HasNumber (BeginView p) = Unit {0}
-HasNumber (EndUpdate p) = Unit {0}
-HasNumber (EndView p es) = Unit {0}
 
 update_back : (e : Entry) → EntryFits e → 0 < e.number → update_at (entry_text e) ≡ Some e
 unfolding update_at

@@ -20,9 +20,10 @@ use Rattle.snap_core.proofs.Pushes.{history_back}
 use Rattle.snap_csv.specs.Rows.{Fields, rows_of}
 use Rattle.snap_csv.specs.Fields.{header}
 use Rattle.snap_csv.specs.Faults.{NoFault, events_in, fault_at, fault_with, row_fault}
+use Rattle.snap_csv.specs.Laws.{HasNumber}
 use Rattle.snap_csv.specs.Texts.{IsText, byte_limit}
 use Rattle.snap_csv.specs.Spelling.{history_text, record_text, spelled}
-use Rattle.snap_csv.proofs.BackFacts.{HasNumber, event_back}
+use Rattle.snap_csv.proofs.BackFacts.{event_back}
 use Rattle.snap_csv.proofs.LineFacts.{header_line, line_of}
 
 abbrev pub row : Fields → List ℕ

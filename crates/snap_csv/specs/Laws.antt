@@ -2,7 +2,7 @@
 use Rattle.std.specs.Prelude.{◌≡◌, ◌<◌, ◌^◌, ⊤, All, ◌≤◌, ℕ, List, length, Ok, true}
 use Rattle.std.specs.List.Sorted.{IsStrictlyIncreasing}
 use Rattle.snap_core.specs.declared.event.Event.{Event}
-use Rattle.snap_core.specs.declared.event.Event.TheVariants.{EndView}
+use Rattle.snap_core.specs.declared.event.Event.TheVariants.{BeginUpdate, BeginView, EndUpdate, EndView}
 use Rattle.snap_core.specs.Events.{EventFits, IsKept}
 use Rattle.snap_csv.specs.declared.refusal.TextFault.{TextFault}
 use Rattle.snap_csv.specs.Rows.{Fields}
@@ -14,6 +14,17 @@ use Rattle.snap_csv.specs.Texts.{HasFault, IsText, byte_limit}
 -- a record is read as an event only where it has the event's four fields
 abbrev pub RecordsAreSpelled : Type 0
 RecordsAreSpelled = (record_fields : Fields) (event : Event) → row_event record_fields ≡ Ok event → record_fields ≡ spelled event
+
+-- the number of an update is at least 1
+abbrev pub HasNumber : Event → Type 0
+HasNumber (BeginUpdate p e) = 0 < e.number
+HasNumber (BeginView p) = Unit {0}
+HasNumber (EndUpdate p) = Unit {0}
+HasNumber (EndView p es) = Unit {0}
+
+-- and every event whose parts fit their types is read from its four fields, also one that stands in no history
+abbrev pub FieldsReadBack : Type 0
+FieldsReadBack = (event : Event) → EventFits event → HasNumber event → row_event (spelled event) ≡ Ok event
 
 -- no two events have the same four fields
 abbrev pub FieldsAreOneEvents : Type 0

@@ -1,4 +1,4 @@
-ghost use Rattle.snap_csv.specs.Laws.{FieldsAreOneEvents, HeadersDiffer, NarrowTextsAreShort, RecordsAreSpelled, StampedTextsReadBack, TextsAreShort, TextsHaveNoFault, TextsHaveOneFault, TextsHaveOneReading, TextsReadBack};
+ghost use Rattle.snap_csv.specs.Laws.{FieldsAreOneEvents, FieldsReadBack, HeadersDiffer, NarrowTextsAreShort, RecordsAreSpelled, StampedTextsReadBack, TextsAreShort, TextsHaveNoFault, TextsHaveOneFault, TextsHaveOneReading, TextsReadBack};
 
 /// No two events have the same four fields.
 pub fn fields_are_one_events()
@@ -28,6 +28,11 @@ pub fn narrow_texts_are_short()
 /// A record is read as an event only where it has the event's four fields.
 pub fn records_are_spelled()
     ensures { RecordsAreSpelled }
+{}
+
+/// Every event whose parts fit their types is read from its four fields.
+pub fn fields_read_back()
+    ensures { FieldsReadBack }
 {}
 
 /// A text is one of at most one history.

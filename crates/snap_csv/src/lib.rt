@@ -15,9 +15,9 @@ mod words;
 mod writing;
 
 pub use law::{
-    fields_are_one_events, headers_differ, narrow_texts_are_short, records_are_spelled,
-    stamped_texts_read_back, texts_are_short, texts_have_no_fault, texts_have_one_fault,
-    texts_have_one_reading, texts_read_back,
+    fields_are_one_events, fields_read_back, headers_differ, narrow_texts_are_short,
+    records_are_spelled, stamped_texts_read_back, texts_are_short, texts_have_no_fault,
+    texts_have_one_fault, texts_have_one_reading, texts_read_back,
 };
 pub use read::{read_history, read_history_in, read_text};
 pub use refusal::{ReadRefusal, TextFault, WriteRefusal};
