@@ -2,15 +2,16 @@
 _snapjudge() {
   local word=${COMP_WORDS[COMP_CWORD]} before=${COMP_WORDS[COMP_CWORD - 1]} words=
   case $before in
-    --pieces | --workers | --rounds) return ;;
+    --pieces | --workers | --views | --rounds) return ;;
   esac
   case ${COMP_WORDS[1]} in
-    check)
-      words='--pieces --workers --help'
+    check | shrink)
+      words=--help
+      [[ ${COMP_WORDS[1]} == shrink ]] || words='--pieces --workers --quiet --views --help'
       [[ $word == -* ]] || { mapfile -t COMPREPLY < <(compgen -f -- "$word"); return; }
       ;;
     record) words='--workers --rounds --scan --judge --stamped --help' ;;
-    *) words='check record --help --version' ;;
+    *) words='check shrink record --help --version' ;;
   esac
   mapfile -t COMPREPLY < <(compgen -W "$words" -- "$word")
 }

@@ -66,6 +66,66 @@ expect "a file among others that is not there" 4 "$named_inversion" ./second che
 expect "a file without its command" 5 "" ./second old.csv
 expect_said "the tip" "snapjudge: to judge a file, write: snapjudge check old.csv"
 
+expect "a file that is not there, without its command" 5 "" ./second none.csv
+expect_said "the tip" "snapjudge: to judge a file, write: snapjudge check none.csv"
+expect "a file to record" 5 "" ./second record --rounds 3 old.csv
+expect_said "the tip" "snapjudge: to judge a file, write: snapjudge check old.csv"
+
+expect "the verdicts alone" 1 "regular yes
+monotone no
+atomic no
+" ./second check --quiet old.csv
+expect "as many views as are asked for" 1 "$inversion" ./second check --views 2 old.csv
+expect "more views than there are" 3 "" ./second check old.csv --views 3
+expect_said "the reason" "refused: fewer than 3 views"
+expect "more views than one of two files has" 3 "$named_inversion" ./second check --views 2 old.csv "a b.csv"
+expect_said "the file and the reason" "a b.csv: refused: fewer than 2 views"
+
+# What is left of each example: all of it, but for a stale view behind whose back a value was shown that nobody wrote.
+for history in "$examples"/*.csv; do
+  name=${history##*/}
+  left=$(cat "$history" && printf .)
+  case $name in
+    atomic-run* | pending-update-seen* | view-beside-update*) status=0 ;;
+    missed-update* | new-old-inversion* | views-disagree*) status=1 ;;
+    skipped-number*) status=3 left="refused record 4: number
+." ;;
+    value-nobody-wrote*) status=2 left="event,process,op,data
+begin,0,update,0:1:7
+end,0,update,
+begin,2,view,
+end,2,view,0:1:9
+." ;;
+    *) status=2 ;;
+  esac
+  expect "the witness of $name" "$status" "${left%.}" ./second shrink "$history"
+done
+expect "a witness of standard input" 3 "refused record 1: header
+" ./second shrink
+expect "a witness of a file that is not there" 4 "" ./second shrink none.csv
+expect "a witness of two files" 5 "" ./second shrink old.csv "a b.csv"
+expect_said "the reason" "snapjudge: shrink takes one file"
+
+# The examples of the documents: what the lines behind `$` print is the other lines of their block, where it has others.
+mkdir documents
+ln -s "$examples" documents/examples
+ln -s "$top/snapjudge" documents/snapjudge
+awk -v room="$room/documents" '
+  /^```/ { inside = !inside; if (inside) { number++; script = expected = ""; ours = 0; next } }
+  /^```/ && ours && expected != "" {
+    printf "%s", script > (room "/" number ".sh")
+    printf "%s", expected > (room "/" number ".out")
+  }
+  inside && /^\$ / { if (script == "") ours = /^\$ (\.\/snapjudge|cat) /; script = script substr($0, 3) "\n"; next }
+  inside { expected = expected $0 "\n" }
+' "$top/README.md" "$top/docs/GUIDE.md"
+cd documents || exit 1
+for script in *.sh; do
+  expect "$(cat "$script")" 0 "$(cat "${script%.sh}.out")
+" sh -c 'sh "$1" 2>&1 || :' sh "$script"
+done
+cd ..
+
 "$top/install" "$room/prefix" >/dev/null
 expect "the installed program" 2 "$stale" "$room/prefix/bin/snapjudge" check "$examples/stale-view.csv"
 expect "its version" 0 "$(cat "$top/built/snapjudge.version")

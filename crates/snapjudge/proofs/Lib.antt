@@ -3,3 +3,4 @@ pub mod Numbers
 pub mod Runs
 pub mod Narrow
 pub mod Recordings
+pub mod Shrinking

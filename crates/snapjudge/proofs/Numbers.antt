@@ -15,6 +15,9 @@ decimal_reads E G only n lt None h =
     let read : found ≡ Ok n = parse-decimal 32 n (decimal n) found lt (omega arith) refl (only (decimal n) found h.1) in
     absurd cc
 
+pub zero_text : decimal 0 ≡ codes "0"
+zero_text = decimal_digit 0 (omega arith)
+
 pub two_text : decimal 2 ≡ codes "2"
 two_text = decimal_digit 2 (omega arith)
 

@@ -4,8 +4,8 @@ use Rattle.std.proofs.lemmas.Bool.{false≢true}
 use Rattle.clap.specs.Words.{is_simple, subcommand_of, takes, Row, Text}
 use Rattle.clap.proofs.OnLiterals.{clap_on_literals}
 use Rattle.snapjudge.specs.CommandLine.{program_app}
-use Rattle.snapjudge.specs.Jobs.{AsksCheck, AsksRecord, no_flags}
-use Rattle.snapjudge.proofs.Numbers.{eight_text, five_text, sixteen_text, two_text}
+use Rattle.snapjudge.specs.Jobs.{AsksCheck, AsksRecord, no_flags, no_options}
+use Rattle.snapjudge.proofs.Numbers.{eight_text, five_text, sixteen_text, two_text, zero_text}
 
 abbrev rows_in : Option (Text × List Row) → List Row
 rows_in None = []
@@ -19,8 +19,8 @@ pub check_is_taken : (name : List ℕ) → takes program_app (name ∷ codes "ch
 unfolding clap_on_literals
 check_is_taken name = refl
 
--- the matches of `check` alone: both options have their defaults
-pub check_alone : (name : List ℕ) → (rows : List Row) × (subcommand_of program_app (name ∷ codes "check" ∷ []) ≡ Some (codes "check", rows)) × AsksCheck rows 8 2
+-- the matches of `check` alone: its options have their defaults
+pub check_alone : (name : List ℕ) → (rows : List Row) × (subcommand_of program_app (name ∷ codes "check" ∷ []) ≡ Some (codes "check", rows)) × AsksCheck rows 8 2 no_options
 unfolding clap_on_literals
 check_alone name = (
   rows_in (subcommand_of program_app (name ∷ codes "check" ∷ [])),
@@ -28,10 +28,64 @@ check_alone name = (
   record {
     pieces_fit = (omega arith, omega arith);
     workers_fit = (omega arith, omega arith);
+    views_fit = omega arith;
     pieces_are = ap Some (sym eight_text);
     workers_are = ap Some (sym two_text);
+    views_are = ap Some (sym zero_text);
+    quiet_is = refl;
   },
 )
+
+pub quiet_is_taken : (name : List ℕ) → takes program_app (name ∷ codes "check" ∷ codes "--quiet" ∷ []) ≡ true
+unfolding clap_on_literals
+quiet_is_taken name = refl
+
+-- the matches of `check --quiet`
+pub check_quiet : (name : List ℕ) → (rows : List Row) × (subcommand_of program_app (name ∷ codes "check" ∷ codes "--quiet" ∷ []) ≡ Some (codes "check", rows)) × AsksCheck rows 8 2 (record no_options { quiet = true })
+unfolding clap_on_literals
+check_quiet name = (
+  rows_in (subcommand_of program_app (name ∷ codes "check" ∷ codes "--quiet" ∷ [])),
+  refl,
+  record {
+    pieces_fit = (omega arith, omega arith);
+    workers_fit = (omega arith, omega arith);
+    views_fit = omega arith;
+    pieces_are = ap Some (sym eight_text);
+    workers_are = ap Some (sym two_text);
+    views_are = ap Some (sym zero_text);
+    quiet_is = refl;
+  },
+)
+
+pub views_is_taken : (name : List ℕ) → takes program_app (name ∷ codes "check" ∷ codes "--views" ∷ codes "5" ∷ []) ≡ true
+unfolding clap_on_literals
+views_is_taken name = refl
+
+-- the matches of `check --views 5`
+pub check_views : (name : List ℕ) → (rows : List Row) × (subcommand_of program_app (name ∷ codes "check" ∷ codes "--views" ∷ codes "5" ∷ []) ≡ Some (codes "check", rows)) × AsksCheck rows 8 2 (record no_options { views = 5 })
+unfolding clap_on_literals
+check_views name = (
+  rows_in (subcommand_of program_app (name ∷ codes "check" ∷ codes "--views" ∷ codes "5" ∷ [])),
+  refl,
+  record {
+    pieces_fit = (omega arith, omega arith);
+    workers_fit = (omega arith, omega arith);
+    views_fit = omega arith;
+    pieces_are = ap Some (sym eight_text);
+    workers_are = ap Some (sym two_text);
+    views_are = ap Some (sym five_text);
+    quiet_is = refl;
+  },
+)
+
+pub shrink_is_taken : (name : List ℕ) → takes program_app (name ∷ codes "shrink" ∷ []) ≡ true
+unfolding clap_on_literals
+shrink_is_taken name = refl
+
+-- the matches of `shrink`, which has no options
+pub shrink_alone : (name : List ℕ) → (rows : List Row) × (subcommand_of program_app (name ∷ codes "shrink" ∷ []) ≡ Some (codes "shrink", rows))
+unfolding clap_on_literals
+shrink_alone name = (rows_in (subcommand_of program_app (name ∷ codes "shrink" ∷ [])), refl)
 
 pub record_is_taken : (name : List ℕ) → takes program_app (name ∷ codes "record" ∷ []) ≡ true
 unfolding clap_on_literals

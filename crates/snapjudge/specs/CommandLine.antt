@@ -12,9 +12,25 @@ pieces_rule = record (new_rule (codes "pieces")) { long = Some (codes "pieces");
 abbrev pub workers_rule : Rule
 workers_rule = record (new_rule (codes "workers")) { long = Some (codes "workers"); value_names = 1; parser = Some (Signed (pos 1) (pos 8)); defaults = codes "2" ∷ [] }
 
--- check [--pieces P] [--workers W]
+-- --quiet
+abbrev pub quiet_rule : Rule
+quiet_rule = record (new_rule (codes "quiet")) { long = Some (codes "quiet"); action = Some SetTrue }
+
+-- --views N, from 0 to 8,192, 0 where it is not given
+abbrev pub views_rule : Rule
+views_rule = record (new_rule (codes "views")) { long = Some (codes "views"); value_names = 1; parser = Some (Signed (pos 0) (pos 8192)); defaults = codes "0" ∷ [] }
+
+-- check [--pieces P] [--workers W] ..
+abbrev pub cutting_app : App
+cutting_app = with_rule (with_rule (new_app (codes "check")) pieces_rule) workers_rule
+
+-- .. [--quiet] [--views N]
 abbrev pub check_app : App
-check_app = with_rule (with_rule (new_app (codes "check")) pieces_rule) workers_rule
+check_app = with_rule (with_rule cutting_app quiet_rule) views_rule
+
+-- shrink
+abbrev pub shrink_app : App
+shrink_app = new_app (codes "shrink")
 
 -- --workers W, which is 2
 abbrev pub two_workers_rule : Rule
@@ -48,4 +64,4 @@ abbrev pub needs_subcommand : App → App
 needs_subcommand app = record app { top = record app.top { subcommand_required = true } }
 
 abbrev pub program_app : App
-program_app = with_subcommand (with_subcommand (needs_subcommand (new_app (codes "snapjudge"))) check_app.top) record_app.top
+program_app = with_subcommand (with_subcommand (with_subcommand (needs_subcommand (new_app (codes "snapjudge"))) check_app.top) shrink_app.top) record_app.top

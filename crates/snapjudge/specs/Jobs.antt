@@ -1,19 +1,35 @@
 -- What the words of a command line ask for.
-use Rattle.std.specs.Prelude.{◌≡◌, ◌<◌, ◌≤◌, ℕ, Bool, true, false, List, Some, codes, decimal}
+use Rattle.std.specs.Prelude.{◌≡◌, ◌<◌, ◌≤◌, ◌^◌, ℕ, Bool, true, false, List, Some, codes, decimal}
 use Rattle.clap.specs.Words.{Row, one_of}
 use Rattle.snap_pairs.specs.Cuttings.{IsPieces, IsWorkers}
 use Rattle.snapjudge.specs.declared.job.Job.{Job}
-use Rattle.snapjudge.specs.declared.job.Job.TheVariants.{Check, Record}
+use Rattle.snapjudge.specs.declared.job.Job.TheVariants.{Check, Shrink, Record}
+use Rattle.snapjudge.specs.declared.check_with.CheckOptions.{CheckOptions}
 
 -- the numbers of a job are in their ranges, and no report is asked for with stamps
 abbrev pub IsInRange : Job → Type 0
-IsInRange (Check cutting) = IsPieces cutting.pieces × IsWorkers cutting.workers
+IsInRange (Check cutting options) = IsPieces cutting.pieces × IsWorkers cutting.workers
+IsInRange Shrink = Unit {0}
 IsInRange (Record workers rounds judge scan stamped) = (workers ≡ 2) × (0 < rounds) × (rounds ≤ 2048) × (judge ≡ true → stamped ≡ false)
 
--- a check with so many pieces and workers
+-- a check with so many pieces and workers, and with these options
+abbrev pub IsCheckWith : ℕ → ℕ → CheckOptions → Job → Type 0
+IsCheckWith pieces workers options (Check cutting o) = (cutting.pieces ≡ pieces) × (cutting.workers ≡ workers) × (o ≡ options)
+IsCheckWith pieces workers options Shrink = ⊥
+IsCheckWith pieces workers options (Record w rounds judge scan stamped) = ⊥
+
+-- the whole report, of any number of completed views
+abbrev pub no_options : CheckOptions
+no_options = record { quiet = false; views = 0 }
+
 abbrev pub IsCheck : ℕ → ℕ → Job → Type 0
-IsCheck pieces workers (Check cutting) = (cutting.pieces ≡ pieces) × (cutting.workers ≡ workers)
-IsCheck pieces workers (Record w rounds judge scan stamped) = ⊥
+IsCheck pieces workers = IsCheckWith pieces workers no_options
+
+-- a history that is to be cut down
+abbrev pub IsShrink : Job → Type 0
+IsShrink (Check cutting options) = ⊥
+IsShrink Shrink = Unit {0}
+IsShrink (Record w rounds judge scan stamped) = ⊥
 
 -- the flags of a recording: its report in place of its history, scans in place of views, and the stamps of its events
 pub record Flags : Type 0 where
@@ -26,7 +42,8 @@ no_flags = record { judge = false; scan = false; stamped = false }
 
 -- a recording of so many workers and rounds with these flags
 abbrev pub IsRecord : ℕ → ℕ → Flags → Job → Type 0
-IsRecord workers rounds flags (Check cutting) = ⊥
+IsRecord workers rounds flags (Check cutting options) = ⊥
+IsRecord workers rounds flags Shrink = ⊥
 IsRecord workers rounds flags (Record w r judge scan stamped) =
     (w ≡ workers) × (r ≡ rounds) × (judge ≡ flags.judge) × (scan ≡ flags.scan) × (stamped ≡ flags.stamped)
 
@@ -35,12 +52,15 @@ abbrev pub flag_text : Bool → List ℕ
 flag_text true = codes "true"
 flag_text false = codes "false"
 
--- the options of `check` have these numbers, which are in their ranges
-pub record AsksCheck (rows : List Row) (pieces : ℕ) (workers : ℕ) : Type 0 where
+-- the options of `check` have these numbers, which are in their ranges, and the flag is given or not
+pub record AsksCheck (rows : List Row) (pieces : ℕ) (workers : ℕ) (options : CheckOptions) : Type 0 where
   pub pieces_fit : IsPieces pieces
   pub workers_fit : IsWorkers workers
+  pub views_fit : options.views < 2 ^ 32
   pub pieces_are : one_of (codes "pieces") rows ≡ Some (decimal pieces)
   pub workers_are : one_of (codes "workers") rows ≡ Some (decimal workers)
+  pub views_are : one_of (codes "views") rows ≡ Some (decimal options.views)
+  pub quiet_is : one_of (codes "quiet") rows ≡ Some (flag_text options.quiet)
 
 -- the options of `record` have two workers and this number of rounds, which is in its range, and each flag is given or not, but not
 -- a report with stamps

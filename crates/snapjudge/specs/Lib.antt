@@ -1,4 +1,6 @@
 pub mod CommandLine
 pub mod Jobs
+pub mod Options
 pub mod Runs
+pub mod Shrinking
 pub mod RecordRuns

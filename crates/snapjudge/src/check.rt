@@ -1,20 +1,41 @@
-ghost use Rattle.std.specs.Prelude.{IfOk};
+ghost use Rattle.std.specs.Prelude.{◌≡◌, IfOk};
+ghost use Rattle.snap_core.specs.Calls.{calls_of, views_of};
 ghost use Rattle.snap_core.specs.Counting.{failures_in, inner_of};
+ghost use Rattle.snap_conditions.specs.Tally.{tally_of};
 ghost use Rattle.snapjudge.specs.Runs.{JudgeCounts, Judges, RunCounts, Wrote};
 ghost use Rattle.snap_verdict.specs.Verdicts.{IsVerdict};
 
 use crate::fault::RunFault;
-use snap_conditions::is_atomic;
+use crate::reading::{Reading, read_in};
+use snap_conditions::{Tally, is_atomic};
 use snap_core::{Counted, Gate, History};
-use snap_csv::{ReadRefusal, read_history_in};
 use snap_index::Index;
 use snap_order::build;
 use snap_pairs::{Cutting, tally};
-use snap_report::refusal_text;
 use snap_verdict::{Status, verdict_of};
 use std::alloc::{AllocError, Global};
 use std::io::{Read, Write};
 use std::thread::Threads;
+
+// The status and the report of a history, by its index and the tally of its completed views. The report takes the memory of a
+// vector.
+pub(crate) fn report_of<Rt: Threads + Sync>(
+    rt: &Rt,
+    alloc: Global,
+    index: &Index<'_>,
+    tally: &Tally,
+    room: Vec<u8>,
+) -> Result<(Status, Vec<u8>), AllocError>
+    requires tally { tally.now ≡ tally_of (calls_of index.now) (views_of (calls_of index.now)) }
+    ensures { IfOk result (λ answer. IsVerdict index.now answer.0 answer.1.items) }
+{
+    if is_atomic(tally) {
+        let order = build(rt, alloc, index)?;
+        verdict_of(index, tally, Some(&order), room)
+    } else {
+        verdict_of(index, tally, None, room)
+    }
+}
 
 // The status and the report of a history. The report takes the memory of a vector.
 pub(crate) fn verdict<Rt: Threads + Sync, G: Gate>(
@@ -29,12 +50,7 @@ pub(crate) fn verdict<Rt: Threads + Sync, G: Gate>(
 {
     let index = Index::build(alloc, history)?;
     let tally = tally(rt, alloc, &index, cutting, gate)?;
-    if is_atomic(&tally) {
-        let order = build(rt, alloc, &index)?;
-        verdict_of(&index, &tally, Some(&order), room)
-    } else {
-        verdict_of(&index, &tally, None, room)
-    }
+    report_of(rt, alloc, &index, &tally, room)
 }
 
 // The status and the report of the text that a reader has.
@@ -50,14 +66,9 @@ fn judge<Rt: Threads + Sync, R: Read, G: Gate>(
 {
     // the text is not needed once it is read, and its memory serves for the report
     let mut room = Vec::new(alloc);
-    match read_history_in(alloc, reader, &mut room) {
-        Ok(history) => Ok(verdict(rt, alloc, &history, room, cutting, gate)?),
-        Err(ReadRefusal::Text { place, fault }) => Ok((
-            Status::Refused,
-            refusal_text(alloc, place, fault)?,
-        )),
-        Err(ReadRefusal::Device) => Err(RunFault::Read),
-        Err(ReadRefusal::Memory) => Err(RunFault::Memory),
+    match read_in(alloc, reader, &mut room)? {
+        Reading::History(history) => Ok(verdict(rt, alloc, &history, room, cutting, gate)?),
+        Reading::Refusal(line) => Ok((Status::Refused, line)),
     }
 }
 

@@ -2,10 +2,11 @@
 ghost use Rattle.std.specs.Prelude.{◌≡◌, IfOk, false};
 ghost use Rattle.clap.specs.Words.{app_of, rule_of};
 ghost use Rattle.clap.specs.declared.builder.command.Command.TheViews.{out-Command as fields_of};
-ghost use Rattle.snapjudge.specs.CommandLine.{check_app, pieces_rule, program_app, workers_rule};
+ghost use Rattle.snapjudge.specs.CommandLine.{check_app, cutting_app, pieces_rule, program_app, quiet_rule, views_rule, workers_rule};
 
 use crate::record_command::record_command;
-use clap::{Arg, Command};
+use crate::shrink_command::shrink_command;
+use clap::{Arg, ArgAction, Command};
 use std::alloc::{AllocError, Global};
 
 const ABOUT: &str =
@@ -39,11 +40,17 @@ An atomic history's report ends with an order of its calls that explains every v
 other history's report ends with a line for each kind of fault: how many there are, and
 the first one.
 
+With --quiet only the lines of the three verdicts are printed; the line of a text that is
+no history is printed all the same. With --views N a history with fewer than N completed
+views has status 3: nothing is printed, and standard error says so. So a script that judges
+runs does not take an empty recording for a good one.
+
 Exit status:
     0  the history is atomic
     1  it is regular, and not atomic
     2  it is not regular
-    3  the text is no history: the one line of the report names the record and its fault
+    3  the text is no history: the one line of the report names the record and its fault;
+       or it has fewer completed views than --views asks for
     4  reading, writing or memory failed
     5  the words of the command line were not taken";
 
@@ -71,14 +78,45 @@ fn workers_argument<'a>(alloc: Global) -> Arg<'a>
         .default_value("2")
 }
 
-fn check_command<'a>(alloc: Global) -> Result<Command<'a>, AllocError>
-    ensures { IfOk result (λ command. (app_of command ≡ check_app) × ((fields_of command).has_globals ≡ false)) }
+fn quiet_argument<'a>(alloc: Global) -> Arg<'a>
+    ensures rule { rule_of result ≡ quiet_rule }
+    ensures own { result.global ≡ false }
+{
+    Arg::new(alloc, "quiet")
+        .long("quiet")
+        .help("Write the lines of the verdicts alone")
+        .action(ArgAction::SetTrue)
+}
+
+fn views_argument<'a>(alloc: Global) -> Arg<'a>
+    ensures rule { rule_of result ≡ views_rule }
+    ensures own { result.global ≡ false }
+{
+    Arg::new(alloc, "views")
+        .long("views")
+        .value_name("N")
+        .help("How many completed views the history must have, from 0 to 8192")
+        .value_parser(clap::value_parser!(u32).range(0..8193))
+        .default_value("0")
+}
+
+// `check` with its help and its two numbers of the cutting.
+fn cutting_command<'a>(alloc: Global) -> Result<Command<'a>, AllocError>
+    ensures { IfOk result (λ command. (app_of command ≡ cutting_app) × ((fields_of command).has_globals ≡ false)) }
 {
     Command::new(alloc, "check")
         .about(CHECK_ABOUT)
         .after_help(EXAMPLE)
         .arg(pieces_argument(alloc))?
         .arg(workers_argument(alloc))
+}
+
+fn check_command<'a>(alloc: Global) -> Result<Command<'a>, AllocError>
+    ensures { IfOk result (λ command. (app_of command ≡ check_app) × ((fields_of command).has_globals ≡ false)) }
+{
+    cutting_command(alloc)?
+        .arg(quiet_argument(alloc))?
+        .arg(views_argument(alloc))
 }
 
 /// The program, with its commands and their options.
@@ -89,5 +127,6 @@ pub fn program<'a>(alloc: Global) -> Result<Command<'a>, AllocError>
         .about(ABOUT)
         .subcommand_required(true)
         .subcommand(check_command(alloc)?)?
+        .subcommand(shrink_command(alloc))?
         .subcommand(record_command(alloc)?)
 }

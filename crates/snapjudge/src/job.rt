@@ -1,8 +1,10 @@
 //! What the words of a command line ask for.
 ghost use Rattle.std.specs.Prelude.{◌≡◌, ◌<◌, ◌^◌, ◌∷◌, [], ℕ, Bool, List, Some, None, true, false, codes, decimal, IfOk, IfSome, IsSomeAnd, MatchResult, map, string_bytes};
 ghost use Rattle.clap.specs.Words.{Row, found_of, kind_of, one_of, rows_of, subcommand_rows_of};
-ghost use Rattle.snapjudge.specs.Jobs.{AsksCheck, AsksRecord, Flags, IsCheck, IsInRange, IsRecord, flag_text, no_flags};
+ghost use Rattle.snapjudge.specs.Jobs.{AsksCheck, AsksRecord, Flags, IsCheck, IsCheckWith, IsInRange, IsRecord, IsShrink, flag_text, no_flags, no_options};
+ghost use Rattle.snapjudge.specs.declared.check_with.CheckOptions.{CheckOptions as Options};
 
+use crate::check_with::CheckOptions;
 use crate::command::program;
 use clap::error::ErrorKind;
 use clap::{ArgMatches, Error};
@@ -15,7 +17,10 @@ pub enum Job {
     /// Judge the history on standard input.
     Check {
         cutting: Cutting,
+        options: CheckOptions,
     },
+    /// Cut the history on standard input down to a witness.
+    Shrink,
     /// Record so many workers in so many rounds of a store and a view, or a scan in place of the view, and judge the
     /// history where that is asked for, or write it with the stamps of its events; not both.
     Record {
@@ -54,23 +59,28 @@ fn number_in(matches: &ArgMatches<'_>, id: &str) -> Option<u32>
     matches.get_one::<u32>(id)
 }
 
-// The check that the options of `check` ask for.
-fn check_in(matches: &ArgMatches<'_>) -> Option<Job>
-    ensures job { IfSome result IsInRange }
-    ensures asked { (pieces workers : ℕ) → AsksCheck (rows_of (found_of matches.now)) pieces workers → IsSomeAnd result (IsCheck pieces workers) }
-{
-    let pieces = number_in(matches, "pieces")?;
-    let workers = number_in(matches, "workers")?;
-    let cutting = Cutting::new(pieces, workers).ok()?;
-    Some(Job::Check { cutting })
-}
-
 // Whether a flag was given.
 fn flag_in(matches: &ArgMatches<'_>, id: &str) -> bool
     ensures given { (flag : Bool) → one_of id.now (rows_of (found_of matches.now)) ≡ Some (flag_text flag) → result ≡ flag }
     ensures absent { one_of id.now (rows_of (found_of matches.now)) ≡ None → result ≡ false }
 {
     matches.get_flag(id)
+}
+
+// The check that the options of `check` ask for.
+fn check_in(matches: &ArgMatches<'_>) -> Option<Job>
+    ensures job { IfSome result IsInRange }
+    ensures asked { (pieces workers : ℕ) (options : Options) → AsksCheck (rows_of (found_of matches.now)) pieces workers options → IsSomeAnd result (IsCheckWith pieces workers options) }
+{
+    let pieces = number_in(matches, "pieces")?;
+    let workers = number_in(matches, "workers")?;
+    let views = number_in(matches, "views")?;
+    let quiet = flag_in(matches, "quiet");
+    let cutting = Cutting::new(pieces, workers).ok()?;
+    Some(Job::Check {
+        cutting,
+        options: CheckOptions { quiet, views },
+    })
 }
 
 // The recording that the options of `record` ask for.
@@ -101,14 +111,17 @@ fn record_in(matches: &ArgMatches<'_>) -> Option<Job>
 // The job that the words ask for, where each number is there and in its range.
 fn job_in(matches: &ArgMatches<'_>) -> Option<Job>
     ensures job { IfSome result IsInRange }
-    ensures check { (rows : List Row) (pieces workers : ℕ) → subcommand_rows_of matches.now ≡ Some (codes "check", rows)
-        → AsksCheck rows pieces workers → IsSomeAnd result (IsCheck pieces workers) }
+    ensures check { (rows : List Row) (pieces workers : ℕ) (options : Options) → subcommand_rows_of matches.now ≡ Some (codes "check", rows)
+        → AsksCheck rows pieces workers options → IsSomeAnd result (IsCheckWith pieces workers options) }
+    ensures shrink { (rows : List Row) → subcommand_rows_of matches.now ≡ Some (codes "shrink", rows) → IsSomeAnd result IsShrink }
     ensures recording { (rows : List Row) (rounds : ℕ) (flags : Flags) → subcommand_rows_of matches.now ≡ Some (codes "record", rows)
         → AsksRecord rows rounds flags → IsSomeAnd result (IsRecord 2 rounds flags) }
 {
     let (name, inner) = matches.subcommand()?;
     if name == "check" {
         check_in(inner)
+    } else if name == "shrink" {
+        Some(Job::Shrink)
     } else {
         record_in(inner)
     }
@@ -131,6 +144,12 @@ pub fn job_of(alloc: Global, words: Vec<String>) -> Result<Job, JobFault>
     ensures job { IfOk result IsInRange }
     ensures check_alone { (name : List ℕ) → map string_bytes words.items ≡ name ∷ codes "check" ∷ []
         → MatchResult result (IsCheck 8 2) (λ fault. fault ≡ JobFault.Memory) }
+    ensures check_quiet { (name : List ℕ) → map string_bytes words.items ≡ name ∷ codes "check" ∷ codes "--quiet" ∷ []
+        → MatchResult result (IsCheckWith 8 2 (record no_options { quiet = true })) (λ fault. fault ≡ JobFault.Memory) }
+    ensures check_views { (name : List ℕ) → map string_bytes words.items ≡ name ∷ codes "check" ∷ codes "--views" ∷ codes "5" ∷ []
+        → MatchResult result (IsCheckWith 8 2 (record no_options { views = 5 })) (λ fault. fault ≡ JobFault.Memory) }
+    ensures shrink_alone { (name : List ℕ) → map string_bytes words.items ≡ name ∷ codes "shrink" ∷ []
+        → MatchResult result IsShrink (λ fault. fault ≡ JobFault.Memory) }
     ensures record_alone { (name : List ℕ) → map string_bytes words.items ≡ name ∷ codes "record" ∷ []
         → MatchResult result (IsRecord 2 16 no_flags) (λ fault. fault ≡ JobFault.Memory) }
     ensures record_judged { (name : List ℕ)

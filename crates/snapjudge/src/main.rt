@@ -5,22 +5,31 @@ ghost use Rattle.std.specs.Prelude.{IfOk};
 ghost use Rattle.snapjudge.specs.Jobs.{IsInRange};
 
 mod check;
+mod check_with;
 mod command;
 mod fault;
 mod job;
+mod reading;
 mod record_command;
 mod recording;
+mod shrink;
+mod shrink_command;
 
 pub use check::check_run;
+pub use check_with::{CheckOptions, check_run_with};
 pub use fault::RunFault;
 pub use job::{Job, JobFault, job_of};
 use recording::{record_rounds, record_rounds_stamped};
 pub use recording::{record_run, record_run_stamped};
+pub use shrink::shrink_run;
 use snap_core::{Counted, OpenGate};
+use snap_pairs::Cutting;
 pub use snap_verdict::Status;
+use std::alloc::Global;
 use std::env;
-use std::io::ErrorKind;
+use std::io::{ErrorKind, Read, Write};
 use std::process::ExitCode;
+use std::thread::Threads;
 
 // The job that the words of the command line ask for.
 fn asked_job(rt: &HostRuntime) -> Result<Job, JobFault>
@@ -34,18 +43,36 @@ fn asked_job(rt: &HostRuntime) -> Result<Job, JobFault>
     }
 }
 
+// Checks as it is asked for: `None` where the history has too few completed views.
+fn check_input<Rt: Threads + Sync, R: Read, W: Write>(
+    rt: &Rt,
+    alloc: Global,
+    reader: &mut Counted<R>,
+    writer: &mut Counted<W>,
+    cutting: Cutting,
+    options: CheckOptions,
+) -> Result<Option<Status>, RunFault> {
+    if options.quiet || options.views > 0 {
+        return check_run_with(rt, alloc, reader, writer, cutting, &OpenGate, options);
+    }
+    Ok(Some(check_run(rt, alloc, reader, writer, cutting, &OpenGate)?))
+}
+
 fn main(rt: HostRuntime) -> ExitCode {
     let mut reader = Counted::new(rt.stdin());
     let mut writer = Counted::new(rt.stdout());
     let answer = match asked_job(&rt) {
-        Ok(Job::Check { cutting }) => check_run(
-            &rt,
-            rt.alloc(),
-            &mut reader,
-            &mut writer,
-            cutting,
-            &OpenGate,
-        ),
+        Ok(Job::Check { cutting, options }) => {
+            match check_input(&rt, rt.alloc(), &mut reader, &mut writer, cutting, options) {
+                Ok(Some(status)) => Ok(status),
+                Ok(None) => {
+                    let _ = eprintln!(rt; "refused: fewer than {} views", options.views);
+                    Ok(Status::Refused)
+                }
+                Err(fault) => Err(fault),
+            }
+        }
+        Ok(Job::Shrink) => shrink_run(&rt, rt.alloc(), &mut reader, &mut writer),
         Ok(
             Job::Record {
                 workers,

@@ -42,18 +42,19 @@ fn recorded<Rt: Threads + Wait + Sync, G: Gate>(
     Ok((history, stamps))
 }
 
-// Writes the text of a history.
-fn write_text<W: Write>(
+// Writes the text of a history, and answers a status.
+pub(crate) fn write_text<W: Write>(
     alloc: Global,
     history: &History,
+    status: Status,
     writer: &mut Counted<W>,
 ) -> Result<Status, RunFault>
-    ensures wrote { WroteAs (λ status out. (status ≡ Recorded) × (out ≡ history_text history.now))
+    ensures wrote { WroteAs (λ answer out. (answer ≡ status) × (out ≡ history_text history.now))
         (W.contents (inner_of writer.old)) (W.contents (inner_of writer.new)) result }
     ensures counts { WriteCounts (failures_in writer.old) (failures_in writer.new) result }
 {
     write_history(alloc, writer, history)?;
-    Ok(Status::Recorded)
+    Ok(status)
 }
 
 // Writes the text of a history with a stamp for each event.
@@ -119,7 +120,7 @@ pub fn record_run<Rt: Threads + Wait + Sync, W: Write, G: Gate>(
     if judge {
         write_report(rt, alloc, &history, writer, cutting)
     } else {
-        write_text(alloc, &history, writer)
+        write_text(alloc, &history, Status::Recorded, writer)
     }
 }
 

@@ -1,6 +1,6 @@
 //! The jobs that words ask for.
 use super::checks::same;
-use crate::{Job, JobFault, job_of};
+use crate::{CheckOptions, Job, JobFault, job_of};
 use std::alloc::{AllocError, Global};
 use std::test::Fail;
 
@@ -13,28 +13,73 @@ fn words(alloc: Global, line: &str) -> Result<Vec<String>, AllocError> {
     Ok(words)
 }
 
-// The pieces and workers of the check that each line asks for.
-const CHECKS: &[(&str, u32, u32)] = &[
-    ("snapjudge check", 8, 2),
-    ("snapjudge check --pieces 3 --workers 4", 3, 4),
-    ("snapjudge check --workers=8 --pieces=1024", 1024, 8),
-    ("snapjudge check --pieces 1 --workers 1", 1, 1),
+const NO_OPTIONS: CheckOptions = CheckOptions {
+    quiet: false,
+    views: 0,
+};
+
+const QUIET: CheckOptions = CheckOptions {
+    quiet: true,
+    views: 0,
+};
+
+// The pieces and workers of the check that each line asks for, and its options.
+const CHECKS: &[(&str, u32, u32, CheckOptions)] = &[
+    ("snapjudge check", 8, 2, NO_OPTIONS),
+    ("snapjudge check --pieces 3 --workers 4", 3, 4, NO_OPTIONS),
+    (
+        "snapjudge check --workers=8 --pieces=1024",
+        1024,
+        8,
+        NO_OPTIONS,
+    ),
+    ("snapjudge check --pieces 1 --workers 1", 1, 1, NO_OPTIONS),
+    ("snapjudge check --quiet", 8, 2, QUIET),
+    ("snapjudge check --workers 3 --quiet", 8, 3, QUIET),
+    ("snapjudge check --views 0", 8, 2, NO_OPTIONS),
+    (
+        "snapjudge check --views 5",
+        8,
+        2,
+        CheckOptions {
+            quiet: false,
+            views: 5,
+        },
+    ),
+    (
+        "snapjudge check --views=8192 --pieces 7 --quiet",
+        7,
+        2,
+        CheckOptions {
+            quiet: true,
+            views: 8192,
+        },
+    ),
 ];
 
-// The pieces and workers of the check that a line asks for.
-fn check_of(alloc: Global, line: &str) -> Result<(u32, u32), Fail> {
+// The pieces and workers of the check that a line asks for, and its options.
+fn check_of(alloc: Global, line: &str) -> Result<(u32, u32, CheckOptions), Fail> {
     match job_of(alloc, words(alloc, line)?) {
-        Ok(Job::Check { cutting }) => Ok((cutting.pieces(), cutting.workers())),
+        Ok(Job::Check { cutting, options }) => Ok((cutting.pieces(), cutting.workers(), options)),
         _ => Err(Fail::from(line)),
     }
 }
 
 #[test]
-fn check_takes_pieces_and_workers(rt: HostRuntime) -> Result<(), Fail> {
-    for (line, pieces, workers) in CHECKS {
-        same(check_of(rt.alloc(), line)?, (*pieces, *workers))?;
+fn check_takes_pieces_workers_and_options(rt: HostRuntime) -> Result<(), Fail> {
+    for (line, pieces, workers, options) in CHECKS {
+        same(check_of(rt.alloc(), line)?, (*pieces, *workers, *options))?;
     }
     Ok(())
+}
+
+#[test]
+fn shrink_takes_no_words(rt: HostRuntime) -> Result<(), Fail> {
+    let alloc = rt.alloc();
+    match job_of(alloc, words(alloc, "snapjudge shrink")?) {
+        Ok(Job::Shrink) => Ok(()),
+        _ => Err(Fail::from("snapjudge shrink")),
+    }
 }
 
 // Whether a recording is judged, scans, and has stamps.
@@ -116,9 +161,18 @@ const OTHER_LINES: &[&str] = &[
     "snapjudge record --stamped=yes",
     "snapjudge check --stamped",
     "snapjudge check --scan",
+    "snapjudge check --views",
+    "snapjudge check --views 8193",
+    "snapjudge check --views -1",
+    "snapjudge check --quiet=yes",
+    "snapjudge shrink more",
+    "snapjudge shrink --quiet",
+    "snapjudge record --quiet",
+    "snapjudge record --views 3",
     "snapjudge --help",
     "snapjudge check --help",
     "snapjudge record --help",
+    "snapjudge shrink --help",
 ];
 
 // Whether a line gets a text on the usage.

@@ -1,5 +1,6 @@
-use Rattle.snapjudge.proofs.Runs.{judged}
+use Rattle.snapjudge.proofs.Runs.{from_history, judged}
 use Rattle.snapjudge.proofs.check.judge.Goals as goal
 
-pub returns-in-Ok-clause-answer : goal.returns-in-Ok-clause-answer
-returns-in-Ok-clause-answer g c = judged _ c.in-Ok.history _ _ c.in-Ok.ensures.text c.in_ok-verdict-in-Ok.ensures
+pub returns-in_ok-verdict-in-History-clause-answer : goal.returns-in_ok-verdict-in-History-clause-answer
+returns-in_ok-verdict-in-History-clause-answer g c =
+    from_history _ _ c.in_ok-history.field-0 c.in-History.history c.in_ok-history.ensures.text c.in-History.is (λ text reads. judged text c.in-History.history _ _ reads c.in_ok-verdict-in-History.ensures)

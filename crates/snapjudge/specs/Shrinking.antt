@@ -1,0 +1,45 @@
+-- What a history is cut down to.
+use Rattle.std.specs.Prelude.{◌≡◌, ◌≤◌, ◌⊎◌, ◌↔◌, ℕ, List, length, Option, Some, None}
+use Rattle.snap_core.specs.declared.event.Event.{Event}
+use Rattle.snap_core.specs.Calls.{calls_of}
+use Rattle.snap_core.specs.Orders.{IsAtomic}
+use Rattle.snap_core.specs.Regular.{IsRegular}
+use Rattle.snap_csv.specs.Spelling.{history_text}
+use Rattle.snap_csv.specs.Texts.{IsText}
+use Rattle.snap_verdict.specs.declared.status.Status.{Status}
+use Rattle.snap_verdict.specs.Reports.{IsRefused}
+use Rattle.snap_verdict.specs.Verdicts.{HasStatus}
+use Rattle.snap_witness.specs.First.{AreWholeCalls, HasFirstFault}
+
+-- some whole calls of a history that have its first fault, and so are not atomic
+pub record IsWitnessOf (events : List Event) (witness : List Event) : Type 0 where
+  pub calls : AreWholeCalls events witness
+  pub few_calls : length (calls_of witness) ≤ 4
+  pub few_events : length witness ≤ 8
+  -- of the same views and components
+  pub fault : HasFirstFault events witness
+  pub not_atomic : IsAtomic (calls_of witness) → ⊥
+  pub regular : IsRegular (calls_of witness) ↔ IsRegular (calls_of events)
+
+-- the status of a history, and a witness exactly where it is not atomic
+abbrev pub IsFirstWitness : List Event → Status → Option (List Event) → Type 0
+IsFirstWitness events status (Some witness) = HasStatus events status × (IsAtomic (calls_of events) → ⊥) × IsWitnessOf events witness
+IsFirstWitness events status None = HasStatus events status × IsAtomic (calls_of events)
+
+-- the status of a history, and the history itself where it is atomic, and a witness where it is not
+pub record IsCutTo (events : List Event) (status : Status) (left : List Event) : Type 0 where
+  pub answers : HasStatus events status
+  pub atomic : IsAtomic (calls_of events) → left ≡ events
+  pub not_atomic : (IsAtomic (calls_of events) → ⊥) → IsWitnessOf events left
+
+-- the same of a text
+pub record IsCutText (text : List ℕ) (status : Status) (out : List ℕ) : Type 0 where
+  pub events : List Event
+  pub left : List Event
+  pub history : IsText text events
+  pub cut : IsCutTo events status left
+  pub writes : out ≡ history_text left
+
+-- the status and what is written: a text with a fault is refused
+abbrev pub IsShrunk : List ℕ → Status → List ℕ → Type 0
+IsShrunk text status out = IsRefused text status out ⊎ IsCutText text status out
