@@ -153,4 +153,5 @@ def main():
         sys.stdout.write(row + "\n")
 
 
-main()
+if __name__ == "__main__":
+    main()
