@@ -41,7 +41,7 @@
 #include <string.h>
 
 /* What the judge takes. */
-#define SNAPRECORD_EVENTS 16384u    /* in all; a call has two, its begin and its end */
+#define SNAPRECORD_EVENTS 65536u    /* in all; a call has two, its begin and its end */
 #define SNAPRECORD_COMPONENTS 256u
 #define SNAPRECORD_PROCESSES 65536u /* a thread is one process */
 

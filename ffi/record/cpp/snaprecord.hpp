@@ -43,7 +43,7 @@
 namespace snaprecord {
 
 // What the judge takes.
-constexpr std::uint32_t event_limit = 16384; // in all; a call has two, its begin and its end
+constexpr std::uint32_t event_limit = 65536; // in all; a call has two, its begin and its end
 constexpr std::uint32_t component_limit = 256;
 constexpr std::uint32_t process_limit = 65536; // a thread is one process
 

@@ -45,7 +45,7 @@ import java.util.concurrent.atomic.AtomicReference;
  */
 public final class SnapRecorder {
     /** How many events a history may have; a call has two, its begin and its end. */
-    public static final int EVENT_LIMIT = 16384;
+    public static final int EVENT_LIMIT = 65536;
     public static final int COMPONENT_LIMIT = 256;
     /** A thread is one process. */
     public static final int PROCESS_LIMIT = 65536;

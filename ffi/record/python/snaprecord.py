@@ -36,7 +36,7 @@ import itertools
 import sys
 import threading
 
-EVENT_LIMIT = 16384  # of a history; a call has two, its begin and its end
+EVENT_LIMIT = 65536  # of a history; a call has two, its begin and its end
 COMPONENT_LIMIT = 256
 PROCESS_LIMIT = 65536  # a thread is one process
 

@@ -37,7 +37,7 @@ use std::sync::atomic::{AtomicBool, AtomicU64, Ordering};
 use std::sync::{Arc, OnceLock};
 
 /// How many events a history may have; a call has two, its begin and its end.
-pub const EVENT_LIMIT: usize = 16384;
+pub const EVENT_LIMIT: usize = 65536;
 pub const COMPONENT_LIMIT: usize = 256;
 /// A thread is one process.
 pub const PROCESS_LIMIT: usize = 65536;
