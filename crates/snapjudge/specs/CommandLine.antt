@@ -16,9 +16,9 @@ workers_rule = record (new_rule (codes "workers")) { long = Some (codes "workers
 abbrev pub quiet_rule : Rule
 quiet_rule = record (new_rule (codes "quiet")) { long = Some (codes "quiet"); action = Some SetTrue }
 
--- --views N, from 0 to 8,192, 0 where it is not given
+-- --views N, from 0 to 32,768, 0 where it is not given
 abbrev pub views_rule : Rule
-views_rule = record (new_rule (codes "views")) { long = Some (codes "views"); value_names = 1; parser = Some (Signed (pos 0) (pos 8192)); defaults = codes "0" ∷ [] }
+views_rule = record (new_rule (codes "views")) { long = Some (codes "views"); value_names = 1; parser = Some (Signed (pos 0) (pos 32768)); defaults = codes "0" ∷ [] }
 
 -- check [--pieces P] [--workers W] ..
 abbrev pub cutting_app : App

@@ -95,7 +95,7 @@ fn views_argument<'a>(alloc: Global) -> Arg<'a>
     Arg::new(alloc, "views")
         .long("views")
         .value_name("N")
-        .help("How many completed views the history must have, from 0 to 8192")
+        .help("How many completed views the history must have, from 0 to 32768")
         .value_parser(clap::value_parser!(u32).range(0..8193))
         .default_value("0")
 }

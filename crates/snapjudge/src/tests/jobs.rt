@@ -47,12 +47,12 @@ const CHECKS: &[(&str, u32, u32, CheckOptions)] = &[
         },
     ),
     (
-        "snapjudge check --views=8192 --pieces 7 --quiet",
+        "snapjudge check --views=32768 --pieces 7 --quiet",
         7,
         2,
         CheckOptions {
             quiet: true,
-            views: 8192,
+            views: 32768,
         },
     ),
 ];

@@ -73,7 +73,7 @@ const WORKED: &[(&str, bool, u32, &str, &str)] = &[
         "atomic",
         "events 3 calls 2 pending 1 views 1\nregular yes\nmonotone yes\natomic yes\norder 1\n2 p1 view\n",
     ),
-    (BUSY, false, 8192, "refused", "refused record 3: busy\n"),
+    (BUSY, false, 32768, "refused", "refused record 3: busy\n"),
     (
         NEW_THEN_OLD,
         true,
