@@ -1,3 +1,4 @@
+pub mod Fields
 pub mod Closing
 pub mod Listing
 pub mod Slotting

@@ -1,8 +1,8 @@
 -- The desks that are in, as one goes out or comes in.
-use Rattle.std.proofs.Common.{◌≡◌, ℕ, zero, suc, ◌+◌, ◌<◌, ◌≤◌, ◌≢◌, ◌==◌, Bool, true, false, cond, nat_lt, List, [], ◌∷◌, ◌++◌, length, map, take, set, replicate, get_or, Option, Some, None, sym, refl, ap, ◌∙◌, subst, inl, ⊎_elim, arith, get_or-set_other, get_or-set_same, length-append, lt-ltb, le-ltb, eq-eqb, ne_eqb}
+use Rattle.std.proofs.Common.{◌≡◌, ℕ, zero, suc, ◌+◌, ◌<◌, ◌≤◌, ◌≢◌, ◌==◌, Bool, true, false, true≢false, cond, nat_lt, List, [], ◌∷◌, ◌++◌, length, map, take, set, replicate, get_or, Option, Some, None, IsSome, sym, refl, ap, ◌∙◌, subst, inl, ⊎_elim, arith, get_or-set_other, get_or-set_same, length-append, lt-ltb, le-ltb, eq-eqb, ne_eqb}
 use native.Mathlib.Decide.{dec_le, ℕ_discrete}
 use Rattle.std.specs.Prelude.{slice_index_or}
-use Rattle.std.proofs.lemmas.List.{take-replicate}
+use Rattle.std.proofs.lemmas.List.{take-replicate, length-map}
 use Rattle.snap_account.specs.declared.account.Account.{Account}
 use Rattle.snap_account.specs.declared.account.Doing.TheVariants.{Idle}
 use Rattle.snap_board.specs.declared.kept.Kept.{Kept}
@@ -11,7 +11,7 @@ use Rattle.snap_account.specs.Rule.{tick_limit, newcomers}
 use Rattle.snap_account.specs.Plays.{Seated, insert, merge, only_first, but_first}
 use Rattle.snap_account.specs.Hands.{Brief, brief, idle, answered_of}
 use Rattle.snap_board.specs.Slots.{ins, slot_brief, brief_of, Smalls}
-use Rattle.snap_board.specs.Regular.{NoneFrom, Fresh, no_calls, kept_entry, Settled, LastStores}
+use Rattle.snap_board.specs.Regular.{AllIn, AreUpTo, NoneFrom, Fresh, no_calls, kept_entry, Settled, LastStores}
 use Rattle.snap_account.proofs.Lists.{mem_split, mem_one, numbered_positive}
 use Rattle.snap_board.proofs.Listing.{entry_at, last_entry}
 use Rattle.snap_board.proofs.Hand.{hand_low}
@@ -218,3 +218,50 @@ last_stores n c hand size h matches a m =
 
 pub length_more : (d : ℕ) (slots : List (Option Kept)) → length (ins (suc d) slots) ≡ length (slot_brief d (slice_index_or slots d None)) + length (ins d slots)
 length_more d slots = length-append (slot_brief d (slice_index_or slots d None)) (ins d slots)
+
+-- no more desks are in than there are
+ins_most : (n : ℕ) (slots : List (Option Kept)) → length (ins n slots) ≤ n
+ins_most zero slots = omega arith
+ins_most (suc n) slots = let r = ins_most n slots in let m = length_more n slots in let o = one (slice_index_or slots n None) in omega arith
+  where
+    one : (o : Option Kept) → length (slot_brief n o) ≤ 1
+    one None = omega arith
+    one (Some k) = omega arith
+
+ins_whole : (n : ℕ) (slots : List (Option Kept)) → AllIn n slots → length (ins n slots) ≡ n
+ins_whole zero slots all = refl
+ins_whole (suc n) slots all = let r = ins_whole n slots (λ d lt. all d (omega arith)) in let m = length_more n slots in let o = one (slice_index_or slots n None) (all n (omega arith)) in omega arith
+  where
+    one : (o : Option Kept) → IsSome o → length (slot_brief n o) ≡ 1
+    one None here = absurd (true≢false (sym here))
+    one (Some k) here = refl
+
+whole_ins : (n : ℕ) (slots : List (Option Kept)) → length (ins n slots) ≡ n → AllIn n slots
+whole_ins zero slots e d lt = absurd (omega arith)
+whole_ins (suc n) slots e d lt = let m = length_more n slots in let l = ins_most n slots in at (ℕ_discrete d n) (omega arith) (λ less. whole_ins n slots (let o = none (slice_index_or slots n None) in omega arith) d less)
+  where
+    none : (o : Option Kept) → length (slot_brief n o) ≤ 1
+    none None = omega arith
+    none (Some k) = omega arith
+
+    one : (o : Option Kept) → 1 ≤ length (slot_brief n o) → IsSome o
+    one None some_in = absurd (omega arith)
+    one (Some k) some_in = refl
+
+    at : Dec (d ≡ n) → 1 ≤ length (slot_brief n (slice_index_or slots n None)) → (d < n → IsSome (slice_index_or slots d None)) → IsSome (slice_index_or slots d None)
+    at (yes is) here rest = subst (λ (z : ℕ). IsSome (slice_index_or slots z None)) (sym is) (one (slice_index_or slots n None) here)
+    at (no ne) here rest = rest (omega arith)
+
+-- all desks are in exactly where there are as many accounts
+pub all_held : (n : ℕ) (slots : List (Option Kept)) (hand : List Account) → map brief hand ≡ ins n slots → AllIn n slots → length hand ≡ n
+all_held n slots hand e all = sym (length-map hand brief) ∙ ap length e ∙ ins_whole n slots all
+
+pub held_all : (n : ℕ) (slots : List (Option Kept)) (hand : List Account) → map brief hand ≡ ins n slots → length hand ≡ n → AllIn n slots
+held_all n slots hand e full = whole_ins n slots (ap length (sym e) ∙ length-map hand brief ∙ full)
+
+-- the highest desk that is in
+pub up_to : (d : ℕ) (k : Kept) (slots : List (Option Kept)) (hand : List Account) → map brief hand ≡ brief_of d k ∷ ins d slots → AreUpTo d hand
+up_to d k slots hand e a m = ⊎_elim
+    (λ (q : brief_of d k ≡ brief a). let s = ap (λ (z : Brief). z.desk) q in omega arith)
+    (λ q. let l = ins_below d slots (brief a) q in omega arith)
+    (subst (λ (l : List Brief). Mem (brief a) l) e (mem_map brief hand a m))

@@ -7,21 +7,23 @@ use Rattle.snap_account.specs.declared.account.Account.{Account}
 use Rattle.snap_account.specs.declared.account.Answered.{Answered}
 use Rattle.snap_account.specs.declared.account.Answer.{Answer}
 use Rattle.snap_account.specs.declared.account.Answer.TheVariants.{Stored, Viewed, Scanned, Interfered}
-use Rattle.snap_board.specs.declared.board.Board.{Board}
-use Rattle.snap_board.specs.declared.board.Desk.{Desk}
-use Rattle.snap_board.specs.declared.board.Gathered.{Gathered}
 use Rattle.snap_board.specs.declared.record.Record.{Record}
 use Rattle.snap_board.specs.declared.record.RecordedOp.{RecordedOp}
 use Rattle.snap_board.specs.declared.record.RecordedOp.TheVariants as Kind
-use Rattle.snap_account.specs.Hands.{answered_of}
+use Rattle.snap_account.specs.Hands.{idle}
+use Rattle.snap_board.specs.Boards.{BoardView, DeskView, GatheredView}
 
 -- a desk of the board
-abbrev pub IsDeskOf : Board → Desk → Type 0
-IsDeskOf b d = (d.seat.table_id ≡ b.table.shared.table_id) × (d.desk < b.desks)
+abbrev pub IsDeskOf : BoardView → DeskView → Type 0
+IsDeskOf b d = (d.board ≡ b.board) × (d.desk < b.desks)
 
 -- the desks of the board that are in
-abbrev pub IsGatheredOf : Board → Gathered → Type 0
-IsGatheredOf b g = (g.seat.table_id ≡ b.table.shared.table_id) × (g.desks ≡ b.desks)
+abbrev pub IsGatheredOf : BoardView → GatheredView → Type 0
+IsGatheredOf b g = (g.board ≡ b.board) × (g.desks ≡ b.desks)
+
+-- the account of a desk that is out
+abbrev pub account : DeskView → Account
+account d = idle d.desk d.calls d.ticks
 
 -- the entry of component k with a number and a value, nothing for number 0
 abbrev pub shown_entry : ℕ → ℕ × ℕ → List Entry
@@ -49,8 +51,8 @@ abbrev pub records_in : Account → List Record
 records_in a = records_at a.desk a.calls
 
 -- the records of a desk, in its order
-abbrev pub records : Desk → List Record
-records d = records_at d.desk (answered_of d.seat.me.0)
+abbrev pub records : DeskView → List Record
+records d = records_at d.desk d.calls
 
 -- the tries of the scans without a record, in their order
 abbrev pub op_lost : Answer → List ℕ
@@ -63,8 +65,8 @@ abbrev pub lost_in : List Answered → List ℕ
 lost_in [] = []
 lost_in (r ∷ rs) = op_lost r.op ++ lost_in rs
 
-abbrev pub lost : Desk → List ℕ
-lost d = lost_in (answered_of d.seat.me.0)
+abbrev pub lost : DeskView → List ℕ
+lost d = lost_in d.calls
 
 -- how many collects have a record
 abbrev pub op_collects : Answer → ℕ
@@ -76,16 +78,16 @@ op_collects (Interfered n xs ys) = 0
 abbrev pub collects_in : List Answered → ℕ
 collects_in rs = total (λ r. op_collects r.op) rs
 
-abbrev pub collects : Desk → ℕ
-collects d = collects_in (answered_of d.seat.me.0)
+abbrev pub collects : DeskView → ℕ
+collects d = collects_in d.calls
 
 -- how many ticks a desk has drawn
-abbrev pub ticks : Desk → ℕ
-ticks d = d.kept.ticks
+abbrev pub ticks : DeskView → ℕ
+ticks d = d.ticks
 
 -- the accounts of the desks that are in, the highest desk first
-abbrev pub accounts : Gathered → List Account
-accounts g = g.seat.me.0
+abbrev pub accounts : GatheredView → List Account
+accounts g = g.accounts
 
 -- the call began after all earlier calls of the desk had ended
 abbrev pub IsLater : List Record → Record → Type 0

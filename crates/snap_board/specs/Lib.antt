@@ -1,7 +1,9 @@
 pub use Rattle.snap_account.specs.Rule
 pub use Rattle.snap_account.specs.Plays
+pub mod Boards
 pub mod Desks
 pub mod Slots
+pub mod Fields
 pub mod Regular
 pub mod History
 pub mod Refusals

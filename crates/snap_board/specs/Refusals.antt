@@ -7,7 +7,7 @@ use Rattle.snap_board.specs.declared.refusals.CollectRefusal.{CollectRefusal}
 use Rattle.snap_board.specs.declared.refusals.CollectRefusal.TheVariants as Collecting
 use Rattle.snap_board.specs.declared.refusals.ScanRefusal.{ScanRefusal}
 use Rattle.snap_board.specs.declared.refusals.ScanRefusal.TheVariants as Scanning
-use Rattle.snap_board.specs.declared.board.Desk.{Desk}
+use Rattle.snap_board.specs.Boards.{DeskView}
 use Rattle.snap_board.specs.Desks.{records, ticks, lost}
 
 -- why a board of so many desks was not opened
@@ -27,7 +27,7 @@ IsNotScanned ticks tries Scanning.Memory = ticks + tries + 2 ≤ tick_limit
 IsNotScanned ticks tries Scanning.Interfered = ticks + tries + 2 ≤ tick_limit
 
 -- what a scan without a record leaves of its desk
-abbrev pub IsLeft : ℕ → Desk → Desk → ScanRefusal → Type 0
+abbrev pub IsLeft : ℕ → DeskView → DeskView → ScanRefusal → Type 0
 IsLeft tries old new Scanning.Spent = new ≡ old
 IsLeft tries old new Scanning.Memory = new ≡ old
 IsLeft tries old new Scanning.Interfered = (records new ≡ records old) × (ticks new ≡ ticks old + tries + 2) × (lost new ≡ lost old ++ tries ∷ [])

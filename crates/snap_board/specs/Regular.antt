@@ -75,6 +75,10 @@ WereInterfered hand = (a : Account) → Mem a hand → (r : Answered) → Mem r 
 abbrev pub AllIn : ℕ → List (Option Kept) → Type 0
 AllIn n slots = (d : ℕ) → d < n → IsSome (slice_index_or slots d None)
 
+-- no account is of a desk above d
+abbrev pub AreUpTo : ℕ → List Account → Type 0
+AreUpTo d hand = (a : Account) → Mem a hand → a.desk ≤ d
+
 -- none of the desks from d up to n is in
 abbrev pub NoneFrom : ℕ → ℕ → List (Option Kept) → Type 0
 NoneFrom d n slots = (k : ℕ) → d ≤ k → k < n → slice_index_or slots k None ≡ None

@@ -1,23 +1,28 @@
-ghost use Rattle.std.specs.Prelude.{◌≡◌, ◌+◌, ◌<◌, ◌≤◌, [], ◌∷◌, map, length};
-ghost use Rattle.snap_account.specs.Calls.{latest};
-ghost use Rattle.snap_account.specs.Rule.{tick_limit};
-ghost use Rattle.snap_account.specs.Hands.{idle, answered_of, brief};
-ghost use Rattle.snap_board.specs.Slots.{ins, Smalls};
+ghost use Rattle.std.specs.Prelude.{◌≤◌};
 
 use crate::kept::Kept;
 use atomic_table::{Seat, Table};
 use snap_account::{BoardRule, Hand, Size};
 use std::alloc::Global;
+use std::marker::Model;
 
 /// A board of atomic words: a clock, and one word for each desk's component.
 #[derive(Drop)]
 pub struct Board {
     pub(crate) table: Table<(), Hand, Size, BoardRule, Global>,
     pub(crate) desks: u8,
-    ghost words: { table.shared.table_id.words ≡ desks + 1 },
-    ghost slots: { table.shared.table_id.slots ≡ 0 },
-    ghost keyed: { table.shared.key.desks ≡ desks },
-    ghost few: { (0 < desks) × (desks ≤ 8) },
+}
+
+impl Model for Board {
+    ghost use Rattle.snap_board.specs.Boards.{BoardView};
+
+    ghost Value = { BoardView };
+
+    ghost use Rattle.snap_board.specs.Fields.{IsBoard, board_view};
+
+    ghost view = { board_view };
+
+    ghost invariant = { IsBoard };
 }
 
 /// The right to call on a board as one process, which writes the component of its own number.
@@ -26,9 +31,18 @@ pub struct Desk {
     pub(crate) seat: Seat<(), Hand>,
     pub(crate) desk: u8,
     pub(crate) kept: Kept,
-    ghost alone: { seat.me ≡ (idle desk (answered_of seat.me.0) kept.ticks ∷ [], []) },
-    ghost stored: { latest (0, 0) (answered_of seat.me.0) ≡ (kept.stores, kept.value) },
-    ghost small: { (kept.stores ≤ kept.ticks) × (kept.ticks ≤ tick_limit) },
+}
+
+impl Model for Desk {
+    ghost use Rattle.snap_board.specs.Boards.{DeskView};
+
+    ghost Value = { DeskView };
+
+    ghost use Rattle.snap_board.specs.Fields.{IsDesk, desk_view};
+
+    ghost view = { desk_view };
+
+    ghost invariant = { IsDesk };
 }
 
 /// The desks that are in.
@@ -37,10 +51,18 @@ pub struct Gathered {
     pub(crate) seat: Seat<(), Hand>,
     pub(crate) desks: u8,
     pub(crate) slots: [Option<Kept>; 8],
-    ghost bare: { seat.me.1 ≡ [] },
-    ghost few: { (desks ≤ 8) × (length slots ≡ 8) },
-    ghost matches: { map brief seat.me.0 ≡ ins desks slots },
-    ghost small: { Smalls slots },
+}
+
+impl Model for Gathered {
+    ghost use Rattle.snap_board.specs.Boards.{GatheredView};
+
+    ghost Value = { GatheredView };
+
+    ghost use Rattle.snap_board.specs.Fields.{IsGathered, gathered_view};
+
+    ghost view = { gathered_view };
+
+    ghost invariant = { IsGathered };
 }
 
 /// What is left of a board when it was closed: the last store of each desk.

@@ -102,7 +102,7 @@ impl Board {
 
     // Loads the word of each component, from 0 on.
     pub(crate) fn load_words(&self, seat: &mut Seat<(), Hand>, words: &mut Vec<u64>)
-        requires seat { seat.old.table_id ≡ self.now.table.shared.table_id }
+        requires seat { seat.old.table_id ≡ self.now.board }
         requires ready { (seat.old.me ≡ has_read seat.old.me []) × HasRead (doing_of seat.old.me.0) [] }
         requires room { (words.old.items ≡ []) × (self.now.desks ≤ vec_capacity words.old) }
         ensures seat { seat.new.table_id ≡ seat.old.table_id }

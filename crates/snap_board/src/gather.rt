@@ -1,4 +1,4 @@
-ghost use Rattle.std.specs.Prelude.{◌≡◌, ◌+◌, ◌<◌, ◌≤◌, ◌↔◌, [], ◌++◌, Some, None, IfOk, IfErr, OnOk, OnErr, IsOk, IfNone, MatchOption, IfSome, IsTrue, slice_index_or, slice_set, length};
+ghost use Rattle.std.specs.Prelude.{◌≡◌, ◌+◌, ◌<◌, ◌≤◌, ◌↔◌, [], ◌∷◌, Some, None, IfOk, IfErr, OnOk, OnErr, IsOk, IfNone, MatchOption, IfSome, IsTrue, slice_index_or, length};
 ghost use Rattle.snap_core.specs.Events.{IsHistory};
 ghost use Rattle.snap_core.specs.Calls.{calls_of};
 ghost use Rattle.snap_core.specs.Monotone.{IsMonotone};
@@ -6,11 +6,11 @@ ghost use Rattle.snap_core.specs.Orders.{IsAtomic};
 ghost use Rattle.snap_core.specs.Regular.{IsRegular};
 ghost use Rattle.snap_board.specs.Scans.{scan_history};
 ghost use Rattle.snap_account.specs.Rule.{newcomers};
-ghost use Rattle.snap_account.specs.Plays.{but_first, only_first, merge};
+ghost use Rattle.snap_account.specs.Plays.{but_first, only_first, insert};
 ghost use Rattle.snap_board.specs.Slots.{ins};
-ghost use Rattle.snap_board.specs.Desks.{accounts, IsDeskOf, IsGatheredOf};
+ghost use Rattle.snap_board.specs.Desks.{account, accounts, IsDeskOf, IsGatheredOf};
 ghost use Rattle.snap_board.specs.History.{board_history, AllCompleted};
-ghost use Rattle.snap_board.specs.Regular.{AllIn, Settled, ScansSettled, WereInterfered, Fresh, NoneFrom, LastStores, kept_entry, entry_in};
+ghost use Rattle.snap_board.specs.Regular.{AllIn, AreUpTo, Settled, ScansSettled, WereInterfered, Fresh, NoneFrom, LastStores, kept_entry, entry_in};
 ghost use Rattle.snap_board.specs.Refusals.{IsNotOpened};
 
 use crate::board::{Board, Closed, Desk, Gathered};
@@ -98,11 +98,9 @@ impl Board {
         ensures none { IfOk result (λ o. IfNone o (gathered.new ≡ gathered.old)) }
         ensures empty { IfOk result (λ o. IfNone o (accounts gathered.old ≡ [])) }
         ensures desk { IfOk result (λ o. IfSome o (λ d. IsDeskOf self.now d)) }
-        ensures highest { IfOk result (λ o. IfSome o (λ d. NoneFrom (d.desk + 1) self.now.desks gathered.old.slots)) }
-        ensures kept { IfOk result (λ o. IfSome o (λ d. slice_index_or gathered.old.slots d.desk None ≡ Some d.kept)) }
-        ensures account { IfOk result (λ o. IfSome o (λ d. d.seat.me.0 ≡ only_first (accounts gathered.old))) }
+        ensures highest { IfOk result (λ o. IfSome o (λ d. AreUpTo d.desk (accounts gathered.old))) }
+        ensures account { IfOk result (λ o. IfSome o (λ d. account d ∷ [] ≡ only_first (accounts gathered.old))) }
         ensures others { IfOk result (λ o. IfSome o (λ d. accounts gathered.new ≡ but_first (accounts gathered.old))) }
-        ensures left { IfOk result (λ o. IfSome o (λ d. gathered.new.slots ≡ slice_set gathered.old.slots d.desk None)) }
     {
         let Some(desk) = highest(gathered.desks, &gathered.slots) else {
             return Ok(None);
@@ -120,8 +118,7 @@ impl Board {
         requires gathered { IsGatheredOf self.now gathered }
         requires desk { IsDeskOf self.now desk }
         ensures same { IsGatheredOf self.now result }
-        ensures slot { result.slots ≡ slice_set gathered.slots desk.desk (Some desk.kept) }
-        ensures account { accounts result ≡ merge (accounts gathered) desk.seat.me.0 }
+        ensures account { accounts result ≡ insert (account desk) (accounts gathered) }
     {
         let Gathered {
             seat: mut all,
@@ -145,7 +142,7 @@ impl Board {
     /// both come back unchanged.
     pub fn close(self, gathered: Gathered) -> Result<Closed, (Board, Gathered)>
         requires { IsGatheredOf self gathered }
-        ensures exact { IsOk result ↔ AllIn self.desks gathered.slots }
+        ensures exact { IsOk result ↔ (length (accounts gathered) ≡ self.desks) }
         ensures settled { IsOk result → Settled self.desks (accounts gathered) }
         ensures scans { IsOk result → ScansSettled (accounts gathered) }
         ensures history { IsOk result → IsHistory (board_history (accounts gathered)) }

@@ -23,7 +23,7 @@ fn are_equal(before: &Vec<u64>, since: &Vec<u64>) -> bool
 impl Board {
     // Makes a middle tick, and a collect after it. Tells whether that read what the collect before it did.
     fn try_once(&self, seat: &mut Seat<(), Hand>, before: &Vec<u64>, since: &mut Vec<u64>) -> bool
-        requires seat { (seat.old.table_id ≡ self.now.table.shared.table_id) × (seat.old.me ≡ one_desk seat.old.me) }
+        requires seat { (seat.old.table_id ≡ self.now.board) × (seat.old.me ≡ one_desk seat.old.me) }
         requires trying { StillTries self.now.desks seat.old.me before.now.items seat.old.me }
         requires read { HasReadAll self.now.desks seat.old.me before.now.items }
         requires room { self.now.desks ≤ vec_capacity since.old }
@@ -51,7 +51,7 @@ impl Board {
         since: &mut Vec<u64>,
         tries: u32,
     ) -> Option<u32>
-        requires seat { (seat.old.table_id ≡ self.now.table.shared.table_id) × (seat.old.me ≡ one_desk seat.old.me) × (made_of seat.old.me.0 ≡ 0) }
+        requires seat { (seat.old.table_id ≡ self.now.board) × (seat.old.me ≡ one_desk seat.old.me) × (made_of seat.old.me.0 ≡ 0) }
         requires trying { StillTries self.now.desks seat.old.me before.old.items seat.old.me }
         requires read { HasReadAll self.now.desks seat.old.me before.old.items }
         requires room { (self.now.desks ≤ vec_capacity before.old) × (self.now.desks ≤ vec_capacity since.old) }

@@ -3,15 +3,17 @@ use Rattle.std.proofs.lemmas.List.{length_push, length-map}
 use Rattle.snap_account.specs.Hands.{showing, pairs, doing_of, desk_of, answered_of, ticks_of, Told}
 use Rattle.snap_account.specs.Plays.{entry_of}
 use Rattle.snap_account.proofs.Moves.{loads_at}
+use Rattle.snap_board.specs.Boards.{BoardView}
 use Rattle.snap_account.proofs.Reading.{has_showing, has_read_more, told_more}
 use Rattle.snap_board.proofs.board.Board.load_words.Goals as goal
 
 pub load-word-requires : goal.load-word-requires
 load-word-requires c =
-    let self = c.args.self.now in let i = c.words.invariant in
+    let self = c.self.inside in let board = c.self.invariant in let i = c.words.invariant in
+    let view = c.self.view_is in let n = ap (λ (v : BoardView). v.desks) view in
     let me0 = c.args.seat.now.me in let xs = pairs c.words.words.items in
-    let keyed = self.keyed in let few = self.few.1 in let wide = self.words in let count = i.count in let size = length-map c.words.words.items entry_of in (
-      i.at ∙ c.requires.seat,
+    let keyed = board.keyed in let few = board.few.1 in let wide = board.words in let count = i.count in let size = length-map c.words.words.items entry_of in (
+      i.at ∙ c.requires.seat ∙ sym (ap (λ (v : BoardView). v.board) view),
       omega (arith, c.from.ensures, c.words-test.true),
       loads_at self.table.shared.key.desks self.table.shared.table_id.slots c.words.seat.id c.words.seat.me (desk_of me0.0) (answered_of me0.0) (ticks_of me0.0) (omega arith) (showing xs (doing_of me0.0)) xs (c.from.result + 1)
           (ap (λ m. m.0) i.reads) (has_showing (doing_of me0.0) [] xs c.requires.ready.1) (omega (arith, c.words-test.true)) (omega (arith, c.from.ensures)),

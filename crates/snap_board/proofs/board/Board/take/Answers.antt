@@ -1,38 +1,56 @@
 use Rattle.std.proofs.Common.{◌≡◌, map, set, Some, None, sym, ap, ◌∙◌, subst, arith, length-set}
 use Rattle.std.specs.Prelude.{slice_index_or}
 use Rattle.snap_account.specs.Hands.{brief}
+use Rattle.snap_account.specs.Plays.{Seated}
 use Rattle.snap_board.specs.Slots.{ins, brief_of, Smalls}
 use Rattle.snap_account.proofs.Seats.{splits}
-use Rattle.snap_board.proofs.Slotting.{ins_top, ins_clear, smalls_clear, head_of, out_of, none_in}
+use Rattle.snap_board.proofs.Slotting.{ins_top, ins_clear, smalls_clear, head_of, out_of, none_in, up_to}
+use Rattle.snap_board.proofs.Fields.{gathered_at}
 use Rattle.snap_board.proofs.board.Board.take.Goals as goal
 
 pub split_seat-seat-requires : goal.split_seat-seat-requires
-split_seat-seat-requires c = (c.requires.0, omega (arith, c.args.self.now.words), splits _ _ _)
+split_seat-seat-requires c = ((gathered_at c.self.inside _ c.gathered.inside _ c.self.view_is c.gathered.view_is c.requires).0, omega (arith, c.self.invariant.words), splits _ _ _)
 
 pub invariant_of-gathered : goal.invariant_of-gathered
 invariant_of-gathered c =
-    let old = c.args.gathered.now in let d = c.in-Some.desk in let h = c.in-Some.ensures in
+    let old = c.gathered.inside in let good = c.gathered.invariant in let d = c.in-Some.desk in let h = c.in-Some.ensures in
     let k = c.in-Some-slots.kept in let s = c.split_seat-seat.ensures in
     let here : slice_index_or old.slots d None ≡ Some k = ap (λ i. slice_index_or old.slots i None) (sym c.from.ensures) ∙ c.in-Some-slots.is in
     let top = ins_top old.desks d old.slots k h.0 here h.2 in
-    let head = head_of old.seat.me.0 (brief_of d k) (ins d old.slots) (old.matches ∙ top) in
+    let head = head_of old.seat.me.0 (brief_of d k) (ins d old.slots) (good.matches ∙ top) in
     let clear = ins_clear old.desks d old.slots h.0 h.2 in
     let at : set old.slots c.from-2.result None ≡ set old.slots d None = ap (λ i. set old.slots i None) c.from-2.ensures in
     record {
-      bare = ap (λ m. m.1) s.2 ∙ old.bare;
-      few = (old.few.0, length-set old.slots c.from-2.result None ∙ old.few.1);
+      bare = ap (λ m. m.1) s.2 ∙ good.bare;
+      few = (good.few.0, length-set old.slots c.from-2.result None ∙ good.few.1);
       matches = ap (λ m. map brief m.0) s.2 ∙ head.3 ∙ sym clear ∙ ap (ins old.desks) (sym at);
-      small = subst Smalls (sym at) (smalls_clear old.slots d old.small);
+      small = subst Smalls (sym at) (smalls_clear old.slots d good.small);
     }
 
 pub invariant_of-result : goal.invariant_of-result
 invariant_of-result c =
-    let old = c.args.gathered.now in let d = c.in-Some.desk in let h = c.in-Some.ensures in
+    let old = c.gathered.inside in let good = c.gathered.invariant in let d = c.in-Some.desk in let h = c.in-Some.ensures in
     let k = c.in-Some-slots.kept in let s = c.split_seat-seat.ensures in
     let here : slice_index_or old.slots d None ≡ Some k = ap (λ i. slice_index_or old.slots i None) (sym c.from.ensures) ∙ c.in-Some-slots.is in
     let top = ins_top old.desks d old.slots k h.0 here h.2 in
-    let out = out_of old.seat.me c.split_seat-seat.result.me d k (ins d old.slots) (old.matches ∙ top) s.4 in
-    record { alone = out.0; stored = out.1; small = old.small d k here }
+    let out = out_of old.seat.me c.split_seat-seat.result.me d k (ins d old.slots) (good.matches ∙ top) s.4 in
+    record { alone = out.0; stored = out.1; small = good.small d k here }
 
 pub returns-in_default-clause-empty : goal.returns-in_default-clause-empty
-returns-in_default-clause-empty c = let old = c.args.gathered.now in none_in old.desks old.slots old.seat.me.0 old.matches c.in_default.ensures
+returns-in_default-clause-empty c = let old = c.gathered.inside in rw (← c.gathered.view_is) (none_in old.desks old.slots old.seat.me.0 c.gathered.invariant.matches c.in_default.ensures)
+
+pub returns-clause-highest : goal.returns-clause-highest
+returns-clause-highest c = rw (← c.gathered.view_is) (
+    let old = c.gathered.inside in let good = c.gathered.invariant in let d = c.in-Some.desk in let h = c.in-Some.ensures in
+    let k = c.in-Some-slots.kept in
+    let here : slice_index_or old.slots d None ≡ Some k = ap (λ i. slice_index_or old.slots i None) (sym c.from.ensures) ∙ c.in-Some-slots.is in
+    up_to d k old.slots old.seat.me.0 (good.matches ∙ ins_top old.desks d old.slots k h.0 here h.2))
+
+pub returns-clause-account : goal.returns-clause-account
+returns-clause-account c = rw (← c.gathered.view_is) (
+    let old = c.gathered.inside in let good = c.gathered.invariant in let d = c.in-Some.desk in let h = c.in-Some.ensures in
+    let k = c.in-Some-slots.kept in let s = c.split_seat-seat.ensures in
+    let here : slice_index_or old.slots d None ≡ Some k = ap (λ i. slice_index_or old.slots i None) (sym c.from.ensures) ∙ c.in-Some-slots.is in
+    let top = ins_top old.desks d old.slots k h.0 here h.2 in
+    let out = out_of old.seat.me c.split_seat-seat.result.me d k (ins d old.slots) (good.matches ∙ top) s.4 in
+    ap (λ (m : Seated). m.0) (sym out.0 ∙ s.4))

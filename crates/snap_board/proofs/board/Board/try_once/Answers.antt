@@ -5,6 +5,7 @@ use Rattle.snap_account.specs.Calls.{middle_open}
 use Rattle.snap_account.specs.Plays.{Seated, entry_of}
 use Rattle.snap_account.specs.Hands.{pairs, desk_of, answered_of, doing_of, ticks_of, Told}
 use Rattle.snap_account.specs.Tries.{IsTrying, HasAgreed}
+use Rattle.snap_board.specs.Boards.{BoardView}
 use Rattle.snap_account.proofs.Calling.{middled_after}
 use Rattle.snap_account.proofs.Reading.{ready}
 use Rattle.snap_account.proofs.Trying.{pairs_same, ticks_trying, reads_next, tries_on, agrees_on, tried}
@@ -12,11 +13,12 @@ use Rattle.snap_board.proofs.board.Board.try_once.Goals as goal
 
 pub fetch_add-requires : goal.fetch_add-requires
 fetch_add-requires c =
-    let me = c.args.seat.now.me in let self = c.args.self.now in
+    let me = c.args.seat.now.me in let self = c.self.inside in let board = c.self.invariant in
+    let n = ap (λ (v : BoardView). v.desks) c.self.view_is in
     let key = self.table.shared.key.desks in
-    let keyed = self.keyed in let few = self.few.1 in (
-      c.requires.seat.0,
-      omega (arith, self.words),
+    let keyed = board.keyed ∙ n in let few = board.few.1 in (
+      c.requires.seat.0 ∙ sym (ap (λ (v : BoardView). v.board) c.self.view_is),
+      omega (arith, board.words),
       ticks_trying key self.table.shared.table_id.slots c.args.seat.now.id me (desk_of me.0) (answered_of me.0) (ticks_of me.0) (omega arith) (doing_of me.0) (pairs c.args.before.now.items) (ap (λ m. m.0) c.requires.seat.1)
           (subst (λ (n : ℕ). IsTrying n (desk_of me.0) (answered_of me.0) (pairs c.args.before.now.items) (doing_of me.0)) (sym keyed) c.requires.trying) (c.requires.read.0 ∙ sym keyed) c.requires.ticks,
     )

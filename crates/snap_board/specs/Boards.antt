@@ -1,0 +1,23 @@
+-- What contracts see of a board, of its desks that are out and of those that are in.
+use Rattle.std.specs.Prelude.{ℕ, List}
+use Rattle.atomic_table.specs.Seated.{TableId}
+use Rattle.snap_account.specs.declared.account.Account.{Account}
+use Rattle.snap_account.specs.declared.account.Answered.{Answered}
+
+-- a board, by its identity, and how many desks it has
+pub record BoardView : Type 0 where
+  pub board : TableId
+  pub desks : ℕ
+
+-- a desk of the board with that identity: its number, its answered calls, and how many ticks it drew. It has no open call
+pub record DeskView : Type 0 where
+  pub board : TableId
+  pub desk : ℕ
+  pub calls : List Answered
+  pub ticks : ℕ
+
+-- the accounts of the desks that are in, the highest desk first, and how many desks their board has
+pub record GatheredView : Type 0 where
+  pub board : TableId
+  pub desks : ℕ
+  pub accounts : List Account
