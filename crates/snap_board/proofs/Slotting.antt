@@ -11,11 +11,11 @@ use Rattle.snap_account.specs.Rule.{tick_limit, newcomers}
 use Rattle.snap_account.specs.Plays.{Seated, insert, merge, only_first, but_first}
 use Rattle.snap_account.specs.Hands.{Brief, brief, idle, answered_of}
 use Rattle.snap_board.specs.Slots.{ins, slot_brief, brief_of, Smalls}
-use Rattle.snap_board.specs.Regular.{AllIn, AreUpTo, NoneFrom, Fresh, no_calls, kept_entry, Settled, LastStores}
+use Rattle.snap_board.specs.Regular.{AllIn, AreUpTo, NoneFrom, Fresh, no_calls, kept_entry, Settled, HasLast, LastStores}
 use Rattle.snap_account.proofs.Lists.{mem_split, mem_one, numbered_positive}
 use Rattle.snap_board.proofs.Listing.{entry_at, last_entry}
 use Rattle.snap_board.proofs.Hand.{hand_low}
-use Rattle.snap_board.specs.declared.board.Closed.{Closed}
+use Rattle.snap_board.specs.Boards.{ClosedView}
 use Rattle.snap_board.proofs.Closing.{idle_doing, mem_map}
 
 abbrev pub insert_brief : Brief → List Brief → List Brief
@@ -207,12 +207,12 @@ ins_kept (suc n) slots x m = ⊎_elim (λ a. one (slice_index_or slots n None) r
         let d : n ≡ x.desk = ap (λ (z : Brief). z.desk) is in
         (k, ap (λ z. slice_index_or slots z None) (sym d) ∙ e, ap (λ z. brief_of z k) (sym d) ∙ is)
 
-pub last_stores : (n : ℕ) (c : Closed) (hand : List Account) → c.desks ≡ n → Settled n hand → map brief hand ≡ ins n c.slots → LastStores c hand
-last_stores n c hand size h matches a m =
-    let q = ins_kept n c.slots (brief a) (subst (λ (l : List Brief). Mem (brief a) l) matches (mem_map brief hand a m)) in
+pub last_stores : (n : ℕ) (c : ClosedView) (slots : List (Option Kept)) (hand : List Account) → c.desks ≡ n → HasLast n slots c.last → Settled n hand → map brief hand ≡ ins n slots → LastStores c hand
+last_stores n c slots hand size has h matches a m =
+    let q = ins_kept n slots (brief a) (subst (λ (l : List Brief). Mem (brief a) l) matches (mem_map brief hand a m)) in
     let low = hand_low n hand h.desks a m in
     let stored : latest (0, 0) a.calls ≡ (q.0.stores, q.0.value) = λ i. ((sym q.2 i).number, (sym q.2 i).value) in
-    ap (λ b. cond b (kept_entry a.desk (slice_index_or c.slots a.desk None)) None) (lt-ltb a.desk c.desks (omega arith))
+    ap (λ b. cond b (slice_index_or c.last a.desk None) None) (lt-ltb a.desk c.desks (omega arith)) ∙ has a.desk (omega arith)
     ∙ ap (kept_entry a.desk) q.1 ∙ ap (entry_at a.desk) (sym stored)
     ∙ last_entry a.desk (0, 0) a.calls (numbered_positive 1 (writes_in a.calls) (omega arith) (h.numbered a m))
 

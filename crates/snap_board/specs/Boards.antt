@@ -1,6 +1,7 @@
--- What contracts see of a board, of its desks that are out and of those that are in.
-use Rattle.std.specs.Prelude.{ℕ, List}
+-- What contracts see of a board, of its desks that are out and of those that are in, and of a board that was closed.
+use Rattle.std.specs.Prelude.{ℕ, List, Option}
 use Rattle.atomic_table.specs.Seated.{TableId}
+use Rattle.snap_core.specs.declared.entry.Entry.{Entry}
 use Rattle.snap_account.specs.declared.account.Account.{Account}
 use Rattle.snap_account.specs.declared.account.Answered.{Answered}
 
@@ -21,3 +22,8 @@ pub record GatheredView : Type 0 where
   pub board : TableId
   pub desks : ℕ
   pub accounts : List Account
+
+-- how many desks a board had, and from component 0 on the last stored entry of each
+pub record ClosedView : Type 0 where
+  pub desks : ℕ
+  pub last : List (Option Entry)

@@ -3,11 +3,12 @@ use Rattle.std.specs.Prelude.{◌≡◌, ◌+◌, ◌<◌, ◌≤◌, [], ◌∷
 use Rattle.snap_account.specs.Calls.{latest}
 use Rattle.snap_account.specs.Rule.{tick_limit}
 use Rattle.snap_account.specs.Hands.{idle, answered_of, brief}
-use Rattle.snap_board.specs.Boards.{BoardView, DeskView, GatheredView}
+use Rattle.snap_board.specs.Boards.{BoardView, DeskView, GatheredView, ClosedView}
 use Rattle.snap_board.specs.Slots.{ins, Smalls}
 use Rattle.snap_board.specs.declared.board.Board.TheInside as board
 use Rattle.snap_board.specs.declared.board.Desk.TheInside as desk
 use Rattle.snap_board.specs.declared.board.Gathered.TheInside as gathered
+use Rattle.snap_board.specs.declared.board.Closed.TheInside as closed
 
 abbrev pub board_view : board.Inside → BoardView
 board_view b = record { board = b.table.shared.table_id; desks = b.desks }
@@ -37,3 +38,10 @@ pub record IsGathered (g : gathered.Inside) : Type 0 where
   pub few : (g.desks ≤ 8) × (length g.slots ≡ 8)
   pub matches : map brief g.seat.me.0 ≡ ins g.desks g.slots
   pub small : Smalls g.slots
+
+abbrev pub closed_view : closed.Inside → ClosedView
+closed_view c = record { desks = c.desks; last = c.last }
+
+pub record IsClosed (c : closed.Inside) : Type 0 where
+  pub few : c.desks ≤ 8
+  pub eight : length c.last ≡ 8

@@ -5,7 +5,7 @@ use lib.ListN.{get_elem?}
 use Rattle.snap_account.specs.declared.account.Account.{Account}
 use Rattle.snap_account.specs.declared.account.Doing.TheVariants.{Idle}
 use Rattle.snap_board.specs.declared.kept.Kept.{Kept}
-use Rattle.snap_board.specs.declared.board.Closed.{Closed}
+use Rattle.snap_board.specs.Boards.{ClosedView}
 use Rattle.snap_core.specs.declared.entry.Entry.{Entry}
 use Rattle.snap_board.specs.Desks.{records_in, last_stored}
 use Rattle.snap_core.specs.Sums.{times, total}
@@ -95,10 +95,14 @@ abbrev pub kept_entry : ℕ → Option Kept → Option Entry
 kept_entry d None = None
 kept_entry d (Some k) = cond (nat_lt 0 k.stores) (Some (record { component = d; number = k.stores; value = k.value })) None
 
+-- the last stores of the desks below n, by what is kept of each
+abbrev pub HasLast : ℕ → List (Option Kept) → List (Option Entry) → Type 0
+HasLast n slots last = (k : ℕ) → k < n → slice_index_or last k None ≡ kept_entry k (slice_index_or slots k None)
+
 -- the last stored entry of component k, nothing where the board had no such desk
-abbrev pub entry_in : Closed → ℕ → Option Entry
-entry_in c k = cond (nat_lt k c.desks) (kept_entry k (slice_index_or c.slots k None)) None
+abbrev pub entry_in : ClosedView → ℕ → Option Entry
+entry_in c k = cond (nat_lt k c.desks) (slice_index_or c.last k None) None
 
 -- each desk's last store is the entry of its component
-abbrev pub LastStores : Closed → List Account → Type 0
+abbrev pub LastStores : ClosedView → List Account → Type 0
 LastStores c hand = (a : Account) → Mem a hand → entry_in c a.desk ≡ last_stored None (records_in a)

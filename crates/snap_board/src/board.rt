@@ -1,8 +1,7 @@
-ghost use Rattle.std.specs.Prelude.{◌≤◌};
-
 use crate::kept::Kept;
 use atomic_table::{Seat, Table};
 use snap_account::{BoardRule, Hand, Size};
+use snap_core::Entry;
 use std::alloc::Global;
 use std::marker::Model;
 
@@ -69,6 +68,19 @@ impl Model for Gathered {
 #[derive(Clone, Copy, Debug)]
 pub struct Closed {
     pub(crate) desks: u8,
-    pub(crate) slots: [Option<Kept>; 8],
-    ghost few: { desks ≤ 8 },
+    pub(crate) last: [Option<Entry>; 8],
+}
+
+impl Model for Closed {
+    ghost use Rattle.snap_board.specs.Boards.{ClosedView};
+
+    ghost Value = { ClosedView };
+
+    ghost use Rattle.snap_board.specs.Fields.{IsClosed, closed_view};
+
+    ghost view = { closed_view };
+
+    ghost invariant = { IsClosed };
+
+    ghost inverse = { λ c. record { desks = c.desks; last = c.last } };
 }

@@ -10,7 +10,7 @@ ghost use Rattle.snap_account.specs.Plays.{but_first, only_first, insert};
 ghost use Rattle.snap_board.specs.Slots.{ins};
 ghost use Rattle.snap_board.specs.Desks.{account, accounts, IsDeskOf, IsGatheredOf};
 ghost use Rattle.snap_board.specs.History.{board_history, AllCompleted};
-ghost use Rattle.snap_board.specs.Regular.{AllIn, AreUpTo, Settled, ScansSettled, WereInterfered, Fresh, NoneFrom, LastStores, kept_entry, entry_in};
+ghost use Rattle.snap_board.specs.Regular.{AllIn, AreUpTo, Settled, ScansSettled, WereInterfered, Fresh, NoneFrom, HasLast, LastStores, kept_entry, entry_in};
 ghost use Rattle.snap_board.specs.Refusals.{IsNotOpened};
 
 use crate::board::{Board, Closed, Desk, Gathered};
@@ -50,6 +50,33 @@ fn highest(desks: u8, slots: &[Option<Kept>; 8]) -> Option<u8>
         }
     }
     None
+}
+
+// The last store of a desk, by what is kept of it.
+fn last_store(desk: u8, slot: Option<Kept>) -> Option<Entry>
+    ensures { result ≡ kept_entry desk slot }
+{
+    let kept = slot?;
+    if kept.stores == 0 {
+        return None;
+    }
+    Some(Entry {
+        component: desk,
+        number: kept.stores,
+        value: kept.value,
+    })
+}
+
+// The last store of each desk below `desks`.
+fn last_stores(desks: u8, slots: &[Option<Kept>; 8]) -> [Option<Entry>; 8]
+    requires { desks ≤ 8 }
+    ensures { HasLast desks slots.now result × (length result ≡ 8) }
+{
+    let mut last = [None; 8];
+    'rows: for d in 0..desks {
+        last[usize::from(d)] = last_store(d, slots[usize::from(d)]);
+    }
+    last
 }
 
 // Whether all desks are in.
@@ -161,7 +188,8 @@ impl Board {
         let Gathered { seat, desks, slots } = gathered;
         let Board { table, desks: _ } = self;
         table.close_with(seat).free();
-        Ok(Closed { desks, slots })
+        let last = last_stores(desks, &slots);
+        Ok(Closed { desks, last })
     }
 }
 
@@ -204,14 +232,6 @@ impl Closed {
         if k >= self.desks {
             return None;
         }
-        let kept = self.slots[usize::from(k)]?;
-        if kept.stores == 0 {
-            return None;
-        }
-        Some(Entry {
-            component: k,
-            number: kept.stores,
-            value: kept.value,
-        })
+        self.last[usize::from(k)]
     }
 }

@@ -2,7 +2,7 @@ use Rattle.std.proofs.Common.{◌≡◌, ℕ, length, map, true≢false, refl, a
 use Rattle.snap_account.specs.Rule.{Boarded}
 use Rattle.snap_board.specs.Boards.{BoardView, GatheredView}
 use Rattle.snap_account.specs.Hands.{brief}
-use Rattle.snap_board.specs.Regular.{AllIn, Settled, ScansSettled}
+use Rattle.snap_board.specs.Regular.{AllIn, HasLast, Settled, ScansSettled}
 use Rattle.snap_board.specs.Slots.{ins}
 use Rattle.snap_board.proofs.Closing.{settles, settles_scans}
 use Rattle.snap_board.proofs.Ordering.{close_history, close_completed, close_regular}
@@ -70,5 +70,5 @@ returns-clause-last c =
     let at = gathered_at self _ old _ c.self.view_is c.gathered.view_is c.requires in
     let n = at.1 ∙ ap (λ (b : BoardView). b.desks) c.self.view_is in
     let hand = ap (λ (g : GatheredView). g.accounts) c.gathered.view_is in
-    last_stores c.args.self.desks (record { desks = old.desks; slots = old.slots; few = c.gathered.invariant.few.0 }) c.args.gathered.accounts n (returns-clause-settled c refl)
+    last_stores c.args.self.desks (record { desks = old.desks; last = c.last_stores-last.result }) old.slots c.args.gathered.accounts n (subst (λ (z : ℕ). HasLast z old.slots c.last_stores-last.result) n c.last_stores-last.ensures.0) (returns-clause-settled c refl)
     (ap (map brief) (sym hand) ∙ c.gathered.invariant.matches ∙ ap (λ z. ins z old.slots) n)
