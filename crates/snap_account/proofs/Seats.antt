@@ -1,17 +1,17 @@
 -- The seats hold the accounts, each once, after each step.
 use Rattle.std.proofs.Common.{◌≡◌, ℕ, zero, suc, ◌+◌, ◌*◌, ◌≤◌, ◌≢◌, ◌⊎◌, ◌==◌, Bool, true, false, cond, nat_lt, List, [], ◌∷◌, ◌++◌, length, map, set, get_or, sym, refl, ap, ◌∙◌, subst, inl, inr, ⊎_elim, arith, ne_eqb}
-use mathlib.Core.Option.{some, some-injective, some-ne-none}
+use mathlib.Core.Option.{none, some, some-injective, some-ne-none}
 use lib.ListN.{get_elem?}
 use lib.Seq.{map-set}
 use Rattle.std.specs.Prelude.{slice_index}
 use Rattle.atomic_table.proofs.Lists.{at_set, at_snoc, set_here, set_else, set_again, at_map}
-use Rattle.atomic_table.specs.Table.{State, Splits, Joins}
+use Rattle.atomic_table.specs.Table.{State, Splits, Joins, Allows, step, keeps}
 use Rattle.snap_account.specs.declared.account.Account.{Account}
 use Rattle.snap_core.specs.Sums.{one_if, total}
 use Rattle.snap_core.proofs.Sums.{total-append, total-at, total-set}
 use Rattle.snap_account.specs.Calls.{Mem, in_word}
 use Rattle.snap_account.specs.Rule.{tick_limit, Core, Held, Boarded, clock, code, words_of, of_desk}
-use Rattle.snap_account.specs.Plays.{only_first, but_first, insert, merge}
+use Rattle.snap_account.specs.Plays.{Seated, HasEachOnce, only_first, but_first, insert, merge}
 use Rattle.snap_account.proofs.Lists.{mem_one, total-two, at_below, one_here, once_least}
 
 abbrev pub St : Type 0
@@ -84,11 +84,8 @@ pub mem_insert : (a : Account) (v : List Account) (c : Account) → Mem c (inser
 mem_insert a [] c m = ⊎_elim (λ e. inl e) (λ z. absurd z) m
 mem_insert a (x ∷ v) c m = ⊎_elim
     (λ f. ⊎_elim (λ e. inl e) (λ z. inr z) f)
-    (λ g. ⊎_elim
-    (λ f. ⊎_elim (λ e. inl e) (λ z. inr (inr z)) f)
     (λ f. ⊎_elim (λ e. inr (inl e)) (λ z. ⊎_elim (λ e. inl e) (λ y. inr (inr y)) (mem_insert a v c z)) f)
-    (mem_cond (x.desk == a.desk) (a ∷ v) (x ∷ insert a v) c g))
-    (mem_cond (nat_lt x.desk a.desk) (a ∷ x ∷ v) (cond (x.desk == a.desk) (a ∷ v) (x ∷ insert a v)) c m)
+    (mem_cond (nat_lt x.desk a.desk) (a ∷ x ∷ v) (x ∷ insert a v) c m)
 
 pub mem_merge : (v u : List Account) (c : Account) → Mem c (merge v u) → Mem c v ⊎ Mem c u
 mem_merge v [] c m = inl m
@@ -98,29 +95,30 @@ total_cond : (f : Account → ℕ) (t : Bool) (x y : List Account) (n : ℕ) →
 total_cond f true x y n e e' = e
 total_cond f false x y n e e' = e'
 
--- where no account has this desk
-pub total-insert : (f : Account → ℕ) (a : Account) (v : List Account) → ((c : Account) → Mem c v → c.desk ≢ a.desk) → total f (insert a v) ≡ f a + total f v
-total-insert f a [] other = refl
-total-insert f a (x ∷ v) other =
-    let r = total-insert f a v (λ c m. other c (inr m)) in
-    let apart : (x.desk == a.desk) ≡ false = ne_eqb x.desk a.desk (other x (inl refl)) in
-    total_cond f (nat_lt x.desk a.desk) (a ∷ x ∷ v) (cond (x.desk == a.desk) (a ∷ v) (x ∷ insert a v)) (f a + total f (x ∷ v)) refl
-    (ap (λ b. total f (cond b (a ∷ v) (x ∷ insert a v))) apart ∙ (omega arith))
+pub total-insert : (f : Account → ℕ) (a : Account) (v : List Account) → total f (insert a v) ≡ f a + total f v
+total-insert f a [] = refl
+total-insert f a (x ∷ v) =
+    let r = total-insert f a v in
+    total_cond f (nat_lt x.desk a.desk) (a ∷ x ∷ v) (x ∷ insert a v) (f a + total f (x ∷ v)) refl (omega arith)
 
--- no two accounts of a view have one desk
-abbrev pub Distinct : List Account → Type 0
-Distinct [] = Unit {0}
-Distinct (x ∷ w) = ((c : Account) → Mem c w → c.desk ≢ x.desk) × Distinct w
+pub total-merge : (f : Account → ℕ) (v u : List Account) → total f (merge v u) ≡ total f v + total f u
+total-merge f v [] = omega arith
+total-merge f v (x ∷ u) = let r = total-merge f v u in let i = total-insert f x (merge v u) in omega arith
 
-pub distinct : (n : ℕ) (views : List (List Account)) (b : List Account) → Held n views b → (seat : ℕ) (w : List Account) → get_elem? views seat ≡ some w → Distinct w
-distinct n views b h seat w at_w = go w (λ d. let l = total-at (of_desk d) views seat w at_w in let o = h.once d in let z = once_least d n in omega arith)
+pub length-insert : (a : Account) (v : List Account) → length (insert a v) ≡ length v + 1
+length-insert a [] = refl
+length-insert a (x ∷ v) = one (nat_lt x.desk a.desk) (length-insert a v)
   where
-    go : (y : List Account) → ((d : ℕ) → of_desk d y ≤ 1) → Distinct y
-    go [] few = tt
-    go (x ∷ y) few = (
-      (λ c m same. let f = few x.desk in let one = one_here x.desk in let k = mem_count c y m in let k' : 1 ≤ of_desk x.desk y = subst (λ (d : ℕ). 1 ≤ of_desk d y) same k in omega arith),
-      go y (λ d. let f = few d in omega arith),
-    )
+    one : (t : Bool) → length (insert a v) ≡ length v + 1 → length (cond t (a ∷ x ∷ v) (x ∷ insert a v)) ≡ length (x ∷ v) + 1
+    one true r = omega arith
+    one false r = omega arith
+
+-- what comes in beside accounts of other desks alone
+pub none_there : (d : ℕ) (v u : List Account) (a : Account) → u ≡ a ∷ [] → a.desk ≡ d → of_desk d (merge v u) ≤ 1 → of_desk d v ≡ 0
+none_there d v u a is same few =
+    let t = total-merge (λ (x : Account). one_if (x.desk == d)) v u in
+    let e = ap (of_desk d) is in
+    let one : one_if (a.desk == d) ≡ 1 = ap (λ z. one_if (z == d)) same ∙ one_here d in omega arith
 
 -- two views become one
 pub held_join : (n : ℕ) (views : List (List Account)) (b : List Account) → Held n views b → (id : ℕ) (v : List Account) (other : ℕ) (u : List Account) → get_elem? views id ≡ some v → ¬ (other ≡ id)
@@ -137,20 +135,8 @@ held_join n views b h id v other u at apart there =
           (at_set views id seat (merge v u) y t.1))
           (at_set vs other seat [] y e);
       once = λ d. let a = total-set (of_desk d) vs other u [] there in let t = total-set (of_desk d) views id v (merge v u) at in
-          let c = merged u (λ x m. m) (λ (x : Account). one_if (x.desk == d)) (distinct n views b h other u was) in let o = h.once d in omega arith;
+          let c = total-merge (λ (x : Account). one_if (x.desk == d)) v u in let o = h.once d in omega arith;
     }
-  where
-    was' : get_elem? views other ≡ some u
-    was' = ⊎_elim (λ (t : (other ≡ id) × (merge v u ≡ u)). absurd (apart t.0)) (λ (t : (other ≢ id) × (get_elem? views other ≡ some u)). t.1) (at_set views id other (merge v u) u there)
-
-    merged : (w : List Account) → ((x : Account) → Mem x w → Mem x u) → (f : Account → ℕ) → Distinct w → total f (merge v w) ≡ total f v + total f w
-    merged [] sub f dis = omega arith
-    merged (x ∷ w) sub f dis =
-        let r = merged w (λ y m. sub y (inr m)) f dis.1 in
-        let i = total-insert f x (merge v w) (λ c m same. ⊎_elim
-        (λ q. one_seat n views b h other id u v apart was' at x c (sub x (inl refl)) q same)
-        (λ q. dis.0 c q same)
-        (mem_merge v w c m)) in omega arith
 
 pub splits : (n id : ℕ) (v : List Account) → Splits (Boarded n) id v (but_first v) (only_first v)
 splits n id v s r at = record { accounts = r.accounts; words = r.words; held = held_split n s.views r.accounts r.held id v at; core = r.core; scans = r.scans }
@@ -203,6 +189,22 @@ pub set_self : (l : List ℕ) (i : ℕ) → set l i (get_or l i 0) ≡ l
 set_self [] i = refl
 set_self (x ∷ xs) zero = refl
 set_self (x ∷ xs) (suc i) = ap (λ ys. x ∷ ys) (set_self xs i)
+
+-- a look changes nothing
+pub looks : (n slots id : ℕ) (me : Seated) → Allows (Boarded n) slots id me 0 (λ z. z) (HasEachOnce (step slots 0 0 0 none) me)
+looks n slots id me s r _ at _ = (
+  me.0,
+  keeps,
+  tt,
+  record {
+    accounts = r.accounts;
+    words = set_self s.words 0 ∙ r.words;
+    held = subst (λ (views : List (List Account)). Held n views r.accounts) (sym (set_again s.views id me.0 at)) r.held;
+    core = r.core;
+    scans = r.scans;
+  },
+  (refl, λ d. let l = total-at (of_desk d) s.views id me.0 at in let o = r.held.once d in let z = once_least d n in omega arith),
+)
 
 -- the clock stays small
 pub clock_small : (n : ℕ) (b : List Account) → Core n b → clock b ≤ n * 1048576

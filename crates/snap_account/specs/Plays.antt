@@ -1,5 +1,5 @@
 -- What each kind of step tells its desk.
-use Rattle.std.specs.Prelude.{◌≡◌, ℕ, ◌/◌, ◌%◌, ◌<◌, ◌≤◌, suc, true, List, [], ◌∷◌, length, cond, nat_lt, ◌==◌}
+use Rattle.std.specs.Prelude.{◌≡◌, ℕ, ◌/◌, ◌%◌, ◌<◌, ◌≤◌, suc, true, List, [], ◌∷◌, length, cond, nat_lt}
 use mathlib.Core.Option.{some}
 use lib.ListN.{get_elem?}
 use Rattle.atomic_table.specs.Table.{Me, Step}
@@ -7,7 +7,7 @@ use Rattle.snap_account.specs.declared.account.Account.{Account}
 use Rattle.snap_account.specs.Calls.{Mem, Look, AllNumbered, writes_of, looks_of, stamps_of, in_word, begun_store, begun_view, wrote, read, ended, middled, gave_up}
 use Rattle.snap_account.specs.declared.account.Doing.{Doing}
 use Rattle.snap_account.specs.declared.account.Doing.TheVariants.{Idle, Begun, Written, Viewing, Scanning}
-use Rattle.snap_account.specs.Rule.{first_step}
+use Rattle.snap_account.specs.Rule.{first_step, of_desk}
 
 abbrev pub Seated : Type 0
 Seated = Me (Unit {0}) (List Account)
@@ -67,10 +67,14 @@ abbrev pub but_first : List Account → List Account
 but_first [] = []
 but_first (a ∷ v) = v
 
--- the highest desk stands first. An account of the same desk would be replaced: there is none
+-- a seat of several desks learns that no two of its accounts are of one desk
+abbrev pub HasEachOnce : Step (Unit {0}) → Seated → ℕ → Seated → Type 0
+HasEachOnce st me n now = (now ≡ me) × ((d : ℕ) → of_desk d me.0 ≤ 1)
+
+-- the highest desk stands first
 abbrev pub insert : Account → List Account → List Account
 insert a [] = a ∷ []
-insert a (c ∷ v) = cond (nat_lt c.desk a.desk) (a ∷ c ∷ v) (cond (c.desk == a.desk) (a ∷ v) (c ∷ insert a v))
+insert a (c ∷ v) = cond (nat_lt c.desk a.desk) (a ∷ c ∷ v) (c ∷ insert a v)
 
 abbrev pub merge : List Account → List Account → List Account
 merge v [] = v

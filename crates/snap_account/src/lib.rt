@@ -7,6 +7,6 @@ mod rule;
 
 pub use account::{Account, Answer, Answered, Doing, Hand, Scan};
 pub use rule::{
-    BeginStore, BeginView, BoardRule, ComeIn, EndCall, GiveUp, GoOut, MiddleTick, ReadWord, Size,
-    WriteWord,
+    BeginStore, BeginView, BoardRule, ComeIn, EndCall, GiveUp, GoOut, LookOver, MiddleTick,
+    ReadWord, Size, WriteWord,
 };

@@ -82,6 +82,15 @@ impl Play<(), Hand> for GiveUp {
     ghost then = { GivesUp };
 }
 
+/// A load of the clock by a seat of several desks, which tells that no two of its accounts are of one desk.
+pub struct LookOver;
+
+impl Play<(), Hand> for LookOver {
+    ghost use Rattle.snap_account.specs.Plays.{HasEachOnce};
+
+    ghost then = { HasEachOnce };
+}
+
 /// The first account goes out to a seat of its own.
 pub struct GoOut;
 

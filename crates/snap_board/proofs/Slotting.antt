@@ -1,5 +1,5 @@
 -- The desks that are in, as one goes out or comes in.
-use Rattle.std.proofs.Common.{◌≡◌, ℕ, zero, suc, ◌+◌, ◌<◌, ◌≤◌, ◌≢◌, ◌==◌, Bool, true, false, true≢false, cond, nat_lt, List, [], ◌∷◌, ◌++◌, length, map, take, set, replicate, get_or, Option, Some, None, IsSome, sym, refl, ap, ◌∙◌, subst, inl, ⊎_elim, arith, get_or-set_other, get_or-set_same, length-append, lt-ltb, le-ltb, eq-eqb, ne_eqb}
+use Rattle.std.proofs.Common.{◌≡◌, ℕ, zero, suc, ◌+◌, ◌<◌, ◌≤◌, ◌≢◌, ◌==◌, Bool, true, false, true≢false, cond, nat_lt, List, [], ◌∷◌, ◌++◌, length, map, take, set, replicate, get_or, Option, Some, None, IsSome, sym, refl, ap, ◌∙◌, subst, inl, inr, ⊎_elim, arith, get_or-set_other, get_or-set_same, length-append, lt-ltb, le-ltb, ne_eqb}
 use native.Mathlib.Decide.{dec_le, ℕ_discrete}
 use Rattle.std.specs.Prelude.{slice_index_or}
 use Rattle.std.proofs.lemmas.List.{take-replicate, length-map}
@@ -7,12 +7,13 @@ use Rattle.snap_account.specs.declared.account.Account.{Account}
 use Rattle.snap_account.specs.declared.account.Doing.TheVariants.{Idle}
 use Rattle.snap_board.specs.declared.kept.Kept.{Kept}
 use Rattle.snap_account.specs.Calls.{Mem, writes_in, latest}
-use Rattle.snap_account.specs.Rule.{tick_limit, newcomers}
+use Rattle.snap_account.specs.Rule.{tick_limit, newcomers, of_desk}
 use Rattle.snap_account.specs.Plays.{Seated, insert, merge, only_first, but_first}
 use Rattle.snap_account.specs.Hands.{Brief, brief, idle, answered_of}
 use Rattle.snap_board.specs.Slots.{ins, slot_brief, brief_of, Smalls}
 use Rattle.snap_board.specs.Regular.{AllIn, AreUpTo, NoneFrom, Fresh, no_calls, kept_entry, Settled, HasLast, LastStores}
-use Rattle.snap_account.proofs.Lists.{mem_split, mem_one, numbered_positive}
+use Rattle.snap_account.proofs.Lists.{mem_split, mem_right, mem_one, numbered_positive}
+use Rattle.snap_account.proofs.Seats.{mem_count}
 use Rattle.snap_board.proofs.Listing.{entry_at, last_entry}
 use Rattle.snap_board.proofs.Hand.{hand_low}
 use Rattle.snap_board.specs.Boards.{ClosedView}
@@ -20,7 +21,7 @@ use Rattle.snap_board.proofs.Closing.{idle_doing, mem_map}
 
 abbrev pub insert_brief : Brief → List Brief → List Brief
 insert_brief x [] = x ∷ []
-insert_brief x (c ∷ v) = cond (nat_lt c.desk x.desk) (x ∷ c ∷ v) (cond (c.desk == x.desk) (x ∷ v) (c ∷ insert_brief x v))
+insert_brief x (c ∷ v) = cond (nat_lt c.desk x.desk) (x ∷ c ∷ v) (c ∷ insert_brief x v)
 
 map_cond : (b : Bool) (xs ys : List Account) (us vs : List Brief) → map brief xs ≡ us → map brief ys ≡ vs → map brief (cond b xs ys) ≡ cond b us vs
 map_cond true xs ys us vs e e' = e
@@ -28,8 +29,7 @@ map_cond false xs ys us vs e e' = e'
 
 map_insert : (a : Account) (v : List Account) → map brief (insert a v) ≡ insert_brief (brief a) (map brief v)
 map_insert a [] = refl
-map_insert a (c ∷ v) = map_cond (nat_lt c.desk a.desk) (a ∷ c ∷ v) (cond (c.desk == a.desk) (a ∷ v) (c ∷ insert a v)) _ _ refl
-    (map_cond (c.desk == a.desk) (a ∷ v) (c ∷ insert a v) _ _ refl (ap (λ l. brief c ∷ l) (map_insert a v)))
+map_insert a (c ∷ v) = map_cond (nat_lt c.desk a.desk) (a ∷ c ∷ v) (c ∷ insert a v) _ _ refl (ap (λ l. brief c ∷ l) (map_insert a v))
 
 ins_below : (m : ℕ) (slots : List (Option Kept)) (x : Brief) → Mem x (ins m slots) → x.desk < m
 ins_below zero slots x q = absurd q
@@ -41,15 +41,10 @@ ins_below (suc m) slots x q = ⊎_elim (λ a. one (slice_index_or slots m None) 
 
 insert_front : (x : Brief) (l : List Brief) → ((c : Brief) → Mem c l → c.desk < x.desk) → insert_brief x l ≡ x ∷ l
 insert_front x [] below = refl
-insert_front x (c ∷ l) below = ap (λ b. cond b (x ∷ c ∷ l) (cond (c.desk == x.desk) (x ∷ l) (c ∷ insert_brief x l))) (lt-ltb c.desk x.desk (below c (inl refl)))
-
-insert_same : (x c : Brief) (l : List Brief) → c.desk ≡ x.desk → insert_brief x (c ∷ l) ≡ x ∷ l
-insert_same x c l e = ap (λ b. cond b (x ∷ c ∷ l) (cond (c.desk == x.desk) (x ∷ l) (c ∷ insert_brief x l))) (le-ltb c.desk x.desk (omega arith))
-    ∙ ap (λ b. cond b (x ∷ l) (c ∷ insert_brief x l)) (eq-eqb c.desk x.desk e)
+insert_front x (c ∷ l) below = ap (λ b. cond b (x ∷ c ∷ l) (c ∷ insert_brief x l)) (lt-ltb c.desk x.desk (below c (inl refl)))
 
 insert_behind : (x c : Brief) (l : List Brief) → x.desk < c.desk → insert_brief x (c ∷ l) ≡ c ∷ insert_brief x l
-insert_behind x c l lt = ap (λ b. cond b (x ∷ c ∷ l) (cond (c.desk == x.desk) (x ∷ l) (c ∷ insert_brief x l))) (le-ltb c.desk x.desk (omega arith))
-    ∙ ap (λ b. cond b (x ∷ l) (c ∷ insert_brief x l)) (ne_eqb c.desk x.desk (λ e. omega arith))
+insert_behind x c l lt = ap (λ b. cond b (x ∷ c ∷ l) (c ∷ insert_brief x l)) (le-ltb c.desk x.desk (omega arith))
 
 -- a slot at m or above does not matter below m
 pub ins_set_above : (m d : ℕ) (slots : List (Option Kept)) (y : Option Kept) → m ≤ d → ins m (set slots d y) ≡ ins m slots
@@ -60,13 +55,13 @@ ins_set_above (suc m) d slots y le =
     let rest = ins_set_above m d slots y (omega arith) in
     λ i. slot_brief m (here i) ++ rest i
 
-pub ins_put : (n d : ℕ) (slots : List (Option Kept)) (k : Kept) → d < n → n ≤ length slots → insert_brief (brief_of d k) (ins n slots) ≡ ins n (set slots d (Some k))
-ins_put zero d slots k lt le = absurd (omega arith)
-ins_put (suc m) d slots k lt le = at (ℕ_discrete d m) (λ l. ins_put m d slots k l (omega arith))
+pub ins_put : (n d : ℕ) (slots : List (Option Kept)) (k : Kept) → d < n → n ≤ length slots → slice_index_or slots d None ≡ None → insert_brief (brief_of d k) (ins n slots) ≡ ins n (set slots d (Some k))
+ins_put zero d slots k lt le free = absurd (omega arith)
+ins_put (suc m) d slots k lt le free = at (ℕ_discrete d m) (λ l. ins_put m d slots k l (omega arith) free)
   where
-    same : (o : Option Kept) → d ≡ m → insert_brief (brief_of d k) (slot_brief m o ++ ins m slots) ≡ brief_of d k ∷ ins m slots
-    same None e = insert_front (brief_of d k) (ins m slots) (λ c q. let r = ins_below m slots c q in omega arith)
-    same (Some j) e = insert_same (brief_of d k) (brief_of m j) (ins m slots) (sym e)
+    same : (o : Option Kept) → d ≡ m → o ≡ None → insert_brief (brief_of d k) (slot_brief m o ++ ins m slots) ≡ brief_of d k ∷ ins m slots
+    same None e none = insert_front (brief_of d k) (ins m slots) (λ c q. let r = ins_below m slots c q in omega arith)
+    same (Some j) e none = absurd (cc)
 
     behind : (o : Option Kept) → d < m → insert_brief (brief_of d k) (ins m slots) ≡ ins m (set slots d (Some k)) → insert_brief (brief_of d k) (slot_brief m o ++ ins m slots) ≡ slot_brief m o ++ ins m (set slots d (Some k))
     behind None l e = e
@@ -76,7 +71,7 @@ ins_put (suc m) d slots k lt le = at (ℕ_discrete d m) (λ l. ins_put m d slots
     at (yes e) rest =
         let here : slice_index_or (set slots d (Some k)) m None ≡ Some k = ap (λ z. slice_index_or (set slots d (Some k)) z None) (sym e) ∙ get_or-set_same slots d (Some k) None (omega arith) in
         let low = ins_set_above m d slots (Some k) (omega arith) in
-        same (slice_index_or slots m None) e ∙ (λ i. brief_of (e i) k ∷ sym low i) ∙ (λ i. slot_brief m (sym here i) ++ ins m (set slots d (Some k)))
+        same (slice_index_or slots m None) e (ap (λ z. slice_index_or slots z None) (sym e) ∙ free) ∙ (λ i. brief_of (e i) k ∷ sym low i) ∙ (λ i. slot_brief m (sym here i) ++ ins m (set slots d (Some k)))
     at (no ne) rest =
         let l : d < m = omega arith in
         let here : slice_index_or (set slots d (Some k)) m None ≡ slice_index_or slots m None = get_or-set_other slots d m (Some k) None (λ e. ne (sym e)) in
@@ -185,13 +180,35 @@ out_of me now d k xs e is =
       ap (λ r. latest (0, 0) r) rs ∙ (λ i. ((h.2 i).number, (h.2 i).value)),
     )
 
+from_map : (b : Brief) (l : List Account) → Mem b (map brief l) → (a : Account) × Mem a l × (brief a ≡ b)
+from_map b [] m = absurd m
+from_map b (x ∷ l) m = ⊎_elim (λ e. (x, inl refl, e)) (λ q. let r = from_map b l q in (r.0, inr r.1, r.2)) m
+
+ins_there : (n d : ℕ) (slots : List (Option Kept)) (k : Kept) → d < n → slice_index_or slots d None ≡ Some k → Mem (brief_of d k) (ins n slots)
+ins_there zero d slots k lt is = absurd (omega arith)
+ins_there (suc m) d slots k lt is = at (ℕ_discrete d m) (λ l. ins_there m d slots k l is)
+  where
+    at : Dec (d ≡ m) → (d < m → Mem (brief_of d k) (ins m slots)) → Mem (brief_of d k) (slot_brief m (slice_index_or slots m None) ++ ins m slots)
+    at (yes e) rest = subst (λ (o : Option Kept). Mem (brief_of d k) (slot_brief m o ++ ins m slots)) (sym (ap (λ z. slice_index_or slots z None) (sym e) ∙ is)) (inl (ap (λ z. brief_of z k) (sym e)))
+    at (no ne) rest = mem_right (slot_brief m (slice_index_or slots m None)) (ins m slots) (brief_of d k) (rest (omega arith))
+
+-- nothing is kept of a desk that is out
+pub free_slot : (n d : ℕ) (slots : List (Option Kept)) (hand : List Account) → map brief hand ≡ ins n slots → d < n → of_desk d hand ≡ 0 → slice_index_or slots d None ≡ None
+free_slot n d slots hand e lt none = one (slice_index_or slots d None) refl
+  where
+    one : (o : Option Kept) → slice_index_or slots d None ≡ o → slice_index_or slots d None ≡ None
+    one None is = is
+    one (Some k) is =
+        let t = from_map (brief_of d k) hand (subst (λ (l : List Brief). Mem (brief_of d k) l) (sym e) (ins_there n d slots k lt is)) in
+        let c : 1 ≤ of_desk d hand = subst (λ (z : ℕ). 1 ≤ of_desk z hand) (ap (λ (z : Brief). z.desk) t.2) (mem_count t.0 hand t.1) in absurd (omega arith)
+
 -- the desk that comes in
-pub put_in : (n d : ℕ) (slots : List (Option Kept)) (k : Kept) (hand : List Account) (me : Seated) → map brief hand ≡ ins n slots → d < n → n ≤ length slots
+pub put_in : (n d : ℕ) (slots : List (Option Kept)) (k : Kept) (hand : List Account) (me : Seated) → map brief hand ≡ ins n slots → d < n → n ≤ length slots → slice_index_or slots d None ≡ None
     → me ≡ (idle d (answered_of me.0) k.ticks ∷ [], []) → latest (0, 0) (answered_of me.0) ≡ (k.stores, k.value) → map brief (merge hand me.0) ≡ ins n (set slots d (Some k))
-put_in n d slots k hand me is lt le alone stored =
+put_in n d slots k hand me is lt le free alone stored =
     let a = idle d (answered_of me.0) k.ticks in
     let b : brief a ≡ brief_of d k = λ i. record { desk = d; ticks = k.ticks; number = (stored i).0; value = (stored i).1; idle = true } in
-    ap (λ (m : Seated). map brief (merge hand m.0)) alone ∙ map_insert a hand ∙ (λ i. insert_brief (b i) (is i)) ∙ ins_put n d slots k lt le
+    ap (λ (m : Seated). map brief (merge hand m.0)) alone ∙ map_insert a hand ∙ (λ i. insert_brief (b i) (is i)) ∙ ins_put n d slots k lt le free
 
 pub zero_words : (n w : ℕ) → n ≤ 8 → w ≡ n + 1 → take {A = ℕ} w (replicate {A = ℕ} 9 0) ≡ replicate {A = ℕ} (suc n) 0
 zero_words n w le is = let e : w ≡ suc n = omega arith in ap (λ z. take {A = ℕ} z (replicate {A = ℕ} 9 0)) e ∙ take-replicate (suc n) 9 0 (omega arith)

@@ -17,7 +17,7 @@ use crate::board::{Board, Closed, Desk, Gathered};
 use crate::kept::Kept;
 use crate::refusals::OpenRefusal;
 use atomic_table::Table;
-use snap_account::{ComeIn, GoOut, Size};
+use snap_account::{ComeIn, GoOut, LookOver, Size};
 use snap_core::Entry;
 use std::alloc::{AllocError, Global};
 
@@ -146,6 +146,7 @@ impl Board {
         requires desk { IsDeskOf self.now desk }
         ensures same { IsGatheredOf self.now result }
         ensures account { accounts result ≡ insert (account desk) (accounts gathered) }
+        ensures held { length (accounts result) ≡ length (accounts gathered) + 1 }
     {
         let Gathered {
             seat: mut all,
@@ -154,6 +155,7 @@ impl Board {
         } = gathered;
         let Desk { seat, desk, kept } = desk;
         self.table.shared.join_seat::<ComeIn>(&mut all, seat);
+        self.table.shared.load::<LookOver>(&mut all, 0);
         slots[usize::from(desk)] = Some(kept);
         Gathered {
             seat: all,
