@@ -17,8 +17,8 @@ use Rattle.snap_account.specs.Calls.{Mem, Write, Look, Mark, mark, op_marks, ope
 use Rattle.snap_account.specs.Rule.{tick_limit, Own, Sees, Core, Held, Boarded, clock, code, words_of, of_desk, newcomer, newcomers}
 use Rattle.snap_account.specs.Marks.{Climbs}
 use Rattle.snap_account.specs.Hands.{Brief, brief, is_idle}
-use Rattle.snap_board.specs.Slots.{ins, slot_brief, brief_of}
-use Rattle.snap_board.specs.Regular.{falling, Settled, ScansSettled, AllIn}
+use Rattle.snap_board.specs.Slots.{ins, slot_brief, brief_of, AllIn}
+use Rattle.snap_board.specs.Regular.{falling, Settled, ScansSettled}
 use Rattle.snap_account.proofs.Lists.{mem_split, mem_left, mem_one}
 use Rattle.snap_account.proofs.Reading.{looks_over}
 

@@ -10,8 +10,8 @@ use Rattle.snap_account.specs.Calls.{Mem, writes_in, latest}
 use Rattle.snap_account.specs.Rule.{tick_limit, newcomers, of_desk}
 use Rattle.snap_account.specs.Plays.{Seated, insert, merge, only_first, but_first}
 use Rattle.snap_account.specs.Hands.{Brief, brief, idle, answered_of}
-use Rattle.snap_board.specs.Slots.{ins, slot_brief, brief_of, Smalls}
-use Rattle.snap_board.specs.Regular.{AllIn, AreUpTo, NoneFrom, Fresh, no_calls, kept_entry, Settled, HasLast, LastStores}
+use Rattle.snap_board.specs.Slots.{ins, slot_brief, brief_of, Smalls, AllIn, NoneFrom, Fresh, no_calls, kept_entry, HasLast}
+use Rattle.snap_board.specs.Regular.{AreUpTo, Settled, LastStores}
 use Rattle.snap_account.proofs.Lists.{mem_split, mem_right, mem_one, numbered_positive}
 use Rattle.snap_account.proofs.Seats.{mem_count}
 use Rattle.snap_board.proofs.Listing.{entry_at, last_entry}

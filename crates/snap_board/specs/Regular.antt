@@ -4,7 +4,6 @@ use mathlib.Core.Option.{some}
 use lib.ListN.{get_elem?}
 use Rattle.snap_account.specs.declared.account.Account.{Account}
 use Rattle.snap_account.specs.declared.account.Doing.TheVariants.{Idle}
-use Rattle.snap_board.specs.declared.kept.Kept.{Kept}
 use Rattle.snap_board.specs.Boards.{ClosedView}
 use Rattle.snap_core.specs.declared.entry.Entry.{Entry}
 use Rattle.snap_board.specs.Desks.{records_in, last_stored}
@@ -71,33 +70,9 @@ op_tries (Interfered n xs ys) = n
 abbrev pub WereInterfered : List Account → Type 0
 WereInterfered hand = (a : Account) → Mem a hand → (r : Answered) → Mem r a.calls → op_tries r.op ≤ stores_beside hand a r
 
--- all desks below n are in
-abbrev pub AllIn : ℕ → List (Option Kept) → Type 0
-AllIn n slots = (d : ℕ) → d < n → IsSome (slice_index_or slots d None)
-
 -- no account is of a desk above d
 abbrev pub AreUpTo : ℕ → List Account → Type 0
 AreUpTo d hand = (a : Account) → Mem a hand → a.desk ≤ d
-
--- none of the desks from d up to n is in
-abbrev pub NoneFrom : ℕ → ℕ → List (Option Kept) → Type 0
-NoneFrom d n slots = (k : ℕ) → d ≤ k → k < n → slice_index_or slots k None ≡ None
-
-abbrev pub no_calls : Kept
-no_calls = record { ticks = 0; stores = 0; value = 0 }
-
--- the desks below n are in, with no calls
-abbrev pub Fresh : ℕ → List (Option Kept) → Type 0
-Fresh n slots = (k : ℕ) → slice_index_or slots k None ≡ cond (nat_lt k n) (Some no_calls) None
-
--- what is kept of desk d, as the entry that it stored last
-abbrev pub kept_entry : ℕ → Option Kept → Option Entry
-kept_entry d None = None
-kept_entry d (Some k) = cond (nat_lt 0 k.stores) (Some (record { component = d; number = k.stores; value = k.value })) None
-
--- the last stores of the desks below n, by what is kept of each
-abbrev pub HasLast : ℕ → List (Option Kept) → List (Option Entry) → Type 0
-HasLast n slots last = (k : ℕ) → k < n → slice_index_or last k None ≡ kept_entry k (slice_index_or slots k None)
 
 -- the last stored entry of component k, nothing where the board had no such desk
 abbrev pub entry_in : ClosedView → ℕ → Option Entry

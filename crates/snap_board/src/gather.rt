@@ -7,10 +7,10 @@ ghost use Rattle.snap_core.specs.Regular.{IsRegular};
 ghost use Rattle.snap_board.specs.Scans.{scan_history};
 ghost use Rattle.snap_account.specs.Rule.{newcomers};
 ghost use Rattle.snap_account.specs.Plays.{but_first, only_first, insert};
-ghost use Rattle.snap_board.specs.Slots.{ins};
+ghost use Rattle.snap_board.specs.Slots.{ins, AllIn, Fresh, NoneFrom, HasLast, kept_entry};
 ghost use Rattle.snap_board.specs.Desks.{account, accounts, IsDeskOf, IsGatheredOf};
 ghost use Rattle.snap_board.specs.History.{board_history, AllCompleted};
-ghost use Rattle.snap_board.specs.Regular.{AllIn, AreUpTo, Settled, ScansSettled, WereInterfered, Fresh, NoneFrom, HasLast, LastStores, kept_entry, entry_in};
+ghost use Rattle.snap_board.specs.Regular.{AreUpTo, Settled, ScansSettled, WereInterfered, LastStores, entry_in};
 ghost use Rattle.snap_board.specs.Refusals.{IsNotOpened};
 
 use crate::board::{Board, Closed, Desk, Gathered};
@@ -140,7 +140,7 @@ impl Board {
         Ok(Some(Desk { seat, desk, kept }))
     }
 
-    /// Puts a desk in.
+    /// Puts a desk in, beside those that are in. None of those is the same desk: a load of the clock tells so.
     pub fn give_back(&self, gathered: Gathered, desk: Desk) -> Gathered
         requires gathered { IsGatheredOf self.now gathered }
         requires desk { IsDeskOf self.now desk }

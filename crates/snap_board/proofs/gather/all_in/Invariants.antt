@@ -1,4 +1,4 @@
-use Rattle.snap_board.specs.Regular.{AllIn}
+use Rattle.snap_board.specs.Slots.{AllIn}
 use Rattle.snap_board.proofs.gather.all_in.Given as goal
 
 abbrev pub invariant-each : goal.invariant-each

@@ -1,5 +1,5 @@
 use Rattle.std.proofs.Common.{◌≡◌, length}
-use Rattle.snap_board.specs.Regular.{Fresh}
+use Rattle.snap_board.specs.Slots.{Fresh}
 use Rattle.snap_board.proofs.gather.fresh.Given as goal
 
 abbrev pub invariant-rows : goal.invariant-rows

@@ -1,5 +1,5 @@
 use Rattle.std.proofs.Common.{◌≡◌, length}
-use Rattle.snap_board.specs.Regular.{HasLast}
+use Rattle.snap_board.specs.Slots.{HasLast}
 use Rattle.snap_board.proofs.gather.last_stores.Given as goal
 
 abbrev pub invariant-rows : goal.invariant-rows

@@ -2,8 +2,8 @@ use Rattle.std.proofs.Common.{◌≡◌, ℕ, length, map, true≢false, refl, a
 use Rattle.snap_account.specs.Rule.{Boarded}
 use Rattle.snap_board.specs.Boards.{BoardView, GatheredView}
 use Rattle.snap_account.specs.Hands.{brief}
-use Rattle.snap_board.specs.Regular.{AllIn, HasLast, Settled, ScansSettled}
-use Rattle.snap_board.specs.Slots.{ins}
+use Rattle.snap_board.specs.Regular.{Settled, ScansSettled}
+use Rattle.snap_board.specs.Slots.{ins, AllIn, HasLast}
 use Rattle.snap_board.proofs.Closing.{settles, settles_scans}
 use Rattle.snap_board.proofs.Ordering.{close_history, close_completed, close_regular}
 use Rattle.snap_board.proofs.Monotone.{close_monotone}
