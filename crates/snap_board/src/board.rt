@@ -1,8 +1,24 @@
+ghost use Rattle.std.specs.Prelude.{◌≡◌, ◌+◌, ◌<◌, ◌≤◌, ◌↔◌, [], ◌∷◌, IfOk, IfErr, OnOk, OnErr, IsOk, IfNone, IfSome, length};
+ghost use Rattle.snap_core.specs.Events.{IsHistory};
+ghost use Rattle.snap_core.specs.Calls.{calls_of};
+ghost use Rattle.snap_core.specs.Monotone.{IsMonotone};
+ghost use Rattle.snap_core.specs.Orders.{IsAtomic};
+ghost use Rattle.snap_core.specs.Regular.{IsRegular};
+ghost use Rattle.snap_account.specs.Rule.{newcomers};
+ghost use Rattle.snap_account.specs.Plays.{but_first, only_first, insert};
+ghost use Rattle.snap_board.specs.Desks.{account, accounts, IsDeskOf, IsGatheredOf};
+ghost use Rattle.snap_board.specs.History.{board_history, AllCompleted};
+ghost use Rattle.snap_board.specs.Refusals.{IsNotOpened};
+ghost use Rattle.snap_board.specs.Regular.{AreUpTo, Settled, ScansSettled, WereInterfered, LastStores, entry_in};
+ghost use Rattle.snap_board.specs.Scans.{scan_history};
+
 use crate::kept::Kept;
+use crate::refusals::OpenRefusal;
+use crate::slots::{all_in, fresh, highest, last_stores};
 use atomic_table::{Seat, Table};
-use snap_account::{BoardRule, Hand, Size};
+use snap_account::{BoardRule, ComeIn, GoOut, Hand, LookOver, Size};
 use snap_core::Entry;
-use std::alloc::Global;
+use std::alloc::{AllocError, Global};
 use std::marker::Model;
 
 /// A board of atomic words: a clock, and one word for each desk's component.
@@ -22,6 +38,108 @@ impl Model for Board {
     ghost view = { board_view };
 
     ghost invariant = { IsBoard };
+}
+
+impl Board {
+    /// A board of 1 to 8 desks, which are all in. Desk d is process d and writes component d.
+    pub fn open(alloc: Global, desks: u8) -> Result<(Board, Gathered), OpenRefusal>
+        ensures gathered { IfOk result (λ r. IsGatheredOf r.0 r.1) }
+        ensures desks { IfOk result (λ r. r.0.desks ≡ desks) }
+        ensures range { OnOk result ((0 < desks) × (desks ≤ 8)) }
+        ensures empty { IfOk result (λ r. accounts r.1 ≡ newcomers desks) }
+        ensures refused { IfErr result (IsNotOpened desks) }
+    {
+        if desks == 0 || desks > 8 {
+            return Err(OpenRefusal::Desks);
+        }
+        let words = [0u64; 9];
+        let Ok((table, seat)) = Table::of_words(
+            alloc,
+            &words[..usize::from(desks) + 1],
+            &Size { desks },
+        ) else {
+            return Err(OpenRefusal::Memory);
+        };
+        let slots = fresh(desks);
+        Ok((Board { table, desks }, Gathered { seat, desks, slots }))
+    }
+
+    /// Hands out the highest desk that is in, with its account as it stands, or nothing where none is in. After a
+    /// refusal the gathered desks are unchanged.
+    pub fn take(&self, _alloc: Global, gathered: &mut Gathered) -> Result<Option<Desk>, AllocError>
+        requires { IsGatheredOf self.now gathered.old }
+        ensures gathered { IsGatheredOf self.now gathered.new }
+        ensures refused { OnErr result (gathered.new ≡ gathered.old) }
+        ensures none { IfOk result (λ o. IfNone o (gathered.new ≡ gathered.old)) }
+        ensures empty { IfOk result (λ o. IfNone o (accounts gathered.old ≡ [])) }
+        ensures desk { IfOk result (λ o. IfSome o (λ d. IsDeskOf self.now d)) }
+        ensures highest { IfOk result (λ o. IfSome o (λ d. AreUpTo d.desk (accounts gathered.old))) }
+        ensures account { IfOk result (λ o. IfSome o (λ d. account d ∷ [] ≡ only_first (accounts gathered.old))) }
+        ensures others { IfOk result (λ o. IfSome o (λ d. accounts gathered.new ≡ but_first (accounts gathered.old))) }
+    {
+        let Some(desk) = highest(gathered.desks, &gathered.slots) else {
+            return Ok(None);
+        };
+        let Some(kept) = gathered.slots[usize::from(desk)] else {
+            unreachable!()
+        };
+        let seat = self.table.shared.split_seat::<GoOut>(&mut gathered.seat);
+        gathered.slots[usize::from(desk)] = None;
+        Ok(Some(Desk { seat, desk, kept }))
+    }
+
+    /// Puts a desk in, beside those that are in. None of those is the same desk: a load of the clock tells so.
+    pub fn give_back(&self, gathered: Gathered, desk: Desk) -> Gathered
+        requires gathered { IsGatheredOf self.now gathered }
+        requires desk { IsDeskOf self.now desk }
+        ensures same { IsGatheredOf self.now result }
+        ensures account { accounts result ≡ insert (account desk) (accounts gathered) }
+        ensures held { length (accounts result) ≡ length (accounts gathered) + 1 }
+    {
+        let Gathered {
+            seat: mut all,
+            desks,
+            mut slots,
+        } = gathered;
+        let Desk { seat, desk, kept } = desk;
+        self.table.shared.join_seat::<ComeIn>(&mut all, seat);
+        self.table.shared.load::<LookOver>(&mut all, 0);
+        slots[usize::from(desk)] = Some(kept);
+        Gathered {
+            seat: all,
+            desks,
+            slots,
+        }
+    }
+
+    /// Ends the board where all its desks are in. The begins and ends of all records, in the order of their stamps, are
+    /// then a regular and monotone history with no call pending, and those of the stores and scans alone are an atomic
+    /// one. Each scan that was interfered with had at least as many stores of other desks beside it as it had tries. Where
+    /// a desk is out both come back unchanged.
+    pub fn close(self, gathered: Gathered) -> Result<Closed, (Board, Gathered)>
+        requires { IsGatheredOf self gathered }
+        ensures exact { IsOk result ↔ (length (accounts gathered) ≡ self.desks) }
+        ensures settled { IsOk result → Settled self.desks (accounts gathered) }
+        ensures scans { IsOk result → ScansSettled (accounts gathered) }
+        ensures history { IsOk result → IsHistory (board_history (accounts gathered)) }
+        ensures completed { IsOk result → AllCompleted (calls_of (board_history (accounts gathered))) }
+        ensures regular { IsOk result → IsRegular (calls_of (board_history (accounts gathered))) }
+        ensures monotone { IsOk result → IsMonotone (calls_of (board_history (accounts gathered))) }
+        ensures interfered { IsOk result → WereInterfered (accounts gathered) }
+        ensures atomic { IsOk result → IsAtomic (calls_of (scan_history (accounts gathered))) }
+        ensures desks { IfOk result (λ c. c.desks ≡ self.desks) }
+        ensures last { IfOk result (λ c. LastStores c (accounts gathered)) }
+        ensures back { IfErr result (λ r. (r.0 ≡ self) × (r.1 ≡ gathered)) }
+    {
+        if !all_in(gathered.desks, &gathered.slots) {
+            return Err((self, gathered));
+        }
+        let Gathered { seat, desks, slots } = gathered;
+        let Board { table, desks: _ } = self;
+        table.close_with(seat).free();
+        let last = last_stores(desks, &slots);
+        Ok(Closed { desks, last })
+    }
 }
 
 /// The right to call on a board as one process, which writes the component of its own number.
@@ -44,12 +162,21 @@ impl Model for Desk {
     ghost invariant = { IsDesk };
 }
 
+impl Desk {
+    /// The desk's process, which is the desk's number.
+    pub fn process(&self) -> u16
+        ensures { result ≡ self.now.desk }
+    {
+        u16::from(self.desk)
+    }
+}
+
 /// The desks that are in.
 #[derive(Drop)]
 pub struct Gathered {
-    pub(crate) seat: Seat<(), Hand>,
-    pub(crate) desks: u8,
-    pub(crate) slots: [Option<Kept>; 8],
+    seat: Seat<(), Hand>,
+    desks: u8,
+    slots: [Option<Kept>; 8],
 }
 
 impl Model for Gathered {
@@ -64,11 +191,26 @@ impl Model for Gathered {
     ghost invariant = { IsGathered };
 }
 
+impl Gathered {
+    /// How many desks are in.
+    pub fn held(&self) -> u8
+        ensures { result ≡ length (accounts self.now) }
+    {
+        let mut count = 0;
+        'each: for d in 0..self.desks {
+            if self.slots[usize::from(d)].is_some() {
+                count += 1;
+            }
+        }
+        count
+    }
+}
+
 /// What is left of a board when it was closed: the last store of each desk.
 #[derive(Clone, Copy, Debug)]
 pub struct Closed {
-    pub(crate) desks: u8,
-    pub(crate) last: [Option<Entry>; 8],
+    desks: u8,
+    last: [Option<Entry>; 8],
 }
 
 impl Model for Closed {
@@ -83,4 +225,23 @@ impl Model for Closed {
     ghost invariant = { IsClosed };
 
     ghost inverse = { λ c. record { desks = c.desks; last = c.last } };
+}
+
+impl Closed {
+    /// The number of desks that the board was opened with.
+    pub fn desks(&self) -> u8
+        ensures { result ≡ self.now.desks }
+    {
+        self.desks
+    }
+
+    /// The last stored entry of component k, nothing where there is none.
+    pub fn entry(&self, k: u8) -> Option<Entry>
+        ensures { result ≡ entry_in self.now k }
+    {
+        if k >= self.desks {
+            return None;
+        }
+        self.last[usize::from(k)]
+    }
 }

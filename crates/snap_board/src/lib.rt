@@ -3,11 +3,11 @@
 
 mod board;
 mod calls;
-mod gather;
 mod kept;
 mod record;
 mod refusals;
 mod scan;
+mod slots;
 
 pub use board::{Board, Closed, Desk, Gathered};
 pub use calls::TICK_LIMIT;

@@ -1,5 +1,6 @@
 pub use Rattle.snap_account.specs.Rule
 pub use Rattle.snap_account.specs.Plays
+pub use Rattle.snap_board.specs.Boards
 pub use Rattle.snap_board.specs.Desks
 pub use Rattle.snap_board.specs.Regular
 pub use Rattle.snap_board.specs.History

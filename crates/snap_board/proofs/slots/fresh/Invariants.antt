@@ -1,6 +1,6 @@
 use Rattle.std.proofs.Common.{◌≡◌, length}
 use Rattle.snap_board.specs.Slots.{Fresh}
-use Rattle.snap_board.proofs.gather.fresh.Given as goal
+use Rattle.snap_board.proofs.slots.fresh.Given as goal
 
 abbrev pub invariant-rows : goal.invariant-rows
 invariant-rows l = record { rows : Fresh l.d l.slots; eight : length l.slots ≡ 8 }

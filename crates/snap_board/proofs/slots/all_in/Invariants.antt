@@ -1,5 +1,5 @@
 use Rattle.snap_board.specs.Slots.{AllIn}
-use Rattle.snap_board.proofs.gather.all_in.Given as goal
+use Rattle.snap_board.proofs.slots.all_in.Given as goal
 
 abbrev pub invariant-each : goal.invariant-each
 invariant-each l = AllIn l.d l.slots

@@ -1,0 +1,76 @@
+ghost use Rattle.std.specs.Prelude.{◌≡◌, ◌+◌, ◌<◌, ◌≤◌, ◌↔◌, Some, None, MatchOption, IsTrue, slice_index_or, length};
+ghost use Rattle.snap_board.specs.Slots.{AllIn, Fresh, NoneFrom, HasLast, kept_entry};
+
+use crate::kept::Kept;
+use snap_core::Entry;
+
+/// What is kept of each desk below `desks` that has done nothing.
+pub(crate) fn fresh(desks: u8) -> [Option<Kept>; 8]
+    requires { desks ≤ 8 }
+    ensures { Fresh desks result × (length result ≡ 8) }
+{
+    let mut slots = [None; 8];
+    'rows: for d in 0..desks {
+        slots[usize::from(d)] = Some(Kept {
+            ticks: 0,
+            stores: 0,
+            value: 0,
+        });
+    }
+    slots
+}
+
+/// The highest desk that is in.
+pub(crate) fn highest(desks: u8, slots: &[Option<Kept>; 8]) -> Option<u8>
+    requires { desks ≤ 8 }
+    ensures { MatchOption result (NoneFrom 0 desks slots.now) (λ d. (d < desks) × ((k : Kept) × (slice_index_or slots.now d None ≡ Some k)) × NoneFrom (d + 1) desks slots.now) }
+{
+    let mut d = desks;
+    'down: while d > 0 {
+        d -= 1;
+        if slots[usize::from(d)].is_some() {
+            return Some(d);
+        }
+    }
+    None
+}
+
+// The last store of a desk, by what is kept of it.
+fn last_store(desk: u8, slot: Option<Kept>) -> Option<Entry>
+    ensures { result ≡ kept_entry desk slot }
+{
+    let kept = slot?;
+    if kept.stores == 0 {
+        return None;
+    }
+    Some(Entry {
+        component: desk,
+        number: kept.stores,
+        value: kept.value,
+    })
+}
+
+/// The last store of each desk below `desks`.
+pub(crate) fn last_stores(desks: u8, slots: &[Option<Kept>; 8]) -> [Option<Entry>; 8]
+    requires { desks ≤ 8 }
+    ensures { HasLast desks slots.now result × (length result ≡ 8) }
+{
+    let mut last = [None; 8];
+    'rows: for d in 0..desks {
+        last[usize::from(d)] = last_store(d, slots[usize::from(d)]);
+    }
+    last
+}
+
+/// Whether all desks are in.
+pub(crate) fn all_in(desks: u8, slots: &[Option<Kept>; 8]) -> bool
+    requires { desks ≤ 8 }
+    ensures { IsTrue result ↔ AllIn desks slots.now }
+{
+    'each: for d in 0..desks {
+        if slots[usize::from(d)].is_none() {
+            return false;
+        }
+    }
+    true
+}
