@@ -1,5 +1,5 @@
 -- The fields of a board and of its desks, beside what contracts see of them.
-use Rattle.std.proofs.Common.{◌≡◌, ◌<◌, ◌∙◌, sym, ap, arith}
+use Rattle.std.proofs.Common.{◌≡◌, ◌∙◌, sym, ap, arith}
 use Rattle.snap_board.specs.Boards.{BoardView, DeskView, GatheredView}
 use Rattle.snap_board.specs.Desks.{IsDeskOf, IsGatheredOf}
 use Rattle.snap_board.specs.Fields.{board_view, desk_view, gathered_view}

@@ -1,5 +1,5 @@
 -- What is known of the records of all desks once the board is closed.
-use Rattle.std.specs.Prelude.{◌≡◌, ℕ, ◌<◌, ◌≤◌, zero, suc, List, [], ◌∷◌, length, map, Option, IsSome, Some, None, cond, nat_lt, ◌==◌, slice_index_or}
+use Rattle.std.specs.Prelude.{◌≡◌, ℕ, ◌<◌, ◌≤◌, zero, suc, List, [], ◌∷◌, length, map, Option, None, cond, nat_lt, ◌==◌, slice_index_or}
 use mathlib.Core.Option.{some}
 use lib.ListN.{get_elem?}
 use Rattle.snap_account.specs.declared.account.Account.{Account}

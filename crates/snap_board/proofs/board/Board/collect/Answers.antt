@@ -10,7 +10,7 @@ use Rattle.snap_account.specs.Rule.{first_step}
 use Rattle.snap_account.specs.Plays.{Above, ReadAll}
 use Rattle.snap_board.specs.declared.board.Desk.TheInside as fields
 use Rattle.snap_board.specs.Boards.{BoardView}
-use Rattle.snap_board.specs.Fields.{IsDesk, desk_view}
+use Rattle.snap_board.specs.Fields.{IsDesk}
 use Rattle.snap_board.proofs.Fields.{desk_at}
 use Rattle.snap_board.specs.declared.record.RecordedOp.TheVariants as Kind
 use Rattle.snap_account.specs.Calls.{latest, begun_view, ended}
@@ -21,7 +21,7 @@ use Rattle.snap_account.proofs.Calling.{alone_of, viewing_after, grew, CollectDo
 use Rattle.snap_account.proofs.Reading.{ready}
 use Rattle.snap_account.specs.declared.account.Doing.TheVariants.{Viewing}
 use Rattle.snap_board.proofs.Listing.{later, own_entry, no_older, records-push, lost-push, collects-push}
-use Rattle.snap_board.specs.Desks.{records, records_at, lost_in, collects_in}
+use Rattle.snap_board.specs.Desks.{records_at, lost_in, collects_in}
 use Rattle.std.proofs.Common.{append-nil}
 use Rattle.snap_board.proofs.board.Board.collect.Goals as goal
 

@@ -1,5 +1,5 @@
-use Rattle.std.proofs.Common.{◌≡◌, ℕ, ◌≤◌, refl, length, map, set, Some, sym, ap, ◌∙◌, subst, arith, length-set}
-use Rattle.snap_account.specs.Hands.{idle, answered_of, brief}
+use Rattle.std.proofs.Common.{◌≡◌, ◌≤◌, refl, length, map, set, Some, sym, ap, ◌∙◌, subst, arith, length-set}
+use Rattle.snap_account.specs.Hands.{brief}
 use Rattle.snap_account.specs.Rule.{of_desk}
 use Rattle.snap_account.specs.Plays.{Seated, merge}
 use Rattle.snap_board.specs.Slots.{ins, Smalls}

@@ -3,7 +3,7 @@ use Rattle.snap_account.specs.Rule.{code, first_step}
 use Rattle.snap_account.specs.Plays.{Seated, entry_of, Above, ReadAll}
 use Rattle.snap_board.specs.declared.board.Desk.TheInside as fields
 use Rattle.snap_board.specs.Boards.{BoardView}
-use Rattle.snap_board.specs.Fields.{IsDesk, desk_view}
+use Rattle.snap_board.specs.Fields.{IsDesk}
 use Rattle.snap_board.proofs.Fields.{desk_at}
 use Rattle.snap_board.specs.declared.record.RecordedOp.TheVariants as Kind
 use Rattle.snap_account.specs.Hands.{answered_of}
@@ -13,7 +13,7 @@ use Rattle.snap_account.proofs.Accounts.{rec, latest-push}
 use Rattle.snap_account.proofs.Moves.{begins_store_as, writes_at, ends_store_as}
 use Rattle.snap_account.proofs.Calling.{alone_of, begun_after, written_after, StoreDone, store_done}
 use Rattle.snap_board.proofs.Listing.{later, last_number, records-push, lost-push, collects-push}
-use Rattle.snap_board.specs.Desks.{records, records_at, lost_in, collects_in}
+use Rattle.snap_board.specs.Desks.{records_at, lost_in, collects_in}
 use Rattle.std.proofs.Common.{append-nil}
 use Rattle.snap_board.proofs.board.Board.store.Goals as goal
 
