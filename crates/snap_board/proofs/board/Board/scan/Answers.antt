@@ -62,11 +62,11 @@ try_until-requires-clause-read c =
     )
 
 -- what the desk had before is what a collect was told of
-read_of : (n : ℕ) (desk : fields.Inside) (ok : IsDesk desk) (t1 : ℕ) (xs ys : List (ℕ × ℕ)) (me2 : Seated) → Ready desk.desk (answered_of desk.seat.me.0) desk.kept.ticks t1 xs me2 → IsRead n (desk_of me2.0) (answered_of me2.0) ys → IsRead n desk.desk (answered_of desk.seat.me.0) ys
-read_of n desk ok t1 xs ys me2 r read = subst (λ (m : Seated). IsRead n (desk_of m.0) (answered_of m.0) ys) r.me read
+read_of : (n : ℕ) (desk : fields.Inside) (t1 : ℕ) (xs ys : List (ℕ × ℕ)) (me2 : Seated) → Ready desk.desk (answered_of desk.seat.me.0) desk.kept.ticks t1 xs me2 → IsRead n (desk_of me2.0) (answered_of me2.0) ys → IsRead n desk.desk (answered_of desk.seat.me.0) ys
+read_of n desk t1 xs ys me2 r read = subst (λ (m : Seated). IsRead n (desk_of m.0) (answered_of m.0) ys) r.me read
 
-trying_of : (n : ℕ) (desk : fields.Inside) (ok : IsDesk desk) (t1 : ℕ) (xs ys : List (ℕ × ℕ)) (me2 me3 : Seated) → Ready desk.desk (answered_of desk.seat.me.0) desk.kept.ticks t1 xs me2 → IsTrying n (desk_of me2.0) (answered_of me2.0) ys (doing_of me3.0) → IsTrying n desk.desk (answered_of desk.seat.me.0) ys (doing_of me3.0)
-trying_of n desk ok t1 xs ys me2 me3 r try = subst (λ (m : Seated). IsTrying n (desk_of m.0) (answered_of m.0) ys (doing_of me3.0)) r.me try
+trying_of : (n : ℕ) (desk : fields.Inside) (t1 : ℕ) (xs ys : List (ℕ × ℕ)) (me2 me3 : Seated) → Ready desk.desk (answered_of desk.seat.me.0) desk.kept.ticks t1 xs me2 → IsTrying n (desk_of me2.0) (answered_of me2.0) ys (doing_of me3.0) → IsTrying n desk.desk (answered_of desk.seat.me.0) ys (doing_of me3.0)
+trying_of n desk t1 xs ys me2 me3 r try = subst (λ (m : Seated). IsTrying n (desk_of m.0) (answered_of m.0) ys (doing_of me3.0)) r.me try
 
 pub fetch_add-requires : goal.fetch_add-requires
 fetch_add-requires c =
@@ -81,8 +81,8 @@ fetch_add-requires c =
     let ys = pairs c.try_until.new.before.items in
     let e = c.in_default-try_until.ensures in
     let r = get_ready desk.seat.me _ c.load_words.new.seat.me desk.desk rs desk.kept.ticks t1 xs ok.alone c.fetch_add-begun.ensures.2.0 c.load_words.ensures.read in
-    let try = trying_of c.args.self.now.desks desk ok t1 xs ys c.load_words.new.seat.me c.try_until.new.seat.me r e.ends in
-    let read = read_of c.args.self.now.desks desk ok t1 xs ys c.load_words.new.seat.me r e.read in
+    let try = trying_of c.args.self.now.desks desk t1 xs ys c.load_words.new.seat.me c.try_until.new.seat.me r e.ends in
+    let read = read_of c.args.self.now.desks desk t1 xs ys c.load_words.new.seat.me r e.read in
     let pos = c.requires.tries in let made = e.made in
     let s = trying_scan c.args.self.now.desks desk.desk rs ys (doing_of c.try_until.new.seat.me.0) try (omega (arith, made_same c.try_until.new.seat.me.0)) in
     let a = after_tries c.load_words.new.seat.me c.try_until.new.seat.me desk.desk rs desk.kept.ticks t1 c.args.tries xs (Scanning s.0) r e.seat.1 e.account (omega (arith, e.ticks, e.made)) s.1 in (
@@ -97,7 +97,7 @@ gone : (n : ℕ) (desk : fields.Inside) (ok : IsDesk desk) (t1 t4 m : ℕ) (xs y
     → me4 ≡ (first_step (gave_up t4) me3.0, me3.1) → (fs : List (ℕ × ℕ)) × (me4 ≡ at_desk (idle desk.desk (answered_of desk.seat.me.0 ++ rec t1 t4 (Interfered m fs ys) ∷ []) (desk.kept.ticks + m + 2)))
 gone n desk ok t1 t4 m xs ys me1 me2 me3 me4 first second one same ticks made pos try last =
     let r = get_ready desk.seat.me me1 me2 desk.desk (answered_of desk.seat.me.0) desk.kept.ticks t1 xs ok.alone first second in
-    scan_lost me2 me3 me4 n desk.desk (answered_of desk.seat.me.0) desk.kept.ticks t1 t4 m xs ys r one same ticks (sym (made_same me3.0) ∙ made) pos (trying_of n desk ok t1 xs ys me2 me3 r try) last
+    scan_lost me2 me3 me4 n desk.desk (answered_of desk.seat.me.0) desk.kept.ticks t1 t4 m xs ys r one same ticks (sym (made_same me3.0) ∙ made) pos (trying_of n desk t1 xs ys me2 me3 r try) last
 
 pub invariant_of-desk : goal.invariant_of-desk
 invariant_of-desk c =
@@ -143,7 +143,7 @@ returns-in_default-try_until-clause-collects c = rw (← c.desk.view_is) (
 pub returns-in_default-try_until-clause-alone : goal.returns-in_default-try_until-clause-alone
 returns-in_default-try_until-clause-alone c one =
     let desk = c.desk.inside in let ok = c.desk.invariant in
-    let self = c.self.inside in let board = c.self.invariant in let n = ap (λ (v : BoardView). v.desks) c.self.view_is in
+    let n = ap (λ (v : BoardView). v.desks) c.self.view_is in
     let at = desk_at c.self.inside _ c.desk.inside _ c.self.view_is c.desk.view_is c.requires.desk in
     let rs = answered_of desk.seat.me.0 in
     let t1 = c.fetch_add-begun.result in
@@ -151,8 +151,8 @@ returns-in_default-try_until-clause-alone c one =
     let ys = pairs c.try_until.new.before.items in
     let e = c.in_default-try_until.ensures in
     let r = get_ready desk.seat.me _ c.load_words.new.seat.me desk.desk rs desk.kept.ticks t1 xs ok.alone c.fetch_add-begun.ensures.2.0 c.load_words.ensures.read in
-    let try = trying_of c.args.self.now.desks desk ok t1 xs ys c.load_words.new.seat.me c.try_until.new.seat.me r e.ends in
-    let read = read_of c.args.self.now.desks desk ok t1 xs ys c.load_words.new.seat.me r e.read in
+    let try = trying_of c.args.self.now.desks desk t1 xs ys c.load_words.new.seat.me c.try_until.new.seat.me r e.ends in
+    let read = read_of c.args.self.now.desks desk t1 xs ys c.load_words.new.seat.me r e.read in
     let pos = c.requires.tries in let made = e.made in
     let s = trying_scan c.args.self.now.desks desk.desk rs ys (doing_of c.try_until.new.seat.me.0) try (omega (arith, made_same c.try_until.new.seat.me.0)) in
     let low = at.1 in
@@ -178,7 +178,7 @@ fetch_add-ended-requires c =
     let e = c.in-Some.ensures in
     let m = c.in-Some.made in
     let r = get_ready desk.seat.me _ c.load_words.new.seat.me desk.desk rs desk.kept.ticks t1 xs ok.alone c.fetch_add-begun.ensures.2.0 c.load_words.ensures.read in
-    let read = read_of c.args.self.now.desks desk ok t1 xs ys c.load_words.new.seat.me r e.read in
+    let read = read_of c.args.self.now.desks desk t1 xs ys c.load_words.new.seat.me r e.read in
     let s = agreed_scan ys (doing_of c.try_until.new.seat.me.0) e.ends in
     let a = after_tries c.load_words.new.seat.me c.try_until.new.seat.me desk.desk rs desk.kept.ticks t1 m xs (Scanning s.0) r e.seat.1 e.account (omega (arith, e.ticks, e.made.0)) s.1 in (
       e.seat.0 ∙ c.load_words.ensures.seat ∙ c.fetch_add-begun.ensures.0 ∙ at.0,
@@ -298,7 +298,7 @@ returns-clause-own c = rw (← c.desk.view_is) (
     let mid = middle_in (doing_of c.try_until.new.seat.me.0) in
     let s = done desk ok t1 t4 m xs ys _ _ _ _ c.fetch_add-begun.ensures.2 c.load_words.ensures.read e.seat.1 e.account (omega (arith, e.ticks, e.made.0)) e.ends c.fetch_add-ended.ensures.2 in
     let r = get_ready desk.seat.me _ c.load_words.new.seat.me desk.desk rs desk.kept.ticks t1 xs ok.alone c.fetch_add-begun.ensures.2.0 c.load_words.ensures.read in
-    let read = read_of c.args.self.now.desks desk ok t1 xs ys c.load_words.new.seat.me r e.read in
+    let read = read_of c.args.self.now.desks desk t1 xs ys c.load_words.new.seat.me r e.read in
     let size = read.0 in let low = at.1 in
     ap (entries.entry_of desk.desk) c.view_of.ensures ∙ own_entry desk.desk rs ys read.1 (omega arith))
 
@@ -314,6 +314,6 @@ returns-clause-no_older c = rw (← c.desk.view_is) (
     let mid = middle_in (doing_of c.try_until.new.seat.me.0) in
     let s = done desk ok t1 t4 m xs ys _ _ _ _ c.fetch_add-begun.ensures.2 c.load_words.ensures.read e.seat.1 e.account (omega (arith, e.ticks, e.made.0)) e.ends c.fetch_add-ended.ensures.2 in
     let r = get_ready desk.seat.me _ c.load_words.new.seat.me desk.desk rs desk.kept.ticks t1 xs ok.alone c.fetch_add-begun.ensures.2.0 c.load_words.ensures.read in
-    let read = read_of c.args.self.now.desks desk ok t1 xs ys c.load_words.new.seat.me r e.read in
+    let read = read_of c.args.self.now.desks desk t1 xs ys c.load_words.new.seat.me r e.read in
     let older = no_older desk.desk rs ys read.1 s.whole in
     λ q mq k. subst (λ (es : List Entry). number_shown q k ≤ number_in (entries.entry_of k es)) (sym c.view_of.ensures) (older q mq k))
