@@ -244,12 +244,15 @@ fn writes_the_text_that_it_read(rt: HostRuntime) -> Result<(), Fail> {
 fn a_failed_write_or_flush_is_the_answer(rt: HostRuntime) -> Result<(), Fail> {
     let mut history = History::new(rt.alloc());
     assert!(rt; history.push(Event::BeginView { process: 0 }).is_ok());
+    let text = b"event,process,op,data\nbegin,0,view,\n".as_slice();
     for (room, fails_at_flush) in [(0, false), (10, false), (36, true)] {
         let mut writer = Counted::new(Cup::new(rt.alloc(), room, 3, false, fails_at_flush));
         let answer = write_history(rt.alloc(), &mut writer, &history);
         assert_eq!(rt; answer, Err(WriteRefusal::Device));
         assert_eq!(rt; writer.failures(), 1);
-        assert_eq!(rt; writer.into_inner().held.len(), room);
+        let cup = writer.into_inner();
+        assert_eq!(rt; cup.held.as_slice(), &text[..room]);
+        assert_eq!(rt; cup.flushes, u64::from(fails_at_flush));
     }
     Ok(())
 }

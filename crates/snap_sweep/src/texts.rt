@@ -65,6 +65,7 @@ fn cup(alloc: Global) -> Result<Counted<Cup>, AllocError> {
         at_once: 256,
         fails_when_full: true,
         fails_at_flush: false,
+        flushes: 0,
     }))
 }
 

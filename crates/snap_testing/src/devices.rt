@@ -56,7 +56,7 @@ impl Read for Newlines {
     }
 }
 
-/// Takes so many bytes a write until it is full. A full cup fails, or takes nothing.
+/// Takes so many bytes a write until it is full, and counts its flushes. A full cup fails, or takes nothing.
 #[derive(Drop)]
 pub struct Cup {
     pub held: Vec<u8>,
@@ -64,6 +64,7 @@ pub struct Cup {
     pub at_once: usize,
     pub fails_when_full: bool,
     pub fails_at_flush: bool,
+    pub flushes: u64,
 }
 
 impl Cup {
@@ -81,6 +82,7 @@ impl Cup {
             at_once,
             fails_when_full,
             fails_at_flush,
+            flushes: 0,
         }
     }
 }
@@ -101,6 +103,7 @@ impl Write for Cup {
     }
 
     fn flush(&mut self) -> io::Result<()> {
+        self.flushes = self.flushes.saturating_add(1);
         if self.fails_at_flush {
             return Err(ErrorKind::Interrupted.into());
         }

@@ -167,12 +167,15 @@ fn writes_each_event_with_its_stamp(rt: HostRuntime) -> Result<(), Fail> {
 fn a_failed_write_of_stamps_is_the_answer(rt: HostRuntime) -> Result<(), Fail> {
     let mut history = History::new(rt.alloc());
     assert!(rt; history.push(Event::BeginView { process: 0 }).is_ok());
+    let text = b"at,event,process,op,data\n7,begin,0,view,\n".as_slice();
     for (room, fails_at_flush) in [(0, false), (10, false), (41, true)] {
         let mut writer = Counted::new(Cup::new(rt.alloc(), room, 3, false, fails_at_flush));
         let answer = write_history_stamped(rt.alloc(), &mut writer, &history, &[7]);
         assert_eq!(rt; answer, Err(WriteRefusal::Device));
         assert_eq!(rt; writer.failures(), 1);
-        assert_eq!(rt; writer.into_inner().held.len(), room);
+        let cup = writer.into_inner();
+        assert_eq!(rt; cup.held.as_slice(), &text[..room]);
+        assert_eq!(rt; cup.flushes, u64::from(fails_at_flush));
     }
     Ok(())
 }

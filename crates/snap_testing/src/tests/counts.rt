@@ -44,7 +44,7 @@ fn a_failed_write_and_a_failed_flush_are_counted(rt: HostRuntime) {
 }
 
 #[test]
-fn a_text_is_sent_whole_or_as_far_as_the_writer_takes_it(rt: HostRuntime) {
+fn a_text_is_sent_whole_and_flushed_once_or_as_far_as_the_writer_takes_it(rt: HostRuntime) {
     // The room, the bytes a write, whether a full writer fails; the bytes that go out.
     let cases = [
         (12, 12, true, 12),
@@ -71,15 +71,22 @@ fn a_text_is_sent_whole_or_as_far_as_the_writer_takes_it(rt: HostRuntime) {
             &TEXT[..sent],
             "at {room} by {at_once}"
         );
+        assert_eq!(rt;
+            cup.flushes,
+            if sent == 12 { 1 } else { 0 },
+            "at {room} by {at_once}"
+        );
     }
 }
 
 #[test]
-fn a_sent_text_is_flushed(rt: HostRuntime) {
+fn a_flush_that_fails_is_not_tried_again(rt: HostRuntime) {
     let mut stuck = cup(rt.alloc(), 12, 12, true);
     stuck.fails_at_flush = true;
     let mut writer = Counted::new(stuck);
     assert!(rt; writer.send(TEXT).is_err());
     assert_eq!(rt; writer.failures(), 1);
-    assert_eq!(rt; writer.into_inner().held.as_slice(), TEXT);
+    let cup = writer.into_inner();
+    assert_eq!(rt; cup.held.as_slice(), TEXT);
+    assert_eq!(rt; cup.flushes, 1);
 }
