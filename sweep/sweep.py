@@ -78,6 +78,20 @@ def check(name, text, report, workers=2):
     return Case(f"check {name}, {workers} workers", ["check", "--workers", str(workers)], text, lambda run: run == whole, report)
 
 
+def quiet(name, text, report):
+    """A quiet check, with the lines of the verdicts."""
+    said = report if status_of(report) == 3 else b"".join(report.splitlines(keepends=True)[1:4])
+    whole = status_of(report), said, b""
+    return Case(f"check --quiet {name}", ["check", "--quiet"], text, lambda run: run == whole, said)
+
+
+def shrink(name, text, report):
+    """A history no call of which can be left out, cut down."""
+    left = report if status_of(report) == 3 else text
+    whole = status_of(report), left, b""
+    return Case(f"shrink {name}", ["shrink"], text, lambda run: run == whole, left)
+
+
 def is_history(text, is_stamped, has_scans):
     """Whether these are the calls of two workers in so many rounds, each once and ended. A scan may have no record."""
     header = STAMPED if is_stamped else HEADER
@@ -339,8 +353,11 @@ def main():
     faulthandler.enable()
     given, small, recorded = list(examples()), list(small_texts()), list(recordings())
     checks = [check(*each, workers) for each in given + small for workers in (1, 2, 8)]
-    worked = [check(*each) for each in given + small]
-    jobless = [usage(), usage("judge"), usage("check", "--pieces", "0"), usage("record", "--help")]
+    # of value-nobody-wrote a view is left out
+    others = [quiet(*each) for each in given] + [shrink(*each) for each in given if each[0] != "value-nobody-wrote"]
+    checks += others
+    worked = [check(*each) for each in given + small] + others
+    jobless = [usage(), usage("judge"), usage("check", "--pieces", "0"), usage("record", "--help"), usage("shrink", "--help")]
     with tempfile.TemporaryDirectory() as folder:
         tests = Tests(Shim(os.path.abspath(sys.argv[1]), folder))
         for case in checks + recorded + jobless:
