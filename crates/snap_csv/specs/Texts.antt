@@ -1,6 +1,7 @@
 -- When a byte text is one of a history, and where else its first fault is.
 use Rattle.std.specs.Prelude.{◌≡◌, ◌≤◌, ◌<◌, ◌+◌, ◌⊎◌, ℕ, true, false, List, [], ◌∷◌, length}
 use Rattle.snap_core.specs.declared.event.Event.{Event}
+use Rattle.snap_csv.specs.declared.intake.TheConstants.{BYTE_LIMIT}
 use Rattle.snap_csv.specs.declared.refusal.TextFault.{TextFault}
 use Rattle.snap_csv.specs.declared.refusal.TextFault.TheVariants as faults
 use Rattle.snap_csv.specs.Rows.{Fields, rows_of}
@@ -10,7 +11,7 @@ use Rattle.snap_csv.specs.Stamps.{StampedFault, StampedRead}
 
 -- how many bytes a text may have
 abbrev pub byte_limit : ℕ
-byte_limit = 67108864
+byte_limit = BYTE_LIMIT
 
 -- what records are a history of, without stamps or with them: none where the first is neither header
 abbrev pub RowsRead : List Fields → List Event → Type 0

@@ -7,7 +7,7 @@ use std::alloc::Global;
 use std::io::Read;
 
 /// How many bytes a text may have.
-pub const BYTE_LIMIT: usize = 67108864;
+pub const BYTE_LIMIT: usize = 67_108_864;
 
 /// All that a reader has left, where that is within the limit.
 pub fn take_in<R: Read>(alloc: Global, reader: &mut Counted<R>) -> Result<Vec<u8>, ReadRefusal>

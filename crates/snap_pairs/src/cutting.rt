@@ -1,6 +1,12 @@
 ghost use Rattle.std.specs.Prelude.{◌≡◌, IfOk, OnOk, IsErrOf};
 ghost use Rattle.snap_pairs.specs.Cuttings.{IsPieces, IsWorkers};
 
+/// How many pieces a cutting has at most.
+pub const PIECE_LIMIT: u32 = 1024;
+
+/// How many workers a cutting has at most.
+pub const WORKER_LIMIT: u32 = 8;
+
 /// Why there is no such cutting, in the order in which the reasons are tested.
 #[derive(Clone, Copy, PartialEq, Eq, Debug)]
 pub enum CuttingRefusal {
@@ -27,10 +33,10 @@ impl Cutting {
         ensures pieces { IsErrOf result CuttingRefusal.Pieces → ¬ IsPieces pieces }
         ensures workers { IsErrOf result CuttingRefusal.Workers → IsPieces pieces × ¬ IsWorkers workers }
     {
-        if !(1..=1024).contains(&pieces) {
+        if !(1..=PIECE_LIMIT).contains(&pieces) {
             return Err(CuttingRefusal::Pieces);
         }
-        if !(1..=8).contains(&workers) {
+        if !(1..=WORKER_LIMIT).contains(&workers) {
             return Err(CuttingRefusal::Workers);
         }
         Ok(Cutting { pieces, workers })
