@@ -1,5 +1,5 @@
 -- How clashes are counted, and which rows have one.
-use Rattle.std.proofs.Common.{◌≡◌, ℕ, zero, suc, ◌+◌, ◌*◌, ◌<◌, ◌≤◌, Bool, true, false, cond, ◌&&◌, ◌||◌, List, [], ◌∷◌, ◌++◌, Some, None, take, drop, length, min, max, refl, sym, ap, ◌∙◌, arith}
+use Rattle.std.proofs.Common.{◌≡◌, ℕ, zero, suc, ◌+◌, ◌*◌, ◌<◌, ◌≤◌, Bool, true, false, cond, ◌&&◌, ◌||◌, List, [], ◌∷◌, ◌++◌, Some, None, take, drop, length, min, max, refl, sym, ap, ◌∙◌, subst, arith}
 use Rattle.std.specs.Prelude.{nat_lt, bit_or, bit_and, sum_by, count_by, count_ones, find}
 use Rattle.std.specs.List.{list_any, range_with_len}
 use Rattle.std.specs.Int.{bit_at}
@@ -10,7 +10,7 @@ use Rattle.std.specs.Option.{option_or}
 use Rattle.std.proofs.lemmas.List.FromFn.{length-range_with_len}
 use Rattle.snap_grid.specs.Columns.{GridValue, number, any_passes, clashes, clash_count, drops, drop_count, has_clash, rows_of}
 use Rattle.snap_grid.specs.Masks.{mask_by, mask_below}
-use Rattle.snap_grid.specs.Clashes.{ClashesWith, pair_count}
+use Rattle.snap_grid.specs.Clashes.{AreApart, ClashesWith, pair_count}
 use Rattle.snap_grid.proofs.Bits.{bit_by, bit_past, bit_below, bit_not_below, mask_from_bits, ones_below}
 use Rattle.snap_grid.proofs.Passing.{row_at, row_count}
 
@@ -127,6 +127,33 @@ with_more g from n first m count dropped rows mask dropping new_count new_droppe
   rows = r ∙ ap (λ z. bit_or z mask) h.rows ∙ ap (bit_or (mask_below (λ a. list_any (clashes g (from + a)) (range_with_len first m)) n)) e
       ∙ mask_or n (λ a. list_any (clashes g (from + a)) (range_with_len first m)) (λ a. clashes g (from + a) (first + m)) (λ a. list_any (clashes g (from + a)) (range_with_len first (m + 1))) (λ a. any_more (clashes g (from + a)) first m);
 }
+
+-- where no row clashes or drops
+pub with_nothing : (g : GridValue) (from n first m : ℕ) → AreApart g from n first m → ClashesWith g from n first m (record { count = 0; drops = 0; rows = 0 })
+unfolding lib.Count.ones
+with_nothing g from n first zero h = with_none g from n first
+with_nothing g from n first (suc m) h =
+    let one : m + 1 ≡ suc m = omega arith in
+    let more = with_more g from n first m 0 0 0 0 0 0 0 0 (no_mask (λ a. clashes g (from + a) (first + m)) (λ a l. (h a m l (omega arith)).0)) (no_mask (λ a. drops g (from + a) (first + m)) (λ a l. (h a m l (omega arith)).1)) refl refl refl
+    (with_nothing g from n first m (λ a b k l. h a b k (omega (arith, l)))) in
+    subst (λ z. ClashesWith g from n first z (record { count = 0; drops = 0; rows = 0 })) one more
+  where
+    no_mask : (p : ℕ → Bool) → ((a : ℕ) → a < n → p a ≡ false) → 0 ≡ mask_below p n
+    no_mask p none = mask_from_bits p n 0 (λ i l. bit_at-zero i ∙ sym (ap {B = ℕ} (λ b. cond b 1 0) (none i l))) (λ i l. bit_at-zero i)
+
+-- where no row has a greater number, or none has a lesser one and none ends before one of theirs begins
+
+pub apart_by_more : (g : GridValue) (a b : ℕ) → any_passes true g.columns a b ≡ false → (clashes g a b ≡ false) × (drops g a b ≡ false)
+unfolding clashes drops
+apart_by_more g a b h = rw h (refl, refl)
+
+pub apart_by_less : (g : GridValue) (a b : ℕ) → any_passes false g.columns a b ≡ false → nat_lt (number g.ends a) (number g.begins b) ≡ false → (clashes g a b ≡ false) × (drops g a b ≡ false)
+unfolding clashes drops
+apart_by_less g a b h e = rw (h, e) (never (any_passes true g.columns a b), never (any_passes true g.columns a b))
+  where
+    never : (p : Bool) → (p && false) ≡ false
+    never true = refl
+    never false = refl
 
 -- few rows pass a test against one
 pub few_ones : (p : ℕ → Bool) (n mask : ℕ) → mask ≡ mask_below p n → count_ones mask ≤ n

@@ -46,6 +46,11 @@ pub any_none : (more : Bool) (a s : ℕ) → any_passes more [] a s ≡ false
 unfolding any_passes
 any_none more a s = refl
 
+-- where no row passes in the first columns, nor in the next
+pub none_more : (more : Bool) (columns : List (List ℕ)) (j a s : ℕ) → j < length columns → any_passes more (take j columns) a s ≡ false → passes more (number (get_or columns j []) a) (number (get_or columns j []) s) ≡ false →
+    any_passes more (take (j + 1) columns) a s ≡ false
+none_more more columns j a s l before here = any_more more columns j a s l ∙ ap (λ b. b || passes more (number (get_or columns j []) a) (number (get_or columns j []) s)) before ∙ here
+
 or_cases : (p q : Bool) → (p || q) ≡ true → (p ≡ true) ⊎ (q ≡ true)
 or_cases true q h = inl refl
 or_cases false q h = inr h

@@ -1,4 +1,4 @@
-ghost use Rattle.std.specs.Prelude.{◌≡◌, ◌≤◌, ◌<◌, ◌+◌, ◌*◌, ◌-◌, ◌&&◌, true, [], ℕ, cond, length, get_or, nat_lt, bit_or, IsTrue, IfOk};
+ghost use Rattle.std.specs.Prelude.{◌≡◌, ◌≤◌, ◌<◌, ◌+◌, ◌*◌, ◌-◌, ◌&&◌, true, false, [], ℕ, cond, length, get_or, nat_lt, bit_or, IsTrue, IfOk};
 ghost use Rattle.snap_grid.specs.Columns.{passes, any_passes};
 ghost use Rattle.snap_grid.specs.Masks.{mask_by, mask_below};
 ghost use Rattle.snap_grid.specs.Kept.{AreRows, HaveRows};
@@ -102,6 +102,19 @@ impl<'g> Block<'g> {
             }
         }
         false
+    }
+
+    // Whether the bounds alone tell that none of our rows passes one of theirs in any column.
+    pub(crate) fn none_pass(&self, more: bool, block: usize) -> bool
+        requires { (j : ℕ) → j < length self.now.columns.now → block * 64 < length (get_or self.now.columns.now j []) }
+        ensures { IsTrue result → (a s : ℕ) → a < self.now.count → block * 64 ≤ s → s < block * 64 + 64 → HaveRows self.now.columns.now (s + 1) → any_passes more self.now.columns.now (self.now.from + a) s ≡ false }
+    {
+        for j in 0..self.columns.len() {
+            if some_pass(more, self.masks[j].bounds(), self.columns[j].bounds(block)) {
+                return false;
+            }
+        }
+        true
     }
 
     // Of each row of a block the mask of our rows that pass it in some column.

@@ -1,8 +1,8 @@
-ghost use Rattle.std.specs.Prelude.{◌≡◌, ◌≤◌, ◌<◌, ◌+◌, ◌*◌, ◌-◌, ℕ, Bool, [], length, get_or, take, drop, sum_by, count_by, find, IfOk};
+ghost use Rattle.std.specs.Prelude.{◌≡◌, ◌≤◌, ◌<◌, ◌+◌, ◌*◌, ◌-◌, ℕ, Bool, [], length, get_or, take, drop, sum_by, count_by, find, IfOk, IsTrue};
 ghost use Rattle.std.specs.List.{range_with_len, list_any};
 ghost use Rattle.snap_grid.specs.Columns.{GridValue, clashes, clash_count, drop_count, has_clash, HaveSameRows};
 ghost use Rattle.snap_grid.specs.Masks.{mask_below};
-ghost use Rattle.snap_grid.specs.Clashes.{ClashesWith};
+ghost use Rattle.snap_grid.specs.Clashes.{AreApart, ClashesWith};
 
 use crate::block::Block;
 use crate::column::Column;
@@ -55,6 +55,19 @@ fn first_row(from: usize, rows: u64) -> Option<usize>
     Some(from + rows.trailing_zeros() as usize)
 }
 
+// Whether the numbers from one place to before another are at most another number.
+fn are_at_most(numbers: &[u32], from: usize, to: usize, greatest: u32) -> bool
+    requires { to ≤ length numbers.now }
+    ensures { IsTrue result → (i : ℕ) → from ≤ i → i < to → get_or numbers.now i 0 ≤ greatest }
+{
+    for i in from..to {
+        if numbers[i] > greatest {
+            return false;
+        }
+    }
+    true
+}
+
 impl Grid {
     /// The grid of these columns and rows.
     pub fn new(columns: Vec<Column>, begins: Vec<u32>, ends: Vec<u32>) -> Grid
@@ -68,6 +81,28 @@ impl Grid {
         }
     }
 
+    // Whether bounds alone tell that none of our rows, which end there, clashes with one of a block of rows, or drops to it: none
+    // has a greater number, or none has a lesser one and none ends before one of the block begins.
+    fn are_apart(&self, ours: &Block<'_>, ends: &Masks<'_>, block: usize, count: usize) -> bool
+        requires columns { ours.now.columns.now ≡ self.now.columns }
+        requires ends { ends.now ≡ take ours.now.count (drop ours.now.from self.now.ends) }
+        requires within { ours.now.from + ours.now.count ≤ length self.now.begins }
+        requires some { 0 < count }
+        requires few { count ≤ 64 }
+        requires rows { block * 64 + count ≤ length self.now.begins }
+        ensures { IsTrue result → AreApart self.now ours.now.from ours.now.count (block * 64) count }
+    {
+        let begins = self.begins.as_slice();
+        if ours.none_pass(true, block) {
+            return true;
+        }
+        if !ours.none_pass(false, block) {
+            return false;
+        }
+        let first = block * WIDTH;
+        are_at_most(begins, first, first + count, ends.bounds().least)
+    }
+
     // Our rows, which end there, against a block of rows.
     fn clashing(&self, ours: &Block<'_>, ends: &Masks<'_>, block: usize, count: usize) -> Clashing
         requires columns { ours.now.columns.now ≡ self.now.columns }
@@ -78,6 +113,13 @@ impl Grid {
         requires rows { block * 64 + count ≤ length self.now.begins }
         ensures { ClashesWith self.now ours.now.from ours.now.count (block * 64) count result }
     {
+        if self.are_apart(ours, ends, block, count) {
+            return Clashing {
+                count: 0,
+                drops: 0,
+                rows: 0,
+            };
+        }
         let begins = self.begins.as_slice();
         let more = ours.passing(true, block, count);
         let less = ours.passing(false, block, count);

@@ -2,8 +2,11 @@ use Rattle.std.proofs.Common.{◌≡◌, ◌≤◌, ◌+◌, ◌*◌, ℕ, List,
 use Rattle.std.specs.Prelude.{true, false, nat_lt, bit_and, bit_or, take, drop}
 use Rattle.snap_grid.specs.Columns.{GridValue, HaveSameRows, number, any_passes, clashes, drops}
 use Rattle.snap_grid.specs.Masks.{mask_by, mask_below}
-use Rattle.snap_grid.proofs.Clashing.{drop_lane, few_ones, few_pairs, lane, with_more, with_none}
+use Rattle.snap_grid.proofs.Clashing.{drop_lane, few_ones, few_pairs, lane, with_more, with_none, with_nothing}
 use Rattle.snap_grid.proofs.grid.Grid.clashing.Goals as goal
+
+pub returns-then-are_apart : goal.returns-then-are_apart
+returns-then-are_apart c = with_nothing c.args.self.now c.args.ours.now.from c.args.ours.now.count (c.args.block * 64) c.args.count (c.are_apart.ensures c.if-are_apart.true)
 
 pub passing-more-requires-clause-rows : goal.passing-more-requires-clause-rows
 passing-more-requires-clause-rows c =
