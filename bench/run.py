@@ -19,27 +19,28 @@ import time
 HERE = os.path.dirname(os.path.abspath(__file__))
 SNAPJUDGE = os.environ.get("SNAPJUDGE", os.path.join(HERE, "..", "built", "snapjudge"))
 CASES = [
-    ("atomic", 1024, 8), ("atomic", 4096, 8), ("atomic", 16384, 8), ("atomic", 16384, 256),
-    ("pending", 16384, 8), ("pending", 16384, 256),
-    ("overlapping", 1024, 4), ("overlapping", 4096, 4), ("overlapping", 16384, 4), ("overlapping", 16384, 256),
-    ("toggling", 16384, 4), ("late", 16384, 32), ("stale", 16384, 8),
-    ("writes", 4096, 8), ("writes", 16384, 8), ("writes", 16384, 256),
+    ("atomic", 1024, 8), ("atomic", 4096, 8), ("atomic", 16384, 8), ("atomic", 65536, 8), ("atomic", 16384, 256), ("atomic", 65536, 256),
+    ("pending", 16384, 8), ("pending", 65536, 8), ("pending", 16384, 256), ("pending", 65536, 256),
+    ("overlapping", 1024, 4), ("overlapping", 4096, 4), ("overlapping", 16384, 4), ("overlapping", 65536, 4),
+    ("overlapping", 16384, 256), ("overlapping", 65536, 256),
+    ("toggling", 16384, 4), ("late", 16384, 32), ("late", 65536, 32), ("stale", 16384, 8),
+    ("writes", 4096, 8), ("writes", 16384, 8), ("writes", 65536, 8), ("writes", 16384, 256), ("writes", 65536, 256),
     ("random", 16384, 8), ("random", 16384, 256),
     ("newlines", 67108864, 0),
 ]
 
 
 def run(words, history, report):
-    """The status, the milliseconds and the peak memory in MB of one run."""
+    """The status, the milliseconds by the clock and of user time, and the peak memory in MB of one run."""
     files = [(os.POSIX_SPAWN_OPEN, 0, history, os.O_RDONLY, 0), (os.POSIX_SPAWN_OPEN, 1, report, os.O_WRONLY | os.O_CREAT | os.O_TRUNC, 0o600)]
     begun = time.perf_counter()
     child = os.posix_spawn(words[0], words, os.environ, file_actions=files)
     _, status, used = os.wait4(child, 0)
-    return os.waitstatus_to_exitcode(status), (time.perf_counter() - begun) * 1000, used.ru_maxrss / 1024
+    return os.waitstatus_to_exitcode(status), (time.perf_counter() - begun) * 1000, used.ru_utime * 1000, used.ru_maxrss / 1024
 
 
 def measure(programs, history, room, repeats):
-    """Of each program the status, the least milliseconds, the peak memory and the report."""
+    """Of each program the status, the least milliseconds by the clock and of user time, the peak memory and the report."""
     reports = [os.path.join(room, f"report{i}") for i in range(len(programs))]
     runs = [[] for _ in programs]
     for _ in range(repeats):
@@ -48,7 +49,7 @@ def measure(programs, history, room, repeats):
     seen = []
     for i, done in enumerate(runs):
         with open(reports[i], "rb") as report:
-            seen.append((done[0][0], min(ms for _, ms, _ in done), max(peak for _, _, peak in done), report.read()))
+            seen.append((done[0][0], min(ms for _, ms, _, _ in done), min(user for _, _, user, _ in done), max(peak for *_, peak in done), report.read()))
     return seen
 
 
@@ -61,11 +62,11 @@ def main():
     programs = [[SNAPJUDGE, "check", "--workers", str(n)] for n in (1, 2)]
     if asked.against:
         programs.append([asked.against, "check"])
-    print("| kind | events | components | bytes | status | 1 worker, ms | 2 workers, ms | ratio | peak, MB | other judge, ms | ratio to it | reports |")
-    print("|---|---|---|---|---|---|---|---|---|---|---|---|")
+    print("| kind | events | components | bytes | status | 1 worker, ms | of that user, ms | 2 workers, ms | ratio | peak, MB | other judge, ms | ratio to it | reports |")
+    print("|---|---|---|---|---|---|---|---|---|---|---|---|---|")
     with tempfile.TemporaryDirectory() as room:
         idle = min(run(["/bin/true"], os.devnull, os.devnull)[1] for _ in range(20))
-        print(f"| nothing | 0 | 0 | 0 | 0 | {idle:.1f} | {idle:.1f} | 1.00 | - | - | - | - |")
+        print(f"| nothing | 0 | 0 | 0 | 0 | {idle:.1f} | 0.0 | {idle:.1f} | 1.00 | - | - | - | - |")
         for kind, events, components in CASES:
             if asked.kinds and kind not in asked.kinds:
                 continue
@@ -73,9 +74,9 @@ def main():
             with open(history, "wb") as text:
                 subprocess.run([sys.executable, os.path.join(HERE, "generate.py"), kind, str(events), str(components)], stdout=text, check=True)
             alone, both, *other = measure(programs, history, room, asked.repeats)
-            same = "same" if all(seen[3] == alone[3] and seen[0] == alone[0] for seen in [both, *other]) else "DIFFERENT"
+            same = "same" if all(seen[-1] == alone[-1] and seen[0] == alone[0] for seen in [both, *other]) else "DIFFERENT"
             told = f"{other[0][1]:.1f} | {min(alone[1], both[1]) / other[0][1]:.1f}" if other else "- | -"
-            print(f"| {kind} | {events} | {components} | {os.path.getsize(history)} | {alone[0]} | {alone[1]:.1f} | {both[1]:.1f} | {both[1] / alone[1]:.2f} | {max(alone[2], both[2]):.0f} | {told} | {same} |", flush=True)
+            print(f"| {kind} | {events} | {components} | {os.path.getsize(history)} | {alone[0]} | {alone[1]:.1f} | {alone[2]:.1f} | {both[1]:.1f} | {both[1] / alone[1]:.2f} | {max(alone[3], both[3]):.0f} | {told} | {same} |", flush=True)
 
 
 if __name__ == "__main__":

@@ -37,8 +37,8 @@ def main():
             for _ in range(runs):
                 for name in done:
                     done[name].append(measure([[SNAPJUDGE, "check"]], name, room, 1)[0])
-            without, reverse = (min(ms for _, ms, _, _ in done[name]) for name in (plain, turned))
-            same = "same" if done[plain][0][3] == done[turned][0][3] else "DIFFERENT"
+            without, reverse = (min(ms for _, ms, *_ in done[name]) for name in (plain, turned))
+            same = "same" if done[plain][0][-1] == done[turned][0][-1] else "DIFFERENT"
             print(f"| {kind} | {events} | {components} | {without:.1f} | {reverse:.1f} | {reverse / without:.2f} | {same} |", flush=True)
 
 
