@@ -1,3 +1,4 @@
+pub mod ByDesk
 pub mod Pushing
 pub mod Sorting
 pub mod ByWorker
@@ -5,5 +6,6 @@ pub mod Delivering
 pub mod Finishing
 pub mod Scripting
 pub mod Planning
+pub mod Running
 pub mod Whole
 pub mod Telling

@@ -1,12 +1,14 @@
--- Plans, and what a script leaves in a history.
-use Rattle.std.proofs.Common.{◌≡◌, ℕ, zero, suc, ◌+◌, ◌-◌, ◌*◌, ◌≤◌, ◌&&◌, nat_le, Bool, true, false, cond, ◌==◌, inl, inr, if◌then◌else◌, List, [], ◌∷◌, ◌++◌, length, get_or, None, Some, refl, sym, ap, subst, arith, length-append, le-ltb, ◌∙◌, append_assoc, append-nil}
-use Rattle.std.proofs.lemmas.Bool.{le-leb}
+-- Plans, and what their scripts leave in a history.
+use Rattle.std.proofs.Common.{◌≡◌, ℕ, zero, suc, ◌+◌, ◌-◌, ◌*◌, ◌<◌, ◌≤◌, ◌&&◌, not, nat_le, nat_lt, Bool, true, false, cond, ◌==◌, inl, inr, if◌then◌else◌, List, [], ◌∷◌, ◌++◌, length, get_or, None, Some, refl, sym, ap, subst, arith, length-append, le-ltb, ◌∙◌, append_assoc, append-nil}
+use native.Mathlib.Decide.{dec_le}
+use Rattle.std.proofs.Math.Nat.{suc-mul}
+use Rattle.std.proofs.lemmas.Bool.{le-leb, ltb-false}
 use Rattle.snap_core.specs.declared.event.Event.{Event}
 use Rattle.snap_core.specs.Events.{event_limit, events_of}
 use Rattle.snap_record.specs.declared.plan.Step.{Step}
 use Rattle.snap_record.specs.declared.plan.Step.TheVariants.{Store, View, Scan}
 use Rattle.snap_record.specs.declared.plan.PlanRefusal.{PlanRefusal}
-use Rattle.snap_record.specs.declared.plan.PlanRefusal.TheVariants.{TooLong}
+use Rattle.snap_record.specs.declared.plan.PlanRefusal.TheVariants.{Workers, TooLong}
 use Rattle.snap_board.specs.declared.record.Record.{Record}
 use Rattle.snap_board.specs.declared.record.RecordedOp.{RecordedOp}
 use Rattle.snap_board.specs.declared.record.RecordedOp.TheVariants as Kind
@@ -16,19 +18,21 @@ use Rattle.snap_account.specs.declared.account.Account.{Account}
 use Rattle.snap_account.specs.declared.account.Answered.{Answered}
 use Rattle.snap_account.specs.declared.account.Answer.{Answer}
 use Rattle.snap_account.specs.declared.account.Answer.TheVariants.{Stored, Viewed, Scanned, Interfered}
-use Rattle.snap_account.specs.Calls.{op_writes, writes_in}
+use Rattle.snap_account.specs.Calls.{Mem, op_writes, writes_in}
 use Rattle.snap_board.specs.Desks.{op_records, records_at, records_in, lost_in}
 use Rattle.snap_board.proofs.Climbing.{few_tries}
 use Rattle.std.proofs.lemmas.Bool.{eq-eqb}
 use Rattle.snap_board.specs.Regular.{falling}
 use Rattle.snap_account.specs.Rule.{tick_limit}
-use Rattle.snap_record.specs.Plans.{steps_in, plan_refusal, each_draws, draws_within, last_step, round_script, rounds_scripts, IsRun, HasScripts}
+use Rattle.snap_record.specs.Plans.{steps_in, plan_refusal, worker_limit, are_workers, each_draws, draws_within, last_step, round_script, rounds_scripts, AreWorkers, AreRounds, IsRun, HasScripts}
 use Rattle.snap_record.specs.Scripts.{IsOpOf, DidScript, DidSome}
 use Rattle.snap_board.specs.History.{stamped_events, events_in, begin_of, end_of}
 use Rattle.snap_record.specs.Delivery.{of_worker}
-use Rattle.snap_record.specs.Recording.{AreSettled, AreFrom, DidScripts, IsTold}
+use Rattle.snap_record.specs.Recording.{DidScripts, IsTold}
+use Rattle.snap_record.proofs.ByDesk.{total_desks, total_below, total_first}
+use Rattle.snap_board.proofs.Hand.{hand_low, hand_one, hand_there}
 use Rattle.snap_record.proofs.ByWorker.{counted}
-use Rattle.snap_record.proofs.Scripting.{draws_more}
+use Rattle.snap_record.proofs.Scripting.{both, draws_more}
 
 pub none_some : (r : PlanRefusal) → None ≡ Some r → ⊥
 none_some r e = cc
@@ -59,13 +63,56 @@ round_draws scan w (suc r) rest room le e =
 round_within : (scan : Bool) (w r : ℕ) → r ≤ 2048 → draws_within tick_limit (round_script scan w r) ≡ true
 round_within scan w r le = ap (draws_within tick_limit) (sym (append-nil (round_script scan w r))) ∙ round_draws scan w r [] tick_limit (omega arith) refl
 
--- so many rounds are a plan
-pub rounds_fit : (scan : Bool) (r : ℕ) → r ≤ 2048 → plan_refusal (rounds_scripts scan r) ≡ None
-rounds_fit scan r le =
-    let a = round_length scan 0 r in let b = round_length scan 1 r in
-    let x = round_within scan 0 r le in let y = round_within scan 1 r le in
-    ap (λ t. if t then Some TooLong else (if each_draws (rounds_scripts scan r) then None else Some TooLong)) (le-ltb event_limit (2 * steps_in (rounds_scripts scan r)) (omega arith))
-    ∙ (λ k. if x k && (y k && true) then None else Some TooLong)
+rounds_length : (scan : Bool) (w r : ℕ) → length (rounds_scripts scan w r) ≡ w
+rounds_length scan zero r = refl
+rounds_length scan (suc w) r = let l = length-append (rounds_scripts scan w r) (round_script scan w r ∷ []) in let i = rounds_length scan w r in omega arith
+
+steps_append : (xs ys : List (List Step)) → steps_in (xs ++ ys) ≡ steps_in xs + steps_in ys
+steps_append [] ys = omega arith
+steps_append (x ∷ xs) ys = let r = steps_append xs ys in omega arith
+
+rounds_steps : (scan : Bool) (w r : ℕ) → 2 * steps_in (rounds_scripts scan w r) ≡ w * (4 * r)
+rounds_steps scan zero r = omega arith
+rounds_steps scan (suc w) r =
+    let l = steps_append (rounds_scripts scan w r) (round_script scan w r ∷ []) in let i = rounds_steps scan w r in
+    let o = round_length scan w r in let m = suc-mul w (4 * r) in omega (arith, l, i, o, m)
+
+rounds_draw : (scan : Bool) (w r : ℕ) → r ≤ 2048 → (rest : List (List Step)) → each_draws rest ≡ true → each_draws (rounds_scripts scan w r ++ rest) ≡ true
+rounds_draw scan zero r le rest e = e
+rounds_draw scan (suc w) r le rest e =
+    ap each_draws (append_assoc (rounds_scripts scan w r) (round_script scan w r ∷ []) rest)
+    ∙ rounds_draw scan w r le (round_script scan w r ∷ rest) (let x = round_within scan w r le in λ k. x k && e k)
+
+-- so many workers and rounds are a plan
+pub rounds_fit : (scan : Bool) (w r : ℕ) → AreWorkers w → AreRounds w r → plan_refusal (rounds_scripts scan w r) ≡ None
+rounds_fit scan w r few le =
+    let steps = rounds_steps scan w r in
+    let lists = rounds_length scan w r in
+    let draws = ap each_draws (sym (append-nil (rounds_scripts scan w r))) ∙ rounds_draw scan w r le.1 [] refl in
+    let low = le-leb 2 (length (rounds_scripts scan w r)) (omega (arith, few.0, lists)) in
+    let high = le-leb (length (rounds_scripts scan w r)) worker_limit (omega (arith, few.1, lists)) in
+    let fits = le-ltb event_limit (2 * steps_in (rounds_scripts scan w r)) (omega (arith, steps, le.2)) in
+    λ k. if not (low k && high k) then Some Workers else if fits k then Some TooLong else if draws k then None else Some TooLong
+
+accepted_by : (few long draws : Bool) → (if not few then Some Workers else if long then Some TooLong else if draws then None else Some TooLong) ≡ None → (long ≡ false) × (draws ≡ true)
+accepted_by false long draws e = absurd (none_some Workers (sym e))
+accepted_by true true draws e = absurd (none_some TooLong (sym e))
+accepted_by true false true e = (refl, refl)
+accepted_by true false false e = absurd (none_some TooLong (sym e))
+
+-- a plan's scripts are short, and each draws few ticks
+pub accepted : (ss : List (List Step)) → plan_refusal ss ≡ None → (2 * steps_in ss ≤ event_limit) × (each_draws ss ≡ true)
+accepted ss e = let a = accepted_by (are_workers (length ss)) (nat_lt event_limit (2 * steps_in ss)) (each_draws ss) e in (ltb-false event_limit (2 * steps_in ss) a.0, a.1)
+
+pub script_short : (ss : List (List Step)) (w : ℕ) → length (get_or ss w []) ≤ steps_in ss
+script_short [] w = omega arith
+script_short (s ∷ ss) zero = omega arith
+script_short (s ∷ ss) (suc w) = let r = script_short ss w in omega arith
+
+pub script_draws : (ss : List (List Step)) (w : ℕ) → each_draws ss ≡ true → draws_within tick_limit (get_or ss w []) ≡ true
+script_draws [] w e = refl
+script_draws (s ∷ ss) zero e = (both (draws_within tick_limit s) (each_draws ss) e).0
+script_draws (s ∷ ss) (suc w) e = script_draws ss w (both (draws_within tick_limit s) (each_draws ss) e).1
 
 -- what a script did stands in the events of its records
 pub did_run : (d : ℕ) (steps : List Step) (rs : List Record) → DidScript d steps rs → IsRun d steps (events_in (stamped_events rs))
@@ -165,78 +212,81 @@ desk_stores : (a : Account) (d : ℕ) (steps : List Step) (rs : List Record) (lo
 desk_stores a d steps rs lost is did =
     writes_count a.desk a.calls ∙ ap (λ l. total (λ (r : Record). op_store r.op) l) is ∙ did_stores d (chosen did.choice steps) rs did.did ∙ chosen_stores did.choice steps did.scans
 
-abbrev choice_of : List Bool → List Bool → ℕ → List Bool
-choice_of a b zero = a
-choice_of a b (suc zero) = b
-choice_of a b (suc (suc w)) = []
+module _ (scripts : List (List Step)) (rs : List Record) (history : List Event) (interfered : ℕ) (told : IsTold rs history) (did : DidScripts scripts rs interfered) where
+  -- what worker w left in the history
+  record OneDid (w : ℕ) : Type 0 where
+    pub choice : List Bool
+    pub scans : LeavesScans choice (get_or scripts w [])
+    pub each : IsRun w (chosen choice (get_or scripts w [])) (events_of w history)
+    pub left : (a : Account) → Mem a did.accounts → a.desk ≡ w → left_out choice (get_or scripts w []) ≡ lost_in a.calls
+    pub tries : total (λ x. x) (left_out choice (get_or scripts w [])) ≤ stores_but w scripts
 
--- what the scripts left in a history
-pub has_scripts : (scripts : List (List Step)) (rs : List Record) (history : List Event) (interfered : ℕ) → IsTold rs history → DidScripts scripts rs interfered → HasScripts scripts history interfered
-has_scripts scripts rs history interfered told did = record {
-  choices = choice_of did.zero.choice did.one.choice;
-  scans = scans;
-  each = each;
-  left = ap (λ k. total (λ w. length (left_out (choice_of did.zero.choice did.one.choice w) (get_or scripts w []))) (falling k)) did.two ∙ (let a = ap length did.zero.left in let b = ap length did.one.left in let c = did.count in omega arith);
-  tries = tries;
-}
+  stores_beside : (a : Account) → total (λ (c : Account). cond (c.desk == a.desk) 0 (length (writes_in c.calls))) did.accounts ≡ stores_but a.desk scripts
+  stores_beside a =
+      total_desks (length scripts) did.accounts (λ (c : Account). cond (c.desk == a.desk) 0 (length (writes_in c.calls))) (λ v. cond (v == a.desk) 0 (stores_in (get_or scripts v []))) did.settled.desks
+      (λ c mc. ap (λ k. cond (c.desk == a.desk) 0 k) (desk_stores c c.desk (get_or scripts c.desk []) (records_in c) (lost_in c.calls) refl (did.theirs.did c mc)))
+
+  of_account : (a : Account) → Mem a did.accounts → OneDid a.desk
+  of_account a ma =
+      let s = did.theirs.did a ma in
+      record {
+        choice = s.choice;
+        scans = s.scans;
+        each = subst (IsRun a.desk (chosen s.choice (get_or scripts a.desk []))) (sym (told a.desk ∙ ap (λ l. events_in (stamped_events l)) (sym (did.own a ma)))) (did_run a.desk (chosen s.choice (get_or scripts a.desk [])) (records_in a) s.did);
+        left = λ c mc same. s.left ∙ ap (λ (z : Account). lost_in z.calls) (hand_one (length scripts) did.accounts did.settled.desks a c ma mc (sym same));
+        tries =
+            let f = few_tries (length scripts) did.accounts did.settled did.scans a ma in
+            let l = ap (total (λ x. x)) s.left in let b = stores_beside a in omega (arith, f, l, b);
+      }
+
+  -- beyond the scripts there is nobody
+  nobody : (w : ℕ) → length scripts ≤ w → OneDid w
+  nobody w high =
+      let none = get_past scripts w high in
+      let nothing : left_out [] (get_or scripts w []) ≡ [] = ap (left_out []) none in
+      record {
+        choice = [];
+        scans = subst (λ (ss : List Step). LeavesScans [] ss) (sym none) tt;
+        each = subst (λ (z : List Step × List Event). IsRun w z.0 z.1)
+            (λ i. (sym (ap (chosen []) none) i, sym (told w ∙ ap (λ l. events_in (stamped_events l)) (did.no_other w high)) i)) tt;
+        left = λ c mc same. let low = hand_low (length scripts) did.accounts did.settled.desks c mc in absurd (omega arith);
+        tries = let e = ap (total (λ x. x)) nothing in omega (arith, e);
+      }
+
+  one_did : (w : ℕ) → OneDid w
+  one_did w = at (dec_le (length scripts) w)
+    where
+      at : Dec (length scripts ≤ w) → OneDid w
+      at (yes high) = nobody w high
+      at (no low) = let a = hand_there (length scripts) did.accounts did.settled.desks w (omega arith) in subst OneDid a.2 (of_account a.0 a.1)
+
+  -- what the scripts left in a history
+  pub has_scripts : HasScripts scripts history interfered
+  has_scripts = record {
+    choices = λ w. (one_did w).choice;
+    scans = λ w. (one_did w).scans;
+    each = λ w. (one_did w).each;
+    left =
+        sym (total_desks (length scripts) did.accounts (λ (a : Account). length (lost_in a.calls)) (λ w. length (left_out (one_did w).choice (get_or scripts w []))) did.settled.desks (λ a ma. sym (ap length ((one_did a.desk).left a ma refl))))
+        ∙ did.theirs.left;
+    tries = λ w. (one_did w).tries;
+  }
+
+-- how many steps there are, script by script
+pub steps_each : (scripts : List (List Step)) → steps_in scripts ≡ total (λ p. length (get_or scripts p [])) (falling (length scripts))
+steps_each [] = refl
+steps_each (s ∷ ss) = let r = steps_each ss in let f = total_first (length ss) (λ p. length (get_or (s ∷ ss) p [])) in omega (arith, r, f)
+
+-- there are no more records than steps
+pub all_short : (scripts : List (List Step)) (rs : List Record) (interfered : ℕ) → DidScripts scripts rs interfered → 2 * steps_in scripts ≤ event_limit → 2 * length rs ≤ event_limit
+all_short scripts rs interfered did short =
+    let c = counted (length scripts) rs did.no_other in
+    let b = total_below (length scripts) (λ p. length (of_worker p rs)) (λ p. length (get_or scripts p [])) few in
+    let s = steps_each scripts in omega (arith, short, c, b, s)
   where
-    none : (w : ℕ) → get_or scripts (suc (suc w)) [] ≡ []
-    none w = get_past scripts (suc (suc w)) (omega (arith, did.two))
-
-    two : (w : ℕ) → stores_but w scripts ≡ total (λ v. cond (v == w) 0 (stores_in (get_or scripts v []))) (1 ∷ 0 ∷ [])
-    two w = ap (λ k. total (λ v. cond (v == w) 0 (stores_in (get_or scripts v []))) (falling k)) did.two
-
-    few : (t : Bool) (k : ℕ) → cond t 0 k ≤ k
-    few true k = omega arith
-    few false k = omega arith
-
-    tries : (w : ℕ) → total (λ x. x) (left_out (choice_of did.zero.choice did.one.choice w) (get_or scripts w [])) ≤ stores_but w scripts
-    tries zero =
-        let s = did.settled in
-        let z : total (λ x. x) (left_out did.zero.choice (get_or scripts 0 [])) ≡ total (λ x. x) (lost_in s.zero_account.calls) = ap (λ l. total (λ x. x) l) (did.zero.left ∙ sym s.zero_lost) in
-        let f = few_tries 2 (s.one_account ∷ s.zero_account ∷ []) s.settled s.scans s.zero_account (inr (inl refl)) in
-        let own : cond (s.zero_account.desk == s.zero_account.desk) 0 (length (writes_in s.zero_account.calls)) ≡ 0 = ap (λ t. cond t 0 (length (writes_in s.zero_account.calls))) (eq-eqb s.zero_account.desk s.zero_account.desk refl) in
-        let other = few (s.one_account.desk == s.zero_account.desk) (length (writes_in s.one_account.calls)) in
-        let n = desk_stores s.one_account 1 (get_or scripts 1 []) (of_worker 1 rs) did.lost' s.one_records did.one in
-        let t = two 0 in omega arith
-    tries (suc zero) =
-        let s = did.settled in
-        let z : total (λ x. x) (left_out did.one.choice (get_or scripts 1 [])) ≡ total (λ x. x) (lost_in s.one_account.calls) = ap (λ l. total (λ x. x) l) (did.one.left ∙ sym s.one_lost) in
-        let f = few_tries 2 (s.one_account ∷ s.zero_account ∷ []) s.settled s.scans s.one_account (inl refl) in
-        let own : cond (s.one_account.desk == s.one_account.desk) 0 (length (writes_in s.one_account.calls)) ≡ 0 = ap (λ t. cond t 0 (length (writes_in s.one_account.calls))) (eq-eqb s.one_account.desk s.one_account.desk refl) in
-        let other = few (s.zero_account.desk == s.one_account.desk) (length (writes_in s.zero_account.calls)) in
-        let n = desk_stores s.zero_account 0 (get_or scripts 0 []) (of_worker 0 rs) did.lost s.zero_records did.zero in
-        let t = two 1 in omega arith
-    tries (suc (suc w)) = let e = ap (λ (l : List Step). total (λ x. x) (left_out [] l)) (none w) in omega arith
-
-    scans : (w : ℕ) → LeavesScans (choice_of did.zero.choice did.one.choice w) (get_or scripts w [])
-    scans zero = did.zero.scans
-    scans (suc zero) = did.one.scans
-    scans (suc (suc w)) = subst (λ (ss : List Step). LeavesScans [] ss) (sym (none w)) tt
-
-    each : (w : ℕ) → IsRun w (chosen (choice_of did.zero.choice did.one.choice w) (get_or scripts w [])) (events_of w history)
-    each zero = subst (IsRun 0 (chosen did.zero.choice (get_or scripts 0 []))) (sym (told 0)) (did_run 0 (chosen did.zero.choice (get_or scripts 0 [])) (of_worker 0 rs) did.zero.did)
-    each (suc zero) = subst (IsRun 1 (chosen did.one.choice (get_or scripts 1 []))) (sym (told 1)) (did_run 1 (chosen did.one.choice (get_or scripts 1 [])) (of_worker 1 rs) did.one.did)
-    each (suc (suc w)) = subst (λ (z : List Step × List Event). IsRun (suc (suc w)) z.0 z.1)
-        (λ i. (sym (ap (chosen []) (none w)) i, sym (told (suc (suc w)) ∙ ap (λ l. events_in (stamped_events l)) (did.no_other (suc (suc w)) (omega arith))) i)) tt
-
--- two workers that did their scripts
-pub did_both : (scripts : List (List Step)) (steps steps' : List Step) (first second rs r0 r1 : List Record) (l0 l1 : List ℕ) (v0 v1 c0 c1 : ℕ) → scripts ≡ steps ∷ steps' ∷ [] → AreSettled r0 r1 l0 l1 v0 v1 → r0 ≡ first → r1 ≡ second → v0 ≡ views_in steps → v1 ≡ views_in steps'
-    → DidSome 0 steps first l0 → DidSome 1 steps' second l1 → AreFrom first second rs → c0 ≡ length l0 → c1 ≡ length l1 → DidScripts scripts rs (c0 + c1)
-did_both scripts steps steps' first second rs r0 r1 l0 l1 v0 v1 c0 c1 is settled e0 e1 w0 w1 did did' from n0 n1 =
-    subst (λ (s : List (List Step)). DidScripts s rs (c0 + c1)) (sym is) (record {
-      lost = l0;
-      lost' = l1;
-      two = refl;
-      settled = subst (λ (z : (List Record × List Record) × (ℕ × ℕ)). AreSettled z.0.0 z.0.1 l0 l1 z.1.0 z.1.1) (λ i. (((e0 ∙ sym from.zero) i, (e1 ∙ sym from.one) i), (w0 i, w1 i))) settled;
-      zero = subst (λ (l : List Record). DidSome 0 steps l l0) (sym from.zero) did;
-      one = subst (λ (l : List Record). DidSome 1 steps' l l1) (sym from.one) did';
-      no_other = from.no_other;
-      count = omega arith;
-    })
-
--- have no more records than steps
-pub both_short : (d d' : ℕ) (steps steps' : List Step) (first second rs : List Record) (l0 l1 : List ℕ) → DidSome d steps first l0 → DidSome d' steps' second l1 → AreFrom first second rs → 2 * (length steps + length steps') ≤ event_limit → 2 * length rs ≤ event_limit
-both_short d d' steps steps' first second rs l0 l1 did did' from short =
-    let a = some_short d steps first l0 did in let b = some_short d' steps' second l1 did' in
-    let c = counted 2 rs from.no_other in omega (arith, short, a, b, c, ap length from.zero, ap length from.one)
+    few : (p : ℕ) → p < length scripts → length (of_worker p rs) ≤ length (get_or scripts p [])
+    few p lt =
+        let a = hand_there (length scripts) did.accounts did.settled.desks p lt in
+        let s = some_short a.0.desk (get_or scripts a.0.desk []) (records_in a.0) (lost_in a.0.calls) (did.theirs.did a.0 a.1) in
+        let l = ap length (did.own a.0 a.1 ∙ ap (λ q. of_worker q rs) a.2) in
+        let r = ap (λ q. length (get_or scripts q [])) a.2 in omega (arith, s, l, r)

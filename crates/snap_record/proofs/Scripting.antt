@@ -66,7 +66,7 @@ did_leave d script k other rs lost lost' lt same old new =
 pub views-more : (script : List Step) (k : ℕ) (other : Step) → k < length script → views_in (take (k + 1) script) ≡ views_in (take k script) + one_view (get_or script k other)
 views-more script k other lt = let t = total-append one_view (take k script) (get_or script k other ∷ []) in let e = ap views_in (take_more script k other lt) in omega arith
 
-both : (x y : Bool) → (x && y) ≡ true → (x ≡ true) × (y ≡ true)
+pub both : (x y : Bool) → (x && y) ≡ true → (x ≡ true) × (y ≡ true)
 both true y e = (refl, e)
 both false y e = absurd (false≢true e)
 

@@ -12,5 +12,5 @@ pub mod Ends
 pub mod Choices
 pub mod Plans
 pub mod Scripts
-pub mod Workers
 pub mod Recording
+pub mod Workers

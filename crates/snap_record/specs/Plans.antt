@@ -42,9 +42,16 @@ abbrev pub each_draws : List (List Step) → Bool
 each_draws [] = true
 each_draws (s ∷ ss) = draws_within tick_limit s && each_draws ss
 
+-- how many workers a plan has at most; the least number is two
+abbrev pub worker_limit : ℕ
+worker_limit = 8
+
+abbrev pub are_workers : ℕ → Bool
+are_workers n = nat_le 2 n && nat_le n worker_limit
+
 -- the first refusal that applies
 abbrev pub plan_refusal : List (List Step) → Option PlanRefusal
-plan_refusal ss = if not (length ss == 2) then Some Workers else if nat_lt event_limit (2 * steps_in ss) then Some TooLong else if each_draws ss then None else Some TooLong
+plan_refusal ss = if not (are_workers (length ss)) then Some Workers else if nat_lt event_limit (2 * steps_in ss) then Some TooLong else if each_draws ss then None else Some TooLong
 
 -- how a round ends
 abbrev pub last_step : Bool → Step
@@ -56,14 +63,24 @@ abbrev pub round_script : Bool → ℕ → ℕ → List Step
 round_script scan w zero = []
 round_script scan w (suc i) = round_script scan w i ++ Store (w * 65536 + i + 1) ∷ last_step scan ∷ []
 
-abbrev pub rounds_scripts : Bool → ℕ → List (List Step)
-rounds_scripts scan rounds = round_script scan 0 rounds ∷ round_script scan 1 rounds ∷ []
+-- the scripts of so many workers
+abbrev pub rounds_scripts : Bool → ℕ → ℕ → List (List Step)
+rounds_scripts scan zero rounds = []
+rounds_scripts scan (suc w) rounds = rounds_scripts scan w rounds ++ round_script scan w rounds ∷ []
+
+-- 2 to 8 workers
+abbrev pub AreWorkers : ℕ → Type 0
+AreWorkers n = (2 ≤ n) × (n ≤ worker_limit)
+
+-- 1 to 2,048 rounds, and in each two calls of each worker, which fit into a history
+abbrev pub AreRounds : ℕ → ℕ → Type 0
+AreRounds workers rounds = (0 < rounds) × (rounds ≤ 2048) × (workers * (4 * rounds) ≤ event_limit)
 
 -- why there is no plan of so many workers and rounds
 abbrev pub IsRoundsRefusal : ℕ → ℕ → PlanRefusal → Type 0
-IsRoundsRefusal workers rounds Workers = workers ≢ 2
-IsRoundsRefusal workers rounds TooLong = (workers ≡ 2) × ((rounds ≡ 0) ⊎ (2048 < rounds))
-IsRoundsRefusal workers rounds Memory = (workers ≡ 2) × (0 < rounds) × (rounds ≤ 2048)
+IsRoundsRefusal workers rounds Workers = AreWorkers workers → ⊥
+IsRoundsRefusal workers rounds TooLong = AreWorkers workers × (AreRounds workers rounds → ⊥)
+IsRoundsRefusal workers rounds Memory = AreWorkers workers × AreRounds workers rounds
 
 -- the events of a process that did each step of a script once, in its order, on component w
 abbrev pub IsRun : ℕ → List Step → List Event → Type 0

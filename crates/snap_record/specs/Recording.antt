@@ -1,5 +1,7 @@
--- The records of two desks whose board was closed, and their history.
-use Rattle.std.specs.Prelude.{◌≡◌, ℕ, ◌+◌, List, [], ◌∷◌, slice_index_or, length}
+-- What the workers of a plan did on a board that was closed, and its history.
+use Rattle.std.specs.Prelude.{◌≡◌, ℕ, List, [], slice_index_or, length}
+use Rattle.snap_core.specs.Sums.{total}
+use Rattle.snap_account.specs.Calls.{Mem}
 use Rattle.snap_core.specs.declared.event.Event.{Event}
 use Rattle.snap_core.specs.Events.{events_of}
 use Rattle.snap_account.specs.declared.account.Account.{Account}
@@ -12,37 +14,20 @@ use Rattle.snap_record.specs.Choices.{views_in}
 use Rattle.snap_board.specs.History.{all_records, event_stamps, events_in, stamped_events, Merged}
 use Rattle.snap_record.specs.Scripts.{DidSome}
 
--- what two desks did on a board that was closed: their records, the tries of their scans without a record, and how often they collected
-pub record AreSettled (first second : List Record) (lost lost' : List ℕ) (views views' : ℕ) : Type 0 where
-  pub zero_account : Account
-  pub one_account : Account
-  pub settled : Settled 2 (one_account ∷ zero_account ∷ [])
-  pub scans : ScansSettled (one_account ∷ zero_account ∷ [])
-  pub zero_desk : zero_account.desk ≡ 0
-  pub one_desk : one_account.desk ≡ 1
-  pub zero_records : records_in zero_account ≡ first
-  pub one_records : records_in one_account ≡ second
-  pub zero_lost : lost_in zero_account.calls ≡ lost
-  pub one_lost : lost_in one_account.calls ≡ lost'
-  pub zero_views : collects_in zero_account.calls ≡ views
-  pub one_views : collects_in one_account.calls ≡ views'
+-- the calls of each desk are those of the script of its number, but for so many scans that have no record
+pub record DidTheirs (scripts : List (List Step)) (accounts : List Account) (interfered : ℕ) : Type 0 where
+  pub did : (a : Account) → Mem a accounts → DidSome a.desk (slice_index_or scripts a.desk []) (records_in a) (lost_in a.calls)
+  pub views : (a : Account) → Mem a accounts → collects_in a.calls ≡ views_in (slice_index_or scripts a.desk [])
+  pub left : total (λ (a : Account). length (lost_in a.calls)) accounts ≡ interfered
 
--- the records are those of worker 0 and those of worker 1, each in its order
-pub record AreFrom (first second records : List Record) : Type 0 where
-  pub zero : of_worker 0 records ≡ first
-  pub one : of_worker 1 records ≡ second
-  pub no_other : AreBelow 2 records
-
--- two workers did the scripts on a board that was closed, with so many scans left out
+-- each worker did its script on a board that was closed, its records are those of its number, and so many scans have none
 pub record DidScripts (scripts : List (List Step)) (records : List Record) (interfered : ℕ) : Type 0 where
-  pub lost : List ℕ
-  pub lost' : List ℕ
-  pub two : length scripts ≡ 2
-  pub settled : AreSettled (of_worker 0 records) (of_worker 1 records) lost lost' (views_in (slice_index_or scripts 0 [])) (views_in (slice_index_or scripts 1 []))
-  pub zero : DidSome 0 (slice_index_or scripts 0 []) (of_worker 0 records) lost
-  pub one : DidSome 1 (slice_index_or scripts 1 []) (of_worker 1 records) lost'
-  pub no_other : AreBelow 2 records
-  pub count : length lost + length lost' ≡ interfered
+  pub accounts : List Account
+  pub settled : Settled (length scripts) accounts
+  pub scans : ScansSettled accounts
+  pub theirs : DidTheirs scripts accounts interfered
+  pub own : (a : Account) → Mem a accounts → records_in a ≡ of_worker a.desk records
+  pub no_other : AreBelow (length scripts) records
 
 -- each process has in the history the events of its records, and no others
 abbrev pub IsTold : List Record → List Event → Type 0

@@ -1,4 +1,4 @@
-//! A recorder of what two threads did on a board, and a relay that carries the records of several threads to one.
+//! A recorder of what several threads did on a board, and a relay that carries the records of several threads to one.
 #![tactic(auto)]
 
 mod delivery;
@@ -8,6 +8,7 @@ mod relay;
 mod taking;
 mod timeline;
 mod worker;
+mod workers;
 
 pub use plan::{Plan, PlanRefusal, Step, rounds_plan};
 pub use recorder::{RecordRefusal, Recording, record_plan};

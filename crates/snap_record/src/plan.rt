@@ -1,6 +1,6 @@
-ghost use Rattle.std.specs.Prelude.{◌≡◌, ◌+◌, ◌*◌, ◌<◌, ◌≤◌, [], ◌∷◌, Some, None, IfOk, IfErr, OnOk, length, true};
+ghost use Rattle.std.specs.Prelude.{◌≡◌, ◌*◌, ◌<◌, ◌≤◌, [], Some, None, IfOk, IfErr, OnOk, IsTrue, ◌↔◌, length, slice_index_or, nat_le, true};
 ghost use Rattle.snap_core.specs.Events.{event_limit};
-ghost use Rattle.snap_record.specs.Plans.{lists_of, steps_in, plan_refusal, draws_within, round_script, rounds_scripts, IsRoundsRefusal};
+ghost use Rattle.snap_record.specs.Plans.{lists_of, steps_in, plan_refusal, worker_limit, are_workers, each_draws, draws_within, round_script, rounds_scripts, AreWorkers, AreRounds, IsRoundsRefusal};
 ghost use Rattle.snap_account.specs.Rule.{tick_limit};
 
 use snap_board::TICK_LIMIT;
@@ -8,8 +8,8 @@ use snap_core::EVENT_LIMIT;
 use std::alloc::{AllocError, Global};
 use std::marker::Model;
 
-/// How many lists a plan has, one for each worker.
-const WORKERS: u32 = 2;
+/// How many lists a plan has at most, one for each worker.
+const WORKER_LIMIT: usize = 8;
 
 /// How many tries a plan's scan has at most.
 const TRY_LIMIT: u32 = 1024;
@@ -37,7 +37,7 @@ pub enum Step {
 /// Why there is no plan, in the order in which the reasons are tested.
 #[derive(Clone, Copy, PartialEq, Eq, Debug)]
 pub enum PlanRefusal {
-    /// There are not two lists.
+    /// There are not 2 to 8 lists.
     Workers,
     /// The steps have more events than a history may have, two for each step; or a script could draw more ticks than a
     /// desk may; or a scan has not 1 to 1,024 tries.
@@ -46,7 +46,7 @@ pub enum PlanRefusal {
     Memory,
 }
 
-/// A script for each of two workers, together no longer than a history may be.
+/// A script for each of 2 to 8 workers, together no longer than a history may be.
 #[derive(Drop)]
 pub struct Plan {
     scripts: Vec<Vec<Step>>,
@@ -65,13 +65,26 @@ impl Model for Plan {
     ghost invariant = { λ p. plan_refusal (lists_of p.scripts.items) ≡ None };
 }
 
-// How many steps the first two scripts have, at most the last u64.
-fn count_steps(scripts: &[Vec<Step>]) -> usize
-    requires { length scripts.now ≡ 2 }
-    ensures exact { result < event_limit → result ≡ steps_in (lists_of scripts.now) }
-    ensures many { event_limit ≤ result → event_limit ≤ steps_in (lists_of scripts.now) }
+// Whether a plan may have so many workers.
+fn are_workers(count: usize) -> bool
+    ensures { result ≡ are_workers count }
 {
-    scripts[0].len().saturating_add(scripts[1].len())
+    2 <= count && count <= WORKER_LIMIT
+}
+
+// Whether the scripts have together no more steps than a history has calls.
+fn are_short(scripts: &[Vec<Step>]) -> bool
+    ensures { result ≡ nat_le (2 * steps_in (lists_of scripts.now)) event_limit }
+{
+    let mut room = EVENT_LIMIT / 2;
+    'scripts: for k in 0..scripts.len() {
+        let steps = scripts[k].len();
+        if steps > room {
+            return false;
+        }
+        room -= steps;
+    }
+    true
 }
 
 // Whether the steps of a script draw no more ticks than a desk may, and its scans have 1 to 1,024 tries.
@@ -97,6 +110,18 @@ fn draws_within(steps: &[Step]) -> bool
     true
 }
 
+// Whether each script draws no more ticks than a desk may, and its scans have 1 to 1,024 tries.
+fn each_draws(scripts: &[Vec<Step>]) -> bool
+    ensures { result ≡ each_draws (lists_of scripts.now) }
+{
+    'scripts: for k in 0..scripts.len() {
+        if !draws_within(&scripts[k]) {
+            return false;
+        }
+    }
+    true
+}
+
 impl Plan {
     /// The plan of these scripts, the list at place w being worker w's. After a refusal the lists are dropped.
     pub fn new(scripts: Vec<Vec<Step>>) -> Result<Plan, PlanRefusal>
@@ -104,33 +129,38 @@ impl Plan {
         ensures accepted { OnOk result (plan_refusal (lists_of scripts.items) ≡ None) }
         ensures refused { IfErr result (λ refusal. plan_refusal (lists_of scripts.items) ≡ Some refusal) }
     {
-        if scripts.len() != WORKERS as usize {
+        if !are_workers(scripts.len()) {
             return Err(PlanRefusal::Workers);
         }
-        if count_steps(&scripts) > EVENT_LIMIT / 2 {
-            return Err(PlanRefusal::TooLong);
-        }
-        let first = draws_within(&scripts[0]);
-        let second = draws_within(&scripts[1]);
-        if !(first && second) {
+        if !are_short(&scripts) || !each_draws(&scripts) {
             return Err(PlanRefusal::TooLong);
         }
         Ok(Plan { scripts })
     }
 
-    // The scripts of worker 0 and worker 1.
-    pub(crate) fn scripts(&self) -> (&[Step], &[Step])
-        ensures scripts { self.now ≡ result.0.now ∷ result.1.now ∷ [] }
-        ensures short { 2 * (length result.0.now + length result.1.now) ≤ event_limit }
-        ensures room { (draws_within tick_limit result.0.now ≡ true) × (draws_within tick_limit result.1.now ≡ true) }
+    // How many workers the plan has.
+    pub(crate) fn workers(&self) -> u8
+        ensures workers { result ≡ length self.now }
+        ensures range { AreWorkers result }
+        ensures short { 2 * steps_in self.now ≤ event_limit }
     {
-        (self.scripts[0].as_slice(), self.scripts[1].as_slice())
+        self.scripts.len() as u8
+    }
+
+    // The script of a worker.
+    pub(crate) fn script(&self, worker: u16) -> &[Step]
+        requires { worker < length self.now }
+        ensures script { result.now ≡ slice_index_or self.now worker [] }
+        ensures short { 2 * length result.now ≤ event_limit }
+        ensures room { draws_within tick_limit result.now ≡ true }
+    {
+        self.scripts[usize::from(worker)].as_slice()
     }
 }
 
 // What a worker does in so many rounds: a store and a collect or a scan in each.
 fn round_steps(alloc: Global, worker: u32, rounds: u32, scan: bool) -> Result<Vec<Step>, AllocError>
-    requires { (worker < 8) × (rounds ≤ 2048) }
+    requires { (worker < worker_limit) × (rounds ≤ 2048) }
     ensures { IfOk result (λ steps. steps.items ≡ round_script scan worker rounds) }
 {
     let mut steps = Vec::new(alloc);
@@ -145,36 +175,51 @@ fn round_steps(alloc: Global, worker: u32, rounds: u32, scan: bool) -> Result<Ve
     Ok(steps)
 }
 
-// The scripts of so many rounds.
-fn round_lists(alloc: Global, rounds: u32, scan: bool) -> Result<Vec<Vec<Step>>, AllocError>
-    requires { rounds ≤ 2048 }
-    ensures { IfOk result (λ lists. lists_of lists.items ≡ rounds_scripts scan rounds) }
+// Whether so many workers, at most 8, may have so many rounds.
+fn are_rounds(workers: u32, rounds: u32) -> bool
+    requires { workers ≤ worker_limit }
+    ensures { IsTrue result ↔ AreRounds workers rounds }
+{
+    0 < rounds && rounds <= ROUND_LIMIT && workers * (4 * rounds) <= EVENT_LIMIT as u32
+}
+
+// The scripts of so many workers in so many rounds.
+fn round_lists(
+    alloc: Global,
+    workers: u32,
+    rounds: u32,
+    scan: bool,
+) -> Result<Vec<Vec<Step>>, AllocError>
+    requires { (workers ≤ worker_limit) × (rounds ≤ 2048) }
+    ensures { IfOk result (λ lists. lists_of lists.items ≡ rounds_scripts scan workers rounds) }
 {
     let mut lists = Vec::new(alloc);
-    lists.push(round_steps(alloc, 0, rounds, scan)?)?;
-    lists.push(round_steps(alloc, 1, rounds, scan)?)?;
+    'workers: for worker in 0..workers {
+        lists.push(round_steps(alloc, worker, rounds, scan)?)?;
+    }
     Ok(lists)
 }
 
-/// The plan of 2 workers in 1 to 2,048 rounds. In round i, counted from 1, worker w stores w * 65,536 + i and then
-/// collects, or scans with 64 tries.
+/// The plan of 2 to 8 workers in 1 to 2,048 rounds, in each of which a worker makes two calls. In round i, counted from 1,
+/// worker w stores w * 65,536 + i and then collects, or scans with 64 tries. `TooLong` also where a history has no room
+/// for so many calls.
 pub fn rounds_plan(
     alloc: Global,
     workers: u32,
     rounds: u32,
     scan: bool,
 ) -> Result<Plan, PlanRefusal>
-    ensures ok { IfOk result (λ plan. plan ≡ rounds_scripts scan rounds) }
-    ensures range { OnOk result ((workers ≡ 2) × (0 < rounds) × (rounds ≤ 2048)) }
+    ensures ok { IfOk result (λ plan. plan ≡ rounds_scripts scan workers rounds) }
+    ensures range { OnOk result (AreWorkers workers × AreRounds workers rounds) }
     ensures refused { IfErr result (IsRoundsRefusal workers rounds) }
 {
-    if workers != WORKERS {
+    if !are_workers(workers as usize) {
         return Err(PlanRefusal::Workers);
     }
-    if rounds == 0 || rounds > ROUND_LIMIT {
+    if !are_rounds(workers, rounds) {
         return Err(PlanRefusal::TooLong);
     }
-    match round_lists(alloc, rounds, scan) {
+    match round_lists(alloc, workers, rounds, scan) {
         Ok(lists) => Plan::new(lists),
         Err(_) => Err(PlanRefusal::Memory),
     }

@@ -1,29 +1,28 @@
-ghost use Rattle.std.specs.Prelude.{◌≡◌, ◌*◌, ◌≤◌, [], IfOk, OnOk, length, true};
+ghost use Rattle.std.specs.Prelude.{◌≡◌, ◌*◌, ◌≤◌, [], IfOk, OnOk, length, true, ◌<◌, All, slice_index_or};
 ghost use Rattle.std.specs.List.Sorted.{IsStrictlyIncreasing};
 ghost use Rattle.snap_core.specs.Events.{event_limit};
 ghost use Rattle.snap_core.specs.Calls.{calls_of};
 ghost use Rattle.snap_core.specs.Monotone.{IsMonotone};
 ghost use Rattle.snap_core.specs.Regular.{IsRegular};
-ghost use Rattle.snap_record.specs.Delivery.{of_worker};
-ghost use Rattle.snap_board.specs.Desks.{records, ticks, lost, collects, accounts, IsDeskOf, IsGatheredOf};
+ghost use Rattle.snap_board.specs.Desks.{accounts, IsGatheredOf};
 ghost use Rattle.snap_board.specs.History.{AllCompleted};
-ghost use Rattle.snap_record.specs.Plans.{HasScripts, HasWholeScripts, HasNoScans, HasNoViews, draws_within};
-ghost use Rattle.snap_account.specs.Rule.{tick_limit};
+ghost use Rattle.snap_record.specs.Plans.{HasScripts, HasWholeScripts, HasNoScans, HasNoViews, AreWorkers, steps_in};
 ghost use Rattle.snap_core.specs.Orders.{IsAtomic};
-ghost use Rattle.snap_record.specs.Recording.{AreSettled, AreStamped, DidScripts};
+ghost use Rattle.snap_record.specs.Recording.{AreStamped, DidScripts};
 ghost use Rattle.snap_record.specs.Relays.{IsSenderOf, IsTakerOf};
-ghost use Rattle.snap_record.specs.Workers.{IsWorkerOf, IsUnused, HasRun, IsTakenOf};
+ghost use Rattle.snap_record.specs.Workers.{IsWorkerOf, IsUnused, AreUnused, HasRun, HaveRun, HaveClosed, IsTakenOf};
 
-use crate::plan::{Plan, Step};
+use crate::plan::Plan;
 use crate::relay::{Relay, Sender, Taker};
 use crate::taking::{Taken, take_all, take_some};
 use crate::timeline::{history_of, in_order, stamps_of};
 use crate::worker::{Ran, Recorder, Worker, run_script};
-use snap_board::{Board, Desk, Gathered, Record};
+use crate::workers::each_job_beside;
+use snap_board::{Board, Gathered, Record};
 use snap_core::{Gate, History};
 use std::alloc::{AllocError, Global};
 use std::sync::Wait;
-use std::thread::{Threads, join};
+use std::thread::Threads;
 
 /// A history that was recorded, how many scans without a record were left out of it, and for each of its events the stamp
 /// that the board gave it.
@@ -41,115 +40,130 @@ pub enum RecordRefusal {
     Memory,
 }
 
-// A board with two desks, both of which are out.
-fn open_two(alloc: Global) -> Result<(Board, Gathered, Desk, Desk), AllocError>
-    ensures board { IfOk result (λ r. (r.0.desks ≡ 2) × IsGatheredOf r.0 r.1 × (accounts r.1 ≡ [])) }
-    ensures zero { IfOk result (λ r. IsDeskOf r.0 r.2 × (r.2.desk ≡ 0) × (records r.2 ≡ []) × (ticks r.2 ≡ 0) × (lost r.2 ≡ []) × (collects r.2 ≡ 0)) }
-    ensures one { IfOk result (λ r. IsDeskOf r.0 r.3 × (r.3.desk ≡ 1) × (records r.3 ≡ []) × (ticks r.3 ≡ 0) × (lost r.3 ≡ []) × (collects r.3 ≡ 0)) }
-{
-    let Ok((board, mut gathered)) = Board::open(alloc, 2) else {
-        return Err(AllocError);
-    };
-    let Some(one) = board.take(alloc, &mut gathered)? else {
-        unreachable!()
-    };
-    let Some(zero) = board.take(alloc, &mut gathered)? else {
-        unreachable!()
-    };
-    Ok((board, gathered, zero, one))
-}
-
-// Both desks come in, and the board is closed.
-fn close_two(board: Board, gathered: Gathered, zero: Desk, one: Desk)
-    requires board { (board.desks ≡ 2) × IsGatheredOf board gathered × (accounts gathered ≡ []) }
-    requires zero { IsDeskOf board zero × (zero.desk ≡ 0) }
-    requires one { IsDeskOf board one × (one.desk ≡ 1) }
-    ensures { AreSettled (records zero) (records one) (lost zero) (lost one) (collects zero) (collects one) }
-{
-    let gathered = board.give_back(gathered, zero);
-    let gathered = board.give_back(gathered, one);
-    let Ok(_) = board.close(gathered) else {
-        unreachable!()
-    };
-}
-
-/// A relay with its two senders and its taker.
-pub(crate) fn start_two<R: Wait>(
+// A board and a relay for so many workers, the board's gathered desks, which are none, a worker for each desk, the highest
+// first, and the relay's taker.
+fn start_workers<R: Wait>(
     rt: &R,
     alloc: Global,
-) -> Result<(Relay, Sender, Sender, Taker), AllocError>
-    ensures relay { IfOk result (λ r. r.0.workers ≡ 2) }
-    ensures zero { IfOk result (λ r. IsSenderOf r.0 r.1 × (r.1.place ≡ 0) × (r.1.sent ≡ [])) }
-    ensures one { IfOk result (λ r. IsSenderOf r.0 r.2 × (r.2.place ≡ 1) × (r.2.sent ≡ [])) }
-    ensures taker { IfOk result (λ r. IsTakerOf r.0 r.3 × (r.3.taken ≡ [])) }
+    workers: u8,
+) -> Result<(Recorder, Gathered, Vec<Worker>, Taker), AllocError>
+    requires { AreWorkers workers }
+    ensures board { IfOk result (λ r. r.0.board.desks ≡ workers) }
+    ensures relay { IfOk result (λ r. r.0.relay.workers ≡ workers) }
+    ensures gathered { IfOk result (λ r. IsGatheredOf r.0.board r.1 × (accounts r.1 ≡ [])) }
+    ensures count { IfOk result (λ r. length r.2.items ≡ workers) }
+    ensures unused { IfOk result (λ r. AreUnused r.0 workers r.2.items) }
+    ensures taker { IfOk result (λ r. IsTakerOf r.0.relay r.3 × (r.3.taken ≡ [])) }
 {
-    let (relay, mut senders, taker) = Relay::start(rt, alloc, 2)?;
-    let Some(one) = senders.pop() else {
-        unreachable!()
+    let Ok((board, mut gathered)) = Board::open(alloc, workers) else {
+        return Err(AllocError);
     };
-    let Some(zero) = senders.pop() else {
-        unreachable!()
-    };
-    Ok((relay, zero, one, taker))
+    let (relay, mut senders, taker) = Relay::start(rt, alloc, workers)?;
+    let recorder = Recorder { board, relay };
+    let mut all = Vec::new(alloc);
+    'places: while let Some(sender) = senders.pop() {
+        let Some(desk) = recorder.board.take(alloc, &mut gathered)? else {
+            unreachable!()
+        };
+        all.push(Worker { desk, sender })?;
+    }
+    Ok((recorder, gathered, all, taker))
 }
 
-// Runs the script of worker 0, and then takes records until none comes.
+// Runs the script of a worker, and then takes records until none comes.
 fn run_first<R: Wait, G: Gate>(
     rt: &R,
     alloc: Global,
     recorder: &Recorder,
+    plan: &Plan,
     worker: Worker,
     taker: Taker,
-    script: &[Step],
     gate: &G,
 ) -> (Ran, Result<Taken, AllocError>)
     requires worker { IsWorkerOf recorder.now worker × IsUnused worker }
+    requires number { worker.desk.desk < length plan.now }
     requires taker { IsTakerOf recorder.now.relay taker × (taker.taken ≡ []) }
-    requires short { 2 * (length script.now) ≤ event_limit }
-    requires room { draws_within tick_limit script.now ≡ true }
-    ensures ran { HasRun recorder.now worker.desk.desk script.now result.0 }
+    ensures ran { HasRun recorder.now worker.desk.desk (slice_index_or plan.now worker.desk.desk []) result.0 }
     ensures taken { IfOk result.1 (IsTakenOf recorder.now.relay) }
 {
-    let ran = run_script(rt, alloc, recorder, worker, script, gate);
+    let ran = run_script(rt, alloc, recorder, plan, worker, gate);
     let taken = take_some(rt, alloc, &recorder.relay, taker);
     (ran, taken)
 }
 
-// Runs both scripts at the same time, the first on the calling thread, which then takes records until none comes.
-fn run_both<R: Threads + Wait + Sync, G: Gate>(
+// Runs the scripts of all workers at the same time, that of worker 0 on the calling thread, which then takes records until
+// none comes.
+fn run_all<R: Threads + Wait + Sync, G: Gate>(
     rt: &R,
     alloc: Global,
     recorder: &Recorder,
-    workers: (Worker, Worker),
+    plan: &Plan,
+    mut workers: Vec<Worker>,
     taker: Taker,
-    scripts: (&[Step], &[Step]),
     gate: &G,
-) -> (Ran, Ran, Result<Taken, AllocError>)
-    requires zero { IsWorkerOf recorder.now workers.0 × IsUnused workers.0 }
-    requires one { IsWorkerOf recorder.now workers.1 × IsUnused workers.1 }
+) -> Result<(Vec<Ran>, Taken), AllocError>
+    requires count { length workers.items ≡ length plan.now }
+    requires some { 0 < length plan.now }
+    requires unused { AreUnused recorder.now (length plan.now) workers.items }
     requires taker { IsTakerOf recorder.now.relay taker × (taker.taken ≡ []) }
-    requires short { (2 * (length scripts.0.now) ≤ event_limit) × (2 * (length scripts.1.now) ≤ event_limit) }
-    requires room { (draws_within tick_limit scripts.0.now ≡ true) × (draws_within tick_limit scripts.1.now ≡ true) }
-    ensures zero { HasRun recorder.now workers.0.desk.desk scripts.entry.0.now result.0 }
-    ensures one { HasRun recorder.now workers.1.desk.desk scripts.entry.1.now result.1 }
-    ensures taken { IfOk result.2 (IsTakenOf recorder.now.relay) }
+    ensures count { IfOk result (λ r. length r.0.items ≡ length plan.now) }
+    ensures ran { IfOk result (λ r. HaveRun recorder.now plan.now r.0.items) }
+    ensures taken { IfOk result (λ r. IsTakenOf recorder.now.relay r.1) }
 {
-    let (zero, one) = workers;
-    let (first, second) = scripts;
-    let (there, (here, taken)) = join(
+    let Some(first) = workers.pop() else {
+        unreachable!()
+    };
+    let (others, (own, taken)) = each_job_beside(
         rt,
-        move || -> Ran
-            requires { IsWorkerOf recorder.now one × IsUnused one × (2 * (length second.now) ≤ event_limit) × (draws_within tick_limit second.now ≡ true) }
-            ensures { HasRun recorder.entry.now one.desk.desk second.entry.now result }
-        { run_script(rt, alloc, recorder, one, second, gate) },
+        alloc,
+        workers,
+        &|worker: Worker| -> Ran
+            requires { IsWorkerOf recorder.now worker × IsUnused worker × (worker.desk.desk < length plan.now) }
+            ensures { HasRun recorder.entry.now worker.desk.desk (slice_index_or plan.entry.now worker.desk.desk []) result }
+        { run_script(rt, alloc, recorder, plan, worker, gate) },
         move || -> (Ran, Result<Taken, AllocError>)
-            requires worker { IsWorkerOf recorder.now zero × IsUnused zero × (2 * (length first.now) ≤ event_limit) × (draws_within tick_limit first.now ≡ true) }
+            requires worker { IsWorkerOf recorder.now first × IsUnused first × (first.desk.desk < length plan.now) }
             requires taker { IsTakerOf recorder.now.relay taker × (taker.taken ≡ []) }
-            ensures ran { HasRun recorder.entry.now zero.desk.desk first.entry.now result.0 }
+            ensures ran { HasRun recorder.entry.now first.desk.desk (slice_index_or plan.entry.now first.desk.desk []) result.0 }
             ensures taken { IfOk result.1 (IsTakenOf recorder.entry.now.relay) }
-        { run_first(rt, alloc, recorder, zero, taker, first, gate) },
+        { run_first(rt, alloc, recorder, plan, first, taker, gate) },
     );
-    (here, there, taken)
+    let mut all = others?;
+    all.push(own)?;
+    Ok((all, taken?))
+}
+
+// All desks come in, and the board is closed. Gives the relay and its senders, the lowest first, and how many scans have
+// no record.
+fn close_all(
+    alloc: Global,
+    recorder: Recorder,
+    plan: &Plan,
+    mut gathered: Gathered,
+    mut rans: Vec<Ran>,
+) -> Result<(Relay, Vec<Sender>, u32), AllocError>
+    requires board { (recorder.board.desks ≡ length plan.now) × IsGatheredOf recorder.board gathered × (accounts gathered ≡ []) }
+    requires count { length rans.items ≡ length plan.now }
+    requires ran { HaveRun recorder plan.now rans.items }
+    requires short { 2 * steps_in plan.now ≤ event_limit }
+    ensures relay { IfOk result (λ r. r.0 ≡ recorder.relay) }
+    ensures senders { IfOk result (λ r. All (IsSenderOf recorder.relay) r.1.items) }
+    ensures closed { IfOk result (λ r. HaveClosed plan.now r.1.items r.2) }
+{
+    let Recorder { board, relay } = recorder;
+    let mut senders = Vec::new(alloc);
+    let mut interfered = 0;
+    'each: while let Some(ran) = rans.pop() {
+        let Ran { worker, outcome } = ran;
+        let Worker { desk, sender } = worker;
+        interfered += outcome?;
+        senders.push(sender)?;
+        gathered = board.give_back(gathered, desk);
+    }
+    let Ok(_) = board.close(gathered) else {
+        unreachable!()
+    };
+    Ok((relay, senders, interfered))
 }
 
 // Runs a plan on a new board, and gives the records of all its calls, and how many scans have none.
@@ -162,29 +176,14 @@ fn run_plan<R: Threads + Wait + Sync, G: Gate>(
     ensures did { IfOk result (λ r. DidScripts plan.now r.0.items r.1) }
     ensures short { IfOk result (λ r. 2 * length r.0.items ≤ event_limit) }
 {
-    let (board, gathered, zero, one) = open_two(alloc)?;
-    let (relay, first, second, taker) = start_two(rt, alloc)?;
-    let recorder = Recorder { board, relay };
-    let zero = Worker {
-        desk: zero,
-        sender: first,
-    };
-    let one = Worker {
-        desk: one,
-        sender: second,
-    };
-    let scripts = plan.scripts();
-    let (here, there, taken) = run_both(rt, alloc, &recorder, (zero, one), taker, scripts, gate);
-    let Recorder { board, relay } = recorder;
-    let (zero, one) = (here.worker, there.worker);
-    close_two(board, gathered, zero.desk, one.desk);
-    let first = here.outcome?;
-    let second = there.outcome?;
-    let all = take_all(rt, alloc, relay, (zero.sender, one.sender), taken?)?;
-    Ok((all, first + second))
+    let (recorder, gathered, workers, taker) = start_workers(rt, alloc, plan.workers())?;
+    let (rans, taken) = run_all(rt, alloc, &recorder, plan, workers, taker, gate)?;
+    let (relay, senders, interfered) = close_all(alloc, recorder, plan, gathered, rans)?;
+    let all = take_all(rt, relay, senders, taken)?;
+    Ok((all, interfered))
 }
 
-// The history of the records of both desks of a closed board.
+// The history of the records of all desks of a closed board.
 fn tell(
     alloc: Global,
     plan: &Plan,
@@ -214,8 +213,8 @@ fn tell(
     })
 }
 
-/// Records what two workers do on a board of two desks, each the script of its number. Worker 0 runs on the calling
-/// thread, and worker 1 too where no thread can be started. The gate is called as `at(w, t)` when t of worker w's calls
+/// Records what the workers of a plan do on a board with a desk for each, each the script of its number. Worker 0 runs on
+/// the calling thread, and so does each other that no thread can be started for. The gate is called as `at(w, t)` when t of worker w's calls
 /// have answered, for t from 0 to the script's length. A worker in which memory is refused ends its script there, and
 /// the answer is then `Memory`. The records come to the calling thread through a relay, so the call may wait for the
 /// relay's queue, as it waits for the workers.

@@ -146,6 +146,13 @@ impl Relay {
         Ok((relay, senders, taker))
     }
 
+    /// How many workers it was started for.
+    pub(crate) fn workers(&self) -> u8
+        ensures { result ≡ self.now.workers }
+    {
+        self.workers
+    }
+
     /// Puts a record of the sender's worker last into the queue. Where memory runs out, or after 2^62 records of the sender,
     /// the record comes back, and the queue and the sender are unchanged.
     pub fn send<R: Wait>(

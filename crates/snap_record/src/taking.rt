@@ -1,6 +1,5 @@
-ghost use Rattle.std.specs.Prelude.{◌≡◌, [], IfOk, OnOk, length};
-ghost use Rattle.snap_record.specs.Recording.{AreFrom};
-ghost use Rattle.snap_record.specs.Relays.{IsSenderOf, IsTakerOf};
+ghost use Rattle.std.specs.Prelude.{◌≡◌, [], IfOk, OnOk, All, length};
+ghost use Rattle.snap_record.specs.Relays.{IsSenderOf, IsTakerOf, HasPlaces, TookAll};
 ghost use Rattle.snap_record.specs.Workers.{IsTakenOf};
 
 use crate::relay::{Relay, Sender, Taker, count_all};
@@ -69,23 +68,20 @@ fn take_until<R: Wait>(
     unreachable!()
 }
 
-/// Takes what two workers sent and is not yet taken, and ends the relay. An answer of `next` that there is nothing would
+/// Takes what the workers sent and is not yet taken, and ends the relay. An answer of `next` that there is nothing would
 /// tell nothing of what they sent, so it goes by their counts.
 pub(crate) fn take_all<R: Wait>(
     rt: &R,
-    alloc: Global,
     relay: Relay,
-    senders: (Sender, Sender),
+    senders: Vec<Sender>,
     taken: Taken,
 ) -> Result<Vec<Record>, AllocError>
-    requires relay { relay.workers ≡ 2 }
-    requires zero { IsSenderOf relay senders.0 × (senders.0.place ≡ 0) }
-    requires one { IsSenderOf relay senders.1 × (senders.1.place ≡ 1) }
+    requires senders { All (IsSenderOf relay) senders.items }
+    requires places { HasPlaces senders.items relay.workers }
     requires taken { IsTakenOf relay taken }
-    ensures { IfOk result (λ all. AreFrom senders.0.sent senders.1.sent all.items) }
+    ensures { IfOk result (λ all. TookAll relay.workers all.items senders.items) }
 {
-    let senders = vec![in alloc; senders.0, senders.1]?;
-    let Some(sent) = count_all(2, &senders) else {
+    let Some(sent) = count_all(relay.workers(), &senders) else {
         unreachable!()
     };
     let Taken { taker, records } = take_until(rt, &relay, taken, sent)?;

@@ -25,11 +25,28 @@ fn stores(alloc: Global, steps: usize) -> Result<Vec<Step>, Fail> {
     Ok(vec![in alloc; Step::Store(0); steps]?)
 }
 
+/// So many lists of one store.
+fn lists(alloc: Global, count: u32) -> Result<Vec<Vec<Step>>, Fail> {
+    let mut lists = Vec::new(alloc);
+    for _ in 0..count {
+        lists.push(stores(alloc, 1)?)?;
+    }
+    Ok(lists)
+}
+
 #[test]
-fn plans_have_two_lists_within_the_limit(rt: HostRuntime) -> Result<(), Fail> {
+fn plans_have_two_to_eight_lists(rt: HostRuntime) -> Result<(), Fail> {
     let alloc = rt.alloc();
-    let one = Plan::new(vec![in alloc; stores(alloc, 1)?]?);
-    assert!(rt; matches!(&one, Err(PlanRefusal::Workers)));
+    assert!(rt; matches!(&Plan::new(lists(alloc, 0)?), Err(PlanRefusal::Workers)));
+    assert!(rt; matches!(&Plan::new(lists(alloc, 1)?), Err(PlanRefusal::Workers)));
+    assert!(rt; Plan::new(lists(alloc, 2)?).is_ok() && Plan::new(lists(alloc, 8)?).is_ok());
+    assert!(rt; matches!(&Plan::new(lists(alloc, 9)?), Err(PlanRefusal::Workers)));
+    Ok(())
+}
+
+#[test]
+fn plans_have_steps_within_the_limit(rt: HostRuntime) -> Result<(), Fail> {
+    let alloc = rt.alloc();
     let long = Plan::new(vec![in alloc; stores(alloc, 16384)?, stores(alloc, 16385)?]?);
     assert!(rt; matches!(&long, Err(PlanRefusal::TooLong)));
     let full = Plan::new(vec![in alloc; stores(alloc, 16384)?, stores(alloc, 16384)?]?);
@@ -48,7 +65,10 @@ fn rounds_are_limited(rt: HostRuntime) -> Result<(), Fail> {
             Err(PlanRefusal::TooLong)
         )
     );
-    assert!(rt; matches!(&rounds_plan(alloc, 3, 0, false), Err(PlanRefusal::Workers)));
+    assert!(rt; rounds_plan(alloc, 8, 2048, false).is_ok());
+    assert!(rt; matches!(&rounds_plan(alloc, 8, 0, false), Err(PlanRefusal::TooLong)));
+    assert!(rt; matches!(&rounds_plan(alloc, 1, 0, false), Err(PlanRefusal::Workers)));
+    assert!(rt; matches!(&rounds_plan(alloc, 9, 0, false), Err(PlanRefusal::Workers)));
     Ok(())
 }
 
@@ -113,6 +133,71 @@ fn two_workers_meet_behind_their_stores(rt: HostRuntime) -> Result<(), Fail> {
         let seen = shows(&recording, process);
         assert!(rt; seen.0 && seen.1);
     }
+    Ok(())
+}
+
+/// Each worker stores its number and collects.
+fn store_numbers(alloc: Global, workers: u32) -> Result<Option<Plan>, Fail> {
+    let mut scripts = Vec::new(alloc);
+    for worker in 0..workers {
+        scripts.push(vec![in alloc; Step::Store(worker), Step::View]?)?;
+    }
+    Ok(Plan::new(scripts).ok())
+}
+
+/// Whether a view ends here that shows of each component below 8 its first store, of its own number.
+fn shows_eight_numbers(event: &Event) -> bool {
+    match event {
+        Event::EndView { process: _, view } => {
+            view.entries().len() == 8
+                && (0..8u8).all(|k| view.number(k) == 1 && view.value(k) == u32::from(k))
+        }
+        _ => false,
+    }
+}
+
+#[test]
+fn eight_workers_meet_behind_their_stores(rt: HostRuntime) -> Result<(), Fail> {
+    let alloc = rt.alloc();
+    let Some(plan) = store_numbers(alloc, 8)? else {
+        panic!(rt; "no plan")
+    };
+    let gate = Meeting::of(8, 1);
+    let Ok(recording) = record_plan(&rt, alloc, &plan, &gate) else {
+        panic!(rt; "no memory")
+    };
+    assert!(rt; gate.was_held());
+    assert_eq!(rt; recording.history.len(), 32);
+    let events = recording.history.events().iter();
+    assert_eq!(rt;
+        events.filter(|event| shows_eight_numbers(event)).count(),
+        8
+    );
+    Ok(())
+}
+
+#[test]
+fn two_workers_in_64_rounds_have_512_events(rt: HostRuntime) -> Result<(), Fail> {
+    let alloc = rt.alloc();
+    let plan = rounds_plan(alloc, 2, 64, false)?;
+    let Ok(recording) = record_plan(&rt, alloc, &plan, &OpenGate) else {
+        panic!(rt; "no memory")
+    };
+    assert_eq!(rt; recording.history.len(), 512);
+    assert!(rt;
+        recording
+            .stamps
+            .iter()
+            .enumerate()
+            .all(|(k, stamp)| *stamp == k as u64)
+    );
+    let last = entry(1, 64, 65_600);
+    assert!(rt;
+        recording.history.events().iter().any(|event| match event {
+            Event::BeginUpdate { process, entry } => *process == 1 && *entry == last,
+            _ => false,
+        })
+    );
     Ok(())
 }
 

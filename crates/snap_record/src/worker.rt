@@ -1,4 +1,4 @@
-ghost use Rattle.std.specs.Prelude.{◌≡◌, ◌+◌, ◌*◌, ◌≤◌, ◌++◌, ◌∷◌, [], IfOk, IfSome, IfNone, OnOk, MatchOption, length, true};
+ghost use Rattle.std.specs.Prelude.{◌≡◌, ◌+◌, ◌*◌, ◌<◌, ◌≤◌, ◌++◌, ◌∷◌, [], IfOk, IfSome, IfNone, OnOk, MatchOption, length, slice_index_or, true};
 ghost use Rattle.snap_core.specs.Events.{event_limit};
 ghost use Rattle.snap_board.specs.Desks.{records, ticks, lost, collects, IsDeskOf};
 ghost use Rattle.snap_record.specs.Scripts.{DidSome, IsStepOf};
@@ -7,7 +7,7 @@ ghost use Rattle.snap_record.specs.Plans.{has_tries, step_ticks, draws_within};
 ghost use Rattle.snap_account.specs.Rule.{tick_limit};
 ghost use Rattle.snap_record.specs.Workers.{IsWorkerOf, IsUnused, HasRun};
 
-use crate::plan::Step;
+use crate::plan::{Plan, Step};
 use crate::relay::{Relay, Sender};
 use snap_board::{Board, CollectRefusal, Desk, Record, ScanRefusal};
 use snap_core::Gate;
@@ -108,20 +108,20 @@ fn run_steps<R: Wait, G: Gate>(
     Ok(interfered)
 }
 
-/// Runs a worker's script on its desk, and sends the records of its calls.
+/// Runs the script of a worker's number on its desk, and sends the records of its calls.
 pub(crate) fn run_script<R: Wait, G: Gate>(
     rt: &R,
     alloc: Global,
     recorder: &Recorder,
+    plan: &Plan,
     mut worker: Worker,
-    script: &[Step],
     gate: &G,
 ) -> Ran
     requires worker { IsWorkerOf recorder.now worker × IsUnused worker }
-    requires short { 2 * (length script.now) ≤ event_limit }
-    requires room { draws_within tick_limit script.now ≡ true }
-    ensures { HasRun recorder.now worker.desk.desk script.now result }
+    requires number { worker.desk.desk < length plan.now }
+    ensures { HasRun recorder.now worker.desk.desk (slice_index_or plan.now worker.desk.desk []) result }
 {
+    let script = plan.script(worker.desk.process());
     let outcome = run_steps(rt, alloc, recorder, &mut worker, script, gate);
     Ran { worker, outcome }
 }

@@ -44,9 +44,10 @@ impl Arrivals {
     }
 }
 
-/// A gate at one turn of which each of two workers waits until both have come.
+/// A gate at one turn of which each worker waits until all have come.
 #[derive(Drop)]
 pub struct Meeting {
+    pub workers: u64,
     pub turn: u32,
     pub arrivals: Arrivals,
 }
@@ -54,15 +55,21 @@ pub struct Meeting {
 impl Meeting {
     /// A gate for two workers who meet at a turn.
     pub fn at_turn(turn: u32) -> Meeting {
+        Meeting::of(2, turn)
+    }
+
+    /// A gate for so many workers who meet at a turn.
+    pub fn of(workers: u64, turn: u32) -> Meeting {
         Meeting {
+            workers,
             turn,
             arrivals: Arrivals::none(),
         }
     }
 
-    /// Whether both came, and neither waited in vain.
+    /// Whether all came, and none waited in vain.
     pub fn was_held(&self) -> bool {
-        self.arrivals.were(2)
+        self.arrivals.were(self.workers)
     }
 }
 
@@ -70,7 +77,7 @@ impl Gate for Meeting {
     fn at(&self, _worker: u32, turn: u32) {
         if turn == self.turn {
             self.arrivals.come();
-            self.arrivals.wait_for(2);
+            self.arrivals.wait_for(self.workers);
         }
     }
 }

@@ -10,12 +10,12 @@ use Rattle.snap_csv.specs.Laws.{ListsAtMost}
 use Rattle.snap_csv.specs.Spelling.{history_text}
 use Rattle.snap_csv.specs.Texts.{byte_limit}
 use Rattle.snap_csv.proofs.LengthFacts.{narrow_text_short}
-use Rattle.snap_record.specs.Calls.{Mem, look}
+use Rattle.snap_account.specs.Calls.{Mem, look}
 use Rattle.snap_record.specs.Recording.{AreStamped}
-use Rattle.snap_record.proofs.DeskEvents.{view_of}
-use Rattle.snap_record.proofs.Merging.{mem_event}
-use Rattle.snap_record.proofs.Ordering.{in_order_of}
-use Rattle.snap_record.proofs.Reading.{listed_short}
+use Rattle.snap_board.proofs.DeskEvents.{view_of}
+use Rattle.snap_board.proofs.Merging.{mem_event}
+use Rattle.snap_board.proofs.Ordering.{in_order_of}
+use Rattle.snap_account.proofs.Reading.{listed_short}
 
 -- a view shows what a look read, one word of each desk
 shows_few : (n : ℕ) (events : List Event) (stamps : List ℕ) → AreStamped n events stamps → (p : ℕ) (es : List Entry) → Mem (EndView p es) events → length es ≤ n

@@ -92,14 +92,14 @@ unfolding clap_on_literals
 record_is_taken name = refl
 
 -- the matches of `record` alone: its options have their defaults
-pub record_alone : (name : List ℕ) → (rows : List Row) × (subcommand_of program_app (name ∷ codes "record" ∷ []) ≡ Some (codes "record", rows)) × AsksRecord rows 16 no_flags
+pub record_alone : (name : List ℕ) → (rows : List Row) × (subcommand_of program_app (name ∷ codes "record" ∷ []) ≡ Some (codes "record", rows)) × AsksRecord rows 2 16 no_flags
 unfolding clap_on_literals
 record_alone name = (
   rows_in (subcommand_of program_app (name ∷ codes "record" ∷ [])),
   refl,
   record {
-    some_rounds = omega arith;
-    rounds_fit = omega arith;
+    workers_fit = (omega arith, omega arith);
+    rounds_fit = (omega arith, omega arith, omega arith);
     one_output = λ _. refl;
     workers_are = ap Some (sym two_text);
     rounds_are = ap Some (sym sixteen_text);
@@ -114,14 +114,14 @@ unfolding clap_on_literals
 judged_is_taken name = refl
 
 -- the matches of `record --rounds 5 --judge`
-pub record_judged : (name : List ℕ) → (rows : List Row) × (subcommand_of program_app (name ∷ codes "record" ∷ codes "--rounds" ∷ codes "5" ∷ codes "--judge" ∷ []) ≡ Some (codes "record", rows)) × AsksRecord rows 5 (record no_flags { judge = true })
+pub record_judged : (name : List ℕ) → (rows : List Row) × (subcommand_of program_app (name ∷ codes "record" ∷ codes "--rounds" ∷ codes "5" ∷ codes "--judge" ∷ []) ≡ Some (codes "record", rows)) × AsksRecord rows 2 5 (record no_flags { judge = true })
 unfolding clap_on_literals
 record_judged name = (
   rows_in (subcommand_of program_app (name ∷ codes "record" ∷ codes "--rounds" ∷ codes "5" ∷ codes "--judge" ∷ [])),
   refl,
   record {
-    some_rounds = omega arith;
-    rounds_fit = omega arith;
+    workers_fit = (omega arith, omega arith);
+    rounds_fit = (omega arith, omega arith, omega arith);
     one_output = λ _. refl;
     workers_are = ap Some (sym two_text);
     rounds_are = ap Some (sym five_text);
@@ -136,14 +136,14 @@ unfolding clap_on_literals
 scanned_is_taken name = refl
 
 -- the matches of `record --scan`
-pub record_scanned : (name : List ℕ) → (rows : List Row) × (subcommand_of program_app (name ∷ codes "record" ∷ codes "--scan" ∷ []) ≡ Some (codes "record", rows)) × AsksRecord rows 16 (record no_flags { scan = true })
+pub record_scanned : (name : List ℕ) → (rows : List Row) × (subcommand_of program_app (name ∷ codes "record" ∷ codes "--scan" ∷ []) ≡ Some (codes "record", rows)) × AsksRecord rows 2 16 (record no_flags { scan = true })
 unfolding clap_on_literals
 record_scanned name = (
   rows_in (subcommand_of program_app (name ∷ codes "record" ∷ codes "--scan" ∷ [])),
   refl,
   record {
-    some_rounds = omega arith;
-    rounds_fit = omega arith;
+    workers_fit = (omega arith, omega arith);
+    rounds_fit = (omega arith, omega arith, omega arith);
     one_output = λ _. refl;
     workers_are = ap Some (sym two_text);
     rounds_are = ap Some (sym sixteen_text);
@@ -158,14 +158,14 @@ unfolding clap_on_literals
 stamped_is_taken name = refl
 
 -- the matches of `record --stamped`
-pub record_stamped : (name : List ℕ) → (rows : List Row) × (subcommand_of program_app (name ∷ codes "record" ∷ codes "--stamped" ∷ []) ≡ Some (codes "record", rows)) × AsksRecord rows 16 (record no_flags { stamped = true })
+pub record_stamped : (name : List ℕ) → (rows : List Row) × (subcommand_of program_app (name ∷ codes "record" ∷ codes "--stamped" ∷ []) ≡ Some (codes "record", rows)) × AsksRecord rows 2 16 (record no_flags { stamped = true })
 unfolding clap_on_literals
 record_stamped name = (
   rows_in (subcommand_of program_app (name ∷ codes "record" ∷ codes "--stamped" ∷ [])),
   refl,
   record {
-    some_rounds = omega arith;
-    rounds_fit = omega arith;
+    workers_fit = (omega arith, omega arith);
+    rounds_fit = (omega arith, omega arith, omega arith);
     one_output = λ judged. absurd (false≢true judged);
     workers_are = ap Some (sym two_text);
     rounds_are = ap Some (sym sixteen_text);

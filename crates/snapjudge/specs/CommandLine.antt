@@ -32,9 +32,9 @@ check_app = with_rule (with_rule cutting_app quiet_rule) views_rule
 abbrev pub shrink_app : App
 shrink_app = new_app (codes "shrink")
 
--- --workers W, which is 2
-abbrev pub two_workers_rule : Rule
-two_workers_rule = record (new_rule (codes "workers")) { long = Some (codes "workers"); value_names = 1; parser = Some (Signed (pos 2) (pos 2)); defaults = codes "2" ∷ [] }
+-- --workers W, from 2 to 8, 2 where it is not given
+abbrev pub recorders_rule : Rule
+recorders_rule = record (new_rule (codes "workers")) { long = Some (codes "workers"); value_names = 1; parser = Some (Signed (pos 2) (pos 8)); defaults = codes "2" ∷ [] }
 
 -- --rounds R, from 1 to 2,048, 16 where it is not given
 abbrev pub rounds_rule : Rule
@@ -54,7 +54,7 @@ stamped_rule = record (new_rule (codes "stamped")) { long = Some (codes "stamped
 
 -- record [--workers W] [--rounds R] ..
 abbrev pub rounds_app : App
-rounds_app = with_rule (with_rule (new_app (codes "record")) two_workers_rule) rounds_rule
+rounds_app = with_rule (with_rule (new_app (codes "record")) recorders_rule) rounds_rule
 
 -- .. [--judge] [--scan] [--stamped]
 abbrev pub record_app : App

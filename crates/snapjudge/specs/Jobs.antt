@@ -2,15 +2,16 @@
 use Rattle.std.specs.Prelude.{◌≡◌, ◌<◌, ◌≤◌, ◌^◌, ℕ, Bool, true, false, List, Some, codes, decimal}
 use Rattle.clap.specs.Words.{Row, one_of}
 use Rattle.snap_pairs.specs.Cuttings.{IsPieces, IsWorkers}
+use Rattle.snap_record.specs.Plans.{AreWorkers, AreRounds}
 use Rattle.snapjudge.specs.declared.job.Job.{Job}
 use Rattle.snapjudge.specs.declared.job.Job.TheVariants.{Check, Shrink, Record}
 use Rattle.snapjudge.specs.declared.check_with.CheckOptions.{CheckOptions}
 
--- the numbers of a job are in their ranges, and no report is asked for with stamps
+-- the numbers of a job are in their ranges, a recording's calls fit into a history, and no report is asked for with stamps
 abbrev pub IsInRange : Job → Type 0
 IsInRange (Check cutting options) = IsPieces cutting.pieces × IsWorkers cutting.workers
 IsInRange Shrink = Unit {0}
-IsInRange (Record workers rounds judge scan stamped) = (workers ≡ 2) × (0 < rounds) × (rounds ≤ 2048) × (judge ≡ true → stamped ≡ false)
+IsInRange (Record workers rounds judge scan stamped) = AreWorkers workers × AreRounds workers rounds × (judge ≡ true → stamped ≡ false)
 
 -- a check with so many pieces and workers, and with these options
 abbrev pub IsCheckWith : ℕ → ℕ → CheckOptions → Job → Type 0
@@ -62,13 +63,13 @@ pub record AsksCheck (rows : List Row) (pieces : ℕ) (workers : ℕ) (options :
   pub views_are : one_of (codes "views") rows ≡ Some (decimal options.views)
   pub quiet_is : one_of (codes "quiet") rows ≡ Some (flag_text options.quiet)
 
--- the options of `record` have two workers and this number of rounds, which is in its range, and each flag is given or not, but not
--- a report with stamps
-pub record AsksRecord (rows : List Row) (rounds : ℕ) (flags : Flags) : Type 0 where
-  pub some_rounds : 0 < rounds
-  pub rounds_fit : rounds ≤ 2048
+-- the options of `record` have these numbers of workers and rounds, which are in their ranges, and each flag is given or not, but
+-- not a report with stamps
+pub record AsksRecord (rows : List Row) (workers rounds : ℕ) (flags : Flags) : Type 0 where
+  pub workers_fit : AreWorkers workers
+  pub rounds_fit : AreRounds workers rounds
   pub one_output : flags.judge ≡ true → flags.stamped ≡ false
-  pub workers_are : one_of (codes "workers") rows ≡ Some (decimal 2)
+  pub workers_are : one_of (codes "workers") rows ≡ Some (decimal workers)
   pub rounds_are : one_of (codes "rounds") rows ≡ Some (decimal rounds)
   pub judge_is : one_of (codes "judge") rows ≡ Some (flag_text flags.judge)
   pub scan_is : one_of (codes "scan") rows ≡ Some (flag_text flags.scan)

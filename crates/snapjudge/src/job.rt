@@ -8,6 +8,7 @@ use crate::check_with::CheckOptions;
 use crate::command::program;
 use clap::error::ErrorKind;
 use clap::{ArgMatches, Error};
+use snap_core::EVENT_LIMIT;
 use snap_pairs::Cutting;
 use std::alloc::{AllocError, Global};
 
@@ -86,7 +87,7 @@ fn check_in(matches: &ArgMatches<'_>) -> Option<Job>
 // The recording that the options of `record` ask for.
 fn record_in(matches: &ArgMatches<'_>) -> Option<Job>
     ensures job { IfSome result IsInRange }
-    ensures asked { (rounds : ℕ) (flags : Flags) → AsksRecord (rows_of (found_of matches.now)) rounds flags → IsSomeAnd result (IsRecord 2 rounds flags) }
+    ensures asked { (workers rounds : ℕ) (flags : Flags) → AsksRecord (rows_of (found_of matches.now)) workers rounds flags → IsSomeAnd result (IsRecord workers rounds flags) }
 {
     let workers = number_in(matches, "workers")?;
     let rounds = number_in(matches, "rounds")?;
@@ -96,7 +97,10 @@ fn record_in(matches: &ArgMatches<'_>) -> Option<Job>
     if judge && stamped {
         return None;
     }
-    if workers != 2 || rounds == 0 || rounds > 2048 {
+    if workers < 2 || workers > 8 || rounds == 0 || rounds > 2048 {
+        return None;
+    }
+    if workers * (4 * rounds) > EVENT_LIMIT as u32 {
         return None;
     }
     Some(Job::Record {
@@ -114,8 +118,8 @@ fn job_in(matches: &ArgMatches<'_>) -> Option<Job>
     ensures check { (rows : List Row) (pieces workers : ℕ) (options : Options) → subcommand_rows_of matches.now ≡ Some (codes "check", rows)
         → AsksCheck rows pieces workers options → IsSomeAnd result (IsCheckWith pieces workers options) }
     ensures shrink { (rows : List Row) → subcommand_rows_of matches.now ≡ Some (codes "shrink", rows) → IsSomeAnd result IsShrink }
-    ensures recording { (rows : List Row) (rounds : ℕ) (flags : Flags) → subcommand_rows_of matches.now ≡ Some (codes "record", rows)
-        → AsksRecord rows rounds flags → IsSomeAnd result (IsRecord 2 rounds flags) }
+    ensures recording { (rows : List Row) (workers rounds : ℕ) (flags : Flags) → subcommand_rows_of matches.now ≡ Some (codes "record", rows)
+        → AsksRecord rows workers rounds flags → IsSomeAnd result (IsRecord workers rounds flags) }
 {
     let (name, inner) = matches.subcommand()?;
     if name == "check" {
@@ -165,10 +169,10 @@ pub fn job_of(alloc: Global, words: Vec<String>) -> Result<Job, JobFault>
         Err(error) => Err(fault_of(alloc, &error)),
         Ok(matches) => match job_in(&matches) {
             Some(job) => Ok(job),
-            // The parser tests each number by itself, but not the flags beside one another.
+            // The parser tests each number by itself, but not two numbers or two flags beside one another.
             None => Err(JobFault::Usage(String::from_str(
                 alloc,
-                "error: the argument '--judge' cannot be used with '--stamped'\n",
+                "error: '--judge' cannot be used with '--stamped', nor so many rounds with so many workers that a history has no room for their calls\n",
             )?)),
         },
     }

@@ -2,7 +2,7 @@
 ghost use Rattle.std.specs.Prelude.{◌≡◌, IfOk, false};
 ghost use Rattle.clap.specs.Words.{app_of, rule_of};
 ghost use Rattle.clap.specs.declared.builder.command.Command.TheViews.{out-Command as fields_of};
-ghost use Rattle.snapjudge.specs.CommandLine.{judge_rule, record_app, rounds_app, rounds_rule, scan_rule, stamped_rule, two_workers_rule};
+ghost use Rattle.snapjudge.specs.CommandLine.{judge_rule, record_app, recorders_rule, rounds_app, rounds_rule, scan_rule, stamped_rule};
 
 use clap::{Arg, ArgAction, Command};
 use std::alloc::{AllocError, Global};
@@ -11,11 +11,11 @@ const ABOUT: &str =
     "Records the history of a running board and writes it, or its report, to standard output";
 
 const EXAMPLE: &str = "\
-Two threads work on a board of atomic words, one word for each. Worker w does in each round
-i, counted from 1, a store of the value w * 65536 + i to its word, and then a view, which
-reads the words one by one. The history has a begin and an end of each of these calls, in
-the order in which they were stamped: it is always regular, and atomic or not as the run
-went. `snapjudge record --rounds 1` prints, in one of its runs:
+W threads work on a board of atomic words, one word for each. Worker w, counted from 0, does
+in each round i, counted from 1, a store of the value w * 65536 + i to its word, and then a
+view, which reads the words one by one. The history has a begin and an end of each of these
+calls, in the order in which they were stamped: it is always regular, and atomic or not as
+the run went. `snapjudge record --rounds 1` prints, in one of its runs:
 
     event,process,op,data
     begin,0,update,0:1:1
@@ -43,14 +43,14 @@ Exit status:
     5  the words of the command line were not taken";
 
 fn workers_argument<'a>(alloc: Global) -> Arg<'a>
-    ensures rule { rule_of result ≡ two_workers_rule }
+    ensures rule { rule_of result ≡ recorders_rule }
     ensures own { result.global ≡ false }
 {
     Arg::new(alloc, "workers")
         .long("workers")
         .value_name("W")
-        .help("How many threads work on the board: 2")
-        .value_parser(clap::value_parser!(u32).range(2..3))
+        .help("How many threads work on the board, from 2 to 8")
+        .value_parser(clap::value_parser!(u32).range(2..9))
         .default_value("2")
 }
 

@@ -2,7 +2,7 @@ ghost use Rattle.std.specs.Prelude.{◌≡◌, ◌<◌, ◌≤◌, IfOk, OnOk, l
 ghost use Rattle.std.specs.List.Sorted.{IsStrictlyIncreasing};
 ghost use Rattle.snap_core.specs.Counting.{failures_in, inner_of};
 ghost use Rattle.snap_csv.specs.Spelling.{history_text, stamped_text};
-ghost use Rattle.snap_record.specs.Plans.{HasNoViews, rounds_scripts};
+ghost use Rattle.snap_record.specs.Plans.{AreRounds, AreWorkers, HasNoViews, rounds_scripts};
 ghost use Rattle.snapjudge.specs.RecordRuns.{HasStamps, IsRecorded, IsRecordingOf, IsStampedRecording, WriteCounts, WroteAs};
 ghost use Rattle.snap_verdict.specs.Verdicts.{IsVerdict};
 ghost use Rattle.snap_verdict.specs.declared.status.Status.TheVariants.{Atomic, Recorded};
@@ -141,10 +141,10 @@ pub fn record_run_stamped<Rt: Threads + Wait + Sync, W: Write, G: Gate>(
     write_stamped_text(alloc, &history, stamps.as_slice(), writer)
 }
 
-// Two workers in so many rounds of a store and a view each, or a scan in place of the view.
+// So many workers in so many rounds of a store and a view each, or a scan in place of the view.
 fn plan_of(alloc: Global, workers: u32, rounds: u32, scan: bool) -> Result<Plan, AllocError>
-    requires { (workers ≡ 2) × (0 < rounds) × (rounds ≤ 2048) }
-    ensures { IfOk result (λ plan. plan ≡ rounds_scripts scan rounds) }
+    requires { AreWorkers workers × AreRounds workers rounds }
+    ensures { IfOk result (λ plan. plan ≡ rounds_scripts scan workers rounds) }
 {
     match rounds_plan(alloc, workers, rounds, scan) {
         Ok(plan) => Ok(plan),
@@ -153,7 +153,7 @@ fn plan_of(alloc: Global, workers: u32, rounds: u32, scan: bool) -> Result<Plan,
     }
 }
 
-/// Records two workers in so many rounds of a store and a view each, or a scan in place of the view, and judges with 8
+/// Records 2 to 8 workers in so many rounds of a store and a view each, or a scan in place of the view, and judges with 8
 /// pieces and 2 workers where that is asked for. Otherwise as `record_run`.
 pub fn record_rounds<Rt: Threads + Wait + Sync, W: Write>(
     rt: &Rt,
@@ -164,8 +164,8 @@ pub fn record_rounds<Rt: Threads + Wait + Sync, W: Write>(
     scan: bool,
     writer: &mut Counted<W>,
 ) -> Result<Status, RunFault>
-    requires { (workers ≡ 2) × (0 < rounds) × (rounds ≤ 2048) }
-    ensures wrote { WroteAs (IsRecorded judge (rounds_scripts scan rounds)) (W.contents (inner_of writer.old)) (W.contents (inner_of writer.new)) result }
+    requires { AreWorkers workers × AreRounds workers rounds }
+    ensures wrote { WroteAs (IsRecorded judge (rounds_scripts scan workers rounds)) (W.contents (inner_of writer.old)) (W.contents (inner_of writer.new)) result }
     ensures counts { WriteCounts (failures_in writer.old) (failures_in writer.new) result }
 {
     let Ok(cutting) = Cutting::new(8, 2) else {
@@ -184,8 +184,8 @@ pub fn record_rounds_stamped<Rt: Threads + Wait + Sync, W: Write>(
     scan: bool,
     writer: &mut Counted<W>,
 ) -> Result<Status, RunFault>
-    requires { (workers ≡ 2) × (0 < rounds) × (rounds ≤ 2048) }
-    ensures wrote { WroteAs (IsStampedRecording (rounds_scripts scan rounds)) (W.contents (inner_of writer.old)) (W.contents (inner_of writer.new)) result }
+    requires { AreWorkers workers × AreRounds workers rounds }
+    ensures wrote { WroteAs (IsStampedRecording (rounds_scripts scan workers rounds)) (W.contents (inner_of writer.old)) (W.contents (inner_of writer.new)) result }
     ensures counts { WriteCounts (failures_in writer.old) (failures_in writer.new) result }
 {
     let plan = plan_of(alloc, workers, rounds, scan)?;

@@ -1,9 +1,28 @@
-ghost use Rattle.std.specs.Prelude.{◌≡◌};
+ghost use Rattle.std.specs.Prelude.{◌≡◌, IfOk};
+ghost use Rattle.snap_record.specs.Relays.{IsSenderOf, IsTakerOf};
 
-use crate::recorder::start_two;
-use crate::{Record, RecordedOp, Relay};
+use crate::{Record, RecordedOp, Relay, Sender, Taker};
 use snap_testing::entry;
+use std::alloc::{AllocError, Global};
+use std::sync::Wait;
 use std::test::Fail;
+
+// A relay with its two senders and its taker.
+fn start_two<R: Wait>(rt: &R, alloc: Global) -> Result<(Relay, Sender, Sender, Taker), AllocError>
+    ensures relay { IfOk result (λ r. r.0.workers ≡ 2) }
+    ensures zero { IfOk result (λ r. IsSenderOf r.0 r.1 × (r.1.place ≡ 0)) }
+    ensures one { IfOk result (λ r. IsSenderOf r.0 r.2 × (r.2.place ≡ 1)) }
+    ensures taker { IfOk result (λ r. IsTakerOf r.0 r.3) }
+{
+    let (relay, mut senders, taker) = Relay::start(rt, alloc, 2)?;
+    let Some(one) = senders.pop() else {
+        unreachable!()
+    };
+    let Some(zero) = senders.pop() else {
+        unreachable!()
+    };
+    Ok((relay, zero, one, taker))
+}
 
 // The record of a store by this process.
 fn stored_by(process: u16) -> Record

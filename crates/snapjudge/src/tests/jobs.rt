@@ -87,29 +87,45 @@ type Flags = (bool, bool, bool);
 
 const NO_FLAGS: Flags = (false, false, false);
 
-// The rounds of the recording that each line asks for, and its flags.
-const RECORDS: &[(&str, u32, Flags)] = &[
-    ("snapjudge record", 16, NO_FLAGS),
+// The workers and rounds of the recording that each line asks for, and its flags.
+const RECORDS: &[(&str, u32, u32, Flags)] = &[
+    ("snapjudge record", 2, 16, NO_FLAGS),
     (
         "snapjudge record --rounds 5 --judge",
+        2,
         5,
         (true, false, false),
     ),
-    ("snapjudge record --workers 2 --rounds=2048", 2048, NO_FLAGS),
+    (
+        "snapjudge record --workers 2 --rounds=2048",
+        2,
+        2048,
+        NO_FLAGS,
+    ),
+    ("snapjudge record --workers 3 --rounds 1", 3, 1, NO_FLAGS),
+    (
+        "snapjudge record --rounds 512 --workers=8",
+        8,
+        512,
+        NO_FLAGS,
+    ),
     (
         "snapjudge record --judge --rounds 1",
+        2,
         1,
         (true, false, false),
     ),
-    ("snapjudge record --scan", 16, (false, true, false)),
+    ("snapjudge record --scan", 2, 16, (false, true, false)),
     (
         "snapjudge record --scan --rounds 3 --judge",
+        2,
         3,
         (true, true, false),
     ),
-    ("snapjudge record --stamped", 16, (false, false, true)),
+    ("snapjudge record --stamped", 2, 16, (false, false, true)),
     (
         "snapjudge record --stamped --rounds 7 --scan",
+        2,
         7,
         (false, true, true),
     ),
@@ -133,8 +149,8 @@ fn record_of(alloc: Global, line: &str) -> Result<(u32, u32, Flags), Fail> {
 
 #[test]
 fn record_takes_workers_rounds_and_flags(rt: HostRuntime) -> Result<(), Fail> {
-    for (line, rounds, flags) in RECORDS {
-        same(record_of(rt.alloc(), line)?, (2, *rounds, *flags))?;
+    for (line, workers, rounds, flags) in RECORDS {
+        same(record_of(rt.alloc(), line)?, (*workers, *rounds, *flags))?;
     }
     Ok(())
 }
@@ -150,7 +166,8 @@ const OTHER_LINES: &[&str] = &[
     "snapjudge check --workers 9",
     "snapjudge check --rounds 3",
     "snapjudge check more",
-    "snapjudge record --workers 3",
+    "snapjudge record --workers 1",
+    "snapjudge record --workers 9",
     "snapjudge record --rounds 0",
     "snapjudge record --rounds 2049",
     "snapjudge record --pieces 8",

@@ -54,6 +54,22 @@ fn one_round_of_two_workers_has_nine_lines(rt: HostRuntime) -> Result<(), Fail> 
     )
 }
 
+#[test]
+fn one_round_of_three_workers_has_13_lines(rt: HostRuntime) -> Result<(), Fail> {
+    let plan = rounds_plan(rt.alloc(), 3, 1, false)?;
+    let (end, text) = record(&rt, rt.alloc(), &plan, false, cutting(8, 2)?, &OpenGate);
+    same(end, "recorded")?;
+    expect_text(
+        &text,
+        12,
+        &[
+            "begin,0,update,0:1:1",
+            "begin,1,update,1:1:65537",
+            "begin,2,update,2:1:131073",
+        ],
+    )
+}
+
 // Two workers, each of which stores one value and then scans.
 fn one_scanned_round(alloc: Global) -> Result<Plan, Fail> {
     Ok(rounds_plan(alloc, 2, 1, true)?)

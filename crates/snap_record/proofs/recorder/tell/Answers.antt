@@ -16,34 +16,34 @@ use Rattle.snap_record.proofs.Whole.{whole_scripts, none_interfered}
 use Rattle.snap_record.proofs.recorder.tell.Goals as goal
 
 pub in_order-requires : goal.in_order-requires
-in_order-requires c = let d = c.requires.did in apart c.args.all.items d.lost d.lost' _ _ d.settled d.no_other
+in_order-requires c = let d = c.requires.did in apart c.args.plan.now c.args.all.items c.args.interfered d
 
 pub history_of-requires-clause-history : goal.history_of-requires-clause-history
-history_of-requires-clause-history c = let d = c.requires.did in told_history c.args.all.items d.lost d.lost' _ _ d.settled d.no_other c.in_ok-events.events.items c.in_ok-events.ensures.merged
+history_of-requires-clause-history c = let d = c.requires.did in told_history c.args.plan.now c.args.all.items c.args.interfered d c.in_ok-events.events.items c.in_ok-events.ensures.merged
 
 pub history_of-requires-clause-short : goal.history_of-requires-clause-short
 history_of-requires-clause-short c = omega (arith, c.in_ok-events.ensures.len, c.requires.short, stamped_length c.args.all.items)
 
 pub returns-clause-regular : goal.returns-clause-regular
 returns-clause-regular c = let d = c.requires.did in
-    subst (λ (es : List Event). IsRegular (calls_of es)) (sym c.in_ok-history.ensures) (told_regular c.args.all.items d.lost d.lost' _ _ d.settled d.no_other c.in_ok-events.events.items c.in_ok-events.ensures.merged)
+    subst (λ (es : List Event). IsRegular (calls_of es)) (sym c.in_ok-history.ensures) (told_regular c.args.plan.now c.args.all.items c.args.interfered d c.in_ok-events.events.items c.in_ok-events.ensures.merged)
 
 pub returns-clause-monotone : goal.returns-clause-monotone
 returns-clause-monotone c = let d = c.requires.did in
-    subst (λ (es : List Event). IsMonotone (calls_of es)) (sym c.in_ok-history.ensures) (told_monotone c.args.all.items d.lost d.lost' _ _ d.settled d.no_other c.in_ok-events.events.items c.in_ok-events.ensures.merged)
+    subst (λ (es : List Event). IsMonotone (calls_of es)) (sym c.in_ok-history.ensures) (told_monotone c.args.plan.now c.args.all.items c.args.interfered d c.in_ok-events.events.items c.in_ok-events.ensures.merged)
 
 pub returns-clause-completed : goal.returns-clause-completed
 returns-clause-completed c = let d = c.requires.did in
-    subst (λ (es : List Event). AllCompleted (calls_of es)) (sym c.in_ok-history.ensures) (told_completed c.args.all.items d.lost d.lost' _ _ d.settled d.no_other c.in_ok-events.events.items c.in_ok-events.ensures.merged)
+    subst (λ (es : List Event). AllCompleted (calls_of es)) (sym c.in_ok-history.ensures) (told_completed c.args.plan.now c.args.all.items c.args.interfered d c.in_ok-events.events.items c.in_ok-events.ensures.merged)
 
 pub returns-clause-atomic : goal.returns-clause-atomic
 returns-clause-atomic c none = let d = c.requires.did in
-    subst (λ (es : List Event). IsAtomic (calls_of es)) (sym c.in_ok-history.ensures) (told_atomic c.args.all.items d.lost d.lost' _ _ d.settled d.no_other c.in_ok-events.events.items c.in_ok-events.ensures.merged (none 0) (none 1))
+    subst (λ (es : List Event). IsAtomic (calls_of es)) (sym c.in_ok-history.ensures) (told_atomic c.args.plan.now c.args.all.items c.args.interfered d c.in_ok-events.events.items c.in_ok-events.ensures.merged none)
 
 pub returns-clause-scripts : goal.returns-clause-scripts
 returns-clause-scripts c = let d = c.requires.did in
     subst (λ (es : List Event). HasScripts c.args.plan.now es c.args.interfered) (sym c.in_ok-history.ensures)
-    (has_scripts c.args.plan.now c.args.all.items _ c.args.interfered (told c.args.all.items d.lost d.lost' _ _ d.settled d.no_other c.in_ok-events.events.items c.in_ok-events.ensures.merged) d)
+    (has_scripts c.args.plan.now c.args.all.items _ c.args.interfered (told c.args.plan.now c.args.all.items c.args.interfered d c.in_ok-events.events.items c.in_ok-events.ensures.merged) d)
 
 pub returns-clause-whole : goal.returns-clause-whole
 returns-clause-whole c none = whole_scripts c.args.plan.now c.in_ok-history.history c.args.interfered (returns-clause-scripts c) none
@@ -54,8 +54,8 @@ returns-clause-none_left c none = none_interfered c.args.plan.now c.in_ok-histor
 pub returns-clause-stamps : goal.returns-clause-stamps
 returns-clause-stamps c = let d = c.requires.did in
     let stamps = c.in_ok-stamps.ensures ∙ ap event_stamps c.deref.ensures.value in
-    subst (λ (z : ℕ × (List Event × List ℕ)). AreStamped z.0 z.1.0 z.1.1) (λ i. (sym d.two i, (sym c.in_ok-history.ensures i, sym stamps i)))
-    (told_stamps c.args.all.items d.lost d.lost' _ _ d.settled d.no_other c.in_ok-events.events.items c.in_ok-events.ensures.merged)
+    subst (λ (z : ℕ × (List Event × List ℕ)). AreStamped z.0 z.1.0 z.1.1) (λ i. (length c.args.plan.now, (sym c.in_ok-history.ensures i, sym stamps i)))
+    (told_stamps c.args.plan.now c.args.all.items c.args.interfered d c.in_ok-events.events.items c.in_ok-events.ensures.merged)
 
 pub returns-clause-rising : goal.returns-clause-rising
 returns-clause-rising c =

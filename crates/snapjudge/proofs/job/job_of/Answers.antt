@@ -91,14 +91,14 @@ returns-in-Some-clause-record_alone c = λ name e.
     let words_are = ap (map string_bytes) c.as_slice.ensures.value ∙ e in
     let matches = c.in-Ok.ensures.matches (ap is_simple c.in_ok-command.ensures ∙ program_is_simple) in
     let found = record_alone name in
-    c.in-Some.ensures.recording found.0 16 no_flags (matches.1 ∙ ap₂ subcommand_of c.in_ok-command.ensures words_are ∙ found.1) found.2
+    c.in-Some.ensures.recording found.0 2 16 no_flags (matches.1 ∙ ap₂ subcommand_of c.in_ok-command.ensures words_are ∙ found.1) found.2
 
 pub returns-clause-record_alone : goal.returns-clause-record_alone
 returns-clause-record_alone c = λ name e.
     let words_are = ap (map string_bytes) c.as_slice.ensures.value ∙ e in
     let matches = c.in-Ok.ensures.matches (ap is_simple c.in_ok-command.ensures ∙ program_is_simple) in
     let found = record_alone name in
-    absurd (c.in-None.ensures.recording found.0 16 no_flags (matches.1 ∙ ap₂ subcommand_of c.in_ok-command.ensures words_are ∙ found.1) found.2)
+    absurd (c.in-None.ensures.recording found.0 2 16 no_flags (matches.1 ∙ ap₂ subcommand_of c.in_ok-command.ensures words_are ∙ found.1) found.2)
 
 pub returns-in-Err-clause-record_judged : goal.returns-in-Err-clause-record_judged
 returns-in-Err-clause-record_judged c = λ name e.
@@ -110,14 +110,14 @@ returns-in-Some-clause-record_judged c = λ name e.
     let words_are = ap (map string_bytes) c.as_slice.ensures.value ∙ e in
     let matches = c.in-Ok.ensures.matches (ap is_simple c.in_ok-command.ensures ∙ program_is_simple) in
     let found = record_judged name in
-    c.in-Some.ensures.recording found.0 5 (record no_flags { judge = true }) (matches.1 ∙ ap₂ subcommand_of c.in_ok-command.ensures words_are ∙ found.1) found.2
+    c.in-Some.ensures.recording found.0 2 5 (record no_flags { judge = true }) (matches.1 ∙ ap₂ subcommand_of c.in_ok-command.ensures words_are ∙ found.1) found.2
 
 pub returns-clause-record_judged : goal.returns-clause-record_judged
 returns-clause-record_judged c = λ name e.
     let words_are = ap (map string_bytes) c.as_slice.ensures.value ∙ e in
     let matches = c.in-Ok.ensures.matches (ap is_simple c.in_ok-command.ensures ∙ program_is_simple) in
     let found = record_judged name in
-    absurd (c.in-None.ensures.recording found.0 5 (record no_flags { judge = true }) (matches.1 ∙ ap₂ subcommand_of c.in_ok-command.ensures words_are ∙ found.1) found.2)
+    absurd (c.in-None.ensures.recording found.0 2 5 (record no_flags { judge = true }) (matches.1 ∙ ap₂ subcommand_of c.in_ok-command.ensures words_are ∙ found.1) found.2)
 
 pub returns-in-Err-clause-record_scanned : goal.returns-in-Err-clause-record_scanned
 returns-in-Err-clause-record_scanned c = λ name e.
@@ -129,14 +129,14 @@ returns-in-Some-clause-record_scanned c = λ name e.
     let words_are = ap (map string_bytes) c.as_slice.ensures.value ∙ e in
     let matches = c.in-Ok.ensures.matches (ap is_simple c.in_ok-command.ensures ∙ program_is_simple) in
     let found = record_scanned name in
-    c.in-Some.ensures.recording found.0 16 (record no_flags { scan = true }) (matches.1 ∙ ap₂ subcommand_of c.in_ok-command.ensures words_are ∙ found.1) found.2
+    c.in-Some.ensures.recording found.0 2 16 (record no_flags { scan = true }) (matches.1 ∙ ap₂ subcommand_of c.in_ok-command.ensures words_are ∙ found.1) found.2
 
 pub returns-clause-record_scanned : goal.returns-clause-record_scanned
 returns-clause-record_scanned c = λ name e.
     let words_are = ap (map string_bytes) c.as_slice.ensures.value ∙ e in
     let matches = c.in-Ok.ensures.matches (ap is_simple c.in_ok-command.ensures ∙ program_is_simple) in
     let found = record_scanned name in
-    absurd (c.in-None.ensures.recording found.0 16 (record no_flags { scan = true }) (matches.1 ∙ ap₂ subcommand_of c.in_ok-command.ensures words_are ∙ found.1) found.2)
+    absurd (c.in-None.ensures.recording found.0 2 16 (record no_flags { scan = true }) (matches.1 ∙ ap₂ subcommand_of c.in_ok-command.ensures words_are ∙ found.1) found.2)
 
 pub returns-in-Err-clause-record_stamped : goal.returns-in-Err-clause-record_stamped
 returns-in-Err-clause-record_stamped c = λ name e.
@@ -148,11 +148,11 @@ returns-in-Some-clause-record_stamped c = λ name e.
     let words_are = ap (map string_bytes) c.as_slice.ensures.value ∙ e in
     let matches = c.in-Ok.ensures.matches (ap is_simple c.in_ok-command.ensures ∙ program_is_simple) in
     let found = record_stamped name in
-    c.in-Some.ensures.recording found.0 16 (record no_flags { stamped = true }) (matches.1 ∙ ap₂ subcommand_of c.in_ok-command.ensures words_are ∙ found.1) found.2
+    c.in-Some.ensures.recording found.0 2 16 (record no_flags { stamped = true }) (matches.1 ∙ ap₂ subcommand_of c.in_ok-command.ensures words_are ∙ found.1) found.2
 
 pub returns-clause-record_stamped : goal.returns-clause-record_stamped
 returns-clause-record_stamped c = λ name e.
     let words_are = ap (map string_bytes) c.as_slice.ensures.value ∙ e in
     let matches = c.in-Ok.ensures.matches (ap is_simple c.in_ok-command.ensures ∙ program_is_simple) in
     let found = record_stamped name in
-    absurd (c.in-None.ensures.recording found.0 16 (record no_flags { stamped = true }) (matches.1 ∙ ap₂ subcommand_of c.in_ok-command.ensures words_are ∙ found.1) found.2)
+    absurd (c.in-None.ensures.recording found.0 2 16 (record no_flags { stamped = true }) (matches.1 ∙ ap₂ subcommand_of c.in_ok-command.ensures words_are ∙ found.1) found.2)
