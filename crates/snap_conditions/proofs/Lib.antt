@@ -31,3 +31,4 @@ pub mod Ordering
 mod Worked
 mod Surrounded
 pub mod Rising
+pub mod NumberTables

@@ -1,17 +1,16 @@
 -- The row of a view's numbers.
 use Rattle.std.proofs.Common.{◌≡◌, ℕ, zero, suc, ◌+◌, ◌<◌, true, false, cond, List, [], ◌∷◌, take, set, replicate, length, get_or, Option, Some, None, refl, sym, ap, ◌∙◌, subst, inl, inr, arith, get_or-set_same, get_or-set_other}
-use Rattle.std.specs.Prelude.{◌≢◌, ◌==◌, nat_lt}
+use Rattle.std.specs.Prelude.{◌==◌}
 use Rattle.std.specs.Option.{option_or}
 use Rattle.std.proofs.lemmas.List.{take_more, get_or-replicate}
 use Rattle.std.proofs.lemmas.List.Folds.{find-append}
-use Rattle.std.specs.List.Sorted.{IsPartitionedBy, IsPartitionPoint}
-use Rattle.std.proofs.lemmas.Bool.{cases_eq, cases_lt, eq-eqb, ne_eqb, lt-ltb, ltb-true, ltb-false}
+use Rattle.std.proofs.lemmas.Bool.{cases_eq, eq-eqb, ne_eqb}
 use Rattle.snap_core.specs.declared.entry.Entry.{Entry}
 use Rattle.snap_core.specs.Entries.{entry_of, number_in}
 use Rattle.snap_core.specs.Calls.{Call, entries_of, shown, shown_number}
 use Rattle.snap_core.proofs.Lists.{In, In-get_or}
 use Rattle.snap_conditions.specs.Rows.{number_among}
-use Rattle.snap_conditions.proofs.Entries.{AreSorted, nothing, sorted_tail, above, unlisted, listed_first, listed_behind}
+use Rattle.snap_conditions.proofs.Entries.{AreSorted, sorted_tail, above, unlisted, listed_first, listed_behind}
 
 -- entries in front of one have lower components
 in_front : (es : List Entry) (i : ℕ) (x d : Entry) → AreSorted es → i < length es → In d (take i es) → d.component < (get_or es i x).component
@@ -73,45 +72,3 @@ entry_at (e ∷ es) (suc i) x s l =
 pub among_is_shown : (r : Call) (k : ℕ) → number_among (entries_of r.operation) k ≡ shown_number r k
 unfolding shown_number shown
 among_is_shown r k = refl
-
--- the number of a component that is listed at a place
-pub among_at : (es : List Entry) (i : ℕ) (x : Entry) (k : ℕ) → AreSorted es → i < length es → (get_or es i x).component ≡ k → number_among es k ≡ (get_or es i x).number
-among_at es i x k s l same = ap (number_among es) (sym same) ∙ ap number_in (entry_at es i x s l)
-
-rise_to : (es : List Entry) (i j : ℕ) (x : Entry) → AreSorted es → i < j → j < length es → (get_or es i x).component < (get_or es j x).component
-rise_to [] i j x s l m = absurd (omega arith)
-rise_to (e ∷ es) i zero x s l m = absurd (omega arith)
-rise_to (e ∷ es) zero (suc j) x s l m = above e es s (get_or es j x) (In-get_or es j x (omega arith))
-rise_to (e ∷ es) (suc i) (suc j) x s l m = rise_to es i j x (sorted_tail e es s) (omega arith) (omega arith)
-
--- the entries of lower components come first
-pub lower_first : (es : List Entry) (k : ℕ) → AreSorted es → IsPartitionedBy (λ e. nat_lt e.component k) es
-lower_first es k s i j x l m h = elim (cases_eq i j) [
-  | inl same ↦ ap (λ z. nat_lt (get_or es z x).component k) same ∙ h
-  | inr other ↦ lt-ltb _ _ (omega (arith, rise_to es i j x s (omega (arith, l, other)) m, ltb-true (get_or es j x).component k h))
-]
-
--- no entry is listed of a component that does not stand behind the lower ones
-pub among_none : (es : List Entry) (i k : ℕ) → AreSorted es → IsPartitionPoint (λ e. nat_lt e.component k ≡ true) (λ e. nat_lt e.component k ≡ false) es i →
-    (i < length es → (get_or es i nothing).component ≢ k) → number_among es k ≡ 0
-among_none es i k s h other = ap number_in (unlisted k es none)
-  where
-    there : (ds : List Entry) (d : Entry) → In d ds → (j : ℕ) × (j < length ds) × (get_or ds j nothing ≡ d)
-    there [] d q = absurd q
-    there (c ∷ ds) d (inl e) = (0, omega arith, e)
-    there (c ∷ ds) d (inr q) = let r = there ds d q in (suc r.0, omega (arith, r.1), r.2)
-
-    none : (d : Entry) → In d es → k ≢ d.component
-    none d q same =
-        let r = there es d q in
-        let here : (get_or es r.0 nothing).component ≡ k = ap (λ (z : Entry). z.component) r.2 ∙ sym same in
-        elim (cases_lt r.0 i) [
-          | inl b ↦ omega (arith, here, ltb-true (get_or es r.0 nothing).component k (h.0 r.0 nothing (omega (arith, b)) (omega (arith, r.1))))
-          | inr b ↦ elim (cases_eq r.0 i) [
-            | inl at ↦ other (omega (arith, at, r.1)) (ap (λ z. (get_or es z nothing).component) (sym at) ∙ here)
-            | inr past ↦
-                let higher = rise_to es i r.0 nothing s (omega (arith, b, past)) r.1 in
-                let low = ltb-false (get_or es i nothing).component k (h.1 i nothing (omega (arith)) (omega (arith, b, r.1))) in
-                omega (arith, higher, low, here)
-          ]
-        ]

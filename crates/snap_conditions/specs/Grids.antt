@@ -1,40 +1,22 @@
 -- What views show, in a grid of numbers.
-use Rattle.std.specs.Prelude.{ℕ, ◌<◌, ◌≡◌, Bool, true, false, List, [], length, get_or, nat_lt}
+use Rattle.std.specs.Prelude.{ℕ, ◌<◌, ◌≡◌, true, List, [], length, get_or, nat_lt}
 use Rattle.snap_core.specs.declared.event.Event.{Event}
-use Rattle.snap_core.specs.declared.entry.Entry.{Entry}
-use Rattle.snap_core.specs.Entries.{AreEntries}
-use Rattle.snap_core.specs.Calls.{Call, calls_of, views_of, entries_of, shown_number, precedes}
+use Rattle.snap_core.specs.Calls.{Call, calls_of, views_of, shown_number, precedes}
 use Rattle.snap_core.specs.Events.{IsKept}
 use Rattle.snap_grid.specs.Columns.{GridValue, number, clashes, any_passes, drops}
 use Rattle.snap_conditions.specs.Faults.{exceeds, read_fault, is_stale}
 use Rattle.snap_conditions.specs.Places.{end_or_never}
-use Rattle.snap_conditions.specs.Rows.{row_number}
 use Rattle.snap_conditions.specs.Seen.{view_in}
-
--- the entries of a completed view
-pub record IsShownBy (r : Call) (es : List Entry) : Type 0 where
-  pub entries : es ≡ entries_of r.operation
-  pub shape : AreEntries es
-
--- the entries of all completed views, view by view
-pub record AreShownBy (calls : List Call) (shown : List (List Entry)) : Type 0 where
-  pub count : length shown ≡ length (views_of calls)
-  pub each : (place : ℕ) → place < length (views_of calls) → IsShownBy (view_in calls place) (get_or shown place [])
-
--- the numbers of all completed views, view by view
-pub record AreRowsOf (calls : List Call) (rows : List (List ℕ)) : Type 0 where
-  pub count : length rows ≡ length (views_of calls)
-  pub each : (place k : ℕ) → place < length (views_of calls) → k < 256 → row_number (get_or rows place []) k ≡ shown_number (view_in calls place) k
 
 -- the numbers of one component
 pub record IsColumnOf (calls : List Call) (k : ℕ) (column : List ℕ) : Type 0 where
   pub count : length column ≡ length (views_of calls)
   pub each : (place : ℕ) → place < length (views_of calls) → number column place ≡ shown_number (view_in calls place) k
 
--- a column for each component that is used, below an edge, and no other
-pub record AreColumnsOf (calls : List Call) (used : List Bool) (edge : ℕ) (columns : List (List ℕ)) : Type 0 where
+-- a column for each component below an edge of which some view shows a number, and no other
+pub record AreColumnsOf (calls : List Call) (edge : ℕ) (columns : List (List ℕ)) : Type 0 where
   pub each : (j : ℕ) → j < length columns → (k : ℕ) × IsColumnOf calls k (get_or columns j [])
-  pub all : (k : ℕ) → k < edge → get_or used k false ≡ true → (j : ℕ) × (j < length columns) × IsColumnOf calls k (get_or columns j [])
+  pub all : (place k : ℕ) → place < length (views_of calls) → k < edge → 0 < shown_number (view_in calls place) k → (j : ℕ) × (j < length columns) × IsColumnOf calls k (get_or columns j [])
 
 -- the columns show of any two views whether one shows more of some component than the other
 pub record ShowAll (calls : List Call) (columns : List (List ℕ)) : Type 0 where

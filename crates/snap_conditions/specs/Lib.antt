@@ -14,3 +14,4 @@ pub mod Limits
 pub mod Chains
 pub mod Sweeps
 pub mod Rising
+pub mod NumberTables

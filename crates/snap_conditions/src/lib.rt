@@ -5,6 +5,7 @@ mod around;
 mod fault;
 mod integrity;
 mod law;
+mod number_table;
 mod part;
 mod proximity;
 mod quick_test;

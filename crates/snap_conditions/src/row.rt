@@ -20,22 +20,6 @@ pub(crate) fn numbers_of(entries: &[Entry]) -> [u32; COMPONENT_COUNT]
     numbers
 }
 
-// The number that entries show of a component, 0 where they list none. Mostly they list each component up to their last.
-pub(crate) fn number_of(entries: &[Entry], k: u8) -> u32
-    requires { AreEntries entries.now }
-    ensures { result ≡ number_among entries.now k }
-{
-    let place = k as usize;
-    if place < entries.len() && entries[place].component == k {
-        return entries[place].number;
-    }
-    let place = entries.partition_point(|entry| entry.component < k);
-    if place < entries.len() && entries[place].component == k {
-        return entries[place].number;
-    }
-    0
-}
-
 // Whether each of two views shows more of some component than the other.
 #[derive(Clone, Copy)]
 pub(crate) struct Excess {

@@ -1,0 +1,6 @@
+use Rattle.snap_core.specs.Calls.{calls_of}
+use Rattle.snap_conditions.specs.NumberTables.{AreFilled}
+use Rattle.snap_conditions.proofs.view_grid.numbers_of_views.Given as goal
+
+abbrev pub invariant-loop-place : goal.invariant-loop-place
+invariant-loop-place l = AreFilled (calls_of l.index) l.place l.table
