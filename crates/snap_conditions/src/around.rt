@@ -33,24 +33,20 @@ pub(crate) fn look_around(index: &Index<'_>, view: &SeenView<'_>, limit: usize) 
     requires view { AreEntries view.now.entries.now }
     ensures { (r : SpecCall) → IsSeen r view.now → IsAround (calls_of index.now) r result }
 {
-    let numbers = numbers_of(view.entries);
-    let mut begins = [0; COMPONENT_COUNT];
-    let mut ends = [NEVER; COMPONENT_COUNT];
-    let mut latest = 0;
-    let mut earliest = NEVER;
+    let mut around = Around {
+        numbers: numbers_of(view.entries),
+        begins: [0; COMPONENT_COUNT],
+        ends: [NEVER; COMPONENT_COUNT],
+        latest: 0,
+        earliest: NEVER,
+    };
     for k in 0..limit {
-        let begun = begin_of_update(index, k as u8, numbers[k]).unwrap_or(0);
-        let ended = end_of_next(index, k as u8, numbers[k]).unwrap_or(NEVER);
-        begins[k] = begun;
-        ends[k] = ended;
-        latest = latest.max(begun);
-        earliest = earliest.min(ended);
+        let begun = begin_of_update(index, k as u8, around.numbers[k]).unwrap_or(0);
+        let ended = end_of_next(index, k as u8, around.numbers[k]).unwrap_or(NEVER);
+        around.begins[k] = begun;
+        around.ends[k] = ended;
+        around.latest = around.latest.max(begun);
+        around.earliest = around.earliest.min(ended);
     }
-    Around {
-        numbers,
-        begins,
-        ends,
-        latest,
-        earliest,
-    }
+    around
 }

@@ -11,6 +11,7 @@ use Rattle.snap_conditions.proofs.around.look_around.Goals as goal
 
 pub loop-k-init : goal.loop-k-init
 loop-k-init c = record {
+  shown = c.numbers_of.ensures;
   begin_size = omega arith;
   end_size = omega arith;
   begins = λ q l. absurd (omega (arith, l));
@@ -25,12 +26,12 @@ pub returns : goal.returns
 returns c = λ r seen.
     let es = c.args.index.now in
     let calls = calls_of es in
-    let numbers : (k : ℕ) → k < 256 → get_or c.numbers_of-numbers.result k 0 ≡ shown_number r k = λ k l. c.numbers_of-numbers.ensures k l ∙ ap (λ z. number_among z k) seen.entries ∙ among_is_shown r k in
-    let begins : (k : ℕ) → k < 256 → get_or c.loop-k.begins k 0 ≡ begin_shown calls r k = λ k l. elim (cases_lt k c.loop-k.k) [
+    let numbers : (k : ℕ) → k < 256 → get_or c.loop-k.around.numbers k 0 ≡ shown_number r k = λ k l. c.loop-k.invariant.shown k l ∙ ap (λ z. number_among z k) seen.entries ∙ among_is_shown r k in
+    let begins : (k : ℕ) → k < 256 → get_or c.loop-k.around.begins k 0 ≡ begin_shown calls r k = λ k l. elim (cases_lt k c.loop-k.k) [
       | inl b ↦ c.loop-k.invariant.begins k b ∙ ap (λ n. begin_or_0 (begin_of (update_of calls k n))) (numbers k l)
       | inr b ↦ c.loop-k.invariant.no_begin k (omega (arith, b)) l ∙ sym (ap (λ o. begin_or_0 (begin_of o)) (none_of_none es c.requires.kept k (shown_number r k) (c.requires.limit.none k (omega (arith, b, c.loop-k-test.false)) l)))
     ] in
-    let ends : (k : ℕ) → k < 256 → get_or c.loop-k.ends k 0 ≡ end_next calls r k = λ k l. elim (cases_lt k c.loop-k.k) [
+    let ends : (k : ℕ) → k < 256 → get_or c.loop-k.around.ends k 0 ≡ end_next calls r k = λ k l. elim (cases_lt k c.loop-k.k) [
       | inl b ↦ c.loop-k.invariant.ends k b ∙ ap (λ n. end_or_never (end_of (update_of calls k (suc n)))) (numbers k l)
       | inr b ↦ c.loop-k.invariant.no_end k (omega (arith, b)) l ∙ sym (ap (λ o. end_or_never (end_of o)) (none_of_none es c.requires.kept k (suc (shown_number r k)) (c.requires.limit.none k (omega (arith, b, c.loop-k-test.false)) l)))
     ] in
