@@ -24,7 +24,7 @@ PARTS = [
     ("csv", [r"snap_csv::rows::next_row"]),
     ("fields", [r"snap_csv::fields::event_of_fields"]),
     ("events", [r"snap_csv::read::push_event"]),
-    ("report", [r"snap_report::text::report_in"]),
+    ("report", [r"snap_verdict::judge::verdict_of"]),
 ]
 
 

@@ -85,6 +85,11 @@ const EACH_FAULT_ONCE: &[(&[u8], u32, &str)] = &[
         "number",
     ),
     (
+        b"event,process,op,data\nbegin,0,update,0:4294967295:1\n",
+        2,
+        "number",
+    ),
+    (
         b"event,process,op,data\nbegin,0,update,0:1:1\nend,0,update,\nbegin,0,update,0:1:1\n",
         4,
         "number",
