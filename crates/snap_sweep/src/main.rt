@@ -38,6 +38,7 @@ fn main(rt: HostRuntime) {
         ("fields", texts::fields(alloc)),
         ("report", texts::report_of_faults(alloc)),
         ("report in memory", texts::report_in_memory(alloc)),
+        ("verdicts alone", texts::verdicts_alone(alloc)),
         ("witness", texts::witness_of_fault(alloc)),
         ("refusal", texts::refusal(alloc)),
         ("verdict", texts::verdict(alloc)),

@@ -7,10 +7,10 @@ use snap_csv::{
     write_history_stamped,
 };
 use snap_index::Index;
-use snap_report::{refusal_text, report, report_in};
+use snap_report::{refusal_text, report, report_in, verdict_text};
 use snap_testing::worked::{CROSSED_VIEWS, STALE_AND_WRONG, VIEW_BESIDE_UPDATE};
 use snap_testing::{Cup, entry, history_of};
-use snap_verdict::{Status, judge_text, verdict_alone, verdict_of};
+use snap_verdict::{Status, brief_verdict_of, judge_text, verdict_alone, verdict_of};
 use snap_witness::witness;
 use std::alloc::{AllocError, Global};
 
@@ -28,6 +28,8 @@ const VIEW_BESIDE_UPDATE_REPORT: &[u8] =
 const CROSSED_VIEWS_REPORT: &[u8] =
     b"events 8 calls 4 pending 0 views 2\nregular yes\nmonotone yes\n\
       atomic no\nread 2 first view 3 view 4 component 0\n";
+
+const CROSSED_VIEWS_VERDICTS: &[u8] = b"regular yes\nmonotone yes\natomic no\n";
 
 const WRONG_ALONE_TEXT: &[u8] =
     b"event,process,op,data\nbegin,0,update,0:1:7\nend,0,update,\nbegin,2,view,\n\
@@ -142,6 +144,17 @@ pub fn report_in_memory(alloc: Global) -> Result<(), Fault> {
     expect(text.as_slice() == CROSSED_VIEWS_REPORT)?;
     let (status, text) = verdict_of(&index, &tally, None, text)?;
     expect(status == Status::Regular && text.as_slice() == CROSSED_VIEWS_REPORT)
+}
+
+/// The lines of the verdicts alone, and then with the status.
+pub fn verdicts_alone(alloc: Global) -> Result<(), Fault> {
+    let history = history_of(alloc, CROSSED_VIEWS)?;
+    let index = Index::build(alloc, &history)?;
+    let tally = tally_range(&index, 0, index.view_count());
+    let text = verdict_text(alloc, &tally)?;
+    expect(text.as_slice() == CROSSED_VIEWS_VERDICTS)?;
+    let (status, text) = brief_verdict_of(alloc, &index, &tally)?;
+    expect(status == Status::Regular && text.as_slice() == CROSSED_VIEWS_VERDICTS)
 }
 
 /// Of a view that misses an update and one that shows a value that nobody wrote, the latter is the witness, with the update.
