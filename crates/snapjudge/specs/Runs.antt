@@ -4,11 +4,11 @@ use Rattle.std.specs.Global.{Vec}
 use Rattle.std.specs.Io.KnownBytes.{Appends, Keeps}
 use Rattle.snap_core.specs.Counting.{Rose}
 use Rattle.snap_core.specs.Sending.{SendsFront}
+use Rattle.snap_csv.specs.Texts.{IsText}
 use Rattle.snapjudge.specs.declared.fault.RunFault.{RunFault}
 use Rattle.snapjudge.specs.declared.fault.RunFault.TheVariants as faults
 use Rattle.snapjudge.specs.declared.reading.Reading.{Reading}
 use Rattle.snapjudge.specs.declared.reading.Reading.TheVariants.{History, Refusal}
-use Rattle.snap_csv.specs.Texts.{IsText}
 use Rattle.snap_verdict.specs.declared.status.Status.{Status}
 use Rattle.snap_verdict.specs.declared.status.Status.TheVariants.{Refused}
 use Rattle.snap_verdict.specs.Reports.{IsRefused, IsReport}
@@ -47,11 +47,6 @@ abbrev pub RunCounts : {A : Type 0} → ℕ → ℕ → ℕ → ℕ → Result A
 RunCounts reader_old reader_new writer_old writer_new (Ok answer) = (reader_new ≡ reader_old) × (writer_new ≡ writer_old)
 RunCounts reader_old reader_new writer_old writer_new (Err fault) = FaultCounts reader_old reader_new writer_old writer_new fault
 
--- what a text is: a history, or none, with the line of its first fault
-abbrev pub Reads : List ℕ → Reading → Type 0
-Reads text (History events) = IsText text events
-Reads text (Refusal line) = IsRefused text Refused line.items
-
 -- the same before anything is written: the answer and what is to go out, or the fault
 
 abbrev pub JudgesBy : {A : Type 0} → (List ℕ → A → List ℕ → Type 0) → Option (List ℕ) → Result (A × Vec ℕ) RunFault → Type 0
@@ -69,3 +64,8 @@ JudgeFaultCounts old new faults.Memory = Unit {0}
 abbrev pub JudgeCounts : {A : Type 0} → ℕ → ℕ → Result A RunFault → Type 0
 JudgeCounts old new (Ok answer) = new ≡ old
 JudgeCounts old new (Err fault) = JudgeFaultCounts old new fault
+
+-- what a text is: a history, or none, with the line of its first fault
+abbrev pub Reads : List ℕ → Reading → Type 0
+Reads text (History events) = IsText text events
+Reads text (Refusal line) = IsRefused text Refused line.items

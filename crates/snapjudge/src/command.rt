@@ -1,8 +1,8 @@
 //! The words that the program takes, and its help.
-ghost use Rattle.std.specs.Prelude.{◌≡◌, IfOk, false};
-ghost use Rattle.clap.specs.Words.{app_of, rule_of};
+ghost use Rattle.std.specs.Prelude.{◌≡◌, IfOk, codes, false};
+ghost use Rattle.clap.specs.Words.{app_of, new_app, rule_of};
 ghost use Rattle.clap.specs.declared.builder.command.Command.TheViews.{out-Command as fields_of};
-ghost use Rattle.snapjudge.specs.CommandLine.{check_app, cutting_app, pieces_rule, program_app, quiet_rule, views_rule, workers_rule};
+ghost use Rattle.snapjudge.specs.CommandLine.{check_app, cutting_app, needs_subcommand, pieces_rule, program_app, quiet_rule, views_rule, workers_rule};
 
 use crate::record_command::record_command;
 use crate::shrink_command::shrink_command;
@@ -11,6 +11,13 @@ use std::alloc::{AllocError, Global};
 
 const ABOUT: &str =
     "Judges a recorded history of a single-writer board: is it regular, is it atomic, and why not?";
+
+const EXAMPLES: &str = "\
+Examples:
+    snapjudge record --rounds 4 > run.csv             record a run of two threads
+    snapjudge check < run.csv                         judge it
+    snapjudge check --quiet --views 1 < run.csv       the verdicts alone, of at least one view
+    snapjudge shrink < run.csv > witness.csv          cut it down to the calls of its first fault";
 
 const CHECK_ABOUT: &str =
     "Reads a history from standard input and writes its report to standard output";
@@ -119,13 +126,21 @@ fn check_command<'a>(alloc: Global) -> Result<Command<'a>, AllocError>
         .arg(views_argument(alloc))
 }
 
+// The program without its commands.
+fn bare_program<'a>(alloc: Global) -> Command<'a>
+    ensures { app_of result ≡ needs_subcommand (new_app (codes "snapjudge")) }
+{
+    Command::new(alloc, "snapjudge")
+        .about(ABOUT)
+        .after_help(EXAMPLES)
+        .subcommand_required(true)
+}
+
 /// The program, with its commands and their options.
 pub fn program<'a>(alloc: Global) -> Result<Command<'a>, AllocError>
     ensures { IfOk result (λ command. app_of command ≡ program_app) }
 {
-    Command::new(alloc, "snapjudge")
-        .about(ABOUT)
-        .subcommand_required(true)
+    bare_program(alloc)
         .subcommand(check_command(alloc)?)?
         .subcommand(shrink_command(alloc))?
         .subcommand(record_command(alloc)?)
