@@ -20,12 +20,15 @@ use snap_account::{BoardRule, ComeIn, GoOut, Hand, LookOver, Size};
 use snap_core::Entry;
 use std::alloc::{AllocError, Global};
 use std::marker::Model;
+use std::thread;
 
 /// A board of atomic words: a clock, and one word for each desk's component.
 #[derive(Drop)]
 pub struct Board {
     pub(crate) table: Table<(), Hand, Size, BoardRule, Global>,
     pub(crate) desks: u8,
+    // whether a desk gives up its turn before each load of a collect
+    pauses: bool,
 }
 
 impl Model for Board {
@@ -61,7 +64,30 @@ impl Board {
             return Err(OpenRefusal::Memory);
         };
         let slots = fresh(desks);
-        Ok((Board { table, desks }, Gathered { seat, desks, slots }))
+        Ok((
+            Board {
+                table,
+                desks,
+                pauses: false,
+            },
+            Gathered { seat, desks, slots },
+        ))
+    }
+
+    /// The same board with pauses: a desk gives up its turn before each load of a collect or a scan, so that the calls of
+    /// several threads overlap. It answers as a board without them may.
+    pub fn with_pauses(mut self) -> Board
+        ensures { result ≡ self }
+    {
+        self.pauses = true;
+        self
+    }
+
+    // Gives up the turn, where the board has pauses.
+    pub(crate) fn pause(&self) {
+        if self.pauses {
+            thread::yield_now();
+        }
     }
 
     /// Hands out the highest desk that is in, with its account as it stands, or nothing where none is in. After a
@@ -135,7 +161,11 @@ impl Board {
             return Err((self, gathered));
         }
         let Gathered { seat, desks, slots } = gathered;
-        let Board { table, desks: _ } = self;
+        let Board {
+            table,
+            desks: _,
+            pauses: _,
+        } = self;
         table.close_with(seat).free();
         let last = last_stores(desks, &slots);
         Ok(Closed { desks, last })

@@ -1,5 +1,5 @@
 -- Plans, and what their scripts leave in a history.
-use Rattle.std.proofs.Common.{◌≡◌, ℕ, zero, suc, ◌+◌, ◌-◌, ◌*◌, ◌<◌, ◌≤◌, ◌&&◌, not, nat_le, nat_lt, Bool, true, false, cond, ◌==◌, inl, inr, if◌then◌else◌, List, [], ◌∷◌, ◌++◌, length, get_or, None, Some, refl, sym, ap, subst, arith, length-append, le-ltb, ◌∙◌, append_assoc, append-nil}
+use Rattle.std.proofs.Common.{◌≡◌, ℕ, zero, suc, ◌+◌, ◌-◌, ◌*◌, ◌<◌, ◌≤◌, ◌&&◌, not, nat_le, nat_lt, Bool, true, false, cond, ◌==◌, if◌then◌else◌, List, [], ◌∷◌, ◌++◌, length, get_or, None, Some, refl, sym, ap, subst, arith, length-append, le-ltb, ◌∙◌, append_assoc, append-nil}
 use native.Mathlib.Decide.{dec_le}
 use Rattle.std.proofs.Math.Nat.{suc-mul}
 use Rattle.std.proofs.lemmas.Bool.{le-leb, ltb-false}
@@ -13,7 +13,7 @@ use Rattle.snap_board.specs.declared.record.Record.{Record}
 use Rattle.snap_board.specs.declared.record.RecordedOp.{RecordedOp}
 use Rattle.snap_board.specs.declared.record.RecordedOp.TheVariants as Kind
 use Rattle.snap_core.specs.Sums.{total}
-use Rattle.snap_record.specs.Choices.{chosen, left_out, LeavesScans, IsScan, views_in, tries_of, one_store, stores_in, stores_but}
+use Rattle.snap_record.specs.Choices.{chosen, left_out, LeavesScans, IsScan, tries_of, one_store, stores_in, stores_but}
 use Rattle.snap_account.specs.declared.account.Account.{Account}
 use Rattle.snap_account.specs.declared.account.Answered.{Answered}
 use Rattle.snap_account.specs.declared.account.Answer.{Answer}
@@ -21,7 +21,6 @@ use Rattle.snap_account.specs.declared.account.Answer.TheVariants.{Stored, Viewe
 use Rattle.snap_account.specs.Calls.{Mem, op_writes, writes_in}
 use Rattle.snap_board.specs.Desks.{op_records, records_at, records_in, lost_in}
 use Rattle.snap_board.proofs.Climbing.{few_tries}
-use Rattle.std.proofs.lemmas.Bool.{eq-eqb}
 use Rattle.snap_board.specs.Regular.{falling}
 use Rattle.snap_account.specs.Rule.{tick_limit}
 use Rattle.snap_record.specs.Plans.{steps_in, plan_refusal, worker_limit, are_workers, each_draws, draws_within, last_step, round_script, rounds_scripts, AreWorkers, AreRounds, IsRun, HasScripts}

@@ -5,7 +5,6 @@ use Rattle.std.specs.declared.alloc.Global.{Global}
 use Rattle.std.proofs.lemmas.List.{get_or_append_left, get_or_push, get_or-set_other}
 use Rattle.std.proofs.lemmas.Bool.Decides.{eqb_tells}
 use Rattle.crossbeam_queue.specs.SegTies.{SegId}
-use Rattle.snap_core.specs.Events.{event_limit}
 use Rattle.snap_core.specs.Sums.{total}
 use Rattle.snap_account.specs.declared.account.Account.{Account}
 use Rattle.snap_board.specs.declared.board.Desk.{Desk}
@@ -18,7 +17,7 @@ use Rattle.snap_board.specs.Desks.{records, records_in, records_at, ticks, lost,
 use Rattle.snap_account.specs.Hands.{answered_of, desk_of, ticks_of}
 use Rattle.snap_record.specs.Plans.{steps_in}
 use Rattle.snap_account.specs.Plays.{only_first}
-use Rattle.snap_record.specs.Recording.{DidTheirs, DidScripts}
+use Rattle.snap_record.specs.Recording.{DidScripts}
 use Rattle.snap_board.specs.Regular.{falling, AllIn}
 use Rattle.snap_board.specs.declared.kept.Kept.{Kept}
 use Rattle.std.proofs.lemmas.Grind.{get_or-set_at}
@@ -29,7 +28,7 @@ use Rattle.snap_record.specs.Workers.{EachAt, IsWorkerOf, IsUnused, AreUnused, H
 use Rattle.snap_record.specs.declared.worker.Recorder.{Recorder}
 use Rattle.snap_record.specs.declared.worker.Worker.{Worker}
 use Rattle.snap_record.specs.declared.worker.Ran.{Ran}
-use Rattle.snap_record.proofs.ByDesk.{total_desks, total_below, total_more}
+use Rattle.snap_record.proofs.ByDesk.{total_desks, total_more}
 use Rattle.snap_board.proofs.Hand.{hand_low}
 use Rattle.snap_record.proofs.Planning.{left_short, steps_each}
 

@@ -40,8 +40,8 @@ pub enum RecordRefusal {
     Memory,
 }
 
-// A board and a relay for so many workers, the board's gathered desks, which are none, a worker for each desk, the highest
-// first, and the relay's taker.
+// A board with pauses and a relay for so many workers, the board's gathered desks, which are none, a worker for each desk,
+// the highest first, and the relay's taker.
 fn start_workers<R: Wait>(
     rt: &R,
     alloc: Global,
@@ -59,7 +59,10 @@ fn start_workers<R: Wait>(
         return Err(AllocError);
     };
     let (relay, mut senders, taker) = Relay::start(rt, alloc, workers)?;
-    let recorder = Recorder { board, relay };
+    let recorder = Recorder {
+        board: board.with_pauses(),
+        relay,
+    };
     let mut all = Vec::new(alloc);
     'places: while let Some(sender) = senders.pop() {
         let Some(desk) = recorder.board.take(alloc, &mut gathered)? else {
@@ -214,10 +217,11 @@ fn tell(
 }
 
 /// Records what the workers of a plan do on a board with a desk for each, each the script of its number. Worker 0 runs on
-/// the calling thread, and so does each other that no thread can be started for. The gate is called as `at(w, t)` when t of worker w's calls
-/// have answered, for t from 0 to the script's length. A worker in which memory is refused ends its script there, and
-/// the answer is then `Memory`. The records come to the calling thread through a relay, so the call may wait for the
-/// relay's queue, as it waits for the workers.
+/// the calling thread, and so does each other that no thread can be started for. A worker gives up its turn before each load
+/// of a collect, so that calls overlap. The gate is called as `at(w, t)` when t of worker w's calls have answered, for t
+/// from 0 to the script's length. A worker in which memory is refused ends its script there, and the answer is then
+/// `Memory`. The records come to the calling thread through a relay, so the call may wait for the relay's queue, as it
+/// waits for the workers.
 ///
 /// The history is regular and monotone and has no pending call, and it is atomic where no script has a collect. Worker w is process w
 /// in it, with the calls of its script in their order, each once, and there is no other call; but scans that were

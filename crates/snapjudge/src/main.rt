@@ -9,6 +9,7 @@ mod check_with;
 mod command;
 mod fault;
 mod job;
+mod pace;
 mod reading;
 mod record_command;
 mod recording;

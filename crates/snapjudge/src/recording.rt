@@ -9,6 +9,7 @@ ghost use Rattle.snap_verdict.specs.declared.status.Status.TheVariants.{Atomic, 
 
 use crate::check::verdict;
 use crate::fault::RunFault;
+use crate::pace::Pace;
 use snap_core::{Counted, Gate, History, OpenGate};
 use snap_csv::{write_history, write_history_stamped};
 use snap_pairs::Cutting;
@@ -172,7 +173,7 @@ pub fn record_rounds<Rt: Threads + Wait + Sync, W: Write>(
         unreachable!()
     };
     let plan = plan_of(alloc, workers, rounds, scan)?;
-    record_run(rt, alloc, &plan, judge, writer, cutting, &OpenGate)
+    record_run(rt, alloc, &plan, judge, writer, cutting, &Pace::of(workers))
 }
 
 /// Records the same rounds, and writes their history with stamps, as `record_run_stamped`.
@@ -189,5 +190,5 @@ pub fn record_rounds_stamped<Rt: Threads + Wait + Sync, W: Write>(
     ensures counts { WriteCounts (failures_in writer.old) (failures_in writer.new) result }
 {
     let plan = plan_of(alloc, workers, rounds, scan)?;
-    record_run_stamped(rt, alloc, &plan, writer, &OpenGate)
+    record_run_stamped(rt, alloc, &plan, writer, &Pace::of(workers))
 }

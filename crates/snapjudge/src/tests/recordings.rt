@@ -1,5 +1,6 @@
 //! Histories that a board's run leaves, and their reports.
 use super::checks::{cutting, end_of, same};
+use crate::pace::Pace;
 use crate::{record_run, record_run_stamped};
 use snap_core::{Counted, Gate, OpenGate};
 use snap_pairs::Cutting;
@@ -185,6 +186,18 @@ fn views_that_wait_for_both_stores_show_both(rt: HostRuntime) -> Result<(), Fail
         8,
         &["end,0,view,0:1:5 1:1:6", "end,1,view,0:1:5 1:1:6"],
     )
+}
+
+#[test]
+fn a_worker_alone_goes_on_at_the_gate_of_two(rt: HostRuntime) -> Result<(), Fail> {
+    let gate = Pace::of(2);
+    for turn in 0..33 {
+        gate.at(0, turn);
+    }
+    let plan = one_round(rt.alloc())?;
+    let (end, text) = record(&rt, rt.alloc(), &plan, false, cutting(8, 2)?, &gate);
+    same(end, "recorded")?;
+    expect_text(&text, 8, &["end,0,update,", "end,1,update,"])
 }
 
 // The recording of a plan fails into each cup with room for less than these bytes, and a front of them is in the cup.

@@ -1,4 +1,4 @@
-use Rattle.std.proofs.Common.{sym, ◌∙◌, ap, subst}
+use Rattle.std.proofs.Common.{◌∙◌, ap}
 use Rattle.snap_record.specs.Relays.{RelayView}
 use Rattle.snap_record.proofs.Planning.{all_short}
 use Rattle.snap_record.proofs.Running.{all_places, did_scripts}

@@ -1,4 +1,4 @@
-use Rattle.std.proofs.Common.{◌≡◌, ◌+◌, suc, [], ◌∷◌, ◌++◌, Option, IfSome, IfNone, length, vec_items, vec_len, rules, arith, sym, ap, ◌∙◌, subst}
+use Rattle.std.proofs.Common.{◌≡◌, ◌+◌, suc, [], ◌∷◌, ◌++◌, true, Option, IfSome, IfNone, length, vec_items, vec_len, rules, arith, sym, ap, ◌∙◌, subst}
 use Rattle.snap_board.specs.declared.board.Desk.{Desk}
 use Rattle.snap_record.specs.declared.worker.Recorder.{Recorder}
 use Rattle.snap_board.specs.Desks.{accounts, IsDeskOf}
@@ -33,7 +33,7 @@ places-preserved g c =
     let others : accounts c.take.new.gathered ≡ but_first (accounts c.places.gathered) = subst (λ (o : Option Desk). IfSome o (λ x. accounts c.take.new.gathered ≡ but_first (accounts c.places.gathered))) c.in-Some-2.is e.others in
     let desk = new_desk d m (accounts c.places.gathered) rest out in
     let front = new_front c.in_ok-relay.relay.queue m (vec_items c.places.senders) (vec_items c.pop.new.self) s (subst (λ n. AreNew c.in_ok-relay.relay.queue n (vec_items c.places.senders)) next i.senders) is in
-    let recorder : Recorder = record { board = c.in-Ok.board; relay = c.in_ok-relay.relay } in
+    let recorder : Recorder = record { board = record c.in-Ok.board { pauses = true }; relay = c.in_ok-relay.relay } in
     let place = ap (λ (x : SenderView). x.place) front.1 in
     record {
       of_board = e.gathered;
