@@ -45,4 +45,4 @@ pub insert_high : (n : ℕ) (a : Account) (hand : List Account) → map (λ (c :
 insert_high n a [] e is = refl
 insert_high zero a (c ∷ hand) e is = absurd (cc)
 insert_high (suc n) a (c ∷ hand) e is =
-    let h = first_desk n c hand e in ap (λ t. cond t (a ∷ c ∷ hand) (cond (c.desk == a.desk) (a ∷ hand) (c ∷ insert a hand))) (lt-ltb c.desk a.desk (omega (arith, h.0)))
+    let h = first_desk n c hand e in ap (λ t. cond t (a ∷ c ∷ hand) (c ∷ insert a hand)) (lt-ltb c.desk a.desk (omega (arith, h.0)))

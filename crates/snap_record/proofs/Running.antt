@@ -7,20 +7,18 @@ use Rattle.std.proofs.lemmas.Bool.Decides.{eqb_tells}
 use Rattle.crossbeam_queue.specs.SegTies.{SegId}
 use Rattle.snap_core.specs.Sums.{total}
 use Rattle.snap_account.specs.declared.account.Account.{Account}
-use Rattle.snap_board.specs.declared.board.Desk.{Desk}
+use Rattle.snap_board.specs.Boards.{DeskView}
 use Rattle.snap_record.specs.declared.plan.Step.{Step}
 use Rattle.snap_board.specs.declared.record.Record.{Record}
 use Rattle.snap_account.specs.Calls.{Mem}
 use Rattle.snap_record.specs.Choices.{views_in}
 use Rattle.snap_record.specs.Delivery.{of_worker, AreBelow}
-use Rattle.snap_board.specs.Desks.{records, records_in, records_at, ticks, lost, lost_in, collects, collects_in}
+use Rattle.snap_board.specs.Desks.{account, records, records_in, records_at, ticks, lost, lost_in, collects, collects_in}
 use Rattle.snap_account.specs.Hands.{answered_of, desk_of, ticks_of}
 use Rattle.snap_record.specs.Plans.{steps_in}
 use Rattle.snap_account.specs.Plays.{only_first}
 use Rattle.snap_record.specs.Recording.{DidScripts}
-use Rattle.snap_board.specs.Regular.{falling, AllIn}
-use Rattle.snap_board.specs.declared.kept.Kept.{Kept}
-use Rattle.std.proofs.lemmas.Grind.{get_or-set_at}
+use Rattle.snap_board.specs.Regular.{falling}
 use Rattle.snap_record.specs.Relays.{SenderView, AreNew, HasPlaces, TookAll}
 use Rattle.snap_account.specs.Rule.{newcomers}
 use Rattle.snap_record.specs.Scripts.{DidSome}
@@ -94,16 +92,10 @@ pub none_new : (m : ℕ) → [] ≡ newcomers (suc m) → ⊥
 none_new m e = cc
 
 -- a desk that comes out of new ones
-pub new_desk : (d : Desk) (m : ℕ) (hand : List Account) → hand ≡ newcomers (suc m) → d.seat.me.0 ≡ only_first hand → (d.desk ≡ m) × (records d ≡ []) × (ticks d ≡ 0) × (lost d ≡ []) × (collects d ≡ 0)
+pub new_desk : (d : DeskView) (m : ℕ) (hand : List Account) → hand ≡ newcomers (suc m) → account d ∷ [] ≡ only_first hand → (d.desk ≡ m) × (records d ≡ []) × (ticks d ≡ 0) × (lost d ≡ []) × (collects d ≡ 0)
 new_desk d m hand is out =
     let first = out ∙ ap only_first is in
-    let calls = ap answered_of first in (
-      sym (ap (λ me. desk_of me.0) d.alone) ∙ ap desk_of first,
-      ap (records_at d.desk) calls,
-      sym (ap (λ me. ticks_of me.0) d.alone) ∙ ap ticks_of first,
-      ap lost_in calls,
-      ap collects_in calls,
-    )
+    let calls = ap answered_of first in (ap desk_of first, ap (records_at d.desk) calls, ap ticks_of first, ap lost_in calls, ap collects_in calls)
 
 -- one more worker gives its desk back
 pub one_done : (scripts : List (List Step)) (accounts : List Account) (senders : List SenderView) (interfered more : ℕ) (s : SenderView) (a : Account) → HaveDone scripts accounts senders interfered
@@ -128,13 +120,6 @@ one_done scripts accounts senders interfered more s a h next place sent did view
   where
     longer : suc (length senders) ≡ length (senders ++ s ∷ [])
     longer = let l = length-append senders (s ∷ []) in omega (arith, l)
-
--- and so one more desk is in
-pub all_in_more : (m : ℕ) (slots new : List (Option Kept)) (d : ℕ) (kept : Kept) → d ≡ m → d < length slots → new ≡ set slots d (Some kept) → AllIn m slots → AllIn (m + 1) new
-all_in_more m slots new d kept is low e all k lt = ⊎_elim
-    (λ q. subst IsSome (sym (ap (λ l. get_or l k None) e ∙ get_or-set_at slots d k (Some kept) None (omega (arith, q.1, is)) low)) refl)
-    (λ q. subst IsSome (sym (ap (λ l. get_or l k None) e ∙ get_or-set_other slots d k (Some kept) None q.1)) (all k (omega (arith, lt, q.1, is))))
-    (eqb_tells k d)
 
 -- with one more script, no more scans have no record than the plan has steps
 pub few_left : (scripts : List (List Step)) (accounts : List Account) (senders : List SenderView) (interfered : ℕ) (rs : List Record) (more : List ℕ) (m : ℕ) → HaveDone scripts accounts senders interfered

@@ -176,6 +176,7 @@ fn run_plan<R: Threads + Wait + Sync, G: Gate>(
     plan: &Plan,
     gate: &G,
 ) -> Result<(Vec<Record>, u32), AllocError>
+    ensures workers { OnOk result (AreWorkers (length plan.now)) }
     ensures did { IfOk result (λ r. DidScripts plan.now r.0.items r.1) }
     ensures short { IfOk result (λ r. 2 * length r.0.items ≤ event_limit) }
 {
@@ -233,7 +234,7 @@ pub fn record_plan<R: Threads + Wait + Sync, G: Gate>(
     plan: &Plan,
     gate: &G,
 ) -> Result<Recording, RecordRefusal>
-    ensures few { OnOk result (length plan.now ≤ 8) }
+    ensures workers { OnOk result (AreWorkers (length plan.now)) }
     ensures regular { IfOk result (λ r. IsRegular (calls_of r.history)) }
     ensures monotone { IfOk result (λ r. IsMonotone (calls_of r.history)) }
     ensures completed { IfOk result (λ r. AllCompleted (calls_of r.history)) }

@@ -27,7 +27,7 @@ fn recorded<Rt: Threads + Wait + Sync, G: Gate>(
     plan: &Plan,
     gate: &G,
 ) -> Result<(History, Vec<u64>), AllocError>
-    ensures few { OnOk result (length plan.now ≤ 8) }
+    ensures workers { OnOk result (AreWorkers (length plan.now)) }
     ensures history { IfOk result (λ r. IsRecordingOf plan.now r.0) }
     ensures stamps { IfOk result (λ r. HasStamps plan.now r.0 r.1.items) }
 {

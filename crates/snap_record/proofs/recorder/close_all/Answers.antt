@@ -3,22 +3,21 @@ use Rattle.std.proofs.lemmas.List.Elements.{All-push}
 use Rattle.std.proofs.lemmas.Result.{IfOk-at_ok}
 use Rattle.snap_account.specs.declared.account.Account.{Account}
 use Rattle.snap_record.specs.declared.worker.Recorder.{Recorder}
-use Rattle.snap_board.specs.Desks.{accounts, lost}
-use Rattle.snap_account.specs.Hands.{idle, answered_of}
-use Rattle.snap_account.specs.Plays.{merge}
+use Rattle.snap_board.specs.Desks.{account, accounts, lost, IsDeskOf, IsGatheredOf}
+use Rattle.snap_board.specs.Boards.{BoardView}
+use Rattle.snap_board.specs.Fields.{board_view}
 use Rattle.snap_record.specs.Relays.{SenderView, IsSenderOf}
 use Rattle.snap_board.specs.declared.record.Record.{Record}
-use Rattle.snap_board.specs.Regular.{AllIn}
 use Rattle.snap_record.specs.Scripts.{DidSome}
 use Rattle.snap_record.specs.Workers.{HaveDone}
 use Rattle.snap_record.proofs.ByDesk.{insert_high}
-use Rattle.snap_record.proofs.Running.{run_last, run_front, one_done, all_in_more, few_left}
+use Rattle.snap_record.proofs.Running.{run_last, run_front, one_done, few_left}
 use Rattle.snap_record.proofs.recorder.close_all.Goals as goal
 
 pub overflow_add-interfered : goal.overflow_add-interfered
 overflow_add-interfered c =
     let i = c.each.invariant in let ran = c.in-Some.ran in let scripts = c.args.plan.now in
-    let recorder : Recorder = record { board = c.args.recorder.board; relay = c.args.recorder.relay } in
+    let recorder : Recorder = record { board = board_view c.board.inside; relay = c.args.recorder.relay } in
     let is : vec_items c.each.rans ≡ vec_items c.pop.new.self ++ ran ∷ [] = search rules in
     let shorter : vec_len c.each.rans ≡ length (vec_items c.pop.new.self) + 1 = search rules in
     let size : length (vec_items c.each.senders) ≡ vec_len c.each.senders = search rules in
@@ -31,14 +30,14 @@ overflow_add-interfered c =
 
 pub give_back-gathered-requires-clause-desk : goal.give_back-gathered-requires-clause-desk
 give_back-gathered-requires-clause-desk c =
-    let recorder : Recorder = record { board = c.args.recorder.board; relay = c.args.recorder.relay } in
+    let recorder : Recorder = record { board = board_view c.board.inside; relay = c.args.recorder.relay } in
     let is : vec_items c.each.rans ≡ vec_items c.pop.new.self ++ c.in-Some.ran ∷ [] = search rules in
-    (run_last recorder c.args.plan.now (vec_items c.each.rans) (vec_items c.pop.new.self) c.in-Some.ran c.each.invariant.ran is).0.worker.0
+    subst (λ (b : BoardView). IsDeskOf b c.in-Some.ran.worker.desk) c.board.view_is (run_last recorder c.args.plan.now (vec_items c.each.rans) (vec_items c.pop.new.self) c.in-Some.ran c.each.invariant.ran is).0.worker.0
 
 pub each-preserved : goal.each-preserved
 each-preserved c =
     let i = c.each.invariant in let ran = c.in-Some.ran in let scripts = c.args.plan.now in
-    let recorder : Recorder = record { board = c.args.recorder.board; relay = c.args.recorder.relay } in
+    let recorder : Recorder = record { board = board_view c.board.inside; relay = c.args.recorder.relay } in
     let d = ran.worker.desk in let s = ran.worker.sender in
     let is : vec_items c.each.rans ≡ vec_items c.pop.new.self ++ ran ∷ [] = search rules in
     let shorter : vec_len c.each.rans ≡ vec_len c.pop.new.self + 1 = search rules in
@@ -48,14 +47,13 @@ each-preserved c =
     let longer : vec_len c.push.new.self ≡ vec_len c.each.senders + 1 = search rules in
     let last = run_last recorder scripts (vec_items c.each.rans) (vec_items c.pop.new.self) ran i.ran is in
     let next : d.desk ≡ length (vec_items c.each.senders) = omega (arith, last.1, i.count, shorter, rest, size) in
-    let a : Account = idle d.desk (answered_of d.seat.me.0) d.kept.ticks in
+    let a : Account = account d in
     let g = c.give_back-gathered.ensures in
     let hand : accounts c.give_back-gathered.result ≡ a ∷ accounts c.each.gathered =
-    g.account ∙ ap (λ me. merge (accounts c.each.gathered) me.0) d.alone ∙ insert_high (length (vec_items c.each.senders)) a (accounts c.each.gathered) i.done.desks next in
-    let low = last.0.worker.0.1 in let eight = c.each.gathered.few.1 in let few = c.args.recorder.board.few.1 in
+    g.account ∙ insert_high (length (vec_items c.each.senders)) a (accounts c.each.gathered) i.done.desks next in
     record {
-      of_board = g.same;
-      inside = subst (λ m. AllIn m c.give_back-gathered.result.slots) (sym longer) (all_in_more (vec_len c.each.senders) c.each.gathered.slots c.give_back-gathered.result.slots d.desk d.kept (next ∙ size) (omega (arith, low, eight, few)) g.slot i.inside);
+      of_board = subst (λ (b : BoardView). IsGatheredOf b c.give_back-gathered.result) (sym c.board.view_is) g.same;
+      inside = omega (arith, g.held, i.inside, longer);
       count = omega (arith, i.count, shorter, longer);
       ran = run_front recorder scripts (vec_items c.each.rans) (vec_items c.pop.new.self) ran i.ran is;
       of_relay = subst (All (IsSenderOf c.args.recorder.relay)) (sym pushed) (All-push (IsSenderOf c.args.recorder.relay) (vec_items c.each.senders) s i.of_relay last.0.worker.1);

@@ -1,16 +1,16 @@
 use Rattle.std.proofs.Common.{◌≡◌, ◌+◌, All, length, vec_items, vec_len}
 use Rattle.snap_board.specs.Desks.{accounts, IsGatheredOf}
-use Rattle.snap_board.specs.Regular.{AllIn}
+use Rattle.snap_board.specs.Fields.{board_view}
 use Rattle.snap_record.specs.Relays.{IsSenderOf}
 use Rattle.snap_record.specs.Workers.{HaveDone, HaveRun}
 use Rattle.snap_record.proofs.recorder.close_all.Given as goal
 
 abbrev pub invariant-each : goal.invariant-each
 invariant-each l = record {
-  of_board : IsGatheredOf l.board l.gathered;
-  inside : AllIn (vec_len l.senders) l.gathered.slots;
+  of_board : IsGatheredOf (board_view l.board-inside) l.gathered;
+  inside : length (accounts l.gathered) ≡ vec_len l.senders;
   count : vec_len l.senders + vec_len l.rans ≡ length l.plan;
-  ran : HaveRun (record { board = l.board; relay = l.relay }) l.plan (vec_items l.rans);
+  ran : HaveRun (record { board = board_view l.board-inside; relay = l.relay }) l.plan (vec_items l.rans);
   of_relay : All (IsSenderOf l.relay) (vec_items l.senders);
   done : HaveDone l.plan (accounts l.gathered) (vec_items l.senders) l.interfered;
 }

@@ -1,4 +1,5 @@
-use Rattle.std.proofs.Common.{◌∙◌, ap}
+use Rattle.std.proofs.Common.{◌∙◌, ap, subst}
+use Rattle.snap_record.specs.Plans.{AreWorkers}
 use Rattle.snap_record.specs.Relays.{RelayView}
 use Rattle.snap_record.proofs.Planning.{all_short}
 use Rattle.snap_record.proofs.Running.{all_places, did_scripts}
@@ -8,6 +9,9 @@ pub take_all-requires-clause-places : goal.take_all-requires-clause-places
 take_all-requires-clause-places g c =
     all_places c.args.plan.now c.in_ok-relay.senders.items c.in_ok-relay.interfered c.in_ok-relay.relay.workers
     (ap (λ (r : RelayView). r.workers) c.in_ok-relay.ensures.relay ∙ c.in_ok-recorder.ensures.relay ∙ c.workers.ensures.workers) c.in_ok-relay.ensures.closed
+
+pub returns-clause-workers : goal.returns-clause-workers
+returns-clause-workers g c = subst AreWorkers c.workers.ensures.workers c.workers.ensures.range
 
 pub returns-clause-did : goal.returns-clause-did
 returns-clause-did g c =

@@ -1,7 +1,7 @@
-use Rattle.std.proofs.Common.{◌≡◌, ◌+◌, suc, [], ◌∷◌, ◌++◌, true, Option, IfSome, IfNone, length, vec_items, vec_len, rules, arith, sym, ap, ◌∙◌, subst}
+use Rattle.std.proofs.Common.{◌≡◌, ◌+◌, suc, [], ◌∷◌, ◌++◌, Option, IfSome, IfNone, length, vec_items, vec_len, rules, arith, sym, ap, ◌∙◌, subst}
 use Rattle.snap_board.specs.declared.board.Desk.{Desk}
 use Rattle.snap_record.specs.declared.worker.Recorder.{Recorder}
-use Rattle.snap_board.specs.Desks.{accounts, IsDeskOf}
+use Rattle.snap_board.specs.Desks.{account, accounts, IsDeskOf}
 use Rattle.snap_account.specs.Plays.{only_first, but_first}
 use Rattle.snap_record.specs.Relays.{SenderView, AreNew}
 use Rattle.snap_account.specs.Rule.{newcomers}
@@ -28,12 +28,12 @@ places-preserved g c =
     let pushed : vec_items c.push.new.self ≡ vec_items c.places.all ++ record { desk = d; sender = s } ∷ [] = search rules in
     let longer : vec_len c.push.new.self ≡ vec_len c.places.all + 1 = search rules in
     let rest = i.rest ∙ ap newcomers next in
-    let out : d.seat.me.0 ≡ only_first (accounts c.places.gathered) = subst (λ (o : Option Desk). IfSome o (λ x. x.seat.me.0 ≡ only_first (accounts c.places.gathered))) c.in-Some-2.is e.account in
-    let of_board : IsDeskOf c.in-Ok.board d = subst (λ (o : Option Desk). IfSome o (λ x. IsDeskOf c.in-Ok.board x)) c.in-Some-2.is e.desk in
+    let out : account d ∷ [] ≡ only_first (accounts c.places.gathered) = subst (λ (o : Option Desk). IfSome o (λ x. account x ∷ [] ≡ only_first (accounts c.places.gathered))) c.in-Some-2.is e.account in
+    let of_board : IsDeskOf c.with_pauses.result d = subst (λ (o : Option Desk). IfSome o (λ x. IsDeskOf c.with_pauses.result x)) c.in-Some-2.is e.desk in
     let others : accounts c.take.new.gathered ≡ but_first (accounts c.places.gathered) = subst (λ (o : Option Desk). IfSome o (λ x. accounts c.take.new.gathered ≡ but_first (accounts c.places.gathered))) c.in-Some-2.is e.others in
     let desk = new_desk d m (accounts c.places.gathered) rest out in
     let front = new_front c.in_ok-relay.relay.queue m (vec_items c.places.senders) (vec_items c.pop.new.self) s (subst (λ n. AreNew c.in_ok-relay.relay.queue n (vec_items c.places.senders)) next i.senders) is in
-    let recorder : Recorder = record { board = record c.in-Ok.board { pauses = true }; relay = c.in_ok-relay.relay } in
+    let recorder : Recorder = record { board = c.with_pauses.result; relay = c.in_ok-relay.relay } in
     let place = ap (λ (x : SenderView). x.place) front.1 in
     record {
       of_board = e.gathered;
