@@ -40,13 +40,17 @@ pub(crate) fn look_around(index: &Index<'_>, view: &SeenView<'_>, limit: usize) 
         latest: 0,
         earliest: NEVER,
     };
+    let mut latest = 0;
+    let mut earliest = NEVER;
     for k in 0..limit {
         let begun = begin_of_update(index, k as u8, around.numbers[k]).unwrap_or(0);
         let ended = end_of_next(index, k as u8, around.numbers[k]).unwrap_or(NEVER);
         around.begins[k] = begun;
         around.ends[k] = ended;
-        around.latest = around.latest.max(begun);
-        around.earliest = around.earliest.min(ended);
+        latest = latest.max(begun);
+        earliest = earliest.min(ended);
     }
+    around.latest = latest;
+    around.earliest = earliest;
     around
 }

@@ -13,6 +13,6 @@ invariant-loop-k l = record {
   ends : (q : ℕ) → q < l.k → get_or l.around.ends q 0 ≡ end_or_never (end_of (update_of (calls_of l.index) q (suc (get_or l.around.numbers q 0))));
   no_begin : (q : ℕ) → l.k ≤ q → q < 256 → get_or l.around.begins q 0 ≡ 0;
   no_end : (q : ℕ) → l.k ≤ q → q < 256 → get_or l.around.ends q 0 ≡ 4294967295;
-  latest : (q : ℕ) → q < 256 → get_or l.around.begins q 0 ≤ l.around.latest;
-  earliest : (q : ℕ) → q < 256 → l.around.earliest ≤ get_or l.around.ends q 0;
+  latest : (q : ℕ) → q < 256 → get_or l.around.begins q 0 ≤ l.latest;
+  earliest : (q : ℕ) → q < 256 → l.earliest ≤ get_or l.around.ends q 0;
 }
