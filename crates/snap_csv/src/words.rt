@@ -10,7 +10,7 @@ use snap_core::Entry;
 pub const ENTRY_SIZE: usize = 25;
 
 /// Writes a text so that it ends at a place, and says where it begins.
-#[inline]
+#[inline(always)]
 pub fn write_text(text: &[u8], buffer: &mut [u8], end: usize) -> usize
     requires room { length text.now ≤ end }
     requires within { end ≤ length buffer.old }
@@ -24,7 +24,7 @@ pub fn write_text(text: &[u8], buffer: &mut [u8], end: usize) -> usize
 }
 
 /// Writes a text and behind it a number, so that they end at a place, and says where they begin.
-#[inline]
+#[inline(always)]
 pub fn write_number(text: &[u8], number: u64, buffer: &mut [u8], end: usize) -> usize
     requires room { length text.now + length (decimal number) ≤ end }
     requires within { end ≤ length buffer.old }
@@ -37,7 +37,7 @@ pub fn write_number(text: &[u8], number: u64, buffer: &mut [u8], end: usize) -> 
 }
 
 /// Writes a text and behind it an entry, so that they end at a place, and says where they begin.
-#[inline]
+#[inline(always)]
 pub fn write_entry(text: &[u8], entry: &Entry, buffer: &mut [u8], end: usize) -> usize
     requires room { length text.now + ENTRY_SIZE ≤ end }
     requires within { end ≤ length buffer.old }
