@@ -9,3 +9,4 @@ pub mod Planning
 pub mod Running
 pub mod Whole
 pub mod Telling
+pub mod Narrow

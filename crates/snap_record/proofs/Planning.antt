@@ -1,7 +1,7 @@
 -- Plans, and what their scripts leave in a history.
 use Rattle.std.proofs.Common.{◌≡◌, ℕ, zero, suc, ◌+◌, ◌-◌, ◌*◌, ◌<◌, ◌≤◌, ◌&&◌, not, nat_le, nat_lt, Bool, true, false, cond, ◌==◌, if◌then◌else◌, List, [], ◌∷◌, ◌++◌, length, get_or, None, Some, refl, sym, ap, subst, arith, length-append, le-ltb, ◌∙◌, append_assoc, append-nil}
 use native.Mathlib.Decide.{dec_le}
-use Rattle.std.proofs.Math.Nat.{suc-mul}
+use Rattle.std.proofs.Math.Nat.{suc-mul, mul-le-mul_right}
 use Rattle.std.proofs.lemmas.Bool.{le-leb, ltb-false}
 use Rattle.snap_core.specs.declared.event.Event.{Event}
 use Rattle.snap_core.specs.Events.{event_limit, events_of}
@@ -83,14 +83,15 @@ rounds_draw scan (suc w) r le rest e =
     ∙ rounds_draw scan w r le (round_script scan w r ∷ rest) (let x = round_within scan w r le in λ k. x k && e k)
 
 -- so many workers and rounds are a plan
-pub rounds_fit : (scan : Bool) (w r : ℕ) → AreWorkers w → AreRounds w r → plan_refusal (rounds_scripts scan w r) ≡ None
+pub rounds_fit : (scan : Bool) (w r : ℕ) → AreWorkers w → AreRounds r → plan_refusal (rounds_scripts scan w r) ≡ None
 rounds_fit scan w r few le =
     let steps = rounds_steps scan w r in
     let lists = rounds_length scan w r in
     let draws = ap each_draws (sym (append-nil (rounds_scripts scan w r))) ∙ rounds_draw scan w r le.1 [] refl in
+    let most = mul-le-mul_right (4 * r) few.1 in
     let low = le-leb 2 (length (rounds_scripts scan w r)) (omega (arith, few.0, lists)) in
     let high = le-leb (length (rounds_scripts scan w r)) worker_limit (omega (arith, few.1, lists)) in
-    let fits = le-ltb event_limit (2 * steps_in (rounds_scripts scan w r)) (omega (arith, steps, le.2)) in
+    let fits = le-ltb event_limit (2 * steps_in (rounds_scripts scan w r)) (omega (arith, steps, most, le.1)) in
     λ k. if not (low k && high k) then Some Workers else if fits k then Some TooLong else if draws k then None else Some TooLong
 
 accepted_by : (few long draws : Bool) → (if not few then Some Workers else if long then Some TooLong else if draws then None else Some TooLong) ≡ None → (long ≡ false) × (draws ≡ true)

@@ -1,3 +1,4 @@
+pub use Rattle.snap_account.specs.Calls
 pub use Rattle.snap_account.specs.Rule
 pub use Rattle.snap_account.specs.Plays
 pub use Rattle.snap_board.specs.Boards

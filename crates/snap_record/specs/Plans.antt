@@ -72,15 +72,15 @@ rounds_scripts scan (suc w) rounds = rounds_scripts scan w rounds ++ round_scrip
 abbrev pub AreWorkers : ℕ → Type 0
 AreWorkers n = (2 ≤ n) × (n ≤ worker_limit)
 
--- 1 to 2,048 rounds, and in each two calls of each worker, which fit into a history
-abbrev pub AreRounds : ℕ → ℕ → Type 0
-AreRounds workers rounds = (0 < rounds) × (rounds ≤ 2048) × (workers * (4 * rounds) ≤ event_limit)
+-- 1 to 2,048 rounds: two calls of each worker in each fit into a history
+abbrev pub AreRounds : ℕ → Type 0
+AreRounds rounds = (0 < rounds) × (rounds ≤ 2048)
 
 -- why there is no plan of so many workers and rounds
 abbrev pub IsRoundsRefusal : ℕ → ℕ → PlanRefusal → Type 0
 IsRoundsRefusal workers rounds Workers = AreWorkers workers → ⊥
-IsRoundsRefusal workers rounds TooLong = AreWorkers workers × (AreRounds workers rounds → ⊥)
-IsRoundsRefusal workers rounds Memory = AreWorkers workers × AreRounds workers rounds
+IsRoundsRefusal workers rounds TooLong = AreWorkers workers × (AreRounds rounds → ⊥)
+IsRoundsRefusal workers rounds Memory = AreWorkers workers × AreRounds rounds
 
 -- the events of a process that did each step of a script once, in its order, on component w
 abbrev pub IsRun : ℕ → List Step → List Event → Type 0

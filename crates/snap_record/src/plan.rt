@@ -175,12 +175,11 @@ fn round_steps(alloc: Global, worker: u32, rounds: u32, scan: bool) -> Result<Ve
     Ok(steps)
 }
 
-// Whether so many workers, at most 8, may have so many rounds.
-fn are_rounds(workers: u32, rounds: u32) -> bool
-    requires { workers ≤ worker_limit }
-    ensures { IsTrue result ↔ AreRounds workers rounds }
+// Whether there may be so many rounds.
+fn are_rounds(rounds: u32) -> bool
+    ensures { IsTrue result ↔ AreRounds rounds }
 {
-    0 < rounds && rounds <= ROUND_LIMIT && workers * (4 * rounds) <= EVENT_LIMIT as u32
+    0 < rounds && rounds <= ROUND_LIMIT
 }
 
 // The scripts of so many workers in so many rounds.
@@ -201,8 +200,7 @@ fn round_lists(
 }
 
 /// The plan of 2 to 8 workers in 1 to 2,048 rounds, in each of which a worker makes two calls. In round i, counted from 1,
-/// worker w stores w * 65,536 + i and then collects, or scans with 64 tries. `TooLong` also where a history has no room
-/// for so many calls.
+/// worker w stores w * 65,536 + i and then collects, or scans with 64 tries.
 pub fn rounds_plan(
     alloc: Global,
     workers: u32,
@@ -210,13 +208,13 @@ pub fn rounds_plan(
     scan: bool,
 ) -> Result<Plan, PlanRefusal>
     ensures ok { IfOk result (λ plan. plan ≡ rounds_scripts scan workers rounds) }
-    ensures range { OnOk result (AreWorkers workers × AreRounds workers rounds) }
+    ensures range { OnOk result (AreWorkers workers × AreRounds rounds) }
     ensures refused { IfErr result (IsRoundsRefusal workers rounds) }
 {
     if !are_workers(workers as usize) {
         return Err(PlanRefusal::Workers);
     }
-    if !are_rounds(workers, rounds) {
+    if !are_rounds(rounds) {
         return Err(PlanRefusal::TooLong);
     }
     match round_lists(alloc, workers, rounds, scan) {

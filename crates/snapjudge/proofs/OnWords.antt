@@ -99,7 +99,7 @@ record_alone name = (
   refl,
   record {
     workers_fit = (omega arith, omega arith);
-    rounds_fit = (omega arith, omega arith, omega arith);
+    rounds_fit = (omega arith, omega arith);
     one_output = λ _. refl;
     workers_are = ap Some (sym two_text);
     rounds_are = ap Some (sym sixteen_text);
@@ -121,7 +121,7 @@ record_judged name = (
   refl,
   record {
     workers_fit = (omega arith, omega arith);
-    rounds_fit = (omega arith, omega arith, omega arith);
+    rounds_fit = (omega arith, omega arith);
     one_output = λ _. refl;
     workers_are = ap Some (sym two_text);
     rounds_are = ap Some (sym five_text);
@@ -143,7 +143,7 @@ record_scanned name = (
   refl,
   record {
     workers_fit = (omega arith, omega arith);
-    rounds_fit = (omega arith, omega arith, omega arith);
+    rounds_fit = (omega arith, omega arith);
     one_output = λ _. refl;
     workers_are = ap Some (sym two_text);
     rounds_are = ap Some (sym sixteen_text);
@@ -165,7 +165,7 @@ record_stamped name = (
   refl,
   record {
     workers_fit = (omega arith, omega arith);
-    rounds_fit = (omega arith, omega arith, omega arith);
+    rounds_fit = (omega arith, omega arith);
     one_output = λ judged. absurd (false≢true judged);
     workers_are = ap Some (sym two_text);
     rounds_are = ap Some (sym sixteen_text);

@@ -7,11 +7,11 @@ use Rattle.snapjudge.specs.declared.job.Job.{Job}
 use Rattle.snapjudge.specs.declared.job.Job.TheVariants.{Check, Shrink, Record}
 use Rattle.snapjudge.specs.declared.check_with.CheckOptions.{CheckOptions}
 
--- the numbers of a job are in their ranges, a recording's calls fit into a history, and no report is asked for with stamps
+-- the numbers of a job are in their ranges, and no report is asked for with stamps
 abbrev pub IsInRange : Job → Type 0
 IsInRange (Check cutting options) = IsPieces cutting.pieces × IsWorkers cutting.workers
 IsInRange Shrink = Unit {0}
-IsInRange (Record workers rounds judge scan stamped) = AreWorkers workers × AreRounds workers rounds × (judge ≡ true → stamped ≡ false)
+IsInRange (Record workers rounds judge scan stamped) = AreWorkers workers × AreRounds rounds × (judge ≡ true → stamped ≡ false)
 
 -- a check with so many pieces and workers, and with these options
 abbrev pub IsCheckWith : ℕ → ℕ → CheckOptions → Job → Type 0
@@ -67,7 +67,7 @@ pub record AsksCheck (rows : List Row) (pieces : ℕ) (workers : ℕ) (options :
 -- not a report with stamps
 pub record AsksRecord (rows : List Row) (workers rounds : ℕ) (flags : Flags) : Type 0 where
   pub workers_fit : AreWorkers workers
-  pub rounds_fit : AreRounds workers rounds
+  pub rounds_fit : AreRounds rounds
   pub one_output : flags.judge ≡ true → flags.stamped ≡ false
   pub workers_are : one_of (codes "workers") rows ≡ Some (decimal workers)
   pub rounds_are : one_of (codes "rounds") rows ≡ Some (decimal rounds)

@@ -12,7 +12,7 @@ use Rattle.snap_core.specs.Regular.{IsRegular}
 use Rattle.snap_core.specs.Sending.{SendsFront}
 use Rattle.snap_csv.specs.Spelling.{history_text, stamped_text}
 use Rattle.snap_record.specs.declared.plan.Step.{Step}
-use Rattle.snap_board.specs.History.{AllCompleted}
+use Rattle.snap_record.specs.History.{AllCompleted}
 use Rattle.snap_record.specs.Plans.{HasScripts, HasWholeScripts, HasNoScans, HasNoViews}
 use Rattle.snap_record.specs.Recording.{AreStamped}
 use Rattle.snapjudge.specs.declared.fault.RunFault.{RunFault}

@@ -103,7 +103,7 @@ fn views_argument<'a>(alloc: Global) -> Arg<'a>
         .long("views")
         .value_name("N")
         .help("How many completed views the history must have, from 0 to 32768")
-        .value_parser(clap::value_parser!(u32).range(0..8193))
+        .value_parser(clap::value_parser!(u32).range(0..32769))
         .default_value("0")
 }
 

@@ -8,7 +8,6 @@ use crate::check_with::CheckOptions;
 use crate::command::program;
 use clap::error::ErrorKind;
 use clap::{ArgMatches, Error};
-use snap_core::EVENT_LIMIT;
 use snap_pairs::Cutting;
 use std::alloc::{AllocError, Global};
 
@@ -100,9 +99,6 @@ fn record_in(matches: &ArgMatches<'_>) -> Option<Job>
     if workers < 2 || workers > 8 || rounds == 0 || rounds > 2048 {
         return None;
     }
-    if workers * (4 * rounds) > EVENT_LIMIT as u32 {
-        return None;
-    }
     Some(Job::Record {
         workers,
         rounds,
@@ -172,7 +168,7 @@ pub fn job_of(alloc: Global, words: Vec<String>) -> Result<Job, JobFault>
             // The parser tests each number by itself, but not two numbers or two flags beside one another.
             None => Err(JobFault::Usage(String::from_str(
                 alloc,
-                "error: '--judge' cannot be used with '--stamped', nor so many rounds with so many workers that a history has no room for their calls\n",
+                "error: the argument '--judge' cannot be used with '--stamped'\n",
             )?)),
         },
     }

@@ -144,7 +144,7 @@ pub fn record_run_stamped<Rt: Threads + Wait + Sync, W: Write, G: Gate>(
 
 // So many workers in so many rounds of a store and a view each, or a scan in place of the view.
 fn plan_of(alloc: Global, workers: u32, rounds: u32, scan: bool) -> Result<Plan, AllocError>
-    requires { AreWorkers workers × AreRounds workers rounds }
+    requires { AreWorkers workers × AreRounds rounds }
     ensures { IfOk result (λ plan. plan ≡ rounds_scripts scan workers rounds) }
 {
     match rounds_plan(alloc, workers, rounds, scan) {
@@ -165,7 +165,7 @@ pub fn record_rounds<Rt: Threads + Wait + Sync, W: Write>(
     scan: bool,
     writer: &mut Counted<W>,
 ) -> Result<Status, RunFault>
-    requires { AreWorkers workers × AreRounds workers rounds }
+    requires { AreWorkers workers × AreRounds rounds }
     ensures wrote { WroteAs (IsRecorded judge (rounds_scripts scan workers rounds)) (W.contents (inner_of writer.old)) (W.contents (inner_of writer.new)) result }
     ensures counts { WriteCounts (failures_in writer.old) (failures_in writer.new) result }
 {
@@ -185,7 +185,7 @@ pub fn record_rounds_stamped<Rt: Threads + Wait + Sync, W: Write>(
     scan: bool,
     writer: &mut Counted<W>,
 ) -> Result<Status, RunFault>
-    requires { AreWorkers workers × AreRounds workers rounds }
+    requires { AreWorkers workers × AreRounds rounds }
     ensures wrote { WroteAs (IsStampedRecording (rounds_scripts scan workers rounds)) (W.contents (inner_of writer.old)) (W.contents (inner_of writer.new)) result }
     ensures counts { WriteCounts (failures_in writer.old) (failures_in writer.new) result }
 {

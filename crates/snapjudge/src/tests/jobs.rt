@@ -179,7 +179,7 @@ const OTHER_LINES: &[&str] = &[
     "snapjudge check --stamped",
     "snapjudge check --scan",
     "snapjudge check --views",
-    "snapjudge check --views 8193",
+    "snapjudge check --views 32769",
     "snapjudge check --views -1",
     "snapjudge check --quiet=yes",
     "snapjudge shrink more",
