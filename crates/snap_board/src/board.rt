@@ -27,7 +27,7 @@ use std::thread;
 pub struct Board {
     pub(crate) table: Table<(), Hand, Size, BoardRule, Global>,
     pub(crate) desks: u8,
-    // whether a desk gives up its turn before each load of a collect
+    // whether a desk gives up its turn before the last load of a collect
     pauses: bool,
 }
 
@@ -74,7 +74,7 @@ impl Board {
         ))
     }
 
-    /// The same board with pauses: a desk gives up its turn before each load of a collect or a scan, so that the calls of
+    /// The same board with pauses: a desk gives up its turn before the last load of each collect, so that the calls of
     /// several threads overlap. It answers as a board without them may.
     pub fn with_pauses(mut self) -> Board
         ensures { result ≡ self }

@@ -112,7 +112,9 @@ impl Board {
         ensures room { self.now.desks ≤ vec_capacity words.new }
     {
         'words: for k in 0..self.desks {
-            self.pause();
+            if k + 1 == self.desks {
+                self.pause();
+            }
             let word = self.table.shared.load::<ReadWord>(seat, usize::from(k) + 1);
             words.push_reserved(word);
         }

@@ -156,7 +156,7 @@ impl Gate for HeldAtTheFirst {
     fn at(&self, worker: u32, turn: u32) {
         match (worker, turn) {
             (0, 0) => self.third.wait_for(1),
-            (1, 2) => self.third.come(),
+            (1, 2) => self.third.come(1),
             _ => {}
         }
     }

@@ -218,7 +218,7 @@ fn tell(
 }
 
 /// Records what the workers of a plan do on a board with a desk for each, each the script of its number. Worker 0 runs on
-/// the calling thread, and so does each other that no thread can be started for. A worker gives up its turn before each load
+/// the calling thread, and so does each other that no thread can be started for. A worker gives up its turn before the last load
 /// of a collect, so that calls overlap. The gate is called as `at(w, t)` when t of worker w's calls have answered, for t
 /// from 0 to the script's length. A worker in which memory is refused ends its script there, and the answer is then
 /// `Memory`. The records come to the calling thread through a relay, so the call may wait for the relay's queue, as it

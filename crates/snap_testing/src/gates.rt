@@ -6,9 +6,10 @@ use std::thread;
 // How often a wait looks before it gives up.
 const TURNS: u32 = 100_000_000;
 
-/// Counts those who came, and those who waited in vain for others to come.
+/// Tells who came, and counts those who waited in vain for others to come.
 #[derive(Drop)]
 pub struct Arrivals {
+    // a bit for each who came
     came: AtomicU64,
     missed: AtomicU64,
 }
@@ -22,15 +23,20 @@ impl Arrivals {
         }
     }
 
-    /// One more has come.
-    pub fn come(&self) {
-        self.came.fetch_add(1, Ordering::SeqCst);
+    /// The one with this number, below 64, has come.
+    pub fn come(&self, number: u32) {
+        self.came.fetch_or(1 << (number % 64), Ordering::SeqCst);
+    }
+
+    // How many have come: who comes twice is counted once.
+    fn count(&self) -> u32 {
+        self.came.load(Ordering::SeqCst).count_ones()
     }
 
     /// Waits until so many have come, for 100,000,000 turns at most.
-    pub fn wait_for(&self, least: u64) {
+    pub fn wait_for(&self, least: u32) {
         for _ in 0..TURNS {
-            if self.came.load(Ordering::SeqCst) >= least {
+            if self.count() >= least {
                 return;
             }
             thread::yield_now();
@@ -39,15 +45,15 @@ impl Arrivals {
     }
 
     /// Whether just so many came, and no wait was in vain.
-    pub fn were(&self, number: u64) -> bool {
-        self.came.load(Ordering::SeqCst) == number && self.missed.load(Ordering::SeqCst) == 0
+    pub fn were(&self, number: u32) -> bool {
+        self.count() == number && self.missed.load(Ordering::SeqCst) == 0
     }
 }
 
-/// A gate at one turn of which each worker waits until all have come.
+/// A gate at one turn of which each worker waits until all have come, each another.
 #[derive(Drop)]
 pub struct Meeting {
-    pub workers: u64,
+    pub workers: u32,
     pub turn: u32,
     pub arrivals: Arrivals,
 }
@@ -59,7 +65,7 @@ impl Meeting {
     }
 
     /// A gate for so many workers who meet at a turn.
-    pub fn of(workers: u64, turn: u32) -> Meeting {
+    pub fn of(workers: u32, turn: u32) -> Meeting {
         Meeting {
             workers,
             turn,
@@ -74,9 +80,9 @@ impl Meeting {
 }
 
 impl Gate for Meeting {
-    fn at(&self, _worker: u32, turn: u32) {
+    fn at(&self, worker: u32, turn: u32) {
         if turn == self.turn {
-            self.arrivals.come();
+            self.arrivals.come(worker);
             self.arrivals.wait_for(self.workers);
         }
     }
