@@ -57,15 +57,15 @@ fn four_fields(
     event: &[u8],
     process: u16,
     op: &[u8],
-    data: Vec<u8>,
+    content: Vec<u8>,
 ) -> Result<[Vec<u8>; 4], AllocError>
-    ensures { IfOk result (λ fields. map (λ f. f.items) fields ≡ event.now ∷ decimal process ∷ op.now ∷ data.items ∷ []) }
+    ensures { IfOk result (λ fields. map (λ f. f.items) fields ≡ event.now ∷ decimal process ∷ op.now ∷ content.items ∷ []) }
 {
     Ok([
         Vec::from_slice(alloc, event)?,
         process_field(alloc, process)?,
         Vec::from_slice(alloc, op)?,
-        data,
+        content,
     ])
 }
 
