@@ -8,7 +8,7 @@ complete -c snapjudge -n '__fish_seen_subcommand_from check' -x -l workers -d 'T
 complete -c snapjudge -n '__fish_seen_subcommand_from check' -l quiet -d 'Write the verdicts alone'
 complete -c snapjudge -n '__fish_seen_subcommand_from check' -x -l views -d 'Views that there must be, 0 to 32768'
 complete -c snapjudge -n '__fish_seen_subcommand_from record' -f
-complete -c snapjudge -n '__fish_seen_subcommand_from record' -x -l workers -d Threads
+complete -c snapjudge -n '__fish_seen_subcommand_from record' -x -l workers -d 'Threads, 2 to 8'
 complete -c snapjudge -n '__fish_seen_subcommand_from record' -x -l rounds -d 'Rounds, 1 to 2048'
 complete -c snapjudge -n '__fish_seen_subcommand_from record' -l scan -d 'Scans in place of collects'
 complete -c snapjudge -n '__fish_seen_subcommand_from record' -l judge -d 'Write the report'
