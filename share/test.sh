@@ -81,7 +81,8 @@ expect_said "the reason" "refused: fewer than 3 views"
 expect "more views than one of two files has" 3 "$named_inversion" ./second check --views 2 old.csv "a b.csv"
 expect_said "the file and the reason" "a b.csv: refused: fewer than 2 views"
 
-# What is left of each example: all of it, but for a stale view behind whose back a value was shown that nobody wrote.
+# What is left of each example: all of it, but for a stale view behind whose back a value was shown that nobody wrote, and for
+# the calls of a recorded run that its first fault does not need.
 for history in "$examples"/*.csv; do
   name=${history##*/}
   left=$(cat "$history" && printf .)
@@ -95,6 +96,22 @@ begin,0,update,0:1:7
 end,0,update,
 begin,2,view,
 end,2,view,0:1:9
+." ;;
+    recorded-[12].*) status=1 left="event,process,op,data
+begin,1,view,
+begin,0,update,0:1:1
+end,0,update,
+begin,2,update,2:1:131074
+end,2,update,
+end,1,view,2:1:131074
+." ;;
+    recorded-3.*) status=1 left="event,process,op,data
+begin,2,view,
+begin,0,update,0:1:1
+end,0,update,
+begin,1,update,1:1:65537
+end,1,update,
+end,2,view,1:1:65537
 ." ;;
     *) status=2 ;;
   esac
