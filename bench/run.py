@@ -10,6 +10,7 @@ compared byte for byte. PROGRAM is called as `PROGRAM check`, with the history o
 The first row is of a process that does nothing.
 """
 import argparse
+import filecmp
 import os
 import subprocess
 import sys
@@ -40,7 +41,8 @@ def run(words, history, report):
 
 
 def measure(programs, history, room, repeats):
-    """Of each program the status, the least milliseconds by the clock and of user time, the peak memory and the report."""
+    """Of each program the status, the least milliseconds by the clock and of user time, the peak memory, and whether its report
+    is that of the first."""
     reports = [os.path.join(room, f"report{i}") for i in range(len(programs))]
     runs = [[] for _ in programs]
     for _ in range(repeats):
@@ -48,8 +50,8 @@ def measure(programs, history, room, repeats):
             runs[i].append(run(words, history, reports[i]))
     seen = []
     for i, done in enumerate(runs):
-        with open(reports[i], "rb") as report:
-            seen.append((done[0][0], min(ms for _, ms, _, _ in done), min(user for _, _, user, _ in done), max(peak for *_, peak in done), report.read()))
+        same = filecmp.cmp(reports[0], reports[i], shallow=False)
+        seen.append((done[0][0], min(ms for _, ms, _, _ in done), min(user for _, _, user, _ in done), max(peak for *_, peak in done), same))
     return seen
 
 
@@ -74,7 +76,7 @@ def main():
             with open(history, "wb") as text:
                 subprocess.run([sys.executable, os.path.join(HERE, "generate.py"), kind, str(events), str(components)], stdout=text, check=True)
             alone, both, *other = measure(programs, history, room, asked.repeats)
-            same = "same" if all(seen[-1] == alone[-1] and seen[0] == alone[0] for seen in [both, *other]) else "DIFFERENT"
+            same = "same" if all(seen[-1] and seen[0] == alone[0] for seen in [both, *other]) else "DIFFERENT"
             told = f"{other[0][1]:.1f} | {min(alone[1], both[1]) / other[0][1]:.1f}" if other else "- | -"
             print(f"| {kind} | {events} | {components} | {os.path.getsize(history)} | {alone[0]} | {alone[1]:.1f} | {alone[2]:.1f} | {both[1]:.1f} | {both[1] / alone[1]:.2f} | {max(alone[3], both[3]):.0f} | {told} | {same} |", flush=True)
 
