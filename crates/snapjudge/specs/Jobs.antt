@@ -5,7 +5,7 @@ use Rattle.snap_pairs.specs.Cuttings.{IsPieces, IsWorkers}
 use Rattle.snap_record.specs.Plans.{AreWorkers, AreRounds}
 use Rattle.snapjudge.specs.declared.job.Job.{Job}
 use Rattle.snapjudge.specs.declared.job.Job.TheVariants.{Check, Shrink, Record}
-use Rattle.snapjudge.specs.declared.check_with.CheckOptions.{CheckOptions}
+use Rattle.snap_runs.specs.declared.check_with.CheckOptions.{CheckOptions}
 
 -- the numbers of a job are in their ranges, and no report is asked for with stamps
 abbrev pub IsInRange : Job → Type 0

@@ -1,6 +1,2 @@
 pub mod CommandLine
 pub mod Jobs
-pub mod Options
-pub mod Runs
-pub mod Shrinking
-pub mod RecordRuns

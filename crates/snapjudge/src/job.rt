@@ -2,13 +2,13 @@
 ghost use Rattle.std.specs.Prelude.{◌≡◌, ◌<◌, ◌^◌, ◌∷◌, [], ℕ, Bool, List, Some, None, true, false, codes, decimal, IfOk, IfSome, IsSomeAnd, MatchResult, map, string_bytes};
 ghost use Rattle.clap.specs.Words.{Row, found_of, kind_of, one_of, rows_of, subcommand_rows_of};
 ghost use Rattle.snapjudge.specs.Jobs.{AsksCheck, AsksRecord, Flags, IsCheck, IsCheckWith, IsInRange, IsRecord, IsShrink, flag_text, no_flags, no_options};
-ghost use Rattle.snapjudge.specs.declared.check_with.CheckOptions.{CheckOptions as Options};
+ghost use Rattle.snap_runs.specs.declared.check_with.CheckOptions.{CheckOptions as Options};
 
-use crate::check_with::CheckOptions;
 use crate::command::program;
 use clap::error::ErrorKind;
 use clap::{ArgMatches, Error};
 use snap_pairs::Cutting;
+use snap_runs::CheckOptions;
 use std::alloc::{AllocError, Global};
 
 /// What the program is asked to do.

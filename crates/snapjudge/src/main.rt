@@ -4,28 +4,21 @@
 ghost use Rattle.std.specs.Prelude.{IfOk};
 ghost use Rattle.snapjudge.specs.Jobs.{IsInRange};
 
-mod check;
-mod check_with;
 mod command;
-mod fault;
 mod job;
 mod pace;
-mod reading;
 mod record_command;
-mod recording;
-mod shrink;
+mod rounds;
 mod shrink_command;
 
-pub use check::check_run;
-pub use check_with::{CheckOptions, check_run_with};
-pub use fault::RunFault;
 pub use job::{Job, JobFault, job_of};
-use recording::{record_rounds, record_rounds_stamped};
-pub use recording::{record_run, record_run_stamped};
-pub use shrink::shrink_run;
+use rounds::{record_rounds, record_rounds_stamped};
 use snap_core::{Counted, OpenGate};
 use snap_pairs::Cutting;
-pub use snap_verdict::Status;
+pub use snap_runs::{
+    CheckOptions, RunFault, Status, check_run, check_run_with, record_run, record_run_stamped,
+    shrink_run,
+};
 use std::alloc::Global;
 use std::env;
 use std::io::{ErrorKind, Read, Write};

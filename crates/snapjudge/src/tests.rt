@@ -1,9 +1,3 @@
-//! Checks of worked histories and what they are cut down to, recordings, devices that fail, and the words of the command line.
-mod checks;
-mod devices;
+//! The words of the command line, and the gate of a recording.
 mod jobs;
-mod limits;
-mod options;
-mod recordings;
-mod reports;
-mod shrinking;
+mod pace;

@@ -1,5 +1,4 @@
 //! The jobs that words ask for.
-use super::checks::same;
 use crate::{CheckOptions, Job, JobFault, job_of};
 use std::alloc::{AllocError, Global};
 use std::test::Fail;
@@ -68,7 +67,8 @@ fn check_of(alloc: Global, line: &str) -> Result<(u32, u32, CheckOptions), Fail>
 #[test]
 fn check_takes_pieces_workers_and_options(rt: HostRuntime) -> Result<(), Fail> {
     for (line, pieces, workers, options) in CHECKS {
-        same(check_of(rt.alloc(), line)?, (*pieces, *workers, *options))?;
+        let found = check_of(rt.alloc(), line)?;
+        assert_eq!(rt; found, (*pieces, *workers, *options), "{line}");
     }
     Ok(())
 }
@@ -150,7 +150,8 @@ fn record_of(alloc: Global, line: &str) -> Result<(u32, u32, Flags), Fail> {
 #[test]
 fn record_takes_workers_rounds_and_flags(rt: HostRuntime) -> Result<(), Fail> {
     for (line, workers, rounds, flags) in RECORDS {
-        same(record_of(rt.alloc(), line)?, (*workers, *rounds, *flags))?;
+        let found = record_of(rt.alloc(), line)?;
+        assert_eq!(rt; found, (*workers, *rounds, *flags), "{line}");
     }
     Ok(())
 }

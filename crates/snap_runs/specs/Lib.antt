@@ -1,0 +1,4 @@
+pub mod Options
+pub mod Runs
+pub mod Shrinking
+pub mod RecordRuns

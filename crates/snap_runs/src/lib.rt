@@ -1,0 +1,19 @@
+//! The runs of the program, from a reader to a writer: a check, a shrinking, a recording.
+#![tactic(auto)]
+
+mod check;
+mod check_with;
+mod fault;
+mod reading;
+mod recording;
+mod shrink;
+
+pub use check::check_run;
+pub use check_with::{CheckOptions, check_run_with};
+pub use fault::RunFault;
+pub use recording::{record_run, record_run_stamped};
+pub use shrink::shrink_run;
+pub use snap_verdict::Status;
+
+#[cfg(test)]
+mod tests;

@@ -1,0 +1,142 @@
+ghost use Rattle.std.specs.Prelude.{◌≡◌, ◌<◌, ◌≤◌, IfOk, OnOk, length, true};
+ghost use Rattle.std.specs.List.Sorted.{IsStrictlyIncreasing};
+ghost use Rattle.snap_core.specs.Counting.{failures_in, inner_of};
+ghost use Rattle.snap_csv.specs.Spelling.{history_text, stamped_text};
+ghost use Rattle.snap_record.specs.Plans.{AreWorkers, HasNoViews};
+ghost use Rattle.snap_runs.specs.RecordRuns.{HasStamps, IsRecorded, IsRecordingOf, IsStampedRecording, WriteCounts, WroteAs};
+ghost use Rattle.snap_verdict.specs.Verdicts.{IsVerdict};
+ghost use Rattle.snap_verdict.specs.declared.status.Status.TheVariants.{Atomic, Recorded};
+
+use crate::check::verdict;
+use crate::fault::RunFault;
+use snap_core::{Counted, Gate, History, OpenGate};
+use snap_csv::{write_history, write_history_stamped};
+use snap_pairs::Cutting;
+use snap_record::{Plan, Recording, record_plan};
+use snap_verdict::Status;
+use std::alloc::{AllocError, Global};
+use std::io::Write;
+use std::sync::Wait;
+use std::thread::Threads;
+
+// The history of a run of the plan, and the stamps of its events.
+fn recorded<Rt: Threads + Wait + Sync, G: Gate>(
+    rt: &Rt,
+    alloc: Global,
+    plan: &Plan,
+    gate: &G,
+) -> Result<(History, Vec<u64>), AllocError>
+    ensures workers { OnOk result (AreWorkers (length plan.now)) }
+    ensures history { IfOk result (λ r. IsRecordingOf plan.now r.0) }
+    ensures stamps { IfOk result (λ r. HasStamps plan.now r.0 r.1.items) }
+{
+    let Ok(recording) = record_plan(rt, alloc, plan, gate) else {
+        return Err(AllocError);
+    };
+    let Recording {
+        history,
+        interfered: _,
+        stamps,
+    } = recording;
+    let _events = history.events();
+    Ok((history, stamps))
+}
+
+// Writes the text of a history, and answers a status.
+pub(crate) fn write_text<W: Write>(
+    alloc: Global,
+    history: &History,
+    status: Status,
+    writer: &mut Counted<W>,
+) -> Result<Status, RunFault>
+    ensures wrote { WroteAs (λ answer out. (answer ≡ status) × (out ≡ history_text history.now))
+        (W.contents (inner_of writer.old)) (W.contents (inner_of writer.new)) result }
+    ensures counts { WriteCounts (failures_in writer.old) (failures_in writer.new) result }
+{
+    write_history(alloc, writer, history)?;
+    Ok(status)
+}
+
+// Writes the text of a history with a stamp for each event.
+fn write_stamped_text<W: Write>(
+    alloc: Global,
+    history: &History,
+    stamps: &[u64],
+    writer: &mut Counted<W>,
+) -> Result<Status, RunFault>
+    requires each { length stamps.now ≡ length history.now }
+    requires rising { IsStrictlyIncreasing stamps.now }
+    ensures wrote { WroteAs (λ status out. (status ≡ Recorded) × (out ≡ stamped_text stamps.now history.now))
+        (W.contents (inner_of writer.old)) (W.contents (inner_of writer.new)) result }
+    ensures counts { WriteCounts (failures_in writer.old) (failures_in writer.new) result }
+{
+    write_history_stamped(alloc, writer, history, stamps)?;
+    Ok(Status::Recorded)
+}
+
+// Judges a history, and writes its report.
+fn write_report<Rt: Threads + Wait + Sync, W: Write>(
+    rt: &Rt,
+    alloc: Global,
+    history: &History,
+    writer: &mut Counted<W>,
+    cutting: Cutting,
+) -> Result<Status, RunFault>
+    ensures wrote { WroteAs (IsVerdict history.now) (W.contents (inner_of writer.old)) (W.contents (inner_of writer.new)) result }
+    ensures counts { WriteCounts (failures_in writer.old) (failures_in writer.new) result }
+{
+    let (status, text) = verdict(rt, alloc, history, Vec::new(alloc), cutting, &OpenGate)?;
+    match writer.send(&text) {
+        Ok(()) => Ok(status),
+        Err(_) => Err(RunFault::Write),
+    }
+}
+
+/// Records a run of the plan on a board, and writes its history as text, with the status `Recorded`. Where it is to be
+/// judged, it writes the history's report in place of the text, and the status is that report's, `Atomic` or `Regular`. The
+/// workers call the gate; the judge has the cutting, and no gate.
+///
+/// The history is regular and monotone, has no pending call, and has for each worker, as the process of its number, the calls of
+/// its script in their order, each once, and no other; but scans that were interfered with are left out. It is one run's:
+/// another run may give another. Where no script has a collect it is atomic, and so is the verdict.
+///
+/// Nothing is written until the whole text or report is built: after `Memory` nothing went out and the writer's count of
+/// failures is unchanged, after `Write` a front of it, perhaps all of it, and that count rose, or stood at its last value.
+/// `Read` is never answered. The writer is flushed once at the end. The run waits for its workers, and so for the gate.
+pub fn record_run<Rt: Threads + Wait + Sync, W: Write, G: Gate>(
+    rt: &Rt,
+    alloc: Global,
+    plan: &Plan,
+    judge: bool,
+    writer: &mut Counted<W>,
+    cutting: Cutting,
+    gate: &G,
+) -> Result<Status, RunFault>
+    ensures wrote { WroteAs (IsRecorded judge plan.now) (W.contents (inner_of writer.old)) (W.contents (inner_of writer.new)) result }
+    ensures counts { WriteCounts (failures_in writer.old) (failures_in writer.new) result }
+    ensures atomic { judge ≡ true → HasNoViews plan.now → IfOk result (λ status. status ≡ Atomic) }
+{
+    let (history, _) = recorded(rt, alloc, plan, gate)?;
+    if judge {
+        write_report(rt, alloc, &history, writer, cutting)
+    } else {
+        write_text(alloc, &history, Status::Recorded, writer)
+    }
+}
+
+/// Records a run of the plan on a board, and writes its history as text with stamps, with the status `Recorded`: before
+/// each event the stamp that the board gave it, that of its record's begin or end. The stamps rise strictly. Of the
+/// history, the refusals, the writer and the waiting the same is true as in `record_run`.
+pub fn record_run_stamped<Rt: Threads + Wait + Sync, W: Write, G: Gate>(
+    rt: &Rt,
+    alloc: Global,
+    plan: &Plan,
+    writer: &mut Counted<W>,
+    gate: &G,
+) -> Result<Status, RunFault>
+    ensures wrote { WroteAs (IsStampedRecording plan.now) (W.contents (inner_of writer.old)) (W.contents (inner_of writer.new)) result }
+    ensures counts { WriteCounts (failures_in writer.old) (failures_in writer.new) result }
+{
+    let (history, stamps) = recorded(rt, alloc, plan, gate)?;
+    write_stamped_text(alloc, &history, stamps.as_slice(), writer)
+}
