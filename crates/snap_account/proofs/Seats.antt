@@ -207,9 +207,9 @@ looks n slots id me s r _ at _ = (
 )
 
 -- the clock stays small
-pub clock_small : (n : ℕ) (b : List Account) → Core n b → clock b ≤ n * 1048576
-clock_small n b h = let m = bound b (λ i a e. (h.own i a e).limit) in let s = h.size in subst (λ z. clock b ≤ z * 1048576) h.size m
+pub clock_small : (n : ℕ) (b : List Account) → Core n b → clock b ≤ n * tick_limit
+clock_small n b h = let m = bound b (λ i a e. (h.own i a e).limit) in let s = h.size in subst (λ z. clock b ≤ z * tick_limit) h.size m
   where
-    bound : (l : List Account) → ((i : ℕ) (a : Account) → get_elem? l i ≡ some a → a.ticks ≤ tick_limit) → clock l ≤ length l * 1048576
+    bound : (l : List Account) → ((i : ℕ) (a : Account) → get_elem? l i ≡ some a → a.ticks ≤ tick_limit) → clock l ≤ length l * tick_limit
     bound [] small = omega arith
     bound (x ∷ xs) small = let o = small 0 x refl in let r = bound xs (λ i a e. small (suc i) a e) in omega arith

@@ -5,12 +5,14 @@ use lib.ListN.{get_elem?}
 use Rattle.atomic_table.specs.Table.{State}
 use Rattle.snap_account.specs.declared.account.Account.{Account}
 use Rattle.snap_account.specs.declared.account.Doing.TheVariants.{Idle}
+use Rattle.snap_account.specs.declared.rule.TheConstants.{TICK_LIMIT}
 use Rattle.snap_core.specs.Sums.{total, one_if, times, once_below}
 use Rattle.snap_account.specs.Marks.{Marked}
 use Rattle.snap_account.specs.Calls.{Mem, Write, Look, writes_of, looks_of, stamps_of, all_stamps, in_word}
 
+-- how many ticks a desk may draw
 abbrev pub tick_limit : ℕ
-tick_limit = 1048576
+tick_limit = TICK_LIMIT
 
 -- strictly rising
 abbrev pub Rising : List ℕ → Type 0

@@ -8,5 +8,5 @@ mod rule;
 pub use account::{Account, Answer, Answered, Doing, Hand, Scan};
 pub use rule::{
     BeginStore, BeginView, BoardRule, ComeIn, EndCall, GiveUp, GoOut, LookOver, MiddleTick,
-    ReadWord, Size, WriteWord,
+    ReadWord, Size, TICK_LIMIT, WriteWord,
 };

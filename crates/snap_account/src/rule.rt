@@ -2,6 +2,9 @@
 use crate::account::Hand;
 use atomic_table::{Join, Play, Split, TableRule};
 
+/// How many ticks a desk may draw.
+pub const TICK_LIMIT: u32 = 1_048_576;
+
 /// How many desks a board has.
 #[derive(Clone, Copy)]
 pub struct Size {

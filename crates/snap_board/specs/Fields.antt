@@ -3,6 +3,7 @@ use Rattle.std.specs.Prelude.{◌≡◌, ◌+◌, ◌<◌, ◌≤◌, [], ◌∷
 use Rattle.snap_account.specs.Calls.{latest}
 use Rattle.snap_account.specs.Rule.{tick_limit}
 use Rattle.snap_account.specs.Hands.{idle, answered_of, brief}
+use Rattle.snap_board.specs.Refusals.{desk_limit}
 use Rattle.snap_board.specs.Boards.{BoardView, DeskView, GatheredView, ClosedView}
 use Rattle.snap_board.specs.Slots.{ins, Smalls}
 use Rattle.snap_board.specs.declared.board.Board.TheInside as board
@@ -18,7 +19,7 @@ pub record IsBoard (b : board.Inside) : Type 0 where
   pub words : b.table.shared.table_id.words ≡ b.desks + 1
   pub slots : b.table.shared.table_id.slots ≡ 0
   pub keyed : b.table.shared.key.desks ≡ b.desks
-  pub few : (0 < b.desks) × (b.desks ≤ 8)
+  pub few : (0 < b.desks) × (b.desks ≤ desk_limit)
 
 abbrev pub desk_view : desk.Inside → DeskView
 desk_view d = record { board = d.seat.table_id; desk = d.desk; calls = answered_of d.seat.me.0; ticks = d.kept.ticks }
@@ -35,7 +36,7 @@ gathered_view g = record { board = g.seat.table_id; desks = g.desks; accounts = 
 -- the seat has the accounts of the desks that are in, and what is kept of each is what its account says
 pub record IsGathered (g : gathered.Inside) : Type 0 where
   pub bare : g.seat.me.1 ≡ []
-  pub few : (g.desks ≤ 8) × (length g.slots ≡ 8)
+  pub few : (g.desks ≤ desk_limit) × (length g.slots ≡ desk_limit)
   pub matches : map brief g.seat.me.0 ≡ ins g.desks g.slots
   pub small : Smalls g.slots
 
@@ -43,5 +44,5 @@ abbrev pub closed_view : closed.Inside → ClosedView
 closed_view c = record { desks = c.desks; last = c.last }
 
 pub record IsClosed (c : closed.Inside) : Type 0 where
-  pub few : c.desks ≤ 8
-  pub eight : length c.last ≡ 8
+  pub few : c.desks ≤ desk_limit
+  pub all : length c.last ≡ desk_limit

@@ -1,6 +1,7 @@
 -- When a call is refused.
 use Rattle.std.specs.Prelude.{◌≡◌, ℕ, ◌+◌, ◌<◌, ◌≤◌, ◌⊎◌, ◌++◌, ◌∷◌, []}
 use Rattle.snap_account.specs.Rule.{tick_limit}
+use Rattle.snap_board.specs.declared.board.TheConstants.{DESK_LIMIT}
 use Rattle.snap_board.specs.declared.refusals.OpenRefusal.{OpenRefusal}
 use Rattle.snap_board.specs.declared.refusals.OpenRefusal.TheVariants as Opening
 use Rattle.snap_board.specs.declared.refusals.CollectRefusal.{CollectRefusal}
@@ -10,10 +11,14 @@ use Rattle.snap_board.specs.declared.refusals.ScanRefusal.TheVariants as Scannin
 use Rattle.snap_board.specs.Boards.{DeskView}
 use Rattle.snap_board.specs.Desks.{records, ticks, lost}
 
+-- how many desks a board has at most
+abbrev pub desk_limit : ℕ
+desk_limit = DESK_LIMIT
+
 -- why a board of so many desks was not opened
 abbrev pub IsNotOpened : ℕ → OpenRefusal → Type 0
-IsNotOpened desks Opening.Desks = (desks ≡ 0) ⊎ (8 < desks)
-IsNotOpened desks Opening.Memory = (0 < desks) × (desks ≤ 8)
+IsNotOpened desks Opening.Desks = (desks ≡ 0) ⊎ (desk_limit < desks)
+IsNotOpened desks Opening.Memory = (0 < desks) × (desks ≤ desk_limit)
 
 -- why a desk with so many ticks did not collect
 abbrev pub IsNotCollected : ℕ → CollectRefusal → Type 0

@@ -8,7 +8,7 @@ ghost use Rattle.snap_account.specs.Rule.{newcomers};
 ghost use Rattle.snap_account.specs.Plays.{but_first, only_first, insert};
 ghost use Rattle.snap_board.specs.Desks.{account, accounts, IsDeskOf, IsGatheredOf};
 ghost use Rattle.snap_board.specs.History.{board_history, AllCompleted};
-ghost use Rattle.snap_board.specs.Refusals.{IsNotOpened};
+ghost use Rattle.snap_board.specs.Refusals.{IsNotOpened, desk_limit};
 ghost use Rattle.snap_board.specs.Regular.{AreUpTo, Settled, ScansSettled, WereInterfered, LastStores, entry_in};
 ghost use Rattle.snap_board.specs.Scans.{scan_history};
 
@@ -21,6 +21,12 @@ use snap_core::Entry;
 use std::alloc::{AllocError, Global};
 use std::marker::Model;
 use std::thread;
+
+/// How many desks a board has at most.
+pub const DESK_LIMIT: usize = 8;
+
+// How many words a board has at most: the clock, and one for each desk.
+const WORD_LIMIT: usize = DESK_LIMIT + 1;
 
 /// A board of atomic words: a clock, and one word for each desk's component.
 #[derive(Drop)]
@@ -44,23 +50,20 @@ impl Model for Board {
 }
 
 impl Board {
-    /// A board of 1 to 8 desks, which are all in. Desk d is process d and writes component d.
+    /// A board of 1 to `DESK_LIMIT` desks, which are all in. Desk d is process d and writes component d.
     pub fn open(alloc: Global, desks: u8) -> Result<(Board, Gathered), OpenRefusal>
         ensures gathered { IfOk result (λ r. IsGatheredOf r.0 r.1) }
         ensures desks { IfOk result (λ r. r.0.desks ≡ desks) }
-        ensures range { OnOk result ((0 < desks) × (desks ≤ 8)) }
+        ensures range { OnOk result ((0 < desks) × (desks ≤ desk_limit)) }
         ensures empty { IfOk result (λ r. accounts r.1 ≡ newcomers desks) }
         ensures refused { IfErr result (IsNotOpened desks) }
     {
-        if desks == 0 || desks > 8 {
+        let count = usize::from(desks);
+        if count == 0 || count > DESK_LIMIT {
             return Err(OpenRefusal::Desks);
         }
-        let words = [0u64; 9];
-        let Ok((table, seat)) = Table::of_words(
-            alloc,
-            &words[..usize::from(desks) + 1],
-            &Size { desks },
-        ) else {
+        let words = [0u64; WORD_LIMIT];
+        let Ok((table, seat)) = Table::of_words(alloc, &words[..count + 1], &Size { desks }) else {
             return Err(OpenRefusal::Memory);
         };
         let slots = fresh(desks);
@@ -206,7 +209,7 @@ impl Desk {
 pub struct Gathered {
     seat: Seat<(), Hand>,
     desks: u8,
-    slots: [Option<Kept>; 8],
+    slots: [Option<Kept>; DESK_LIMIT],
 }
 
 impl Model for Gathered {
@@ -240,7 +243,7 @@ impl Gathered {
 #[derive(Clone, Copy, Debug)]
 pub struct Closed {
     desks: u8,
-    last: [Option<Entry>; 8],
+    last: [Option<Entry>; DESK_LIMIT],
 }
 
 impl Model for Closed {

@@ -1,7 +1,7 @@
 ghost use Rattle.std.specs.Prelude.{◌≡◌, ◌+◌, ◌<◌, ◌≤◌, [], ◌∷◌, ◌++◌, None, length, vec_capacity, IfOk, IfErr, OnOk, OnErr};
 ghost use Rattle.snap_core.specs.Entries.{view_refusal, number_in};
 ghost use Rattle.snap_account.specs.Rule.{tick_limit};
-ghost use Rattle.snap_board.specs.Refusals.{IsNotCollected};
+ghost use Rattle.snap_board.specs.Refusals.{IsNotCollected, desk_limit};
 ghost use Rattle.snap_board.specs.Desks.{records, ticks, collects, lost, IsDeskOf, listed, IsLater, last_stored, shown_by, IsNoOlder, ShowsOwnLast};
 ghost use Rattle.snap_account.specs.Hands.{has_read, doing_of, desk_of, answered_of, pairs, Told};
 ghost use Rattle.snap_account.specs.Plays.{HasRead};
@@ -11,12 +11,9 @@ use crate::kept::Kept;
 use crate::record::{Record, RecordedOp};
 use crate::refusals::{CollectRefusal, StoreRefusal};
 use atomic_table::Seat;
-use snap_account::{BeginStore, BeginView, EndCall, Hand, ReadWord, WriteWord};
+use snap_account::{BeginStore, BeginView, EndCall, Hand, ReadWord, TICK_LIMIT, WriteWord};
 use snap_core::{Entry, View};
 use std::alloc::Global;
-
-/// How many ticks a desk may draw.
-pub const TICK_LIMIT: u32 = 1_048_576;
 
 /// A component's word is the number times this, and the value.
 const NUMBER_UNIT: u64 = 4_294_967_296;
@@ -24,7 +21,7 @@ const NUMBER_UNIT: u64 = 4_294_967_296;
 // Lists the components whose words have a number.
 fn list_words(words: &Vec<u64>, entries: &mut Vec<Entry>)
     requires room { (entries.old.items ≡ []) × (length words.now.items ≤ vec_capacity entries.old) }
-    requires short { length words.now.items ≤ 8 }
+    requires short { length words.now.items ≤ desk_limit }
     ensures listed { entries.new.items ≡ listed 0 (pairs words.now.items) }
     ensures view { view_refusal entries.new.items ≡ None }
 {
@@ -45,7 +42,7 @@ fn list_words(words: &Vec<u64>, entries: &mut Vec<Entry>)
 // The view that the words of all components give. Its entries take the memory of a vector.
 pub(crate) fn view_of(words: &Vec<u64>, mut entries: Vec<Entry>) -> View
     requires room { (entries.items ≡ []) × (length words.now.items ≤ vec_capacity entries) }
-    requires short { length words.now.items ≤ 8 }
+    requires short { length words.now.items ≤ desk_limit }
     ensures { result ≡ listed 0 (pairs words.now.items) }
 {
     list_words(words, &mut entries);

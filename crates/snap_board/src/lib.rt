@@ -9,10 +9,10 @@ mod refusals;
 mod scan;
 mod slots;
 
-pub use board::{Board, Closed, Desk, Gathered};
-pub use calls::TICK_LIMIT;
+pub use board::{Board, Closed, DESK_LIMIT, Desk, Gathered};
 pub use record::{Record, RecordedOp};
 pub use refusals::{CollectRefusal, OpenRefusal, ScanRefusal, StoreRefusal};
+pub use snap_account::TICK_LIMIT;
 
 #[cfg(test)]
 mod tests;

@@ -1,7 +1,7 @@
 /// Why no board was opened, in the order in which the reasons are tested.
 #[derive(Clone, Copy, PartialEq, Eq, Debug)]
 pub enum OpenRefusal {
-    /// The number of desks is not 1 to 8.
+    /// The number of desks is not 1 to `DESK_LIMIT`.
     Desks,
     /// Memory ran out.
     Memory,

@@ -6,11 +6,11 @@ ghost use Rattle.snap_account.specs.Hands.{one_desk, ticks_of};
 ghost use Rattle.snap_account.specs.Tries.{HasReadAll, StillTries, AgreesOn, IsSameCall, made_of};
 
 use crate::board::{Board, Desk};
-use crate::calls::{TICK_LIMIT, view_of};
+use crate::calls::view_of;
 use crate::record::{Record, RecordedOp};
 use crate::refusals::ScanRefusal;
 use atomic_table::Seat;
-use snap_account::{BeginView, EndCall, GiveUp, Hand, MiddleTick};
+use snap_account::{BeginView, EndCall, GiveUp, Hand, MiddleTick, TICK_LIMIT};
 use std::alloc::Global;
 
 // Whether two collects read the same.

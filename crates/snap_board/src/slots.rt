@@ -1,15 +1,17 @@
 ghost use Rattle.std.specs.Prelude.{◌≡◌, ◌+◌, ◌<◌, ◌≤◌, ◌↔◌, Some, None, MatchOption, IsTrue, slice_index_or, length};
+ghost use Rattle.snap_board.specs.Refusals.{desk_limit};
 ghost use Rattle.snap_board.specs.Slots.{AllIn, Fresh, NoneFrom, HasLast, kept_entry};
 
+use crate::board::DESK_LIMIT;
 use crate::kept::Kept;
 use snap_core::Entry;
 
 /// What is kept of each desk below `desks` that has done nothing.
-pub(crate) fn fresh(desks: u8) -> [Option<Kept>; 8]
-    requires { desks ≤ 8 }
-    ensures { Fresh desks result × (length result ≡ 8) }
+pub(crate) fn fresh(desks: u8) -> [Option<Kept>; DESK_LIMIT]
+    requires { desks ≤ desk_limit }
+    ensures { Fresh desks result × (length result ≡ desk_limit) }
 {
-    let mut slots = [None; 8];
+    let mut slots = [None; DESK_LIMIT];
     'rows: for d in 0..desks {
         slots[usize::from(d)] = Some(Kept {
             ticks: 0,
@@ -21,8 +23,8 @@ pub(crate) fn fresh(desks: u8) -> [Option<Kept>; 8]
 }
 
 /// The highest desk that is in.
-pub(crate) fn highest(desks: u8, slots: &[Option<Kept>; 8]) -> Option<u8>
-    requires { desks ≤ 8 }
+pub(crate) fn highest(desks: u8, slots: &[Option<Kept>; DESK_LIMIT]) -> Option<u8>
+    requires { desks ≤ desk_limit }
     ensures { MatchOption result (NoneFrom 0 desks slots.now) (λ d. (d < desks) × ((k : Kept) × (slice_index_or slots.now d None ≡ Some k)) × NoneFrom (d + 1) desks slots.now) }
 {
     let mut d = desks;
@@ -51,11 +53,14 @@ fn last_store(desk: u8, slot: Option<Kept>) -> Option<Entry>
 }
 
 /// The last store of each desk below `desks`.
-pub(crate) fn last_stores(desks: u8, slots: &[Option<Kept>; 8]) -> [Option<Entry>; 8]
-    requires { desks ≤ 8 }
-    ensures { HasLast desks slots.now result × (length result ≡ 8) }
+pub(crate) fn last_stores(
+    desks: u8,
+    slots: &[Option<Kept>; DESK_LIMIT],
+) -> [Option<Entry>; DESK_LIMIT]
+    requires { desks ≤ desk_limit }
+    ensures { HasLast desks slots.now result × (length result ≡ desk_limit) }
 {
-    let mut last = [None; 8];
+    let mut last = [None; DESK_LIMIT];
     'rows: for d in 0..desks {
         last[usize::from(d)] = last_store(d, slots[usize::from(d)]);
     }
@@ -63,8 +68,8 @@ pub(crate) fn last_stores(desks: u8, slots: &[Option<Kept>; 8]) -> [Option<Entry
 }
 
 /// Whether all desks are in.
-pub(crate) fn all_in(desks: u8, slots: &[Option<Kept>; 8]) -> bool
-    requires { desks ≤ 8 }
+pub(crate) fn all_in(desks: u8, slots: &[Option<Kept>; DESK_LIMIT]) -> bool
+    requires { desks ≤ desk_limit }
     ensures { IsTrue result ↔ AllIn desks slots.now }
 {
     'each: for d in 0..desks {

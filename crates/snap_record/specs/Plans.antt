@@ -10,6 +10,7 @@ use Rattle.snap_account.specs.Rule.{tick_limit}
 use Rattle.snap_record.specs.Choices.{chosen, left_out, LeavesScans, scans_in, stores_but, views_in}
 use Rattle.snap_record.specs.declared.plan.Step.{Step}
 use Rattle.snap_record.specs.declared.plan.Step.TheVariants.{Store, View, Scan}
+use Rattle.snap_record.specs.declared.plan.TheConstants.{LEAST_WORKERS, ROUND_LIMIT, ROUND_TRIES, TRY_LIMIT, VALUES_EACH, WORKER_LIMIT}
 use Rattle.snap_record.specs.declared.plan.PlanRefusal.{PlanRefusal}
 use Rattle.snap_record.specs.declared.plan.PlanRefusal.TheVariants.{Workers, TooLong, Memory}
 
@@ -27,11 +28,11 @@ step_ticks (Store v) = 2
 step_ticks View = 2
 step_ticks (Scan tries) = tries + 2
 
--- a scan has 1 to 1,024 tries
+-- a scan has at least one try
 abbrev pub has_tries : Step → Bool
 has_tries (Store v) = true
 has_tries View = true
-has_tries (Scan tries) = nat_lt 0 tries && nat_le tries 1024
+has_tries (Scan tries) = nat_lt 0 tries && nat_le tries TRY_LIMIT
 
 -- the steps draw no more than so many ticks, and their scans have tries
 abbrev pub draws_within : ℕ → List Step → Bool
@@ -42,12 +43,12 @@ abbrev pub each_draws : List (List Step) → Bool
 each_draws [] = true
 each_draws (s ∷ ss) = draws_within tick_limit s && each_draws ss
 
--- how many workers a plan has at most; the least number is two
+-- how many workers a plan has at most
 abbrev pub worker_limit : ℕ
-worker_limit = 8
+worker_limit = WORKER_LIMIT
 
 abbrev pub are_workers : ℕ → Bool
-are_workers n = nat_le 2 n && nat_le n worker_limit
+are_workers n = nat_le LEAST_WORKERS n && nat_le n worker_limit
 
 -- the first refusal that applies
 abbrev pub plan_refusal : List (List Step) → Option PlanRefusal
@@ -55,26 +56,28 @@ plan_refusal ss = if not (are_workers (length ss)) then Some Workers else if nat
 
 -- how a round ends
 abbrev pub last_step : Bool → Step
-last_step true = Scan 64
+last_step true = Scan ROUND_TRIES
 last_step false = View
 
--- in each of so many rounds a store and then a view or a scan, worker w storing w * 65536 + i in round i
+-- in each of so many rounds a store and then a view or a scan, worker w storing w * VALUES_EACH + i in round i
 abbrev pub round_script : Bool → ℕ → ℕ → List Step
 round_script scan w zero = []
-round_script scan w (suc i) = round_script scan w i ++ Store (w * 65536 + i + 1) ∷ last_step scan ∷ []
+round_script scan w (suc i) = round_script scan w i ++ Store (w * VALUES_EACH + i + 1) ∷ last_step scan ∷ []
 
 -- the scripts of so many workers
 abbrev pub rounds_scripts : Bool → ℕ → ℕ → List (List Step)
 rounds_scripts scan zero rounds = []
 rounds_scripts scan (suc w) rounds = rounds_scripts scan w rounds ++ round_script scan w rounds ∷ []
 
--- 2 to 8 workers
 abbrev pub AreWorkers : ℕ → Type 0
-AreWorkers n = (2 ≤ n) × (n ≤ worker_limit)
+AreWorkers n = (LEAST_WORKERS ≤ n) × (n ≤ worker_limit)
 
--- 1 to 2,048 rounds: two calls of each worker in each fit into a history
+-- how many rounds there are at most: two calls of each worker in each fit into a history
+abbrev pub round_limit : ℕ
+round_limit = ROUND_LIMIT
+
 abbrev pub AreRounds : ℕ → Type 0
-AreRounds rounds = (0 < rounds) × (rounds ≤ 2048)
+AreRounds rounds = (0 < rounds) × (rounds ≤ round_limit)
 
 -- why there is no plan of so many workers and rounds
 abbrev pub IsRoundsRefusal : ℕ → ℕ → PlanRefusal → Type 0

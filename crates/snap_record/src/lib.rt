@@ -10,12 +10,14 @@ mod timeline;
 mod worker;
 mod workers;
 
-pub use plan::{Plan, PlanRefusal, Step, rounds_plan};
+pub use plan::{
+    LEAST_WORKERS, Plan, PlanRefusal, ROUND_LIMIT, Step, TRY_LIMIT, WORKER_LIMIT, rounds_plan,
+};
 pub use recorder::{RecordRefusal, Recording, record_plan};
 pub use relay::{Relay, Sender, Taker};
 pub use snap_board::{
-    Board, Closed, CollectRefusal, Desk, Gathered, OpenRefusal, Record, RecordedOp, ScanRefusal,
-    StoreRefusal, TICK_LIMIT,
+    Board, Closed, CollectRefusal, DESK_LIMIT, Desk, Gathered, OpenRefusal, Record, RecordedOp,
+    ScanRefusal, StoreRefusal, TICK_LIMIT,
 };
 
 #[cfg(test)]

@@ -1,21 +1,24 @@
 ghost use Rattle.std.specs.Prelude.{◌≡◌, ◌*◌, ◌<◌, ◌≤◌, [], Some, None, IfOk, IfErr, OnOk, IsTrue, ◌↔◌, length, slice_index_or, nat_le, true};
 ghost use Rattle.snap_core.specs.Events.{event_limit};
-ghost use Rattle.snap_record.specs.Plans.{lists_of, steps_in, plan_refusal, worker_limit, are_workers, each_draws, draws_within, round_script, rounds_scripts, AreWorkers, AreRounds, IsRoundsRefusal};
+ghost use Rattle.snap_record.specs.Plans.{lists_of, steps_in, plan_refusal, worker_limit, round_limit, are_workers, each_draws, draws_within, round_script, rounds_scripts, AreWorkers, AreRounds, IsRoundsRefusal};
 ghost use Rattle.snap_account.specs.Rule.{tick_limit};
 
-use snap_board::TICK_LIMIT;
+use snap_board::{DESK_LIMIT, TICK_LIMIT};
 use snap_core::EVENT_LIMIT;
 use std::alloc::{AllocError, Global};
 use std::marker::Model;
 
-/// How many lists a plan has at most, one for each worker.
-const WORKER_LIMIT: usize = 8;
+/// How many workers a plan has at least.
+pub const LEAST_WORKERS: u32 = 2;
+
+/// How many workers a plan has at most: each has a desk of the board.
+pub const WORKER_LIMIT: u32 = DESK_LIMIT as u32;
 
 /// How many tries a plan's scan has at most.
-const TRY_LIMIT: u32 = 1024;
+pub const TRY_LIMIT: u32 = 1024;
 
-/// How many rounds `rounds_plan` gives a worker at most.
-const ROUND_LIMIT: u32 = 2048;
+/// How many rounds `rounds_plan` gives a worker at most: two calls of each worker in each, so four events, fit into a history.
+pub const ROUND_LIMIT: u32 = (EVENT_LIMIT / (4 * DESK_LIMIT)) as u32;
 
 /// How many tries the scans of `rounds_plan` have.
 const ROUND_TRIES: u32 = 64;
@@ -37,16 +40,16 @@ pub enum Step {
 /// Why there is no plan, in the order in which the reasons are tested.
 #[derive(Clone, Copy, PartialEq, Eq, Debug)]
 pub enum PlanRefusal {
-    /// There are not 2 to 8 lists.
+    /// There are not `LEAST_WORKERS` to `WORKER_LIMIT` lists.
     Workers,
     /// The steps have more events than a history may have, two for each step; or a script could draw more ticks than a
-    /// desk may; or a scan has not 1 to 1,024 tries.
+    /// desk may; or a scan has not 1 to `TRY_LIMIT` tries.
     TooLong,
     /// Memory ran out.
     Memory,
 }
 
-/// A script for each of 2 to 8 workers, together no longer than a history may be.
+/// A script for each of `LEAST_WORKERS` to `WORKER_LIMIT` workers, together no longer than a history may be.
 #[derive(Drop)]
 pub struct Plan {
     scripts: Vec<Vec<Step>>,
@@ -69,7 +72,7 @@ impl Model for Plan {
 fn are_workers(count: usize) -> bool
     ensures { result ≡ are_workers count }
 {
-    2 <= count && count <= WORKER_LIMIT
+    LEAST_WORKERS as usize <= count && count <= WORKER_LIMIT as usize
 }
 
 // Whether the scripts have together no more steps than a history has calls.
@@ -87,7 +90,7 @@ fn are_short(scripts: &[Vec<Step>]) -> bool
     true
 }
 
-// Whether the steps of a script draw no more ticks than a desk may, and its scans have 1 to 1,024 tries.
+// Whether the steps of a script draw no more ticks than a desk may, and its scans have 1 to `TRY_LIMIT` tries.
 fn draws_within(steps: &[Step]) -> bool
     ensures { result ≡ draws_within tick_limit steps.now }
 {
@@ -110,7 +113,7 @@ fn draws_within(steps: &[Step]) -> bool
     true
 }
 
-// Whether each script draws no more ticks than a desk may, and its scans have 1 to 1,024 tries.
+// Whether each script draws no more ticks than a desk may, and its scans have 1 to `TRY_LIMIT` tries.
 fn each_draws(scripts: &[Vec<Step>]) -> bool
     ensures { result ≡ each_draws (lists_of scripts.now) }
 {
@@ -160,7 +163,7 @@ impl Plan {
 
 // What a worker does in so many rounds: a store and a collect or a scan in each.
 fn round_steps(alloc: Global, worker: u32, rounds: u32, scan: bool) -> Result<Vec<Step>, AllocError>
-    requires { (worker < worker_limit) × (rounds ≤ 2048) }
+    requires { (worker < worker_limit) × (rounds ≤ round_limit) }
     ensures { IfOk result (λ steps. steps.items ≡ round_script scan worker rounds) }
 {
     let mut steps = Vec::new(alloc);
@@ -189,7 +192,7 @@ fn round_lists(
     rounds: u32,
     scan: bool,
 ) -> Result<Vec<Vec<Step>>, AllocError>
-    requires { (workers ≤ worker_limit) × (rounds ≤ 2048) }
+    requires { (workers ≤ worker_limit) × (rounds ≤ round_limit) }
     ensures { IfOk result (λ lists. lists_of lists.items ≡ rounds_scripts scan workers rounds) }
 {
     let mut lists = Vec::new(alloc);
@@ -199,8 +202,8 @@ fn round_lists(
     Ok(lists)
 }
 
-/// The plan of 2 to 8 workers in 1 to 2,048 rounds, in each of which a worker makes two calls. In round i, counted from 1,
-/// worker w stores w * 65,536 + i and then collects, or scans with 64 tries.
+/// The plan of `LEAST_WORKERS` to `WORKER_LIMIT` workers in 1 to `ROUND_LIMIT` rounds, in each of which a worker makes two
+/// calls. In round i, counted from 1, worker w stores w * 65,536 + i and then collects, or scans with 64 tries.
 pub fn rounds_plan(
     alloc: Global,
     workers: u32,

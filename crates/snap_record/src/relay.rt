@@ -2,6 +2,7 @@ ghost use Rattle.std.specs.Prelude.{◌≡◌, ℕ, ◌≤◌, ◌↔◌, [], If
 ghost use Rattle.crossbeam_queue.specs.SegTies.{IsSegPassOf};
 ghost use Rattle.snap_record.specs.declared.delivery.Role.TheVariants.{Takes};
 ghost use Rattle.snap_record.specs.Delivery.{new_taker};
+ghost use Rattle.snap_record.specs.Plans.{worker_limit};
 ghost use Rattle.snap_record.specs.Relays.{IsSenderOf, IsTakerOf, sent_more, taken_more, AreNew, HasPlaces, IsDone, TookAll, count_sent, sender_at};
 ghost use Rattle.snap_record.specs.Ends.{TookIn, made_of, taken_of};
 
@@ -123,14 +124,14 @@ fn make_senders(
 }
 
 impl Relay {
-    /// A relay of 1 to 8 workers, with a sender for each, the one at place w being worker w's, and with a taker. The queue
-    /// is empty, and nothing was sent or taken.
+    /// A relay of 1 to `WORKER_LIMIT` workers, with a sender for each, the one at place w being worker w's, and with a
+    /// taker. The queue is empty, and nothing was sent or taken.
     pub fn start<R: Wait>(
         _rt: &R,
         alloc: Global,
         workers: u8,
     ) -> Result<(Relay, Vec<Sender>, Taker), AllocError>
-        requires { (1 ≤ workers) × (workers ≤ 8) }
+        requires { (1 ≤ workers) × (workers ≤ worker_limit) }
         ensures relay { IfOk result (λ r. r.0.workers ≡ workers) }
         ensures senders { IfOk result (λ r. AreNew r.0.queue workers r.1.items) }
         ensures taker { IfOk result (λ r. r.2 ≡ record { queue = r.0.queue; workers = workers; taken = [] }) }
