@@ -4,15 +4,19 @@
 usage: sweep.py SHIM PROGRAM [CALLS]        where SHIM is built from refuse.c and CALLS from the crate snap_sweep
 
 Each run has to end with its whole answer, or say what failed and have written nothing, or a front of its text where it was a
-write that failed. CALLS makes each public call that takes memory and says of each how it ended. Texts that are cut or damaged are judged by the library in one process, where ffi/build has it, and some of
-them by the program. The last line is 'N passed, M failed'; the line before it says how much was refused.
+write that failed. CALLS makes each public call that takes memory and says of each how it ended. Texts that are cut or damaged
+are judged by the library in one process, where ffi/build has it, and some of them by the program. The tests run side by side,
+one for each processor. The last line is 'N passed, M failed'; the line before it says how much was refused.
 """
+import concurrent.futures
 import ctypes
 import errno
 import faulthandler
 import glob
 import mmap
+import multiprocessing
 import os
+import signal
 import subprocess
 import sys
 import tempfile
@@ -30,6 +34,21 @@ OUT_OF_MEMORY, READ_FAILED, WRITE_FAILED = (b"snapjudge: %s\n" % why for why in 
 ROUNDS = 4
 
 
+def ended(command, text=b"", **more):
+    """A run that has ended, within LIMIT seconds. The timeout that `subprocess` has looks for the end once a millisecond only,
+    so that most of the time would go by in waiting."""
+    signal.alarm(LIMIT)
+    try:
+        return subprocess.run(command, input=text, capture_output=True, **more)
+    finally:
+        signal.alarm(0)
+
+
+def give_up(*_):
+    """The handler of that alarm."""
+    raise TimeoutError(f"a run has not ended within {LIMIT} seconds")
+
+
 class Page(ctypes.Structure):
     """What is refused, and what was asked for: the struct of refuse.c."""
 
@@ -42,7 +61,7 @@ class Shim:
     """Runs a program under the shim."""
 
     def __init__(self, shim, folder):
-        name = os.path.join(folder, "page")
+        name = os.path.join(folder, f"page-{os.getpid()}")
         with open(name, "w+b") as file:
             file.truncate(ctypes.sizeof(Page))
             self.page = Page.from_buffer(mmap.mmap(file.fileno(), ctypes.sizeof(Page)))
@@ -52,8 +71,8 @@ class Shim:
         """Status, standard output and standard error of one run; `page` has the counts."""
         for name in Page.WISHES + Page.COUNTS:
             setattr(self.page, name, wishes.get(name, 0))
-        ended = subprocess.run(command, input=text, capture_output=True, env=self.environment, timeout=LIMIT)
-        return ended.returncode, ended.stdout, ended.stderr
+        run = ended(command, text, env=self.environment)
+        return run.returncode, run.stdout, run.stderr
 
 
 class Case:
@@ -131,7 +150,7 @@ def record(*options):
             return False
         if "--judge" in options:
             return is_report(status, out)
-        judged = subprocess.run([PROGRAM, "check"], input=out, capture_output=True, timeout=LIMIT)
+        judged = ended([PROGRAM, "check"], out)
         return status == 0 and is_history(out, is_stamped, has_scans) and is_report(judged.returncode, judged.stdout)
 
     words = ["record", "--rounds", str(ROUNDS), *options]
@@ -140,23 +159,41 @@ def record(*options):
 
 def usage(*words):
     """Words that are not taken: what is said of them with ample memory is said whole."""
-    said = subprocess.run([PROGRAM, *words], capture_output=True, timeout=LIMIT).stderr
+    said = ended([PROGRAM, *words]).stderr
     return Case(" ".join(("no job:",) + words), list(words), b"", lambda run: bool(said) and run == (5, b"", said))
 
 
 class Tests:
-    """Counts what passed, and what was refused."""
+    """Tests, of which each process runs some, under a shim of its own; they count what was refused."""
 
-    def __init__(self, shim):
-        self.shim, self.passed, self.failed = shim, 0, 0
-        self.allocations = self.threads = self.devices = self.texts = 0
+    COUNTS = ("allocations", "threads", "devices", "texts")
 
-    def test(self, name, faults):
-        """One test, which passes where there is no fault."""
-        faults = list(faults)
-        self.passed, self.failed = self.passed + (not faults), self.failed + bool(faults)
-        for fault in faults[:3]:
-            print(f"sweep: {name}: {fault}")
+    def __init__(self):
+        self.shim, self.tests = None, []
+
+    def add(self, name, faults):
+        """One test, which passes where there is no fault. It runs while its faults are asked for."""
+        self.tests.append((name, faults))
+
+    def start(self, shim, folder):
+        """A process that runs tests begins."""
+        self.shim = Shim(shim, folder)
+
+    def run_one(self, number):
+        """Runs one test. Its lines tell its first faults, and the numbers what it counted."""
+        for count in self.COUNTS:
+            setattr(self, count, 0)
+        try:
+            faults = list(self.tests[number][1])
+        except TimeoutError as late:
+            faults = [late]
+        return [f"sweep: {self.tests[number][0]}: {fault}" for fault in faults[:3]], [getattr(self, count) for count in self.COUNTS]
+
+    def unrefused(self, case):
+        """A run that nothing is refused."""
+        run = self.shim.run(case.command, case.text)
+        if not case.is_whole(run):
+            yield f"{run}"
 
     def refused_memory(self, case, all_after=0, thread=0):
         """Each allocation refused in turn, until a run meets no refusal."""
@@ -260,7 +297,7 @@ class Tests:
 
 
 def judge_by_program(text):
-    run = subprocess.run([PROGRAM, "check"], input=text, capture_output=True, timeout=LIMIT)
+    run = ended([PROGRAM, "check"], text)
     return run.returncode, run.stdout
 
 
@@ -337,7 +374,7 @@ def awkward_texts(texts):
 
 def recordings():
     """Each way to record that the program has."""
-    said = subprocess.run([PROGRAM, "record", "--help"], capture_output=True, timeout=LIMIT).stderr
+    said = ended([PROGRAM, "record", "--help"]).stderr
     yield record()
     yield record("--judge")
     if b"--scan" in said:
@@ -349,8 +386,27 @@ def recordings():
         yield record("--scan", "--stamped")
 
 
+def run_all():
+    """The tests that were added, side by side: what they printed, how many had no fault, and all counts."""
+    said, passed, counts = [], 0, [0] * len(Tests.COUNTS)
+    processes, context = len(os.sched_getaffinity(0)), multiprocessing.get_context("fork")
+    with tempfile.TemporaryDirectory() as folder:
+        start = TESTS.start, (os.path.abspath(sys.argv[1]), folder)
+        with concurrent.futures.ProcessPoolExecutor(processes, context, *start) as pool:
+            for lines, counted in pool.map(run_one, range(len(TESTS.tests))):
+                said, passed = said + lines, passed + (not lines)
+                counts = [sum(pair) for pair in zip(counts, counted)]
+    return said, passed, counts
+
+
+def run_one(number):
+    """The lines and the counts of one test."""
+    return TESTS.run_one(number)
+
+
 def main():
     faulthandler.enable()
+    signal.signal(signal.SIGALRM, give_up)
     given, small, recorded = list(examples()), list(small_texts()), list(recordings())
     checks = [check(*each, workers) for each in given + small for workers in (1, 2, 8)]
     # of these calls are left out
@@ -359,42 +415,42 @@ def main():
     checks += others
     worked = [check(*each) for each in given + small] + others
     jobless = [usage(), usage("judge"), usage("check", "--pieces", "0"), usage("record", "--help"), usage("shrink", "--help")]
-    with tempfile.TemporaryDirectory() as folder:
-        tests = Tests(Shim(os.path.abspath(sys.argv[1]), folder))
-        for case in checks + recorded + jobless:
-            tests.test(f"{case.name}: each allocation", tests.refused_memory(case))
-        for case in worked + recorded + jobless:
-            tests.test(f"{case.name}: all from each allocation on", tests.refused_memory(case, all_after=1))
-        for case in recorded + [check(*given[0], 8)]:
-            tests.test(f"{case.name}: each allocation without threads", tests.refused_memory(case, thread=ALL))
-        for program in sys.argv[3:]:
-            tests.test("calls: each allocation", tests.refused_calls(program))
-            tests.test("calls: all from each allocation on", tests.refused_calls(program, all_after=1))
-            tests.test("calls: each allocation without threads", tests.refused_calls(program, thread=ALL))
-        for case in checks + recorded:
-            tests.test(f"{case.name}: threads", tests.refused_threads(case))
-        for case in worked:
-            for error in (errno.EIO, errno.EINTR):
-                tests.test(f"{case.name}: reads, {errno.errorcode[error]}", tests.failed_reads(case, 1, error))
-        for case in worked + recorded:
-            for error in (errno.EIO, errno.EINTR, 0):
-                tests.test(f"{case.name}: writes, error {error}", tests.failed_writes(case, 1, error))
-            tests.test(f"{case.name}: a few bytes at a time", tests.short_transfers(case))
-        tests.test("devices of the system", tests.real_devices(given[0][1]))
-        for each in list(cut_records()) + list(long_texts()):
-            case = check(*each, 8)
-            tests.test(case.name, [] if case.is_whole(tests.shim.run(case.command, case.text)) else ["another report"])
+    for case in checks + recorded + jobless:
+        TESTS.add(f"{case.name}: each allocation", TESTS.refused_memory(case))
+    for case in worked + recorded + jobless:
+        TESTS.add(f"{case.name}: all from each allocation on", TESTS.refused_memory(case, all_after=1))
+    for case in recorded + [check(*given[0], 8)]:
+        TESTS.add(f"{case.name}: each allocation without threads", TESTS.refused_memory(case, thread=ALL))
+    for program in sys.argv[3:]:
+        TESTS.add("calls: each allocation", TESTS.refused_calls(program))
+        TESTS.add("calls: all from each allocation on", TESTS.refused_calls(program, all_after=1))
+        TESTS.add("calls: each allocation without threads", TESTS.refused_calls(program, thread=ALL))
+    for case in checks + recorded:
+        TESTS.add(f"{case.name}: threads", TESTS.refused_threads(case))
+    for case in worked:
+        for error in (errno.EIO, errno.EINTR):
+            TESTS.add(f"{case.name}: reads, {errno.errorcode[error]}", TESTS.failed_reads(case, 1, error))
+    for case in worked + recorded:
+        for error in (errno.EIO, errno.EINTR, 0):
+            TESTS.add(f"{case.name}: writes, error {error}", TESTS.failed_writes(case, 1, error))
+        TESTS.add(f"{case.name}: a few bytes at a time", TESTS.short_transfers(case))
+    TESTS.add("devices of the system", TESTS.real_devices(given[0][1]))
+    for each in list(cut_records()) + list(long_texts()):
+        case = check(*each, 8)
+        TESTS.add(case.name, TESTS.unrefused(case))
     judge = judge_by_library()
     if judge is None:
         print("sweep: the library is not built: fewer awkward texts")
     else:
-        tests.test("awkward texts, by the library", tests.awkward(awkward_texts(given + small), judge, 1))
-    tests.test("awkward texts, by the program", tests.awkward(awkward_texts(given + small), judge_by_program, 97))
-    print(f"sweep: refused {tests.allocations} allocations and {tests.threads} threads,",
-          f"failed {tests.devices} devices, cut or damaged {tests.texts} texts")
-    print(f"{tests.passed} passed, {tests.failed} failed")
-    return tests.failed != 0
+        TESTS.add("awkward texts, by the library", TESTS.awkward(awkward_texts(given + small), judge, 1))
+    TESTS.add("awkward texts, by the program", TESTS.awkward(awkward_texts(given + small), judge_by_program, 97))
+    said, passed, (allocations, threads, devices, texts) = run_all()
+    print("".join(f"{line}\n" for line in said), end="")
+    print(f"sweep: refused {allocations} allocations and {threads} threads, failed {devices} devices, cut or damaged {texts} texts")
+    print(f"{passed} passed, {len(TESTS.tests) - passed} failed")
+    return passed < len(TESTS.tests)
 
 
 PROGRAM = os.path.abspath(sys.argv[2])
+TESTS = Tests()
 sys.exit(main())
