@@ -12,7 +12,7 @@ mod worker;
 mod workers;
 
 pub use claims::{Claim, Claims};
-pub use cutting::{Cutting, CuttingRefusal};
+pub use cutting::{Cutting, CuttingRefusal, PIECE_LIMIT, WORKER_LIMIT};
 pub use whole::tally;
 
 #[cfg(test)]

@@ -6,13 +6,16 @@ ghost use Rattle.snap_runs.specs.Runs.{JudgeCounts, JudgesBy, RunCounts, WroteBy
 use crate::check::report_of;
 use crate::fault::RunFault;
 use crate::reading::{Reading, read_in};
-use snap_core::{Counted, Gate, History};
+use snap_core::{Counted, EVENT_LIMIT, Gate, History};
 use snap_index::Index;
 use snap_pairs::{Cutting, tally};
 use snap_verdict::{Status, brief_verdict_of};
 use std::alloc::{AllocError, Global};
 use std::io::{Read, Write};
 use std::thread::Threads;
+
+/// How many completed views a history has at most, each of two events.
+pub const VIEW_LIMIT: u32 = (EVENT_LIMIT / 2) as u32;
 
 /// What a check is asked for besides.
 #[derive(Clone, Copy, Debug, PartialEq, Eq)]

@@ -9,7 +9,7 @@ mod recording;
 mod shrink;
 
 pub use check::check_run;
-pub use check_with::{CheckOptions, check_run_with};
+pub use check_with::{CheckOptions, VIEW_LIMIT, check_run_with};
 pub use fault::RunFault;
 pub use recording::{record_run, record_run_stamped};
 pub use shrink::shrink_run;

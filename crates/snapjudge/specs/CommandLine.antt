@@ -3,22 +3,26 @@ use Rattle.std.specs.Prelude.{Some, true, codes, pos, [], ◌∷◌}
 use Rattle.clap.specs.Words.{App, Rule, new_app, new_rule, with_rule, with_subcommand}
 use Rattle.clap.specs.declared.builder.action.ArgAction.TheVariants.{SetTrue}
 use Rattle.clap.specs.declared.builder.value_parser.ValueParser.TheVariants.{Signed}
+use Rattle.snap_pairs.specs.declared.cutting.TheConstants.{PIECE_LIMIT, WORKER_LIMIT}
+use Rattle.snap_record.specs.Plans.{round_limit, worker_limit}
+use Rattle.snap_record.specs.declared.plan.TheConstants.{LEAST_WORKERS}
+use Rattle.snap_runs.specs.declared.check_with.TheConstants.{VIEW_LIMIT}
 
--- --pieces P, from 1 to 1,024, 8 where it is not given
+-- --pieces P, 8 where it is not given
 abbrev pub pieces_rule : Rule
-pieces_rule = record (new_rule (codes "pieces")) { long = Some (codes "pieces"); value_names = 1; parser = Some (Signed (pos 1) (pos 1024)); defaults = codes "8" ∷ [] }
+pieces_rule = record (new_rule (codes "pieces")) { long = Some (codes "pieces"); value_names = 1; parser = Some (Signed (pos 1) (pos PIECE_LIMIT)); defaults = codes "8" ∷ [] }
 
--- --workers W, from 1 to 8, 2 where it is not given
+-- --workers W, 2 where it is not given
 abbrev pub workers_rule : Rule
-workers_rule = record (new_rule (codes "workers")) { long = Some (codes "workers"); value_names = 1; parser = Some (Signed (pos 1) (pos 8)); defaults = codes "2" ∷ [] }
+workers_rule = record (new_rule (codes "workers")) { long = Some (codes "workers"); value_names = 1; parser = Some (Signed (pos 1) (pos WORKER_LIMIT)); defaults = codes "2" ∷ [] }
 
 -- --quiet
 abbrev pub quiet_rule : Rule
 quiet_rule = record (new_rule (codes "quiet")) { long = Some (codes "quiet"); action = Some SetTrue }
 
--- --views N, from 0 to 32,768, 0 where it is not given
+-- --views N, 0 where it is not given
 abbrev pub views_rule : Rule
-views_rule = record (new_rule (codes "views")) { long = Some (codes "views"); value_names = 1; parser = Some (Signed (pos 0) (pos 32768)); defaults = codes "0" ∷ [] }
+views_rule = record (new_rule (codes "views")) { long = Some (codes "views"); value_names = 1; parser = Some (Signed (pos 0) (pos VIEW_LIMIT)); defaults = codes "0" ∷ [] }
 
 -- check [--pieces P] [--workers W] ..
 abbrev pub cutting_app : App
@@ -32,13 +36,13 @@ check_app = with_rule (with_rule cutting_app quiet_rule) views_rule
 abbrev pub shrink_app : App
 shrink_app = new_app (codes "shrink")
 
--- --workers W, from 2 to 8, 2 where it is not given
+-- --workers W, 2 where it is not given
 abbrev pub recorders_rule : Rule
-recorders_rule = record (new_rule (codes "workers")) { long = Some (codes "workers"); value_names = 1; parser = Some (Signed (pos 2) (pos 8)); defaults = codes "2" ∷ [] }
+recorders_rule = record (new_rule (codes "workers")) { long = Some (codes "workers"); value_names = 1; parser = Some (Signed (pos LEAST_WORKERS) (pos worker_limit)); defaults = codes "2" ∷ [] }
 
--- --rounds R, from 1 to 2,048, 16 where it is not given
+-- --rounds R, 16 where it is not given
 abbrev pub rounds_rule : Rule
-rounds_rule = record (new_rule (codes "rounds")) { long = Some (codes "rounds"); value_names = 1; parser = Some (Signed (pos 1) (pos 2048)); defaults = codes "16" ∷ [] }
+rounds_rule = record (new_rule (codes "rounds")) { long = Some (codes "rounds"); value_names = 1; parser = Some (Signed (pos 1) (pos round_limit)); defaults = codes "16" ∷ [] }
 
 -- --judge
 abbrev pub judge_rule : Rule

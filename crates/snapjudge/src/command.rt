@@ -7,7 +7,18 @@ ghost use Rattle.snapjudge.specs.CommandLine.{check_app, cutting_app, needs_subc
 use crate::record_command::record_command;
 use crate::shrink_command::shrink_command;
 use clap::{Arg, ArgAction, Command};
+use snap_pairs::{PIECE_LIMIT, WORKER_LIMIT};
+use snap_runs::VIEW_LIMIT;
 use std::alloc::{AllocError, Global};
+
+// The first number that is past the limit of pieces.
+const PIECE_END: i64 = PIECE_LIMIT as i64 + 1;
+
+// The first number that is past the limit of workers.
+const WORKER_END: i64 = WORKER_LIMIT as i64 + 1;
+
+// The first number that is past the limit of views.
+const VIEW_END: i64 = VIEW_LIMIT as i64 + 1;
 
 const ABOUT: &str =
     "Judges a recorded history of a single-writer board: is it regular, is it atomic, and why not?";
@@ -69,7 +80,7 @@ fn pieces_argument<'a>(alloc: Global) -> Arg<'a>
         .long("pieces")
         .value_name("P")
         .help("Into how many pieces the views are cut, from 1 to 1024")
-        .value_parser(clap::value_parser!(u32).range(1..1025))
+        .value_parser(clap::value_parser!(u32).range(1..PIECE_END))
         .default_value("8")
 }
 
@@ -81,7 +92,7 @@ fn workers_argument<'a>(alloc: Global) -> Arg<'a>
         .long("workers")
         .value_name("W")
         .help("How many threads share the pieces, from 1 to 8")
-        .value_parser(clap::value_parser!(u32).range(1..9))
+        .value_parser(clap::value_parser!(u32).range(1..WORKER_END))
         .default_value("2")
 }
 
@@ -103,7 +114,7 @@ fn views_argument<'a>(alloc: Global) -> Arg<'a>
         .long("views")
         .value_name("N")
         .help("How many completed views the history must have, from 0 to 32768")
-        .value_parser(clap::value_parser!(u32).range(0..32769))
+        .value_parser(clap::value_parser!(u32).range(0..VIEW_END))
         .default_value("0")
 }
 

@@ -8,6 +8,7 @@ use crate::command::program;
 use clap::error::ErrorKind;
 use clap::{ArgMatches, Error};
 use snap_pairs::Cutting;
+use snap_record::{LEAST_WORKERS, ROUND_LIMIT, WORKER_LIMIT};
 use snap_runs::CheckOptions;
 use std::alloc::{AllocError, Global};
 
@@ -96,7 +97,7 @@ fn record_in(matches: &ArgMatches<'_>) -> Option<Job>
     if judge && stamped {
         return None;
     }
-    if workers < 2 || workers > 8 || rounds == 0 || rounds > 2048 {
+    if !(LEAST_WORKERS..=WORKER_LIMIT).contains(&workers) || !(1..=ROUND_LIMIT).contains(&rounds) {
         return None;
     }
     Some(Job::Record {

@@ -5,7 +5,17 @@ ghost use Rattle.clap.specs.declared.builder.command.Command.TheViews.{out-Comma
 ghost use Rattle.snapjudge.specs.CommandLine.{judge_rule, record_app, recorders_rule, rounds_app, rounds_rule, scan_rule, stamped_rule};
 
 use clap::{Arg, ArgAction, Command};
+use snap_record::{LEAST_WORKERS, ROUND_LIMIT, WORKER_LIMIT};
 use std::alloc::{AllocError, Global};
+
+// The least number of workers.
+const WORKER_START: i64 = LEAST_WORKERS as i64;
+
+// The first number that is past the limit of workers.
+const WORKER_END: i64 = WORKER_LIMIT as i64 + 1;
+
+// The first number that is past the limit of rounds.
+const ROUND_END: i64 = ROUND_LIMIT as i64 + 1;
 
 const ABOUT: &str =
     "Records the history of a running board and writes it, or its report, to standard output";
@@ -50,7 +60,7 @@ fn workers_argument<'a>(alloc: Global) -> Arg<'a>
         .long("workers")
         .value_name("W")
         .help("How many threads work on the board, from 2 to 8")
-        .value_parser(clap::value_parser!(u32).range(2..9))
+        .value_parser(clap::value_parser!(u32).range(WORKER_START..WORKER_END))
         .default_value("2")
 }
 
@@ -62,7 +72,7 @@ fn rounds_argument<'a>(alloc: Global) -> Arg<'a>
         .long("rounds")
         .value_name("R")
         .help("In how many rounds each of them stores and views, from 1 to 2048")
-        .value_parser(clap::value_parser!(u32).range(1..2049))
+        .value_parser(clap::value_parser!(u32).range(1..ROUND_END))
         .default_value("16")
 }
 

@@ -26,8 +26,8 @@ fn plan_of(alloc: Global, workers: u32, rounds: u32, scan: bool) -> Result<Plan,
     }
 }
 
-/// Records 2 to 8 workers in so many rounds of a store and a view each, or a scan in place of the view, and judges with 8
-/// pieces and 2 workers where that is asked for. Otherwise as `record_run`.
+/// Records `LEAST_WORKERS` to `WORKER_LIMIT` workers of a plan in so many rounds of a store and a view each, or a scan in
+/// place of the view, and judges with 8 pieces and 2 workers where that is asked for. Otherwise as `record_run`.
 pub fn record_rounds<Rt: Threads + Wait + Sync, W: Write>(
     rt: &Rt,
     alloc: Global,
