@@ -1,5 +1,5 @@
 -- A text is one of one history, or it has one first fault.
-use Rattle.std.proofs.Common.{◌≡◌, ◌<◌, inl, inr, ℕ, true, false, List, [], ◌∷◌, length, subst, arith, ◌+◌, ◌∙◌, sym, ap}
+use Rattle.std.proofs.Common.{◌≡◌, inl, inr, ℕ, true, List, [], ◌∷◌, length, subst, arith, ◌+◌, ◌∙◌, sym, ap}
 use Rattle.std.specs.Prelude.{slice_index_or}
 use Rattle.snap_core.specs.declared.event.Event.{Event}
 use Rattle.snap_csv.specs.declared.refusal.TextFault.{TextFault}

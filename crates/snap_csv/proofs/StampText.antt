@@ -1,9 +1,9 @@
 -- The text of a history with stamps has the records of its events, and no fault.
-use Rattle.std.proofs.Common.{zip, ◌≡◌, ◌<◌, ◌≤◌, ◌+◌, ◌^◌, ◌++◌, ◌==◌, cond, eqb, ℕ, suc, zero, false, true, List, [], ◌∷◌, length, map, take, get_or, None, Result, Ok, refl, arith, ◌∙◌, sym, ap, subst, append_assoc, append-nil, inr}
+use Rattle.std.proofs.Common.{zip, ◌≡◌, ◌<◌, ◌≤◌, ◌+◌, ◌^◌, ◌++◌, ◌==◌, ℕ, suc, zero, false, true, List, [], ◌∷◌, length, map, take, get_or, None, Ok, refl, arith, ◌∙◌, sym, ap, subst, inr}
 use Rattle.std.specs.Prelude.{codes, decimal, nat_le}
-use Rattle.std.specs.List.{All, AllByRecursion, IsDistinct, flat_map, list_any}
+use Rattle.std.specs.List.{All, AllByRecursion, flat_map, list_any}
 use Rattle.std.specs.List.Sorted.{IsStrictlyIncreasing}
-use Rattle.std.proofs.lemmas.List.{get_or-map, get_or-take, length-append, length-map, length-take-le, map-append, take-map}
+use Rattle.std.proofs.lemmas.List.{get_or-map, get_or-take, length-map, length-take-le, take-map}
 use Rattle.std.proofs.lemmas.Bool.Decides.{nat_tests}
 use Rattle.std.proofs.lemmas.List.Kept.{AllPairs-from_increasing}
 use Rattle.std.proofs.lemmas.Slice.Zip.{firsts-zip, get_or-zip, length-zip, seconds-zip}
@@ -11,16 +11,15 @@ use Rattle.std.proofs.Math.Seq.{get_or-append_seam, take-append_seam}
 use Rattle.std.proofs.lemmas.List.Concat.{flat_map-cons}
 use Rattle.std.proofs.lemmas.List.Elements.{All-head, All-tail}
 use Rattle.std.proofs.lemmas.List.Sorted.{IsPermutation-refl}
-use Rattle.csv.specs.Machine.{next_record}
-use Rattle.csv.specs.Reading.{default_config, records, records_from, strip_bom}
-use Rattle.csv.specs.Writing.{default_writer, fields_text, is_blank, read_back, row_text}
+use Rattle.csv.specs.Reading.{default_config, records, strip_bom}
+use Rattle.csv.specs.Writing.{fields_text, is_blank, read_back}
 use Rattle.snap_core.specs.declared.event.Event.{Event}
 use Rattle.snap_core.specs.declared.event.Event.TheVariants.{BeginUpdate, BeginView, EndUpdate, EndView}
 use Rattle.snap_core.specs.Events.{EventFits, IsHistory, IsKept, event_limit}
 use Rattle.snap_csv.specs.Rows.{Fields, rows_of}
 use Rattle.snap_csv.specs.Fields.{stamped_header}
 use Rattle.snap_csv.specs.Texts.{IsText, byte_limit}
-use Rattle.snap_csv.specs.Spelling.{record_text, spelled, stamped_fields, stamped_lines, stamped_text}
+use Rattle.snap_csv.specs.Spelling.{record_text, stamped_fields, stamped_lines, stamped_text}
 use Rattle.snap_csv.proofs.LineFacts.{stamped_header_line, stamped_line_of}
 use Rattle.snap_csv.specs.declared.stamped.Stamped.{Stamped}
 use Rattle.snap_csv.specs.Faults.{fault_with, row_event}

@@ -1,4 +1,4 @@
-use Rattle.std.proofs.Common.{◌≡◌, drop, length, rules, arith, ap, ◌∙◌, List}
+use Rattle.std.proofs.Common.{◌≡◌, drop, rules, arith, ap, ◌∙◌, List}
 use Rattle.std.proofs.lemmas.Slice.{between_to_end}
 use Rattle.snap_core.specs.declared.entry.Entry.{Entry}
 use Rattle.snap_csv.proofs.GroupFacts.{group_of}

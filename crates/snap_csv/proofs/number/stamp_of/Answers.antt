@@ -1,4 +1,4 @@
-use Rattle.std.proofs.Common.{◌≡◌, refl, sym, true, false, ◌∙◌, ap}
+use Rattle.std.proofs.Common.{◌≡◌, sym, true, false, ◌∙◌, ap}
 use Rattle.std.specs.Prelude.{decimal}
 use Rattle.std.specs.Str.{bytes_eq}
 use Rattle.snap_csv.proofs.NumberFacts.{wide_no_parse, wide_no_text, wide_other_text, wide_same_text, wide_small}

@@ -1,4 +1,4 @@
-use Rattle.std.proofs.Common.{◌≡◌, ◌∷◌, ◌++◌, List, ℕ, ap, sym, subst, ◌∙◌}
+use Rattle.std.proofs.Common.{◌∷◌, ◌++◌, List, ℕ, subst, ◌∙◌}
 use Rattle.csv.specs.Writing.{default_writer, row_text}
 use Rattle.snap_csv.specs.Writing.{Holds}
 use Rattle.snap_csv.proofs.LineFacts.{four_items}
