@@ -86,11 +86,11 @@ view_is (b ∷ bs) es h =
 
 -- ---- an event
 
-bind_ok : {A B : Type 0} (r : Result A TextFault) (f : A → Result B TextFault) (y : B) → (r >>= f) ≡ Ok y → (x : A) × (r ≡ Ok x) × (f x ≡ Ok y)
+pub bind_ok : {A B : Type 0} (r : Result A TextFault) (f : A → Result B TextFault) (y : B) → (r >>= f) ≡ Ok y → (x : A) × (r ≡ Ok x) × (f x ≡ Ok y)
 bind_ok (Ok x) f y e = (x, refl, e)
 bind_ok (Err g) f y e = absurd cc
 
-some_or : {A : Type 0} (g : TextFault) (o : Option A) (x : A) → or_fault g o ≡ Ok x → o ≡ Some x
+pub some_or : {A : Type 0} (g : TextFault) (o : Option A) (x : A) → or_fault g o ≡ Ok x → o ≡ Some x
 some_or g None x e = absurd cc
 some_or g (Some z) x e = cc
 

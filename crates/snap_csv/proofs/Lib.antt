@@ -17,3 +17,5 @@ pub mod LengthFacts
 pub mod GrammarFacts
 pub mod ViewFacts
 pub mod GroupFacts
+pub mod RecordFacts
+pub mod LookupFacts

@@ -1,6 +1,8 @@
 -- Reading the records under the header in turn.
 use Rattle.std.proofs.Common.{Bor, ◌≡◌, ◌<◌, ◌≤◌, ◌+◌, ◌++◌, inl, inr, ℕ, suc, true, false, List, [], ◌∷◌, length, get_or, take, drop, Some, None, Result, Ok, Err, refl, arith, ◌∙◌, sym, ap, add-one}
 use Rattle.std.specs.Prelude.{◌==◌, ◌≢◌, nat_le}
+use Rattle.std.specs.Global.{Vec}
+use Rattle.std.specs.List.{range_with_len}
 use borrow.Author.Count.{below_more}
 use Rattle.std.proofs.lemmas.Bool.{cases_lt, le-leb}
 use Rattle.std.proofs.lemmas.Bool.Decides.{nat_tests}
@@ -16,8 +18,8 @@ use Rattle.snap_csv.specs.declared.refusal.ReadRefusal.TheVariants as refusals
 use Rattle.snap_csv.specs.Rows.{Fields, Stands}
 use Rattle.snap_csv.specs.Fields.{event_of, is_header_row, is_stamped_header_row}
 use Rattle.snap_csv.specs.Faults.{event_in, events_in, fault_with, fault_at, row_event, row_fault}
-use Rattle.snap_csv.specs.Texts.{RowsFault, RowsRead}
-use Rattle.snap_csv.specs.Answers.{AnswersRows, AnswersStamps, FailsEvent, RefusesRow, RefusesRows, TakesEvent, TakesRow}
+use Rattle.snap_csv.specs.Texts.{RowsFault}
+use Rattle.snap_csv.specs.Answers.{AnswersNumbered, AnswersStamps, FailsEvent, RefusesRow, RefusesRows, RefusesStamps, TakesEvent, TakesRow}
 
 -- the reader stands before the record at place i under the header, and the history is that of those before it
 pub record Midway (rows : List Fields) (r : Reader (Bor (List ℕ))) (events : List Event) (i : ℕ) : Type 0 where
@@ -71,7 +73,7 @@ row_pushed place old new r a p o d x (Err refusals.Memory) e h is t = tt
 
 -- ---- one record after the other
 
-at_drop : (xs : List Fields) (i : ℕ) (r : Fields) (rest : List Fields) → drop i xs ≡ r ∷ rest → (i < length xs) × (get_or xs i [] ≡ r) × (drop (i + 1) xs ≡ rest)
+pub at_drop : (xs : List Fields) (i : ℕ) (r : Fields) (rest : List Fields) → drop i xs ≡ r ∷ rest → (i < length xs) × (get_or xs i [] ≡ r) × (drop (i + 1) xs ≡ rest)
 at_drop xs i r rest e = elim (cases_lt i (length xs)) [
   | inl lt ↦
       let here = drop-cons xs i [] lt in
@@ -94,11 +96,12 @@ begun rows r head events (rest, e, s) h none = record {
   count = rw none refl;
 }
 
-pub done : (rows : List Fields) (r : Reader (Bor (List ℕ))) (events : List Event) (i : ℕ) (m : Midway rows r events i) → drop i m.later ≡ [] → RowsRead rows events
+pub done : (rows : List Fields) (r : Reader (Bor (List ℕ))) (events : List Event) (i : ℕ) (m : Midway rows r events i) → drop i m.later ≡ [] → AnswersNumbered rows (Ok (events, None))
 done rows r events i m e =
     let len : length m.later ≤ i = omega (arith, length-drop i m.later, ap length e) in
     let all : take i m.later ≡ m.later = take_all i m.later len in
-    rw m.whole (inl (m.header, λ j lt. m.fine j (omega (arith, m.within)), rw all at m.history))
+    let count : length events ≡ length m.later = omega (arith, m.count, m.within) in
+    rw m.whole (inl (m.header, λ j lt. m.fine j (omega (arith, m.within)), rw all at m.history), inl (m.header, ap (range_with_len 2) count))
 
 fault_here : (rows : List Fields) (r : Reader (Bor (List ℕ))) (events : List Event) (i : ℕ) (m : Midway rows r events i) (row : Fields) → get_or m.later i [] ≡ row
     → fault_at m.later i ≡ row_fault events row
@@ -140,8 +143,11 @@ pub no_header : (rows : List Fields) (head : Fields) (rest : List Fields) → ro
 no_header rows head rest e h s = rw e (inl (h, s, refl, refl))
 
 -- the answer to the records under the header of a text with stamps
-pub with_stamps : (rows : List Fields) (head : Fields) (rest : List Fields) (res : Result (List Event) ReadRefusal) → rows ≡ head ∷ rest → is_stamped_header_row head ≡ true → AnswersStamps rest res → AnswersRows rows res
-with_stamps rows head rest (Ok h) e s a = rw e (inr (s, a))
-with_stamps rows head rest (Err (refusals.Text p f)) e s a = rw e (inr (inr (s, a)))
-with_stamps rows head rest (Err refusals.Device) e s a = a
-with_stamps rows head rest (Err refusals.Memory) e s a = tt
+pub with_stamps : (rows : List Fields) (head : Fields) (rest : List Fields) (events : List Event) (records : Vec ℕ) → rows ≡ head ∷ rest → is_stamped_header_row head ≡ true → AnswersStamps rest (Ok (events, records))
+    → AnswersNumbered rows (Ok (events, Some records))
+with_stamps rows head rest events records e s a = rw e (inr (s, a.0), inr (s, a.0.sorted, a.0.order, a.1))
+
+pub without_stamps : (rows : List Fields) (head : Fields) (rest : List Fields) (e : ReadRefusal) → rows ≡ head ∷ rest → is_stamped_header_row head ≡ true → RefusesStamps rest e → RefusesRows rows e
+without_stamps rows head rest (refusals.Text p f) e s a = rw e (inr (inr (s, a)))
+without_stamps rows head rest refusals.Device e s a = a
+without_stamps rows head rest refusals.Memory e s a = tt

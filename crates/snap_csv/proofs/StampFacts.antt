@@ -1,7 +1,8 @@
 -- Reading the records of a text with stamps, and their events in turn.
-use Rattle.std.proofs.Common.{Bor, ◌≡◌, ◌<◌, ◌≤◌, ◌+◌, ◌^◌, ◌++◌, ◌||◌, cond, eqb, inl, inr, ℕ, suc, Bool, true, false, not, List, [], ◌∷◌, length, map, get_or, take, drop, Option, Some, None, Result, Ok, Err, refl, arith, ◌∙◌, sym, ap, subst, add-one, append-nil, append_assoc}
+use Rattle.std.proofs.Common.{Bor, ◌≡◌, ◌<◌, ◌≤◌, ◌+◌, ◌^◌, ◌++◌, ◌||◌, cond, eqb, inl, inr, ℕ, suc, Bool, true, false, not, List, [], ◌∷◌, length, get_or, take, drop, Option, Some, None, Result, Ok, Err, refl, arith, ◌∙◌, sym, ap, subst, add-one}
 use Rattle.std.specs.Prelude.{◌==◌, ◌≢◌, nat_le}
 use Rattle.std.specs.BTreeSet.{BTreeSet, Updates, contains}
+use Rattle.std.specs.Global.{Vec}
 use Rattle.std.specs.BTreeMap.{is_at}
 use Rattle.std.specs.Cmp.{nat_eq_equiv}
 use Rattle.std.specs.List.{IsDistinct, list_any}
@@ -25,13 +26,13 @@ use Rattle.snap_csv.specs.declared.refusal.ReadRefusal.TheVariants as refusals
 use Rattle.snap_csv.specs.declared.stamped.Stamped.{Stamped}
 use Rattle.snap_csv.specs.Rows.{Fields, Stands}
 use Rattle.snap_csv.specs.Fields.{event_of, number_at}
-use Rattle.snap_csv.specs.Faults.{fault_with}
-use Rattle.snap_csv.specs.Stamps.{FirstOf, InOrder, NoneOf, ShapeFault, StampedFault, StampedRead, events_of, nothing, order_at, repeat_fault, shape_at, shape_fault, stamped_from, stamped_in, stamped_row, stamps_of, with_stamped}
-use Rattle.snap_csv.specs.Answers.{AnswersStamps, FailsEvent, HasSeen, ReadsStamped, RefusesShapes, RefusesStamped, RefusesTurns, TakesEvent, TakesStamped, TakesTurns}
+use Rattle.snap_csv.specs.Stamps.{InOrder, NoneOf, events_of, nothing, order_at, places_of, repeat_fault, shape_at, shape_fault, stamped_from, stamped_in, stamped_row, stamps_of, with_stamped}
+use Rattle.snap_csv.specs.Answers.{AnswersStamps, FailsEvent, HasSeen, RefusesShapes, RefusesStamped, RefusesStamps, RefusesTurns, TakesEvent, TakesStamped, TakesTurns}
+use Rattle.snap_csv.proofs.ReadFacts.{at_drop}
 
 -- ---- a sort
 
-flips : (x y : ℕ) → eqb x y ≡ eqb y x
+pub flips : (x y : ℕ) → eqb x y ≡ eqb y x
 flips x y = elim (cases_eq x y) [
   | inl e ↦ eq-eqb x y e ∙ sym (eq-eqb y x (sym e))
   | inr n ↦ ne_eqb x y n ∙ sym (ne_eqb y x (λ e. n (sym e)))
@@ -186,16 +187,6 @@ from_append place (r ∷ rs) qs =
     along (Ok x) us vs = refl
     along (Err f) us vs = refl
 
-at_drop : (xs : List Fields) (i : ℕ) (r : Fields) (rest : List Fields) → drop i xs ≡ r ∷ rest → (i < length xs) × (get_or xs i [] ≡ r) × (drop (i + 1) xs ≡ rest)
-at_drop xs i r rest e = elim (cases_lt i (length xs)) [
-  | inl lt ↦
-      let here = drop-cons xs i [] lt in
-      let both : get_or xs i [] ∷ drop (suc i) xs ≡ r ∷ rest = sym here ∙ e in
-      let next : drop (i + 1) xs ≡ rest = rw add-one (cc) in
-      (lt, cc, next)
-  | inr le ↦ let none = drop_all i xs le in absurd (cc)
-]
-
 pub begun : (rows : List Fields) (r : Reader (Bor (List ℕ))) (xs : List Stamped) → Stands r rows → xs ≡ [] → MidStamped rows r xs 0
 begun rows r xs s none = record {
   stands = s;
@@ -300,16 +291,21 @@ turns_more xs left rest old new y place x m l yx t =
 
 -- ---- the whole
 
-pub shapes_stop : (rows : List Fields) (e : ReadRefusal) → RefusesShapes rows e → AnswersStamps rows (Err e)
+pub shapes_stop : (rows : List Fields) (e : ReadRefusal) → RefusesShapes rows e → RefusesStamps rows e
 shapes_stop rows (refusals.Text p f) r = inl r
 shapes_stop rows refusals.Device r = r
 shapes_stop rows refusals.Memory r = tt
 
-pub whole : (rows : List Fields) (xs ys : List Stamped) (res : Result (List Event) ReadRefusal) → NoneOf (shape_at rows) (length rows) × (xs ≡ stamped_in rows) → IsPermutation xs ys → IsStrictlyIncreasing (stamps_of ys)
-    → TakesTurns ys res → AnswersStamps rows res
-whole rows xs ys (Ok h) read p up t =
-    record { shapes = read.0; sorted = ys; order = record { same = subst (λ (z : List Stamped). IsPermutation z ys) read.1 p; rising = up }; fine = t.0; history = t.1 }
-whole rows xs ys (Err (refusals.Text q f)) read p up t =
-    inr (record { shapes = read.0; sorted = ys; order = record { same = subst (λ (z : List Stamped). IsPermutation z ys) read.1 p; rising = up }; i = t.0; first = t.1; record_is = t.2 })
-whole rows xs ys (Err refusals.Device) read p up t = t
-whole rows xs ys (Err refusals.Memory) read p up t = tt
+in_order : (rows : List Fields) (xs ys : List Stamped) → xs ≡ stamped_in rows → IsPermutation xs ys → IsStrictlyIncreasing (stamps_of ys) → InOrder rows ys
+in_order rows xs ys read p up = record { same = subst (λ (z : List Stamped). IsPermutation z ys) read p; rising = up }
+
+pub whole : (rows : List Fields) (xs ys : List Stamped) (h : List Event) (places : Vec ℕ) → NoneOf (shape_at rows) (length rows) × (xs ≡ stamped_in rows) → IsPermutation xs ys → IsStrictlyIncreasing (stamps_of ys)
+    → TakesTurns ys (Ok h) → places.items ≡ places_of ys → AnswersStamps rows (Ok (h, places))
+whole rows xs ys h places read p up t is = (record { shapes = read.0; sorted = ys; order = in_order rows xs ys read.1 p up; fine = t.0; history = t.1 }, is)
+
+pub turns_stop : (rows : List Fields) (xs ys : List Stamped) (e : ReadRefusal) → NoneOf (shape_at rows) (length rows) × (xs ≡ stamped_in rows) → IsPermutation xs ys → IsStrictlyIncreasing (stamps_of ys)
+    → RefusesTurns ys e → RefusesStamps rows e
+turns_stop rows xs ys (refusals.Text q f) read p up t =
+    inr (record { shapes = read.0; sorted = ys; order = in_order rows xs ys read.1 p up; i = t.0; first = t.1; record_is = t.2 })
+turns_stop rows xs ys refusals.Device read p up t = t
+turns_stop rows xs ys refusals.Memory read p up t = tt

@@ -1,8 +1,8 @@
 -- What the calls that read a text answer.
-use Rattle.std.specs.Prelude.{◌≡◌, ◌==◌, slice_index_or, ◌≤◌, ◌<◌, ℕ, List, [], ◌∷◌, ◌++◌, length, Option, Some, None, IfSome, Result, Ok, Err}
+use Rattle.std.specs.Prelude.{◌≡◌, ◌==◌, slice_index_or, ◌≤◌, ◌<◌, ⊤, ℕ, List, [], ◌∷◌, ◌++◌, length, Option, Some, None, IfSome, Result, Ok, Err}
 use Rattle.std.specs.Global.{Vec}
 use Rattle.std.specs.BTreeSet.{BTreeSet, contains}
-use Rattle.std.specs.List.{IsDistinct, list_any}
+use Rattle.std.specs.List.{IsDistinct, list_any, range_with_len}
 use Rattle.std.specs.Ordering.{nat_cmp}
 use Rattle.snap_core.specs.declared.event.Event.{Event}
 use Rattle.snap_core.specs.Counting.{Rose}
@@ -13,8 +13,9 @@ use Rattle.snap_csv.specs.declared.refusal.ReadRefusal.TheVariants as refusals
 use Rattle.snap_csv.specs.Rows.{Fields}
 use Rattle.snap_csv.specs.Faults.{fault_with, row_event, row_fault}
 use Rattle.snap_csv.specs.declared.stamped.Stamped.{Stamped}
-use Rattle.snap_csv.specs.Stamps.{FirstOf, NoneOf, ShapeFault, StampedFault, StampedRead, events_of, nothing, order_at, shape_at, shape_fault, stamped_in, stamped_row, stamps_of}
+use Rattle.snap_csv.specs.Stamps.{FirstOf, NoneOf, ShapeFault, StampedFault, StampedRead, events_of, nothing, order_at, places_of, shape_at, shape_fault, stamped_in, stamped_row, stamps_of}
 use Rattle.snap_csv.specs.Texts.{RowsRead, RowsFault, IsText, HasFault, byte_limit}
+use Rattle.snap_csv.specs.Records.{HaveRecords, RowsNumbered}
 
 -- what an answer says of records
 abbrev pub RefusesRows : List Fields → ReadRefusal → Type 0
@@ -26,6 +27,15 @@ abbrev pub AnswersRows : List Fields → Result (List Event) ReadRefusal → Typ
 AnswersRows rows (Ok h) = RowsRead rows h
 AnswersRows rows (Err e) = RefusesRows rows e
 
+-- the numbers of the events' records that were kept: none of records that stand one after the other
+abbrev pub numbers_kept : ℕ → Option (Vec ℕ) → List ℕ
+numbers_kept count None = range_with_len 2 count
+numbers_kept count (Some kept) = kept.items
+
+abbrev pub AnswersNumbered : List Fields → Result (List Event × Option (Vec ℕ)) ReadRefusal → Type 0
+AnswersNumbered rows (Ok x) = RowsRead rows x.0 × RowsNumbered rows (numbers_kept (length x.0) x.1)
+AnswersNumbered rows (Err e) = RefusesRows rows e
+
 -- what an answer says of a text
 abbrev pub RefusesText : List ℕ → ReadRefusal → Type 0
 RefusesText text (refusals.Text place f) = HasFault text place f
@@ -35,6 +45,21 @@ RefusesText text refusals.Memory = Unit {0}
 abbrev pub AnswersText : List ℕ → Result (List Event) ReadRefusal → Type 0
 AnswersText text (Ok h) = IsText text h
 AnswersText text (Err e) = RefusesText text e
+
+-- the same, with the number of each event's record
+abbrev pub AnswersRecords : List ℕ → Result (List Event × Vec ℕ) ReadRefusal → Type 0
+AnswersRecords text (Ok x) = HaveRecords text x.0 x.1.items
+AnswersRecords text (Err e) = RefusesText text e
+
+-- what a room holds then: the text, but where it was too long, or a device or memory failed
+abbrev pub RefusalLeaves : List ℕ → List ℕ → ReadRefusal → Type 0
+RefusalLeaves text room (refusals.Text place f) = 0 < place → room ≡ text
+RefusalLeaves text room refusals.Device = ⊤
+RefusalLeaves text room refusals.Memory = ⊤
+
+abbrev pub Leaves : {A : Type 0} → List ℕ → List ℕ → Result A ReadRefusal → Type 0
+Leaves text room (Ok x) = room ≡ text
+Leaves text room (Err e) = RefusalLeaves text room e
 
 -- the same of a text in memory, where no device fails
 abbrev pub RefusesWhole : List ℕ → ReadRefusal → Type 0
@@ -133,12 +158,12 @@ abbrev pub TakesTurns : List Stamped → Result (List Event) ReadRefusal → Typ
 TakesTurns xs (Ok h) = NoneOf (order_at xs) (length xs) × (h ≡ events_of xs)
 TakesTurns xs (Err e) = RefusesTurns xs e
 
--- what an answer says of the records under the header of a text with stamps
+-- what an answer says of the records under the header of a text with stamps, the numbers of the events' records among them
 abbrev pub RefusesStamps : List Fields → ReadRefusal → Type 0
 RefusesStamps rows (refusals.Text place f) = StampedFault rows place f
 RefusesStamps rows refusals.Device = ⊥
 RefusesStamps rows refusals.Memory = Unit {0}
 
-abbrev pub AnswersStamps : List Fields → Result (List Event) ReadRefusal → Type 0
-AnswersStamps rows (Ok h) = StampedRead rows h
+abbrev pub AnswersStamps : List Fields → Result (List Event × Vec ℕ) ReadRefusal → Type 0
+AnswersStamps rows (Ok x) = (read : StampedRead rows x.0) × (x.1.items ≡ places_of read.sorted)
 AnswersStamps rows (Err e) = RefusesStamps rows e

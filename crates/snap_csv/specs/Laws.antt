@@ -5,11 +5,12 @@ use Rattle.snap_core.specs.declared.event.Event.{Event}
 use Rattle.snap_core.specs.declared.event.Event.TheVariants.{BeginUpdate, BeginView, EndUpdate, EndView}
 use Rattle.snap_core.specs.Events.{EventFits, IsKept}
 use Rattle.snap_csv.specs.declared.refusal.TextFault.{TextFault}
-use Rattle.snap_csv.specs.Rows.{Fields}
+use Rattle.snap_csv.specs.Rows.{Fields, rows_of}
 use Rattle.snap_csv.specs.Fields.{is_header_row, is_stamped_header_row}
 use Rattle.snap_csv.specs.Faults.{row_event}
 use Rattle.snap_csv.specs.Spelling.{history_text, spelled, stamped_text}
 use Rattle.snap_csv.specs.Texts.{HasFault, IsText, byte_limit}
+use Rattle.snap_csv.specs.Records.{HaveRecords, SpellEvents}
 
 -- a record is read as an event only where it has the event's four fields
 abbrev pub RecordsAreSpelled : Type 0
@@ -70,3 +71,7 @@ abbrev pub StampedTextsReadBack : Type 0
 StampedTextsReadBack =
     (at : List ℕ) (events : List Event) → IsKept events → length at ≡ length events → IsStrictlyIncreasing at → All (λ n. n < 2 ^ 64) at →
     length (stamped_text at events) ≤ byte_limit → IsText (stamped_text at events) events
+
+-- the record of each event's number spells that event
+abbrev pub RecordsSpellEvents : Type 0
+RecordsSpellEvents = (text : List ℕ) (events : List Event) (records : List ℕ) → HaveRecords text events records → SpellEvents (rows_of text) events records

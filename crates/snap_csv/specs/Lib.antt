@@ -4,8 +4,9 @@ pub mod Fields
 pub mod Faults
 pub mod Stamps
 pub mod Texts
-pub mod Answers
 pub mod Spelling
+pub mod Records
+pub mod Answers
 pub mod Fronts
 pub mod Writing
 pub mod Laws

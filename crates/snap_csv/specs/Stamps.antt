@@ -39,6 +39,9 @@ stamps_of xs = map (λ x. x.at) xs
 abbrev pub events_of : List Stamped → List Event
 events_of xs = map (λ x. x.event) xs
 
+abbrev pub places_of : List Stamped → List ℕ
+places_of xs = map (λ x. x.place) xs
+
 -- the fault in a record's fields, or else that an earlier record has its stamp
 abbrev pub repeat_fault : List ℕ → Result (ℕ × Event) TextFault → Option TextFault
 repeat_fault earlier (Err f) = Some f

@@ -1,4 +1,4 @@
-ghost use Rattle.snap_csv.specs.Laws.{FieldsAreOneEvents, FieldsReadBack, HeadersDiffer, NarrowTextsAreShort, RecordsAreSpelled, StampedTextsReadBack, TextsAreShort, TextsHaveNoFault, TextsHaveOneFault, TextsHaveOneReading, TextsReadBack};
+ghost use Rattle.snap_csv.specs.Laws.{FieldsAreOneEvents, FieldsReadBack, HeadersDiffer, NarrowTextsAreShort, RecordsAreSpelled, RecordsSpellEvents, StampedTextsReadBack, TextsAreShort, TextsHaveNoFault, TextsHaveOneFault, TextsHaveOneReading, TextsReadBack};
 
 /// No two events have the same four fields.
 pub fn fields_are_one_events()
@@ -53,4 +53,10 @@ pub fn headers_differ()
 /// The text of a history with strictly rising stamps has no fault and is that of this history, within the limit of bytes.
 pub fn stamped_texts_read_back()
     ensures { StampedTextsReadBack }
+{}
+
+/// Where a text is one of a history with these records, there are as many of them as events, no two the same, and the record
+/// of each event's number has that event's four fields, behind a stamp where the text has stamps.
+pub fn records_spell_events()
+    ensures { RecordsSpellEvents }
 {}

@@ -1,6 +1,6 @@
 ghost use Rattle.std.specs.Prelude.{◌≡◌, IfSome};
 ghost use Rattle.snap_core.specs.Counting.{inner_of, failures_in};
-ghost use Rattle.snap_csv.specs.Answers.{AnswersRows, AnswersText, AnswersWhole, Counts, TakesEvent, TakesRow};
+ghost use Rattle.snap_csv.specs.Answers.{AnswersNumbered, AnswersRows, AnswersText, AnswersWhole, Counts, TakesEvent, TakesRow};
 ghost use Rattle.snap_csv.specs.Faults.{fault_of};
 ghost use Rattle.snap_csv.specs.Rows.{rows_of};
 ghost use Rattle.csv.specs.Records.{fields_of};
@@ -73,9 +73,13 @@ pub fn push_event(history: &mut History, place: u32, event: Event) -> Result<(),
     }
 }
 
-// The history of a text, or its first fault.
-fn history_of(alloc: Global, text: &[u8]) -> Result<History, ReadRefusal>
-    ensures { AnswersRows (rows_of text.now) result }
+/// The history of a text, or its first fault; and the numbers of its events' records where these have stamps. Records
+/// without stamps stand one after the other, and their numbers are not kept.
+pub fn numbered_history(
+    alloc: Global,
+    text: &[u8],
+) -> Result<(History, Option<Vec<u32>>), ReadRefusal>
+    ensures { AnswersNumbered (rows_of text.now) result }
 {
     let mut reader = reader_of(alloc, text);
     let mut row = ByteRecord::new(alloc);
@@ -87,7 +91,8 @@ fn history_of(alloc: Global, text: &[u8]) -> Result<History, ReadRefusal>
     }
     if !is_header(&row) {
         if is_stamped_header(&row) {
-            return stamped_history(alloc, &mut reader, &mut row);
+            let (history, records) = stamped_history(alloc, &mut reader, &mut row)?;
+            return Ok((history, Some(records)));
         }
         return Err(ReadRefusal::Text {
             place: 1,
@@ -98,12 +103,20 @@ fn history_of(alloc: Global, text: &[u8]) -> Result<History, ReadRefusal>
     let mut history = History::new(alloc);
     for i in 0..ROW_LIMIT {
         if !next_row(&mut reader, &mut row)? {
-            return Ok(history);
+            return Ok((history, None));
         }
         take_row(alloc, &mut known, &mut history, i + 2, &row)?;
     }
     let _len = history.len();
     unreachable!()
+}
+
+// The history of a text, or its first fault.
+fn history_of(alloc: Global, text: &[u8]) -> Result<History, ReadRefusal>
+    ensures { AnswersRows (rows_of text.now) result }
+{
+    let (history, _) = numbered_history(alloc, text)?;
+    Ok(history)
 }
 
 /// Reads a history: the whole text first, at most 67,108,864 bytes, and then its records in order. The answer is the

@@ -4,7 +4,7 @@ ghost use Rattle.std.specs.List.Sorted.{IsPermutation, IsStrictlyIncreasing};
 ghost use Rattle.csv.specs.Records.{fields_of};
 ghost use Rattle.snap_csv.specs.Answers.{AnswersStamps, HasSeen, ReadsStamped, TakesStamped, TakesTurns};
 ghost use Rattle.snap_csv.specs.Rows.{Fields, Stands};
-ghost use Rattle.snap_csv.specs.Stamps.{stamps_of};
+ghost use Rattle.snap_csv.specs.Stamps.{places_of, stamps_of};
 
 use crate::entries::Known;
 use crate::fields::{event_of_fields, five_fields};
@@ -14,7 +14,7 @@ use crate::refusal::{ReadRefusal, TextFault};
 use crate::rows::next_row;
 use csv::{ByteRecord, Reader};
 use snap_core::{EVENT_LIMIT, Event, History};
-use std::alloc::Global;
+use std::alloc::{AllocError, Global};
 use std::collections::BTreeSet;
 
 /// An event with its stamp and the number of its record.
@@ -102,6 +102,13 @@ fn sort_by_stamp(stamped: &mut Vec<Stamped>)
     );
 }
 
+// The numbers of the records of events.
+fn places_in(alloc: Global, stamped: &[Stamped]) -> Result<Vec<u32>, AllocError>
+    ensures { IfOk result (λ places. places.items ≡ places_of stamped.now) }
+{
+    stamped.iter().map(|event| event.place).collect(alloc)
+}
+
 // The history of events in this order.
 fn take_turns(alloc: Global, stamped: Vec<Stamped>) -> Result<History, ReadRefusal>
     ensures { TakesTurns stamped.items result }
@@ -117,15 +124,17 @@ fn take_turns(alloc: Global, stamped: Vec<Stamped>) -> Result<History, ReadRefus
     Ok(history)
 }
 
-/// The history of the records that a reader has left, each with a stamp, or their first fault.
+/// The history of the records that a reader has left, each with a stamp, and the number of each event's record; or the
+/// first fault.
 pub fn stamped_history(
     alloc: Global,
     reader: &mut Reader<&[u8]>,
     row: &mut ByteRecord,
-) -> Result<History, ReadRefusal>
+) -> Result<(History, Vec<u32>), ReadRefusal>
     ensures { (rows : List Fields) → Stands reader.old rows → AnswersStamps rows result }
 {
     let mut stamped = read_stamped(alloc, reader, row)?;
     sort_by_stamp(&mut stamped);
-    take_turns(alloc, stamped)
+    let places = places_in(alloc, &stamped)?;
+    Ok((take_turns(alloc, stamped)?, places))
 }

@@ -5,6 +5,7 @@ use std::alloc::Global;
 use std::io::Read;
 use std::test::*;
 
+mod record_numbers;
 mod stamps;
 
 const STALE_VIEW: &[u8] =

@@ -1,0 +1,76 @@
+ghost use Rattle.std.specs.Prelude.{◌≡◌, ◌≤◌, IfOk, IfSome, length, map, option_map};
+ghost use Rattle.std.specs.List.{range_with_len};
+ghost use Rattle.csv.specs.Records.{fields_of};
+ghost use Rattle.snap_core.specs.Counting.{inner_of, failures_in};
+ghost use Rattle.snap_core.specs.Events.{event_limit};
+ghost use Rattle.snap_csv.specs.Answers.{AnswersRecords, Counts, Leaves};
+ghost use Rattle.snap_csv.specs.Records.{record_at};
+ghost use Rattle.snap_csv.specs.Rows.{rows_of};
+
+use crate::intake::take_in;
+use crate::read::numbered_history;
+use crate::refusal::ReadRefusal;
+use crate::rows::{next_row, reader_of};
+use csv::ByteRecord;
+use snap_core::{Counted, History};
+use std::alloc::{AllocError, Global};
+use std::io::Read;
+
+// The numbers of so many records one after the other under the header.
+fn in_turn(alloc: Global, count: usize) -> Result<Vec<u32>, AllocError>
+    requires { count ≤ event_limit }
+    ensures { IfOk result (λ numbers. numbers.items ≡ range_with_len 2 count) }
+{
+    (2..count as u32 + 2).collect(alloc)
+}
+
+/// Reads as `read_history_in`, and gives with the history the number of each event's record, counted from 1: the header is
+/// record 1. The vector then has the text, also where the text was refused at a record, which `record_of` can look up.
+pub fn read_records<R: Read>(
+    alloc: Global,
+    reader: &mut Counted<R>,
+    room: &mut Vec<u8>,
+) -> Result<(History, Vec<u32>), ReadRefusal>
+    ensures text { IfSome (R.remaining (inner_of reader.old)) (λ text. AnswersRecords text result) }
+    ensures counts { Counts (failures_in reader.old) (failures_in reader.new) result }
+    ensures room { IfSome (R.remaining (inner_of reader.old)) (λ text. Leaves text room.new.items result) }
+{
+    *room = take_in(alloc, reader)?;
+    let (history, kept) = numbered_history(alloc, room)?;
+    let records = match kept {
+        Some(numbers) => numbers,
+        None => in_turn(alloc, history.len())?,
+    };
+    Ok((history, records))
+}
+
+// The fields of a record.
+fn fields_in(alloc: Global, row: &ByteRecord) -> Result<Vec<Vec<u8>>, AllocError>
+    ensures { IfOk result (λ fields. map (λ f. f.items) fields.items ≡ fields_of row.now) }
+{
+    let mut fields = Vec::new(alloc);
+    for field in row.iter() {
+        fields.push(Vec::from_slice(alloc, field)?)?;
+    }
+    Ok(fields)
+}
+
+/// The fields of a record of a text, counted from 1, without the quotes around them: none where the text has no such record.
+pub fn record_of(alloc: Global, text: &[u8], place: u32) -> Result<Option<Vec<Vec<u8>>>, AllocError>
+    ensures { IfOk result (λ found. option_map (λ fields. map (λ f. f.items) fields.items) found ≡ record_at (rows_of text.now) place) }
+{
+    let Some(before) = place.checked_sub(1) else {
+        return Ok(None);
+    };
+    let mut reader = reader_of(alloc, text);
+    let mut row = ByteRecord::new(alloc);
+    for _ in 0..before {
+        if !next_row(&mut reader, &mut row)? {
+            return Ok(None);
+        }
+    }
+    if !next_row(&mut reader, &mut row)? {
+        return Ok(None);
+    }
+    Ok(Some(fields_in(alloc, &row)?))
+}
