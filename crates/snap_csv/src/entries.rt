@@ -9,8 +9,11 @@ use crate::number::number_first;
 use snap_core::Entry;
 use std::alloc::{AllocError, Global};
 
-// How many entries are compared at a time, and how many times a view has as many.
-const GROUP: usize = 16;
+// How many entries are compared at a time.
+const GROUP: usize = 8;
+
+// How many times a view has as many.
+const GROUP_LIMIT: usize = 32;
 
 // Entries that were read, and their text.
 #[derive(Drop)]
@@ -20,11 +23,36 @@ struct Group {
     ghost spelled: { EntriesThen entries.items [] text.items },
 }
 
+impl Group {
+    // The group of some entries, in the memory of another, if there is one.
+    fn of(
+        alloc: Global,
+        room: Option<Group>,
+        text: &[u8],
+        entries: &[Entry],
+    ) -> Result<Group, AllocError>
+        requires { EntriesThen entries.now [] text.now }
+    {
+        let (mut text_room, mut entries_room) = match room {
+            Some(group) => (group.text, group.entries),
+            None => (Vec::new(alloc), Vec::new(alloc)),
+        };
+        text_room.clear();
+        text_room.extend_from_slice(text)?;
+        entries_room.clear();
+        entries_room.extend_from_slice(entries)?;
+        Ok(Group {
+            text: text_room,
+            entries: entries_room,
+        })
+    }
+}
+
 /// What is kept of the views that were read: the latest group at each place, and how many entries the last view had. A view
 /// of fewer entries than a group has is read anew, since there comparing costs as much as it spares.
 #[derive(Drop)]
 pub struct Known {
-    groups: Vec<Group>,
+    groups: Vec<Option<Group>>,
     count: usize,
 }
 
@@ -37,12 +65,22 @@ impl Known {
         }
     }
 
-    // Keeps a group in its place.
-    fn keep(&mut self, place: usize, group: Group) -> Result<(), AllocError> {
+    // Keeps the entries of a group in its place, in the memory of the group that stands there.
+    fn keep(
+        &mut self,
+        alloc: Global,
+        place: usize,
+        text: &[u8],
+        entries: &[Entry],
+    ) -> Result<(), AllocError>
+        requires { EntriesThen entries.now [] text.now }
+    {
+        if place == self.groups.len() && place < GROUP_LIMIT {
+            self.groups.push(None)?;
+        }
         if place < self.groups.len() {
-            self.groups[place] = group;
-        } else if place < GROUP {
-            self.groups.push(group)?;
+            let room = self.groups[place].take();
+            self.groups[place] = Some(Group::of(alloc, room, text, entries)?);
         }
         Ok(())
     }
@@ -138,7 +176,7 @@ fn add_group<'a>(
 {
     let before = entries.len();
     let place = before / GROUP;
-    if let Some(group) = known.groups.get(place) {
+    if let Some(Some(group)) = known.groups.get(place) {
         if let Some(rest) = behind_group(group, text) {
             entries.extend_from_slice(&group.entries)?;
             return Ok(Some(rest));
@@ -148,11 +186,8 @@ fn add_group<'a>(
         return Ok(None);
     };
     if entries.len() - before == GROUP {
-        let group = Group {
-            text: Vec::from_slice(alloc, &text[..text.len() - rest.len()])?,
-            entries: Vec::from_slice(alloc, &entries[before..])?,
-        };
-        known.keep(place, group)?;
+        let front = &text[..text.len() - rest.len()];
+        known.keep(alloc, place, front, &entries[before..])?;
     }
     Ok(Some(rest))
 }

@@ -78,14 +78,27 @@ fn write_entries(entries: &[Entry], buffer: &mut [u8], end: usize) -> usize
     at
 }
 
-// The words of entries, each behind a space.
-fn group_text(alloc: Global, entries: &[Entry]) -> Result<Vec<u8>, AllocError>
-    requires { length entries.now ≤ 16 }
-    ensures { IfOk result (λ text. text.items ≡ flat_map (λ entry. codes " " ++ entry_word entry) entries.now) }
-{
-    let mut buffer = [0u8; GROUP_SIZE];
-    let at = write_entries(entries, &mut buffer, GROUP_SIZE);
-    Vec::from_slice(alloc, &buffer[at..])
+impl Group {
+    // The group of some entries, in the memory of another, if there is one.
+    fn of(alloc: Global, room: Option<Group>, entries: &[Entry]) -> Result<Group, AllocError>
+        requires { length entries.now ≤ 16 }
+        ensures { IfOk result (λ group. group.entries.items ≡ entries.now) }
+    {
+        let (mut entries_room, mut text_room) = match room {
+            Some(group) => (group.entries, group.text),
+            None => (Vec::new(alloc), Vec::new(alloc)),
+        };
+        let mut buffer = [0u8; GROUP_SIZE];
+        let at = write_entries(entries, &mut buffer, GROUP_SIZE);
+        entries_room.clear();
+        entries_room.extend_from_slice(entries)?;
+        text_room.clear();
+        text_room.extend_from_slice(&buffer[at..])?;
+        Ok(Group {
+            entries: entries_room,
+            text: text_room,
+        })
+    }
 }
 
 // Whether two lists of entries are the same.
@@ -98,29 +111,29 @@ fn is_same(a: &[Entry], b: &[Entry]) -> bool
 // Adds the entries of a group, each behind a space. Where the group that is known has them, its text is copied.
 fn put_group(
     out: &mut Vec<u8>,
-    known: &mut Vec<Group>,
+    known: &mut Vec<Option<Group>>,
     place: usize,
     entries: &[Entry],
 ) -> Result<(), AllocError>
     requires { length entries.now ≤ 16 }
     ensures { OnOk result (out.new.items ≡ out.old.items ++ flat_map (λ entry. codes " " ++ entry_word entry) entries.now) }
 {
-    if let Some(group) = known.get(place) {
+    if let Some(Some(group)) = known.get(place) {
         if is_same(&group.entries, entries) {
             return out.extend_from_slice(&group.text);
         }
     }
-    let alloc = *out.allocator();
-    let text = group_text(alloc, entries)?;
-    out.extend_from_slice(&text)?;
-    let group = Group {
-        entries: Vec::from_slice(alloc, entries)?,
-        text,
-    };
-    if place < known.len() {
-        known[place] = group;
+    let room = if place < known.len() {
+        known[place].take()
     } else {
-        known.push(group)?;
+        None
+    };
+    let group = Group::of(*out.allocator(), room, entries)?;
+    out.extend_from_slice(&group.text)?;
+    if place < known.len() {
+        known[place] = Some(group);
+    } else {
+        known.push(Some(group))?;
     }
     Ok(())
 }
@@ -129,7 +142,7 @@ fn put_group(
 // compared with the groups that were added before.
 fn put_groups(
     out: &mut Vec<u8>,
-    known: &mut Vec<Group>,
+    known: &mut Vec<Option<Group>>,
     entries: &[Entry],
 ) -> Result<(), AllocError>
     ensures { OnOk result (out.new.items ≡ out.old.items ++ flat_map (λ entry. codes " " ++ entry_word entry) entries.now) }
@@ -193,7 +206,7 @@ fn put_view_front(out: &mut Vec<u8>, number: u32, process: u16) -> Result<(), Al
 /// Adds the line of a view.
 pub(crate) fn put_view_line(
     out: &mut Vec<u8>,
-    known: &mut Vec<Group>,
+    known: &mut Vec<Option<Group>>,
     number: u32,
     process: u16,
     entries: &[Entry],
