@@ -98,7 +98,7 @@ def said(report):
     if report.startswith("refused record "):
         return "refused"
     return {"yesyes": "atomic", "yesno": "regular", "nono": "irregular"}[
-        report.split("\n")[1].removeprefix("regular ") + report.split("\n")[2].removeprefix("atomic ")]
+        report.split("\n")[1].removeprefix("regular ") + report.split("\n")[3].removeprefix("atomic ")]
 
 
 def by_program(text):

@@ -32,3 +32,4 @@ mod Worked
 mod Surrounded
 pub mod Rising
 pub mod NumberTables
+pub mod Faultless

@@ -20,6 +20,7 @@ mod tally;
 mod tests;
 mod view_chain;
 mod view_grid;
+mod whole;
 mod write;
 
 pub use fault::{IntegrityFault, ProximityFault, ReadFault, Side, WriteFault};
@@ -35,3 +36,4 @@ pub use sweep::ordered;
 pub use tally::{Tally, is_atomic, is_monotone, is_regular, merge};
 pub use view_chain::chain;
 pub use view_grid::ViewGrid;
+pub use whole::{has_no_read_fault, tally_alone};

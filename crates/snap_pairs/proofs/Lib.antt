@@ -4,4 +4,3 @@ pub mod Finishing
 pub mod Closing
 pub mod Starts
 pub mod Gathering
-pub mod Faultless

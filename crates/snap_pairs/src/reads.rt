@@ -9,7 +9,7 @@ ghost use Rattle.snap_conditions.specs.Tally.{tally_of, views_between};
 ghost use Rattle.snap_pairs.specs.Reads.{IsGridFor};
 
 use rayon::prelude::*;
-use snap_conditions::{Tally, ViewGrid, chain, ordered, tally_without_read, view_sum};
+use snap_conditions::{Tally, ViewGrid, has_no_read_fault, tally_without_read, view_sum};
 use snap_index::Index;
 use std::alloc::{AllocError, Global};
 use std::thread::Threads;
@@ -25,7 +25,8 @@ pub(crate) fn grid_for_reads<'i, 'h, R: Threads + Sync>(
 ) -> Result<Option<ViewGrid<'i, 'h>>, AllocError>
     ensures { IfOk result (IsGridFor index.entry.now) }
 {
-    if has_no_read_fault(rt, alloc, index)? {
+    let sums = view_sums(rt, alloc, index)?;
+    if has_no_read_fault(alloc, index, &sums)? {
         return Ok(None);
     }
     Ok(Some(ViewGrid::build(alloc, index)?))
@@ -50,24 +51,7 @@ pub(crate) fn piece_tally(
     }
 }
 
-// Whether no two views are a read fault, by the quick test.
-fn has_no_read_fault<R: Threads + Sync>(
-    rt: &R,
-    alloc: Global,
-    index: &Index<'_>,
-) -> Result<bool, AllocError>
-    ensures { IfOk result (λ none. IsTrue none ↔ (read_faults (calls_of index.now) (views_of (calls_of index.now)) ≡ [])) }
-{
-    // what is known of the history that the index is of
-    let _events = index.event_count();
-    let sums = view_sums(rt, alloc, index)?;
-    if chain(alloc, index, &sums)?.is_none() {
-        return Ok(false);
-    }
-    ordered(alloc, index, &sums)
-}
-
-// The sum of the numbers that each completed view shows, by call number.
+// The sums of the numbers that the completed views show, by call number.
 fn view_sums<R: Threads + Sync>(
     rt: &R,
     alloc: Global,

@@ -1,6 +1,8 @@
 //! The sums, the chains and the grids of views.
 use crate::fault::{Fault, expect};
-use snap_conditions::{ViewGrid, chain, ordered, view_sums};
+use snap_conditions::{
+    Tally, ViewGrid, chain, has_no_read_fault, ordered, tally_alone, view_sums,
+};
 use snap_index::Index;
 use snap_testing::Step::{Update, Updated, View, Viewed};
 use snap_testing::worked::{ATOMIC_RUN, CROSSED_VIEWS, NEW_THEN_OLD};
@@ -45,7 +47,9 @@ fn expect_chain(
         Some(places) => expect(Some(places.as_slice()) == known_chain)?,
         None => expect(known_chain.is_none())?,
     }
-    expect(ordered(alloc, &index, &sums)? == is_ordered)
+    expect(ordered(alloc, &index, &sums)? == is_ordered)?;
+    let passes = known_chain.is_some() && is_ordered;
+    expect(has_no_read_fault(alloc, &index, &sums)? == passes)
 }
 
 /// Views that disagree are no chain, a view after a newer one is one out of order, and those of an atomic run are one in order.
@@ -55,14 +59,19 @@ pub fn chains(alloc: Global) -> Result<(), Fault> {
     expect_chain(alloc, ATOMIC_RUN, &[1, 3], Some(&[0, 1]), true)
 }
 
-// By its grid a history has so many read faults and stale views, and no other fault.
+// A tally has so many read faults and stale views, and no other fault.
+fn expect_faults(found: &Tally, read: u64, stale: u64) -> Result<(), Fault> {
+    expect(found.integrity.count() == 0 && found.proximity.count() == 0)?;
+    expect(found.read.count() == read && found.write.count() == 0 && found.stale == stale)
+}
+
+// By its grid, and by whichever way is chosen, a history has so many read faults and stale views.
 fn expect_tally(alloc: Global, steps: &[Step<'_>], read: u64, stale: u64) -> Result<(), Fault> {
     let history = history_of(alloc, steps)?;
     let index = Index::build(alloc, &history)?;
     let grid = ViewGrid::build(alloc, &index)?;
-    let found = grid.tally(alloc, 0, index.view_count())?;
-    expect(found.integrity.count() == 0 && found.proximity.count() == 0)?;
-    expect(found.read.count() == read && found.write.count() == 0 && found.stale == stale)
+    expect_faults(&grid.tally(alloc, 0, index.view_count())?, read, stale)?;
+    expect_faults(&tally_alone(alloc, &index)?, read, stale)
 }
 
 /// Grids of few views, and of views most of which leave a component out.

@@ -1,12 +1,11 @@
 -- The verdict on a history, by the tally of its completed views.
-use Rattle.std.proofs.Common.{arith, ◌-◌, length, ◌≡◌, ◌⊎◌, ◌∙◌, ◌↔◌, ℕ, Bool, true, false, List, Option, Some, None, map, refl, sym, ap, subst, inl, inr}
+use Rattle.std.proofs.Common.{◌≡◌, ◌⊎◌, ◌∙◌, ◌↔◌, ℕ, Bool, true, false, List, Option, Some, None, map, refl, sym, ap, subst, inl, inr}
 use Rattle.std.specs.Borrow.{Bor}
 use Rattle.std.specs.Prelude.{IsTrue, is_some, option_copied, option_map}
 use Rattle.std.specs.Option.{ForSome}
 use Rattle.std.specs.List.{All}
 use Rattle.std.proofs.lemmas.Bool.{and_from, and_parts, eq-eqb, eqb-true}
 use Rattle.std.proofs.lemmas.List.Elements.{All-map}
-use Rattle.std.proofs.lemmas.List.{take_all}
 use Rattle.snap_core.specs.declared.event.Event.{Event}
 use Rattle.snap_core.specs.Calls.{Call, Operation, Updates, Views, calls_of, is_view, views_of}
 use Rattle.snap_core.specs.Events.{HasByteComponents, IsKept}
@@ -18,7 +17,7 @@ use Rattle.snap_core.proofs.Histories.{numbered_calls}
 use Rattle.snap_core.proofs.Lists.{Contains-from_In, In, In-get_or}
 use Rattle.snap_conditions.specs.declared.tally.Tally.{Tally}
 use Rattle.snap_conditions.specs.Faults.{HasNoFault}
-use Rattle.snap_conditions.specs.Tally.{CountsNoFault, CountsNoLocalFault, tally_of, views_between}
+use Rattle.snap_conditions.specs.Tally.{CountsNoFault, CountsNoLocalFault, tally_of}
 use Rattle.snap_conditions.proofs.Ranges.{no_fault_by_tally, regular_by_tally}
 use Rattle.snap_conditions.proofs.StaleViews.{monotone_by_tally}
 use Rattle.snap_index.proofs.Known.{number_within, own_number}
@@ -87,12 +86,6 @@ pub record IsTallied (es : List Event) (t : Tally) : Type 0 where
 
 pub no_fault_then : (es : List Event) (t : Tally) → t ≡ tally_of (calls_of es) (views_of (calls_of es)) → CountsNoFault t → HasNoFault (calls_of es)
 no_fault_then es t whole h = (no_fault_by_tally (calls_of es)).0 (subst CountsNoFault whole h)
-
-pub of_all_views : (es grid : List Event) (count : ℕ) (t : Tally) → grid ≡ es → count ≡ length (views_of (calls_of es)) → t ≡ tally_of (calls_of grid) (views_between (calls_of grid) 0 count) →
-    t ≡ tally_of (calls_of es) (views_of (calls_of es))
-of_all_views es grid count t same counted e =
-    subst (λ (g : List Event). t ≡ tally_of (calls_of g) (views_between (calls_of g) 0 count)) same e
-    ∙ ap (tally_of (calls_of es)) (take_all (count - 0) (views_of (calls_of es)) (omega (arith, counted)))
 
 bytes_in : (es : List Event) → IsKept es → HasByteComponents es
 bytes_in es k = bytes_of_events es k.fit

@@ -8,7 +8,7 @@ ghost use Rattle.snap_verdict.specs.Verdicts.{HasStatus, IsBriefVerdict, IsVerdi
 ghost use Rattle.snap_verdict.specs.Reports.{IsReport};
 
 use crate::status::{Status, status_by};
-use snap_conditions::{Tally, ViewGrid, is_atomic};
+use snap_conditions::{Tally, is_atomic, tally_alone};
 use snap_core::History;
 use snap_csv::{ReadRefusal, read_text};
 use snap_index::Index;
@@ -62,13 +62,20 @@ pub fn brief_verdict_of(
     Ok((status_by(tally), text))
 }
 
-/// The status and the report of a history, without a runtime: on the calling thread alone.
-pub fn verdict_alone(alloc: Global, history: &History) -> Result<(Status, Vec<u8>), AllocError>
+// More bytes than the lines of a report have that stand before its order.
+const FRONT_SIZE: usize = 128;
+
+// The status and the report of a history, without a runtime. Of the report's memory so many bytes are reserved at once.
+fn verdict_in(
+    alloc: Global,
+    history: &History,
+    size: usize,
+) -> Result<(Status, Vec<u8>), AllocError>
     ensures { IfOk result (λ answer. IsVerdict history.now answer.0 answer.1.items) }
 {
     let index = Index::build(alloc, history)?;
-    let tally = ViewGrid::build(alloc, &index)?.tally(alloc, 0, index.view_count())?;
-    let room = Vec::new(alloc);
+    let tally = tally_alone(alloc, &index)?;
+    let room = Vec::with_capacity(alloc, size)?;
     if is_atomic(&tally) {
         let order = build_alone(alloc, &index)?;
         verdict_of(&index, &tally, Some(&order), room)
@@ -77,13 +84,21 @@ pub fn verdict_alone(alloc: Global, history: &History) -> Result<(Status, Vec<u8
     }
 }
 
+/// The status and the report of a history, without a runtime: on the calling thread alone.
+pub fn verdict_alone(alloc: Global, history: &History) -> Result<(Status, Vec<u8>), AllocError>
+    ensures { IfOk result (λ answer. IsVerdict history.now answer.0 answer.1.items) }
+{
+    verdict_in(alloc, history, FRONT_SIZE)
+}
+
 /// The status and the report of a text in memory, without a runtime: on the calling thread alone. A text that is no history is
 /// refused, with the line of its first fault.
 pub fn judge_text(alloc: Global, text: &[u8]) -> Result<(Status, Vec<u8>), AllocError>
     ensures { IfOk result (λ answer. IsReport text.now answer.0 answer.1.items) }
 {
     match read_text(alloc, text) {
-        Ok(history) => verdict_alone(alloc, &history),
+        // a call's line is no longer than the records that it is read from
+        Ok(history) => verdict_in(alloc, &history, text.len() + FRONT_SIZE),
         Err(ReadRefusal::Text { place, fault }) => {
             Ok((Status::Refused, refusal_text(alloc, place, fault)?))
         }

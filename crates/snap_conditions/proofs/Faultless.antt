@@ -1,10 +1,11 @@
--- What the quick test tells of read faults, and what their absence tells of a piece.
-use Rattle.std.proofs.Common.{◌≡◌, ℕ, ◌+◌, ◌-◌, List, [], ◌∷◌, ◌++◌, length, take, drop, refl, sym, ap, ◌∙◌, arith}
-use Rattle.std.proofs.lemmas.List.{take-append-drop}
+-- What the quick test tells of read faults, and what their absence tells of a range of views.
+use Rattle.std.proofs.Common.{◌≡◌, ℕ, ◌-◌, List, [], ◌∷◌, ◌++◌, length, take, drop, refl, sym, ap, subst, ◌∙◌, arith}
+use Rattle.std.proofs.lemmas.List.{take-append-drop, take_all}
 use Rattle.snap_core.specs.declared.event.Event.{Event}
 use Rattle.snap_core.specs.Events.{IsKept}
 use Rattle.snap_core.specs.Calls.{Call, calls_of, views_of}
 use Rattle.snap_core.proofs.Fits.{bytes_of_events}
+use Rattle.snap_conditions.specs.declared.tally.Tally.{Tally}
 use Rattle.snap_conditions.specs.Faults.{read_faults, stale_count}
 use Rattle.snap_conditions.specs.Parts.{part_of}
 use Rattle.snap_conditions.specs.Quick.{AreComparable, AreOrdered}
@@ -55,3 +56,10 @@ faultless_tally calls from to e =
     let rs = views_between calls from to in
     let none = none_between calls from to e in
     tally_is (without_read (tally_of calls rs)) (tally_of calls rs) refl refl (sym (ap (part_of reported_read) none)) refl (sym (none_stale calls rs none))
+
+-- the tally of the views from the first to the last is that of all
+pub of_all_views : (es grid : List Event) (count : ℕ) (t : Tally) → grid ≡ es → count ≡ length (views_of (calls_of es)) → t ≡ tally_of (calls_of grid) (views_between (calls_of grid) 0 count) →
+    t ≡ tally_of (calls_of es) (views_of (calls_of es))
+of_all_views es grid count t same counted e =
+    subst (λ (g : List Event). t ≡ tally_of (calls_of g) (views_between (calls_of g) 0 count)) same e
+    ∙ ap (tally_of (calls_of es)) (take_all (count - 0) (views_of (calls_of es)) (omega (arith, counted)))
