@@ -56,10 +56,10 @@ not_sent_counts old new writer faults.Read h = (h, refl)
 not_sent_counts old new writer faults.Write h = absurd h
 not_sent_counts old new writer faults.Memory h = refl
 
-pub sent : {A : Type 0} (Is : List ℕ → A → List ℕ → Type 0) (known held new : Option (List ℕ)) (answer : A) (out : List ℕ) → IfSome known (λ text. Is text answer out) → Appends held new out → IfSome known (λ text. WroteWhole Is text held new answer)
+pub sent : {A : Type 0} (Is : List ℕ → A → List ℕ → Type 0) (known held new : Option (List ℕ)) (answer : A) (out : List ℕ) → IfSome known (λ text. Is text answer out) → Appends held new out → IfSome known (λ text. WroteWhole (Is text) held new answer)
 sent Is None held new answer out h a = tt
 sent Is (Some text) held new answer out h a = (out, h, a)
 
-pub front_sent : {A : Type 0} (Is : List ℕ → A → List ℕ → Type 0) (known held new : Option (List ℕ)) (answer : A) (out : List ℕ) → IfSome known (λ text. Is text answer out) → SendsFront held new out → IfSome known (λ text. WroteFront Is text held new)
+pub front_sent : {A : Type 0} (Is : List ℕ → A → List ℕ → Type 0) (known held new : Option (List ℕ)) (answer : A) (out : List ℕ) → IfSome known (λ text. Is text answer out) → SendsFront held new out → IfSome known (λ text. WroteFront (Is text) held new)
 front_sent Is None held new answer out h a = tt
 front_sent Is (Some text) held new answer out h a = (answer, out, h, a)

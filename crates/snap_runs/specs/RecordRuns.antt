@@ -1,7 +1,7 @@
 -- What a recording answers, writes and counts.
 use Rattle.std.specs.Prelude.{◌≡◌, ◌⊎◌, ℕ, Bool, true, false, List, length, Option, Result, Ok, Err}
 use Rattle.std.specs.List.Sorted.{IsStrictlyIncreasing}
-use Rattle.std.specs.Io.KnownBytes.{Appends, Keeps}
+use Rattle.std.specs.Io.KnownBytes.{Keeps}
 use Rattle.snap_core.specs.declared.event.Event.{Event}
 use Rattle.snap_core.specs.Calls.{calls_of}
 use Rattle.snap_core.specs.Counting.{Rose}
@@ -9,12 +9,12 @@ use Rattle.snap_core.specs.Events.{IsKept}
 use Rattle.snap_core.specs.Monotone.{IsMonotone}
 use Rattle.snap_core.specs.Orders.{IsAtomic}
 use Rattle.snap_core.specs.Regular.{IsRegular}
-use Rattle.snap_core.specs.Sending.{SendsFront}
 use Rattle.snap_csv.specs.Spelling.{history_text, stamped_text}
 use Rattle.snap_record.specs.declared.plan.Step.{Step}
 use Rattle.snap_record.specs.History.{AllCompleted}
 use Rattle.snap_record.specs.Plans.{HasScripts, HasWholeScripts, HasNoScans, HasNoViews}
 use Rattle.snap_record.specs.Recording.{AreStamped}
+use Rattle.snap_runs.specs.Runs.{WroteFront, WroteWhole}
 use Rattle.snap_runs.specs.declared.fault.RunFault.{RunFault}
 use Rattle.snap_runs.specs.declared.fault.RunFault.TheVariants as faults
 use Rattle.snap_verdict.specs.declared.status.Status.{Status}
@@ -68,15 +68,15 @@ abbrev pub IsRecorded : Bool → List (List Step) → Status → List ℕ → Ty
 IsRecorded false scripts status out = IsRecordingText scripts status out
 IsRecorded true scripts status out = IsRecordingReport scripts status out
 
--- what a writer holds before and after a run, by what may go out with a status: a whole text of that kind, a front of one, or nothing
+-- what a writer holds before and after a run without a reader: a whole text of that kind went out, a front of one, or nothing
 
 abbrev pub FailedAs : (Status → List ℕ → Type 0) → Option (List ℕ) → Option (List ℕ) → RunFault → Type 0
 FailedAs Is old new faults.Read = ⊥
-FailedAs Is old new faults.Write = (status : Status) × (out : List ℕ) × Is status out × SendsFront old new out
+FailedAs Is old new faults.Write = WroteFront Is old new
 FailedAs Is old new faults.Memory = Keeps old new
 
 abbrev pub WroteAs : (Status → List ℕ → Type 0) → Option (List ℕ) → Option (List ℕ) → Result Status RunFault → Type 0
-WroteAs Is old new (Ok status) = (out : List ℕ) × Is status out × Appends old new out
+WroteAs Is old new (Ok status) = WroteWhole Is old new status
 WroteAs Is old new (Err fault) = FailedAs Is old new fault
 
 -- the writer's count of failures before and after a run: it rose exactly where writing failed, or stands at its last value

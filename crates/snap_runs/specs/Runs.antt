@@ -13,23 +13,25 @@ use Rattle.snap_verdict.specs.declared.status.Status.{Status}
 use Rattle.snap_verdict.specs.declared.status.Status.TheVariants.{Refused}
 use Rattle.snap_verdict.specs.Reports.{IsRefused, IsReport}
 
--- what a writer holds before and after a run, where the text is known that the reader had, by what may go out for a text with an answer
+-- what a writer holds before and after a run, by what may go out with an answer
 
 -- the whole of it went out, and nothing else
-abbrev pub WroteWhole : {A : Type 0} → (List ℕ → A → List ℕ → Type 0) → List ℕ → Option (List ℕ) → Option (List ℕ) → A → Type 0
-WroteWhole Is text old new answer = (out : List ℕ) × Is text answer out × Appends old new out
+abbrev pub WroteWhole : {A : Type 0} → (A → List ℕ → Type 0) → Option (List ℕ) → Option (List ℕ) → A → Type 0
+WroteWhole Is old new answer = (out : List ℕ) × Is answer out × Appends old new out
 
 -- a front of it went out, perhaps all of it
-abbrev pub WroteFront : {A : Type 0} → (List ℕ → A → List ℕ → Type 0) → List ℕ → Option (List ℕ) → Option (List ℕ) → Type 0
-WroteFront {A = A} Is text old new = (answer : A) × (out : List ℕ) × Is text answer out × SendsFront old new out
+abbrev pub WroteFront : {A : Type 0} → (A → List ℕ → Type 0) → Option (List ℕ) → Option (List ℕ) → Type 0
+WroteFront {A = A} Is old new = (answer : A) × (out : List ℕ) × Is answer out × SendsFront old new out
+
+-- the same where the text is known that the reader had, by what may go out for a text with an answer
 
 abbrev pub FailedBy : {A : Type 0} → (List ℕ → A → List ℕ → Type 0) → Option (List ℕ) → Option (List ℕ) → Option (List ℕ) → RunFault → Type 0
 FailedBy Is known old new faults.Read = Keeps old new
-FailedBy Is known old new faults.Write = IfSome known (λ text. WroteFront Is text old new)
+FailedBy Is known old new faults.Write = IfSome known (λ text. WroteFront (Is text) old new)
 FailedBy Is known old new faults.Memory = Keeps old new
 
 abbrev pub WroteBy : {A : Type 0} → (List ℕ → A → List ℕ → Type 0) → Option (List ℕ) → Option (List ℕ) → Option (List ℕ) → Result A RunFault → Type 0
-WroteBy Is known old new (Ok answer) = IfSome known (λ text. WroteWhole Is text old new answer)
+WroteBy Is known old new (Ok answer) = IfSome known (λ text. WroteWhole (Is text) old new answer)
 WroteBy Is known old new (Err fault) = FailedBy Is known old new fault
 
 -- the same of a check, by the report of the text
