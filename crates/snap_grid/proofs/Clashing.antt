@@ -178,9 +178,9 @@ sum_small f k h (suc n) a = omega (arith, sum_by-cons f a (range_with_len (a + 1
     mul_suc : (n k : ℕ) → suc n * k ≡ k + n * k
     mul_suc n k = grind arith
 
-pub few_pairs : (p : ℕ → ℕ → Bool) (from n first m count : ℕ) → n ≤ 64 → count ≡ pair_count p from n first m → count ≤ m * 64
+pub few_pairs : (p : ℕ → ℕ → Bool) (from n first m count : ℕ) → n ≤ 512 → count ≡ pair_count p from n first m → count ≤ m * 512
 few_pairs p from n first m count l h =
-    omega (arith, h, sum_small (λ b. count_by (λ a. p (from + a) b) (range_with_len 0 n)) 64 (λ b. omega (arith, l, count_by-le-length (λ a. p (from + a) b) (range_with_len 0 n), length-range_with_len 0 n)) m first)
+    omega (arith, h, sum_small (λ b. count_by (λ a. p (from + a) b) (range_with_len 0 n)) 512 (λ b. omega (arith, l, count_by-le-length (λ a. p (from + a) b) (range_with_len 0 n), length-range_with_len 0 n)) m first)
 
 -- a sum over pairs, in either order
 

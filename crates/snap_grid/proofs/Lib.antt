@@ -1,3 +1,5 @@
 pub mod Bits
+pub mod Lanes
 pub mod Passing
 pub mod Clashing
+pub mod Faces

@@ -1,5 +1,5 @@
 -- Rows of numbers, kept by columns, and which of two rows has a greater number in some column.
-use Rattle.std.specs.Prelude.{true, false, ℕ, ◌/◌, ◌<◌, ◌≤◌, ◌≡◌, Bool, ◌&&◌, ◌||◌, cond, List, [], length, get_or, nat_lt}
+use Rattle.std.specs.Prelude.{true, false, ℕ, ◌<◌, ◌≤◌, ◌≡◌, Bool, ◌&&◌, ◌||◌, cond, List, [], length, get_or, nat_lt}
 use Rattle.std.specs.List.{list_any, range_with_len, count_by}
 
 -- the number of a row in a column
@@ -13,10 +13,6 @@ passes more n x = cond more (nat_lt x n) (nat_lt n x)
 -- the first row has a greater number than the second in some column, or a lesser one
 unfoldable pub any_passes : Bool → List (List ℕ) → ℕ → ℕ → Bool
 any_passes more columns a b = list_any (λ column. passes more (number column a) (number column b)) columns
-
--- each number is between the least and the greatest of its block of rows
-abbrev pub AreBounds : List ℕ → List ℕ → List ℕ → Type 0
-AreBounds numbers least greatest = (i : ℕ) → i < length numbers → (get_or least (i / 64) 0 ≤ get_or numbers i 0) × (get_or numbers i 0 ≤ get_or greatest (i / 64) 0)
 
 -- what a grid has of its rows: the columns, and where each row begins and ends
 pub record GridValue : Type 0 where

@@ -5,12 +5,12 @@ use Rattle.snap_grid.specs.Masks.{mask_below}
 
 -- the numbers of a block of rows are within bounds
 abbrev pub IsBounded : List ℕ → ℕ → Bounds → Type 0
-IsBounded numbers block b = (i : ℕ) → block * 64 ≤ i → i < block * 64 + 64 → i < length numbers → (b.least ≤ get_or numbers i 0) × (get_or numbers i 0 ≤ b.greatest)
+IsBounded numbers block b = (i : ℕ) → block * 512 ≤ i → i < block * 512 + 512 → i < length numbers → (b.least ≤ get_or numbers i 0) × (get_or numbers i 0 ≤ b.greatest)
 
 pub record IsColumn (numbers : List ℕ) (bounds : List Bounds) (limit : ℕ) : Type 0 where
   pub few : length numbers ≤ 65536
-  pub blocks : (block : ℕ) → block * 64 < length numbers → block < length bounds
-  pub bounded : (block : ℕ) (b : Bounds) → block * 64 < length numbers → IsBounded numbers block (get_or bounds block b)
+  pub blocks : (block : ℕ) → block * 512 < length numbers → block < length bounds
+  pub bounded : (block : ℕ) (b : Bounds) → block * 512 < length numbers → IsBounded numbers block (get_or bounds block b)
   pub small : limit ≤ 65536
 
 -- each column has so many rows
@@ -19,7 +19,7 @@ HaveRows columns n = (j : ℕ) → j < length columns → n ≤ length (get_or c
 
 -- the masks of n rows from one on, column by column, and the mask of all
 pub record AreRows (columns masks : List (List ℕ)) (from n all : ℕ) : Type 0 where
-  pub few : n ≤ 64
+  pub few : n ≤ 512
   pub count : length masks ≡ length columns
   pub within : HaveRows columns (from + n)
   pub masked : (j : ℕ) → j < length columns → get_or masks j [] ≡ take n (drop from (get_or columns j []))

@@ -2,4 +2,5 @@ pub mod Columns
 pub mod Masks
 pub mod Tables
 pub mod Kept
+pub mod Facing
 pub mod Clashes

@@ -1,12 +1,17 @@
-ghost use Rattle.std.specs.Prelude.{◌≡◌, ◌≤◌, ◌<◌, ◌+◌, ◌*◌, ◌-◌, ◌&&◌, true, false, [], ℕ, cond, length, get_or, nat_lt, bit_or, IsTrue, IfOk};
-ghost use Rattle.snap_grid.specs.Columns.{passes, any_passes};
-ghost use Rattle.snap_grid.specs.Masks.{mask_by, mask_below};
+ghost use Rattle.std.specs.Prelude.{◌≡◌, ◌≤◌, ◌<◌, ◌+◌, ◌*◌, ◌-◌, ◌||◌, true, false, [], Bool, ℕ, cond, length, get_or, nat_lt, IsTrue, IfOk};
+ghost use Rattle.snap_grid.specs.Columns.{any_passes};
+ghost use Rattle.snap_grid.specs.Masks.{mask_below};
 ghost use Rattle.snap_grid.specs.Kept.{AreRows, HaveRows};
+ghost use Rattle.snap_grid.specs.Facing.{AreFacing, any_faces};
 
 use crate::bounds::Bounds;
 use crate::column::Column;
-use crate::masks::{Masks, WIDTH};
+use crate::mask::{Mask, WIDTH};
+use crate::masks::Masks;
 use std::alloc::{AllocError, Global};
+
+// After so many columns it is tested whether the next ones can still tell something.
+const COLUMNS_A_TEST: usize = 8;
 
 // Whether each of our numbers is greater than each of theirs, or less.
 fn all_pass(more: bool, ours: Bounds, theirs: Bounds) -> bool
@@ -30,37 +35,86 @@ fn some_pass(more: bool, ours: Bounds, theirs: Bounds) -> bool
     }
 }
 
-// Adds to the mask of each of their rows those of ours that pass it.
-fn add(lanes: &mut [u64; WIDTH], more: bool, masks: &Masks<'_>, numbers: &[u32])
-    requires { length numbers.now ≤ 64 }
-    ensures { (i : ℕ) → i < length numbers.now → get_or lanes.new i 0 ≡ bit_or (get_or lanes.old i 0) (mask_by (λ n. passes more n (get_or numbers.now i 0)) masks.now) }
+// Whether bounds leave open what is still asked: whether some of our numbers are greater than one of theirs, or less.
+fn is_open(more: bool, less: bool, ours: Bounds, theirs: Bounds) -> bool
+    ensures more { result ≡ false → more ≡ false → nat_lt theirs.least ours.greatest ≡ false }
+    ensures less { result ≡ false → less ≡ false → nat_lt ours.least theirs.greatest ≡ false }
 {
-    for i in 0..numbers.len() {
-        lanes[i] |= masks.passing(more, numbers[i]);
-    }
+    !more && some_pass(true, ours, theirs) || !less && some_pass(false, ours, theirs)
 }
 
-// Whether the first masks have all rows.
-fn are_full(lanes: &[u64; WIDTH], count: usize, all: u64) -> bool
-    requires { count ≤ 64 }
-    ensures { IsTrue result → (i : ℕ) → i < count → get_or lanes.now i 0 ≡ all }
-{
-    for i in 0..count {
-        if lanes[i] != all {
-            return false;
+// A column whose bounds do not tell all of our rows and of a block of theirs.
+#[derive(Drop)]
+pub(crate) struct Facing<'b, 'g> {
+    ours: &'b Masks<'g>,
+    theirs: &'g [u32],
+}
+
+// Which of our rows have a greater number than another row in some column, and which a lesser one.
+#[derive(Drop)]
+pub(crate) struct Passing {
+    pub(crate) more: Mask,
+    pub(crate) less: Mask,
+}
+
+// Our rows against a block of theirs.
+#[derive(Drop)]
+pub(crate) struct Against<'b, 'g> {
+    columns: Vec<Facing<'b, 'g>>,
+    all: &'b Mask,
+    // whether bounds tell that each of our rows has a greater number than each of theirs in some column, or a lesser one
+    more: bool,
+    less: bool,
+    ours: usize,
+    theirs: usize,
+    ghost facing: { AreFacing columns.items all.now ours theirs },
+}
+
+impl<'b, 'g> Against<'b, 'g> {
+    // All of our rows, or none.
+    fn all_if(&self, all: bool) -> Mask
+        ensures { result ≡ mask_below (λ a. all) self.now.ours }
+    {
+        if all { self.all.copy() } else { Mask::none() }
+    }
+
+    // Which of our rows pass a row of theirs.
+    pub(crate) fn passing(&self, row: usize) -> Passing
+        requires { row < self.now.theirs }
+        ensures more { result.more ≡ mask_below (λ a. self.now.more || any_faces true self.now.columns.items a row) self.now.ours }
+        ensures less { result.less ≡ mask_below (λ a. self.now.less || any_faces false self.now.columns.items a row) self.now.ours }
+    {
+        let mut at_most = self.all_if(!self.more);
+        let mut less = self.all_if(self.less);
+        for j in 0..self.columns.len() {
+            let column = &self.columns[j];
+            let x = u64::from(column.theirs[row]);
+            at_most = at_most.and(&column.ours.under(x + 1));
+            less = less.or(&column.ours.under(x));
+            if j % COLUMNS_A_TEST == COLUMNS_A_TEST - 1
+                && at_most.or(&less.xor(self.all)).is_none()
+            {
+                return Passing {
+                    more: self.all.copy(),
+                    less: self.all.copy(),
+                };
+            }
+        }
+        Passing {
+            more: self.all.xor(&at_most),
+            less,
         }
     }
-    true
 }
 
-// Up to 64 rows that stand one after the other, kept so that they are soon compared with others.
+// Up to 512 rows that stand one after the other, kept so that they are soon compared with others.
 #[derive(Drop)]
 pub(crate) struct Block<'g> {
     columns: &'g [Column],
     masks: Vec<Masks<'g>>,
     from: usize,
     count: usize,
-    all: u64,
+    all: Mask,
     ghost rows: { AreRows columns.now masks.items from count all },
 }
 
@@ -72,7 +126,7 @@ impl<'g> Block<'g> {
         from: usize,
         count: usize,
     ) -> Result<Block<'g>, AllocError>
-        requires few { count ≤ 64 }
+        requires few { count ≤ 512 }
         requires small { from ≤ 65536 }
         requires rows { HaveRows columns.now (from + count) }
         ensures columns { IfOk result (λ block. block.columns.now ≡ columns.now) }
@@ -93,8 +147,8 @@ impl<'g> Block<'g> {
 
     // Whether each of our rows passes each of theirs in some column.
     fn all_pass(&self, more: bool, block: usize) -> bool
-        requires { (j : ℕ) → j < length self.now.columns.now → block * 64 < length (get_or self.now.columns.now j []) }
-        ensures { IsTrue result → (a s : ℕ) → a < self.now.count → block * 64 ≤ s → s < block * 64 + 64 → HaveRows self.now.columns.now (s + 1) → any_passes more self.now.columns.now (self.now.from + a) s ≡ true }
+        requires { (j : ℕ) → j < length self.now.columns.now → block * 512 < length (get_or self.now.columns.now j []) }
+        ensures { IsTrue result → (a s : ℕ) → a < self.now.count → block * 512 ≤ s → s < block * 512 + 512 → HaveRows self.now.columns.now (s + 1) → any_passes more self.now.columns.now (self.now.from + a) s ≡ true }
     {
         for j in 0..self.columns.len() {
             if all_pass(more, self.masks[j].bounds(), self.columns[j].bounds(block)) {
@@ -106,8 +160,8 @@ impl<'g> Block<'g> {
 
     // Whether the bounds alone tell that none of our rows passes one of theirs in any column.
     pub(crate) fn none_pass(&self, more: bool, block: usize) -> bool
-        requires { (j : ℕ) → j < length self.now.columns.now → block * 64 < length (get_or self.now.columns.now j []) }
-        ensures { IsTrue result → (a s : ℕ) → a < self.now.count → block * 64 ≤ s → s < block * 64 + 64 → HaveRows self.now.columns.now (s + 1) → any_passes more self.now.columns.now (self.now.from + a) s ≡ false }
+        requires { (j : ℕ) → j < length self.now.columns.now → block * 512 < length (get_or self.now.columns.now j []) }
+        ensures { IsTrue result → (a s : ℕ) → a < self.now.count → block * 512 ≤ s → s < block * 512 + 512 → HaveRows self.now.columns.now (s + 1) → any_passes more self.now.columns.now (self.now.from + a) s ≡ false }
     {
         for j in 0..self.columns.len() {
             if some_pass(more, self.masks[j].bounds(), self.columns[j].bounds(block)) {
@@ -117,39 +171,53 @@ impl<'g> Block<'g> {
         true
     }
 
-    // Of each row of a block the mask of our rows that pass it in some column.
-    pub(crate) fn passing(&self, more: bool, block: usize, count: usize) -> [u64; WIDTH]
+    // Our rows against so many rows of a block.
+    pub(crate) fn against(
+        &self,
+        alloc: Global,
+        block: usize,
+        count: usize,
+    ) -> Result<Against<'_, 'g>, AllocError>
         requires some { 0 < count }
-        requires few { count ≤ 64 }
-        requires rows { HaveRows self.now.columns.now (block * 64 + count) }
+        requires few { count ≤ 512 }
+        requires rows { HaveRows self.now.columns.now (block * 512 + count) }
         requires small { block < 65536 }
-        ensures { (i : ℕ) → i < count → get_or result i 0 ≡ mask_below (λ a. any_passes more self.now.columns.now (self.now.from + a) (block * 64 + i)) self.now.count }
+        ensures rows { IfOk result (λ against. (against.ours ≡ self.now.count) × (against.theirs ≡ count)) }
+        ensures more { IfOk result (λ against. (a i : ℕ) → a < self.now.count → i < count → (against.more || any_faces true against.columns.items a i) ≡ any_passes true self.now.columns.now (self.now.from + a) (block * 512 + i)) }
+        ensures less { IfOk result (λ against. (a i : ℕ) → a < self.now.count → i < count → (against.less || any_faces false against.columns.items a i) ≡ any_passes false self.now.columns.now (self.now.from + a) (block * 512 + i)) }
     {
-        if self.all_pass(more, block) {
-            return [self.all; WIDTH];
-        }
-        let mut lanes = [0; WIDTH];
+        let more = self.all_pass(true, block);
+        let less = self.all_pass(false, block);
+        let mut columns = Vec::new(alloc);
         for j in 0..self.columns.len() {
-            if some_pass(more, self.masks[j].bounds(), self.columns[j].bounds(block)) {
-                let theirs = self.columns[j].rows(block * WIDTH, block * WIDTH + count);
-                add(&mut lanes, more, &self.masks[j], theirs);
-                if are_full(&lanes, count, self.all) {
-                    return lanes;
-                }
+            let ours = self.masks[j].bounds();
+            let theirs = self.columns[j].bounds(block);
+            if is_open(more, less, ours, theirs) {
+                columns.push(Facing {
+                    ours: &self.masks[j],
+                    theirs: self.columns[j].rows(block * WIDTH, block * WIDTH + count),
+                })?;
             }
         }
-        lanes
+        Ok(Against {
+            columns,
+            all: &self.all,
+            more,
+            less,
+            ours: self.count,
+            theirs: count,
+        })
     }
 }
 
 // The mask of so many rows.
-pub(crate) fn mask_of_all(count: usize) -> u64
-    requires { count ≤ 64 }
+pub(crate) fn mask_of_all(count: usize) -> Mask
+    requires { count ≤ 512 }
     ensures { result ≡ mask_below (λ a. true) count }
 {
-    let mut mask = 0;
-    for _row in 0..count {
-        mask = 2 * mask + 1;
+    let mut mask = Mask::none();
+    for row in 0..count {
+        mask.set(row);
     }
     mask
 }

@@ -1,7 +1,8 @@
 ghost use Rattle.std.specs.Prelude.{◌≡◌, ◌≤◌, ◌<◌, ◌+◌, ◌*◌, ◌-◌, ℕ, length, get_or, take, drop, min, IfOk};
 
 use crate::bounds::Bounds;
-use crate::masks::{Masks, WIDTH};
+use crate::mask::WIDTH;
+use crate::masks::Masks;
 use std::alloc::{AllocError, Global};
 use std::marker::Model;
 
@@ -27,7 +28,8 @@ impl Model for Column {
 }
 
 impl Column {
-    /// The column of some numbers. Comparing is fast for numbers up to the limit, and takes memory by it.
+    /// The column of some numbers. Comparing is fast where those of 512 neighbouring rows are at most the limit apart, and takes
+    /// memory by how far they are.
     pub fn new(alloc: Global, numbers: Vec<u32>, limit: u32) -> Result<Column, AllocError>
         requires few { length numbers.items ≤ 65536 }
         requires limit { limit ≤ 65536 }
@@ -49,8 +51,8 @@ impl Column {
 
     // Between which the numbers of a block of rows are.
     pub(crate) fn bounds(&self, block: usize) -> Bounds
-        requires { block * 64 < length self.now }
-        ensures { (i : ℕ) → block * 64 ≤ i → i < block * 64 + 64 → i < length self.now → (result.least ≤ get_or self.now i 0) × (get_or self.now i 0 ≤ result.greatest) }
+        requires { block * 512 < length self.now }
+        ensures { (i : ℕ) → block * 512 ≤ i → i < block * 512 + 512 → i < length self.now → (result.least ≤ get_or self.now i 0) × (get_or self.now i 0 ≤ result.greatest) }
     {
         self.bounds[block]
     }
@@ -72,7 +74,7 @@ impl Column {
         to: usize,
     ) -> Result<Masks<'c>, AllocError>
         requires order { from ≤ to }
-        requires few { to ≤ from + 64 }
+        requires few { to ≤ from + 512 }
         requires within { to ≤ length self.now }
         ensures { IfOk result (λ masks. masks ≡ take (to - from) (drop from self.now)) }
     {

@@ -6,9 +6,13 @@ ghost use Rattle.snap_grid.specs.Clashes.{AreApart, ClashesWith};
 
 use crate::block::Block;
 use crate::column::Column;
-use crate::masks::{Masks, WIDTH};
+use crate::mask::{Mask, WIDTH};
+use crate::masks::Masks;
 use std::alloc::{AllocError, Global};
 use std::marker::Model;
+
+// So many places a row may begin and end at.
+const PLACES: u32 = 65536;
 
 /// Rows of numbers by columns, each with the places of its begin and its end.
 #[derive(Drop)]
@@ -37,22 +41,20 @@ pub struct Clashes {
 }
 
 // How many clashes there are, how many drops, and the mask of our rows that have a clash.
-#[derive(Clone, Copy)]
+#[derive(Drop)]
 pub(crate) struct Clashing {
     pub(crate) count: u64,
     pub(crate) drops: u64,
-    pub(crate) rows: u64,
+    pub(crate) rows: Mask,
 }
 
 // The first row of a mask of the rows from one on.
-fn first_row(from: usize, rows: u64) -> Option<usize>
+fn first_row(from: usize, rows: &Mask) -> Option<usize>
     requires { from ≤ 65536 }
-    ensures { (n : ℕ) (p : ℕ → Bool) → rows ≡ mask_below (λ a. p (from + a)) n → result ≡ find p (range_with_len from n) }
+    ensures { (n : ℕ) (p : ℕ → Bool) → rows.now ≡ mask_below (λ a. p (from + a)) n → result ≡ find p (range_with_len from n) }
 {
-    if rows == 0 {
-        return None;
-    }
-    Some(from + rows.trailing_zeros() as usize)
+    let first = rows.first()?;
+    Some(from + first)
 }
 
 // Whether the numbers from one place to before another are at most another number.
@@ -88,9 +90,9 @@ impl Grid {
         requires ends { ends.now ≡ take ours.now.count (drop ours.now.from self.now.ends) }
         requires within { ours.now.from + ours.now.count ≤ length self.now.begins }
         requires some { 0 < count }
-        requires few { count ≤ 64 }
-        requires rows { block * 64 + count ≤ length self.now.begins }
-        ensures { IsTrue result → AreApart self.now ours.now.from ours.now.count (block * 64) count }
+        requires few { count ≤ 512 }
+        requires rows { block * 512 + count ≤ length self.now.begins }
+        ensures { IsTrue result → AreApart self.now ours.now.from ours.now.count (block * 512) count }
     {
         let begins = self.begins.as_slice();
         if ours.none_pass(true, block) {
@@ -104,41 +106,48 @@ impl Grid {
     }
 
     // Our rows, which end there, against a block of rows.
-    fn clashing(&self, ours: &Block<'_>, ends: &Masks<'_>, block: usize, count: usize) -> Clashing
+    fn clashing(
+        &self,
+        alloc: Global,
+        ours: &Block<'_>,
+        ends: &Masks<'_>,
+        block: usize,
+        count: usize,
+    ) -> Result<Clashing, AllocError>
         requires columns { ours.now.columns.now ≡ self.now.columns }
         requires ends { ends.now ≡ take ours.now.count (drop ours.now.from self.now.ends) }
         requires within { ours.now.from + ours.now.count ≤ length self.now.begins }
         requires some { 0 < count }
-        requires few { count ≤ 64 }
-        requires rows { block * 64 + count ≤ length self.now.begins }
-        ensures { ClashesWith self.now ours.now.from ours.now.count (block * 64) count result }
+        requires few { count ≤ 512 }
+        requires rows { block * 512 + count ≤ length self.now.begins }
+        ensures { IfOk result (ClashesWith self.now ours.now.from ours.now.count (block * 512) count) }
     {
         if self.are_apart(ours, ends, block, count) {
-            return Clashing {
+            return Ok(Clashing {
                 count: 0,
                 drops: 0,
-                rows: 0,
-            };
+                rows: Mask::none(),
+            });
         }
         let begins = self.begins.as_slice();
-        let more = ours.passing(true, block, count);
-        let less = ours.passing(false, block, count);
+        let against = ours.against(alloc, block, count)?;
         let mut found = 0;
         let mut drops = 0;
-        let mut rows = 0;
+        let mut rows = Mask::none();
         for i in 0..count {
             let before = ends.before(begins[block * WIDTH + i]);
-            let mask = more[i] & (less[i] | before);
-            let dropping = more[i] & before;
-            found += u64::from(mask.count_ones());
-            drops += u64::from(dropping.count_ones());
-            rows |= mask;
+            let passing = against.passing(i);
+            let mask = passing.more.and(&passing.less.or(&before));
+            let dropping = passing.more.and(&before);
+            found += mask.count();
+            drops += dropping.count();
+            rows = rows.or(&mask);
         }
-        Clashing {
+        Ok(Clashing {
             count: found,
             drops,
             rows,
-        }
+        })
     }
 
     // Some of our rows against all rows.
@@ -148,7 +157,7 @@ impl Grid {
         from: usize,
         count: usize,
     ) -> Result<Clashing, AllocError>
-        requires few { count ≤ 64 }
+        requires few { count ≤ 512 }
         requires within { from + count ≤ length self.now.begins }
         ensures count { IfOk result (λ c. c.count ≡ sum_by (clash_count self.now) (range_with_len from count)) }
         ensures drops { IfOk result (λ c. c.drops ≡ sum_by (drop_count self.now) (range_with_len from count)) }
@@ -158,18 +167,18 @@ impl Grid {
     {
         let all = self.begins.len();
         let ours = Block::of(alloc, &self.columns, from, count)?;
-        let ends = Masks::of(alloc, &self.ends[from..from + count], 0)?;
+        let ends = Masks::of(alloc, &self.ends[from..from + count], PLACES)?;
         let mut found = 0;
         let mut drops = 0;
-        let mut rows = 0;
+        let mut rows = Mask::none();
         let mut block = 0;
         let mut done = 0;
         while done < all {
             let theirs = (all - done).min(WIDTH);
-            let more = self.clashing(&ours, &ends, block, theirs);
+            let more = self.clashing(alloc, &ours, &ends, block, theirs)?;
             found += more.count;
             drops += more.drops;
-            rows |= more.rows;
+            rows = rows.or(&more.rows);
             block += 1;
             done += theirs;
         }
@@ -201,7 +210,7 @@ impl Grid {
             let more = self.block_clashing(alloc, start, rows)?;
             count += more.count;
             drops += more.drops;
-            first = first.or(first_row(start, more.rows));
+            first = first.or(first_row(start, &more.rows));
             start += rows;
         }
         Ok(Clashes {

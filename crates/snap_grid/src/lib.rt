@@ -5,6 +5,7 @@ mod block;
 mod bounds;
 mod column;
 mod grid;
+mod mask;
 mod masks;
 #[cfg(test)]
 mod tests;

@@ -1,56 +1,66 @@
-ghost use Rattle.std.specs.Prelude.{◌≡◌, ◌≤◌, ◌<◌, ◌+◌, ℕ, Bool, length, get_or, nat_lt, IfOk};
-ghost use Rattle.snap_grid.specs.Columns.{passes};
+ghost use Rattle.std.specs.Prelude.{◌≡◌, ◌≤◌, ◌<◌, ◌+◌, ◌-◌, ℕ, length, get_or, nat_lt, IfOk};
 ghost use Rattle.snap_grid.specs.Masks.{mask_by};
 
 use crate::bounds::Bounds;
+use crate::mask::Mask;
 use std::alloc::{AllocError, Global};
 use std::marker::Model;
 
-// How many rows a mask has bits for.
-pub(crate) const WIDTH: usize = 64;
-
 // The mask of the numbers below x.
-fn mask_under(numbers: &[u32], x: u64) -> u64
-    requires { length numbers.now ≤ 64 }
+#[cold]
+#[inline(never)]
+fn mask_under(numbers: &[u32], x: u64) -> Mask
+    requires { length numbers.now ≤ 512 }
     ensures { result ≡ mask_by (λ n. nat_lt n x) numbers.now }
 {
-    let mut mask = 0;
-    let mut i = numbers.len();
-    while i > 0 {
-        i -= 1;
-        mask = 2 * mask + u64::from(u64::from(numbers[i]) < x);
+    let mut mask = Mask::none();
+    for i in 0..numbers.len() {
+        if u64::from(numbers[i]) < x {
+            mask.set(i);
+        }
     }
     mask
 }
 
-// Makes a table of zeros one of the masks of the numbers below each x: at x + 1 the numbers that are x are put first, and
-// then each mask is added to the next.
-fn fill(table: &mut [u64], numbers: &[u32])
-    requires few { length numbers.now ≤ 64 }
-    requires zeros { (x : ℕ) → get_or table.old x 0 ≡ 0 }
+// So many masks of no row.
+fn empty_masks(alloc: Global, count: usize) -> Result<Vec<Mask>, AllocError>
+    ensures count { IfOk result (λ masks. length masks.items ≡ count) }
+    ensures empty { IfOk result (λ masks. (x : ℕ) → get_or masks.items x 0 ≡ 0) }
+{
+    let mut masks = Vec::with_capacity(alloc, count)?;
+    for _mask in 0..count {
+        masks.push(Mask::none())?;
+    }
+    Ok(masks)
+}
+
+// Makes a table of empty masks one of the masks of the numbers below each x, counted on from the least: at x + 1 the numbers
+// that are x are put first, and then each mask is joined to the next.
+fn fill(table: &mut [Mask], numbers: &[u32], least: u32)
+    requires few { length numbers.now ≤ 512 }
+    requires empty { (x : ℕ) → get_or table.old x 0 ≡ 0 }
+    requires least { (i : ℕ) → i < length numbers.now → least ≤ get_or numbers.now i 0 }
+    requires within { (i : ℕ) → i < length numbers.now → get_or numbers.now i 0 - least + 1 < length table.old }
     ensures size { length table.new ≡ length table.old }
-    ensures tabled { (x : ℕ) → x < length table.old → get_or table.new x 0 ≡ mask_by (λ n. nat_lt n x) numbers.now }
+    ensures tabled { (x : ℕ) → x < length table.old → get_or table.new x 0 ≡ mask_by (λ n. nat_lt n (least + x)) numbers.now }
 {
     for i in 0..numbers.len() {
-        let place = numbers[i] as usize + 1;
-        if place < table.len() {
-            table[place] += 1 << i;
-        }
+        table[(numbers[i] - least) as usize + 1].set(i);
     }
     for x in 1..table.len() {
-        table[x] += table[x - 1];
+        table[x] = table[x].or(&table[x - 1]);
     }
 }
 
-// Up to 64 numbers, kept so that it is soon known which of them are greater or less than another.
+// Up to 512 numbers, kept so that it is soon known which of them are greater or less than another.
 #[derive(Drop)]
 pub(crate) struct Masks<'c> {
     numbers: &'c [u32],
     bounds: Bounds,
-    // at x the mask of the numbers below x
-    under: Vec<u64>,
+    // the masks of the numbers below each x from the least to one more than the greatest; nothing, where these are too far apart
+    under: Vec<Mask>,
     // the mask of all
-    all: u64,
+    all: Mask,
 }
 
 impl<'c> Model for Masks<'c> {
@@ -65,17 +75,22 @@ impl<'c> Model for Masks<'c> {
 }
 
 impl<'c> Masks<'c> {
-    // The masks of some numbers, with a table for those up to a limit.
+    // The masks of some numbers, with a table where they are at most so far apart.
     pub(crate) fn of(alloc: Global, numbers: &'c [u32], limit: u32) -> Result<Masks<'c>, AllocError>
-        requires numbers { length numbers.now ≤ 64 }
+        requires numbers { length numbers.now ≤ 512 }
         requires limit { limit ≤ 65536 }
         ensures { IfOk result (λ masks. masks ≡ numbers.now) }
     {
-        let mut under = vec![in alloc; 0; limit as usize + 2]?;
-        fill(&mut under, numbers);
+        let bounds = Bounds::of(numbers);
+        let mut under = Vec::new(alloc);
+        let spread = bounds.greatest.saturating_sub(bounds.least);
+        if spread <= limit {
+            under = empty_masks(alloc, spread as usize + 2)?;
+            fill(&mut under, numbers, bounds.least);
+        }
         Ok(Masks {
             numbers,
-            bounds: Bounds::of(numbers),
+            bounds,
             under,
             all: mask_under(numbers, u64::MAX),
         })
@@ -88,44 +103,26 @@ impl<'c> Masks<'c> {
         self.bounds
     }
 
-    // The mask of all numbers.
-    pub(crate) fn all(&self) -> u64
-        ensures { result ≡ mask_by (λ n. nat_lt n 18446744073709551615) self.now }
-    {
-        self.all
-    }
-
     // The mask of the numbers below x.
-    fn under(&self, x: u64) -> u64
+    pub(crate) fn under(&self, x: u64) -> Mask
         ensures { result ≡ mask_by (λ n. nat_lt n x) self.now }
     {
-        let x_index = x as usize;
-        if x_index < self.under.len() {
-            self.under[x_index]
-        } else {
-            mask_under(self.numbers, x)
+        let size = self.under.len();
+        if size == 0 {
+            return mask_under(self.numbers, x);
         }
-    }
-
-    // The mask of the numbers that are greater than x, or less.
-    pub(crate) fn passing(&self, more: bool, x: u32) -> u64
-        ensures { result ≡ mask_by (λ n. passes more n x) self.now }
-    {
-        if more {
-            self.all - self.under(u64::from(x) + 1)
-        } else {
-            self.under(u64::from(x))
-        }
+        let place = x.saturating_sub(u64::from(self.bounds.least)) as usize;
+        self.under[place.min(size - 1)].copy()
     }
 
     // The mask of the numbers below x, where it is mostly below all of them or above all.
-    pub(crate) fn before(&self, x: u32) -> u64
+    pub(crate) fn before(&self, x: u32) -> Mask
         ensures { result ≡ mask_by (λ n. nat_lt n x) self.now }
     {
         if x <= self.bounds.least {
-            0
+            Mask::none()
         } else if self.bounds.greatest < x {
-            self.all
+            self.all.copy()
         } else {
             self.under(u64::from(x))
         }

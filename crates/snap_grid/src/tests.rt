@@ -73,7 +73,7 @@ fn rows_with_the_same_number_clash_with_none(rt: HostRuntime) -> Result<(), Fail
 }
 
 #[test]
-fn the_last_row_of_a_block_falls_to_all_rows_of_the_next_but_its_equal(
+fn the_last_row_of_a_lane_falls_to_all_rows_of_the_next_but_its_equal(
     rt: HostRuntime,
 ) -> Result<(), Fail> {
     expect_falls(
@@ -91,16 +91,34 @@ fn the_last_row_of_a_block_falls_to_all_rows_of_the_next_but_its_equal(
 }
 
 #[test]
+fn the_last_row_of_a_block_falls_to_all_rows_of_the_next_but_its_equal(
+    rt: HostRuntime,
+) -> Result<(), Fail> {
+    expect_falls(
+        &rt,
+        rt.alloc(),
+        &[(511, 5), (1, 6), (511, 5), (1, 6)],
+        6,
+        &[
+            (0, 1024, 511, Some(511)),
+            (0, 511, 0, None),
+            (511, 512, 511, Some(511)),
+            (512, 1024, 0, None),
+        ],
+    )
+}
+
+#[test]
 fn blocks_whose_bounds_touch_are_looked_at_row_by_row(rt: HostRuntime) -> Result<(), Fail> {
     expect_falls(
         &rt,
         rt.alloc(),
-        &[(63, 6), (1, 5), (64, 5)],
+        &[(511, 6), (1, 5), (512, 5)],
         6,
         &[
-            (0, 128, 4095, Some(0)),
-            (62, 64, 65, Some(62)),
-            (63, 128, 0, None),
+            (0, 1024, 262143, Some(0)),
+            (510, 512, 513, Some(510)),
+            (511, 1024, 0, None),
         ],
     )
 }

@@ -3,4 +3,4 @@ use Rattle.snap_grid.specs.Masks.{mask_below}
 use Rattle.snap_grid.proofs.block.mask_of_all.Given as goal
 
 abbrev pub invariant-loop-row : goal.invariant-loop-row
-invariant-loop-row l = l.mask ≡ mask_below (λ a. true) l._row
+invariant-loop-row l = l.mask ≡ mask_below (λ a. true) l.row

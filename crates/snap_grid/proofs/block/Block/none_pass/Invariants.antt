@@ -5,4 +5,4 @@ use Rattle.snap_grid.proofs.block.Block.none_pass.Given as goal
 
 abbrev pub invariant-loop-j : goal.invariant-loop-j
 invariant-loop-j l =
-    (a s : ℕ) → a < l.self.count → l.block * 64 ≤ s → s < l.block * 64 + 64 → HaveRows l.self.columns.now (s + 1) → any_passes l.more (take l.j l.self.columns.now) (l.self.from + a) s ≡ false
+    (a s : ℕ) → a < l.self.count → l.block * 512 ≤ s → s < l.block * 512 + 512 → HaveRows l.self.columns.now (s + 1) → any_passes l.more (take l.j l.self.columns.now) (l.self.from + a) s ≡ false

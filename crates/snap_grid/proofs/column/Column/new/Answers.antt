@@ -7,7 +7,7 @@ use Rattle.snap_grid.specs.Kept.{IsBounded}
 use Rattle.snap_grid.proofs.column.Column.new.Goals as goal
 
 -- bounds of a piece of the numbers are bounds of the rows of the piece
-of_piece : (numbers : List ℕ) (block start end : ℕ) (b : Bounds) → start ≡ block * 64 → end ≡ min (length numbers) (start + 64) →
+of_piece : (numbers : List ℕ) (block start end : ℕ) (b : Bounds) → start ≡ block * 512 → end ≡ min (length numbers) (start + 512) →
     ((i : ℕ) → i < length (take (end - start) (drop start numbers)) → (b.least ≤ get_or (take (end - start) (drop start numbers)) i 0) × (get_or (take (end - start) (drop start numbers)) i 0 ≤ b.greatest)) → IsBounded numbers block b
 of_piece numbers block start end b s e h = λ i l m n.
     let short : i - start < end - start = omega (arith, s, e, l, m, n) in
@@ -29,7 +29,7 @@ more numbers bounds new h g block b l = elim (cases_lt block (length bounds)) [
 pub loop-start-preserved : goal.loop-start-preserved
 loop-start-preserved c =
     let numbers = c.args.numbers.items in
-    let end : c.min-end.result ≡ min (length numbers) (c.loop-start.start + 64) = omega (arith, c.min-end.ensures, c.len-in-loop-start.ensures, c.args.numbers.ok) in
+    let end : c.min-end.result ≡ min (length numbers) (c.loop-start.start + 512) = omega (arith, c.min-end.ensures, c.len-in-loop-start.ensures, c.args.numbers.ok) in
     let piece = of_piece numbers (length c.loop-start.bounds.items) c.loop-start.start c.min-end.result c.of.result c.loop-start.invariant.at end (rw (← c.deref.ensures.value) c.of.ensures) in
     let items = c.in_ok-push.ensures.items in
     record {

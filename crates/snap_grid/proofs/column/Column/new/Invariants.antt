@@ -5,9 +5,9 @@ use Rattle.snap_grid.proofs.column.Column.new.Given as goal
 
 abbrev pub invariant-loop-start : goal.invariant-loop-start
 invariant-loop-start l = record {
-  at : l.start ≡ length l.bounds.items * 64;
+  at : l.start ≡ length l.bounds.items * 512;
   bounded : (block : ℕ) (b : Bounds) → block < length l.bounds.items → IsBounded l.numbers.items block (get_or l.bounds.items block b);
 }
 
 abbrev pub decreases-loop-start : goal.decreases-loop-start
-decreases-loop-start l = length l.numbers.items + 64 - l.start
+decreases-loop-start l = length l.numbers.items + 512 - l.start

@@ -12,13 +12,13 @@ have_rows g columns n same e l = subst (λ z. HaveRows z n) (sym e) (λ j m. ome
 pub none_pass-requires : goal.none_pass-requires
 none_pass-requires c = λ j m.
     let same = subst (λ (g : GridValue). HaveSameRows g.columns g.begins g.ends) c.self.view_is c.self.invariant in
-    omega (arith, have_rows c.args.self.now c.args.ours.now.columns.now (c.args.block * 64 + c.args.count) same c.requires.columns c.requires.rows j m, c.requires.some)
+    omega (arith, have_rows c.args.self.now c.args.ours.now.columns.now (c.args.block * 512 + c.args.count) same c.requires.columns c.requires.rows j m, c.requires.some)
 
 pub returns-then-none_pass : goal.returns-then-none_pass
 returns-then-none_pass c = λ _ a i k l.
     let g = c.args.self.now in
     let b = c.args.ours.now in
-    let s = c.args.block * 64 + i in
+    let s = c.args.block * 512 + i in
     let same = subst (λ (g : GridValue). HaveSameRows g.columns g.begins g.ends) c.self.view_is c.self.invariant in
     let rows = have_rows g b.columns.now (s + 1) same c.requires.columns (omega (arith, l, c.requires.rows)) in
     apart_by_more g (b.from + a) s (ap (λ z. any_passes true z (b.from + a) s) (sym c.requires.columns) ∙ c.none_pass.ensures c.if-none_pass.true a s k (omega arith) (omega (arith, l, c.requires.few)) rows)
@@ -26,13 +26,13 @@ returns-then-none_pass c = λ _ a i k l.
 pub none_pass-requires-2 : goal.none_pass-requires-2
 none_pass-requires-2 c = λ j m.
     let same = subst (λ (g : GridValue). HaveSameRows g.columns g.begins g.ends) c.self.view_is c.self.invariant in
-    omega (arith, have_rows c.args.self.now c.args.ours.now.columns.now (c.args.block * 64 + c.args.count) same c.requires.columns c.requires.rows j m, c.requires.some)
+    omega (arith, have_rows c.args.self.now c.args.ours.now.columns.now (c.args.block * 512 + c.args.count) same c.requires.columns c.requires.rows j m, c.requires.some)
 
 pub returns : goal.returns
 returns c = λ soon a i k l.
     let g = c.args.self.now in
     let b = c.args.ours.now in
-    let s = c.args.block * 64 + i in
+    let s = c.args.block * 512 + i in
     let same = subst (λ (g : GridValue). HaveSameRows g.columns g.begins g.ends) c.self.view_is c.self.invariant in
     let rows = have_rows g b.columns.now (s + 1) same c.requires.columns (omega (arith, l, c.requires.rows)) in
     let size = ap length c.requires.ends ∙ row_count g.ends b.from b.count (omega (arith, same.ended, c.requires.within)) in

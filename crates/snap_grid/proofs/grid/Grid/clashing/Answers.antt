@@ -1,35 +1,31 @@
-use Rattle.std.proofs.Common.{◌≡◌, ◌≤◌, ◌+◌, ◌*◌, ℕ, List, length, get_or, refl, ap, subst, ◌∙◌, arith}
+use Rattle.std.proofs.Common.{◌≡◌, ◌≤◌, ◌+◌, ◌*◌, ◌<◌, ◌||◌, ℕ, Bool, List, length, get_or, ap, subst, ◌∙◌, arith}
 use Rattle.std.specs.Prelude.{true, false, nat_lt, bit_and, bit_or, take, drop}
 use Rattle.snap_grid.specs.Columns.{GridValue, HaveSameRows, number, any_passes, clashes, drops}
 use Rattle.snap_grid.specs.Masks.{mask_by, mask_below}
+use Rattle.snap_grid.specs.Facing.{any_faces}
+use Rattle.snap_grid.proofs.Bits.{mask_below_same}
 use Rattle.snap_grid.proofs.Clashing.{drop_lane, few_ones, few_pairs, lane, with_more, with_none, with_nothing}
 use Rattle.snap_grid.proofs.grid.Grid.clashing.Goals as goal
 
 pub returns-then-are_apart : goal.returns-then-are_apart
-returns-then-are_apart c = with_nothing c.args.self.now c.args.ours.now.from c.args.ours.now.count (c.args.block * 64) c.args.count (c.are_apart.ensures c.if-are_apart.true)
+returns-then-are_apart c = rw c.none.ensures (with_nothing c.args.self.now c.args.ours.now.from c.args.ours.now.count (c.args.block * 512) c.args.count (c.are_apart.ensures c.if-are_apart.true))
 
-pub passing-more-requires-clause-rows : goal.passing-more-requires-clause-rows
-passing-more-requires-clause-rows c =
+pub against-requires-clause-rows : goal.against-requires-clause-rows
+against-requires-clause-rows c =
     let same = subst (λ (g : GridValue). HaveSameRows g.columns g.begins g.ends) c.self.view_is c.self.invariant in
     rw c.requires.columns (λ j l. omega (arith, same.each j l, c.requires.rows))
 
-pub passing-more-requires-clause-small : goal.passing-more-requires-clause-small
-passing-more-requires-clause-small c =
-    let same = subst (λ (g : GridValue). HaveSameRows g.columns g.begins g.ends) c.self.view_is c.self.invariant in
-    omega (arith, same.few, c.requires.rows, c.requires.some)
-
-pub passing-less-requires-clause-rows : goal.passing-less-requires-clause-rows
-passing-less-requires-clause-rows c =
-    let same = subst (λ (g : GridValue). HaveSameRows g.columns g.begins g.ends) c.self.view_is c.self.invariant in
-    rw c.requires.columns (λ j l. omega (arith, same.each j l, c.requires.rows))
-
-pub passing-less-requires-clause-small : goal.passing-less-requires-clause-small
-passing-less-requires-clause-small c =
+pub against-requires-clause-small : goal.against-requires-clause-small
+against-requires-clause-small c =
     let same = subst (λ (g : GridValue). HaveSameRows g.columns g.begins g.ends) c.self.view_is c.self.invariant in
     omega (arith, same.few, c.requires.rows, c.requires.some)
 
 pub loop-i-init : goal.loop-i-init
-loop-i-init c = record { small = omega arith; found = with_none c.args.self.now c.args.ours.now.from c.args.ours.now.count (c.args.block * 64) }
+loop-i-init c = rw c.none-rows.ensures (record { small = omega arith; found = with_none c.args.self.now c.args.ours.now.from c.args.ours.now.count (c.args.block * 512) })
+
+-- the mask of the rows that pass one, by what bounds and columns tell
+faced : (p q : ℕ → Bool) (n m mask : ℕ) → mask ≡ mask_below p m → m ≡ n → ((a : ℕ) → a < n → p a ≡ q a) → mask ≡ mask_below q n
+faced p q n m mask e f h = e ∙ ap (mask_below p) f ∙ mask_below_same p q n h
 
 -- the mask of one lane, by what the loop read
 here : (g : GridValue) (columns : List (List ℕ)) (from n s more less before : ℕ) (begins ends : List ℕ) → HaveSameRows g.columns g.begins g.ends → columns ≡ g.columns → from + n ≤ length g.begins → ends ≡ take n (drop from g.ends) → begins ≡ g.begins →
@@ -55,36 +51,42 @@ pub overflow_add-found : goal.overflow_add-found
 overflow_add-found c =
     let g = c.args.self.now in
     let b = c.args.ours.now in
-    let s = c.args.block * 64 + c.loop-i.i in
+    let s = c.args.block * 512 + c.loop-i.i in
     let same = subst (λ (g : GridValue). HaveSameRows g.columns g.begins g.ends) c.self.view_is c.self.invariant in
-    let mask = here g b.columns.now b.from b.count s _ _ _ c.as_slice-begins.result.now c.args.ends.now same c.requires.columns c.requires.within c.requires.ends (c.as_slice-begins.ensures.value ∙ ap (λ (g : GridValue). g.begins) c.self.view_is)
-    (c.passing-more.ensures c.loop-i.i c.loop-i-test.true) (c.passing-less.ensures c.loop-i.i c.loop-i-test.true) c.before-before.ensures in
-    record { fits = omega (arith, c.loop-i.invariant.small, c.loop-i-test.true, c.requires.few, c.from-found.ensures, b.rows.few, few_ones (λ a. clashes g (b.from + a) s) b.count _ mask) }
+    let begins = c.as_slice-begins.ensures.value ∙ ap (λ (g : GridValue). g.begins) c.self.view_is in
+    let against = c.in_ok-against.against in
+    let more = faced (λ a. against.more || any_faces true against.columns.items a c.loop-i.i) (λ a. any_passes true b.columns.now (b.from + a) s) b.count against.ours _ c.passing-passing.ensures.more c.in_ok-against.ensures.rows.0 (λ a l. c.in_ok-against.ensures.more a c.loop-i.i l c.loop-i-test.true) in
+    let less = faced (λ a. against.less || any_faces false against.columns.items a c.loop-i.i) (λ a. any_passes false b.columns.now (b.from + a) s) b.count against.ours _ c.passing-passing.ensures.less c.in_ok-against.ensures.rows.0 (λ a l. c.in_ok-against.ensures.less a c.loop-i.i l c.loop-i-test.true) in
+    let mask = c.and-mask.ensures ∙ ap (bit_and c.passing-passing.result.more) c.or.ensures ∙ here g b.columns.now b.from b.count s _ _ _ c.as_slice-begins.result.now c.args.ends.now same c.requires.columns c.requires.within c.requires.ends begins more less c.before-before.ensures in
+    record { fits = omega (arith, c.loop-i.invariant.small, c.loop-i-test.true, c.requires.few, c.count-found.ensures, b.rows.few, few_ones (λ a. clashes g (b.from + a) s) b.count c.and-mask.result mask) }
 
 pub overflow_add-drops : goal.overflow_add-drops
 overflow_add-drops c =
     let g = c.args.self.now in
     let b = c.args.ours.now in
-    let s = c.args.block * 64 + c.loop-i.i in
+    let s = c.args.block * 512 + c.loop-i.i in
     let same = subst (λ (g : GridValue). HaveSameRows g.columns g.begins g.ends) c.self.view_is c.self.invariant in
-    let mask = dropping_here g b.columns.now b.from b.count s _ _ c.as_slice-begins.result.now c.args.ends.now same c.requires.columns c.requires.within c.requires.ends (c.as_slice-begins.ensures.value ∙ ap (λ (g : GridValue). g.begins) c.self.view_is)
-    (c.passing-more.ensures c.loop-i.i c.loop-i-test.true) c.before-before.ensures in
-    let few = few_pairs (drops g) b.from b.count (c.args.block * 64) c.loop-i.i c.loop-i.drops b.rows.few c.loop-i.invariant.found.drops in
-    record { fits = omega (arith, few, c.loop-i-test.true, c.requires.few, c.from-drops.ensures, b.rows.few, few_ones (λ a. drops g (b.from + a) s) b.count _ mask) }
+    let begins = c.as_slice-begins.ensures.value ∙ ap (λ (g : GridValue). g.begins) c.self.view_is in
+    let against = c.in_ok-against.against in
+    let more = faced (λ a. against.more || any_faces true against.columns.items a c.loop-i.i) (λ a. any_passes true b.columns.now (b.from + a) s) b.count against.ours _ c.passing-passing.ensures.more c.in_ok-against.ensures.rows.0 (λ a l. c.in_ok-against.ensures.more a c.loop-i.i l c.loop-i-test.true) in
+    let dropping = c.and-dropping.ensures ∙ dropping_here g b.columns.now b.from b.count s _ _ c.as_slice-begins.result.now c.args.ends.now same c.requires.columns c.requires.within c.requires.ends begins more c.before-before.ensures in
+    let few = few_pairs (drops g) b.from b.count (c.args.block * 512) c.loop-i.i c.loop-i.drops b.rows.few c.loop-i.invariant.found.drops in
+    record { fits = omega (arith, few, c.loop-i-test.true, c.requires.few, c.count-drops.ensures, b.rows.few, few_ones (λ a. drops g (b.from + a) s) b.count c.and-dropping.result dropping) }
 
 pub loop-i-preserved : goal.loop-i-preserved
 loop-i-preserved c =
     let g = c.args.self.now in
     let b = c.args.ours.now in
-    let s = c.args.block * 64 + c.loop-i.i in
+    let s = c.args.block * 512 + c.loop-i.i in
     let same = subst (λ (g : GridValue). HaveSameRows g.columns g.begins g.ends) c.self.view_is c.self.invariant in
     let begins = c.as_slice-begins.ensures.value ∙ ap (λ (g : GridValue). g.begins) c.self.view_is in
-    let mask = here g b.columns.now b.from b.count s _ _ _ c.as_slice-begins.result.now c.args.ends.now same c.requires.columns c.requires.within c.requires.ends begins
-    (c.passing-more.ensures c.loop-i.i c.loop-i-test.true) (c.passing-less.ensures c.loop-i.i c.loop-i-test.true) c.before-before.ensures in
-    let dropping = dropping_here g b.columns.now b.from b.count s _ _ c.as_slice-begins.result.now c.args.ends.now same c.requires.columns c.requires.within c.requires.ends begins
-    (c.passing-more.ensures c.loop-i.i c.loop-i-test.true) c.before-before.ensures in
+    let against = c.in_ok-against.against in
+    let more = faced (λ a. against.more || any_faces true against.columns.items a c.loop-i.i) (λ a. any_passes true b.columns.now (b.from + a) s) b.count against.ours _ c.passing-passing.ensures.more c.in_ok-against.ensures.rows.0 (λ a l. c.in_ok-against.ensures.more a c.loop-i.i l c.loop-i-test.true) in
+    let less = faced (λ a. against.less || any_faces false against.columns.items a c.loop-i.i) (λ a. any_passes false b.columns.now (b.from + a) s) b.count against.ours _ c.passing-passing.ensures.less c.in_ok-against.ensures.rows.0 (λ a l. c.in_ok-against.ensures.less a c.loop-i.i l c.loop-i-test.true) in
+    let mask = c.and-mask.ensures ∙ ap (bit_and c.passing-passing.result.more) c.or.ensures ∙ here g b.columns.now b.from b.count s _ _ _ c.as_slice-begins.result.now c.args.ends.now same c.requires.columns c.requires.within c.requires.ends begins more less c.before-before.ensures in
+    let dropping = c.and-dropping.ensures ∙ dropping_here g b.columns.now b.from b.count s _ _ c.as_slice-begins.result.now c.args.ends.now same c.requires.columns c.requires.within c.requires.ends begins more c.before-before.ensures in
     record {
-      small = omega (arith, c.loop-i.invariant.small, c.from-found.ensures, b.rows.few, few_ones (λ a. clashes g (b.from + a) s) b.count _ mask);
-      found = with_more g b.from b.count (c.args.block * 64) c.loop-i.i c.loop-i.found c.loop-i.drops c.loop-i.rows _ _ _ _ _ mask dropping
-          (ap (λ z. c.loop-i.found + z) c.from-found.ensures) (ap (λ z. c.loop-i.drops + z) c.from-drops.ensures) refl c.loop-i.invariant.found;
+      small = omega (arith, c.loop-i.invariant.small, c.count-found.ensures, b.rows.few, few_ones (λ a. clashes g (b.from + a) s) b.count c.and-mask.result mask);
+      found = with_more g b.from b.count (c.args.block * 512) c.loop-i.i c.loop-i.found c.loop-i.drops c.loop-i.rows c.and-mask.result c.and-dropping.result _ _ c.or-rows.result mask dropping
+          (ap (λ z. c.loop-i.found + z) c.count-found.ensures) (ap (λ z. c.loop-i.drops + z) c.count-drops.ensures) c.or-rows.ensures c.loop-i.invariant.found;
     }

@@ -1,0 +1,107 @@
+ghost use Rattle.std.specs.Prelude.{◌≡◌, ◌<◌, ◌^◌, ℕ, bit_or, bit_and, bit_xor, count_ones, IsTrue};
+ghost use Rattle.snap_grid.specs.Masks.{IsFirstBit};
+
+use std::marker::Model;
+use std::simd::prelude::*;
+
+// How many rows a block has, and a mask bits for.
+pub(crate) const WIDTH: usize = 512;
+
+// How many lanes of 64 bits a mask has.
+const LANES: usize = 8;
+
+// A mask of up to 512 rows.
+#[derive(Drop)]
+pub(crate) struct Mask {
+    lanes: [u64; LANES],
+}
+
+impl Model for Mask {
+    ghost use Rattle.std.specs.Prelude.{ℕ};
+    ghost use Rattle.snap_grid.specs.Masks.{number_of_lanes, AreLanes};
+
+    ghost Value = { ℕ };
+
+    ghost view = { λ m. number_of_lanes m.lanes };
+
+    ghost invariant = { λ m. AreLanes m.lanes };
+}
+
+impl Mask {
+    // The mask of no row.
+    pub(crate) fn none() -> Mask
+        ensures { result ≡ 0 }
+    {
+        Mask { lanes: [0; LANES] }
+    }
+
+    // The same mask.
+    pub(crate) fn copy(&self) -> Mask
+        ensures { result ≡ self.now }
+    {
+        Mask { lanes: self.lanes }
+    }
+
+    // Whether it has no row.
+    pub(crate) fn is_none(&self) -> bool
+        ensures { IsTrue result → self.now ≡ 0 }
+    {
+        u64x8::from_array(self.lanes).reduce_or() == 0
+    }
+
+    // Sets the bit of a row.
+    pub(crate) fn set(&mut self, row: usize)
+        requires { row < 512 }
+        ensures { self.new ≡ bit_or self.old (2 ^ row) }
+    {
+        self.lanes[row / 64] |= 1 << (row % 64);
+    }
+
+    // The rows of this mask or another.
+    pub(crate) fn or(&self, other: &Mask) -> Mask
+        ensures { result ≡ bit_or self.now other.now }
+    {
+        Mask {
+            lanes: (u64x8::from_array(self.lanes) | u64x8::from_array(other.lanes)).to_array(),
+        }
+    }
+
+    // The rows of this mask and another.
+    pub(crate) fn and(&self, other: &Mask) -> Mask
+        ensures { result ≡ bit_and self.now other.now }
+    {
+        Mask {
+            lanes: (u64x8::from_array(self.lanes) & u64x8::from_array(other.lanes)).to_array(),
+        }
+    }
+
+    // The rows of one of this mask and another, and not of both.
+    pub(crate) fn xor(&self, other: &Mask) -> Mask
+        ensures { result ≡ bit_xor self.now other.now }
+    {
+        Mask {
+            lanes: (u64x8::from_array(self.lanes) ^ u64x8::from_array(other.lanes)).to_array(),
+        }
+    }
+
+    // How many rows it has.
+    pub(crate) fn count(&self) -> u64
+        ensures { result ≡ count_ones self.now }
+    {
+        u64x8::from_array(self.lanes)
+            .count_ones()
+            .strict_reduce_sum()
+    }
+
+    // The first row that it has.
+    pub(crate) fn first(&self) -> Option<usize>
+        ensures { IsFirstBit self.now result }
+    {
+        for lane in 0..LANES {
+            if self.lanes[lane] != 0 {
+                return Some(64 * lane + self.lanes[lane].trailing_zeros() as usize);
+            }
+        }
+        None
+    }
+}
