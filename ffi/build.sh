@@ -1,8 +1,14 @@
 #!/usr/bin/env bash
 # Proves and builds the judge as libsnapjudge.a and libsnapjudge.so, in the folder that is named or in ffi/build. One object
 # is made of the library and of the kit's few lines over malloc, and of its names only the two calls are seen.
+# usage: build.sh [--built BEGUN] [FOLDER]; with --built it takes the libraries that a gate has proved since the file BEGUN
 set -eu
 top=$(cd "$(dirname "${BASH_SOURCE[0]}")/.." && pwd)
+begun=
+if [ "${1-}" = --built ]; then
+  begun=$(realpath "$2")
+  shift 2
+fi
 out=${1:-$top/ffi/build}
 kit=$(dirname "$(dirname "$(readlink -f "$(command -v rt)")")")
 mkdir -p "$out"
@@ -10,8 +16,16 @@ out=$(cd "$out" && pwd)
 work=$(mktemp -d)
 trap 'rm -rf "$work"' EXIT
 
+# Proves snap_c, and below it what no gate has just proved, and builds it.
+prove() {
+  if [ -n "$begun" ] && python3 -B "$top/ffi/over_built.py" "$kit" "$begun"; then
+    return 0
+  fi
+  rt lib
+}
+
 cd "$top/crates/snap_c"
-if ! rt lib >"$work/log" 2>&1; then
+if ! prove >"$work/log" 2>&1; then
   tail -n 20 "$work/log" >&2
   exit 1
 fi

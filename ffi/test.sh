@@ -1,6 +1,7 @@
 #!/usr/bin/env bash
 # Builds the library and tries it from C, C++, Rust and Python on the examples, with little room, with refused memory and from
 # eight threads on small stacks. The last line is 'N passed, M failed'. A language whose compiler is missing is skipped.
+# usage: test.sh [--built BEGUN], as build.sh
 set -u
 cd "$(dirname "${BASH_SOURCE[0]}")" || exit 1
 build=$PWD/build
@@ -81,7 +82,7 @@ for tool in cc ar ld objcopy nm; do
     exit 0
   fi
 done
-try "build" ./build.sh "$build"
+try "build" ./build.sh "$@" "$build"
 if [ "$failed" = 0 ]; then
   try "two names" two_names
   try "C" compiled cc -std=c11
