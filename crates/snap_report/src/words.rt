@@ -10,7 +10,7 @@ use snap_csv::{ENTRY_SIZE, write_entry, write_number, write_text};
 use std::alloc::{AllocError, Global};
 
 /// Adds a text, and behind it a number.
-pub(crate) fn put_number(out: &mut Vec<u8>, text: &[u8], number: u64) -> Result<(), AllocError>
+pub fn put_number(out: &mut Vec<u8>, text: &[u8], number: u64) -> Result<(), AllocError>
     ensures { OnOk result (out.new.items ≡ out.old.items ++ text.now ++ decimal number) }
 {
     out.extend_from_slice(text)?;
@@ -20,14 +20,14 @@ pub(crate) fn put_number(out: &mut Vec<u8>, text: &[u8], number: u64) -> Result<
 }
 
 /// Adds a text, and behind it the number of a call, counted from 1.
-pub(crate) fn put_call(out: &mut Vec<u8>, text: &[u8], call: u32) -> Result<(), AllocError>
+pub fn put_call(out: &mut Vec<u8>, text: &[u8], call: u32) -> Result<(), AllocError>
     ensures { OnOk result (out.new.items ≡ out.old.items ++ text.now ++ call_word call) }
 {
     put_number(out, text, u64::from(call) + 1)
 }
 
 /// Adds a text, and behind it an update by its component and its number.
-pub(crate) fn put_update(
+pub fn put_update(
     out: &mut Vec<u8>,
     text: &[u8],
     component: u8,
@@ -40,7 +40,7 @@ pub(crate) fn put_update(
 }
 
 /// Adds a text, and behind it an entry.
-pub(crate) fn put_entry(out: &mut Vec<u8>, text: &[u8], entry: &Entry) -> Result<(), AllocError>
+pub fn put_entry(out: &mut Vec<u8>, text: &[u8], entry: &Entry) -> Result<(), AllocError>
     ensures { OnOk result (out.new.items ≡ out.old.items ++ text.now ++ entry_word entry.now) }
 {
     put_update(out, text, entry.component, entry.number)?;

@@ -69,7 +69,7 @@ pub lines_of_order : (es : List Event) (numbers : List ℕ) → numbers ≡ map 
 lines_of_order es numbers e =
     rw e (All-map (HasLine (calls_of es)) (λ c. c.number) (printed_order (calls_of es)) (λ k d l. printed_line es _ (In-get_or (printed_order (calls_of es)) k d l)))
 
-calls_of_order : (es : List Event) (numbers : List ℕ) → numbers ≡ map (λ c. c.number) (printed_order (calls_of es)) → calls_numbered (calls_of es) numbers ≡ printed_order (calls_of es)
+pub calls_of_order : (es : List Event) (numbers : List ℕ) → numbers ≡ map (λ c. c.number) (printed_order (calls_of es)) → calls_numbered (calls_of es) numbers ≡ printed_order (calls_of es)
 unfolding picked
 calls_of_order es numbers e =
     ap (calls_numbered (calls_of es)) e

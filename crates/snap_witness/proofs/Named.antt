@@ -64,6 +64,12 @@ two_calls es r s v w =
     ap (λ z. z ∷ s ∷ []) (sym (own_number es r (In-from_Contains (calls_of es) r v.there)))
     ∙ ap (λ z. call_numbered (calls_of es) r.number ∷ z ∷ []) (sym (own_number es s (In-from_Contains (calls_of es) s w.there)))
 
+pub view_at : (es : List Event) (r : Call) → IsViewOf (calls_of es) r → IsViewAt (calls_of es) r.number
+view_at es r v = record {
+  within = number_within es r (In-from_Contains (calls_of es) r v.there);
+  view = ap is_view (own_number es r (In-from_Contains (calls_of es) r v.there)) ∙ v.completed;
+}
+
 pub integrity_named : (es : List Event) → IsKept es → (fault : IntegrityFault) → option_map reported_integrity (first_of (integrity_faults (calls_of es) (views_of (calls_of es)))) ≡ Some fault →
     Names es (first_integrity (calls_of es)) (fault.view ∷ []) ((fault.entry.component, fault.entry.number) ∷ [])
 unfolding first_integrity
@@ -83,6 +89,7 @@ few_updates es h k n c i t =
 
 -- what a proximity fault names
 pub record NamesProximity (es : List Event) (fault : ProximityFault) : Type 0 where
+  pub view : IsViewAt (calls_of es) fault.view
   pub small : fault.number ≤ event_limit
   pub named : Names es (first_proximity (calls_of es)) (fault.view ∷ []) ((fault.component, side_number fault.side fault.number) ∷ [])
 
@@ -100,6 +107,7 @@ proximity_named es h fault e =
         let c = any_to (λ a. is_update_numbered k (suc (shown_number r k)) a && precedes a r) (calls_of es) j.1 in
         let few = few_updates es h k (suc (shown_number r k)) c.it c.there (and_parts (is_update_numbered k (suc (shown_number r k)) c.it) (precedes c.it r) c.passes).0 in
         record {
+          view = view_at es r j.0;
           small = omega (arith, few);
           named = subst (λ b. Names es (first_proximity (calls_of es)) (r.number ∷ []) ((k, side_number (cond b OldSide EarlySide) (shown_number r k)) ∷ [])) (sym t)
               (names es h (first_proximity (calls_of es)) (Old r k) (r.number ∷ []) g j (one_within es r j.0) (one_call es r j.0));
@@ -110,16 +118,11 @@ proximity_named es h fault e =
         let c = any_to (λ a. is_update_numbered k (shown_number r k) a && precedes r a) (calls_of es) j.1 in
         let few = few_updates es h k (shown_number r k) c.it c.there (and_parts (is_update_numbered k (shown_number r k) c.it) (precedes r c.it) c.passes).0 in
         record {
+          view = view_at es r j.0;
           small = few;
           named = subst (λ b. Names es (first_proximity (calls_of es)) (r.number ∷ []) ((k, side_number (cond b OldSide EarlySide) (shown_number r k)) ∷ [])) (sym t)
               (names es h (first_proximity (calls_of es)) (Early r k) (r.number ∷ []) g j (one_within es r j.0) (one_call es r j.0));
         }
-
-view_at : (es : List Event) (r : Call) → IsViewOf (calls_of es) r → IsViewAt (calls_of es) r.number
-view_at es r v = record {
-  within = number_within es r (In-from_Contains (calls_of es) r v.there);
-  view = ap is_view (own_number es r (In-from_Contains (calls_of es) r v.there)) ∙ v.completed;
-}
 
 -- what a read fault names
 pub record NamesRead (es : List Event) (fault : ReadFault) : Type 0 where

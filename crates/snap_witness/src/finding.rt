@@ -34,8 +34,8 @@ fn integrity_witness(
     keep_calls(alloc, index, &[fault.view], &[shown])
 }
 
-// The number of the update that shows a proximity fault: the one that the view misses, or the one that it shows.
-fn side_number(side: Side, number: u32) -> u32
+/// The number of the update that shows a proximity fault: the one that the view misses, or the one that it shows.
+pub fn side_number(side: Side, number: u32) -> u32
     requires { number < 4294967295 }
     ensures { result ≡ spec_side_number side number }
 {
@@ -59,8 +59,8 @@ fn proximity_witness(
     keep_calls(alloc, index, &[fault.view], &[update])
 }
 
-// The least component of which a view shows more than another.
-fn least_exceeding(view: &View, other: &View) -> Option<u8>
+/// The least component of which a view shows more than another, where there is one.
+pub fn least_exceeding(view: &View, other: &View) -> Option<u8>
     ensures { result ≡ first_less (λ k. number_in (entry_of k other.now)) (λ k. number_in (entry_of k view.now)) }
 {
     for k in 0..COMPONENT_COUNT {
@@ -72,8 +72,8 @@ fn least_exceeding(view: &View, other: &View) -> Option<u8>
     None
 }
 
-// What the completed view of a call number shows.
-fn view_numbered<'i>(index: &'i Index<'_>, c: u32) -> &'i View
+/// What the completed view of a call number shows.
+pub fn view_numbered<'i>(index: &'i Index<'_>, c: u32) -> &'i View
     requires { IsViewAt (calls_of index.now) c }
     ensures { result.now ≡ entries_of (call_numbered (calls_of index.entry.now) c).operation }
 {

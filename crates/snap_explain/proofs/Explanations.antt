@@ -1,0 +1,33 @@
+-- The explanation of a history, put together from its parts.
+use Rattle.std.proofs.Common.{◌≡◌, ◌++◌, ◌∙◌, ℕ, true, false, List, codes, map, ap}
+use Rattle.std.specs.Prelude.{if◌then◌else◌}
+use Rattle.std.specs.List.{flat_map}
+use Rattle.snap_core.specs.declared.event.Event.{Event}
+use Rattle.snap_core.specs.Calls.{calls_of, views_of}
+use Rattle.snap_conditions.specs.declared.tally.Tally.{Tally}
+use Rattle.snap_conditions.specs.Tally.{tally_of}
+use Rattle.snap_order.specs.Levels.{printed_order}
+use Rattle.snap_report.specs.Orders.{calls_numbered}
+use Rattle.snap_report.specs.Reports.{has_no_fault, has_no_local_fault}
+use Rattle.snap_verdict.proofs.Verdicts.{calls_of_order}
+use Rattle.snap_explain.specs.Calls.{call_text}
+use Rattle.snap_explain.specs.Explanations.{IsExplanation, explanation, order_text, verdict_text}
+use Rattle.snap_explain.specs.Faults.{faults_text}
+
+pub order_explains : (records : List ℕ) (es : List Event) (t : Tally) (numbers text : List ℕ) → t ≡ tally_of (calls_of es) (views_of (calls_of es)) → true ≡ has_no_fault t →
+    numbers ≡ map (λ c. c.number) (printed_order (calls_of es)) →
+    text ≡ codes "atomic: in this order each view shows the latest updates before it\n" ++ flat_map (call_text records) (calls_numbered (calls_of es) numbers) → IsExplanation records (calls_of es) text
+unfolding explanation
+order_explains records es t numbers text whole atomic same e =
+    e
+    ∙ ap (order_text records) (calls_of_order es numbers same)
+    ∙ ap (λ b. if b then order_text records (printed_order (calls_of es)) else verdict_text (has_no_local_fault t) ++ faults_text records (calls_of es) t) atomic
+    ∙ ap (explanation records (calls_of es)) whole
+
+pub faults_explain : (records : List ℕ) (es : List Event) (t : Tally) (text : List ℕ) → t ≡ tally_of (calls_of es) (views_of (calls_of es)) → false ≡ has_no_fault t →
+    text ≡ verdict_text (has_no_local_fault t) ++ faults_text records (calls_of es) t → IsExplanation records (calls_of es) text
+unfolding explanation
+faults_explain records es t text whole faulty e =
+    e
+    ∙ ap (λ b. if b then order_text records (printed_order (calls_of es)) else verdict_text (has_no_local_fault t) ++ faults_text records (calls_of es) t) faulty
+    ∙ ap (explanation records (calls_of es)) whole

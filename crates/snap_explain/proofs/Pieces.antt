@@ -1,0 +1,14 @@
+-- Texts that are put together piece by piece.
+use Rattle.std.proofs.Common.{◌≡◌, ◌++◌, List, append_assoc}
+
+pub three_pieces : {A : Type 0} (out a b c : List A) → out ++ a ++ b ++ c ≡ out ++ (a ++ b ++ c)
+three_pieces out a b c = simp append_assoc
+
+pub four_pieces : {A : Type 0} (out a b c d : List A) → out ++ a ++ b ++ c ++ d ≡ out ++ (a ++ b ++ c ++ d)
+four_pieces out a b c d = simp append_assoc
+
+pub seven_pieces : {A : Type 0} (out a b c d e f g : List A) → out ++ a ++ b ++ c ++ d ++ e ++ f ++ g ≡ out ++ (a ++ b ++ c ++ d ++ e ++ f ++ g)
+seven_pieces out a b c d e f g = simp append_assoc
+
+pub nine_pieces : {A : Type 0} (out a b c d e f g h i : List A) → out ++ a ++ b ++ c ++ d ++ e ++ f ++ g ++ h ++ i ≡ out ++ (a ++ b ++ c ++ d ++ e ++ f ++ g ++ h ++ i)
+nine_pieces out a b c d e f g h i = simp append_assoc

@@ -1,0 +1,26 @@
+-- The explanation of a history: an order of its calls, or its first faults.
+use Rattle.std.specs.Prelude.{ℕ, Bool, List, ◌≡◌, ◌++◌, codes, if◌then◌else◌}
+use Rattle.std.specs.List.{flat_map}
+use Rattle.snap_core.specs.Calls.{Call, views_of}
+use Rattle.snap_conditions.specs.declared.tally.Tally.{Tally}
+use Rattle.snap_conditions.specs.Tally.{tally_of}
+use Rattle.snap_order.specs.Levels.{printed_order}
+use Rattle.snap_report.specs.Reports.{has_no_fault, has_no_local_fault}
+use Rattle.snap_explain.specs.Calls.{call_text}
+use Rattle.snap_explain.specs.Faults.{faults_text}
+
+-- the lines of an order
+abbrev pub order_text : List ℕ → List Call → List ℕ
+order_text records order = codes "atomic: in this order each view shows the latest updates before it\n" ++ flat_map (call_text records) order
+
+abbrev pub verdict_text : Bool → List ℕ
+verdict_text regular = if regular then codes "regular, and not atomic\n" else codes "not regular\n"
+
+-- the order of an atomic history, and otherwise the verdict and the first fault of each kind, by its calls, the records of its
+-- events, and the tally of all its completed views
+unfoldable pub explanation : List ℕ → List Call → Tally → List ℕ
+explanation records calls t = if has_no_fault t then order_text records (printed_order calls) else verdict_text (has_no_local_fault t) ++ faults_text records calls t
+
+-- the text explains the history of these calls, whose events have these records
+abbrev pub IsExplanation : List ℕ → List Call → List ℕ → Type 0
+IsExplanation records calls text = text ≡ explanation records calls (tally_of calls (views_of calls))

@@ -1,0 +1,72 @@
+-- What is said of a fault: a sentence, and the lines of the calls that it is of.
+use Rattle.std.specs.Prelude.{ℕ, suc, List, [], ◌++◌, codes, decimal, if◌then◌else◌, unwrap_or}
+use Rattle.std.specs.Option.{option_map_or}
+use Rattle.snap_core.specs.Calls.{Call, call_numbered, precedes}
+use Rattle.snap_conditions.specs.declared.fault.IntegrityFault.{IntegrityFault}
+use Rattle.snap_conditions.specs.declared.fault.ProximityFault.{ProximityFault}
+use Rattle.snap_conditions.specs.declared.fault.ReadFault.{ReadFault}
+use Rattle.snap_conditions.specs.declared.fault.WriteFault.{WriteFault}
+use Rattle.snap_conditions.specs.declared.fault.Side.{Side}
+use Rattle.snap_conditions.specs.declared.fault.Side.TheVariants.{Old, Early}
+use Rattle.snap_conditions.specs.declared.tally.Tally.{Tally}
+use Rattle.snap_conditions.specs.Faults.{least_exceeding}
+use Rattle.snap_conditions.specs.Places.{update_of}
+use Rattle.snap_report.specs.Lines.{call_word, entry_word, update_word}
+use Rattle.snap_witness.specs.Places.{side_number}
+use Rattle.snap_explain.specs.Calls.{call_text}
+
+-- the line of the call of a number
+abbrev pub numbered_text : List ℕ → List Call → ℕ → List ℕ
+numbered_text records calls n = call_text records (call_numbered calls n)
+
+-- the line of update n of component k, where there is one
+abbrev pub update_text : List ℕ → List Call → ℕ → ℕ → List ℕ
+update_text records calls k n = option_map_or (call_text records) (update_of calls k n) []
+
+-- a view shows an entry that no update wrote; the other call is the update of that number, where there is one
+abbrev pub integrity_text : List ℕ → List Call → IntegrityFault → List ℕ
+integrity_text records calls f =
+    codes "integrity: view " ++ call_word f.view ++ codes " shows " ++ entry_word f.entry ++ codes ", which no update wrote\n"
+    ++ numbered_text records calls f.view ++ update_text records calls f.entry.component f.entry.number
+
+abbrev pub side_text : ℕ → ℕ → Side → List ℕ
+side_text k n Old = codes ", though update " ++ update_word k (suc n) ++ codes " had ended before the view began\n"
+side_text k n Early = codes ", though that update began after the view had ended\n"
+
+-- a view shows an update that is too old or too new; the other call is the update that it misses, or that it shows
+abbrev pub proximity_text : List ℕ → List Call → ProximityFault → List ℕ
+proximity_text records calls f =
+    codes "proximity: view " ++ call_word f.view ++ codes " shows " ++ update_word f.component f.number ++ side_text f.component f.number f.side
+    ++ numbered_text records calls f.view ++ update_text records calls f.component (side_number f.side f.number)
+
+-- why a view that shows more of some component than another should show no less of any
+abbrev pub against_text : Call → Call → List ℕ
+against_text r s =
+    if precedes r s then codes ", and had ended before that view began\n"
+    else codes ", and less of component " ++ decimal (unwrap_or (least_exceeding s r) 0) ++ codes "\n"
+
+-- two views disagree
+abbrev pub read_text : List ℕ → List Call → ReadFault → List ℕ
+read_text records calls f =
+    codes "read: view " ++ call_word f.view ++ codes " shows more of component " ++ decimal f.component ++ codes " than view " ++ call_word f.other
+    ++ against_text (call_numbered calls f.view) (call_numbered calls f.other)
+    ++ numbered_text records calls f.view ++ numbered_text records calls f.other
+
+abbrev pub write_sentence : WriteFault → List ℕ
+write_sentence f =
+    codes "write: view " ++ call_word f.view ++ codes " shows update " ++ update_word f.shown_component f.shown_number
+    ++ codes ", and misses update " ++ update_word f.missed_component f.missed_number ++ codes ", which had ended before that one began\n"
+
+-- a view shows an update and misses one that preceded it
+abbrev pub write_text : List ℕ → List Call → WriteFault → List ℕ
+write_text records calls f =
+    write_sentence f ++ numbered_text records calls f.view ++ update_text records calls f.missed_component f.missed_number
+    ++ update_text records calls f.shown_component f.shown_number
+
+-- of each kind the first fault, where there is one
+abbrev pub faults_text : List ℕ → List Call → Tally → List ℕ
+faults_text records calls t =
+    option_map_or (integrity_text records calls) t.integrity.first []
+    ++ option_map_or (proximity_text records calls) t.proximity.first []
+    ++ option_map_or (read_text records calls) t.read.first []
+    ++ option_map_or (write_text records calls) t.write.first []

@@ -1,0 +1,79 @@
+ghost use Rattle.std.specs.Prelude.{◌≡◌, ◌++◌, All, IfOk, OnOk, is_some, length, map};
+ghost use Rattle.std.specs.List.{flat_map};
+ghost use Rattle.std.specs.Option.{ForSome};
+ghost use Rattle.snap_core.specs.Calls.{calls_of, views_of};
+ghost use Rattle.snap_conditions.specs.Tally.{tally_of};
+ghost use Rattle.snap_order.specs.Levels.{printed_order};
+ghost use Rattle.snap_report.specs.Orders.{HasLine, calls_numbered};
+ghost use Rattle.snap_report.specs.Reports.{has_no_fault, has_no_local_fault};
+ghost use Rattle.snap_explain.specs.Calls.{call_text};
+ghost use Rattle.snap_explain.specs.Explanations.{IsExplanation, verdict_text};
+
+use crate::call::put_call_line;
+use crate::faults::put_faults;
+use snap_conditions::{Tally, is_regular};
+use snap_index::Index;
+use std::alloc::{AllocError, Global};
+
+// Adds the verdict on a history that is not atomic.
+fn put_verdict(out: &mut Vec<u8>, tally: &Tally) -> Result<(), AllocError>
+    ensures { OnOk result (out.new.items ≡ out.old.items ++ verdict_text (has_no_local_fault tally.now)) }
+{
+    if is_regular(tally) {
+        out.extend_from_slice(b"regular, and not atomic\n")
+    } else {
+        out.extend_from_slice(b"not regular\n")
+    }
+}
+
+// Adds the lines of the calls of some numbers.
+fn put_calls(
+    out: &mut Vec<u8>,
+    index: &Index<'_>,
+    records: &[u32],
+    numbers: &[u32],
+) -> Result<(), AllocError>
+    requires each { length records.now ≡ length index.now }
+    requires calls { All (HasLine (calls_of index.now)) numbers.now }
+    ensures { OnOk result (out.new.items ≡ out.old.items ++ flat_map (call_text records.now) (calls_numbered (calls_of index.now) numbers.now)) }
+{
+    for number in numbers {
+        put_call_line(out, index, records, *number)?;
+    }
+    Ok(())
+}
+
+/// The explanation of a history: an order of its calls where it is atomic, and otherwise of each kind of fault that it has the
+/// first, as a sentence; behind it the calls concerned, a line each, with the call's number, its process, the records of its
+/// begin and its end, and what it wrote or showed.
+///
+/// It is made from the tally of all its completed views, from the number of the record of each event, and from the numbers of
+/// the printed order, which is given exactly where the tally has no fault.
+pub fn explain(
+    alloc: Global,
+    index: &Index<'_>,
+    tally: &Tally,
+    records: &[u32],
+    order: Option<&[u32]>,
+) -> Result<Vec<u8>, AllocError>
+    requires tally { tally.now ≡ tally_of (calls_of index.now) (views_of (calls_of index.now)) }
+    requires each { length records.now ≡ length index.now }
+    requires given { is_some order ≡ has_no_fault tally.now }
+    requires order { ForSome order (λ numbers. numbers.now ≡ map (λ c. c.number) (printed_order (calls_of index.now))) }
+    ensures { IfOk result (λ text. IsExplanation records.now (calls_of index.now) text.items) }
+{
+    let mut out = Vec::new(alloc);
+    match order {
+        Some(order) => {
+            out.extend_from_slice(
+                b"atomic: in this order each view shows the latest updates before it\n",
+            )?;
+            put_calls(&mut out, index, records, order)?
+        }
+        None => {
+            put_verdict(&mut out, tally)?;
+            put_faults(&mut out, index, records, tally)?
+        }
+    }
+    Ok(out)
+}

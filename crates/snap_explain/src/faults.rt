@@ -1,0 +1,184 @@
+//! What is said of the first fault of each kind.
+ghost use Rattle.std.specs.Prelude.{◌≡◌, ◌≤◌, ◌++◌, ℕ, List, [], OnOk, length};
+ghost use Rattle.std.specs.Option.{ForSome, option_map_or};
+ghost use Rattle.snap_core.specs.Calls.{Call, call_numbered, calls_of, views_of};
+ghost use Rattle.snap_core.specs.Events.{event_limit};
+ghost use Rattle.snap_conditions.specs.Tally.{tally_of};
+ghost use Rattle.snap_witness.specs.Places.{IsViewAt, side_number as spec_side_number};
+ghost use Rattle.snap_explain.specs.Faults.{against_text, faults_text, integrity_text, proximity_text, read_text, side_text, write_sentence, write_text};
+
+use crate::call::{put_call_line, put_update_line};
+use snap_conditions::{IntegrityFault, ProximityFault, ReadFault, Side, Tally, WriteFault};
+use snap_index::Index;
+use snap_report::{put_call, put_entry, put_number, put_update};
+use snap_witness::{least_exceeding, side_number, view_numbered};
+use std::alloc::AllocError;
+
+// A fault that is explained, where its views are completed views of the history.
+trait Explained: Copy {
+    ghost text: { List ℕ → List Call → Self → List ℕ };
+
+    ghost is_named: { List Call → Self → Type 0 };
+
+    // Adds its sentence and the lines of its calls.
+    fn put(&self, out: &mut Vec<u8>, index: &Index<'_>, records: &[u32]) -> Result<(), AllocError>
+        requires each { length records.now ≡ length index.now }
+        requires named { is_named (calls_of index.now) self.now }
+        ensures { OnOk result (out.new.items ≡ out.old.items ++ text records.now (calls_of index.now) self.now) };
+}
+
+impl Explained for IntegrityFault {
+    ghost text = { integrity_text };
+
+    ghost is_named = { λ calls f. IsViewAt calls f.view };
+
+    fn put(&self, out: &mut Vec<u8>, index: &Index<'_>, records: &[u32]) -> Result<(), AllocError> {
+        put_call(out, b"integrity: view ", self.view)?;
+        put_entry(out, b" shows ", &self.entry)?;
+        out.extend_from_slice(b", which no update wrote\n")?;
+        put_call_line(out, index, records, self.view)?;
+        put_update_line(out, index, records, self.entry.component, self.entry.number)
+    }
+}
+
+// Adds on which side of its view the update is that a proximity fault is of.
+fn put_side(out: &mut Vec<u8>, fault: &ProximityFault, update: u32) -> Result<(), AllocError>
+    requires { update ≡ spec_side_number fault.now.side fault.now.number }
+    ensures { OnOk result (out.new.items ≡ out.old.items ++ side_text fault.now.component fault.now.number fault.now.side) }
+{
+    match fault.side {
+        Side::Old => {
+            put_update(out, b", though update ", fault.component, update)?;
+            out.extend_from_slice(b" had ended before the view began\n")
+        }
+        Side::Early => {
+            out.extend_from_slice(b", though that update began after the view had ended\n")
+        }
+    }
+}
+
+impl Explained for ProximityFault {
+    ghost text = { proximity_text };
+
+    ghost is_named = { λ calls f. IsViewAt calls f.view × (f.number ≤ event_limit) };
+
+    fn put(&self, out: &mut Vec<u8>, index: &Index<'_>, records: &[u32]) -> Result<(), AllocError> {
+        let update = side_number(self.side, self.number);
+        put_call(out, b"proximity: view ", self.view)?;
+        put_update(out, b" shows ", self.component, self.number)?;
+        put_side(out, self, update)?;
+        put_call_line(out, index, records, self.view)?;
+        put_update_line(out, index, records, self.component, update)
+    }
+}
+
+// Adds why a view that shows more of some component than another should show no less of any.
+fn put_against(
+    out: &mut Vec<u8>,
+    index: &Index<'_>,
+    view: u32,
+    other: u32,
+) -> Result<(), AllocError>
+    requires view { IsViewAt (calls_of index.now) view }
+    requires other { IsViewAt (calls_of index.now) other }
+    ensures { OnOk result (out.new.items ≡ out.old.items
+        ++ against_text (call_numbered (calls_of index.now) view) (call_numbered (calls_of index.now) other)) }
+{
+    if index.precedes(view, other) {
+        return out.extend_from_slice(b", and had ended before that view began\n");
+    }
+    let shown = view_numbered(index, view);
+    let less = least_exceeding(view_numbered(index, other), shown).unwrap_or(0);
+    put_number(out, b", and less of component ", u64::from(less))?;
+    out.extend_from_slice(b"\n")
+}
+
+impl Explained for ReadFault {
+    ghost text = { read_text };
+
+    ghost is_named = { λ calls f. IsViewAt calls f.view × IsViewAt calls f.other };
+
+    fn put(&self, out: &mut Vec<u8>, index: &Index<'_>, records: &[u32]) -> Result<(), AllocError> {
+        put_call(out, b"read: view ", self.view)?;
+        put_number(out, b" shows more of component ", u64::from(self.component))?;
+        put_call(out, b" than view ", self.other)?;
+        put_against(out, index, self.view, self.other)?;
+        put_call_line(out, index, records, self.view)?;
+        put_call_line(out, index, records, self.other)
+    }
+}
+
+// Adds the sentence of a write fault.
+fn put_write(out: &mut Vec<u8>, fault: &WriteFault) -> Result<(), AllocError>
+    ensures { OnOk result (out.new.items ≡ out.old.items ++ write_sentence fault.now) }
+{
+    put_call(out, b"write: view ", fault.view)?;
+    put_update(
+        out,
+        b" shows update ",
+        fault.shown_component,
+        fault.shown_number,
+    )?;
+    put_update(
+        out,
+        b", and misses update ",
+        fault.missed_component,
+        fault.missed_number,
+    )?;
+    out.extend_from_slice(b", which had ended before that one began\n")
+}
+
+impl Explained for WriteFault {
+    ghost text = { write_text };
+
+    ghost is_named = { λ calls f. IsViewAt calls f.view };
+
+    fn put(&self, out: &mut Vec<u8>, index: &Index<'_>, records: &[u32]) -> Result<(), AllocError> {
+        put_write(out, self)?;
+        put_call_line(out, index, records, self.view)?;
+        put_update_line(
+            out,
+            index,
+            records,
+            self.missed_component,
+            self.missed_number,
+        )?;
+        put_update_line(out, index, records, self.shown_component, self.shown_number)
+    }
+}
+
+// Adds what is said of the first fault of a kind, where there is one.
+fn put_first<F: Explained>(
+    out: &mut Vec<u8>,
+    index: &Index<'_>,
+    records: &[u32],
+    first: Option<F>,
+) -> Result<(), AllocError>
+    requires each { length records.now ≡ length index.now }
+    requires named { ForSome first (F.is_named (calls_of index.now)) }
+    ensures { OnOk result (out.new.items ≡ out.old.items ++ option_map_or (F.text records.now (calls_of index.now)) first []) }
+{
+    match first {
+        Some(fault) => fault.put(out, index, records),
+        None => Ok(()),
+    }
+}
+
+/// Adds what is said of the first fault of each kind.
+pub(crate) fn put_faults(
+    out: &mut Vec<u8>,
+    index: &Index<'_>,
+    records: &[u32],
+    tally: &Tally,
+) -> Result<(), AllocError>
+    requires each { length records.now ≡ length index.now }
+    requires tally { tally.now ≡ tally_of (calls_of index.now) (views_of (calls_of index.now)) }
+    ensures { OnOk result (out.new.items ≡ out.old.items ++ faults_text records.now (calls_of index.now) tally.now) }
+{
+    // what is known of the history that the index is of
+    let _events = index.event_count();
+    put_first(out, index, records, tally.integrity.first())?;
+    put_first(out, index, records, tally.proximity.first())?;
+    put_first(out, index, records, tally.read.first())?;
+    put_first(out, index, records, tally.write.first())
+}
