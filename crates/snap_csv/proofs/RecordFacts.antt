@@ -170,7 +170,7 @@ stamped_spell head rows sorted shapes order =
         ap (λ (rs : List Fields). slice_get rs j) same ∙ slice_get-map (λ (z : Stamped). stamped_fields (stamp_and_event z)) (stamped_in rows) j ∙ rw there refl in
         (stamped_fields (s.at, event), under_header head rows number j place ∙ found ∙ ap (λ (x : Event). Some (stamped_fields (s.at, x))) is_event, inr (s.at, refl))
 
-rows_spell : (rows : List Fields) (events : List Event) (records : List ℕ) → RowsRead rows events → RowsNumbered rows records → SpellEvents rows events records
+pub rows_spell : (rows : List Fields) (events : List Event) (records : List ℕ) → RowsRead rows events → RowsNumbered rows records → SpellEvents rows events records
 rows_spell [] events records read numbers = absurd read
 rows_spell (head ∷ rows) events records (inl read) (inl numbers) = rw (read.2, numbers.1) (plain_spell head rows read.1)
 rows_spell (head ∷ rows) events records (inl read) (inr numbers) = absurd (one_header head read.0 numbers.0)

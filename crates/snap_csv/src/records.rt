@@ -32,6 +32,7 @@ pub fn read_records<R: Read>(
     room: &mut Vec<u8>,
 ) -> Result<(History, Vec<u32>), ReadRefusal>
     ensures text { IfSome (R.remaining (inner_of reader.old)) (λ text. AnswersRecords text result) }
+    ensures each { IfOk result (λ x. length x.1.items ≡ length x.0) }
     ensures counts { Counts (failures_in reader.old) (failures_in reader.new) result }
     ensures room { IfSome (R.remaining (inner_of reader.old)) (λ text. Leaves text room.new.items result) }
 {
