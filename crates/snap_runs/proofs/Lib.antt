@@ -2,3 +2,4 @@ pub mod Runs
 pub mod Narrow
 pub mod Recordings
 pub mod Shrinking
+pub mod Explaining

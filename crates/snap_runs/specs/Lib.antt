@@ -1,4 +1,5 @@
 pub mod Options
 pub mod Runs
 pub mod Shrinking
+pub mod Explaining
 pub mod RecordRuns

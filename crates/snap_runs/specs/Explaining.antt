@@ -1,0 +1,24 @@
+-- What is written where a history is explained.
+use Rattle.std.specs.Prelude.{◌⊎◌, ℕ, List}
+use Rattle.snap_core.specs.declared.event.Event.{Event}
+use Rattle.snap_core.specs.Calls.{calls_of}
+use Rattle.snap_csv.specs.Records.{HaveRecords}
+use Rattle.snap_verdict.specs.declared.status.Status.{Status}
+use Rattle.snap_verdict.specs.Reports.{IsRefused}
+use Rattle.snap_verdict.specs.Verdicts.{HasStatus}
+use Rattle.snap_explain.specs.Explanations.{IsExplanation}
+
+-- the status of a history, and its explanation by the records of its events
+abbrev pub ExplainsHistory : List Event → List ℕ → Status → List ℕ → Type 0
+ExplainsHistory events records status out = HasStatus events status × IsExplanation records (calls_of events) out
+
+-- the same of a text
+pub record IsExplainedText (text : List ℕ) (status : Status) (out : List ℕ) : Type 0 where
+  pub events : List Event
+  pub records : List ℕ
+  pub history : HaveRecords text events records
+  pub explained : ExplainsHistory events records status out
+
+-- the status and what is written: a text with a fault is refused
+abbrev pub IsExplained : List ℕ → Status → List ℕ → Type 0
+IsExplained text status out = IsRefused text status out ⊎ IsExplainedText text status out

@@ -1,0 +1,101 @@
+ghost use Rattle.std.specs.Prelude.{◌≡◌, IfOk, length};
+ghost use Rattle.snap_core.specs.Calls.{calls_of, views_of};
+ghost use Rattle.snap_core.specs.Counting.{failures_in, inner_of};
+ghost use Rattle.snap_conditions.specs.Tally.{tally_of};
+ghost use Rattle.snap_explain.specs.Explanations.{IsExplanation};
+ghost use Rattle.snap_runs.specs.Explaining.{ExplainsHistory, IsExplained};
+ghost use Rattle.snap_runs.specs.Runs.{JudgeCounts, JudgesBy, RunCounts, WroteBy};
+
+use crate::fault::RunFault;
+use snap_conditions::{Tally, is_atomic};
+use snap_core::{Counted, History, OpenGate};
+use snap_csv::{ReadRefusal, read_records};
+use snap_explain::explain;
+use snap_index::Index;
+use snap_order::build;
+use snap_pairs::{Cutting, tally};
+use snap_report::refusal_text;
+use snap_verdict::{Status, status_of};
+use std::alloc::{AllocError, Global};
+use std::io::{Read, Write};
+use std::thread::Threads;
+
+// The explanation of a history by its index, the tally of all its completed views, and the records of its events.
+fn explanation_of<Rt: Threads + Sync>(
+    rt: &Rt,
+    alloc: Global,
+    index: &Index<'_>,
+    tally: &Tally,
+    records: &[u32],
+) -> Result<Vec<u8>, AllocError>
+    requires tally { tally.now ≡ tally_of (calls_of index.now) (views_of (calls_of index.now)) }
+    requires each { length records.now ≡ length index.now }
+    ensures { IfOk result (λ text. IsExplanation records.now (calls_of index.now) text.items) }
+{
+    if is_atomic(tally) {
+        let order = build(rt, alloc, index)?;
+        explain(alloc, index, tally, records, Some(&order))
+    } else {
+        explain(alloc, index, tally, records, None)
+    }
+}
+
+// The status of a history, and its explanation by the records of its events.
+fn explained<Rt: Threads + Sync>(
+    rt: &Rt,
+    alloc: Global,
+    history: &History,
+    records: &[u32],
+) -> Result<(Status, Vec<u8>), AllocError>
+    requires { length records.now ≡ length history.now }
+    ensures { IfOk result (λ answer. ExplainsHistory history.now records.now answer.0 answer.1.items) }
+{
+    let Ok(cutting) = Cutting::new(8, 2) else {
+        unreachable!()
+    };
+    let index = Index::build(alloc, history)?;
+    let tally = tally(rt, alloc, &index, cutting, &OpenGate)?;
+    let text = explanation_of(rt, alloc, &index, &tally, records)?;
+    Ok((status_of(&index, &tally), text))
+}
+
+// The status of the text that a reader has, and its explanation.
+fn explain_input<Rt: Threads + Sync, R: Read>(
+    rt: &Rt,
+    alloc: Global,
+    reader: &mut Counted<R>,
+) -> Result<(Status, Vec<u8>), RunFault>
+    ensures answer { JudgesBy IsExplained (R.remaining (inner_of reader.old)) result }
+    ensures counts { JudgeCounts (failures_in reader.old) (failures_in reader.new) result }
+{
+    match read_records(alloc, reader, &mut Vec::new(alloc)) {
+        Ok((history, records)) => Ok(explained(rt, alloc, &history, &records)?),
+        Err(ReadRefusal::Text { place, fault }) => {
+            Ok((Status::Refused, refusal_text(alloc, place, fault)?))
+        }
+        Err(ReadRefusal::Device) => Err(RunFault::Read),
+        Err(ReadRefusal::Memory) => Err(RunFault::Memory),
+    }
+}
+
+/// Reads a history, and writes its explanation: an order of its calls where it is atomic, and otherwise of each kind of fault
+/// that it has the first, as a sentence, with each call concerned and the records of its begin and its end. Of a text that is
+/// no history the line of its first fault goes out. The status is that of `check_run`.
+///
+/// Nothing is written until the whole text is built: after `Read` or `Memory` nothing went out, after `Write` a front of the
+/// text, perhaps all of it. The writer is flushed once at the end. The run returns where the reader and the writer do.
+pub fn explain_run<Rt: Threads + Sync, R: Read, W: Write>(
+    rt: &Rt,
+    alloc: Global,
+    reader: &mut Counted<R>,
+    writer: &mut Counted<W>,
+) -> Result<Status, RunFault>
+    ensures wrote { WroteBy IsExplained (R.remaining (inner_of reader.old)) (W.contents (inner_of writer.old)) (W.contents (inner_of writer.new)) result }
+    ensures counts { RunCounts (failures_in reader.old) (failures_in reader.new) (failures_in writer.old) (failures_in writer.new) result }
+{
+    let (status, text) = explain_input(rt, alloc, reader)?;
+    match writer.send(&text) {
+        Ok(()) => Ok(status),
+        Err(_) => Err(RunFault::Write),
+    }
+}
