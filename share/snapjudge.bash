@@ -5,13 +5,13 @@ _snapjudge() {
     --pieces | --workers | --views | --rounds) return ;;
   esac
   case ${COMP_WORDS[1]} in
-    check | shrink)
+    check | shrink | explain)
       words=--help
-      [[ ${COMP_WORDS[1]} == shrink ]] || words='--pieces --workers --quiet --views --help'
+      [[ ${COMP_WORDS[1]} != check ]] || words='--pieces --workers --quiet --views --help'
       [[ $word == -* ]] || { mapfile -t COMPREPLY < <(compgen -f -- "$word"); return; }
       ;;
     record) words='--workers --rounds --scan --judge --stamped --help' ;;
-    *) words='check shrink record --help --version' ;;
+    *) words='check shrink explain record --help --version' ;;
   esac
   mapfile -t COMPREPLY < <(compgen -W "$words" -- "$word")
 }

@@ -1,6 +1,7 @@
 # Completions of snapjudge for fish.
 complete -c snapjudge -n __fish_use_subcommand -f -a check -d 'Judge a history'
 complete -c snapjudge -n __fish_use_subcommand -f -a shrink -d 'Cut a history down to a witness'
+complete -c snapjudge -n __fish_use_subcommand -f -a explain -d 'Say what the faults of a history are'
 complete -c snapjudge -n __fish_use_subcommand -f -a record -d 'Record a run of threads'
 complete -c snapjudge -n __fish_use_subcommand -f -l version -d 'Name version and toolchain'
 complete -c snapjudge -n '__fish_seen_subcommand_from check' -x -l pieces -d 'Pieces of the views, 1 to 1024'

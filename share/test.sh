@@ -123,6 +123,80 @@ expect "a witness of a file that is not there" 4 "" ./second shrink none.csv
 expect "a witness of two files" 5 "" ./second shrink old.csv "a b.csv"
 expect_said "the reason" "snapjudge: shrink takes one file"
 
+# What is said of each example, counted by hand: the records are its lines.
+for history in "$examples"/*.csv; do
+  name=${history##*/}
+  case $name in
+    atomic-run*) status=0 said="atomic: in this order each view shows the latest updates before it
+  call 1 of process 0, records 2 and 3: update 0:1:10
+  call 3 of process 2, records 5 and 7: view 0:1:10
+  call 2 of process 1, records 4 and 11: update 1:1:20
+  call 4 of process 0, records 6 and 8: update 0:2:11
+  call 5 of process 3, records 9 and 10: view 0:2:11 1:1:20
+" ;;
+    missed-update*) status=1 said="regular, and not atomic
+write: view 1 shows update 1:1, and misses update 0:1, which had ended before that one began
+  call 1 of process 2, records 2 and 7: view 1:1:6
+  call 2 of process 0, records 3 and 4: update 0:1:5
+  call 3 of process 1, records 5 and 6: update 1:1:6
+" ;;
+    new-old-inversion*) status=1 said="regular, and not atomic
+read: view 2 shows more of component 0 than view 3, and had ended before that view began
+  call 2 of process 1, records 3 and 4: view 0:1:7
+  call 3 of process 2, records 5 and 6: view
+" ;;
+    pending-update-seen*) status=0 said="atomic: in this order each view shows the latest updates before it
+  call 1 of process 0, record 2, pending: update 0:1:3
+  call 3 of process 2, records 4 and 5: view 0:1:3
+" ;;
+    recorded-[12].*) status=1 said="regular, and not atomic
+write: view 4 shows update 2:2, and misses update 0:1, which had ended before that one began
+  call 4 of process 1, records 7 and 15: view 1:1:65537 2:2:131074
+  call 5 of process 0, records 8 and 9: update 0:1:1
+  call 7 of process 2, records 12 and 13: update 2:2:131074
+" ;;
+    recorded-3.*) status=1 said="regular, and not atomic
+write: view 2 shows update 1:1, and misses update 0:1, which had ended before that one began
+  call 2 of process 2, records 4 and 10: view 1:1:65537 2:1:131073
+  call 3 of process 0, records 5 and 6: update 0:1:1
+  call 5 of process 1, records 8 and 9: update 1:1:65537
+" ;;
+    skipped-number*) status=3 said="refused record 4: number
+" ;;
+    stale-view*) status=2 said="not regular
+proximity: view 2 shows 0:0, though update 0:1 had ended before the view began
+  call 2 of process 1, records 4 and 5: view
+  call 1 of process 0, records 2 and 3: update 0:1:7
+" ;;
+    value-nobody-wrote*) status=2 said="not regular
+integrity: view 3 shows 0:1:9, which no update wrote
+  call 3 of process 2, records 6 and 7: view 0:1:9
+  call 1 of process 0, records 2 and 3: update 0:1:7
+proximity: view 2 shows 0:0, though update 0:1 had ended before the view began
+  call 2 of process 1, records 4 and 5: view
+  call 1 of process 0, records 2 and 3: update 0:1:7
+" ;;
+    view-beside-update*) status=0 said="atomic: in this order each view shows the latest updates before it
+  call 2 of process 1, records 3 and 4: view
+  call 1 of process 0, records 2 and 5: update 0:1:3
+" ;;
+    view-from-the-future*) status=2 said="not regular
+proximity: view 1 shows 0:1, though that update began after the view had ended
+  call 1 of process 1, records 2 and 3: view 0:1:7
+  call 2 of process 0, records 4 and 5: update 0:1:7
+" ;;
+    views-disagree*) status=1 said="regular, and not atomic
+read: view 3 shows more of component 0 than view 4, and less of component 1
+  call 3 of process 2, records 4 and 6: view 0:1:1
+  call 4 of process 3, records 5 and 7: view 1:1:1
+" ;;
+    *) status=none said= ;;
+  esac
+  expect "the explanation of $name" "$status" "$said" ./second explain "$history"
+done
+expect "an explanation of two files" 5 "" ./second explain old.csv "a b.csv"
+expect_said "the reason" "snapjudge: explain takes one file"
+
 # The examples of the documents: what the lines behind `$` print is the other lines of their block, where it has others.
 mkdir documents
 ln -s "$examples" documents/examples

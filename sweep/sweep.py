@@ -111,6 +111,13 @@ def shrink(name, text, report):
     return Case(f"shrink {name}", ["shrink"], text, lambda run: run == whole, left)
 
 
+def explain(name, text, report):
+    """An explanation, as the program gives it where nothing fails."""
+    run = subprocess.run([PROGRAM, "explain"], input=text, capture_output=True, timeout=LIMIT)
+    whole = status_of(report), run.stdout, b""
+    return Case(f"explain {name}", ["explain"], text, lambda run: run == whole, run.stdout)
+
+
 def is_history(text, is_stamped, has_scans):
     """Whether these are the calls of two workers in so many rounds, each once and ended. A scan may have no record."""
     header = STAMPED if is_stamped else HEADER
@@ -412,9 +419,10 @@ def main():
     # of these calls are left out
     longer = ("value-nobody-wrote", "recorded-1", "recorded-2", "recorded-3")
     others = [quiet(*each) for each in given] + [shrink(*each) for each in given if each[0] not in longer]
+    others += [explain(*each) for each in given if each[0] not in longer]
     checks += others
     worked = [check(*each) for each in given + small] + others
-    jobless = [usage(), usage("judge"), usage("check", "--pieces", "0"), usage("record", "--help"), usage("shrink", "--help")]
+    jobless = [usage(), usage("judge"), usage("check", "--pieces", "0"), usage("record", "--help"), usage("shrink", "--help"), usage("explain", "--help")]
     for case in checks + recorded + jobless:
         TESTS.add(f"{case.name}: each allocation", TESTS.refused_memory(case))
     for case in worked + recorded + jobless:

@@ -87,6 +87,15 @@ pub shrink_alone : (name : List ℕ) → (rows : List Row) × (subcommand_of pro
 unfolding clap_on_literals
 shrink_alone name = (rows_in (subcommand_of program_app (name ∷ codes "shrink" ∷ [])), refl)
 
+pub explain_is_taken : (name : List ℕ) → takes program_app (name ∷ codes "explain" ∷ []) ≡ true
+unfolding clap_on_literals
+explain_is_taken name = refl
+
+-- the matches of `explain`, which has no options
+pub explain_alone : (name : List ℕ) → (rows : List Row) × (subcommand_of program_app (name ∷ codes "explain" ∷ []) ≡ Some (codes "explain", rows))
+unfolding clap_on_literals
+explain_alone name = (rows_in (subcommand_of program_app (name ∷ codes "explain" ∷ [])), refl)
+
 pub record_is_taken : (name : List ℕ) → takes program_app (name ∷ codes "record" ∷ []) ≡ true
 unfolding clap_on_literals
 record_is_taken name = refl

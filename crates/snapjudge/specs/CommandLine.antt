@@ -36,6 +36,10 @@ check_app = with_rule (with_rule cutting_app quiet_rule) views_rule
 abbrev pub shrink_app : App
 shrink_app = new_app (codes "shrink")
 
+-- explain
+abbrev pub explain_app : App
+explain_app = new_app (codes "explain")
+
 -- --workers W, 2 where it is not given
 abbrev pub recorders_rule : Rule
 recorders_rule = record (new_rule (codes "workers")) { long = Some (codes "workers"); value_names = 1; parser = Some (Signed (pos LEAST_WORKERS) (pos worker_limit)); defaults = codes "2" ∷ [] }
@@ -67,5 +71,9 @@ record_app = with_rule (with_rule (with_rule rounds_app judge_rule) scan_rule) s
 abbrev pub needs_subcommand : App → App
 needs_subcommand app = record app { top = record app.top { subcommand_required = true } }
 
+-- the program with the commands that read a history
+abbrev pub reading_app : App
+reading_app = with_subcommand (with_subcommand (with_subcommand (needs_subcommand (new_app (codes "snapjudge"))) check_app.top) shrink_app.top) explain_app.top
+
 abbrev pub program_app : App
-program_app = with_subcommand (with_subcommand (with_subcommand (needs_subcommand (new_app (codes "snapjudge"))) check_app.top) shrink_app.top) record_app.top
+program_app = with_subcommand reading_app record_app.top

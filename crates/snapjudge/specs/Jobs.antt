@@ -4,19 +4,21 @@ use Rattle.clap.specs.Words.{Row, one_of}
 use Rattle.snap_pairs.specs.Cuttings.{IsPieces, IsWorkers}
 use Rattle.snap_record.specs.Plans.{AreWorkers, AreRounds}
 use Rattle.snapjudge.specs.declared.job.Job.{Job}
-use Rattle.snapjudge.specs.declared.job.Job.TheVariants.{Check, Shrink, Record}
+use Rattle.snapjudge.specs.declared.job.Job.TheVariants.{Check, Shrink, Explain, Record}
 use Rattle.snap_runs.specs.declared.check_with.CheckOptions.{CheckOptions}
 
 -- the numbers of a job are in their ranges, and no report is asked for with stamps
 abbrev pub IsInRange : Job → Type 0
 IsInRange (Check cutting options) = IsPieces cutting.pieces × IsWorkers cutting.workers
 IsInRange Shrink = Unit {0}
+IsInRange Explain = Unit {0}
 IsInRange (Record workers rounds judge scan stamped) = AreWorkers workers × AreRounds rounds × (judge ≡ true → stamped ≡ false)
 
 -- a check with so many pieces and workers, and with these options
 abbrev pub IsCheckWith : ℕ → ℕ → CheckOptions → Job → Type 0
 IsCheckWith pieces workers options (Check cutting o) = (cutting.pieces ≡ pieces) × (cutting.workers ≡ workers) × (o ≡ options)
 IsCheckWith pieces workers options Shrink = ⊥
+IsCheckWith pieces workers options Explain = ⊥
 IsCheckWith pieces workers options (Record w rounds judge scan stamped) = ⊥
 
 -- the whole report, of any number of completed views
@@ -30,7 +32,15 @@ IsCheck pieces workers = IsCheckWith pieces workers no_options
 abbrev pub IsShrink : Job → Type 0
 IsShrink (Check cutting options) = ⊥
 IsShrink Shrink = Unit {0}
+IsShrink Explain = ⊥
 IsShrink (Record w rounds judge scan stamped) = ⊥
+
+-- a history that is to be explained
+abbrev pub IsExplain : Job → Type 0
+IsExplain (Check cutting options) = ⊥
+IsExplain Shrink = ⊥
+IsExplain Explain = Unit {0}
+IsExplain (Record w rounds judge scan stamped) = ⊥
 
 -- the flags of a recording: its report in place of its history, scans in place of views, and the stamps of its events
 pub record Flags : Type 0 where
@@ -45,6 +55,7 @@ no_flags = record { judge = false; scan = false; stamped = false }
 abbrev pub IsRecord : ℕ → ℕ → Flags → Job → Type 0
 IsRecord workers rounds flags (Check cutting options) = ⊥
 IsRecord workers rounds flags Shrink = ⊥
+IsRecord workers rounds flags Explain = ⊥
 IsRecord workers rounds flags (Record w r judge scan stamped) =
     (w ≡ workers) × (r ≡ rounds) × (judge ≡ flags.judge) × (scan ≡ flags.scan) × (stamped ≡ flags.stamped)
 

@@ -2,8 +2,9 @@
 ghost use Rattle.std.specs.Prelude.{◌≡◌, IfOk, codes, false};
 ghost use Rattle.clap.specs.Words.{app_of, new_app, rule_of};
 ghost use Rattle.clap.specs.declared.builder.command.Command.TheViews.{out-Command as fields_of};
-ghost use Rattle.snapjudge.specs.CommandLine.{check_app, cutting_app, needs_subcommand, pieces_rule, program_app, quiet_rule, views_rule, workers_rule};
+ghost use Rattle.snapjudge.specs.CommandLine.{check_app, cutting_app, needs_subcommand, pieces_rule, program_app, quiet_rule, reading_app, views_rule, workers_rule};
 
+use crate::explain_command::explain_command;
 use crate::record_command::record_command;
 use crate::shrink_command::shrink_command;
 use clap::{Arg, ArgAction, Command};
@@ -28,7 +29,8 @@ Examples:
     snapjudge record --rounds 4 > run.csv             record a run of two threads
     snapjudge check < run.csv                         judge it
     snapjudge check --quiet --views 1 < run.csv       the verdicts alone, of at least one view
-    snapjudge shrink < run.csv > witness.csv          cut it down to the calls of its first fault";
+    snapjudge shrink < run.csv > witness.csv          cut it down to the calls of its first fault
+    snapjudge explain < run.csv                       say of its faults what happened, call by call";
 
 const CHECK_ABOUT: &str =
     "Reads a history from standard input and writes its report to standard output";
@@ -147,12 +149,19 @@ fn bare_program<'a>(alloc: Global) -> Command<'a>
         .subcommand_required(true)
 }
 
-/// The program, with its commands and their options.
-pub fn program<'a>(alloc: Global) -> Result<Command<'a>, AllocError>
-    ensures { IfOk result (λ command. app_of command ≡ program_app) }
+// The program with the commands that read a history.
+fn reading_program<'a>(alloc: Global) -> Result<Command<'a>, AllocError>
+    ensures { IfOk result (λ command. app_of command ≡ reading_app) }
 {
     bare_program(alloc)
         .subcommand(check_command(alloc)?)?
         .subcommand(shrink_command(alloc))?
-        .subcommand(record_command(alloc)?)
+        .subcommand(explain_command(alloc))
+}
+
+/// The program, with its commands and their options.
+pub fn program<'a>(alloc: Global) -> Result<Command<'a>, AllocError>
+    ensures { IfOk result (λ command. app_of command ≡ program_app) }
+{
+    reading_program(alloc)?.subcommand(record_command(alloc)?)
 }

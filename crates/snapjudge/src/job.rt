@@ -1,7 +1,7 @@
 //! What the words of a command line ask for.
 ghost use Rattle.std.specs.Prelude.{◌≡◌, ◌<◌, ◌^◌, ◌∷◌, [], ℕ, Bool, List, Some, None, true, false, codes, decimal, IfOk, IfSome, IsSomeAnd, MatchResult, map, string_bytes};
 ghost use Rattle.clap.specs.Words.{Row, found_of, kind_of, one_of, rows_of, subcommand_rows_of};
-ghost use Rattle.snapjudge.specs.Jobs.{AsksCheck, AsksRecord, Flags, IsCheck, IsCheckWith, IsInRange, IsRecord, IsShrink, flag_text, no_flags, no_options};
+ghost use Rattle.snapjudge.specs.Jobs.{AsksCheck, AsksRecord, Flags, IsCheck, IsCheckWith, IsExplain, IsInRange, IsRecord, IsShrink, flag_text, no_flags, no_options};
 ghost use Rattle.snap_runs.specs.declared.check_with.CheckOptions.{CheckOptions as Options};
 
 use crate::command::program;
@@ -22,6 +22,8 @@ pub enum Job {
     },
     /// Cut the history on standard input down to a witness.
     Shrink,
+    /// Explain the history on standard input.
+    Explain,
     /// Record so many workers in so many rounds of a store and a view, or a scan in place of the view, and judge the
     /// history where that is asked for, or write it with the stamps of its events; not both.
     Record {
@@ -115,6 +117,7 @@ fn job_in(matches: &ArgMatches<'_>) -> Option<Job>
     ensures check { (rows : List Row) (pieces workers : ℕ) (options : Options) → subcommand_rows_of matches.now ≡ Some (codes "check", rows)
         → AsksCheck rows pieces workers options → IsSomeAnd result (IsCheckWith pieces workers options) }
     ensures shrink { (rows : List Row) → subcommand_rows_of matches.now ≡ Some (codes "shrink", rows) → IsSomeAnd result IsShrink }
+    ensures explain { (rows : List Row) → subcommand_rows_of matches.now ≡ Some (codes "explain", rows) → IsSomeAnd result IsExplain }
     ensures recording { (rows : List Row) (workers rounds : ℕ) (flags : Flags) → subcommand_rows_of matches.now ≡ Some (codes "record", rows)
         → AsksRecord rows workers rounds flags → IsSomeAnd result (IsRecord workers rounds flags) }
 {
@@ -123,6 +126,8 @@ fn job_in(matches: &ArgMatches<'_>) -> Option<Job>
         check_in(inner)
     } else if name == "shrink" {
         Some(Job::Shrink)
+    } else if name == "explain" {
+        Some(Job::Explain)
     } else {
         record_in(inner)
     }
@@ -151,6 +156,8 @@ pub fn job_of(alloc: Global, words: Vec<String>) -> Result<Job, JobFault>
         → MatchResult result (IsCheckWith 8 2 (record no_options { views = 5 })) (λ fault. fault ≡ JobFault.Memory) }
     ensures shrink_alone { (name : List ℕ) → map string_bytes words.items ≡ name ∷ codes "shrink" ∷ []
         → MatchResult result IsShrink (λ fault. fault ≡ JobFault.Memory) }
+    ensures explain_alone { (name : List ℕ) → map string_bytes words.items ≡ name ∷ codes "explain" ∷ []
+        → MatchResult result IsExplain (λ fault. fault ≡ JobFault.Memory) }
     ensures record_alone { (name : List ℕ) → map string_bytes words.items ≡ name ∷ codes "record" ∷ []
         → MatchResult result (IsRecord 2 16 no_flags) (λ fault. fault ≡ JobFault.Memory) }
     ensures record_judged { (name : List ℕ)

@@ -5,6 +5,7 @@ ghost use Rattle.std.specs.Prelude.{IfOk};
 ghost use Rattle.snapjudge.specs.Jobs.{IsInRange};
 
 mod command;
+mod explain_command;
 mod job;
 mod pace;
 mod record_command;
@@ -16,8 +17,8 @@ use rounds::{record_rounds, record_rounds_stamped};
 use snap_core::{Counted, OpenGate};
 use snap_pairs::Cutting;
 pub use snap_runs::{
-    CheckOptions, RunFault, Status, check_run, check_run_with, record_run, record_run_stamped,
-    shrink_run,
+    CheckOptions, RunFault, Status, check_run, check_run_with, explain_run, record_run,
+    record_run_stamped, shrink_run,
 };
 use std::alloc::Global;
 use std::env;
@@ -67,6 +68,7 @@ fn main(rt: HostRuntime) -> ExitCode {
             }
         }
         Ok(Job::Shrink) => shrink_run(&rt, rt.alloc(), &mut reader, &mut writer),
+        Ok(Job::Explain) => explain_run(&rt, rt.alloc(), &mut reader, &mut writer),
         Ok(
             Job::Record {
                 workers,

@@ -82,6 +82,15 @@ fn shrink_takes_no_words(rt: HostRuntime) -> Result<(), Fail> {
     }
 }
 
+#[test]
+fn explain_takes_no_words(rt: HostRuntime) -> Result<(), Fail> {
+    let alloc = rt.alloc();
+    match job_of(alloc, words(alloc, "snapjudge explain")?) {
+        Ok(Job::Explain) => Ok(()),
+        _ => Err(Fail::from("snapjudge explain")),
+    }
+}
+
 // Whether a recording is judged, scans, and has stamps.
 type Flags = (bool, bool, bool);
 
@@ -185,12 +194,15 @@ const OTHER_LINES: &[&str] = &[
     "snapjudge check --quiet=yes",
     "snapjudge shrink more",
     "snapjudge shrink --quiet",
+    "snapjudge explain more",
+    "snapjudge explain --quiet",
     "snapjudge record --quiet",
     "snapjudge record --views 3",
     "snapjudge --help",
     "snapjudge check --help",
     "snapjudge record --help",
     "snapjudge shrink --help",
+    "snapjudge explain --help",
 ];
 
 // Whether a line gets a text on the usage.

@@ -1,7 +1,7 @@
 use Rattle.std.proofs.Common.{◌∙◌, ap, ap₂, map, true}
 use Rattle.std.specs.Prelude.{string_bytes}
 use Rattle.clap.specs.Words.{is_simple, takes, subcommand_of}
-use Rattle.snapjudge.proofs.OnWords.{program_is_simple, check_is_taken, check_alone, quiet_is_taken, check_quiet, views_is_taken, check_views, shrink_is_taken, shrink_alone, record_is_taken, record_alone, judged_is_taken, record_judged, scanned_is_taken, record_scanned, stamped_is_taken, record_stamped}
+use Rattle.snapjudge.proofs.OnWords.{program_is_simple, check_is_taken, check_alone, quiet_is_taken, check_quiet, views_is_taken, check_views, shrink_is_taken, shrink_alone, explain_is_taken, explain_alone, record_is_taken, record_alone, judged_is_taken, record_judged, scanned_is_taken, record_scanned, stamped_is_taken, record_stamped}
 use Rattle.snapjudge.specs.Jobs.{no_flags, no_options}
 use Rattle.snapjudge.proofs.job.job_of.Goals as goal
 
@@ -80,6 +80,25 @@ returns-clause-shrink_alone c = λ name e.
     let matches = c.in-Ok.ensures.matches (ap is_simple c.in_ok-command.ensures ∙ program_is_simple) in
     let found = shrink_alone name in
     absurd (c.in-None.ensures.shrink found.0 (matches.1 ∙ ap₂ subcommand_of c.in_ok-command.ensures words_are ∙ found.1))
+
+pub returns-in-Err-clause-explain_alone : goal.returns-in-Err-clause-explain_alone
+returns-in-Err-clause-explain_alone c = λ name e.
+    let words_are = ap (map string_bytes) c.as_slice.ensures.value ∙ e in
+    c.fault_of.ensures (c.in-Err.ensures.passes (ap₂ takes c.in_ok-command.ensures words_are ∙ explain_is_taken name))
+
+pub returns-in-Some-clause-explain_alone : goal.returns-in-Some-clause-explain_alone
+returns-in-Some-clause-explain_alone c = λ name e.
+    let words_are = ap (map string_bytes) c.as_slice.ensures.value ∙ e in
+    let matches = c.in-Ok.ensures.matches (ap is_simple c.in_ok-command.ensures ∙ program_is_simple) in
+    let found = explain_alone name in
+    c.in-Some.ensures.explain found.0 (matches.1 ∙ ap₂ subcommand_of c.in_ok-command.ensures words_are ∙ found.1)
+
+pub returns-clause-explain_alone : goal.returns-clause-explain_alone
+returns-clause-explain_alone c = λ name e.
+    let words_are = ap (map string_bytes) c.as_slice.ensures.value ∙ e in
+    let matches = c.in-Ok.ensures.matches (ap is_simple c.in_ok-command.ensures ∙ program_is_simple) in
+    let found = explain_alone name in
+    absurd (c.in-None.ensures.explain found.0 (matches.1 ∙ ap₂ subcommand_of c.in_ok-command.ensures words_are ∙ found.1))
 
 pub returns-in-Err-clause-record_alone : goal.returns-in-Err-clause-record_alone
 returns-in-Err-clause-record_alone c = λ name e.
