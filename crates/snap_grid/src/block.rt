@@ -89,8 +89,8 @@ impl<'b, 'g> Against<'b, 'g> {
         for j in 0..self.columns.len() {
             let column = &self.columns[j];
             let x = u64::from(column.theirs[row]);
-            at_most = at_most.and(&column.ours.under(x + 1));
-            less = less.or(&column.ours.under(x));
+            at_most = column.ours.and_under(&at_most, x + 1);
+            less = column.ours.or_under(&less, x);
             if j % COLUMNS_A_TEST == COLUMNS_A_TEST - 1
                 && at_most.or(&less.xor(self.all)).is_none()
             {

@@ -1,4 +1,4 @@
-ghost use Rattle.std.specs.Prelude.{◌≡◌, ◌≤◌, ◌<◌, ◌+◌, ◌-◌, ℕ, length, get_or, nat_lt, IfOk};
+ghost use Rattle.std.specs.Prelude.{◌≡◌, ◌≤◌, ◌<◌, ◌+◌, ◌-◌, ℕ, length, get_or, nat_lt, bit_and, bit_or, IfOk, IfSome};
 ghost use Rattle.snap_grid.specs.Masks.{mask_by};
 
 use crate::bounds::Bounds;
@@ -103,16 +103,46 @@ impl<'c> Masks<'c> {
         self.bounds
     }
 
-    // The mask of the numbers below x.
-    pub(crate) fn under(&self, x: u64) -> Mask
-        ensures { result ≡ mask_by (λ n. nat_lt n x) self.now }
+    // The mask of the numbers below x, where there is a table.
+    fn tabled(&self, x: u64) -> Option<&Mask>
+        ensures { IfSome result (λ mask. mask.now ≡ mask_by (λ n. nat_lt n x) self.now) }
     {
         let size = self.under.len();
         if size == 0 {
-            return mask_under(self.numbers, x);
+            return None;
         }
         let place = x.saturating_sub(u64::from(self.bounds.least)) as usize;
-        self.under[place.min(size - 1)].copy()
+        Some(&self.under[place.min(size - 1)])
+    }
+
+    // The mask of the numbers below x.
+    fn under(&self, x: u64) -> Mask
+        ensures { result ≡ mask_by (λ n. nat_lt n x) self.now }
+    {
+        match self.tabled(x) {
+            Some(mask) => mask.copy(),
+            None => mask_under(self.numbers, x),
+        }
+    }
+
+    // What a mask has in common with that of the numbers below x.
+    pub(crate) fn and_under(&self, mask: &Mask, x: u64) -> Mask
+        ensures { result ≡ bit_and mask.now (mask_by (λ n. nat_lt n x) self.now) }
+    {
+        match self.tabled(x) {
+            Some(below) => mask.and(below),
+            None => mask.and(&mask_under(self.numbers, x)),
+        }
+    }
+
+    // A mask joined to that of the numbers below x.
+    pub(crate) fn or_under(&self, mask: &Mask, x: u64) -> Mask
+        ensures { result ≡ bit_or mask.now (mask_by (λ n. nat_lt n x) self.now) }
+    {
+        match self.tabled(x) {
+            Some(below) => mask.or(below),
+            None => mask.or(&mask_under(self.numbers, x)),
+        }
     }
 
     // The mask of the numbers below x, where it is mostly below all of them or above all.

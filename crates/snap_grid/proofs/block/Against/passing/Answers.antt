@@ -30,10 +30,10 @@ loop-j-preserved c =
     let ours = me.facing.ours j d l in
     let x = c.from-x.ensures ∙ ap (λ (f : Facing). number f.theirs.now c.args.row) c.index-column.ensures in
     record {
-      at_most = c.and-at_most.ensures ∙ at_most_joined me.columns.items j c.args.row me.ours me.more d l ours c.loop-j.at_most c.under.result (c.from-x.result + 1) (ap (λ z. z + 1) x) c.loop-j.invariant.at_most
-          (c.under.ensures ∙ ap (λ (f : Facing). mask_by (λ n. nat_lt n (c.from-x.result + 1)) f.ours.now) c.index-column.ensures);
-      less = c.or-less.ensures ∙ less_joined me.columns.items j c.args.row me.ours me.less d l ours c.loop-j.less c.under-in-loop-j.result c.from-x.result x c.loop-j.invariant.less
-          (c.under-in-loop-j.ensures ∙ ap (λ (f : Facing). mask_by (λ n. nat_lt n c.from-x.result) f.ours.now) c.index-column.ensures);
+      at_most = c.and_under-at_most.ensures ∙ at_most_joined me.columns.items j c.args.row me.ours me.more d l ours c.loop-j.at_most (mask_by (λ n. nat_lt n (c.from-x.result + 1)) d.ours.now) (c.from-x.result + 1) (ap (λ z. z + 1) x) c.loop-j.invariant.at_most
+          (ap (λ (f : Facing). mask_by (λ n. nat_lt n (c.from-x.result + 1)) f.ours.now) c.index-column.ensures);
+      less = c.or_under-less.ensures ∙ less_joined me.columns.items j c.args.row me.ours me.less d l ours c.loop-j.less (mask_by (λ n. nat_lt n c.from-x.result) d.ours.now) c.from-x.result x c.loop-j.invariant.less
+          (ap (λ (f : Facing). mask_by (λ n. nat_lt n c.from-x.result) f.ours.now) c.index-column.ensures);
     }
 
 pub returns-then-is_none-clause-more : goal.returns-then-is_none-clause-more
@@ -44,10 +44,10 @@ returns-then-is_none-clause-more c =
     let l : c.loop-j.j < length me.columns.items = omega (arith, c.loop-j-test.true, c.len-j-end.ensures, me.columns.ok) in
     let ours = me.facing.ours j d l in
     let x = c.from-x.ensures ∙ ap (λ (f : Facing). number f.theirs.now c.args.row) c.index-column.ensures in
-    let none = or_none c.and-at_most.result c.xor.result (sym c.or.ensures ∙ c.is_none.ensures c.if-is_none.true) in
-    let at_most = c.and-at_most.ensures ∙ at_most_joined me.columns.items j c.args.row me.ours me.more d l ours c.loop-j.at_most c.under.result (c.from-x.result + 1) (ap (λ z. z + 1) x) c.loop-j.invariant.at_most
-    (c.under.ensures ∙ ap (λ (f : Facing). mask_by (λ n. nat_lt n (c.from-x.result + 1)) f.ours.now) c.index-column.ensures) in
-    c.copy.ensures ∙ full_more me.columns.items (j + 1) c.args.row me.ours me.all.now c.and-at_most.result 0 me.more me.facing.whole at_most none.0
+    let none = or_none c.and_under-at_most.result c.xor.result (sym c.or.ensures ∙ c.is_none.ensures c.if-is_none.true) in
+    let at_most = c.and_under-at_most.ensures ∙ at_most_joined me.columns.items j c.args.row me.ours me.more d l ours c.loop-j.at_most (mask_by (λ n. nat_lt n (c.from-x.result + 1)) d.ours.now) (c.from-x.result + 1) (ap (λ z. z + 1) x) c.loop-j.invariant.at_most
+    (ap (λ (f : Facing). mask_by (λ n. nat_lt n (c.from-x.result + 1)) f.ours.now) c.index-column.ensures) in
+    c.copy.ensures ∙ full_more me.columns.items (j + 1) c.args.row me.ours me.all.now c.and_under-at_most.result 0 me.more me.facing.whole at_most none.0
 
 pub returns-then-is_none-clause-less : goal.returns-then-is_none-clause-less
 returns-then-is_none-clause-less c =
@@ -57,10 +57,10 @@ returns-then-is_none-clause-less c =
     let l : c.loop-j.j < length me.columns.items = omega (arith, c.loop-j-test.true, c.len-j-end.ensures, me.columns.ok) in
     let ours = me.facing.ours j d l in
     let x = c.from-x.ensures ∙ ap (λ (f : Facing). number f.theirs.now c.args.row) c.index-column.ensures in
-    let none = or_none c.and-at_most.result c.xor.result (sym c.or.ensures ∙ c.is_none.ensures c.if-is_none.true) in
-    let less = c.or-less.ensures ∙ less_joined me.columns.items j c.args.row me.ours me.less d l ours c.loop-j.less c.under-in-loop-j.result c.from-x.result x c.loop-j.invariant.less
-    (c.under-in-loop-j.ensures ∙ ap (λ (f : Facing). mask_by (λ n. nat_lt n c.from-x.result) f.ours.now) c.index-column.ensures) in
-    c.copy-then-is_none.ensures ∙ full_less me.columns.items (j + 1) c.args.row me.ours me.all.now 0 c.or-less.result me.less me.facing.whole less (sym c.xor.ensures ∙ none.1)
+    let none = or_none c.and_under-at_most.result c.xor.result (sym c.or.ensures ∙ c.is_none.ensures c.if-is_none.true) in
+    let less = c.or_under-less.ensures ∙ less_joined me.columns.items j c.args.row me.ours me.less d l ours c.loop-j.less (mask_by (λ n. nat_lt n c.from-x.result) d.ours.now) c.from-x.result x c.loop-j.invariant.less
+    (ap (λ (f : Facing). mask_by (λ n. nat_lt n c.from-x.result) f.ours.now) c.index-column.ensures) in
+    c.copy-then-is_none.ensures ∙ full_less me.columns.items (j + 1) c.args.row me.ours me.all.now 0 c.or_under-less.result me.less me.facing.whole less (sym c.xor.ensures ∙ none.1)
 
 pub returns-clause-more : goal.returns-clause-more
 returns-clause-more c =

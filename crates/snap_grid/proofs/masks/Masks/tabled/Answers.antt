@@ -6,7 +6,7 @@ use Rattle.snap_grid.specs.declared.bounds.Bounds.{Bounds}
 use Rattle.snap_grid.specs.Masks.{mask_by}
 use Rattle.snap_grid.specs.Tables.{AreTables}
 use Rattle.snap_grid.proofs.Bits.{mask_same}
-use Rattle.snap_grid.proofs.masks.Masks.under.Goals as goal
+use Rattle.snap_grid.proofs.masks.Masks.tabled.Goals as goal
 
 -- the first mask of a table has no number and the last has all, so they stand for each x before and behind it
 capped : (numbers : List ℕ) (bounds : Bounds) (under : List ℕ) (all x place : ℕ) → AreTables numbers bounds under all → 0 < length under → place ≡ min (x - bounds.least) (length under - 1) → get_or under place 0 ≡ mask_by (λ n. nat_lt n x) numbers
@@ -24,4 +24,4 @@ returns c =
     let inside = c.self.inside in
     let some : 0 < length inside.under.items = omega (arith, c.len-size.ensures, inside.under.ok, c.if-size-eq0.false) in
     let place : c.min.result ≡ min (c.args.x - inside.bounds.least) (length inside.under.items - 1) = omega (arith, c.min.ensures, c.saturating_sub-place.ensures, c.from.ensures, c.len-size.ensures, inside.under.ok) in
-    rw (← c.self.view_is) (c.copy.ensures ∙ c.index.ensures ∙ get_or_default inside.under.items c.min.result c.index.result.now 0 (omega (arith, place, some)) ∙ capped inside.numbers.now inside.bounds inside.under.items inside.all c.args.x c.min.result c.self.invariant some place)
+    rw (← c.self.view_is) (c.index.ensures ∙ get_or_default inside.under.items c.min.result c.index.result.now 0 (omega (arith, place, some)) ∙ capped inside.numbers.now inside.bounds inside.under.items inside.all c.args.x c.min.result c.self.invariant some place)
