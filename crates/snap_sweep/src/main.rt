@@ -33,6 +33,8 @@ fn main(rt: HostRuntime) {
         ("claims", histories::claims(alloc)),
         ("read", texts::read(alloc)),
         ("read in memory", texts::read_in_memory(alloc)),
+        ("read with records", texts::read_with_records(alloc)),
+        ("record", texts::record(alloc)),
         ("write", texts::write(alloc)),
         ("write with stamps", texts::write_stamped(alloc)),
         ("fields", texts::fields(alloc)),

@@ -3,8 +3,8 @@ use crate::fault::{Fault, expect};
 use snap_conditions::{is_atomic, tally_range};
 use snap_core::{Counted, Event, History};
 use snap_csv::{
-    TextFault, WriteRefusal, fields_of, read_history, read_history_in, read_text, write_history,
-    write_history_stamped,
+    TextFault, WriteRefusal, fields_of, read_history, read_history_in, read_records, read_text,
+    record_of, write_history, write_history_stamped,
 };
 use snap_index::Index;
 use snap_report::{refusal_text, report, report_in, verdict_text};
@@ -44,6 +44,25 @@ pub fn read(alloc: Global) -> Result<(), Fault> {
         expect(history.len() == 4)?;
     }
     Ok(())
+}
+
+/// A text of each version is read with the numbers of its records.
+pub fn read_with_records(alloc: Global) -> Result<(), Fault> {
+    for text in [VIEW_BESIDE_UPDATE_TEXT, VIEW_BESIDE_UPDATE_STAMPED] {
+        let mut room = Vec::new(alloc);
+        let (_history, records) = read_records(alloc, &mut Counted::new(text), &mut room)?;
+        expect(records.as_slice() == [2, 3, 4, 5].as_slice() && room.as_slice() == text)?;
+    }
+    Ok(())
+}
+
+/// The last record of a text has four fields, and there is none behind it.
+pub fn record(alloc: Global) -> Result<(), Fault> {
+    expect(record_of(alloc, VIEW_BESIDE_UPDATE_TEXT, 6)?.is_none())?;
+    match record_of(alloc, VIEW_BESIDE_UPDATE_TEXT, 5)? {
+        Some(fields) => expect(fields.len() == 4 && fields[0].as_slice() == b"end".as_slice()),
+        None => Err(Fault::Wrong),
+    }
 }
 
 /// The same from memory, and from a reader into a vector, which has the text then.
