@@ -1,5 +1,6 @@
 use Rattle.std.proofs.Common.{refl}
-use Rattle.snap_verdict.proofs.Verdicts.{no_fault_then, of_all_views}
+use Rattle.snap_conditions.proofs.Faultless.{of_all_views}
+use Rattle.snap_verdict.proofs.Verdicts.{no_fault_then}
 use Rattle.snap_explain.proofs.tests.explained.Goals as goal
 
 pub build_alone-requires : goal.build_alone-requires
