@@ -162,6 +162,8 @@ write: view 2 shows update 1:1, and misses update 0:1, which had ended before th
   call 5 of process 1, records 8 and 9: update 1:1:65537
 " ;;
     skipped-number*) status=3 said="refused record 4: number
+an update has the next number of its component, which is one more than the updates of it that began before
+  record 4 has the fields \"begin\" \"0\" \"update\" \"0:3:8\"
 " ;;
     stale-view*) status=2 said="not regular
 proximity: view 2 shows 0:0, though update 0:1 had ended before the view began

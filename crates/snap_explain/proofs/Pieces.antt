@@ -7,6 +7,9 @@ three_pieces out a b c = simp append_assoc
 pub four_pieces : {A : Type 0} (out a b c d : List A) → out ++ a ++ b ++ c ++ d ≡ out ++ (a ++ b ++ c ++ d)
 four_pieces out a b c d = simp append_assoc
 
+pub five_pieces : {A : Type 0} (out a b c d e : List A) → out ++ a ++ b ++ c ++ d ++ e ≡ out ++ (a ++ b ++ c ++ d ++ e)
+five_pieces out a b c d e = simp append_assoc
+
 pub seven_pieces : {A : Type 0} (out a b c d e f g : List A) → out ++ a ++ b ++ c ++ d ++ e ++ f ++ g ≡ out ++ (a ++ b ++ c ++ d ++ e ++ f ++ g)
 seven_pieces out a b c d e f g = simp append_assoc
 

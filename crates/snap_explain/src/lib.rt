@@ -1,11 +1,14 @@
-//! Why a history is not atomic, or an order that shows that it is: sentences, with each call concerned and its records.
+//! Why a history is not atomic, or an order that shows that it is: sentences, with each call concerned and its records. Or why a
+//! text is no history.
 #![tactic(auto)]
 
 mod call;
 mod explanation;
 mod faults;
+mod refusal;
 
 pub use explanation::explain;
+pub use refusal::explain_refusal;
 
 #[cfg(test)]
 mod tests;

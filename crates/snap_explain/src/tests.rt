@@ -1,7 +1,8 @@
 //! The explanations of worked histories, against texts written by hand.
-use crate::explain;
+use crate::{explain, explain_refusal};
 use snap_conditions::{is_atomic, tally_range};
 use snap_core::History;
+use snap_csv::TextFault;
 use snap_index::Index;
 use snap_order::build_alone;
 use snap_testing::Step::{Update, Updated, View, Viewed};
@@ -139,6 +140,50 @@ fn each_worked_history_has_its_explanation_with_records_from_the_first_on(
     for (steps, first, text) in WORKED {
         let history = history_of(rt.alloc(), steps)?;
         assert_eq!(rt; explained(rt.alloc(), &history, *first)?.as_str(), *text);
+    }
+    Ok(())
+}
+
+// Places, faults and what is said of them, of a text that has one record under its header.
+const REFUSED: &[(u32, TextFault, &str)] = &[
+    (
+        0,
+        TextFault::TooLong,
+        "refused record 0: toolong\n\
+        a text has at most 67108864 bytes\n\
+        \x20 no record of the text has that number\n",
+    ),
+    (
+        1,
+        TextFault::Header,
+        "refused record 1: header\n\
+        the first record is event,process,op,data, or at,event,process,op,data where records have stamps\n\
+        \x20 record 1 has the fields \"event\" \"process\" \"op\"\n",
+    ),
+    (
+        2,
+        TextFault::TooMany,
+        "refused record 2: toomany\n\
+        a history has at most 65536 events\n\
+        \x20 record 2 has the fields \"end\" \"1\" \"view\" \"0:1:7  1:1:8\"\n",
+    ),
+    (
+        2,
+        TextFault::BadData,
+        "refused record 2: data\n\
+        the field data is an entry at the begin of an update, entries of rising components with one space between two, \
+        or none, at the end of a view, and empty otherwise; an entry is COMPONENT:NUMBER:VALUE, from 0:1:0 to \
+        255:4294967295:4294967295, without signs or leading zeros\n\
+        \x20 record 2 has the fields \"end\" \"1\" \"view\" \"0:1:7  1:1:8\"\n",
+    ),
+];
+
+#[test]
+fn a_fault_of_a_text_has_its_rule_and_the_record_of_its_place(rt: HostRuntime) -> Result<(), Fail> {
+    let text = b"event,process,op\nend,1,view,0:1:7  1:1:8\n".as_slice();
+    for (place, fault, known) in REFUSED {
+        let said = explain_refusal(rt.alloc(), text, *place, *fault)?;
+        assert_eq!(rt; said.as_slice(), known.as_bytes());
     }
     Ok(())
 }

@@ -1,10 +1,31 @@
--- The explanation of a text that is a history.
-use Rattle.std.proofs.Common.{◌≡◌, inr, ℕ, List, subst}
+-- The explanation of a text that is a history, and of one that is none.
+use Rattle.std.proofs.Common.{◌≡◌, ◌<◌, ◌∙◌, inl, inr, ℕ, zero, suc, List, Option, Some, None, refl, subst, arith}
+use Rattle.std.specs.Prelude.{IfSome}
 use Rattle.snap_core.specs.declared.event.Event.{Event}
+use Rattle.snap_csv.specs.declared.refusal.TextFault.{TextFault}
+use Rattle.snap_csv.specs.declared.refusal.ReadRefusal.{ReadRefusal}
+use Rattle.snap_csv.specs.declared.refusal.ReadRefusal.TheVariants as refusals
+use Rattle.snap_csv.specs.Answers.{RefusalLeaves, RefusesText}
 use Rattle.snap_csv.specs.Records.{HaveRecords}
+use Rattle.snap_explain.specs.Refusals.{IsRefusalExplanation, refusal_explanation}
 use Rattle.snap_verdict.specs.declared.status.Status.{Status}
+use Rattle.snap_verdict.specs.declared.status.Status.TheVariants.{Refused}
 use Rattle.snap_runs.specs.Explaining.{ExplainsHistory, IsExplained}
 
 pub explained_text : (text : List ℕ) (es : List Event) (records given : List ℕ) (status : Status) (out : List ℕ) → HaveRecords text es records → given ≡ records → ExplainsHistory es given status out → IsExplained text status out
 explained_text text es records given status out have same e =
     inr (record { events = es; records = records; history = have; explained = subst (λ rs. ExplainsHistory es rs status out) same e })
+
+-- the record at a place is looked up in the room, which has the text wherever there may be such a record
+in_the_text : (text room : List ℕ) (place : ℕ) (fault : TextFault) (out : List ℕ) → (0 < place → room ≡ text) → IsRefusalExplanation room place fault out → IsRefusalExplanation text place fault out
+unfolding refusal_explanation
+in_the_text text room zero fault out leaves e = e
+in_the_text text room (suc n) fault out leaves e = subst (λ t. IsRefusalExplanation t (suc n) fault out) (leaves (omega arith)) e
+
+pub explained_refusal : (known : Option (List ℕ)) (room given : List ℕ) (refusal : ReadRefusal) (place : ℕ) (fault : TextFault) (out : List ℕ) →
+    IfSome known (λ text. RefusesText text refusal) → IfSome known (λ text. RefusalLeaves text room refusal) → refusal ≡ refusals.Text place fault → given ≡ room →
+    IsRefusalExplanation given place fault out → IfSome known (λ text. IsExplained text Refused out)
+explained_refusal None room given refusal place fault out first leaves is same e = tt
+explained_refusal (Some text) room given refusal place fault out first leaves is same e =
+    let left : 0 < place → room ≡ text = subst (λ r. RefusalLeaves text room r) is leaves in
+    inl (record { place = place; fault = fault; first = subst (λ r. RefusesText text r) is first; answers = refl; explained = in_the_text text given place fault out (λ some. same ∙ left some) e })

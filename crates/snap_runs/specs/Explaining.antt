@@ -1,12 +1,15 @@
 -- What is written where a history is explained.
-use Rattle.std.specs.Prelude.{◌⊎◌, ℕ, List}
+use Rattle.std.specs.Prelude.{◌≡◌, ◌⊎◌, ℕ, List}
 use Rattle.snap_core.specs.declared.event.Event.{Event}
 use Rattle.snap_core.specs.Calls.{calls_of}
+use Rattle.snap_csv.specs.declared.refusal.TextFault.{TextFault}
 use Rattle.snap_csv.specs.Records.{HaveRecords}
+use Rattle.snap_csv.specs.Texts.{HasFault}
 use Rattle.snap_verdict.specs.declared.status.Status.{Status}
-use Rattle.snap_verdict.specs.Reports.{IsRefused}
+use Rattle.snap_verdict.specs.declared.status.Status.TheVariants.{Refused}
 use Rattle.snap_verdict.specs.Verdicts.{HasStatus}
 use Rattle.snap_explain.specs.Explanations.{IsExplanation}
+use Rattle.snap_explain.specs.Refusals.{IsRefusalExplanation}
 
 -- the status of a history, and its explanation by the records of its events
 abbrev pub ExplainsHistory : List Event → List ℕ → Status → List ℕ → Type 0
@@ -19,6 +22,14 @@ pub record IsExplainedText (text : List ℕ) (status : Status) (out : List ℕ) 
   pub history : HaveRecords text events records
   pub explained : ExplainsHistory events records status out
 
--- the status and what is written: a text with a fault is refused
+-- a text with a fault is refused: its first fault is explained, and the place of that
+pub record IsExplainedRefusal (text : List ℕ) (status : Status) (out : List ℕ) : Type 0 where
+  pub place : ℕ
+  pub fault : TextFault
+  pub first : HasFault text place fault
+  pub answers : status ≡ Refused
+  pub explained : IsRefusalExplanation text place fault out
+
+-- the status and what is written
 abbrev pub IsExplained : List ℕ → Status → List ℕ → Type 0
-IsExplained text status out = IsRefused text status out ⊎ IsExplainedText text status out
+IsExplained text status out = IsExplainedRefusal text status out ⊎ IsExplainedText text status out

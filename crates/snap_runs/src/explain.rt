@@ -10,11 +10,10 @@ use crate::fault::RunFault;
 use snap_conditions::{Tally, is_atomic};
 use snap_core::{Counted, History, OpenGate};
 use snap_csv::{ReadRefusal, read_records};
-use snap_explain::explain;
+use snap_explain::{explain, explain_refusal};
 use snap_index::Index;
 use snap_order::build;
 use snap_pairs::{Cutting, tally};
-use snap_report::refusal_text;
 use snap_verdict::{Status, status_of};
 use std::alloc::{AllocError, Global};
 use std::io::{Read, Write};
@@ -68,10 +67,12 @@ fn explain_input<Rt: Threads + Sync, R: Read>(
     ensures answer { JudgesBy IsExplained (R.remaining (inner_of reader.old)) result }
     ensures counts { JudgeCounts (failures_in reader.old) (failures_in reader.new) result }
 {
-    match read_records(alloc, reader, &mut Vec::new(alloc)) {
+    let mut room = Vec::new(alloc);
+    match read_records(alloc, reader, &mut room) {
         Ok((history, records)) => Ok(explained(rt, alloc, &history, &records)?),
         Err(ReadRefusal::Text { place, fault }) => {
-            Ok((Status::Refused, refusal_text(alloc, place, fault)?))
+            let text = explain_refusal(alloc, &room, place, fault)?;
+            Ok((Status::Refused, text))
         }
         Err(ReadRefusal::Device) => Err(RunFault::Read),
         Err(ReadRefusal::Memory) => Err(RunFault::Memory),
@@ -80,7 +81,8 @@ fn explain_input<Rt: Threads + Sync, R: Read>(
 
 /// Reads a history, and writes its explanation: an order of its calls where it is atomic, and otherwise of each kind of fault
 /// that it has the first, as a sentence, with each call concerned and the records of its begin and its end. Of a text that is
-/// no history the line of its first fault goes out. The status is that of `check_run`.
+/// no history the line of its first fault goes out, the rule that is broken, and the record at fault as it stands in the text.
+/// The status is that of `check_run`.
 ///
 /// Nothing is written until the whole text is built: after `Read` or `Memory` nothing went out, after `Write` a front of the
 /// text, perhaps all of it. The writer is flushed once at the end. The run returns where the reader and the writer do.

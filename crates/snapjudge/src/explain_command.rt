@@ -31,13 +31,14 @@ it makes
       call 2 of process 1, records 3 and 4: view 0:1:7
       call 3 of process 2, records 5 and 6: view
 
-Of an atomic history the lines of its calls stand in an order that explains each view.
+Of an atomic history the lines of its calls stand in an order that explains each view. Of a
+text that is no history the rule that is broken is told, and the record that breaks it.
 
 Exit status:
     0  the history is atomic
     1  it is regular, and not atomic
     2  it is not regular
-    3  the text is no history: the one line that is written names the record and its fault
+    3  the text is no history: the first line names the record and its fault
     4  reading, writing or memory failed
     5  the words of the command line were not taken";
 

@@ -52,10 +52,48 @@ fn an_atomic_history_is_explained_by_its_order(rt: HostRuntime) -> Result<(), Fa
     )
 }
 
+// Texts that are no history, and the explanation of each.
+const REFUSED: &[(&str, &str)] = &[
+    (
+        "",
+        "refused record 1: header\n\
+        the first record is event,process,op,data, or at,event,process,op,data where records have stamps\n\
+        \x20 no record of the text has that number\n",
+    ),
+    (
+        "event,process,op,data\nbegin,0,view,\nbegin,01,view,\n",
+        "refused record 3: process\n\
+        the field process is a number from 0 to 65535, without a sign or leading zeros\n\
+        \x20 record 3 has the fields \"begin\" \"01\" \"view\" \"\"\n",
+    ),
+    (
+        "event,process,op,data\nbegin,0,update,0:1:7\nend,0,update,\nbegin,0,update,0:3:8\n",
+        "refused record 4: number\n\
+        an update has the next number of its component, which is one more than the updates of it that began before\n\
+        \x20 record 4 has the fields \"begin\" \"0\" \"update\" \"0:3:8\"\n",
+    ),
+    (
+        "event,process,op,data\nbegin,0,\"a \"\"scan\"\", or\nso\",\n",
+        "refused record 2: op\n\
+        the field op is update or view\n\
+        \x20 record 2 has the fields \"begin\" \"0\" \"a \"scan\", or\nso\" \"\"\n",
+    ),
+    (
+        "at,event,process,op,data\n2,end,1,view,\n1,begin,0,view,\n",
+        "refused record 2: idle\n\
+        a process ends only a call that it has begun and not yet ended\n\
+        \x20 record 2 has the fields \"2\" \"end\" \"1\" \"view\" \"\"\n",
+    ),
+];
+
 #[test]
-fn a_text_that_is_no_history_gets_its_line(rt: HostRuntime) -> Result<(), Fail> {
+fn a_text_that_is_no_history_gets_the_rule_that_it_breaks_and_the_record(
+    rt: HostRuntime,
+) -> Result<(), Fail> {
     let alloc = rt.alloc();
-    let text = history(alloc, "begin,0,view,\nbegin,0,view,\n")?;
-    let line = String::from_str(alloc, "refused record 3: busy\n")?;
-    same(explained(&rt, alloc, text.as_bytes())?, ("refused", line))
+    for (text, known) in REFUSED {
+        let known = String::from_str(alloc, known)?;
+        same(explained(&rt, alloc, text.as_bytes())?, ("refused", known))?;
+    }
+    Ok(())
 }

@@ -1,0 +1,86 @@
+//! Why a text is no history.
+ghost use Rattle.std.specs.Prelude.{◌≡◌, ◌++◌, IfOk, OnOk, map};
+ghost use Rattle.std.specs.List.{flat_map};
+ghost use Rattle.snap_csv.specs.Records.{record_at};
+ghost use Rattle.snap_csv.specs.Rows.{rows_of};
+ghost use Rattle.snap_explain.specs.Refusals.{IsRefusalExplanation, quoted, record_text, rule_of as spec_rule_of};
+
+use snap_csv::{TextFault, record_of};
+use snap_report::{put_number, refusal_text};
+use std::alloc::{AllocError, Global};
+
+// The rule that a fault breaks, with a newline.
+fn rule_of(fault: TextFault) -> &'static str
+    ensures { result.now ≡ spec_rule_of fault }
+{
+    match fault {
+        TextFault::Header => {
+            "the first record is event,process,op,data, or at,event,process,op,data where records have stamps\n"
+        }
+        TextFault::Fields => "a record has four fields, or five where records have stamps\n",
+        TextFault::TooMany => "a history has at most 65536 events\n",
+        TextFault::BadEvent => "the field event is begin or end\n",
+        TextFault::BadProcess => {
+            "the field process is a number from 0 to 65535, without a sign or leading zeros\n"
+        }
+        TextFault::BadOp => "the field op is update or view\n",
+        TextFault::BadData => {
+            "the field data is an entry at the begin of an update, entries of rising components with one space between two, or none, at the end of a view, and empty otherwise; \
+            an entry is COMPONENT:NUMBER:VALUE, from 0:1:0 to 255:4294967295:4294967295, without signs or leading zeros\n"
+        }
+        TextFault::Busy => "a process begins a call only after its last one has ended\n",
+        TextFault::Idle => "a process ends only a call that it has begun and not yet ended\n",
+        TextFault::OtherOp => "the end of a call has the field op of its begin\n",
+        TextFault::Writer => "a component is written by one process only\n",
+        TextFault::Number => {
+            "an update has the next number of its component, which is one more than the updates of it that began before\n"
+        }
+        TextFault::TooLong => "a text has at most 67108864 bytes\n",
+        TextFault::BadAt => {
+            "the field at is a number from 0 to 18446744073709551615, without a sign or leading zeros\n"
+        }
+        TextFault::Repeated => "no two records have the same stamp\n",
+    }
+}
+
+// Adds the fields of a record, each in quotes behind a space.
+fn put_fields(out: &mut Vec<u8>, fields: &[Vec<u8>]) -> Result<(), AllocError>
+    ensures { OnOk result (out.new.items ≡ out.old.items ++ flat_map quoted (map (λ f. f.items) fields.now)) }
+{
+    for field in fields {
+        out.extend_from_slice(b" \"")?;
+        out.extend_from_slice(field)?;
+        out.extend_from_slice(b"\"")?;
+    }
+    Ok(())
+}
+
+// Adds the record of a number as it stands in a text, or that there is none.
+fn put_record(out: &mut Vec<u8>, text: &[u8], place: u32) -> Result<(), AllocError>
+    ensures { OnOk result (out.new.items ≡ out.old.items ++ record_text place (record_at (rows_of text.now) place)) }
+{
+    let Some(fields) = record_of(*out.allocator(), text, place)? else {
+        return out.extend_from_slice(b"  no record of the text has that number\n");
+    };
+    put_number(out, b"  record ", u64::from(place))?;
+    out.extend_from_slice(b" has the fields")?;
+    put_fields(out, &fields)?;
+    out.extend_from_slice(b"\n")
+}
+
+/// Why a text is no history, by its first fault and the place of that: the line of its report, the rule that is broken, in a
+/// sentence, and the fields of the record at that place, each as it stands in the text, in quotes behind a space. In place of
+/// the fields a line says that no record has that number, as for the text as a whole, which is place 0.
+pub fn explain_refusal(
+    alloc: Global,
+    text: &[u8],
+    place: u32,
+    fault: TextFault,
+) -> Result<Vec<u8>, AllocError>
+    ensures { IfOk result (λ explained. IsRefusalExplanation text.now place fault explained.items) }
+{
+    let mut out = refusal_text(alloc, place, fault)?;
+    out.extend_from_slice(rule_of(fault).as_bytes())?;
+    put_record(&mut out, text, place)?;
+    Ok(out)
+}
