@@ -15,6 +15,7 @@ use crate::read::first_read_fault;
 use crate::row::COMPONENT_COUNT;
 use crate::seen::view_at;
 use crate::tally::Tally;
+use snap_core::EVENT_LIMIT;
 use snap_grid::{Column, Grid};
 use snap_index::Index;
 use std::alloc::{AllocError, Global};
@@ -62,7 +63,12 @@ fn columns_of(alloc: Global, index: &Index<'_>) -> Result<Vec<Column>, AllocErro
     for k in 0..COMPONENT_COUNT {
         let numbers = table.take(alloc, k as u8);
         if !numbers.is_empty() {
-            columns.push(Column::new(alloc, numbers, index.update_count(k as u8))?)?;
+            // a view may show the update after the last, and be faulty
+            let limit = index
+                .update_count(k as u8)
+                .saturating_add(1)
+                .min(EVENT_LIMIT as u32);
+            columns.push(Column::new(alloc, numbers, limit)?)?;
         }
     }
     Ok(columns)

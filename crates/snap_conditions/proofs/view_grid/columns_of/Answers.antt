@@ -2,7 +2,6 @@ use Rattle.std.proofs.Common.{◌≡◌, ◌<◌, ◌≤◌, ◌+◌, ℕ, [], L
 use Rattle.std.proofs.lemmas.Bool.{eqb-true, eqb-false}
 use Rattle.std.proofs.lemmas.List.{nil_from_length}
 use Rattle.snap_core.specs.Calls.{Call, calls_of}
-use Rattle.snap_index.proofs.LookUps.{row_is, row_few}
 use Rattle.snap_conditions.specs.Grids.{AreColumnsOf, IsColumnOf}
 use Rattle.snap_conditions.specs.NumberTables.{IsRowOf}
 use Rattle.snap_conditions.proofs.Grids.{columns_skip, columns_add, show_all}
@@ -30,7 +29,7 @@ new-requires-clause-few c =
     omega (arith, column.count, few_views c.args.index.now c.requires)
 
 pub new-requires-clause-limit : goal.new-requires-clause-limit
-new-requires-clause-limit c = omega (arith, c.update_count.ensures, row_is c.loop-k.k (calls_of c.args.index.now), row_few c.args.index.now c.requires c.loop-k.k)
+new-requires-clause-limit c = omega (arith, c.min-limit.ensures)
 
 left_more : (calls : List Call) (k : ℕ) (table : List (List ℕ)) → ((j : ℕ) → k ≤ j → j < 256 → IsRowOf calls j (get_or table j [])) → (j : ℕ) → k + 1 ≤ j → j < 256 → IsRowOf calls j (get_or (set table k []) j [])
 left_more calls k table h j l b = subst (IsRowOf calls j) (sym (get_or-set_other table k j [] [] (λ e. absurd (omega (arith, e, l))))) (h j (omega (arith, l)) b)
