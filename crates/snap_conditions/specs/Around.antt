@@ -1,6 +1,7 @@
 -- Where the updates stand between which a view is by what it shows: at each component the one that it shows and the next.
 use Rattle.std.specs.Prelude.{ℕ, suc, ◌≡◌, ◌<◌, ◌≤◌, List, get_or, None}
 use Rattle.snap_core.specs.Calls.{Call, shown_number}
+use Rattle.snap_core.specs.Entries.{component_count}
 use Rattle.snap_conditions.specs.declared.around.Around.{Around}
 use Rattle.snap_conditions.specs.Places.{update_of, begin_of, end_of, begin_or_0, end_or_never}
 
@@ -13,13 +14,13 @@ abbrev pub end_next : List Call → Call → ℕ → ℕ
 end_next calls r k = end_or_never (end_of (update_of calls k (suc (shown_number r k))))
 
 pub record IsAround (calls : List Call) (r : Call) (around : Around) : Type 0 where
-  pub numbers : (k : ℕ) → k < 256 → get_or around.numbers k 0 ≡ shown_number r k
-  pub begins : (k : ℕ) → k < 256 → get_or around.begins k 0 ≡ begin_shown calls r k
-  pub ends : (k : ℕ) → k < 256 → get_or around.ends k 0 ≡ end_next calls r k
-  pub latest : (k : ℕ) → k < 256 → begin_shown calls r k ≤ around.latest
-  pub earliest : (k : ℕ) → k < 256 → around.earliest ≤ end_next calls r k
+  pub numbers : (k : ℕ) → k < component_count → get_or around.numbers k 0 ≡ shown_number r k
+  pub begins : (k : ℕ) → k < component_count → get_or around.begins k 0 ≡ begin_shown calls r k
+  pub ends : (k : ℕ) → k < component_count → get_or around.ends k 0 ≡ end_next calls r k
+  pub latest : (k : ℕ) → k < component_count → begin_shown calls r k ≤ around.latest
+  pub earliest : (k : ℕ) → k < component_count → around.earliest ≤ end_next calls r k
 
 -- from a component on nothing was looked up
 pub record AreNoneFrom (limit : ℕ) (around : Around) : Type 0 where
-  pub begins : (k : ℕ) → limit ≤ k → k < 256 → get_or around.begins k 0 ≡ begin_or_0 None
-  pub ends : (k : ℕ) → limit ≤ k → k < 256 → get_or around.ends k 0 ≡ end_or_never None
+  pub begins : (k : ℕ) → limit ≤ k → k < component_count → get_or around.begins k 0 ≡ begin_or_0 None
+  pub ends : (k : ℕ) → limit ≤ k → k < component_count → get_or around.ends k 0 ≡ end_or_never None

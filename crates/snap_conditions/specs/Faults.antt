@@ -2,6 +2,7 @@
 use Rattle.std.specs.Prelude.{ℕ, suc, Bool, false, not, ◌&&◌, ◌||◌, List, [], ◌≡◌, ◌==◌, nat_lt, Option, Some, None, filter, flat_map, map, find, ◌∷◌}
 use Rattle.std.specs.List.{count_by, list_any, range_with_len, sum_by}
 use Rattle.snap_core.specs.declared.entry.Entry.{Entry}
+use Rattle.snap_core.specs.Entries.{component_count}
 use Rattle.snap_core.specs.Calls.{Call, Operation, Updates, Views, precedes, shown, shown_number, entries_of, is_update_numbered, views_of}
 
 abbrev pub writes_entry : Operation → Entry → Bool
@@ -43,7 +44,7 @@ write_fault calls r j k =
     && list_any (λ b. is_update_numbered k (shown_number r k) b && precedes a b) calls) calls
 
 abbrev pub components : List ℕ
-components = range_with_len 0 256
+components = range_with_len 0 component_count
 
 -- the components that a view lists
 abbrev pub listed : Call → List ℕ

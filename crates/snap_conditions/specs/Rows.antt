@@ -1,7 +1,7 @@
 -- The numbers that entries show of all components, in a row.
 use Rattle.std.specs.Prelude.{ℕ, zero, suc, ◌+◌, ◌≡◌, ◌<◌, nat_lt, List, Option, find, get_or}
 use Rattle.snap_core.specs.declared.entry.Entry.{Entry}
-use Rattle.snap_core.specs.Entries.{entry_of, number_in}
+use Rattle.snap_core.specs.Entries.{component_count, entry_of, number_in}
 use Rattle.snap_conditions.specs.Faults.{components}
 
 -- the number that entries show of a component, 0 where they list none
@@ -13,11 +13,11 @@ abbrev pub row_number : List ℕ → ℕ → ℕ
 row_number numbers k = get_or numbers k 0
 
 abbrev pub AreNumbersOf : List Entry → List ℕ → Type 0
-AreNumbersOf es numbers = (k : ℕ) → k < 256 → row_number numbers k ≡ number_among es k
+AreNumbersOf es numbers = (k : ℕ) → k < component_count → row_number numbers k ≡ number_among es k
 
 -- the first numbers are less than the second at some component
 abbrev pub IsLessSomewhere : (ℕ → ℕ) → (ℕ → ℕ) → Type 0
-IsLessSomewhere f g = (k : ℕ) × (k < 256) × (f k < g k)
+IsLessSomewhere f g = (k : ℕ) × (k < component_count) × (f k < g k)
 
 -- the least component of which the first numbers are less than the second
 unfoldable pub first_less : (ℕ → ℕ) → (ℕ → ℕ) → Option ℕ
@@ -30,4 +30,4 @@ sum_below f (suc n) = sum_below f n + f n
 
 -- the sums of the number of each component and of those below it
 abbrev pub AreSums : List ℕ → List ℕ → Type 0
-AreSums numbers sums = (k : ℕ) → k < 256 → get_or sums k 0 ≡ sum_below (row_number numbers) (k + 1)
+AreSums numbers sums = (k : ℕ) → k < component_count → get_or sums k 0 ≡ sum_below (row_number numbers) (k + 1)

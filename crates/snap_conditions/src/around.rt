@@ -6,8 +6,9 @@ ghost use Rattle.snap_conditions.specs.Around.{AreNoneFrom, IsAround};
 ghost use Rattle.snap_conditions.specs.Limits.{IsLimit};
 ghost use Rattle.snap_conditions.specs.Seen.{IsSeen};
 
-use crate::row::{COMPONENT_COUNT, numbers_of};
+use crate::row::numbers_of;
 use crate::seen::{SeenView, begin_of_update, end_of_next};
+use snap_core::COMPONENT_COUNT;
 use snap_index::Index;
 
 // A place behind all events.

@@ -1,9 +1,8 @@
 ghost use Rattle.std.specs.Prelude.{◌≡◌, ◌<◌, [], length, get_or, replicate, slice_set, IfOk, OnOk};
 ghost use Rattle.snap_conditions.specs.NumberTables.{opened, HasRows, IsPut};
-ghost use Rattle.snap_core.specs.Entries.{AreEntries};
+ghost use Rattle.snap_core.specs.Entries.{AreEntries, component_count};
 
-use crate::row::COMPONENT_COUNT;
-use snap_core::Entry;
+use snap_core::{COMPONENT_COUNT, Entry};
 use std::alloc::{AllocError, Global};
 use std::marker::Model;
 
@@ -15,19 +14,20 @@ pub(crate) struct NumberTable {
 
 impl Model for NumberTable {
     ghost use Rattle.std.specs.Prelude.{◌≡◌, ℕ, List, length};
+    ghost use Rattle.snap_core.specs.Entries.{component_count};
     ghost use Rattle.snap_index.specs.Tables.{rows};
 
     ghost Value = { List (List ℕ) };
 
     ghost view = { λ t. rows t.by_component.items };
 
-    ghost invariant = { λ t. length t.by_component.items ≡ 256 };
+    ghost invariant = { λ t. length t.by_component.items ≡ component_count };
 }
 
 impl NumberTable {
     // Of no view.
     pub(crate) fn new(alloc: Global) -> Result<NumberTable, AllocError>
-        ensures { IfOk result (λ table. table ≡ replicate 256 []) }
+        ensures { IfOk result (λ table. table ≡ replicate component_count []) }
     {
         let mut by_component = Vec::new(alloc);
         for _k in 0..COMPONENT_COUNT {

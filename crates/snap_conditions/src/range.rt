@@ -11,11 +11,11 @@ use crate::integrity::integrity_part;
 use crate::part::Part;
 use crate::proximity::proximity_part;
 use crate::read::read_part;
-use crate::row::COMPONENT_COUNT;
 use crate::seen::view_at;
 use crate::stale::stale_beside;
 use crate::tally::{Tally, merge};
 use crate::write::write_part;
+use snap_core::COMPONENT_COUNT;
 use snap_index::Index;
 
 // One more than the highest component that has an update, or 0.

@@ -2,11 +2,8 @@ ghost use Rattle.std.specs.Prelude.{◌≡◌, ◌↔◌, IsTrue};
 ghost use Rattle.snap_core.specs.Entries.{AreEntries};
 ghost use Rattle.snap_conditions.specs.Rows.{AreNumbersOf, IsLessSomewhere, first_less, number_among, row_number};
 
-use snap_core::Entry;
+use snap_core::{COMPONENT_COUNT, Entry};
 use std::marker::Model;
-
-// How many components there are.
-pub(crate) const COMPONENT_COUNT: usize = 256;
 
 // The number that entries show of each component, 0 where they list none.
 pub(crate) fn numbers_of(entries: &[Entry]) -> [u32; COMPONENT_COUNT]

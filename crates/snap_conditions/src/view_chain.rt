@@ -2,15 +2,14 @@
 ghost use Rattle.std.specs.Prelude.{◌≡◌, ◌<◌, ◌≤◌, ◌↔◌, ℕ, length, map, All, IfOk, IfSome, IsSome, IsTrue};
 ghost use Rattle.std.specs.List.Sorted.{IsPermutation};
 ghost use Rattle.snap_core.specs.Calls.{calls_of};
-ghost use Rattle.snap_core.specs.Entries.{AreEntries};
+ghost use Rattle.snap_core.specs.Entries.{AreEntries, component_count};
 ghost use Rattle.snap_core.specs.Events.{IsKept};
 ghost use Rattle.snap_conditions.specs.Chains.{AreViewSums, IsChain, IsSummed, Climbs, summed_views};
 ghost use Rattle.snap_conditions.specs.Quick.{AreComparable};
 ghost use Rattle.snap_conditions.specs.Rows.{AreNumbersOf, number_among, row_number, sum_below};
 
-use crate::row::COMPONENT_COUNT;
 use crate::seen::view_at;
-use snap_core::Entry;
+use snap_core::{COMPONENT_COUNT, Entry};
 use snap_index::Index;
 use std::alloc::{AllocError, Global};
 
@@ -77,10 +76,10 @@ fn climbs(index: &Index<'_>, keys: &[(u64, u32)]) -> bool
 // exactly then the lesser of both numbers of each component have the sum of the row. The row is the view's then.
 fn climb(numbers: &mut [u32; COMPONENT_COUNT], sum: u64, entries: &[Entry]) -> bool
     requires entries { AreEntries entries.now }
-    requires sum { sum ≡ sum_below (row_number numbers.old) 256 }
-    ensures below { IsTrue result ↔ ((k : ℕ) → k < 256 → row_number numbers.old k ≤ number_among entries.now k) }
+    requires sum { sum ≡ sum_below (row_number numbers.old) component_count }
+    ensures below { IsTrue result ↔ ((k : ℕ) → k < component_count → row_number numbers.old k ≤ number_among entries.now k) }
     ensures taken { IsTrue result → AreNumbersOf entries.now numbers.new }
-    ensures size { length numbers.new ≡ 256 }
+    ensures size { length numbers.new ≡ component_count }
 {
     let mut lesser = 0;
     for entry in entries {

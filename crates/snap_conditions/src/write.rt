@@ -1,6 +1,7 @@
 ghost use Rattle.std.specs.Prelude.{◌≡◌, ◌<◌, ◌∷◌, [], ◌≤◌, ℕ, suc, Some, length, get_or, nat_lt, count_by};
 ghost use Rattle.std.specs.List.{position_or_len};
 ghost use Rattle.snap_core.specs.Calls.{calls_of, views_of, shown_number};
+ghost use Rattle.snap_core.specs.Entries.{component_count};
 ghost use Rattle.snap_core.specs.Events.{IsKept};
 ghost use Rattle.snap_core.specs.declared.entry.Entry.{Entry};
 ghost use Rattle.snap_conditions.specs.Around.{IsAround};
@@ -14,15 +15,14 @@ ghost use Rattle.snap_conditions.specs.Tally.{reported_write};
 use crate::around::Around;
 use crate::fault::WriteFault;
 use crate::part::Part;
-use crate::row::COMPONENT_COUNT;
 use crate::seen::SeenView;
-use snap_core::Entry;
+use snap_core::{COMPONENT_COUNT, Entry};
 use snap_index::Index;
 
 // Where the updates that entries show begin, entry by entry: at place 0, where there is none, nothing begins behind an end.
 fn begins_of(around: &Around, entries: &[Entry]) -> [u32; COMPONENT_COUNT]
-    requires { length entries.now ≤ 256 }
-    ensures size { length result ≡ 256 }
+    requires { length entries.now ≤ component_count }
+    ensures size { length result ≡ component_count }
     ensures each { (i : ℕ) (e : Entry) → i < length entries.now → get_or result i 0 ≡ get_or around.now.begins (get_or entries.now i e).component 0 }
 {
     let mut begins = [0; COMPONENT_COUNT];
@@ -34,7 +34,7 @@ fn begins_of(around: &Around, entries: &[Entry]) -> [u32; COMPONENT_COUNT]
 
 // How many of some begins stand behind an end.
 fn count_behind(begins: &[u32], ended: u32) -> u64
-    requires { length begins.now ≤ 256 }
+    requires { length begins.now ≤ component_count }
     ensures { result ≡ count_by (λ b. nat_lt ended b) begins.now }
 {
     let mut count = 0;

@@ -2,6 +2,7 @@
 use Rattle.std.specs.Prelude.{ℕ, Bool, true, false, not, ◌&&◌, List, [], ◌∷◌, ◌≡◌, ◌==◌, nat_lt, find, Option, Some, None, if◌then◌else◌, ◌<◌, All}
 use Rattle.std.specs.List.{list_any}
 use Rattle.snap_core.specs.declared.entry.Entry.{Entry}
+use Rattle.snap_core.specs.declared.entry.TheConstants.{COMPONENT_COUNT}
 use Rattle.snap_core.specs.declared.view.ViewRefusal.{ViewRefusal}
 use Rattle.snap_core.specs.declared.view.ViewRefusal.TheVariants.{NotRising, ZeroNumber}
 
@@ -18,9 +19,13 @@ has_zero es = list_any (λ e. e.number == 0) es
 abbrev pub view_refusal : List Entry → Option ViewRefusal
 view_refusal es = if not (rises es) then Some NotRising else if has_zero es then Some ZeroNumber else None
 
+-- how many components there are
+abbrev pub component_count : ℕ
+component_count = COMPONENT_COUNT
+
 -- a component is a byte
 abbrev pub HasByteComponent : Entry → Type 0
-HasByteComponent e = e.component < 256
+HasByteComponent e = e.component < component_count
 
 -- the fields of an entry, as their types keep them
 abbrev pub EntryFits : Entry → Type 0

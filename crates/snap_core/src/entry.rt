@@ -1,5 +1,8 @@
 ghost use Rattle.snap_core.specs.Entries.{EntryFits};
 
+/// How many components there are: each is a byte.
+pub const COMPONENT_COUNT: usize = 256;
+
 /// What an update writes and a view shows: a component, the number of its update, and the value.
 #[derive(Clone, Copy, PartialEq, Eq, Debug)]
 pub struct Entry {

@@ -1,4 +1,5 @@
 ghost use Rattle.std.specs.Prelude.{◌≡◌, ◌≤◌, ◌<◌, [], ◌∷◌, ◌++◌, OnOk, get_or, length, replicate, slice_set};
+ghost use Rattle.snap_core.specs.Entries.{component_count};
 ghost use Rattle.snap_index.specs.Tables.{padded, rows};
 
 use std::alloc::{AllocError, Global};
@@ -12,6 +13,7 @@ pub(crate) struct UpdateTable<T> {
 
 impl<T> Model for UpdateTable<T> {
     ghost use Rattle.std.specs.Prelude.{◌≤◌, List, length};
+    ghost use Rattle.snap_core.specs.Entries.{component_count};
 
     ghost Value = { List (List T) };
 
@@ -19,14 +21,14 @@ impl<T> Model for UpdateTable<T> {
 
     ghost view = { λ t. padded (rows t.by_component.items) };
 
-    ghost invariant = { λ t. length t.by_component.items ≤ 256 };
+    ghost invariant = { λ t. length t.by_component.items ≤ component_count };
 }
 
 // Makes a list of lists as long as component k needs.
 fn make_room<T: Drop>(table: &mut Vec<Vec<T>>, k: u8) -> Result<(), AllocError>
-    requires { length table.old.items ≤ 256 }
+    requires { length table.old.items ≤ component_count }
     ensures same { padded (rows table.new.items) ≡ padded (rows table.old.items) }
-    ensures limit { length table.new.items ≤ 256 }
+    ensures limit { length table.new.items ≤ component_count }
     ensures room { OnOk result (k < length table.new.items) }
 {
     let alloc = *table.allocator();
@@ -39,7 +41,7 @@ fn make_room<T: Drop>(table: &mut Vec<Vec<T>>, k: u8) -> Result<(), AllocError>
 impl<T: Drop> UpdateTable<T> {
     // No update.
     pub(crate) fn new(alloc: Global) -> UpdateTable<T>
-        ensures { result ≡ replicate 256 [] }
+        ensures { result ≡ replicate component_count [] }
     {
         UpdateTable {
             by_component: Vec::new(alloc),

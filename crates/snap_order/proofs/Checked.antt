@@ -6,6 +6,7 @@ use Rattle.std.proofs.lemmas.List.{get_or_default}
 use Rattle.std.proofs.lemmas.Option.{slice_get_within}
 use Rattle.snap_core.specs.declared.entry.Entry.{Entry}
 use Rattle.snap_core.specs.declared.event.Event.{Event}
+use Rattle.snap_core.specs.Entries.{component_count}
 use Rattle.snap_core.specs.Events.{IsKept}
 use Rattle.snap_core.specs.Calls.{Call, Operation, Updates, Views, calls_of, call_numbered}
 use Rattle.snap_core.specs.Orders.{written_by}
@@ -16,7 +17,6 @@ use Rattle.snap_index.specs.Bare.{bare, bare_op}
 use Rattle.snap_index.specs.declared.call.Call.{Call as BareCall}
 use Rattle.snap_index.specs.declared.call.CallOp.TheVariants.{Update}
 use Rattle.snap_index.proofs.BareCalls.{numbered_there, mapped_some, update_from}
-use Rattle.snap_order.specs.Shown.{component_count}
 use Rattle.snap_order.proofs.State.{AreBytes}
 
 pub bytes_of : (es : List Event) → IsKept es → AreBytes (calls_of es)

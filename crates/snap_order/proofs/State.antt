@@ -5,7 +5,7 @@ use Rattle.std.proofs.lemmas.List.{take_more, take_all, length-replicate, get_or
 use Rattle.std.proofs.lemmas.List.Elements.{Contains-get_or, All-contains}
 use Rattle.std.proofs.lemmas.Bool.{false≢true, false_from_ne_true, ltb-false, le-ltb, cases_eq, cases_lt}
 use Rattle.snap_core.specs.declared.entry.Entry.{Entry}
-use Rattle.snap_core.specs.Entries.{HasByteComponent}
+use Rattle.snap_core.specs.Entries.{HasByteComponent, component_count}
 use Rattle.snap_core.specs.Calls.{Call, nobody, is_before, shown, entries_of}
 use Rattle.snap_core.specs.Regular.{IsUpdateOf}
 use Rattle.snap_core.specs.Orders.{is_completed, written_by, last_written}
@@ -13,7 +13,6 @@ use Rattle.snap_core.proofs.Lists.{In, In-from_Contains, Contains-from_In, In-ap
 use Rattle.snap_core.proofs.Facts.{precedes_to, precedes_from, shown_in}
 use Rattle.snap_order.specs.Starts.{IsLegalStart, MayFollow}
 use Rattle.snap_order.specs.Numbers.{IsLegalList, picked}
-use Rattle.snap_order.specs.Shown.{component_count}
 use Rattle.snap_order.specs.Stands.{MayStand, SeesCompleted}
 use Rattle.snap_order.proofs.Last.{Writes, last_written-append, last_written_none}
 use Rattle.snap_order.proofs.Starts.{start_push, start_nil}

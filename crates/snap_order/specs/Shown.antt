@@ -1,11 +1,7 @@
 -- What a view shows beside the last entries of a board.
 use Rattle.std.specs.Prelude.{ℕ, List, Option, Some, None, get_or, is_some, count_by, length, ◌≡◌, ◌<◌}
 use Rattle.snap_core.specs.declared.entry.Entry.{Entry}
-use Rattle.snap_core.specs.Entries.{entry_of}
-
--- how many components a board has
-abbrev pub component_count : ℕ
-component_count = 256
+use Rattle.snap_core.specs.Entries.{component_count, entry_of}
 
 -- the entry is the last of its component
 abbrev pub IsLast : List (Option Entry) → Entry → Type 0

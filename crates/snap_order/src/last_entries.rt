@@ -1,11 +1,10 @@
 ghost use Rattle.std.specs.Prelude.{◌≡◌, ◌↔◌, None, Some, All, IfOk, IsTrue, replicate, slice_set};
-ghost use Rattle.snap_order.specs.Shown.{IsLast, ShowsLast, component_count};
+ghost use Rattle.snap_core.specs.Entries.{component_count};
+ghost use Rattle.snap_order.specs.Shown.{IsLast, ShowsLast};
 
-use snap_core::{Entry, View};
+use snap_core::{COMPONENT_COUNT, Entry, View};
 use std::alloc::{AllocError, Global};
 use std::marker::Model;
-
-const COMPONENT_COUNT: usize = 256;
 
 /// The last entry of each component, where updates run one after another.
 #[derive(Drop)]

@@ -13,12 +13,9 @@ ghost use Rattle.snap_witness.specs.Places.{IsViewAt, side_number as spec_side_n
 
 use crate::calls::keep_calls;
 use snap_conditions::{IntegrityFault, ProximityFault, ReadFault, Side, Tally, WriteFault};
-use snap_core::{History, View};
+use snap_core::{COMPONENT_COUNT, History, View};
 use snap_index::Index;
 use std::alloc::{AllocError, Global};
-
-// How many components there are.
-const COMPONENT_COUNT: usize = 256;
 
 // The witness of the first integrity fault.
 fn integrity_witness(
