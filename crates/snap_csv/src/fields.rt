@@ -40,19 +40,7 @@ pub fn four_fields(row: &ByteRecord) -> Option<(&[u8], &[u8], &[u8], &[u8])>
     if row.len() != 4 {
         return None;
     }
-    let Some(a) = row.get(0) else {
-        return None;
-    };
-    let Some(b) = row.get(1) else {
-        return None;
-    };
-    let Some(c) = row.get(2) else {
-        return None;
-    };
-    let Some(d) = row.get(3) else {
-        return None;
-    };
-    Some((a, b, c, d))
+    Some((row.get(0)?, row.get(1)?, row.get(2)?, row.get(3)?))
 }
 
 /// The fields of a record that has five.
@@ -62,22 +50,13 @@ pub fn five_fields(row: &ByteRecord) -> Option<(&[u8], &[u8], &[u8], &[u8], &[u8
     if row.len() != 5 {
         return None;
     }
-    let Some(a) = row.get(0) else {
-        return None;
-    };
-    let Some(b) = row.get(1) else {
-        return None;
-    };
-    let Some(c) = row.get(2) else {
-        return None;
-    };
-    let Some(d) = row.get(3) else {
-        return None;
-    };
-    let Some(e) = row.get(4) else {
-        return None;
-    };
-    Some((a, b, c, d, e))
+    Some((
+        row.get(0)?,
+        row.get(1)?,
+        row.get(2)?,
+        row.get(3)?,
+        row.get(4)?,
+    ))
 }
 
 /// Whether a record is the header.

@@ -40,13 +40,21 @@ fn write_event(alloc: Global, writer: &mut Writer<Vec<u8>>, event: &Event) -> Re
     Ok(())
 }
 
+// A writer to memory that has written one record.
+fn begin_with(alloc: Global, fields: &[&[u8]]) -> Result<Writer<Vec<u8>>, AllocError>
+    ensures { IfOk result (λ writer. Holds writer (row_text default_writer (map (λ f. f.now) fields.now))) }
+{
+    let mut writer = WriterBuilder::new().from_writer(Vec::new(alloc));
+    write_record(&mut writer, fields)?;
+    Ok(writer)
+}
+
 // A writer to memory that has written the header.
 fn begin_text(alloc: Global) -> Result<Writer<Vec<u8>>, AllocError>
     ensures { IfOk result (λ writer. Holds writer (history_text [])) }
 {
-    let mut writer = WriterBuilder::new().from_writer(Vec::new(alloc));
-    write_record(
-        &mut writer,
+    let writer = begin_with(
+        alloc,
         &[
             b"event".as_slice(),
             b"process".as_slice(),
@@ -136,9 +144,8 @@ fn write_stamped(
 fn begin_stamped(alloc: Global) -> Result<Writer<Vec<u8>>, AllocError>
     ensures { IfOk result (λ writer. Holds writer (stamped_lines [])) }
 {
-    let mut writer = WriterBuilder::new().from_writer(Vec::new(alloc));
-    write_record(
-        &mut writer,
+    let writer = begin_with(
+        alloc,
         &[
             b"at".as_slice(),
             b"event".as_slice(),
