@@ -1,5 +1,5 @@
 -- A view of a recording lists at most one entry for each desk.
-use Rattle.std.proofs.Common.{◌≡◌, ◌≤◌, ℕ, true, List, length, ap, subst, arith}
+use Rattle.std.proofs.Common.{◌≤◌, ℕ, true, List, length, ap, subst, arith}
 use Rattle.snap_core.specs.declared.entry.Entry.{Entry}
 use Rattle.snap_core.specs.declared.event.Event.{Event}
 use Rattle.snap_core.specs.declared.event.Event.TheVariants.{EndView}

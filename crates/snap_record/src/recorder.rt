@@ -40,6 +40,17 @@ pub enum RecordRefusal {
     Memory,
 }
 
+impl From<AllocError> for RecordRefusal {
+    ghost use Rattle.std.specs.Prelude.{◌≡◌};
+    ghost use Rattle.snap_record.specs.declared.recorder.RecordRefusal.TheVariants.{Memory};
+
+    ghost from_gives = { λ _ refusal. refusal ≡ Memory };
+
+    fn from(_error: AllocError) -> RecordRefusal {
+        RecordRefusal::Memory
+    }
+}
+
 // A board with pauses and a relay for so many workers, the board's gathered desks, which are none, a worker for each desk,
 // the highest first, and the relay's taker.
 fn start_workers<R: Wait>(
@@ -187,36 +198,6 @@ fn run_plan<R: Threads + Wait + Sync, G: Gate>(
     Ok((all, interfered))
 }
 
-// The history of the records of all desks of a closed board.
-fn tell(
-    alloc: Global,
-    plan: &Plan,
-    all: Vec<Record>,
-    interfered: u32,
-) -> Result<Recording, AllocError>
-    requires did { DidScripts plan.now all.items interfered }
-    requires short { 2 * length all.items ≤ event_limit }
-    ensures regular { IfOk result (λ r. IsRegular (calls_of r.history)) }
-    ensures monotone { IfOk result (λ r. IsMonotone (calls_of r.history)) }
-    ensures completed { IfOk result (λ r. AllCompleted (calls_of r.history)) }
-    ensures atomic { HasNoViews plan.now → IfOk result (λ r. IsAtomic (calls_of r.history)) }
-    ensures scripts { IfOk result (λ r. HasScripts plan.now r.history r.interfered) }
-    ensures whole { HasNoScans plan.now → IfOk result (λ r. HasWholeScripts plan.now r.history) }
-    ensures none_left { HasNoScans plan.now → IfOk result (λ r. r.interfered ≡ 0) }
-    ensures stamps { IfOk result (λ r. AreStamped (length plan.now) r.history r.stamps.items) }
-    ensures rising { IfOk result (λ r. IsStrictlyIncreasing r.stamps.items) }
-    ensures each_stamp { IfOk result (λ r. length r.stamps.items ≡ length r.history) }
-{
-    let events = in_order(alloc, all)?;
-    let stamps = stamps_of(alloc, &events)?;
-    let history = history_of(alloc, events)?;
-    Ok(Recording {
-        history,
-        interfered,
-        stamps,
-    })
-}
-
 /// Records what the workers of a plan do on a board with a desk for each, each the script of its number. Worker 0 runs on
 /// the calling thread, and so does each other that no thread can be started for. A worker gives up its turn before the last load
 /// of a collect, so that calls overlap. The gate is called as `at(w, t)` when t of worker w's calls have answered, for t
@@ -246,11 +227,13 @@ pub fn record_plan<R: Threads + Wait + Sync, G: Gate>(
     ensures rising { IfOk result (λ r. IsStrictlyIncreasing r.stamps.items) }
     ensures each_stamp { IfOk result (λ r. length r.stamps.items ≡ length r.history) }
 {
-    let Ok((all, interfered)) = run_plan(rt, alloc, plan, gate) else {
-        return Err(RecordRefusal::Memory);
-    };
-    match tell(alloc, plan, all, interfered) {
-        Ok(recording) => Ok(recording),
-        Err(_) => Err(RecordRefusal::Memory),
-    }
+    let (all, interfered) = run_plan(rt, alloc, plan, gate)?;
+    let events = in_order(alloc, all)?;
+    let stamps = stamps_of(alloc, &events)?;
+    let history = history_of(alloc, events)?;
+    Ok(Recording {
+        history,
+        interfered,
+        stamps,
+    })
 }
