@@ -47,7 +47,7 @@ entry_back e f =
 
 -- ---- entries
 
-words_of : (e : Entry) (es : List Entry) → AllFit (e ∷ es) → parts 32 (entries_text (e ∷ es)) ≡ map entry_text (e ∷ es)
+pub words_of : (e : Entry) (es : List Entry) → AllFit (e ∷ es) → parts 32 (entries_text (e ∷ es)) ≡ map entry_text (e ∷ es)
 unfolding entries_text
 words_of e [] f = one_part 32 (entry_text e) (entry_lacks_space e f.0)
 words_of e (d ∷ es) f =

@@ -17,5 +17,6 @@ pub mod LengthFacts
 pub mod GrammarFacts
 pub mod ViewFacts
 pub mod GroupFacts
+pub mod KnownFacts
 pub mod RecordFacts
 pub mod LookupFacts

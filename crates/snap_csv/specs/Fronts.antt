@@ -39,8 +39,11 @@ pub record EntriesThen (es : List Entry) (rest text : List ℕ) : Type 0 where
 abbrev pub NoEntries : List ℕ → Type 0
 NoEntries text = all_of (map entry_at (parts 32 text)) ≡ None
 
--- the entries that a text begins with were added behind others
-pub record AddsEntries (old new : List Entry) (rest text : List ℕ) : Type 0 where
-  pub more : List Entry
-  pub added : new ≡ old ++ more
-  pub then : EntriesThen more rest text
+-- entries and their text
+pub record AreSpelled (es : List Entry) (text : List ℕ) : Type 0 where
+  pub fit : All EntryFits es
+  pub whole : text ≡ entries_text es
+
+-- entries that a text begins with, with a space behind them, were added behind others, or none were
+abbrev pub AddsFront : List Entry → List Entry → List ℕ → List ℕ → Type 0
+AddsFront old new rest text = ((new ≡ old) × (rest ≡ text)) ⊎ ((es : List Entry) × (new ≡ old ++ es) × EntriesThen es (32 ∷ rest) text)

@@ -1,90 +1,13 @@
-//! Entries in a text. A view mostly shows what the view before it showed, so a text is first compared with the one that was
-//! read before, some entries at a time: where views have hundreds of entries, that spares three quarters of the reading.
-ghost use Rattle.std.specs.Prelude.{◌≡◌, ◌∷◌, [], ℕ, List, MatchOption, IfOk, IfSome, option_map};
+//! Entries in a text. Those that the view before had are not read again.
+ghost use Rattle.std.specs.Prelude.{◌≡◌, ◌≤◌, ◌<◌, ◌∷◌, [], ◌+◌, ℕ, List, MatchOption, IfOk, IfSome, drop, get_or, length, option_map, take};
 ghost use Rattle.snap_core.specs.declared.entry.Entry.{Entry};
 ghost use Rattle.snap_csv.specs.Fields.{entries_at, entry_at};
-ghost use Rattle.snap_csv.specs.Fronts.{AddsEntries, EntriesThen, EntryThen, NoEntries, NumberThen};
+ghost use Rattle.snap_csv.specs.Fronts.{AddsFront, AreSpelled, EntriesThen, EntryThen, NumberThen};
 
+use crate::known::{Known, same_front, spaces};
 use crate::number::number_first;
 use snap_core::Entry;
 use std::alloc::{AllocError, Global};
-
-// How many entries are compared at a time.
-const GROUP: usize = 8;
-
-// How many times a view has as many.
-const GROUP_LIMIT: usize = 32;
-
-// Entries that were read, and their text.
-#[derive(Drop)]
-struct Group {
-    text: Vec<u8>,
-    entries: Vec<Entry>,
-    ghost spelled: { EntriesThen entries.items [] text.items },
-}
-
-impl Group {
-    // The group of some entries, in the memory of another, if there is one.
-    fn of(
-        alloc: Global,
-        room: Option<Group>,
-        text: &[u8],
-        entries: &[Entry],
-    ) -> Result<Group, AllocError>
-        requires { EntriesThen entries.now [] text.now }
-    {
-        let (mut text_room, mut entries_room) = match room {
-            Some(group) => (group.text, group.entries),
-            None => (Vec::new(alloc), Vec::new(alloc)),
-        };
-        text_room.clear();
-        text_room.extend_from_slice(text)?;
-        entries_room.clear();
-        entries_room.extend_from_slice(entries)?;
-        Ok(Group {
-            text: text_room,
-            entries: entries_room,
-        })
-    }
-}
-
-/// What is kept of the views that were read: the latest group at each place, and how many entries the last view had. A view
-/// of fewer entries than a group has is read anew, since there comparing costs as much as it spares.
-#[derive(Drop)]
-pub struct Known {
-    groups: Vec<Option<Group>>,
-    count: usize,
-}
-
-impl Known {
-    /// Of no view.
-    pub fn new(alloc: Global) -> Known {
-        Known {
-            groups: Vec::new(alloc),
-            count: 0,
-        }
-    }
-
-    // Keeps the entries of a group in its place, in the memory of the group that stands there.
-    fn keep(
-        &mut self,
-        alloc: Global,
-        place: usize,
-        text: &[u8],
-        entries: &[Entry],
-    ) -> Result<(), AllocError>
-        requires { EntriesThen entries.now [] text.now }
-    {
-        if place == self.groups.len() && place < GROUP_LIMIT {
-            self.groups.push(None)?;
-        }
-        if place < self.groups.len() {
-            let room = self.groups[place].take();
-            self.groups[place] = Some(Group::of(alloc, room, text, entries)?);
-        }
-        Ok(())
-    }
-}
 
 // The number that a text begins with before a colon, and the text behind the colon.
 #[inline(always)]
@@ -131,71 +54,109 @@ pub fn entry_of(text: &[u8]) -> Option<Entry>
     if rest.is_empty() { Some(entry) } else { None }
 }
 
-// Adds the entries that a text begins with, up to as many as a group has, and gives the text behind them.
-fn read_group<'a>(entries: &mut Vec<Entry>, text: &'a [u8]) -> Result<Option<&'a [u8]>, AllocError>
-    ensures { IfOk result (λ o. MatchOption o (NoEntries text.now) (λ rest. AddsEntries entries.old.items entries.new.items rest.now text.now)) }
+// The entries that are all of a text, where it is the front of a text of such entries, as far as both are alike.
+fn whole_known<'k>(left: &[u8], old: &[u8], olds: &'k [Entry], same: usize) -> Option<&'k [Entry]>
+    requires known { AreSpelled olds.now old.now }
+    requires within { (same ≤ length left.now) × (same ≤ length old.now) }
+    requires same { take same left.now ≡ take same old.now }
+    ensures { IfSome result (λ es. EntriesThen es.now [] left.now) }
 {
-    let Some((first, mut rest)) = entry_first(text) else {
-        return Ok(None);
-    };
-    entries.push(first)?;
-    for _ in 1..GROUP {
-        let Some((_, next)) = rest.split_first() else {
-            break;
-        };
-        let Some((entry, behind)) = entry_first(next) else {
-            return Ok(None);
-        };
-        entries.push(entry)?;
-        rest = behind;
+    if same == 0 || same < left.len() || (same < old.len() && old[same] != b' ') {
+        return None;
     }
-    Ok(Some(rest))
+    Some(&olds[..spaces(left) + 1])
 }
 
-// The text behind a group, where a text begins with the group's.
-#[inline]
-fn behind_group<'a>(group: &Group, text: &'a [u8]) -> Option<&'a [u8]>
-    ensures { IfSome result (λ rest. EntriesThen group.now.entries.items rest.now text.now) }
+// Where the last space of a text stands.
+fn last_space(text: &[u8]) -> Option<usize>
+    ensures { IfSome result (λ at. (at < length text.now) × (get_or text.now at 0 ≡ 32)) }
 {
-    let rest = text.strip_prefix(group.text.as_slice())?;
-    if rest.is_empty() || rest[0] == b' ' {
-        Some(rest)
-    } else {
-        None
-    }
-}
-
-// The same, where the group at a place is known to be what the text begins with.
-fn add_group<'a>(
-    alloc: Global,
-    known: &mut Known,
-    entries: &mut Vec<Entry>,
-    text: &'a [u8],
-) -> Result<Option<&'a [u8]>, AllocError>
-    ensures { IfOk result (λ o. MatchOption o (NoEntries text.now) (λ rest. AddsEntries entries.old.items entries.new.items rest.now text.now)) }
-{
-    let before = entries.len();
-    let place = before / GROUP;
-    if let Some(Some(group)) = known.groups.get(place) {
-        if let Some(rest) = behind_group(group, text) {
-            entries.extend_from_slice(&group.entries)?;
-            return Ok(Some(rest));
+    let mut end = text.len();
+    while end > 0 {
+        end -= 1;
+        if text[end] == b' ' {
+            return Some(end);
         }
     }
-    let Some(rest) = read_group(entries, text)? else {
-        return Ok(None);
-    };
-    if entries.len() - before == GROUP {
-        let front = &text[..text.len() - rest.len()];
-        known.keep(alloc, place, front, &entries[before..])?;
-    }
-    Ok(Some(rest))
+    None
 }
+
+// Where the first space of a text stands.
+fn first_space(text: &[u8]) -> Option<usize>
+    ensures { IfSome result (λ at. (at < length text.now) × (get_or text.now at 0 ≡ 32)) }
+{
+    for at in 0..text.len() {
+        if text[at] == b' ' {
+            return Some(at);
+        }
+    }
+    None
+}
+
+// Some entries, cut at a space of their text: those before it, the text behind it, and its entries.
+fn cut_at<'k>(old: &'k [u8], olds: &'k [Entry], at: usize) -> (&'k [Entry], &'k [u8], &'k [Entry])
+    requires known { AreSpelled olds.now old.now }
+    requires place { at < length old.now }
+    requires space { get_or old.now at 0 ≡ 32 }
+    ensures some { 0 < length result.0.now }
+    ensures front { AreSpelled result.0.now (take at old.now) }
+    ensures cut { result.1.now ≡ drop (at + 1) old.now }
+    ensures rest { AreSpelled result.2.now result.1.now }
+{
+    let (front, rest) = olds.split_at(spaces(&old[..at]) + 1);
+    (front, &old[at + 1..], rest)
+}
+
+// What is behind the first of some entries, where its component is not above another.
+fn behind_first<'k>(old: &'k [u8], olds: &'k [Entry], component: u8) -> (&'k [u8], &'k [Entry])
+    requires { AreSpelled olds.now old.now }
+    ensures { AreSpelled result.1.now result.0.now }
+{
+    match olds.first() {
+        Some(first) if first.component <= component => match first_space(old) {
+            Some(at) => {
+                let (_, rest, others) = cut_at(old, olds, at);
+                (rest, others)
+            }
+            None => (&[], &[]),
+        },
+        _ => (old, olds),
+    }
+}
+
+// Adds the entries that a text begins with, each with a space behind it, as far as it is like a text of known entries, and gives
+// what is left of both texts and of the known entries.
+fn add_front<'a, 'k>(
+    entries: &mut Vec<Entry>,
+    left: &'a [u8],
+    old: &'k [u8],
+    olds: &'k [Entry],
+    same: usize,
+) -> Result<(&'a [u8], &'k [u8], &'k [Entry]), AllocError>
+    requires known { AreSpelled olds.now old.now }
+    requires within { (same ≤ length left.now) × (same ≤ length old.now) }
+    requires same { take same left.now ≡ take same old.now }
+    ensures added { IfOk result (λ x. AddsFront entries.old.items entries.new.items x.0.now left.now) }
+    ensures shorter { IfOk result (λ x. length x.0.now ≤ length left.now) }
+    ensures known { IfOk result (λ x. AreSpelled x.2.now x.1.now) }
+{
+    match last_space(&left[..same]) {
+        Some(at) => {
+            let (front, rest, others) = cut_at(old, olds, at);
+            entries.extend_from_slice(front)?;
+            Ok((&left[at + 1..], rest, others))
+        }
+        None => Ok((left, old, olds)),
+    }
+}
+
+// How many entries of a view that the view before it did not have are looked for in it: where more are new, few are not.
+const NEW_LIMIT: usize = 32;
 
 /// The entries that are spelled with one space between two.
 pub fn entries_of(
     alloc: Global,
-    known: &mut Known,
+    known: &Known,
     text: &[u8],
 ) -> Result<Option<Vec<Entry>>, AllocError>
     ensures { IfOk result (λ o. option_map (λ v. v.items) o ≡ entries_at text.now) }
@@ -204,17 +165,35 @@ pub fn entries_of(
     if text.is_empty() {
         return Ok(Some(entries));
     }
-    // as many as the view before had, but no more than the text can have, of six bytes each
-    entries.reserve(known.count.min(text.len() / 6 + 1))?;
+    // one more than the view before had, but no more than the text can have, of six bytes each
+    entries.reserve(known.entries().len().min(text.len() / 6) + 1)?;
     let mut left = text;
+    let mut old = known.text();
+    let mut olds = known.entries();
+    let mut new = 0;
     loop {
-        let Some(rest) = add_group(alloc, known, &mut entries, left)? else {
+        let same = same_front(left, old);
+        if let Some(front) = whole_known(left, old, olds, same) {
+            entries.extend_from_slice(front)?;
+            return Ok(Some(entries));
+        }
+        let (start, rest, others) = add_front(&mut entries, left, old, olds, same)?;
+        let Some((entry, behind)) = entry_first(start) else {
             return Ok(None);
         };
-        let Some((_, next)) = rest.split_first() else {
-            known.count = entries.len();
+        entries.push(entry)?;
+        let Some((_, next)) = behind.split_first() else {
             return Ok(Some(entries));
         };
         left = next;
+        if new < NEW_LIMIT {
+            new += 1;
+            let (behind_old, behind_olds) = behind_first(rest, others, entry.component);
+            old = behind_old;
+            olds = behind_olds;
+        } else {
+            old = &[];
+            olds = &[];
+        }
     }
 }

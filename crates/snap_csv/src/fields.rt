@@ -3,7 +3,8 @@ ghost use Rattle.csv.specs.Records.{fields_of};
 ghost use Rattle.snap_csv.specs.Fields.{event_of, is_header_row, is_stamped_header_row, update_at, view_at};
 ghost use Rattle.snap_csv.specs.Answers.{GivesEvent};
 
-use crate::entries::{Known, entries_of, entry_of};
+use crate::entries::{entries_of, entry_of};
+use crate::known::Known;
 use crate::number::process_of;
 use crate::refusal::{ReadRefusal, TextFault};
 use csv::ByteRecord;
@@ -27,6 +28,7 @@ fn view_of(alloc: Global, known: &mut Known, text: &[u8]) -> Result<Option<View>
     let Some(entries) = entries_of(alloc, known, text)? else {
         return Ok(None);
     };
+    known.keep(alloc, text, &entries)?;
     match View::from_entries(entries) {
         Ok(view) => Ok(Some(view)),
         Err(_) => Ok(None),

@@ -4,6 +4,7 @@
 mod entries;
 mod fields;
 mod intake;
+mod known;
 mod law;
 mod number;
 mod read;

@@ -5,9 +5,9 @@ ghost use Rattle.snap_csv.specs.Faults.{fault_of};
 ghost use Rattle.snap_csv.specs.Rows.{rows_of};
 ghost use Rattle.csv.specs.Records.{fields_of};
 
-use crate::entries::Known;
 use crate::fields::{event_of_fields, four_fields, is_header, is_stamped_header};
 use crate::intake::{BYTE_LIMIT, take_in};
+use crate::known::Known;
 use crate::refusal::{ReadRefusal, TextFault};
 use crate::rows::{next_row, reader_of};
 use crate::stamped::stamped_history;

@@ -6,8 +6,8 @@ ghost use Rattle.snap_csv.specs.Answers.{AnswersStamps, HasSeen, ReadsStamped, T
 ghost use Rattle.snap_csv.specs.Rows.{Fields, Stands};
 ghost use Rattle.snap_csv.specs.Stamps.{places_of, stamps_of};
 
-use crate::entries::Known;
 use crate::fields::{event_of_fields, five_fields};
+use crate::known::Known;
 use crate::number::stamp_of;
 use crate::read::{ROW_LIMIT, push_event};
 use crate::refusal::{ReadRefusal, TextFault};

@@ -1,9 +1,10 @@
 use Rattle.std.proofs.Common.{length}
+use Rattle.snap_csv.specs.Fronts.{AreSpelled}
 use Rattle.snap_csv.proofs.PartFacts.{AreRead}
 use Rattle.snap_csv.proofs.entries.entries_of.Given as goal
 
-abbrev pub invariant-loop-entries : goal.invariant-loop-entries
-invariant-loop-entries l = AreRead l.entries.items l.left l.text
+abbrev pub invariant-loop-front : goal.invariant-loop-front
+invariant-loop-front l = record { read : AreRead l.entries.items l.left l.text; known : AreSpelled l.olds l.old }
 
-abbrev pub decreases-loop-entries : goal.decreases-loop-entries
-decreases-loop-entries l = length l.left
+abbrev pub decreases-loop-front : goal.decreases-loop-front
+decreases-loop-front l = length l.left
