@@ -10,9 +10,9 @@ pub const WORKER_LIMIT: u32 = 8;
 /// Why there is no such cutting, in the order in which the reasons are tested.
 #[derive(Clone, Copy, PartialEq, Eq, Debug)]
 pub enum CuttingRefusal {
-    /// Not 1 to 1,024 pieces.
+    /// Not 1 to `PIECE_LIMIT` pieces.
     Pieces,
-    /// Not 1 to 8 workers.
+    /// Not 1 to `WORKER_LIMIT` workers.
     Workers,
 }
 
@@ -26,7 +26,7 @@ pub struct Cutting {
 }
 
 impl Cutting {
-    /// The cutting into 1 to 1,024 pieces for 1 to 8 workers.
+    /// The cutting into 1 to `PIECE_LIMIT` pieces for 1 to `WORKER_LIMIT` workers.
     pub fn new(pieces: u32, workers: u32) -> Result<Cutting, CuttingRefusal>
         ensures ok { IfOk result (λ cutting. (cutting.pieces ≡ pieces) × (cutting.workers ≡ workers)) }
         ensures accepted { OnOk result (IsPieces pieces × IsWorkers workers) }
@@ -42,14 +42,24 @@ impl Cutting {
         Ok(Cutting { pieces, workers })
     }
 
-    /// How many pieces there are, 1 to 1,024.
+    /// The cutting where none is asked for.
+    pub fn usual() -> Cutting
+        ensures { (result.pieces ≡ 8) × (result.workers ≡ 2) }
+    {
+        Cutting {
+            pieces: 8,
+            workers: 2,
+        }
+    }
+
+    /// How many pieces there are, 1 to `PIECE_LIMIT`.
     pub fn pieces(&self) -> u32
         ensures { result ≡ self.now.pieces }
     {
         self.pieces
     }
 
-    /// How many workers there are, 1 to 8.
+    /// How many workers there are, 1 to `WORKER_LIMIT`.
     pub fn workers(&self) -> u32
         ensures { result ≡ self.now.workers }
     {

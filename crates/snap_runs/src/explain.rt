@@ -49,11 +49,8 @@ fn explained<Rt: Threads + Sync>(
     requires { length records.now ≡ length history.now }
     ensures { IfOk result (λ answer. ExplainsHistory history.now records.now answer.0 answer.1.items) }
 {
-    let Ok(cutting) = Cutting::new(8, 2) else {
-        unreachable!()
-    };
     let index = Index::build(alloc, history)?;
-    let tally = tally(rt, alloc, &index, cutting, &OpenGate)?;
+    let tally = tally(rt, alloc, &index, Cutting::usual(), &OpenGate)?;
     let text = explanation_of(rt, alloc, &index, &tally, records)?;
     Ok((status_of(&index, &tally), text))
 }

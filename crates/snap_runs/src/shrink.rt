@@ -23,11 +23,8 @@ fn first_witness<Rt: Threads + Sync>(
 ) -> Result<(Status, Option<History>), AllocError>
     ensures { IfOk result (λ answer. IsFirstWitness history.now answer.0 answer.1) }
 {
-    let Ok(cutting) = Cutting::new(8, 2) else {
-        unreachable!()
-    };
     let index = Index::build(alloc, history)?;
-    let tally = tally(rt, alloc, &index, cutting, &OpenGate)?;
+    let tally = tally(rt, alloc, &index, Cutting::usual(), &OpenGate)?;
     Ok((status_of(&index, &tally), witness(alloc, &index, &tally)?))
 }
 

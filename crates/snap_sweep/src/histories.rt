@@ -3,7 +3,7 @@ use crate::fault::{Fault, expect};
 use snap_core::{Event, EventRefusal, History, OpenGate, View};
 use snap_index::Index;
 use snap_order::{build, check_order};
-use snap_pairs::{Claims, Cutting, tally};
+use snap_pairs::{Claims, Cutting, PIECE_LIMIT, WORKER_LIMIT, tally};
 use snap_testing::worked::{CROSSED_VIEWS, SEEN_PENDING};
 use snap_testing::{entry, history_of};
 use std::alloc::Global;
@@ -69,11 +69,11 @@ pub fn order<R: Threads + Sync>(rt: &R, alloc: Global) -> Result<(), Fault> {
     expect(build(rt, alloc, &index)?.as_slice() == [0, 2].as_slice())
 }
 
-/// Two views disagree, and eight workers see it.
+/// Two views disagree, and as many workers as there may be see it.
 pub fn tally_of_pieces<R: Threads + Sync>(rt: &R, alloc: Global) -> Result<(), Fault> {
     let history = history_of(alloc, CROSSED_VIEWS)?;
     let index = Index::build(alloc, &history)?;
-    let Ok(cutting) = Cutting::new(1024, 8) else {
+    let Ok(cutting) = Cutting::new(PIECE_LIMIT, WORKER_LIMIT) else {
         return Err(Fault::Wrong);
     };
     let found = tally(rt, alloc, &index, cutting, &OpenGate)?;

@@ -1,4 +1,4 @@
-use Rattle.std.proofs.Common.{List, ◌≡◌, ◌+◌, ◌++◌, ◌∷◌, [], All, rules, arith, length, map, vec_items, sym, ap, ◌∙◌, subst}
+use Rattle.std.proofs.Common.{◌≡◌, ◌+◌, ◌++◌, ◌∷◌, [], All, rules, arith, length, map, vec_items, sym, ap, ◌∙◌, subst}
 use Rattle.std.proofs.lemmas.List.{map_push, length-map}
 use Rattle.snap_core.specs.Calls.{calls_of, views_of}
 use Rattle.snap_conditions.specs.Tally.{tally_of, views_between}
