@@ -1,10 +1,11 @@
 -- Masks by lanes of 64 bits.
 use Rattle.std.proofs.Common.{◌≡◌, ℕ, zero, suc, ◌+◌, ◌*◌, ◌-◌, ◌/◌, ◌%◌, ◌<◌, ◌≤◌, ◌^◌, List, [], ◌∷◌, map, length, get_or, set, length-set, get_or-set_same, get_or-set_other, refl, sym, ap, ◌∙◌, subst, inl, inr, w64, arith}
-use Rattle.std.specs.Prelude.{count_ones, bit_or, bit_and, bit_xor, max, min}
+use Rattle.std.specs.Prelude.{count_ones, bit_or, bit_and, bit_xor, max, min, sum_by}
 use Rattle.std.specs.Int.{bit_at, trailing_zeros}
 use Rattle.std.specs.Int.Bits.{block_half, and_lt}
-use Rattle.std.specs.Simd.Lanes.{zip2, Each1, sum_l, fold_l}
+use Rattle.std.specs.Simd.Lanes.{zip2, Each1, fold_l}
 use Rattle.std.proofs.lemmas.Nat.Bits.{same_from_bits, bit_at-zero, bit_at_cat_low, bit_at_cat_high, bit_at_or, bit_at_and, bit_at_xor, bit_at-pow_same, bit_at-pow_other, bit_at-trailing_zeros}
+use Rattle.std.proofs.lemmas.List.Sums.{sum_by-cons}
 use Rattle.std.proofs.lemmas.Nat.{one_shl}
 use Rattle.std.proofs.lemmas.Simd.{Each1-get_or, Each1-from_get_or}
 use Rattle.std.proofs.Math.Pow.{pow-lt}
@@ -165,9 +166,9 @@ ones_cat (suc k) a b l =
     half : b / 2 < 2 ^ k
     half = omega (arith, l, twice)
 
-pub ones_lanes : (lanes : List ℕ) → Each1 (λ lane. lane < 2 ^ 64) lanes → count_ones (number_of_lanes lanes) ≡ sum_l (map count_ones lanes)
+pub ones_lanes : (lanes : List ℕ) → Each1 (λ lane. lane < 2 ^ 64) lanes → count_ones (number_of_lanes lanes) ≡ sum_by count_ones lanes
 ones_lanes [] h = omega (arith, ones-le 0 0 (omega arith))
-ones_lanes (x ∷ xs) h = ap count_ones (joined x xs) ∙ omega (arith, ones_cat 64 (number_of_lanes xs) x h.0, ones_lanes xs h.1)
+ones_lanes (x ∷ xs) h = ap count_ones (joined x xs) ∙ omega (arith, ones_cat 64 (number_of_lanes xs) x h.0, ones_lanes xs h.1, sum_by-cons count_ones x xs)
 
 pub or_bitwise : IsBitwise bit_or max
 or_bitwise = record { bits = bit_at_or; small = or_lt 64; nothing = refl }
@@ -187,6 +188,6 @@ few_ones (suc k) n h =
     let twice : 2 ^ suc k ≡ 2 * 2 ^ k = grind arith in
     omega (arith, ones_step n, few_ones k (n / 2) (omega (arith, h, twice)))
 
-pub few_sum : (lanes : List ℕ) → Each1 (λ lane. lane < 2 ^ 64) lanes → sum_l (map count_ones lanes) ≤ 64 * length lanes
+pub few_sum : (lanes : List ℕ) → Each1 (λ lane. lane < 2 ^ 64) lanes → sum_by count_ones lanes ≤ 64 * length lanes
 few_sum [] h = omega arith
-few_sum (x ∷ xs) h = omega (arith, few_ones 64 x h.0, few_sum xs h.1)
+few_sum (x ∷ xs) h = omega (arith, few_ones 64 x h.0, few_sum xs h.1, sum_by-cons count_ones x xs)

@@ -1,12 +1,13 @@
-ghost use Rattle.std.specs.Prelude.{◌≡◌, ◌≤◌, ◌<◌, ◌+◌, ◌*◌, ◌-◌, ◌||◌, true, false, [], Bool, ℕ, cond, length, get_or, nat_lt, IsTrue, IfOk};
+ghost use Rattle.std.specs.Prelude.{◌≡◌, ◌≤◌, ◌<◌, ◌+◌, ◌*◌, ◌-◌, ◌||◌, true, false, not, [], Bool, ℕ, cond, length, get_or, nat_lt, IsTrue, IfOk};
 ghost use Rattle.snap_grid.specs.Columns.{any_passes};
 ghost use Rattle.snap_grid.specs.Masks.{mask_below};
 ghost use Rattle.snap_grid.specs.Kept.{AreRows, HaveRows};
-ghost use Rattle.snap_grid.specs.Facing.{AreFacing, any_faces};
+ghost use Rattle.snap_grid.specs.Facing.{AreFacing, AreTabled, IsWhole, any_faces, faces};
 
 use crate::bounds::Bounds;
 use crate::column::Column;
-use crate::mask::{Mask, WIDTH};
+use crate::facing::Facing;
+use crate::mask::{Mask, WIDTH, mask_of_all};
 use crate::masks::Masks;
 use std::alloc::{AllocError, Global};
 
@@ -43,13 +44,6 @@ fn is_open(more: bool, less: bool, ours: Bounds, theirs: Bounds) -> bool
     !more && some_pass(true, ours, theirs) || !less && some_pass(false, ours, theirs)
 }
 
-// A column whose bounds do not tell all of our rows and of a block of theirs.
-#[derive(Drop)]
-pub(crate) struct Facing<'b, 'g> {
-    ours: &'b Masks<'g>,
-    theirs: &'g [u32],
-}
-
 // Which of our rows have a greater number than another row in some column, and which a lesser one.
 #[derive(Drop)]
 pub(crate) struct Passing {
@@ -60,45 +54,84 @@ pub(crate) struct Passing {
 // Our rows against a block of theirs.
 #[derive(Drop)]
 pub(crate) struct Against<'b, 'g> {
-    columns: Vec<Facing<'b, 'g>>,
+    // the columns whose masks have a table, and those that have none
+    near: Vec<Facing<'b, 'g>>,
+    far: Vec<Facing<'b, 'g>>,
     all: &'b Mask,
     // whether bounds tell that each of our rows has a greater number than each of theirs in some column, or a lesser one
     more: bool,
     less: bool,
     ours: usize,
     theirs: usize,
-    ghost facing: { AreFacing columns.items all.now ours theirs },
+    ghost near_tabled: { AreTabled near.items },
+    ghost near_facing: { AreFacing near.items ours theirs },
+    ghost far_facing: { AreFacing far.items ours theirs },
+    ghost whole: { IsWhole all.now ours theirs },
 }
 
 impl<'b, 'g> Against<'b, 'g> {
     // All of our rows, or none.
+    #[inline]
     fn all_if(&self, all: bool) -> Mask
         ensures { result ≡ mask_below (λ a. all) self.now.ours }
     {
         if all { self.all.copy() } else { Mask::none() }
     }
 
+    // All of our rows, both ways.
+    #[inline]
+    fn full(&self) -> Passing
+        ensures { (result.more ≡ self.now.all.now) × (result.less ≡ self.now.all.now) }
+    {
+        Passing {
+            more: self.all.copy(),
+            less: self.all.copy(),
+        }
+    }
+
     // Which of our rows pass a row of theirs.
+    #[inline]
     pub(crate) fn passing(&self, row: usize) -> Passing
         requires { row < self.now.theirs }
-        ensures more { result.more ≡ mask_below (λ a. self.now.more || any_faces true self.now.columns.items a row) self.now.ours }
-        ensures less { result.less ≡ mask_below (λ a. self.now.less || any_faces false self.now.columns.items a row) self.now.ours }
+        ensures more { result.more ≡ mask_below (λ a. faces true self.now.more self.now.near.items self.now.far.items a row) self.now.ours }
+        ensures less { result.less ≡ mask_below (λ a. faces false self.now.less self.now.near.items self.now.far.items a row) self.now.ours }
     {
         let mut at_most = self.all_if(!self.more);
         let mut less = self.all_if(self.less);
-        for j in 0..self.columns.len() {
-            let column = &self.columns[j];
-            let x = u64::from(column.theirs[row]);
-            at_most = column.ours.and_under(&at_most, x + 1);
-            less = column.ours.or_under(&less, x);
+        for j in 0..self.near.len() {
+            let around = self.near[j].around(row);
+            at_most = at_most.and(around.at_most);
+            less = less.or(around.below);
             if j % COLUMNS_A_TEST == COLUMNS_A_TEST - 1
                 && at_most.or(&less.xor(self.all)).is_none()
             {
-                return Passing {
-                    more: self.all.copy(),
-                    less: self.all.copy(),
-                };
+                return self.full();
             }
+        }
+        if self.far.is_empty() {
+            return Passing {
+                more: self.all.xor(&at_most),
+                less,
+            };
+        }
+        self.passing_far(row, &at_most.copy(), &less.copy())
+    }
+
+    // The same, where the columns with a table have been looked at.
+    #[cold]
+    #[inline(never)]
+    fn passing_far(&self, row: usize, near_at_most: &Mask, near_less: &Mask) -> Passing
+        requires row { row < self.now.theirs }
+        requires at_most { near_at_most.now ≡ mask_below (λ a. not (self.now.more || any_faces true self.now.near.items a row)) self.now.ours }
+        requires less { near_less.now ≡ mask_below (λ a. self.now.less || any_faces false self.now.near.items a row) self.now.ours }
+        ensures more { result.more ≡ mask_below (λ a. faces true self.now.more self.now.near.items self.now.far.items a row) self.now.ours }
+        ensures less { result.less ≡ mask_below (λ a. faces false self.now.less self.now.near.items self.now.far.items a row) self.now.ours }
+    {
+        let mut at_most = near_at_most.copy();
+        let mut less = near_less.copy();
+        for j in 0..self.far.len() {
+            at_most = at_most.and(&self.far[j].at_most(row));
+            less = less.or(&self.far[j].below(row));
         }
         Passing {
             more: self.all.xor(&at_most),
@@ -183,24 +216,29 @@ impl<'g> Block<'g> {
         requires rows { HaveRows self.now.columns.now (block * 512 + count) }
         requires small { block < 65536 }
         ensures rows { IfOk result (λ against. (against.ours ≡ self.now.count) × (against.theirs ≡ count)) }
-        ensures more { IfOk result (λ against. (a i : ℕ) → a < self.now.count → i < count → (against.more || any_faces true against.columns.items a i) ≡ any_passes true self.now.columns.now (self.now.from + a) (block * 512 + i)) }
-        ensures less { IfOk result (λ against. (a i : ℕ) → a < self.now.count → i < count → (against.less || any_faces false against.columns.items a i) ≡ any_passes false self.now.columns.now (self.now.from + a) (block * 512 + i)) }
+        ensures more { IfOk result (λ against. (a i : ℕ) → a < self.now.count → i < count → faces true against.more against.near.items against.far.items a i ≡ any_passes true self.now.columns.now (self.now.from + a) (block * 512 + i)) }
+        ensures less { IfOk result (λ against. (a i : ℕ) → a < self.now.count → i < count → faces false against.less against.near.items against.far.items a i ≡ any_passes false self.now.columns.now (self.now.from + a) (block * 512 + i)) }
     {
         let more = self.all_pass(true, block);
         let less = self.all_pass(false, block);
-        let mut columns = Vec::new(alloc);
+        let mut near = Vec::new(alloc);
+        let mut far = Vec::new(alloc);
         for j in 0..self.columns.len() {
             let ours = self.masks[j].bounds();
             let theirs = self.columns[j].bounds(block);
             if is_open(more, less, ours, theirs) {
-                columns.push(Facing {
-                    ours: &self.masks[j],
-                    theirs: self.columns[j].rows(block * WIDTH, block * WIDTH + count),
-                })?;
+                let theirs = self.columns[j].rows(block * WIDTH, block * WIDTH + count);
+                let column = self.masks[j].facing(theirs);
+                if column.under.is_empty() {
+                    far.push(column)?;
+                } else {
+                    near.push(column)?;
+                }
             }
         }
         Ok(Against {
-            columns,
+            near,
+            far,
             all: &self.all,
             more,
             less,
@@ -208,16 +246,4 @@ impl<'g> Block<'g> {
             theirs: count,
         })
     }
-}
-
-// The mask of so many rows.
-pub(crate) fn mask_of_all(count: usize) -> Mask
-    requires { count ≤ 512 }
-    ensures { result ≡ mask_below (λ a. true) count }
-{
-    let mut mask = Mask::none();
-    for row in 0..count {
-        mask.set(row);
-    }
-    mask
 }

@@ -4,6 +4,7 @@
 mod block;
 mod bounds;
 mod column;
+mod facing;
 mod grid;
 mod mask;
 mod masks;

@@ -1,5 +1,5 @@
-ghost use Rattle.std.specs.Prelude.{◌≡◌, ◌<◌, ◌^◌, ℕ, bit_or, bit_and, bit_xor, count_ones, IsTrue};
-ghost use Rattle.snap_grid.specs.Masks.{IsFirstBit};
+ghost use Rattle.std.specs.Prelude.{◌≡◌, ◌≤◌, ◌<◌, true, ◌^◌, ℕ, bit_or, bit_and, bit_xor, count_ones, IsTrue};
+ghost use Rattle.snap_grid.specs.Masks.{IsFirstBit, mask_below};
 
 use std::marker::Model;
 use std::simd::prelude::*;
@@ -29,6 +29,7 @@ impl Model for Mask {
 
 impl Mask {
     // The mask of no row.
+    #[inline]
     pub(crate) fn none() -> Mask
         ensures { result ≡ 0 }
     {
@@ -36,6 +37,7 @@ impl Mask {
     }
 
     // The same mask.
+    #[inline]
     pub(crate) fn copy(&self) -> Mask
         ensures { result ≡ self.now }
     {
@@ -43,6 +45,7 @@ impl Mask {
     }
 
     // Whether it has no row.
+    #[inline]
     pub(crate) fn is_none(&self) -> bool
         ensures { IsTrue result → self.now ≡ 0 }
     {
@@ -58,6 +61,7 @@ impl Mask {
     }
 
     // The rows of this mask or another.
+    #[inline]
     pub(crate) fn or(&self, other: &Mask) -> Mask
         ensures { result ≡ bit_or self.now other.now }
     {
@@ -67,6 +71,7 @@ impl Mask {
     }
 
     // The rows of this mask and another.
+    #[inline]
     pub(crate) fn and(&self, other: &Mask) -> Mask
         ensures { result ≡ bit_and self.now other.now }
     {
@@ -76,6 +81,7 @@ impl Mask {
     }
 
     // The rows of one of this mask and another, and not of both.
+    #[inline]
     pub(crate) fn xor(&self, other: &Mask) -> Mask
         ensures { result ≡ bit_xor self.now other.now }
     {
@@ -85,12 +91,15 @@ impl Mask {
     }
 
     // How many rows it has.
+    #[inline]
     pub(crate) fn count(&self) -> u64
         ensures { result ≡ count_ones self.now }
     {
-        u64x8::from_array(self.lanes)
-            .count_ones()
-            .strict_reduce_sum()
+        let mut count = 0;
+        for lane in 0..LANES {
+            count += u64::from(self.lanes[lane].count_ones());
+        }
+        count
     }
 
     // The first row that it has.
@@ -104,4 +113,16 @@ impl Mask {
         }
         None
     }
+}
+
+// The mask of so many rows.
+pub(crate) fn mask_of_all(count: usize) -> Mask
+    requires { count ≤ 512 }
+    ensures { result ≡ mask_below (λ a. true) count }
+{
+    let mut mask = Mask::none();
+    for row in 0..count {
+        mask.set(row);
+    }
+    mask
 }

@@ -1,15 +1,16 @@
-ghost use Rattle.std.specs.Prelude.{◌≡◌, ◌≤◌, ◌<◌, ◌+◌, ◌-◌, ℕ, length, get_or, nat_lt, bit_and, bit_or, IfOk, IfSome};
+ghost use Rattle.std.specs.Prelude.{◌≡◌, ◌≤◌, ◌<◌, ◌+◌, ◌-◌, ℕ, length, get_or, nat_lt, IfOk};
 ghost use Rattle.snap_grid.specs.Masks.{mask_by};
 
 use crate::bounds::Bounds;
-use crate::mask::Mask;
+use crate::facing::Facing;
+use crate::mask::{Mask, mask_of_all};
 use std::alloc::{AllocError, Global};
 use std::marker::Model;
 
 // The mask of the numbers below x.
 #[cold]
 #[inline(never)]
-fn mask_under(numbers: &[u32], x: u64) -> Mask
+pub(crate) fn mask_under(numbers: &[u32], x: u64) -> Mask
     requires { length numbers.now ≤ 512 }
     ensures { result ≡ mask_by (λ n. nat_lt n x) numbers.now }
 {
@@ -57,7 +58,8 @@ fn fill(table: &mut [Mask], numbers: &[u32], least: u32)
 pub(crate) struct Masks<'c> {
     numbers: &'c [u32],
     bounds: Bounds,
-    // the masks of the numbers below each x from the least to one more than the greatest; nothing, where these are too far apart
+    // behind an empty mask those of the numbers below each x from the least to two more than the greatest; nothing, where these
+    // are too far apart
     under: Vec<Mask>,
     // the mask of all
     all: Mask,
@@ -85,14 +87,14 @@ impl<'c> Masks<'c> {
         let mut under = Vec::new(alloc);
         let spread = bounds.greatest.saturating_sub(bounds.least);
         if spread <= limit {
-            under = empty_masks(alloc, spread as usize + 2)?;
-            fill(&mut under, numbers, bounds.least);
+            under = empty_masks(alloc, spread as usize + 4)?;
+            fill(&mut under[1..], numbers, bounds.least);
         }
         Ok(Masks {
             numbers,
             bounds,
             under,
-            all: mask_under(numbers, u64::MAX),
+            all: mask_of_all(numbers.len()),
         })
     }
 
@@ -103,49 +105,21 @@ impl<'c> Masks<'c> {
         self.bounds
     }
 
-    // The mask of the numbers below x, where there is a table.
-    fn tabled(&self, x: u64) -> Option<&Mask>
-        ensures { IfSome result (λ mask. mask.now ≡ mask_by (λ n. nat_lt n x) self.now) }
+    // The masks against numbers of theirs.
+    pub(crate) fn facing<'m>(&'m self, theirs: &'c [u32]) -> Facing<'m, 'c>
+        ensures ours { result.ours.now ≡ self.now }
+        ensures theirs { result.theirs.now ≡ theirs.now }
     {
-        let size = self.under.len();
-        if size == 0 {
-            return None;
-        }
-        let place = x.saturating_sub(u64::from(self.bounds.least)) as usize;
-        Some(&self.under[place.min(size - 1)])
-    }
-
-    // The mask of the numbers below x.
-    fn under(&self, x: u64) -> Mask
-        ensures { result ≡ mask_by (λ n. nat_lt n x) self.now }
-    {
-        match self.tabled(x) {
-            Some(mask) => mask.copy(),
-            None => mask_under(self.numbers, x),
-        }
-    }
-
-    // What a mask has in common with that of the numbers below x.
-    pub(crate) fn and_under(&self, mask: &Mask, x: u64) -> Mask
-        ensures { result ≡ bit_and mask.now (mask_by (λ n. nat_lt n x) self.now) }
-    {
-        match self.tabled(x) {
-            Some(below) => mask.and(below),
-            None => mask.and(&mask_under(self.numbers, x)),
-        }
-    }
-
-    // A mask joined to that of the numbers below x.
-    pub(crate) fn or_under(&self, mask: &Mask, x: u64) -> Mask
-        ensures { result ≡ bit_or mask.now (mask_by (λ n. nat_lt n x) self.now) }
-    {
-        match self.tabled(x) {
-            Some(below) => mask.or(below),
-            None => mask.or(&mask_under(self.numbers, x)),
+        Facing {
+            ours: self.numbers,
+            bounds: self.bounds,
+            under: &self.under,
+            theirs,
         }
     }
 
     // The mask of the numbers below x, where it is mostly below all of them or above all.
+    #[inline]
     pub(crate) fn before(&self, x: u32) -> Mask
         ensures { result ≡ mask_by (λ n. nat_lt n x) self.now }
     {
@@ -153,8 +127,10 @@ impl<'c> Masks<'c> {
             Mask::none()
         } else if self.bounds.greatest < x {
             self.all.copy()
+        } else if self.under.is_empty() {
+            mask_under(self.numbers, u64::from(x))
         } else {
-            self.under(u64::from(x))
+            self.under[(x - self.bounds.least) as usize + 1].copy()
         }
     }
 }

@@ -1,12 +1,13 @@
-use Rattle.std.proofs.Common.{◌+◌, ◌<◌, ◌||◌, true, false, not, length, sym, ap, ◌∙◌, arith}
-use Rattle.std.specs.Prelude.{nat_lt}
+use Rattle.std.proofs.Common.{◌+◌, ◌<◌, ◌||◌, ◌≡◌, ℕ, not, length, sym, ap, ◌∙◌, arith}
+use Rattle.std.specs.Prelude.{true, false, nat_lt}
+use Rattle.std.proofs.lemmas.Bool.{eqb-true}
 use Rattle.std.proofs.lemmas.List.{take_all}
-use Rattle.snap_grid.specs.declared.block.Facing.{Facing}
+use Rattle.snap_grid.specs.declared.facing.Facing.{Facing}
 use Rattle.snap_grid.specs.Columns.{number}
 use Rattle.snap_grid.specs.Facing.{any_faces}
 use Rattle.snap_grid.specs.Masks.{mask_by, mask_below}
-use Rattle.snap_grid.proofs.Bits.{mask_others}
-use Rattle.snap_grid.proofs.Faces.{or_false, at_most_joined, less_joined, full_more, full_less}
+use Rattle.snap_grid.proofs.Bits.{mask_others, mask_below_same}
+use Rattle.snap_grid.proofs.Faces.{or_false, at_most_joined, less_joined, full_more, full_less, full_still, none_face}
 use Rattle.snap_grid.proofs.Lanes.{or_none}
 use Rattle.snap_grid.proofs.block.Against.passing.Goals as goal
 
@@ -18,57 +19,60 @@ loop-j-init c =
       less = c.all_if-less.ensures ∙ ap (λ z. mask_below (λ a. z) me.ours) (sym (or_false me.less));
     }
 
-pub offset_bounds-column-row : goal.offset_bounds-column-row
-offset_bounds-column-row c = record { fits = omega (arith, c.requires, c.args.self.now.facing.few_theirs) }
-
 pub loop-j-preserved : goal.loop-j-preserved
 loop-j-preserved c =
     let me = c.args.self.now in
-    let d = c.index-column.result.now in
+    let row = c.args.row in
     let j = c.loop-j.j in
-    let l : c.loop-j.j < length me.columns.items = omega (arith, c.loop-j-test.true, c.len-j-end.ensures, me.columns.ok) in
-    let ours = me.facing.ours j d l in
-    let x = c.from-x.ensures ∙ ap (λ (f : Facing). number f.theirs.now c.args.row) c.index-column.ensures in
+    let d = c.index.result.now in
+    let l : j < length me.near.items = omega (arith, c.loop-j-test.true, c.len-j-end.ensures, me.near.ok) in
     record {
-      at_most = c.and_under-at_most.ensures ∙ at_most_joined me.columns.items j c.args.row me.ours me.more d l ours c.loop-j.at_most (mask_by (λ n. nat_lt n (c.from-x.result + 1)) d.ours.now) (c.from-x.result + 1) (ap (λ z. z + 1) x) c.loop-j.invariant.at_most
-          (ap (λ (f : Facing). mask_by (λ n. nat_lt n (c.from-x.result + 1)) f.ours.now) c.index-column.ensures);
-      less = c.or_under-less.ensures ∙ less_joined me.columns.items j c.args.row me.ours me.less d l ours c.loop-j.less (mask_by (λ n. nat_lt n c.from-x.result) d.ours.now) c.from-x.result x c.loop-j.invariant.less
-          (ap (λ (f : Facing). mask_by (λ n. nat_lt n c.from-x.result) f.ours.now) c.index-column.ensures);
+      at_most = c.and-at_most.ensures ∙ at_most_joined me.near.items j row me.ours (λ a. me.more) d l (me.near_facing.ours j d l) c.loop-j.at_most c.around-around.result.at_most.now (number d.theirs.now row + 1) (ap (λ (f : Facing). number f.theirs.now row + 1) c.index.ensures) c.loop-j.invariant.at_most
+          (c.around-around.ensures.at_most ∙ ap (λ (f : Facing). mask_by (λ n. nat_lt n (number d.theirs.now row + 1)) f.ours.now) c.index.ensures);
+      less = c.or-less.ensures ∙ less_joined me.near.items j row me.ours (λ a. me.less) d l (me.near_facing.ours j d l) c.loop-j.less c.around-around.result.below.now (number d.theirs.now row) (ap (λ (f : Facing). number f.theirs.now row) c.index.ensures) c.loop-j.invariant.less
+          (c.around-around.ensures.below ∙ ap (λ (f : Facing). mask_by (λ n. nat_lt n (number d.theirs.now row)) f.ours.now) c.index.ensures);
     }
 
 pub returns-then-is_none-clause-more : goal.returns-then-is_none-clause-more
 returns-then-is_none-clause-more c =
     let me = c.args.self.now in
-    let d = c.index-column.result.now in
+    let row = c.args.row in
     let j = c.loop-j.j in
-    let l : c.loop-j.j < length me.columns.items = omega (arith, c.loop-j-test.true, c.len-j-end.ensures, me.columns.ok) in
-    let ours = me.facing.ours j d l in
-    let x = c.from-x.ensures ∙ ap (λ (f : Facing). number f.theirs.now c.args.row) c.index-column.ensures in
-    let none = or_none c.and_under-at_most.result c.xor.result (sym c.or.ensures ∙ c.is_none.ensures c.if-is_none.true) in
-    let at_most = c.and_under-at_most.ensures ∙ at_most_joined me.columns.items j c.args.row me.ours me.more d l ours c.loop-j.at_most (mask_by (λ n. nat_lt n (c.from-x.result + 1)) d.ours.now) (c.from-x.result + 1) (ap (λ z. z + 1) x) c.loop-j.invariant.at_most
-    (ap (λ (f : Facing). mask_by (λ n. nat_lt n (c.from-x.result + 1)) f.ours.now) c.index-column.ensures) in
-    c.copy.ensures ∙ full_more me.columns.items (j + 1) c.args.row me.ours me.all.now c.and_under-at_most.result 0 me.more me.facing.whole at_most none.0
+    let d = c.index.result.now in
+    let l : j < length me.near.items = omega (arith, c.loop-j-test.true, c.len-j-end.ensures, me.near.ok) in
+    let none = or_none c.and-at_most.result c.xor.result (sym c.or.ensures ∙ c.is_none.ensures c.if-is_none.true) in
+    let at_most = c.and-at_most.ensures ∙ at_most_joined me.near.items j row me.ours (λ a. me.more) d l (me.near_facing.ours j d l) c.loop-j.at_most c.around-around.result.at_most.now (number d.theirs.now row + 1) (ap (λ (f : Facing). number f.theirs.now row + 1) c.index.ensures) c.loop-j.invariant.at_most
+    (c.around-around.ensures.at_most ∙ ap (λ (f : Facing). mask_by (λ n. nat_lt n (number d.theirs.now row + 1)) f.ours.now) c.index.ensures) in
+    c.full.ensures.0 ∙ full_still (λ a. me.more || any_faces true me.near.items a row) (λ a. any_faces true me.far.items a row) me.ours me.all.now me.whole.whole (full_more me.near.items (j + 1) row me.ours me.all.now c.and-at_most.result 0 (λ a. me.more) me.whole.whole at_most none.0)
 
 pub returns-then-is_none-clause-less : goal.returns-then-is_none-clause-less
 returns-then-is_none-clause-less c =
     let me = c.args.self.now in
-    let d = c.index-column.result.now in
+    let row = c.args.row in
     let j = c.loop-j.j in
-    let l : c.loop-j.j < length me.columns.items = omega (arith, c.loop-j-test.true, c.len-j-end.ensures, me.columns.ok) in
-    let ours = me.facing.ours j d l in
-    let x = c.from-x.ensures ∙ ap (λ (f : Facing). number f.theirs.now c.args.row) c.index-column.ensures in
-    let none = or_none c.and_under-at_most.result c.xor.result (sym c.or.ensures ∙ c.is_none.ensures c.if-is_none.true) in
-    let less = c.or_under-less.ensures ∙ less_joined me.columns.items j c.args.row me.ours me.less d l ours c.loop-j.less (mask_by (λ n. nat_lt n c.from-x.result) d.ours.now) c.from-x.result x c.loop-j.invariant.less
-    (ap (λ (f : Facing). mask_by (λ n. nat_lt n c.from-x.result) f.ours.now) c.index-column.ensures) in
-    c.copy-then-is_none.ensures ∙ full_less me.columns.items (j + 1) c.args.row me.ours me.all.now 0 c.or_under-less.result me.less me.facing.whole less (sym c.xor.ensures ∙ none.1)
+    let d = c.index.result.now in
+    let l : j < length me.near.items = omega (arith, c.loop-j-test.true, c.len-j-end.ensures, me.near.ok) in
+    let none = or_none c.and-at_most.result c.xor.result (sym c.or.ensures ∙ c.is_none.ensures c.if-is_none.true) in
+    let less = c.or-less.ensures ∙ less_joined me.near.items j row me.ours (λ a. me.less) d l (me.near_facing.ours j d l) c.loop-j.less c.around-around.result.below.now (number d.theirs.now row) (ap (λ (f : Facing). number f.theirs.now row) c.index.ensures) c.loop-j.invariant.less
+    (c.around-around.ensures.below ∙ ap (λ (f : Facing). mask_by (λ n. nat_lt n (number d.theirs.now row)) f.ours.now) c.index.ensures) in
+    c.full.ensures.1 ∙ full_still (λ a. me.less || any_faces false me.near.items a row) (λ a. any_faces false me.far.items a row) me.ours me.all.now me.whole.whole (full_less me.near.items (j + 1) row me.ours me.all.now 0 c.or-less.result (λ a. me.less) me.whole.whole less (sym c.xor.ensures ∙ none.1))
 
-pub returns-clause-more : goal.returns-clause-more
-returns-clause-more c =
+pub returns-then-is_empty-clause-more : goal.returns-then-is_empty-clause-more
+returns-then-is_empty-clause-more c =
     let me = c.args.self.now in
-    c.xor-2.ensures ∙ mask_others (λ a. me.more || any_faces true me.columns.items a c.args.row) me.ours me.all.now c.loop-j.at_most me.facing.whole
-    (c.loop-j.invariant.at_most ∙ ap (λ z. mask_below (λ a. not (me.more || any_faces true z a c.args.row)) me.ours) (take_all c.loop-j.j me.columns.items (omega (arith, c.loop-j-test.false, c.len-j-end.ensures, me.columns.ok))))
+    let row = c.args.row in
+    c.xor-then-is_empty.ensures ∙ mask_others (λ a. me.more || any_faces true me.near.items a row) me.ours me.all.now c.loop-j.at_most me.whole.whole
+    (c.loop-j.invariant.at_most ∙ ap (λ z. mask_below (λ a. not (me.more || any_faces true z a row)) me.ours) (take_all c.loop-j.j me.near.items (omega (arith, c.loop-j-test.false, c.len-j-end.ensures, me.near.ok))))
+    ∙ none_face true me.far.items row me.ours (λ a. me.more || any_faces true me.near.items a row) (omega (arith, me.far.ok, eqb-true _ _ (sym c.is_empty.ensures ∙ c.if-is_empty.true)))
 
-pub returns-clause-less : goal.returns-clause-less
-returns-clause-less c =
+pub returns-then-is_empty-clause-less : goal.returns-then-is_empty-clause-less
+returns-then-is_empty-clause-less c =
     let me = c.args.self.now in
-    c.loop-j.invariant.less ∙ ap (λ z. mask_below (λ a. me.less || any_faces false z a c.args.row) me.ours) (take_all c.loop-j.j me.columns.items (omega (arith, c.loop-j-test.false, c.len-j-end.ensures, me.columns.ok)))
+    let row = c.args.row in
+    c.loop-j.invariant.less ∙ ap (λ z. mask_below (λ a. me.less || any_faces false z a row) me.ours) (take_all c.loop-j.j me.near.items (omega (arith, c.loop-j-test.false, c.len-j-end.ensures, me.near.ok)))
+    ∙ none_face false me.far.items row me.ours (λ a. me.less || any_faces false me.near.items a row) (omega (arith, me.far.ok, eqb-true _ _ (sym c.is_empty.ensures ∙ c.if-is_empty.true)))
+
+pub passing_far-requires-clause-less : goal.passing_far-requires-clause-less
+passing_far-requires-clause-less c =
+    let me = c.args.self.now in
+    c.copy-2.ensures ∙ c.loop-j.invariant.less ∙ ap (λ z. mask_below (λ a. me.less || any_faces false z a c.args.row) me.ours) (take_all c.loop-j.j me.near.items (omega (arith, c.loop-j-test.false, c.len-j-end.ensures, me.near.ok)))

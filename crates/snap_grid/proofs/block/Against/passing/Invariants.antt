@@ -1,10 +1,11 @@
-use Rattle.std.proofs.Common.{◌≡◌, ◌||◌, true, false, not, take}
+use Rattle.std.proofs.Common.{◌≡◌, ◌||◌, not, take}
+use Rattle.std.specs.Prelude.{true, false}
 use Rattle.snap_grid.specs.Facing.{any_faces}
 use Rattle.snap_grid.specs.Masks.{mask_below}
 use Rattle.snap_grid.proofs.block.Against.passing.Given as goal
 
 abbrev pub invariant-loop-j : goal.invariant-loop-j
 invariant-loop-j l = record {
-  at_most : l.at_most ≡ mask_below (λ a. not (l.self.more || any_faces true (take l.j l.self.columns.items) a l.row)) l.self.ours;
-  less : l.less ≡ mask_below (λ a. l.self.less || any_faces false (take l.j l.self.columns.items) a l.row) l.self.ours;
+  at_most : l.at_most ≡ mask_below (λ a. not (l.self.more || any_faces true (take l.j l.self.near.items) a l.row)) l.self.ours;
+  less : l.less ≡ mask_below (λ a. l.self.less || any_faces false (take l.j l.self.near.items) a l.row) l.self.ours;
 }

@@ -1,16 +1,20 @@
-use Rattle.std.proofs.Common.{◌≡◌, ◌+◌, ◌*◌, ◌<◌, ◌++◌, ◌∷◌, [], ℕ, true, false, length, sym, ap, ◌∙◌, arith}
-use Rattle.snap_grid.specs.declared.block.Facing.{Facing}
-use Rattle.snap_grid.proofs.Faces.{faces_pushed, faces_passed_over, ours_length, pushed}
+use Rattle.std.proofs.Common.{◌≡◌, ◌+◌, ◌*◌, ◌<◌, ◌||◌, ◌++◌, ◌∷◌, [], ℕ, length, get_or, sym, ap, ◌∙◌, arith}
+use Rattle.std.specs.Prelude.{true, false}
+use Rattle.std.proofs.lemmas.Bool.{eqb-false}
+use Rattle.snap_grid.specs.declared.facing.Facing.{Facing}
+use Rattle.snap_grid.specs.Columns.{any_passes}
+use Rattle.snap_grid.proofs.Faces.{far_pushed, near_pushed, faces_passed_over, ours_length, pushed}
 use Rattle.snap_grid.proofs.Passing.{any_none, none_passes, ours_at, theirs_at, theirs_count}
 use Rattle.snap_grid.proofs.block.Block.against.Goals as goal
-use Rattle.snap_grid.proofs.block.Block.against.Goals.{then-is_open+in_ok-push, else-is_open}
+use Rattle.snap_grid.proofs.block.Block.against.Goals.{then-is_open+then-is_empty+in_ok-push, then-is_open+else-is_empty+in_ok-push-2, else-is_open}
 
 pub loop-j-init : goal.loop-j-init
 loop-j-init c =
     let b = c.args.self.now in
-    rw c.new-columns.ensures.items (record {
-      ours = λ k column l. absurd (omega (arith, l));
-      theirs = λ k column l. absurd (omega (arith, l));
+    rw (c.new-near.ensures.items, c.new-far.ensures.items) (record {
+      tabled = λ k column l. absurd (omega (arith, l));
+      near = record { ours = λ k column l. absurd (omega (arith, l)); theirs = λ k column l. absurd (omega (arith, l)) };
+      far = record { ours = λ k column l. absurd (omega (arith, l)); theirs = λ k column l. absurd (omega (arith, l)) };
       more = λ h a i k l. sym (any_none true (b.from + a) (c.args.block * 512 + i));
       less = λ h a i k l. sym (any_none false (b.from + a) (c.args.block * 512 + i));
     })
@@ -19,24 +23,51 @@ pub loop-j-preserved : goal.loop-j-preserved
 loop-j-preserved c =
     let b = c.args.self.now in
     let j = c.loop-j.j in
+    let l = c.loop-j-test.true in
+    let before = c.loop-j.invariant in
     elim c.if-is_open.branch [
-      | then-is_open+in_ok-push w ↦
-          let new : Facing = record { ours = w.index-then-is_open.result; theirs = w.rows.result } in
-          let items : c.if-is_open.columns.items ≡ c.loop-j.columns.items ++ new ∷ [] = ap (λ v. v.items) w.columns-is ∙ w.in_ok-push.ensures.items in
-          rw items (record {
-            ours = pushed (λ (f : Facing). length f.ours.now ≡ b.count) c.loop-j.columns.items new c.loop-j.invariant.ours (ours_length b.columns.now b.masks.items b.from b.count b.all j w.index-then-is_open.result.now b.rows c.loop-j-test.true w.index-then-is_open.ensures);
-            theirs = pushed (λ (f : Facing). length f.theirs.now ≡ c.args.count) c.loop-j.columns.items new c.loop-j.invariant.theirs (theirs_count b.columns.now j c.args.block c.args.count w.rows.result.now w.index-self-j-then-is_open.result c.loop-j-test.true c.requires.rows w.rows.ensures);
-            more = λ h a i k l. faces_pushed true b.columns.now b.masks.items b.from b.count b.all j c.args.block c.args.count a i c.loop-j.columns.items new w.index-self-j-then-is_open.result b.rows c.loop-j-test.true c.requires.rows k l w.index-then-is_open.ensures w.rows.ensures (c.loop-j.invariant.more h a i k l);
-            less = λ h a i k l. faces_pushed false b.columns.now b.masks.items b.from b.count b.all j c.args.block c.args.count a i c.loop-j.columns.items new w.index-self-j-then-is_open.result b.rows c.loop-j-test.true c.requires.rows k l w.index-then-is_open.ensures w.rows.ensures (c.loop-j.invariant.less h a i k l);
+      | then-is_open+then-is_empty+in_ok-push w ↦
+          let new = w.facing-column.result in
+          let items : c.if-is_open.far.items ≡ c.loop-j.far.items ++ new ∷ [] = ap (λ v. v.items) w.far-is ∙ w.in_ok-push.ensures.items in
+          let near : c.if-is_open.near.items ≡ c.loop-j.near.items = ap (λ v. v.items) w.near-is in
+          let ours = w.facing-column.ensures.ours ∙ w.index-then-is_open.ensures ∙ ap (get_or b.masks.items j) (sym w.facing-column.ensures.ours) in
+          let theirs = w.facing-column.ensures.theirs ∙ w.rows-theirs.ensures in
+          rw (items, near) (record {
+            tabled = before.tabled;
+            near = before.near;
+            far = record {
+              ours = pushed (λ (f : Facing). length f.ours.now ≡ b.count) c.loop-j.far.items new before.far.ours (ours_length b.columns.now b.masks.items b.from b.count b.all j new.ours.now b.rows l ours);
+              theirs = pushed (λ (f : Facing). length f.theirs.now ≡ c.args.count) c.loop-j.far.items new before.far.theirs (theirs_count b.columns.now j c.args.block c.args.count new.theirs.now w.index-self-j-then-is_open.result l c.requires.rows theirs);
+            };
+            more = λ h a i k m. far_pushed true b.columns.now b.masks.items b.from b.count b.all j c.args.block c.args.count a i c.loop-j.near.items c.loop-j.far.items new w.index-self-j-then-is_open.result b.rows l c.requires.rows k m ours theirs (before.more h a i k m);
+            less = λ h a i k m. far_pushed false b.columns.now b.masks.items b.from b.count b.all j c.args.block c.args.count a i c.loop-j.near.items c.loop-j.far.items new w.index-self-j-then-is_open.result b.rows l c.requires.rows k m ours theirs (before.less h a i k m);
+          })
+      | then-is_open+else-is_empty+in_ok-push-2 w ↦
+          let new = w.facing-column.result in
+          let items : c.if-is_open.near.items ≡ c.loop-j.near.items ++ new ∷ [] = ap (λ v. v.items) w.near-is ∙ w.in_ok-push-2.ensures.items in
+          let far : c.if-is_open.far.items ≡ c.loop-j.far.items = ap (λ v. v.items) w.far-is in
+          let ours = w.facing-column.ensures.ours ∙ w.index-then-is_open.ensures ∙ ap (get_or b.masks.items j) (sym w.facing-column.ensures.ours) in
+          let theirs = w.facing-column.ensures.theirs ∙ w.rows-theirs.ensures in
+          rw (items, far) (record {
+            tabled = pushed (λ (f : Facing). 0 < length f.under.now) c.loop-j.near.items new before.tabled (omega (arith, eqb-false _ _ (sym w.is_empty.ensures ∙ w.if-is_empty.false)));
+            near = record {
+              ours = pushed (λ (f : Facing). length f.ours.now ≡ b.count) c.loop-j.near.items new before.near.ours (ours_length b.columns.now b.masks.items b.from b.count b.all j new.ours.now b.rows l ours);
+              theirs = pushed (λ (f : Facing). length f.theirs.now ≡ c.args.count) c.loop-j.near.items new before.near.theirs (theirs_count b.columns.now j c.args.block c.args.count new.theirs.now w.index-self-j-then-is_open.result l c.requires.rows theirs);
+            };
+            far = before.far;
+            more = λ h a i k m. near_pushed true b.columns.now b.masks.items b.from b.count b.all j c.args.block c.args.count a i c.loop-j.near.items c.loop-j.far.items new w.index-self-j-then-is_open.result b.rows l c.requires.rows k m ours theirs (before.more h a i k m);
+            less = λ h a i k m. near_pushed false b.columns.now b.masks.items b.from b.count b.all j c.args.block c.args.count a i c.loop-j.near.items c.loop-j.far.items new w.index-self-j-then-is_open.result b.rows l c.requires.rows k m ours theirs (before.less h a i k m);
           })
       | else-is_open w ↦
-          let items : c.if-is_open.columns.items ≡ c.loop-j.columns.items = ap (λ v. v.items) w.columns-is in
-          let ours = λ (a : ℕ) (k : a < b.count). ours_at b.columns.now b.masks.items b.from b.count b.all j a c.index.result.now c.bounds-ours.result b.rows c.loop-j-test.true c.index.ensures c.bounds-ours.ensures k in
-          let theirs = λ (i : ℕ) (l : i < c.args.count). theirs_at b.columns.now j c.args.block (c.args.block * 512 + i) c.index-self-j.result c.bounds-theirs.result c.loop-j-test.true c.bounds-theirs.ensures (omega arith) (omega (arith, l, c.requires.few)) (λ x y. omega (arith, l, c.requires.rows x y)) in
-          rw items (record {
-            ours = c.loop-j.invariant.ours;
-            theirs = c.loop-j.invariant.theirs;
-            more = λ h a i k l. faces_passed_over true b.columns.now j (b.from + a) (c.args.block * 512 + i) a i c.loop-j.columns.items c.loop-j-test.true (none_passes true _ _ c.bounds-ours.result c.bounds-theirs.result (ours a k) (theirs i l) (c.is_open.ensures.more w.if-is_open.false h)) (c.loop-j.invariant.more h a i k l);
-            less = λ h a i k l. faces_passed_over false b.columns.now j (b.from + a) (c.args.block * 512 + i) a i c.loop-j.columns.items c.loop-j-test.true (none_passes false _ _ c.bounds-ours.result c.bounds-theirs.result (ours a k) (theirs i l) (c.is_open.ensures.less w.if-is_open.false h)) (c.loop-j.invariant.less h a i k l);
+          let near : c.if-is_open.near.items ≡ c.loop-j.near.items = ap (λ v. v.items) w.near-is in
+          let far : c.if-is_open.far.items ≡ c.loop-j.far.items = ap (λ v. v.items) w.far-is in
+          let ours = λ (a : ℕ) (k : a < b.count). ours_at b.columns.now b.masks.items b.from b.count b.all j a c.index.result.now c.bounds-ours.result b.rows l c.index.ensures c.bounds-ours.ensures k in
+          let theirs = λ (i : ℕ) (m : i < c.args.count). theirs_at b.columns.now j c.args.block (c.args.block * 512 + i) c.index-self-j.result c.bounds-theirs.result l c.bounds-theirs.ensures (omega arith) (omega (arith, m, c.requires.few)) (λ x y. omega (arith, m, c.requires.rows x y)) in
+          rw (near, far) (record {
+            tabled = before.tabled;
+            near = before.near;
+            far = before.far;
+            more = λ h a i k m. faces_passed_over true b.columns.now j (b.from + a) (c.args.block * 512 + i) _ l (none_passes true _ _ c.bounds-ours.result c.bounds-theirs.result (ours a k) (theirs i m) (c.is_open.ensures.more w.if-is_open.false h)) (before.more h a i k m);
+            less = λ h a i k m. faces_passed_over false b.columns.now j (b.from + a) (c.args.block * 512 + i) _ l (none_passes false _ _ c.bounds-ours.result c.bounds-theirs.result (ours a k) (theirs i m) (c.is_open.ensures.less w.if-is_open.false h)) (before.less h a i k m);
           })
     ]

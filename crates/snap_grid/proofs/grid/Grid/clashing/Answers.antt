@@ -2,7 +2,7 @@ use Rattle.std.proofs.Common.{◌≡◌, ◌≤◌, ◌+◌, ◌*◌, ◌<◌, �
 use Rattle.std.specs.Prelude.{true, false, nat_lt, bit_and, bit_or, take, drop}
 use Rattle.snap_grid.specs.Columns.{GridValue, HaveSameRows, number, any_passes, clashes, drops}
 use Rattle.snap_grid.specs.Masks.{mask_by, mask_below}
-use Rattle.snap_grid.specs.Facing.{any_faces}
+use Rattle.snap_grid.specs.Facing.{faces}
 use Rattle.snap_grid.proofs.Bits.{mask_below_same}
 use Rattle.snap_grid.proofs.Clashing.{drop_lane, few_ones, few_pairs, lane, with_more, with_none, with_nothing}
 use Rattle.snap_grid.proofs.grid.Grid.clashing.Goals as goal
@@ -55,8 +55,8 @@ overflow_add-found c =
     let same = subst (λ (g : GridValue). HaveSameRows g.columns g.begins g.ends) c.self.view_is c.self.invariant in
     let begins = c.as_slice-begins.ensures.value ∙ ap (λ (g : GridValue). g.begins) c.self.view_is in
     let against = c.in_ok-against.against in
-    let more = faced (λ a. against.more || any_faces true against.columns.items a c.loop-i.i) (λ a. any_passes true b.columns.now (b.from + a) s) b.count against.ours _ c.passing-passing.ensures.more c.in_ok-against.ensures.rows.0 (λ a l. c.in_ok-against.ensures.more a c.loop-i.i l c.loop-i-test.true) in
-    let less = faced (λ a. against.less || any_faces false against.columns.items a c.loop-i.i) (λ a. any_passes false b.columns.now (b.from + a) s) b.count against.ours _ c.passing-passing.ensures.less c.in_ok-against.ensures.rows.0 (λ a l. c.in_ok-against.ensures.less a c.loop-i.i l c.loop-i-test.true) in
+    let more = faced (λ a. faces true against.more against.near.items against.far.items a c.loop-i.i) (λ a. any_passes true b.columns.now (b.from + a) s) b.count against.ours _ c.passing-passing.ensures.more c.in_ok-against.ensures.rows.0 (λ a l. c.in_ok-against.ensures.more a c.loop-i.i l c.loop-i-test.true) in
+    let less = faced (λ a. faces false against.less against.near.items against.far.items a c.loop-i.i) (λ a. any_passes false b.columns.now (b.from + a) s) b.count against.ours _ c.passing-passing.ensures.less c.in_ok-against.ensures.rows.0 (λ a l. c.in_ok-against.ensures.less a c.loop-i.i l c.loop-i-test.true) in
     let mask = c.and-mask.ensures ∙ ap (bit_and c.passing-passing.result.more) c.or.ensures ∙ here g b.columns.now b.from b.count s _ _ _ c.as_slice-begins.result.now c.args.ends.now same c.requires.columns c.requires.within c.requires.ends begins more less c.before-before.ensures in
     record { fits = omega (arith, c.loop-i.invariant.small, c.loop-i-test.true, c.requires.few, c.count-found.ensures, b.rows.few, few_ones (λ a. clashes g (b.from + a) s) b.count c.and-mask.result mask) }
 
@@ -68,7 +68,7 @@ overflow_add-drops c =
     let same = subst (λ (g : GridValue). HaveSameRows g.columns g.begins g.ends) c.self.view_is c.self.invariant in
     let begins = c.as_slice-begins.ensures.value ∙ ap (λ (g : GridValue). g.begins) c.self.view_is in
     let against = c.in_ok-against.against in
-    let more = faced (λ a. against.more || any_faces true against.columns.items a c.loop-i.i) (λ a. any_passes true b.columns.now (b.from + a) s) b.count against.ours _ c.passing-passing.ensures.more c.in_ok-against.ensures.rows.0 (λ a l. c.in_ok-against.ensures.more a c.loop-i.i l c.loop-i-test.true) in
+    let more = faced (λ a. faces true against.more against.near.items against.far.items a c.loop-i.i) (λ a. any_passes true b.columns.now (b.from + a) s) b.count against.ours _ c.passing-passing.ensures.more c.in_ok-against.ensures.rows.0 (λ a l. c.in_ok-against.ensures.more a c.loop-i.i l c.loop-i-test.true) in
     let dropping = c.and-dropping.ensures ∙ dropping_here g b.columns.now b.from b.count s _ _ c.as_slice-begins.result.now c.args.ends.now same c.requires.columns c.requires.within c.requires.ends begins more c.before-before.ensures in
     let few = few_pairs (drops g) b.from b.count (c.args.block * 512) c.loop-i.i c.loop-i.drops b.rows.few c.loop-i.invariant.found.drops in
     record { fits = omega (arith, few, c.loop-i-test.true, c.requires.few, c.count-drops.ensures, b.rows.few, few_ones (λ a. drops g (b.from + a) s) b.count c.and-dropping.result dropping) }
@@ -81,8 +81,8 @@ loop-i-preserved c =
     let same = subst (λ (g : GridValue). HaveSameRows g.columns g.begins g.ends) c.self.view_is c.self.invariant in
     let begins = c.as_slice-begins.ensures.value ∙ ap (λ (g : GridValue). g.begins) c.self.view_is in
     let against = c.in_ok-against.against in
-    let more = faced (λ a. against.more || any_faces true against.columns.items a c.loop-i.i) (λ a. any_passes true b.columns.now (b.from + a) s) b.count against.ours _ c.passing-passing.ensures.more c.in_ok-against.ensures.rows.0 (λ a l. c.in_ok-against.ensures.more a c.loop-i.i l c.loop-i-test.true) in
-    let less = faced (λ a. against.less || any_faces false against.columns.items a c.loop-i.i) (λ a. any_passes false b.columns.now (b.from + a) s) b.count against.ours _ c.passing-passing.ensures.less c.in_ok-against.ensures.rows.0 (λ a l. c.in_ok-against.ensures.less a c.loop-i.i l c.loop-i-test.true) in
+    let more = faced (λ a. faces true against.more against.near.items against.far.items a c.loop-i.i) (λ a. any_passes true b.columns.now (b.from + a) s) b.count against.ours _ c.passing-passing.ensures.more c.in_ok-against.ensures.rows.0 (λ a l. c.in_ok-against.ensures.more a c.loop-i.i l c.loop-i-test.true) in
+    let less = faced (λ a. faces false against.less against.near.items against.far.items a c.loop-i.i) (λ a. any_passes false b.columns.now (b.from + a) s) b.count against.ours _ c.passing-passing.ensures.less c.in_ok-against.ensures.rows.0 (λ a l. c.in_ok-against.ensures.less a c.loop-i.i l c.loop-i-test.true) in
     let mask = c.and-mask.ensures ∙ ap (bit_and c.passing-passing.result.more) c.or.ensures ∙ here g b.columns.now b.from b.count s _ _ _ c.as_slice-begins.result.now c.args.ends.now same c.requires.columns c.requires.within c.requires.ends begins more less c.before-before.ensures in
     let dropping = c.and-dropping.ensures ∙ dropping_here g b.columns.now b.from b.count s _ _ c.as_slice-begins.result.now c.args.ends.now same c.requires.columns c.requires.within c.requires.ends begins more c.before-before.ensures in
     record {

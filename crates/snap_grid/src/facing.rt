@@ -1,0 +1,63 @@
+ghost use Rattle.std.specs.Prelude.{◌≡◌, ◌≤◌, ◌<◌, ◌+◌, ℕ, length, get_or, nat_lt};
+ghost use Rattle.snap_grid.specs.Columns.{number};
+ghost use Rattle.snap_grid.specs.Masks.{mask_by};
+ghost use Rattle.snap_grid.specs.Tables.{AreUnder};
+
+use crate::bounds::Bounds;
+use crate::mask::Mask;
+use crate::masks::mask_under;
+
+// A column whose bounds do not tell all of our rows and of a block of theirs.
+#[derive(Drop)]
+pub(crate) struct Facing<'b, 'g> {
+    pub(crate) ours: &'g [u32],
+    pub(crate) bounds: Bounds,
+    // the table of our masks, if there is one
+    pub(crate) under: &'b [Mask],
+    pub(crate) theirs: &'g [u32],
+    ghost tables: { AreUnder ours.now bounds under.now },
+}
+
+// The masks of our numbers below one of theirs, and of those that are at most that.
+#[derive(Drop)]
+pub(crate) struct Around<'b> {
+    pub(crate) below: &'b Mask,
+    pub(crate) at_most: &'b Mask,
+}
+
+impl<'b, 'g> Facing<'b, 'g> {
+    // The masks around a number of theirs, which stand side by side in the table.
+    #[inline]
+    pub(crate) fn around(&self, row: usize) -> Around<'b>
+        requires tabled { 0 < length self.now.under.now }
+        requires row { row < length self.now.theirs.now }
+        ensures below { result.below.now ≡ mask_by (λ n. nat_lt n (number self.now.theirs.now row)) self.now.ours.now }
+        ensures at_most { result.at_most.now ≡ mask_by (λ n. nat_lt n (number self.now.theirs.now row + 1)) self.now.ours.now }
+    {
+        let x = u64::from(self.theirs[row]) + 1;
+        let behind = x.saturating_sub(u64::from(self.bounds.least)) as usize;
+        let place = behind.min(self.under.len() - 2);
+        Around {
+            below: &self.under[place],
+            at_most: &self.under[place + 1],
+        }
+    }
+
+    // The mask of our numbers below one of theirs, where there is no table.
+    pub(crate) fn below(&self, row: usize) -> Mask
+        requires few { length self.now.ours.now ≤ 512 }
+        requires row { row < length self.now.theirs.now }
+        ensures { result ≡ mask_by (λ n. nat_lt n (number self.now.theirs.now row)) self.now.ours.now }
+    {
+        mask_under(self.ours, u64::from(self.theirs[row]))
+    }
+
+    // The mask of our numbers that are at most one of theirs, where there is no table.
+    pub(crate) fn at_most(&self, row: usize) -> Mask
+        requires few { length self.now.ours.now ≤ 512 }
+        requires row { row < length self.now.theirs.now }
+        ensures { result ≡ mask_by (λ n. nat_lt n (number self.now.theirs.now row + 1)) self.now.ours.now }
+    {
+        mask_under(self.ours, u64::from(self.theirs[row]) + 1)
+    }
+}
