@@ -145,12 +145,3 @@ full_still p r n all whole e = mask_from_bits (λ a. p a || r a) n all
 pub none_face : (more : Bool) (columns : List Facing) (row n : ℕ) (p : ℕ → Bool) → length columns ≡ 0 → mask_below p n ≡ mask_below (λ a. p a || any_faces more columns a row) n
 none_face more [] row n p e = mask_below_same p (λ a. p a || any_faces more [] a row) n (λ a l. sym (or_false (p a)))
 none_face more (column ∷ columns) row n p e = absurd (omega (arith, e))
-
-pub pushed : (P : Facing → Type 0) (columns : List Facing) (new : Facing) → ((k : ℕ) (column : Facing) → k < length columns → P (get_or columns k column)) → P new →
-    (k : ℕ) (column : Facing) → k < length (columns ++ new ∷ []) → P (get_or (columns ++ new ∷ []) k column)
-pushed P columns new h g k column l = elim (cases_lt k (length columns)) [
-  | inl m ↦ subst P (sym (get_or_append_left columns (new ∷ []) column k m)) (h k column m)
-  | inr m ↦
-      let same : k ≡ length columns = omega (arith, l, m, length-append columns (new ∷ [])) in
-      subst (λ k. P (get_or (columns ++ new ∷ []) k column)) (sym same) (subst P (sym (get_or-append_seam columns new [] column)) g)
-]

@@ -3,3 +3,5 @@ pub mod Lanes
 pub mod Passing
 pub mod Clashing
 pub mod Faces
+pub mod Joining
+pub mod Kindred

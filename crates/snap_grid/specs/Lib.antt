@@ -2,5 +2,6 @@ pub mod Columns
 pub mod Masks
 pub mod Tables
 pub mod Kept
+pub mod Kinds
 pub mod Facing
 pub mod Clashes

@@ -1,4 +1,4 @@
-ghost use Rattle.std.specs.Prelude.{◌≡◌, ◌≤◌, ◌<◌, ◌+◌, ◌*◌, ◌-◌, ◌||◌, true, false, not, [], Bool, ℕ, cond, length, get_or, nat_lt, IsTrue, IfOk};
+ghost use Rattle.std.specs.Prelude.{◌≡◌, ◌≤◌, ◌<◌, ◌+◌, ◌*◌, ◌-◌, ◌&&◌, ◌||◌, true, false, not, [], Bool, ℕ, cond, length, get_or, nat_lt, IsTrue, IfOk};
 ghost use Rattle.snap_grid.specs.Columns.{any_passes};
 ghost use Rattle.snap_grid.specs.Masks.{mask_below};
 ghost use Rattle.snap_grid.specs.Kept.{AreRows, HaveRows};
@@ -115,6 +115,19 @@ impl<'b, 'g> Against<'b, 'g> {
             };
         }
         self.passing_far(row, &at_most.copy(), &less.copy())
+    }
+
+    // Which of our rows clash with a row of theirs, where each of ours ends before it begins, or none does.
+    #[inline]
+    pub(crate) fn clashing(&self, row: usize, apart: bool) -> Mask
+        requires { row < self.now.theirs }
+        ensures { result ≡ mask_below (λ a. faces true self.now.more self.now.near.items self.now.far.items a row && (apart || faces false self.now.less self.now.near.items self.now.far.items a row)) self.now.ours }
+    {
+        let passing = self.passing(row);
+        if apart {
+            return passing.more;
+        }
+        passing.more.and(&passing.less)
     }
 
     // The same, where the columns with a table have been looked at.

@@ -57,6 +57,15 @@ impl Column {
         self.bounds[block]
     }
 
+    // The number of a row.
+    #[inline]
+    pub(crate) fn number(&self, row: usize) -> u32
+        requires { row < length self.now }
+        ensures { result ≡ get_or self.now row 0 }
+    {
+        self.numbers[row]
+    }
+
     // The numbers of some rows.
     pub(crate) fn rows(&self, from: usize, to: usize) -> &[u32]
         requires order { from ≤ to }

@@ -1,11 +1,13 @@
-ghost use Rattle.std.specs.Prelude.{◌≡◌, ◌≤◌, ◌<◌, ◌+◌, ◌*◌, ◌-◌, ℕ, Bool, [], length, get_or, take, drop, sum_by, count_by, find, IfOk, IsTrue};
+ghost use Rattle.std.specs.Prelude.{◌≡◌, ◌≤◌, ◌<◌, ◌+◌, ◌*◌, ◌-◌, true, false, ℕ, Bool, [], length, get_or, min, nat_lt, take, drop, sum_by, count_by, find, IfOk, IsTrue};
 ghost use Rattle.std.specs.List.{range_with_len, list_any};
-ghost use Rattle.snap_grid.specs.Columns.{GridValue, clashes, clash_count, drop_count, has_clash, HaveSameRows};
+ghost use Rattle.snap_grid.specs.Columns.{GridValue, any_passes, clashes, number, clash_count, drop_count, has_clash, HaveSameRows};
+ghost use Rattle.snap_grid.specs.Facing.{faces};
 ghost use Rattle.snap_grid.specs.Masks.{mask_below};
 ghost use Rattle.snap_grid.specs.Clashes.{AreApart, ClashesWith};
 
-use crate::block::Block;
+use crate::block::{Against, Block};
 use crate::column::Column;
+use crate::kinds::Kinds;
 use crate::mask::{Mask, WIDTH};
 use crate::masks::Masks;
 use std::alloc::{AllocError, Global};
@@ -18,18 +20,21 @@ const PLACES: u32 = 65536;
 #[derive(Drop)]
 pub struct Grid {
     columns: Vec<Column>,
-    begins: Vec<u32>,
+    begins: Column,
     ends: Vec<u32>,
+    // of each block of rows
+    kinds: Vec<Kinds>,
 }
 
 impl Model for Grid {
-    ghost use Rattle.snap_grid.specs.Columns.{GridValue, HaveSameRows};
+    ghost use Rattle.snap_grid.specs.Columns.{GridValue};
+    ghost use Rattle.snap_grid.specs.Kinds.{IsGrid};
 
     ghost Value = { GridValue };
 
-    ghost view = { λ g. record { columns = g.columns.items; begins = g.begins.items; ends = g.ends.items } };
+    ghost view = { λ g. record { columns = g.columns.items; begins = g.begins; ends = g.ends.items } };
 
-    ghost invariant = { λ g. HaveSameRows g.columns.items g.begins.items g.ends.items };
+    ghost invariant = { λ g. IsGrid g.columns.items g.begins g.ends.items g.kinds.items };
 }
 
 /// How many clashes there are, how many drops, and the first row that has a clash.
@@ -57,30 +62,31 @@ fn first_row(from: usize, rows: &Mask) -> Option<usize>
     Some(from + first)
 }
 
-// Whether the numbers from one place to before another are at most another number.
-fn are_at_most(numbers: &[u32], from: usize, to: usize, greatest: u32) -> bool
-    requires { to ≤ length numbers.now }
-    ensures { IsTrue result → (i : ℕ) → from ≤ i → i < to → get_or numbers.now i 0 ≤ greatest }
-{
-    for i in from..to {
-        if numbers[i] > greatest {
-            return false;
-        }
-    }
-    true
-}
-
 impl Grid {
-    /// The grid of these columns and rows.
-    pub fn new(columns: Vec<Column>, begins: Vec<u32>, ends: Vec<u32>) -> Grid
+    /// The grid of these columns and rows. The error is want of memory.
+    pub fn new(
+        alloc: Global,
+        columns: Vec<Column>,
+        begins: Vec<u32>,
+        ends: Vec<u32>,
+    ) -> Result<Grid, AllocError>
         requires { HaveSameRows columns.items begins.items ends.items }
-        ensures { result ≡ record { columns = columns.items; begins = begins.items; ends = ends.items } }
+        ensures { IfOk result (λ grid. grid ≡ record { columns = columns.items; begins = begins.items; ends = ends.items }) }
     {
-        Grid {
+        let mut kinds: Vec<Kinds> = Vec::new(alloc);
+        let mut start = 0;
+        while start < ends.len() {
+            let count = (ends.len() - start).min(WIDTH);
+            kinds.push(Kinds::of(alloc, &columns, start, count)?)?;
+            start += WIDTH;
+        }
+        let begins = Column::new(alloc, begins, 0)?;
+        Ok(Grid {
             columns,
             begins,
             ends,
-        }
+            kinds,
+        })
     }
 
     // Whether bounds alone tell that none of our rows, which end there, clashes with one of a block of rows, or drops to it: none
@@ -94,15 +100,51 @@ impl Grid {
         requires rows { block * 512 + count ≤ length self.now.begins }
         ensures { IsTrue result → AreApart self.now ours.now.from ours.now.count (block * 512) count }
     {
-        let begins = self.begins.as_slice();
+        let begins = self.begins.bounds(block);
         if ours.none_pass(true, block) {
             return true;
         }
         if !ours.none_pass(false, block) {
             return false;
         }
-        let first = block * WIDTH;
-        are_at_most(begins, first, first + count, ends.bounds().least)
+        if begins.greatest > ends.bounds().least {
+            return false;
+        }
+        true
+    }
+
+    // Our rows against the kinds of a block, where each of ours ends before each of theirs begins, or none before any.
+    fn kinds_clashing(
+        &self,
+        ours: &Block<'_>,
+        against: &Against<'_, '_>,
+        block: usize,
+        count: usize,
+        apart: bool,
+    ) -> Clashing
+        requires columns { ours.now.columns.now ≡ self.now.columns }
+        requires some { 0 < count }
+        requires whole { count ≡ min 512 (length self.now.begins - block * 512) }
+        requires rows { (against.now.ours ≡ ours.now.count) × (against.now.theirs ≡ count) }
+        requires more { (a i : ℕ) → a < ours.now.count → i < count → faces true against.now.more against.now.near.items against.now.far.items a i ≡ any_passes true ours.now.columns.now (ours.now.from + a) (block * 512 + i) }
+        requires less { (a i : ℕ) → a < ours.now.count → i < count → faces false against.now.less against.now.near.items against.now.far.items a i ≡ any_passes false ours.now.columns.now (ours.now.from + a) (block * 512 + i) }
+        requires apart { (a i : ℕ) → a < ours.now.count → i < count → nat_lt (number self.now.ends (ours.now.from + a)) (number self.now.begins (block * 512 + i)) ≡ apart }
+        ensures { ClashesWith self.now ours.now.from ours.now.count (block * 512) count result }
+    {
+        let kinds = self.kinds[block].all();
+        let mut found = 0;
+        let mut rows = Mask::none();
+        for k in 0..kinds.len() {
+            let kind = kinds[k];
+            let mask = against.clashing(usize::from(kind.row), apart);
+            found += u64::from(kind.times) * mask.count();
+            rows = rows.or(&mask);
+        }
+        Clashing {
+            count: found,
+            drops: if apart { found } else { 0 },
+            rows,
+        }
     }
 
     // Our rows, which end there, against a block of rows.
@@ -118,10 +160,10 @@ impl Grid {
         requires ends { ends.now ≡ take ours.now.count (drop ours.now.from self.now.ends) }
         requires within { ours.now.from + ours.now.count ≤ length self.now.begins }
         requires some { 0 < count }
-        requires few { count ≤ 512 }
-        requires rows { block * 512 + count ≤ length self.now.begins }
+        requires whole { count ≡ min 512 (length self.now.begins - block * 512) }
         ensures { IfOk result (ClashesWith self.now ours.now.from ours.now.count (block * 512) count) }
     {
+        let begins = self.begins.bounds(block);
         if self.are_apart(ours, ends, block, count) {
             return Ok(Clashing {
                 count: 0,
@@ -129,13 +171,18 @@ impl Grid {
                 rows: Mask::none(),
             });
         }
-        let begins = self.begins.as_slice();
         let against = ours.against(alloc, block, count)?;
+        if begins.greatest <= ends.bounds().least {
+            return Ok(self.kinds_clashing(ours, &against, block, count, false));
+        }
+        if ends.bounds().greatest < begins.least {
+            return Ok(self.kinds_clashing(ours, &against, block, count, true));
+        }
         let mut found = 0;
         let mut drops = 0;
         let mut rows = Mask::none();
         for i in 0..count {
-            let before = ends.before(begins[block * WIDTH + i]);
+            let before = ends.before(self.begins.number(block * WIDTH + i));
             let passing = against.passing(i);
             let mask = passing.more.and(&passing.less.or(&before));
             let dropping = passing.more.and(&before);
@@ -165,7 +212,7 @@ impl Grid {
         ensures few_drops { IfOk result (λ c. c.drops ≤ count * 65536) }
         ensures rows { IfOk result (λ c. c.rows ≡ mask_below (λ a. has_clash self.now (from + a)) count) }
     {
-        let all = self.begins.len();
+        let all = self.ends.len();
         let ours = Block::of(alloc, &self.columns, from, count)?;
         let ends = Masks::of(alloc, &self.ends[from..from + count], PLACES)?;
         let mut found = 0;
@@ -200,7 +247,7 @@ impl Grid {
         ensures first { IfOk result (λ c. c.first ≡ find (has_clash self.now) (range_with_len from (to - from))) }
     {
         // that there are few rows
-        let _rows = self.begins.len();
+        let _rows = self.ends.len();
         let mut count = 0;
         let mut drops = 0;
         let mut first = None;

@@ -6,6 +6,8 @@ mod bounds;
 mod column;
 mod facing;
 mod grid;
+mod kind;
+mod kinds;
 mod mask;
 mod masks;
 #[cfg(test)]

@@ -40,7 +40,7 @@ fn grid_of(
         Column::new(alloc, first, limit)?,
         Column::new(alloc, second, limit)?,
     ]?;
-    Ok(Grid::new(columns, begins, ends))
+    Grid::new(alloc, columns, begins, ends)
 }
 
 // Of a grid whose rows all have the number 0 in the second column, and each end before the next begins: row a clashes with

@@ -3,7 +3,8 @@ use Rattle.std.specs.Prelude.{true, false}
 use Rattle.std.proofs.lemmas.Bool.{eqb-false}
 use Rattle.snap_grid.specs.declared.facing.Facing.{Facing}
 use Rattle.snap_grid.specs.Columns.{any_passes}
-use Rattle.snap_grid.proofs.Faces.{far_pushed, near_pushed, faces_passed_over, ours_length, pushed}
+use Rattle.snap_grid.proofs.Faces.{far_pushed, near_pushed, faces_passed_over, ours_length}
+use Rattle.snap_grid.proofs.Joining.{pushed}
 use Rattle.snap_grid.proofs.Passing.{any_none, none_passes, ours_at, theirs_at, theirs_count}
 use Rattle.snap_grid.proofs.block.Block.against.Goals as goal
 use Rattle.snap_grid.proofs.block.Block.against.Goals.{then-is_open+then-is_empty+in_ok-push, then-is_open+else-is_empty+in_ok-push-2, else-is_open}

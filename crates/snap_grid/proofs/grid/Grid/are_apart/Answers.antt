@@ -11,7 +11,7 @@ have_rows g columns n same e l = subst (λ z. HaveRows z n) (sym e) (λ j m. ome
 
 pub none_pass-requires : goal.none_pass-requires
 none_pass-requires c = λ j m.
-    let same = subst (λ (g : GridValue). HaveSameRows g.columns g.begins g.ends) c.self.view_is c.self.invariant in
+    let same = subst (λ (g : GridValue). HaveSameRows g.columns g.begins g.ends) c.self.view_is c.self.invariant.same in
     omega (arith, have_rows c.args.self.now c.args.ours.now.columns.now (c.args.block * 512 + c.args.count) same c.requires.columns c.requires.rows j m, c.requires.some)
 
 pub returns-then-none_pass : goal.returns-then-none_pass
@@ -19,13 +19,13 @@ returns-then-none_pass c = λ _ a i k l.
     let g = c.args.self.now in
     let b = c.args.ours.now in
     let s = c.args.block * 512 + i in
-    let same = subst (λ (g : GridValue). HaveSameRows g.columns g.begins g.ends) c.self.view_is c.self.invariant in
+    let same = subst (λ (g : GridValue). HaveSameRows g.columns g.begins g.ends) c.self.view_is c.self.invariant.same in
     let rows = have_rows g b.columns.now (s + 1) same c.requires.columns (omega (arith, l, c.requires.rows)) in
     apart_by_more g (b.from + a) s (ap (λ z. any_passes true z (b.from + a) s) (sym c.requires.columns) ∙ c.none_pass.ensures c.if-none_pass.true a s k (omega arith) (omega (arith, l, c.requires.few)) rows)
 
 pub none_pass-requires-2 : goal.none_pass-requires-2
 none_pass-requires-2 c = λ j m.
-    let same = subst (λ (g : GridValue). HaveSameRows g.columns g.begins g.ends) c.self.view_is c.self.invariant in
+    let same = subst (λ (g : GridValue). HaveSameRows g.columns g.begins g.ends) c.self.view_is c.self.invariant.same in
     omega (arith, have_rows c.args.self.now c.args.ours.now.columns.now (c.args.block * 512 + c.args.count) same c.requires.columns c.requires.rows j m, c.requires.some)
 
 pub returns : goal.returns
@@ -33,12 +33,13 @@ returns c = λ soon a i k l.
     let g = c.args.self.now in
     let b = c.args.ours.now in
     let s = c.args.block * 512 + i in
-    let same = subst (λ (g : GridValue). HaveSameRows g.columns g.begins g.ends) c.self.view_is c.self.invariant in
+    let same = subst (λ (g : GridValue). HaveSameRows g.columns g.begins g.ends) c.self.view_is c.self.invariant.same in
     let rows = have_rows g b.columns.now (s + 1) same c.requires.columns (omega (arith, l, c.requires.rows)) in
-    let size = ap length c.requires.ends ∙ row_count g.ends b.from b.count (omega (arith, same.ended, c.requires.within)) in
+    let ended = ap length c.requires.ends ∙ row_count g.ends b.from b.count (omega (arith, same.ended, c.requires.within)) in
     let end = ap (λ z. get_or z a 0) c.requires.ends ∙ row_at g.ends b.from b.count a k in
-    let least = (c.bounds.ensures a (omega (arith, k, size))).0 in
-    let begins = ap (λ z. get_or z s 0) (c.as_slice-begins.ensures.value ∙ ap (λ (g : GridValue). g.begins) c.self.view_is) in
-    let begin = c.are_at_most.ensures soon s (omega arith) (omega (arith, l)) in
+    let least = (c.bounds.ensures a (omega (arith, k, ended))).0 in
+    let begins = ap (λ (g : GridValue). get_or g.begins s 0) c.self.view_is in
+    let size = ap (λ (g : GridValue). length g.begins) c.self.view_is in
+    let begin = (c.bounds-begins.ensures s (omega arith) (omega (arith, l, c.requires.few)) (omega (arith, l, c.requires.rows, size))).1 in
     apart_by_less g (b.from + a) s (ap (λ z. any_passes false z (b.from + a) s) (sym c.requires.columns) ∙ c.none_pass-2.ensures c.if-not-none_pass.false a s k (omega arith) (omega (arith, l, c.requires.few)) rows)
-    (le-ltb _ _ (omega (arith, end, least, begins, begin)))
+    (le-ltb _ _ (omega (arith, end, least, begins, begin, c.if-begins-bounds.false)))

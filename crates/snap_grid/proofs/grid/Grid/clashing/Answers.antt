@@ -3,7 +3,9 @@ use Rattle.std.specs.Prelude.{true, false, nat_lt, bit_and, bit_or, take, drop}
 use Rattle.snap_grid.specs.Columns.{GridValue, HaveSameRows, number, any_passes, clashes, drops}
 use Rattle.snap_grid.specs.Masks.{mask_by, mask_below}
 use Rattle.snap_grid.specs.Facing.{faces}
+use Rattle.std.proofs.lemmas.Bool.{lt-ltb, le-ltb}
 use Rattle.snap_grid.proofs.Bits.{mask_below_same}
+use Rattle.snap_grid.proofs.Passing.{row_at, row_count}
 use Rattle.snap_grid.proofs.Clashing.{drop_lane, few_ones, few_pairs, lane, with_more, with_none, with_nothing}
 use Rattle.snap_grid.proofs.grid.Grid.clashing.Goals as goal
 
@@ -12,13 +14,13 @@ returns-then-are_apart c = rw c.none.ensures (with_nothing c.args.self.now c.arg
 
 pub against-requires-clause-rows : goal.against-requires-clause-rows
 against-requires-clause-rows c =
-    let same = subst (λ (g : GridValue). HaveSameRows g.columns g.begins g.ends) c.self.view_is c.self.invariant in
-    rw c.requires.columns (λ j l. omega (arith, same.each j l, c.requires.rows))
+    let same = subst (λ (g : GridValue). HaveSameRows g.columns g.begins g.ends) c.self.view_is c.self.invariant.same in
+    rw c.requires.columns (λ j l. omega (arith, same.each j l, c.requires.whole, c.requires.some))
 
 pub against-requires-clause-small : goal.against-requires-clause-small
 against-requires-clause-small c =
-    let same = subst (λ (g : GridValue). HaveSameRows g.columns g.begins g.ends) c.self.view_is c.self.invariant in
-    omega (arith, same.few, c.requires.rows, c.requires.some)
+    let same = subst (λ (g : GridValue). HaveSameRows g.columns g.begins g.ends) c.self.view_is c.self.invariant.same in
+    omega (arith, same.few, c.requires.whole, c.requires.some)
 
 pub loop-i-init : goal.loop-i-init
 loop-i-init c = rw c.none-rows.ensures (record { small = omega arith; found = with_none c.args.self.now c.args.ours.now.from c.args.ours.now.count (c.args.block * 512) })
@@ -52,41 +54,61 @@ overflow_add-found c =
     let g = c.args.self.now in
     let b = c.args.ours.now in
     let s = c.args.block * 512 + c.loop-i.i in
-    let same = subst (λ (g : GridValue). HaveSameRows g.columns g.begins g.ends) c.self.view_is c.self.invariant in
-    let begins = c.as_slice-begins.ensures.value ∙ ap (λ (g : GridValue). g.begins) c.self.view_is in
+    let same = subst (λ (g : GridValue). HaveSameRows g.columns g.begins g.ends) c.self.view_is c.self.invariant.same in
+    let begins = ap (λ (g : GridValue). g.begins) c.self.view_is in
+    let before = c.before-before.ensures ∙ ap (λ z. mask_by (λ x. nat_lt x z) c.args.ends.now) c.number.ensures in
     let against = c.in_ok-against.against in
     let more = faced (λ a. faces true against.more against.near.items against.far.items a c.loop-i.i) (λ a. any_passes true b.columns.now (b.from + a) s) b.count against.ours _ c.passing-passing.ensures.more c.in_ok-against.ensures.rows.0 (λ a l. c.in_ok-against.ensures.more a c.loop-i.i l c.loop-i-test.true) in
     let less = faced (λ a. faces false against.less against.near.items against.far.items a c.loop-i.i) (λ a. any_passes false b.columns.now (b.from + a) s) b.count against.ours _ c.passing-passing.ensures.less c.in_ok-against.ensures.rows.0 (λ a l. c.in_ok-against.ensures.less a c.loop-i.i l c.loop-i-test.true) in
-    let mask = c.and-mask.ensures ∙ ap (bit_and c.passing-passing.result.more) c.or.ensures ∙ here g b.columns.now b.from b.count s _ _ _ c.as_slice-begins.result.now c.args.ends.now same c.requires.columns c.requires.within c.requires.ends begins more less c.before-before.ensures in
-    record { fits = omega (arith, c.loop-i.invariant.small, c.loop-i-test.true, c.requires.few, c.count-found.ensures, b.rows.few, few_ones (λ a. clashes g (b.from + a) s) b.count c.and-mask.result mask) }
+    let mask = c.and-mask.ensures ∙ ap (bit_and c.passing-passing.result.more) c.or.ensures ∙ here g b.columns.now b.from b.count s _ _ _ c.self.inside.begins c.args.ends.now same c.requires.columns c.requires.within c.requires.ends begins more less before in
+    record { fits = omega (arith, c.loop-i.invariant.small, c.loop-i-test.true, c.requires.whole, c.count-found.ensures, b.rows.few, few_ones (λ a. clashes g (b.from + a) s) b.count c.and-mask.result mask) }
 
 pub overflow_add-drops : goal.overflow_add-drops
 overflow_add-drops c =
     let g = c.args.self.now in
     let b = c.args.ours.now in
     let s = c.args.block * 512 + c.loop-i.i in
-    let same = subst (λ (g : GridValue). HaveSameRows g.columns g.begins g.ends) c.self.view_is c.self.invariant in
-    let begins = c.as_slice-begins.ensures.value ∙ ap (λ (g : GridValue). g.begins) c.self.view_is in
+    let same = subst (λ (g : GridValue). HaveSameRows g.columns g.begins g.ends) c.self.view_is c.self.invariant.same in
+    let begins = ap (λ (g : GridValue). g.begins) c.self.view_is in
+    let before = c.before-before.ensures ∙ ap (λ z. mask_by (λ x. nat_lt x z) c.args.ends.now) c.number.ensures in
     let against = c.in_ok-against.against in
     let more = faced (λ a. faces true against.more against.near.items against.far.items a c.loop-i.i) (λ a. any_passes true b.columns.now (b.from + a) s) b.count against.ours _ c.passing-passing.ensures.more c.in_ok-against.ensures.rows.0 (λ a l. c.in_ok-against.ensures.more a c.loop-i.i l c.loop-i-test.true) in
-    let dropping = c.and-dropping.ensures ∙ dropping_here g b.columns.now b.from b.count s _ _ c.as_slice-begins.result.now c.args.ends.now same c.requires.columns c.requires.within c.requires.ends begins more c.before-before.ensures in
+    let dropping = c.and-dropping.ensures ∙ dropping_here g b.columns.now b.from b.count s _ _ c.self.inside.begins c.args.ends.now same c.requires.columns c.requires.within c.requires.ends begins more before in
     let few = few_pairs (drops g) b.from b.count (c.args.block * 512) c.loop-i.i c.loop-i.drops b.rows.few c.loop-i.invariant.found.drops in
-    record { fits = omega (arith, few, c.loop-i-test.true, c.requires.few, c.count-drops.ensures, b.rows.few, few_ones (λ a. drops g (b.from + a) s) b.count c.and-dropping.result dropping) }
+    record { fits = omega (arith, few, c.loop-i-test.true, c.requires.whole, c.count-drops.ensures, b.rows.few, few_ones (λ a. drops g (b.from + a) s) b.count c.and-dropping.result dropping) }
 
 pub loop-i-preserved : goal.loop-i-preserved
 loop-i-preserved c =
     let g = c.args.self.now in
     let b = c.args.ours.now in
     let s = c.args.block * 512 + c.loop-i.i in
-    let same = subst (λ (g : GridValue). HaveSameRows g.columns g.begins g.ends) c.self.view_is c.self.invariant in
-    let begins = c.as_slice-begins.ensures.value ∙ ap (λ (g : GridValue). g.begins) c.self.view_is in
+    let same = subst (λ (g : GridValue). HaveSameRows g.columns g.begins g.ends) c.self.view_is c.self.invariant.same in
+    let begins = ap (λ (g : GridValue). g.begins) c.self.view_is in
+    let before = c.before-before.ensures ∙ ap (λ z. mask_by (λ x. nat_lt x z) c.args.ends.now) c.number.ensures in
     let against = c.in_ok-against.against in
     let more = faced (λ a. faces true against.more against.near.items against.far.items a c.loop-i.i) (λ a. any_passes true b.columns.now (b.from + a) s) b.count against.ours _ c.passing-passing.ensures.more c.in_ok-against.ensures.rows.0 (λ a l. c.in_ok-against.ensures.more a c.loop-i.i l c.loop-i-test.true) in
     let less = faced (λ a. faces false against.less against.near.items against.far.items a c.loop-i.i) (λ a. any_passes false b.columns.now (b.from + a) s) b.count against.ours _ c.passing-passing.ensures.less c.in_ok-against.ensures.rows.0 (λ a l. c.in_ok-against.ensures.less a c.loop-i.i l c.loop-i-test.true) in
-    let mask = c.and-mask.ensures ∙ ap (bit_and c.passing-passing.result.more) c.or.ensures ∙ here g b.columns.now b.from b.count s _ _ _ c.as_slice-begins.result.now c.args.ends.now same c.requires.columns c.requires.within c.requires.ends begins more less c.before-before.ensures in
-    let dropping = c.and-dropping.ensures ∙ dropping_here g b.columns.now b.from b.count s _ _ c.as_slice-begins.result.now c.args.ends.now same c.requires.columns c.requires.within c.requires.ends begins more c.before-before.ensures in
+    let mask = c.and-mask.ensures ∙ ap (bit_and c.passing-passing.result.more) c.or.ensures ∙ here g b.columns.now b.from b.count s _ _ _ c.self.inside.begins c.args.ends.now same c.requires.columns c.requires.within c.requires.ends begins more less before in
+    let dropping = c.and-dropping.ensures ∙ dropping_here g b.columns.now b.from b.count s _ _ c.self.inside.begins c.args.ends.now same c.requires.columns c.requires.within c.requires.ends begins more before in
     record {
       small = omega (arith, c.loop-i.invariant.small, c.count-found.ensures, b.rows.few, few_ones (λ a. clashes g (b.from + a) s) b.count c.and-mask.result mask);
       found = with_more g b.from b.count (c.args.block * 512) c.loop-i.i c.loop-i.found c.loop-i.drops c.loop-i.rows c.and-mask.result c.and-dropping.result _ _ c.or-rows.result mask dropping
           (ap (λ z. c.loop-i.found + z) c.count-found.ensures) (ap (λ z. c.loop-i.drops + z) c.count-drops.ensures) c.or-rows.ensures c.loop-i.invariant.found;
     }
+
+-- an end of ours and a begin of theirs, by their bounds
+end_at : (g : GridValue) (from n a : ℕ) (ends : List ℕ) → ends ≡ take n (drop from g.ends) → a < n → get_or ends a 0 ≡ number g.ends (from + a)
+end_at g from n a ends e l = ap (λ z. get_or z a 0) e ∙ row_at g.ends from n a l
+
+pub kinds_clashing-requires-then-bounds-begins-clause-apart : goal.kinds_clashing-requires-then-bounds-begins-clause-apart
+kinds_clashing-requires-then-bounds-begins-clause-apart c = λ a i k l.
+    let g = c.args.self.now in
+    let b = c.args.ours.now in
+    let s = c.args.block * 512 + i in
+    let same = subst (λ (g : GridValue). HaveSameRows g.columns g.begins g.ends) c.self.view_is c.self.invariant.same in
+    let size = ap (λ (g : GridValue). length g.begins) c.self.view_is in
+    let begins = ap (λ (g : GridValue). get_or g.begins s 0) c.self.view_is in
+    let begin = (c.bounds-begins.ensures s (omega arith) (omega (arith, l, c.requires.whole)) (omega (arith, l, c.requires.whole, size))).0 in
+    let count = ap length c.requires.ends ∙ row_count g.ends b.from b.count (omega (arith, same.ended, c.requires.within)) in
+    let end = (c.bounds-2.ensures a (omega (arith, k, count))).1 in
+    lt-ltb _ _ (omega (arith, begins, begin, end, end_at g b.from b.count a c.args.ends.now c.requires.ends k, c.if-bounds-begins.true))
