@@ -100,7 +100,7 @@ impl<'i, 'h> ViewGrid<'i, 'h> {
         let (begins, ends) = places_of(alloc, index)?;
         Ok(ViewGrid {
             index,
-            grid: Grid::new(columns, begins, ends),
+            grid: Grid::new(alloc, columns, begins, ends)?,
         })
     }
 

@@ -11,4 +11,4 @@ new-requires c = record {
 }
 
 pub invariant_of-result : goal.invariant_of-result
-invariant_of-result c = is_grid c.args.index.now c.event_count-events.ensures.kept c.new.result _ _ _ c.new.ensures c.in_ok-columns.ensures c.in_ok-begins.ensures
+invariant_of-result c = is_grid c.args.index.now c.event_count-events.ensures.kept _ _ _ _ c.in_ok-new.ensures c.in_ok-columns.ensures c.in_ok-begins.ensures
