@@ -11,7 +11,7 @@ use crate::mask::{Mask, WIDTH, mask_of_all};
 use crate::masks::Masks;
 use std::alloc::{AllocError, Global};
 
-// After so many columns it is tested whether the next ones can still tell something.
+// After so many columns it is tested whether those that are left can still tell something.
 const COLUMNS_A_TEST: usize = 8;
 
 // Whether each of our numbers is greater than each of theirs, or less.
@@ -90,7 +90,7 @@ impl<'b, 'g> Against<'b, 'g> {
     }
 
     // Which of our rows pass a row of theirs.
-    #[inline]
+    #[inline(always)]
     pub(crate) fn passing(&self, row: usize) -> Passing
         requires { row < self.now.theirs }
         ensures more { result.more ≡ mask_below (λ a. faces true self.now.more self.now.near.items self.now.far.items a row) self.now.ours }
@@ -98,13 +98,17 @@ impl<'b, 'g> Against<'b, 'g> {
     {
         let mut at_most = self.all_if(!self.more);
         let mut less = self.all_if(self.less);
-        for j in 0..self.near.len() {
-            let around = self.near[j].around(row);
-            at_most = at_most.and(around.at_most);
-            less = less.or(around.below);
-            if j % COLUMNS_A_TEST == COLUMNS_A_TEST - 1
-                && at_most.or(&less.xor(self.all)).is_none()
-            {
+        let columns = self.near.len();
+        let mut done = 0;
+        while done < columns {
+            let end = columns.min(done + COLUMNS_A_TEST);
+            for j in done..end {
+                let around = self.near[j].around(row);
+                at_most = at_most.and(around.at_most);
+                less = less.or(around.below);
+            }
+            done = end;
+            if done < columns && at_most.or(&less.xor(self.all)).is_none() {
                 return self.full();
             }
         }

@@ -154,3 +154,36 @@ fn crossed_rows_clash_both_ways_and_drop_only_to_later_ones(rt: HostRuntime) -> 
     }
     Ok(())
 }
+
+#[test]
+fn equal_rows_are_counted_each_where_they_overlap_or_follow_one_another(
+    rt: HostRuntime,
+) -> Result<(), Fail> {
+    let alloc = rt.alloc();
+    for (apart, count, drops, row) in [(false, 12, 0, Some(1)), (true, 17, 11, Some(0))] {
+        let first = runs(alloc, &[(1, 2), (3, 1), (2, 0)])?;
+        let second = runs(alloc, &[(1, 2), (3, 0), (2, 1)])?;
+        assert!(rt; first.len() == 6);
+        let grid = grid_of(&rt, alloc, first, second, 2, apart)?;
+        let found = grid.clashes(alloc, 0, 6)?;
+        assert_eq!(rt; found.count, count);
+        assert_eq!(rt; found.drops, drops);
+        assert_eq!(rt; found.first, row);
+    }
+    Ok(())
+}
+
+#[test]
+fn equal_rows_of_a_later_block_are_counted_each(rt: HostRuntime) -> Result<(), Fail> {
+    expect_falls(
+        &rt,
+        rt.alloc(),
+        &[(512, 7), (500, 3), (12, 9)],
+        9,
+        &[
+            (0, 1024, 256000, Some(0)),
+            (511, 1024, 500, Some(511)),
+            (512, 1024, 0, None),
+        ],
+    )
+}

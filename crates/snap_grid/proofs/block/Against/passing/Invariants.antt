@@ -1,8 +1,18 @@
-use Rattle.std.proofs.Common.{◌≡◌, ◌||◌, not, take}
+use Rattle.std.proofs.Common.{◌≡◌, ◌≤◌, ◌-◌, ◌||◌, length, not, take}
 use Rattle.std.specs.Prelude.{true, false}
 use Rattle.snap_grid.specs.Facing.{any_faces}
 use Rattle.snap_grid.specs.Masks.{mask_below}
 use Rattle.snap_grid.proofs.block.Against.passing.Given as goal
+
+abbrev pub invariant-loop-done : goal.invariant-loop-done
+invariant-loop-done l = record {
+  within : l.done ≤ length l.self.near.items;
+  at_most : l.at_most ≡ mask_below (λ a. not (l.self.more || any_faces true (take l.done l.self.near.items) a l.row)) l.self.ours;
+  less : l.less ≡ mask_below (λ a. l.self.less || any_faces false (take l.done l.self.near.items) a l.row) l.self.ours;
+}
+
+abbrev pub decreases-loop-done : goal.decreases-loop-done
+decreases-loop-done l = length l.self.near.items - l.done
 
 abbrev pub invariant-loop-j : goal.invariant-loop-j
 invariant-loop-j l = record {
