@@ -59,7 +59,7 @@ fn workers_argument<'a>(alloc: Global) -> Arg<'a>
     Arg::new(alloc, "workers")
         .long("workers")
         .value_name("W")
-        .help("How many threads work on the board, from 2 to 8")
+        .help("How many threads work on the board, each with a word of its own")
         .value_parser(clap::value_parser!(u32).range(WORKER_START..WORKER_END))
         .default_value("2")
 }

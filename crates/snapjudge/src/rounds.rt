@@ -27,7 +27,7 @@ fn plan_of(alloc: Global, workers: u32, rounds: u32, scan: bool) -> Result<Plan,
 }
 
 /// Records `LEAST_WORKERS` to `WORKER_LIMIT` workers of a plan in so many rounds of a store and a view each, or a scan in
-/// place of the view, and judges with 8 pieces and 2 workers where that is asked for. Otherwise as `record_run`.
+/// place of the view, and judges with the usual cutting where that is asked for. Otherwise as `record_run`.
 pub fn record_rounds<Rt: Threads + Wait + Sync, W: Write>(
     rt: &Rt,
     alloc: Global,
@@ -41,11 +41,16 @@ pub fn record_rounds<Rt: Threads + Wait + Sync, W: Write>(
     ensures wrote { WroteAs (IsRecorded judge (rounds_scripts scan workers rounds)) (W.contents (inner_of writer.old)) (W.contents (inner_of writer.new)) result }
     ensures counts { WriteCounts (failures_in writer.old) (failures_in writer.new) result }
 {
-    let Ok(cutting) = Cutting::new(8, 2) else {
-        unreachable!()
-    };
     let plan = plan_of(alloc, workers, rounds, scan)?;
-    record_run(rt, alloc, &plan, judge, writer, cutting, &Pace::of(workers))
+    record_run(
+        rt,
+        alloc,
+        &plan,
+        judge,
+        writer,
+        Cutting::usual(),
+        &Pace::of(workers),
+    )
 }
 
 /// Records the same rounds, and writes their history with stamps, as `record_run_stamped`.
