@@ -48,7 +48,9 @@ fn places_of(
 // Mixes a column's numbers into the places of its rows.
 fn mix(places: &mut [u32], numbers: &[u32]) {
     for i in 0..places.len().min(numbers.len()) {
-        places[i] = (places[i] ^ numbers[i]).wrapping_mul(0x9E37_79B1).rotate_left(15);
+        places[i] = (places[i] ^ numbers[i])
+            .wrapping_mul(0x9E37_79B1)
+            .rotate_left(15);
     }
 }
 
@@ -111,7 +113,9 @@ fn kinds_of(
     for row in 0..count {
         let place = places.get(row).map_or(0, |place| *place) as usize % PLACES;
         let known = usize::from(last[place]);
-        if known < kinds.len() && are_alike(columns, from + usize::from(kinds[known].row), from + row) {
+        if known < kinds.len()
+            && are_alike(columns, from + usize::from(kinds[known].row), from + row)
+        {
             let kind = kinds[known];
             kinds[known] = Kind {
                 row: kind.row,

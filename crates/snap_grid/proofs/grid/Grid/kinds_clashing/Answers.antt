@@ -47,8 +47,15 @@ module _ (g : GridValue) (from n first m k times count mask : ℕ) (apart : Bool
 
   found_few : (found : ℕ) → found ≡ sum_of_kinds (λ b. count_by (λ a. tells g.columns apart (from + a) b) (range_with_len 0 n)) first (take k kinds) → found + times * count ≤ 262144
   found_few found f =
-      omega (arith, f, adds, sum_by_more_le each kinds k kind l, sum_told g.columns from n first m apart kinds h, few_theirs,
-        sum_small (λ b. count_by (λ a. tells g.columns apart (from + a) b) (range_with_len 0 n)) 512 (λ b. omega (arith, few, count_by-le-length (λ a. tells g.columns apart (from + a) b) (range_with_len 0 n), length-range_with_len 0 n)) m first)
+      omega (
+        arith,
+        f,
+        adds,
+        sum_by_more_le each kinds k kind l,
+        sum_told g.columns from n first m apart kinds h,
+        few_theirs,
+        sum_small (λ b. count_by (λ a. tells g.columns apart (from + a) b) (range_with_len 0 n)) 512 (λ b. omega (arith, few, count_by-le-length (λ a. tells g.columns apart (from + a) b) (range_with_len 0 n), length-range_with_len 0 n)) m first,
+      )
 
   rows_more : (rows new : ℕ) → new ≡ bit_or rows mask → rows ≡ mask_below (λ a. list_any (λ kind. tells g.columns apart (from + a) (first + kind.row)) (take k kinds)) n →
       new ≡ mask_below (λ a. list_any (λ kind. tells g.columns apart (from + a) (first + kind.row)) (take (k + 1) kinds)) n

@@ -13,7 +13,7 @@ pub returns-then-self-x : goal.returns-then-self-x
 returns-then-self-x c =
     let numbers = c.self.inside.numbers.now in
     rw (← c.self.view_is) (c.copy.ensures ∙ c.self.invariant.whole ∙ mask_below_same (λ a. true) (λ a. nat_lt (get_or numbers a 0) c.args.x) (length numbers) (λ a l. sym (lt-ltb _ _ (omega (arith, (c.self.invariant.tabled.bounded a l).1, c.if-self-x.true))))
-        ∙ sym (mask_places (λ n. nat_lt n c.args.x) numbers (length numbers) refl))
+    ∙ sym (mask_places (λ n. nat_lt n c.args.x) numbers (length numbers) refl))
 
 pub returns-else-is_empty : goal.returns-else-is_empty
 returns-else-is_empty c =
