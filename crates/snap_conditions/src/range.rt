@@ -15,20 +15,13 @@ use crate::seen::view_at;
 use crate::stale::stale_beside;
 use crate::tally::{Tally, merge};
 use crate::write::write_part;
-use snap_core::COMPONENT_COUNT;
 use snap_index::Index;
 
-// One more than the highest component that has an update, or 0.
+// A component from which on no component has an update.
 fn component_limit(index: &Index<'_>) -> usize
     ensures { IsLimit (calls_of index.now) result }
 {
-    let mut limit = 0;
-    for k in 0..COMPONENT_COUNT {
-        if index.update_count(k as u8) > 0 {
-            limit = k + 1;
-        }
-    }
-    limit
+    index.update_limit()
 }
 
 // The faults of the view at a place but for its read faults and stale views, where no component from a limit on has an update.

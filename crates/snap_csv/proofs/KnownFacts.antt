@@ -1,5 +1,5 @@
 -- Entries and their text, cut at a space.
-use Rattle.std.proofs.Common.{◌≡◌, ◌<◌, ◌≤◌, ◌==◌, ◌+◌, ◌++◌, ◌⊎◌, inl, inr, not, suc, get_or, drop-cons, ℕ, Bool, true, false, List, [], ◌∷◌, length, map, take, drop, append-nil, Option, Some, None, refl, sym, ap, ◌∙◌, subst, arith}
+use Rattle.std.proofs.Common.{◌≡◌, ◌<◌, ◌≤◌, ◌==◌, ◌+◌, ◌++◌, inl, inr, suc, get_or, drop-cons, ℕ, Bool, true, false, List, [], ◌∷◌, length, map, take, drop, append-nil, Option, Some, None, refl, sym, ap, ◌∙◌, subst, arith}
 use Rattle.std.specs.Prelude.{count_by, option_and_then, option_map}
 use Rattle.std.specs.List.{All}
 use Rattle.std.specs.List.{join_with_byte, onto_first, starts_with}
@@ -115,31 +115,27 @@ text_at text at lt is =
 pub cut_place : (es : List Entry) (text : List ℕ) (at : ℕ) → AreSpelled es text → at < length text → get_or text at 0 ≡ 32 → AreCut es (take at text) (drop (at + 1) text)
 cut_place es text at h lt is = cut_spelled es (take at text) (drop (at + 1) text) (subst (AreSpelled es) (text_at text at lt is) h)
 
--- a text that is the front of the text of some entries, up to a space or all of it
+-- a text that is the front of the text of some entries, up to a space
 pub record IsFront (es : List Entry) (text : List ℕ) : Type 0 where
   pub within : spaces_in text + 1 ≤ length es
   pub then : EntriesThen (take (spaces_in text + 1) es) [] text
 
-front_then : (es : List Entry) (text : List ℕ) → spaces_in text + 1 ≤ length es → AreSpelled (take (spaces_in text + 1) es) text → IsFront es text
-front_then es text within h =
-    let some : 0 < length (take (spaces_in text + 1) es) = omega (arith, length-take (spaces_in text + 1) es) in
-    record { within = within; then = spelled_then (take (spaces_in text + 1) es) text [] text h some (sym (append-nil text)) tt }
+spelled_alone : (es : List Entry) (text : List ℕ) → AreSpelled es text → 0 < length es → EntriesThen es [] text
+spelled_alone es text h some = spelled_then es text [] text h some (sym (append-nil text)) tt
 
-pub front_of : (es : List Entry) (left old : List ℕ) (same : ℕ) → AreSpelled es old → 0 < same → length left ≤ same → same ≤ length old → same ≤ length left
-    → take same left ≡ take same old → (length old ≤ same) ⊎ ((same < length old) × (get_or old same 0 ≡ 32)) → IsFront es left
-front_of es left old same h some long within fits alike end = go end
-  where
-    all : left ≡ take same old
-    all = sym (take_all same left long) ∙ alike
+pub front_of : (es : List Entry) (left old : List ℕ) (same : ℕ) → AreSpelled es old → left ≡ take same old → same < length old → get_or old same 0 ≡ 32 → IsFront es left
+front_of es left old same h all lt space =
+    let cut : AreCut es left (drop (same + 1) old) = subst (λ (t : List ℕ). AreCut es t (drop (same + 1) old)) (sym all) (cut_place es old same h lt space) in
+    record {
+      within = cut.within;
+      then = spelled_alone (take (spaces_in left + 1) es) left cut.front_is (omega (arith, cut.within, length-take (spaces_in left + 1) es));
+    }
 
-    go : (length old ≤ same) ⊎ ((same < length old) × (get_or old same 0 ≡ 32)) → IsFront es left
-    go (inl le) =
-        let is : AreSpelled es left = subst (AreSpelled es) (sym (all ∙ take_all same old le)) h in
-        let count : spaces_in left + 1 ≡ length es = count_spelled es left is (omega arith) in
-        front_then es left (omega arith) (subst (λ (ds : List Entry). AreSpelled ds left) (sym (take_all (spaces_in left + 1) es (omega arith))) is)
-    go (inr space) =
-        let cut : AreCut es left (drop (same + 1) old) = subst (λ (t : List ℕ). AreCut es t (drop (same + 1) old)) (sym all) (cut_place es old same h space.0 space.1) in
-        front_then es left cut.within cut.front_is
+-- or all of it
+pub all_of_known : (es : List Entry) (left old : List ℕ) (same : ℕ) → AreSpelled es old → 0 < length old → left ≡ take same old → same ≡ length old → EntriesThen es [] left
+all_of_known es left old same h some all whole =
+    let is : AreSpelled es left = subst (AreSpelled es) (sym (all ∙ take_all same old (omega arith))) h in
+    spelled_alone es left is (omega (arith, count_spelled es old h some))
 
 -- a text that begins with the front of another, cut at a space
 pub front_added : (es : List Entry) (left old : List ℕ) (same at : ℕ) → AreSpelled es (take at old) → 0 < length es → take same left ≡ take same old → same ≤ length left → same ≤ length old
@@ -151,7 +147,3 @@ front_added es left old same at h some alike within fits lt space =
 pub front_read : (old new : List Entry) (rest left text : List ℕ) → AddsFront old new rest left → AreRead old left text → AreRead new rest text
 front_read old new rest left text (inl none) h = rw (none.0, none.1) h
 front_read old new rest left text (inr (es, added, then)) h = rw added (some_read old es left text 32 rest h then)
-
-pub not_not : (b : Bool) → not b ≡ false → b ≡ true
-not_not true e = refl
-not_not false e = absurd cc

@@ -1,10 +1,9 @@
 -- What a text begins with.
-use Rattle.std.specs.Prelude.{◌≡◌, ◌<◌, ◌^◌, ◌⊎◌, ◌++◌, ℕ, List, [], ◌∷◌, length, map, None, decimal}
+use Rattle.std.specs.Prelude.{◌≡◌, ◌<◌, ◌^◌, ◌⊎◌, ◌++◌, ℕ, List, [], ◌∷◌, length, decimal}
 use Rattle.std.specs.List.{All}
 use Rattle.snap_core.specs.declared.entry.Entry.{Entry}
 use Rattle.snap_core.specs.Entries.{EntryFits}
 use Rattle.snap_csv.specs.Spelling.{entries_text, entry_text}
-use Rattle.snap_csv.specs.Fields.{all_of, entry_at, parts}
 
 -- no digit comes first
 abbrev pub NoDigitFirst : List ℕ → Type 0
@@ -34,10 +33,6 @@ pub record EntriesThen (es : List Entry) (rest text : List ℕ) : Type 0 where
   pub fit : All EntryFits es
   pub whole : text ≡ entries_text es ++ rest
   pub ends : EndsEntry rest
-
--- a text that no entries begin
-abbrev pub NoEntries : List ℕ → Type 0
-NoEntries text = all_of (map entry_at (parts 32 text)) ≡ None
 
 -- entries and their text
 pub record AreSpelled (es : List Entry) (text : List ℕ) : Type 0 where

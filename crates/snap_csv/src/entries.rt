@@ -61,7 +61,13 @@ fn whole_known<'k>(left: &[u8], old: &[u8], olds: &'k [Entry], same: usize) -> O
     requires same { take same left.now ≡ take same old.now }
     ensures { IfSome result (λ es. EntriesThen es.now [] left.now) }
 {
-    if same == 0 || same < left.len() || (same < old.len() && old[same] != b' ') {
+    if same == 0 || same < left.len() {
+        return None;
+    }
+    if same == old.len() {
+        return Some(olds);
+    }
+    if old[same] != b' ' {
         return None;
     }
     Some(&olds[..spaces(left) + 1])
@@ -150,8 +156,11 @@ fn add_front<'a, 'k>(
     }
 }
 
-// How many entries of a view that the view before it did not have are looked for in it: where more are new, few are not.
-const NEW_LIMIT: usize = 32;
+// What a look for the next entries among those of the view before costs, where each entry that is found there gives 1.
+const LOOK: usize = 4;
+
+// What there is for looks at first. So a view of which few entries stood in the view before it is read nearly as if none did.
+const LOOKS: usize = 32;
 
 /// The entries that are spelled with one space between two.
 pub fn entries_of(
@@ -170,7 +179,7 @@ pub fn entries_of(
     let mut left = text;
     let mut old = known.text();
     let mut olds = known.entries();
-    let mut new = 0;
+    let mut looks = LOOKS;
     loop {
         let same = same_front(left, old);
         if let Some(front) = whole_known(left, old, olds, same) {
@@ -186,8 +195,9 @@ pub fn entries_of(
             return Ok(Some(entries));
         };
         left = next;
-        if new < NEW_LIMIT {
-            new += 1;
+        looks = looks.saturating_add(olds.len().saturating_sub(others.len()));
+        if looks >= LOOK {
+            looks -= LOOK;
             let (behind_old, behind_olds) = behind_first(rest, others, entry.component);
             old = behind_old;
             olds = behind_olds;

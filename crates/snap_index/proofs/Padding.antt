@@ -1,6 +1,6 @@
 -- Tables that are kept as far as they have something.
-use Rattle.std.proofs.Common.{◌≡◌, ◌<◌, ◌+◌, ◌-◌, ◌++◌, ◌∷◌, [], ℕ, suc, List, Vec, Global, length, set, get_or, replicate, sym, ap, ◌∙◌, append_assoc, arith}
-use Rattle.std.proofs.lemmas.List.{map-append, map-set, length-map, length-append, get_or-map, get_or_append_left, set-append_left}
+use Rattle.std.proofs.Common.{◌≡◌, ◌<◌, ◌≤◌, ◌+◌, ◌-◌, ◌++◌, ◌∷◌, [], ℕ, suc, List, Vec, Global, length, set, get_or, replicate, sym, ap, ◌∙◌, append_assoc, arith}
+use Rattle.std.proofs.lemmas.List.{map-append, map-set, length-map, length-append, get_or-append_right, get_or-map, get_or-replicate, get_or_append_left, set-append_left}
 use Rattle.std.proofs.Common.{length-set}
 use Rattle.snap_index.specs.Tables.{padded, rows}
 
@@ -32,3 +32,9 @@ pub row_read : {A : Type 0} (table : List (Vec A Global)) (k : ℕ) (row : Vec A
 row_read table k row within =
     get_or_append_left (rows table) (replicate (256 - length (rows table)) []) [] k (rw length-map within)
     ∙ get_or-map (λ (v : Vec _ Global). v.items) table k row [] within
+
+-- a list that is not kept
+pub row_missing : {A : Type 0} (table : List (Vec A Global)) (k : ℕ) → length table ≤ k → k < 256 → get_or (padded (rows table)) k [] ≡ []
+row_missing table k behind within =
+    get_or-append_right (rows table) (replicate (256 - length (rows table)) []) (length table) k [] (length-map table (λ (v : Vec _ Global). v.items)) behind
+    ∙ get_or-replicate (256 - length (rows table)) (k - length table) [] [] (omega (arith, length-map table (λ (v : Vec _ Global). v.items)))

@@ -1,6 +1,7 @@
-ghost use Rattle.std.specs.Prelude.{◌≡◌, ◌<◌, length, map, count_by, find, IfOk, slice_get};
+ghost use Rattle.std.specs.Prelude.{◌≡◌, ◌<◌, ◌≤◌, ℕ, length, map, count_by, find, IfOk, slice_get};
 ghost use Rattle.std.specs.Option.{option_and_then, option_copied, option_map};
 ghost use Rattle.snap_core.specs.Calls.{calls_of, views_of, is_update_numbered, call_numbered, precedes as spec_precedes};
+ghost use Rattle.snap_core.specs.Entries.{component_count};
 ghost use Rattle.snap_core.specs.Events.{IsKept};
 ghost use Rattle.snap_index.specs.Bare.{bare, number_of, write_of, entries_shown, answer_of};
 ghost use Rattle.snap_index.specs.Updates.{is_update_of, updates_of, is_pending};
@@ -196,6 +197,14 @@ impl<'h> Index<'h> {
         ensures { result ≡ count_by (is_update_of k) (calls_of self.now) }
     {
         self.updates(k).len() as u32
+    }
+
+    /// A component from which on no component has an update.
+    pub fn update_limit(&self) -> usize
+        ensures few { result ≤ component_count }
+        ensures none { (k : ℕ) → result ≤ k → k < component_count → count_by (is_update_of k) (calls_of self.now) ≡ 0 }
+    {
+        self.updates.limit()
     }
 
     /// Whether call `a` ended before call `b` began.

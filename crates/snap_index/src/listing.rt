@@ -36,7 +36,8 @@ pub(crate) fn list_calls(alloc: Global, events: &[Event]) -> Result<Vec<Call>, A
 {
     // the place of each process's next event
     let mut next: Vec<Option<u32>> = vec![in alloc; None; process_limit(events)]?;
-    let mut calls = Vec::new(alloc);
+    // most events are half of a call
+    let mut calls = Vec::with_capacity(alloc, events.len() / 2 + 1)?;
     let mut i = events.len();
     while i > 0 {
         i -= 1;

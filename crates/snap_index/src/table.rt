@@ -1,4 +1,4 @@
-ghost use Rattle.std.specs.Prelude.{◌≡◌, ◌≤◌, ◌<◌, [], ◌∷◌, ◌++◌, OnOk, get_or, length, replicate, slice_set};
+ghost use Rattle.std.specs.Prelude.{◌≡◌, ◌≤◌, ◌<◌, ℕ, [], ◌∷◌, ◌++◌, OnOk, get_or, length, replicate, slice_set};
 ghost use Rattle.snap_core.specs.Entries.{component_count};
 ghost use Rattle.snap_index.specs.Tables.{padded, rows};
 
@@ -65,5 +65,13 @@ impl<T: Drop> UpdateTable<T> {
             Some(updates) => updates,
             None => &[],
         }
+    }
+
+    // How many components have a list: none behind them has an update.
+    pub(crate) fn limit(&self) -> usize
+        ensures few { result ≤ component_count }
+        ensures none { (k : ℕ) → result ≤ k → k < component_count → get_or self.now k [] ≡ [] }
+    {
+        self.by_component.len()
     }
 }

@@ -32,8 +32,8 @@ returns-in_default-split_first c =
     ∙ last_read c.add_front.new.entries.items c.in_ok-start.start.now c.args.text.now c.in-Some-entry_first.entry read (rw rest at c.in-Some-entry_first.ensures)
     ∙ sym (some_text c.args.text.now (sym c.if-is_empty.ensures))
 
-pub loop-front-preserved-then-new-lt-NEW_LIMIT : goal.loop-front-preserved-then-new-lt-NEW_LIMIT
-loop-front-preserved-then-new-lt-NEW_LIMIT c =
+pub loop-front-preserved-then-looks-ge-LOOK : goal.loop-front-preserved-then-looks-ge-LOOK
+loop-front-preserved-then-looks-ge-LOOK c =
     let read = front_read c.loop-front.entries.items c.add_front.new.entries.items c.in_ok-start.start.now c.loop-front.left.now c.args.text.now c.in_ok-start.ensures.added c.loop-front.invariant.read in
     let items : c.push.new.self.items ≡ c.add_front.new.entries.items ++ c.in-Some-entry_first.entry ∷ [] = search rules in
     let next = one_read c.add_front.new.entries.items c.in_ok-start.start.now c.args.text.now c.in-Some-entry_first.entry c.in-Some-split_first.field-0-0.now c.in-Some-split_first.next.now

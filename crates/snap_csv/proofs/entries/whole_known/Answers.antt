@@ -1,22 +1,24 @@
-use Rattle.std.proofs.Common.{◌≡◌, ◌+◌, ◌<◌, ◌≤◌, ◌⊎◌, inl, inr, get_or, length, arith, sym, ◌∙◌}
-use Rattle.std.proofs.lemmas.Bool.{eqb-true}
-use Rattle.std.proofs.lemmas.List.{length-take}
-use Rattle.snap_csv.proofs.KnownFacts.{IsFront, front_of, not_not}
+use Rattle.std.proofs.Common.{◌+◌, arith, sym, ◌∙◌}
+use Rattle.std.proofs.lemmas.List.{length-take, take_all}
+use Rattle.snap_csv.proofs.KnownFacts.{all_of_known, front_of}
 use Rattle.snap_csv.proofs.entries.whole_known.Goals as goal
-use Rattle.snap_csv.proofs.entries.whole_known.Goals.{then-same-old, else-same-old}
 
-front : (c : goal.After-spaces) → IsFront c.args.olds.now c.args.left.now
-front c =
-    let old = c.args.old.now in
-    let same = c.args.same in
-    let end : (length old ≤ same) ⊎ ((same < length old) × (get_or old same 0 ≡ 32)) = elim c.if-same-old.branch [
-      | then-same-old w ↦ inr (w.if-same-old.true, let test = sym w.value-is ∙ c.if-old-same-ne32.false in eqb-true _ _ (not_not _ test))
-      | else-same-old w ↦ inl w.if-same-old.false
-    ] in
-    front_of c.args.olds.now c.args.left.now old same c.requires.known (omega arith) c.if-same-left.false (omega arith) (omega arith) c.requires.same end
+pub returns-then-same-old : goal.returns-then-same-old
+returns-then-same-old c =
+    let left = c.args.left.now in
+    let all = sym (take_all c.args.same left c.if-same-left.false) ∙ c.requires.same in
+    all_of_known c.args.olds.now left c.args.old.now c.args.same c.requires.known (omega arith) all c.if-same-old.true
 
 pub slice_bounds-result-end : goal.slice_bounds-result-end
-slice_bounds-result-end c = omega (arith, (front c).within, c.spaces.ensures, length-take (c.spaces.result + 1) c.args.olds.now)
+slice_bounds-result-end c =
+    let left = c.args.left.now in
+    let all = sym (take_all c.args.same left c.if-same-left.false) ∙ c.requires.same in
+    let front = front_of c.args.olds.now left c.args.old.now c.args.same c.requires.known all (omega arith) c.if-old-same-ne32.false in
+    omega (arith, front.within, c.spaces.ensures, length-take (c.spaces.result + 1) c.args.olds.now)
 
 pub returns : goal.returns
-returns c = rw c.spaces.ensures (front c).then
+returns c =
+    let left = c.args.left.now in
+    let all = sym (take_all c.args.same left c.if-same-left.false) ∙ c.requires.same in
+    let front = front_of c.args.olds.now left c.args.old.now c.args.same c.requires.known all (omega arith) c.if-old-same-ne32.false in
+    rw c.spaces.ensures front.then

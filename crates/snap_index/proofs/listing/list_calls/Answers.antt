@@ -17,7 +17,7 @@ loop-i-init c =
       within = omega arith;
       room = λ i e l. omega (arith, ap length table, length-replicate {A = Option ℕ} n None, c.process_limit.ensures i e l);
       places = λ p l. ap (λ z. get_or z p None) table ∙ get_or-replicate n p None None (omega (arith, l, ap length table, length-replicate {A = Option ℕ} n None)) ∙ sym (ap (next_place p (length c.args.events.now)) empty);
-      so_far = ap reverse c.new-calls.ensures.items ∙ sym (ap (λ z. map bare (calls_from 0 (length c.args.events.now) z)) empty);
+      so_far = ap reverse c.in_ok-calls.ensures.items ∙ sym (ap (λ z. map bare (calls_from 0 (length c.args.events.now) z)) empty);
     }
 
 pub loop-i-preserved : goal.loop-i-preserved

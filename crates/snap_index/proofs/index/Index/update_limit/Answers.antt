@@ -1,0 +1,12 @@
+use Rattle.std.proofs.Common.{length, ap, sym, ◌∙◌}
+use Rattle.snap_core.specs.Calls.{calls_of}
+use Rattle.snap_index.proofs.LookUps.{row_is, seen}
+use Rattle.snap_index.proofs.index.Index.update_limit.Goals as goal
+
+pub returns : goal.returns
+returns c =
+    let i = seen _ _ _ _ _ _ _ c.self.view_is c.self.invariant in
+    record {
+      few = c.limit.ensures.few;
+      none = λ k behind within. sym (row_is k (calls_of c.args.self.now)) ∙ ap length (sym (i.tables.of_updates k within) ∙ c.limit.ensures.none k behind within);
+    }
