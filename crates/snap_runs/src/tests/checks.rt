@@ -12,6 +12,19 @@ use std::thread::Threads;
 /// Records under the header, how the check of that text ends, and its report.
 pub(super) type Worked = (&'static str, &'static str, &'static str);
 
+/// The records of a view that misses an update which had ended.
+pub(super) const STALE_VIEW: &str =
+    "begin,0,update,0:1:7\nend,0,update,\nbegin,1,view,\nend,1,view,\n";
+
+/// The report of that history.
+pub(super) const STALE_REPORT: &str = "\
+events 4 calls 2 pending 0 views 1
+regular no
+monotone yes
+atomic no
+proximity 1 first view 2 entry 0:0 old
+";
+
 /// The text of a history with these records under the header.
 pub(super) fn history(alloc: Global, records: &str) -> Result<String, AllocError> {
     format!(in alloc; "event,process,op,data\n{records}")
@@ -29,6 +42,16 @@ pub(super) fn end_of(answer: Result<Status, RunFault>) -> &'static str {
         Err(RunFault::Write) => "write failed",
         Err(RunFault::Memory) => "out of memory",
     }
+}
+
+/// How a run ended, and what it wrote.
+pub(super) fn written(
+    alloc: Global,
+    answer: Result<Status, RunFault>,
+    writer: Counted<Vec<u8>>,
+) -> Result<(&'static str, String), Fail> {
+    let out = String::from_str(alloc, str::from_utf8(&writer.into_inner())?)?;
+    Ok((end_of(answer), out))
 }
 
 /// The cutting into so many pieces for so many workers.

@@ -1,5 +1,5 @@
 //! Runs over readers and writers that fail, stop, or take little at a time.
-use super::checks::{cutting, history, run, same};
+use super::checks::{STALE_REPORT, STALE_VIEW, cutting, history, run, same};
 use snap_core::Counted;
 use snap_pairs::Cutting;
 use snap_testing::{Cup, Drip};
@@ -7,16 +7,6 @@ use std::alloc::Global;
 use std::sync::Wait;
 use std::test::Fail;
 use std::thread::Threads;
-
-const STALE_VIEW: &str = "begin,0,update,0:1:7\nend,0,update,\nbegin,1,view,\nend,1,view,\n";
-
-const STALE_REPORT: &str = "\
-events 4 calls 2 pending 0 views 1
-regular no
-monotone yes
-atomic no
-proximity 1 first view 2 entry 0:0 old
-";
 
 // How a run over a text ends one read of which fails, the failures that the reader counts, and how many bytes are written.
 fn dripped<Rt: Threads + Wait + Sync>(

@@ -1,5 +1,5 @@
 //! What worked texts are explained by.
-use super::checks::{end_of, history, same};
+use super::checks::{history, same, written};
 use crate::explain_run;
 use snap_core::Counted;
 use std::alloc::Global;
@@ -14,11 +14,8 @@ fn explained<Rt: Threads + Sync>(
 ) -> Result<(&'static str, String), Fail> {
     let mut reader = Counted::new(text);
     let mut writer = Counted::new(Vec::new(alloc));
-    let end = end_of(explain_run(rt, alloc, &mut reader, &mut writer));
-    Ok((
-        end,
-        String::from_str(alloc, str::from_utf8(&writer.into_inner())?)?,
-    ))
+    let answer = explain_run(rt, alloc, &mut reader, &mut writer);
+    written(alloc, answer, writer)
 }
 
 #[test]

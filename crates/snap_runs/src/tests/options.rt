@@ -1,5 +1,5 @@
 //! Checks that are quiet, or that ask for a number of completed views.
-use super::checks::{cutting, end_of, history, same};
+use super::checks::{STALE_REPORT, STALE_VIEW, cutting, end_of, history, same};
 use crate::{CheckOptions, check_run_with};
 use snap_core::{Counted, OpenGate};
 use snap_testing::{Cup, Drip};
@@ -7,16 +7,6 @@ use std::alloc::Global;
 use std::io::{Read, Write};
 use std::test::Fail;
 use std::thread::Threads;
-
-const STALE_VIEW: &str = "begin,0,update,0:1:7\nend,0,update,\nbegin,1,view,\nend,1,view,\n";
-
-const STALE_REPORT: &str = "\
-events 4 calls 2 pending 0 views 1
-regular no
-monotone yes
-atomic no
-proximity 1 first view 2 entry 0:0 old
-";
 
 const NEW_THEN_OLD: &str = "\
 begin,0,update,0:1:7

@@ -1,5 +1,5 @@
 //! What worked histories are cut down to.
-use super::checks::{end_of, history, same};
+use super::checks::{end_of, history, same, written};
 use crate::shrink_run;
 use snap_core::Counted;
 use snap_testing::{Cup, Drip};
@@ -71,11 +71,8 @@ fn shrink<Rt: Threads + Sync>(
 ) -> Result<(&'static str, String), Fail> {
     let mut reader = Counted::new(text);
     let mut writer = Counted::new(Vec::new(alloc));
-    let end = end_of(shrink_run(rt, alloc, &mut reader, &mut writer));
-    Ok((
-        end,
-        String::from_str(alloc, str::from_utf8(&writer.into_inner())?)?,
-    ))
+    let answer = shrink_run(rt, alloc, &mut reader, &mut writer);
+    written(alloc, answer, writer)
 }
 
 #[test]
