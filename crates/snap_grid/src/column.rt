@@ -59,11 +59,11 @@ impl Column {
 
     // The number of a row.
     #[inline]
-    pub(crate) fn number(&self, row: usize) -> u32
-        requires { row < length self.now }
-        ensures { result ≡ get_or self.now row 0 }
+    pub(crate) fn number(&self, place: usize) -> u32
+        requires { place < length self.now }
+        ensures { result ≡ get_or self.now place 0 }
     {
-        self.numbers[row]
+        self.numbers[place]
     }
 
     // The numbers of some rows.
