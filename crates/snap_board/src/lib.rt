@@ -13,6 +13,3 @@ pub use board::{Board, Closed, DESK_LIMIT, Desk, Gathered};
 pub use record::{Record, RecordedOp};
 pub use refusals::{CollectRefusal, OpenRefusal, ScanRefusal, StoreRefusal};
 pub use snap_account::TICK_LIMIT;
-
-#[cfg(test)]
-mod tests;

@@ -16,8 +16,6 @@ mod seen;
 mod stale;
 mod sweep;
 mod tally;
-#[cfg(test)]
-mod tests;
 mod view_chain;
 mod view_grid;
 mod whole;

@@ -17,6 +17,3 @@ pub use gate::{Gate, OpenGate};
 pub use history::{EVENT_LIMIT, EventRefusal, History};
 pub use law::histories_grow;
 pub use view::{View, ViewRefusal};
-
-#[cfg(test)]
-mod tests;

@@ -27,6 +27,3 @@ pub use refusal::{ReadRefusal, TextFault, WriteRefusal};
 pub use spelling::fields_of;
 pub use words::{ENTRY_SIZE, write_entry, write_number, write_text};
 pub use writing::{write_history, write_history_stamped};
-
-#[cfg(test)]
-mod tests;

@@ -9,6 +9,3 @@ mod refusal;
 
 pub use explanation::explain;
 pub use refusal::explain_refusal;
-
-#[cfg(test)]
-mod tests;

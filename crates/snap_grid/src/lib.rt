@@ -10,8 +10,6 @@ mod kind;
 mod kinds;
 mod mask;
 mod masks;
-#[cfg(test)]
-mod tests;
 
 pub use bounds::Bounds;
 pub use column::Column;

@@ -5,8 +5,6 @@ mod call;
 mod index;
 mod listing;
 mod table;
-#[cfg(test)]
-mod tests;
 
 pub use call::{Call, CallOp, Write};
 pub use index::Index;

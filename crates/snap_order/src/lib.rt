@@ -12,6 +12,3 @@ pub use law::{
     legal_orders_grow, printed_order_is_alone, shrinking_lemma, sorted_keys_give_the_order,
 };
 pub use printing::{build, build_alone};
-
-#[cfg(test)]
-mod tests;

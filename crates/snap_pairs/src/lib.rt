@@ -14,6 +14,3 @@ mod workers;
 pub use claims::{Claim, Claims};
 pub use cutting::{Cutting, CuttingRefusal, PIECE_LIMIT, WORKER_LIMIT};
 pub use whole::tally;
-
-#[cfg(test)]
-mod tests;

@@ -19,6 +19,3 @@ pub use snap_board::{
     Board, Closed, CollectRefusal, DESK_LIMIT, Desk, Gathered, OpenRefusal, Record, RecordedOp,
     ScanRefusal, StoreRefusal, TICK_LIMIT,
 };
-
-#[cfg(test)]
-mod tests;

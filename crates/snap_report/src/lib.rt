@@ -10,6 +10,3 @@ mod words;
 pub use refusal::refusal_text;
 pub use text::{report, report_in, verdict_text};
 pub use words::{put_call, put_entry, put_number, put_update};
-
-#[cfg(test)]
-mod tests;

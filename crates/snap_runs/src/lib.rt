@@ -16,6 +16,3 @@ pub use fault::RunFault;
 pub use recording::{record_run, record_run_stamped};
 pub use shrink::shrink_run;
 pub use snap_verdict::Status;
-
-#[cfg(test)]
-mod tests;

@@ -10,6 +10,3 @@ pub mod worked;
 pub use devices::{Cup, Drip, Newlines};
 pub use gates::{Arrivals, Meeting};
 pub use steps::{Refused, Shown, Step, entry, history_of};
-
-#[cfg(test)]
-mod tests;

@@ -8,6 +8,3 @@ mod status;
 pub use judge::{brief_verdict_of, judge_text, status_of, verdict_alone, verdict_of};
 pub use law::one_report;
 pub use status::Status;
-
-#[cfg(test)]
-mod tests;

@@ -1,5 +1,0 @@
-use Rattle.snap_board.specs.Desks.{IsDeskOf}
-use Rattle.snap_board.proofs.tests.a_desk_is_spent_after_its_last_tick.Given as goal
-
-abbrev pub invariant-stores : goal.invariant-stores
-invariant-stores g l = IsDeskOf l.board l.desk

@@ -1,5 +1,0 @@
-use Rattle.snap_board.specs.Desks.{IsDeskOf}
-use Rattle.snap_board.proofs.tests.scans.scan_often.Given as goal
-
-abbrev pub invariant-scans : goal.invariant-scans
-invariant-scans l = IsDeskOf l.board l.desk

@@ -1,5 +1,0 @@
-use Rattle.snap_board.specs.Desks.{IsDeskOf}
-use Rattle.snap_board.proofs.tests.scans.store_up.Given as goal
-
-abbrev pub invariant-values : goal.invariant-values
-invariant-values l = IsDeskOf l.board l.desk

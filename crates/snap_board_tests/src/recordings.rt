@@ -1,0 +1,222 @@
+use snap_core::{Event, Gate, OpenGate};
+use snap_record::{Plan, PlanRefusal, Recording, Step, record_plan, rounds_plan};
+use snap_testing::{Meeting, entry};
+use std::alloc::Global;
+use std::sync::atomic::{AtomicU64, Ordering};
+use std::test::Fail;
+
+mod scans;
+
+/// A gate that counts its calls, each weighed by its worker and its turn.
+#[derive(Drop)]
+struct Count {
+    calls: AtomicU64,
+}
+
+impl Gate for Count {
+    fn at(&self, worker: u32, turn: u32) {
+        self.calls.fetch_add(1 << ((worker % 4) * 16 + (turn % 4) * 4), Ordering::SeqCst);
+    }
+}
+
+/// A list of so many stores of 0.
+fn stores(alloc: Global, steps: usize) -> Result<Vec<Step>, Fail> {
+    Ok(vec![in alloc; Step::Store(0); steps]?)
+}
+
+/// So many lists of one store.
+fn lists(alloc: Global, count: u32) -> Result<Vec<Vec<Step>>, Fail> {
+    let mut lists = Vec::new(alloc);
+    for _ in 0..count {
+        lists.push(stores(alloc, 1)?)?;
+    }
+    Ok(lists)
+}
+
+#[test]
+fn an_open_gate_holds_nobody_up() {
+    for turn in 0..3 {
+        OpenGate.at(0, turn);
+    }
+}
+
+#[test]
+fn plans_have_two_to_eight_lists(rt: HostRuntime) -> Result<(), Fail> {
+    let alloc = rt.alloc();
+    assert!(rt; matches!(&Plan::new(lists(alloc, 0)?), Err(PlanRefusal::Workers)));
+    assert!(rt; matches!(&Plan::new(lists(alloc, 1)?), Err(PlanRefusal::Workers)));
+    assert!(rt; Plan::new(lists(alloc, 2)?).is_ok() && Plan::new(lists(alloc, 8)?).is_ok());
+    assert!(rt; matches!(&Plan::new(lists(alloc, 9)?), Err(PlanRefusal::Workers)));
+    Ok(())
+}
+
+#[test]
+fn plans_have_steps_within_the_limit(rt: HostRuntime) -> Result<(), Fail> {
+    let alloc = rt.alloc();
+    let long = Plan::new(vec![in alloc; stores(alloc, 16384)?, stores(alloc, 16385)?]?);
+    assert!(rt; matches!(&long, Err(PlanRefusal::TooLong)));
+    let full = Plan::new(vec![in alloc; stores(alloc, 16384)?, stores(alloc, 16384)?]?);
+    assert!(rt; full.is_ok());
+    Ok(())
+}
+
+#[test]
+fn rounds_are_limited(rt: HostRuntime) -> Result<(), Fail> {
+    let alloc = rt.alloc();
+    assert!(rt; rounds_plan(alloc, 2, 2048, false).is_ok());
+    assert!(rt; matches!(&rounds_plan(alloc, 2, 0, false), Err(PlanRefusal::TooLong)));
+    assert!(rt;
+        matches!(
+            &rounds_plan(alloc, 2, 2049, false),
+            Err(PlanRefusal::TooLong)
+        )
+    );
+    assert!(rt; rounds_plan(alloc, 8, 2048, false).is_ok());
+    assert!(rt; matches!(&rounds_plan(alloc, 8, 0, false), Err(PlanRefusal::TooLong)));
+    assert!(rt; matches!(&rounds_plan(alloc, 1, 0, false), Err(PlanRefusal::Workers)));
+    assert!(rt; matches!(&rounds_plan(alloc, 9, 0, false), Err(PlanRefusal::Workers)));
+    Ok(())
+}
+
+/// Worker 0 stores 5 and collects, worker 1 stores 6 and collects.
+fn two_stores(alloc: Global) -> Result<Option<Plan>, Fail> {
+    let first = vec![in alloc; Step::Store(5), Step::View]?;
+    let second = vec![in alloc; Step::Store(6), Step::View]?;
+    Ok(Plan::new(vec![in alloc; first, second]?).ok())
+}
+
+/// Whether some view of the process shows 0:1:5, and some view 1:1:6.
+fn shows(recording: &Recording, of: u16) -> (bool, bool) {
+    let mut both = (false, false);
+    for event in recording.history.events() {
+        if let Event::EndView { process, view } = event {
+            if *process == of {
+                both.0 = both.0 || (view.number(0) == 1 && view.value(0) == 5);
+                both.1 = both.1 || (view.number(1) == 1 && view.value(1) == 6);
+            }
+        }
+    }
+    both
+}
+
+/// Whether the process begins an update of this entry.
+fn updates(recording: &Recording, of: u16, component: u8, value: u32) -> bool {
+    let want = entry(component, 1, value);
+    recording.history.events().iter().any(|event| match event {
+        Event::BeginUpdate { process, entry } => *process == of && *entry == want,
+        _ => false,
+    })
+}
+
+#[test]
+fn each_worker_sees_its_own_store(rt: HostRuntime) -> Result<(), Fail> {
+    let alloc = rt.alloc();
+    let Some(plan) = two_stores(alloc)? else {
+        panic!(rt; "no plan")
+    };
+    let Ok(recording) = record_plan(&rt, alloc, &plan, &OpenGate) else {
+        panic!(rt; "no memory")
+    };
+    assert!(rt; recording.history.len() == 8 && recording.interfered == 0);
+    assert!(rt; recording.stamps.as_slice() == [0, 1, 2, 3, 4, 5, 6, 7].as_slice());
+    assert!(rt; updates(&recording, 0, 0, 5) && updates(&recording, 1, 1, 6));
+    assert!(rt; shows(&recording, 0).0 && shows(&recording, 1).1);
+    Ok(())
+}
+
+#[test]
+fn two_workers_meet_behind_their_stores(rt: HostRuntime) -> Result<(), Fail> {
+    let alloc = rt.alloc();
+    let Some(plan) = two_stores(alloc)? else {
+        panic!(rt; "no plan")
+    };
+    let gate = Meeting::at_turn(1);
+    let Ok(recording) = record_plan(&rt, alloc, &plan, &gate) else {
+        panic!(rt; "no memory")
+    };
+    assert!(rt; gate.was_held());
+    for process in 0..2 {
+        let seen = shows(&recording, process);
+        assert!(rt; seen.0 && seen.1);
+    }
+    Ok(())
+}
+
+/// Each worker stores its number and collects.
+fn store_numbers(alloc: Global, workers: u32) -> Result<Option<Plan>, Fail> {
+    let mut scripts = Vec::new(alloc);
+    for worker in 0..workers {
+        scripts.push(vec![in alloc; Step::Store(worker), Step::View]?)?;
+    }
+    Ok(Plan::new(scripts).ok())
+}
+
+/// Whether a view ends here that shows of each component below 8 its first store, of its own number.
+fn shows_eight_numbers(event: &Event) -> bool {
+    match event {
+        Event::EndView { process: _, view } => {
+            view.entries().len() == 8
+                && (0..8u8).all(|k| view.number(k) == 1 && view.value(k) == u32::from(k))
+        }
+        _ => false,
+    }
+}
+
+#[test]
+fn eight_workers_meet_behind_their_stores(rt: HostRuntime) -> Result<(), Fail> {
+    let alloc = rt.alloc();
+    let Some(plan) = store_numbers(alloc, 8)? else {
+        panic!(rt; "no plan")
+    };
+    let gate = Meeting::of(8, 1);
+    let Ok(recording) = record_plan(&rt, alloc, &plan, &gate) else {
+        panic!(rt; "no memory")
+    };
+    assert!(rt; gate.was_held());
+    assert_eq!(rt; recording.history.len(), 32);
+    let events = recording.history.events().iter();
+    assert_eq!(rt;
+        events.filter(|event| shows_eight_numbers(event)).count(),
+        8
+    );
+    Ok(())
+}
+
+#[test]
+fn two_workers_in_64_rounds_have_512_events(rt: HostRuntime) -> Result<(), Fail> {
+    let alloc = rt.alloc();
+    let plan = rounds_plan(alloc, 2, 64, false)?;
+    let Ok(recording) = record_plan(&rt, alloc, &plan, &OpenGate) else {
+        panic!(rt; "no memory")
+    };
+    assert_eq!(rt; recording.history.len(), 512);
+    assert!(rt;
+        recording
+            .stamps
+            .iter()
+            .enumerate()
+            .all(|(k, stamp)| *stamp == k as u64)
+    );
+    let last = entry(1, 64, 65_600);
+    assert!(rt;
+        recording.history.events().iter().any(|event| match event {
+            Event::BeginUpdate { process, entry } => *process == 1 && *entry == last,
+            _ => false,
+        })
+    );
+    Ok(())
+}
+
+#[test]
+fn the_gate_is_called_before_each_step_and_at_the_end(rt: HostRuntime) -> Result<(), Fail> {
+    let alloc = rt.alloc();
+    let Some(plan) = two_stores(alloc)? else {
+        panic!(rt; "no plan")
+    };
+    let gate = Count {
+        calls: AtomicU64::new(0),
+    };
+    assert!(rt; record_plan(&rt, alloc, &plan, &gate).is_ok());
+    assert_eq!(rt; gate.calls.load(Ordering::SeqCst), 0x0111_0111);
+    Ok(())
+}

@@ -1,0 +1,65 @@
+use snap_core::OpenGate;
+use snap_record::{Plan, PlanRefusal, Step, record_plan};
+use snap_testing::Meeting;
+use std::alloc::Global;
+use std::test::Fail;
+
+/// Two lists, the first of so many scans with so many tries, the second empty.
+fn scans(alloc: Global, steps: usize, tries: u32) -> Result<Vec<Vec<Step>>, Fail> {
+    Ok(vec![in alloc; vec![in alloc; Step::Scan(tries); steps]?, Vec::new(alloc)]?)
+}
+
+#[test]
+fn scans_of_a_plan_are_limited(rt: HostRuntime) -> Result<(), Fail> {
+    let alloc = rt.alloc();
+    assert!(rt; matches!(&Plan::new(scans(alloc, 1, 0)?), Err(PlanRefusal::TooLong)));
+    assert!(rt;
+        matches!(
+            &Plan::new(scans(alloc, 1, 1025)?),
+            Err(PlanRefusal::TooLong)
+        )
+    );
+    assert!(rt; Plan::new(scans(alloc, 1022, 1024)?).is_ok());
+    assert!(rt;
+        matches!(
+            &Plan::new(scans(alloc, 1023, 1024)?),
+            Err(PlanRefusal::TooLong)
+        )
+    );
+    Ok(())
+}
+
+#[test]
+fn two_workers_scan_behind_their_stores(rt: HostRuntime) -> Result<(), Fail> {
+    let alloc = rt.alloc();
+    let first = vec![in alloc; Step::Store(5), Step::Scan(64)]?;
+    let second = vec![in alloc; Step::Store(6), Step::Scan(64)]?;
+    let Ok(plan) = Plan::new(vec![in alloc; first, second]?) else {
+        panic!(rt; "no plan")
+    };
+    let gate = Meeting::at_turn(1);
+    let Ok(recording) = record_plan(&rt, alloc, &plan, &gate) else {
+        panic!(rt; "no memory")
+    };
+    assert!(rt; gate.was_held());
+    assert!(rt; recording.interfered == 0 && recording.history.len() == 8);
+    for process in 0..2 {
+        let seen = super::shows(&recording, process);
+        assert!(rt; seen.0 && seen.1);
+    }
+    Ok(())
+}
+
+#[test]
+fn the_stamps_of_a_lone_scan_leave_its_middle_tick_out(rt: HostRuntime) -> Result<(), Fail> {
+    let alloc = rt.alloc();
+    let first = vec![in alloc; Step::Store(9), Step::Scan(3), Step::Store(8)]?;
+    let Ok(plan) = Plan::new(vec![in alloc; first, Vec::new(alloc)]?) else {
+        panic!(rt; "no plan")
+    };
+    let Ok(recording) = record_plan(&rt, alloc, &plan, &OpenGate) else {
+        panic!(rt; "no memory")
+    };
+    assert!(rt; recording.stamps.as_slice() == [0, 1, 2, 4, 5, 6].as_slice());
+    Ok(())
+}

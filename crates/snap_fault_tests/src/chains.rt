@@ -1,0 +1,55 @@
+//! The sums, the chains and the order of the views of worked histories.
+use snap_conditions::{chain, ordered, tally_without_read, view_sums};
+use snap_index::Index;
+use snap_testing::worked::{ATOMIC_RUN, CROSSED_VIEWS, MISSED_UPDATE, NEW_THEN_OLD, NOTHING};
+use snap_testing::{Step, history_of};
+use std::alloc::Global;
+use std::process::Abort;
+use std::test::Fail;
+
+// The views of a history have these sums, this chain, and such an order.
+fn expect(
+    rt: &impl Abort,
+    alloc: Global,
+    steps: &[Step<'_>],
+    known_sums: &[u64],
+    known_chain: Option<&[u32]>,
+    is_ordered: bool,
+) -> Result<(), Fail> {
+    let history = history_of(alloc, steps)?;
+    let index = Index::build(alloc, &history)?;
+    let sums = view_sums(alloc, &index)?;
+    assert_eq!(rt; sums.as_slice(), known_sums);
+    match chain(alloc, &index, &sums)? {
+        Some(places) => assert_eq!(rt; Some(places.as_slice()), known_chain),
+        None => assert!(rt; known_chain.is_none()),
+    }
+    assert_eq!(rt; ordered(alloc, &index, &sums)?, is_ordered);
+    Ok(())
+}
+
+#[test]
+fn crossed_views_are_no_chain(rt: HostRuntime) -> Result<(), Fail> {
+    expect(&rt, rt.alloc(), CROSSED_VIEWS, &[1, 1], None, true)
+}
+
+#[test]
+fn a_view_after_a_newer_one_is_a_chain_out_of_order(rt: HostRuntime) -> Result<(), Fail> {
+    expect(&rt, rt.alloc(), NEW_THEN_OLD, &[1, 0], Some(&[1, 0]), false)
+}
+
+#[test]
+fn atomic_and_empty_histories_are_chains_in_order(rt: HostRuntime) -> Result<(), Fail> {
+    expect(&rt, rt.alloc(), ATOMIC_RUN, &[1, 3], Some(&[0, 1]), true)?;
+    expect(&rt, rt.alloc(), NOTHING, &[], Some(&[]), true)
+}
+
+#[test]
+fn a_missed_update_is_found_beside_a_chain_in_order(rt: HostRuntime) -> Result<(), Fail> {
+    expect(&rt, rt.alloc(), MISSED_UPDATE, &[1], Some(&[0]), true)?;
+    let history = history_of(rt.alloc(), MISSED_UPDATE)?;
+    let index = Index::build(rt.alloc(), &history)?;
+    assert_eq!(rt; index.view_count(), 1);
+    assert_eq!(rt; tally_without_read(&index, 0, 1).write.count(), 1);
+    Ok(())
+}

@@ -1,0 +1,189 @@
+//! Clashes of small grids, counted by hand.
+ghost use Rattle.std.specs.Prelude.{◌≡◌, length, IfOk};
+
+use snap_grid::{Clashes, Column, Grid};
+use std::alloc::{AllocError, Global};
+use std::process::Abort;
+use std::test::Fail;
+
+// Each of these numbers so many times.
+fn runs(alloc: Global, runs: &[(u32, u32)]) -> Result<Vec<u32>, AllocError> {
+    let mut numbers = Vec::new(alloc);
+    for &(times, number) in runs {
+        for _time in 0..times {
+            numbers.push(number)?;
+        }
+    }
+    Ok(numbers)
+}
+
+// The grid of two columns, with tables for numbers up to a limit. Each row ends before the next begins, or none does.
+fn grid_of(
+    rt: &impl Abort,
+    alloc: Global,
+    first: Vec<u32>,
+    second: Vec<u32>,
+    limit: u32,
+    apart: bool,
+) -> Result<Grid, AllocError>
+    ensures { IfOk result (λ grid. length grid.begins ≡ length first.items) }
+{
+    assert!(rt; limit < 65536 && first.len() <= 65536 && second.len() == first.len());
+    let mut begins = Vec::new(alloc);
+    let mut ends = Vec::new(alloc);
+    for row in 0..first.len() {
+        begins.push(row as u32)?;
+        ends.push(if apart { row as u32 } else { u32::MAX })?;
+    }
+    assert!(rt; begins.len() == first.len() && ends.len() == first.len());
+    let columns = vec![in alloc;
+        Column::new(alloc, first, limit)?,
+        Column::new(alloc, second, limit)?,
+    ]?;
+    Grid::new(alloc, columns, begins, ends)
+}
+
+// Of a grid whose rows all have the number 0 in the second column, and each end before the next begins: row a clashes with
+// row b, and drops to it, exactly where a stands before b and has the greater number in the first.
+fn expect_falls(
+    rt: &impl Abort,
+    alloc: Global,
+    numbers: &[(u32, u32)],
+    limit: u32,
+    known: &[(usize, usize, u64, Option<usize>)],
+) -> Result<(), Fail> {
+    let first = runs(alloc, numbers)?;
+    let rows = first.len();
+    assert!(rt; rows <= 65536);
+    let second = runs(alloc, &[(rows as u32, 0)])?;
+    let grid = grid_of(rt, alloc, first, second, limit, true)?;
+    for &(from, to, count, row) in known {
+        assert!(rt; from <= to && to <= rows);
+        let found = grid.clashes(alloc, from, to)?;
+        assert_eq!(rt; found.count, count, "{from}..{to}");
+        assert_eq!(rt; found.drops, count, "{from}..{to}");
+        assert_eq!(rt; found.first, row, "{from}..{to}");
+    }
+    Ok(())
+}
+
+#[test]
+fn rows_with_the_same_number_clash_with_none(rt: HostRuntime) -> Result<(), Fail> {
+    expect_falls(&rt, rt.alloc(), &[(130, 5)], 5, &[(0, 130, 0, None)])
+}
+
+#[test]
+fn the_last_row_of_a_lane_falls_to_all_rows_of_the_next_but_its_equal(
+    rt: HostRuntime,
+) -> Result<(), Fail> {
+    expect_falls(
+        &rt,
+        rt.alloc(),
+        &[(63, 5), (1, 6), (63, 5), (1, 6)],
+        6,
+        &[
+            (0, 128, 63, Some(63)),
+            (0, 63, 0, None),
+            (63, 64, 63, Some(63)),
+            (64, 128, 0, None),
+        ],
+    )
+}
+
+#[test]
+fn the_last_row_of_a_block_falls_to_all_rows_of_the_next_but_its_equal(
+    rt: HostRuntime,
+) -> Result<(), Fail> {
+    expect_falls(
+        &rt,
+        rt.alloc(),
+        &[(511, 5), (1, 6), (511, 5), (1, 6)],
+        6,
+        &[
+            (0, 1024, 511, Some(511)),
+            (0, 511, 0, None),
+            (511, 512, 511, Some(511)),
+            (512, 1024, 0, None),
+        ],
+    )
+}
+
+#[test]
+fn blocks_whose_bounds_touch_are_looked_at_row_by_row(rt: HostRuntime) -> Result<(), Fail> {
+    expect_falls(
+        &rt,
+        rt.alloc(),
+        &[(511, 6), (1, 5), (512, 5)],
+        6,
+        &[
+            (0, 1024, 262143, Some(0)),
+            (510, 512, 513, Some(510)),
+            (511, 1024, 0, None),
+        ],
+    )
+}
+
+#[test]
+fn numbers_above_the_limit_are_compared_too(rt: HostRuntime) -> Result<(), Fail> {
+    expect_falls(
+        &rt,
+        rt.alloc(),
+        &[(1, u32::MAX), (1, 0), (1, u32::MAX), (1, 9), (1, 3)],
+        3,
+        &[
+            (0, 5, 6, Some(0)),
+            (1, 3, 2, Some(2)),
+            (3, 4, 1, Some(3)),
+            (4, 5, 0, None),
+        ],
+    )
+}
+
+#[test]
+fn crossed_rows_clash_both_ways_and_drop_only_to_later_ones(rt: HostRuntime) -> Result<(), Fail> {
+    let alloc = rt.alloc();
+    for (apart, drops) in [(false, 0), (true, 1)] {
+        let first = runs(alloc, &[(1, 1), (1, 0), (1, 2)])?;
+        let second = runs(alloc, &[(1, 0), (1, 1), (1, 2)])?;
+        assert!(rt; first.len() == 3);
+        let grid = grid_of(&rt, alloc, first, second, 2, apart)?;
+        let found = grid.clashes(alloc, 0, 3)?;
+        assert_eq!(rt; found.count, 2);
+        assert_eq!(rt; found.drops, drops);
+        assert_eq!(rt; found.first, Some(0));
+    }
+    Ok(())
+}
+
+#[test]
+fn equal_rows_are_counted_each_where_they_overlap_or_follow_one_another(
+    rt: HostRuntime,
+) -> Result<(), Fail> {
+    let alloc = rt.alloc();
+    for (apart, count, drops, row) in [(false, 12, 0, Some(1)), (true, 17, 11, Some(0))] {
+        let first = runs(alloc, &[(1, 2), (3, 1), (2, 0)])?;
+        let second = runs(alloc, &[(1, 2), (3, 0), (2, 1)])?;
+        assert!(rt; first.len() == 6);
+        let grid = grid_of(&rt, alloc, first, second, 2, apart)?;
+        let found = grid.clashes(alloc, 0, 6)?;
+        assert_eq!(rt; found.count, count);
+        assert_eq!(rt; found.drops, drops);
+        assert_eq!(rt; found.first, row);
+    }
+    Ok(())
+}
+
+#[test]
+fn equal_rows_of_a_later_block_are_counted_each(rt: HostRuntime) -> Result<(), Fail> {
+    expect_falls(
+        &rt,
+        rt.alloc(),
+        &[(512, 7), (500, 3), (12, 9)],
+        9,
+        &[
+            (0, 1024, 256000, Some(0)),
+            (511, 1024, 500, Some(511)),
+            (512, 1024, 0, None),
+        ],
+    )
+}

@@ -1,0 +1,20 @@
+//! Tests of the runs from a reader to a writer: checks of worked histories, what they are cut down to and explained by,
+//! recordings, and devices that fail.
+#![tactic(auto)]
+
+#[cfg(test)]
+mod checks;
+#[cfg(test)]
+mod devices;
+#[cfg(test)]
+mod explaining;
+#[cfg(test)]
+mod limits;
+#[cfg(test)]
+mod options;
+#[cfg(test)]
+mod recordings;
+#[cfg(test)]
+mod reports;
+#[cfg(test)]
+mod shrinking;

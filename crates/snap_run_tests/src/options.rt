@@ -1,0 +1,145 @@
+//! Checks that are quiet, or that ask for a number of completed views.
+use super::checks::{STALE_REPORT, STALE_VIEW, cutting, end_of, history, same};
+use snap_core::{Counted, OpenGate};
+use snap_runs::{CheckOptions, check_run_with};
+use snap_testing::{Cup, Drip};
+use std::alloc::Global;
+use std::io::{Read, Write};
+use std::test::Fail;
+use std::thread::Threads;
+
+const NEW_THEN_OLD: &str = "\
+begin,0,update,0:1:7
+begin,1,view,
+end,1,view,0:1:7
+begin,2,view,
+end,2,view,
+end,0,update,
+";
+
+// A view that is completed, and one that is pending.
+const HALF_PENDING: &str = "begin,0,view,\nbegin,1,view,\nend,1,view,\n";
+
+const BUSY: &str = "begin,0,view,\nbegin,0,view,\n";
+
+const QUIET: CheckOptions = CheckOptions {
+    quiet: true,
+    views: 0,
+};
+
+// Records under the header, whether the check is quiet and of how many views, how it ends, and what it writes.
+const WORKED: &[(&str, bool, u32, &str, &str)] = &[
+    (
+        STALE_VIEW,
+        true,
+        0,
+        "irregular",
+        "regular no\nmonotone yes\natomic no\n",
+    ),
+    (
+        NEW_THEN_OLD,
+        true,
+        0,
+        "regular",
+        "regular yes\nmonotone no\natomic no\n",
+    ),
+    (
+        "",
+        true,
+        0,
+        "atomic",
+        "regular yes\nmonotone yes\natomic yes\n",
+    ),
+    (BUSY, true, 0, "refused", "refused record 3: busy\n"),
+    (STALE_VIEW, false, 0, "irregular", STALE_REPORT),
+    (STALE_VIEW, false, 1, "irregular", STALE_REPORT),
+    (STALE_VIEW, false, 2, "too few views", ""),
+    ("", false, 1, "too few views", ""),
+    (HALF_PENDING, false, 2, "too few views", ""),
+    (
+        HALF_PENDING,
+        false,
+        1,
+        "atomic",
+        "events 3 calls 2 pending 1 views 1\nregular yes\nmonotone yes\natomic yes\norder 1\n2 p1 view\n",
+    ),
+    (BUSY, false, 32768, "refused", "refused record 3: busy\n"),
+    (
+        NEW_THEN_OLD,
+        true,
+        2,
+        "regular",
+        "regular yes\nmonotone no\natomic no\n",
+    ),
+    (STALE_VIEW, true, 2, "too few views", ""),
+];
+
+// How a check from a reader to a writer ends.
+fn run_with<Rt: Threads + Sync, R: Read, W: Write>(
+    rt: &Rt,
+    alloc: Global,
+    reader: &mut Counted<R>,
+    writer: &mut Counted<W>,
+    options: CheckOptions,
+) -> Result<&'static str, Fail> {
+    let cutting = cutting(8, 2)?;
+    Ok(
+        match check_run_with(rt, alloc, reader, writer, cutting, &OpenGate, options) {
+            Ok(None) => "too few views",
+            Ok(Some(status)) => end_of(Ok(status)),
+            Err(fault) => end_of(Err(fault)),
+        },
+    )
+}
+
+#[test]
+fn what_is_asked_for_is_written(rt: HostRuntime) -> Result<(), Fail> {
+    let alloc = rt.alloc();
+    for (records, quiet, views, end, report) in WORKED {
+        let options = CheckOptions {
+            quiet: *quiet,
+            views: *views,
+        };
+        let text = history(alloc, records)?;
+        let mut reader = Counted::new(text.as_bytes());
+        let mut writer = Counted::new(Vec::new(alloc));
+        same(
+            run_with(&rt, alloc, &mut reader, &mut writer, options)?,
+            *end,
+        )?;
+        same(str::from_utf8(&writer.into_inner())?, *report)?;
+    }
+    Ok(())
+}
+
+#[test]
+fn a_read_that_fails_ends_a_quiet_check_before_anything_is_written(
+    rt: HostRuntime,
+) -> Result<(), Fail> {
+    let alloc = rt.alloc();
+    let text = history(alloc, STALE_VIEW)?;
+    let mut reader = Counted::new(Drip::new(text.as_bytes(), 40));
+    let mut writer = Counted::new(Vec::new(alloc));
+    same(
+        run_with(&rt, alloc, &mut reader, &mut writer, QUIET)?,
+        "read failed",
+    )?;
+    same(reader.failures(), 1)?;
+    same(writer.into_inner().len(), 0)
+}
+
+#[test]
+fn a_writer_that_fails_has_a_front_of_the_verdicts(rt: HostRuntime) -> Result<(), Fail> {
+    let alloc = rt.alloc();
+    let text = history(alloc, STALE_VIEW)?;
+    let mut reader = Counted::new(text.as_bytes());
+    let mut writer = Counted::new(Cup::new(alloc, 15, 4, true, false));
+    same(
+        run_with(&rt, alloc, &mut reader, &mut writer, QUIET)?,
+        "write failed",
+    )?;
+    same(
+        str::from_utf8(&writer.into_inner().held)?,
+        "regular no\nmono",
+    )
+}

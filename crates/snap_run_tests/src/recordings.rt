@@ -1,0 +1,239 @@
+//! Histories that a board's run leaves, and their reports.
+use super::checks::{cutting, end_of, same};
+use snap_core::{Counted, Gate, OpenGate};
+use snap_pairs::Cutting;
+use snap_record::{Plan, Step, rounds_plan};
+use snap_runs::{record_run, record_run_stamped};
+use snap_testing::{Cup, Meeting};
+use std::alloc::Global;
+use std::sync::Wait;
+use std::test::Fail;
+use std::thread::Threads;
+
+// Two workers, each of which stores one value and then takes a view.
+fn one_round(alloc: Global) -> Result<Plan, Fail> {
+    Ok(rounds_plan(alloc, 2, 1, false)?)
+}
+
+// How the recording of a plan ends, and what it writes.
+fn record<Rt: Threads + Wait + Sync, G: Gate>(
+    rt: &Rt,
+    alloc: Global,
+    plan: &Plan,
+    judge: bool,
+    cutting: Cutting,
+    gate: &G,
+) -> (&'static str, Vec<u8>) {
+    let mut writer = Counted::new(Vec::new(alloc));
+    let answer = record_run(rt, alloc, plan, judge, &mut writer, cutting, gate);
+    (end_of(answer), writer.into_inner())
+}
+
+// The text has the header, so many records under it, and each of these lines.
+fn expect_text(text: &[u8], records: usize, wanted: &[&str]) -> Result<(), Fail> {
+    let text = str::from_utf8(text)?;
+    same(text.lines().next(), Some("event,process,op,data"))?;
+    same(text.lines().skip(1).count(), records)?;
+    for line in wanted {
+        if !text.lines().any(|found| found == *line) {
+            return Err(Fail::from(*line));
+        }
+    }
+    Ok(())
+}
+
+#[test]
+fn one_round_of_two_workers_has_nine_lines(rt: HostRuntime) -> Result<(), Fail> {
+    let plan = one_round(rt.alloc())?;
+    let (end, text) = record(&rt, rt.alloc(), &plan, false, cutting(8, 2)?, &OpenGate);
+    same(end, "recorded")?;
+    expect_text(
+        &text,
+        8,
+        &["begin,0,update,0:1:1", "begin,1,update,1:1:65537"],
+    )
+}
+
+#[test]
+fn one_round_of_three_workers_has_13_lines(rt: HostRuntime) -> Result<(), Fail> {
+    let plan = rounds_plan(rt.alloc(), 3, 1, false)?;
+    let (end, text) = record(&rt, rt.alloc(), &plan, false, cutting(8, 2)?, &OpenGate);
+    same(end, "recorded")?;
+    expect_text(
+        &text,
+        12,
+        &[
+            "begin,0,update,0:1:1",
+            "begin,1,update,1:1:65537",
+            "begin,2,update,2:1:131073",
+        ],
+    )
+}
+
+// Two workers, each of which stores one value and then scans.
+fn one_scanned_round(alloc: Global) -> Result<Plan, Fail> {
+    Ok(rounds_plan(alloc, 2, 1, true)?)
+}
+
+#[test]
+fn one_scanned_round_of_two_workers_has_nine_lines(rt: HostRuntime) -> Result<(), Fail> {
+    let plan = one_scanned_round(rt.alloc())?;
+    let (end, text) = record(&rt, rt.alloc(), &plan, false, cutting(8, 2)?, &OpenGate);
+    same(end, "recorded")?;
+    expect_text(
+        &text,
+        8,
+        &["begin,0,update,0:1:1", "begin,1,update,1:1:65537"],
+    )
+}
+
+// How the recording of a plan with stamps ends, what is in the writer, and the failures that it counts.
+fn record_stamped<Rt: Threads + Wait + Sync>(
+    rt: &Rt,
+    alloc: Global,
+    plan: &Plan,
+    room: usize,
+) -> (&'static str, Vec<u8>, u64) {
+    let mut writer = Counted::new(Cup::new(alloc, room, 100, true, false));
+    let answer = record_run_stamped(rt, alloc, plan, &mut writer, &OpenGate);
+    let failures = writer.failures();
+    (end_of(answer), writer.into_inner().held, failures)
+}
+
+// The text has the header of texts with stamps, and under it a record with each of these stamps, in this order.
+fn expect_stamps(text: &[u8], wanted: &[&str]) -> Result<(), Fail> {
+    let text = str::from_utf8(text)?;
+    same(text.lines().next(), Some("at,event,process,op,data"))?;
+    same(text.lines().skip(1).count(), wanted.len())?;
+    for (line, stamp) in text.lines().skip(1).zip(wanted) {
+        same(line.split(',').next(), Some(*stamp))?;
+    }
+    Ok(())
+}
+
+#[test]
+fn one_round_with_stamps_has_the_stamps_from_0_to_7_in_order(rt: HostRuntime) -> Result<(), Fail> {
+    let plan = one_round(rt.alloc())?;
+    let (end, text, failures) = record_stamped(&rt, rt.alloc(), &plan, 1000);
+    same((end, failures), ("recorded", 0))?;
+    expect_stamps(&text, &["0", "1", "2", "3", "4", "5", "6", "7"])
+}
+
+#[test]
+fn a_recording_with_stamps_whose_writer_fails_has_a_front_of_its_text(
+    rt: HostRuntime,
+) -> Result<(), Fail> {
+    let plan = one_round(rt.alloc())?;
+    let (end, text, failures) = record_stamped(&rt, rt.alloc(), &plan, 10);
+    same((end, failures), ("write failed", 1))?;
+    same(text.as_slice(), b"at,event,p".as_slice())
+}
+
+// The head of the report on the history of one scanned round.
+const ATOMIC_HEAD: &[u8] =
+    b"events 8 calls 4 pending 0 views 2\nregular yes\nmonotone yes\natomic yes\norder 4\n";
+
+#[test]
+fn a_judged_recording_of_scans_is_atomic_in_every_run(rt: HostRuntime) -> Result<(), Fail> {
+    let plan = one_scanned_round(rt.alloc())?;
+    let cutting = cutting(8, 2)?;
+    for _ in 0..20 {
+        let (end, report) = record(&rt, rt.alloc(), &plan, true, cutting, &OpenGate);
+        same(end, "atomic")?;
+        if !report.starts_with(ATOMIC_HEAD) {
+            return Err(Fail::from("another report"));
+        }
+    }
+    Ok(())
+}
+
+// Whether this is how the judged recording of one round ends, and the head of its report, where its history is regular.
+fn is_regular_report(end: &str, report: &[u8]) -> bool {
+    (end == "atomic" || end == "regular")
+        && report.starts_with(b"events 8 calls 4 pending 0 views 2\nregular yes\nmonotone yes\n")
+}
+
+#[test]
+fn a_judged_recording_is_regular_in_every_run(rt: HostRuntime) -> Result<(), Fail> {
+    let plan = one_round(rt.alloc())?;
+    let cutting = cutting(8, 2)?;
+    for _ in 0..20 {
+        let (end, report) = record(&rt, rt.alloc(), &plan, true, cutting, &OpenGate);
+        if !is_regular_report(end, &report) {
+            return Err(Fail::from(end));
+        }
+    }
+    Ok(())
+}
+
+// Worker 0 stores 5 and then takes a view, worker 1 stores 6 and then takes a view.
+fn store_five_and_six(alloc: Global) -> Result<Plan, Fail> {
+    let first = vec![in alloc; Step::Store(5), Step::View]?;
+    let second = vec![in alloc; Step::Store(6), Step::View]?;
+    Ok(Plan::new(vec![in alloc; first, second]?)?)
+}
+
+#[test]
+fn views_that_wait_for_both_stores_show_both(rt: HostRuntime) -> Result<(), Fail> {
+    let plan = store_five_and_six(rt.alloc())?;
+    let gate = Meeting::at_turn(1);
+    let (end, text) = record(&rt, rt.alloc(), &plan, false, cutting(8, 2)?, &gate);
+    assert!(rt; gate.was_held());
+    same(end, "recorded")?;
+    expect_text(
+        &text,
+        8,
+        &["end,0,view,0:1:5 1:1:6", "end,1,view,0:1:5 1:1:6"],
+    )
+}
+
+// The recording of a plan fails into each cup with room for less than these bytes, and a front of them is in the cup.
+fn expect_front<Rt: Threads + Wait + Sync>(
+    rt: &Rt,
+    alloc: Global,
+    plan: &Plan,
+    judge: bool,
+    cutting: Cutting,
+    front: &[u8],
+) -> Result<(), Fail> {
+    for room in 0..front.len() {
+        let mut writer = Counted::new(Cup::new(alloc, room, 1, true, false));
+        let answer = record_run(rt, alloc, plan, judge, &mut writer, cutting, &OpenGate);
+        let failures = writer.failures();
+        let is_front = writer.into_inner().held.as_slice() == &front[..room];
+        same(
+            (end_of(answer), failures, is_front),
+            ("write failed", 1, true),
+        )?;
+    }
+    Ok(())
+}
+
+#[test]
+fn a_recording_whose_writer_fails_has_a_front_of_its_text(rt: HostRuntime) -> Result<(), Fail> {
+    let plan = one_round(rt.alloc())?;
+    let cutting = cutting(8, 2)?;
+    let text = b"event,process,op,data\nbegin,";
+    expect_front(&rt, rt.alloc(), &plan, false, cutting, text)?;
+    let report = b"events 8 calls 4 pending 0 views 2\nregular yes\n";
+    expect_front(&rt, rt.alloc(), &plan, true, cutting, report)
+}
+
+#[test]
+fn a_recording_whose_flush_fails_is_written_whole(rt: HostRuntime) -> Result<(), Fail> {
+    let plan = one_round(rt.alloc())?;
+    let cutting = cutting(8, 2)?;
+    let mut writer = Counted::new(Cup::new(rt.alloc(), 1000, 1000, true, true));
+    let answer = record_run(
+        &rt,
+        rt.alloc(),
+        &plan,
+        false,
+        &mut writer,
+        cutting,
+        &OpenGate,
+    );
+    same(end_of(answer), "write failed")?;
+    same(writer.failures(), 1)?;
+    expect_text(&writer.into_inner().held, 8, &["end,1,update,"])
+}

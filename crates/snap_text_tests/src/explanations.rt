@@ -1,0 +1,189 @@
+//! The explanations of worked histories, against texts written by hand.
+use snap_conditions::{is_atomic, tally_range};
+use snap_core::History;
+use snap_csv::TextFault;
+use snap_explain::{explain, explain_refusal};
+use snap_index::Index;
+use snap_order::build_alone;
+use snap_testing::Step::{Update, Updated, View, Viewed};
+use snap_testing::worked::{
+    ATOMIC_RUN, CROSSED_VIEWS, MISSED_UPDATE, NEVER_WRITTEN, NEW_THEN_OLD, NOTHING, SEEN_PENDING,
+    SHOWN_TOO_EARLY, STALE_AND_WRONG, WRONG_VALUE,
+};
+use snap_testing::{Step, history_of};
+use std::alloc::Global;
+use std::test::Fail;
+
+// The explanation of a history whose events stand in records from a number on.
+fn explained(alloc: Global, history: &History, first: u16) -> Result<Vec<u8>, Fail> {
+    let index = Index::build(alloc, history)?;
+    let tally = tally_range(&index, 0, index.view_count());
+    let mut records = Vec::new(alloc);
+    for place in 0..history.len() {
+        records.push(place as u32 + u32::from(first))?;
+    }
+    if is_atomic(&tally) {
+        let order = build_alone(alloc, &index)?;
+        Ok(explain(alloc, &index, &tally, &records, Some(&order))?)
+    } else {
+        Ok(explain(alloc, &index, &tally, &records, None)?)
+    }
+}
+
+// An update that is shown by a view that ends before it, and that never ends.
+const EARLY_AND_PENDING: &[Step<'static>] = &[
+    Update(3, (9, 1, 4)),
+    Updated(3),
+    View(65535),
+    Viewed(65535, &[(9, 2, 5)]),
+    Update(3, (9, 2, 5)),
+];
+
+// Histories, the record of the first event of each, and its explanation.
+const WORKED: &[(&[Step<'static>], u16, &str)] = &[
+    (
+        NOTHING,
+        2,
+        "atomic: in this order each view shows the latest updates before it\n",
+    ),
+    (
+        ATOMIC_RUN,
+        2,
+        "atomic: in this order each view shows the latest updates before it\n\
+        \x20 call 1 of process 0, records 2 and 3: update 0:1:10\n\
+        \x20 call 3 of process 2, records 5 and 7: view 0:1:10\n\
+        \x20 call 2 of process 1, records 4 and 11: update 1:1:20\n\
+        \x20 call 4 of process 0, records 6 and 8: update 0:2:11\n\
+        \x20 call 5 of process 3, records 9 and 10: view 0:2:11 1:1:20\n",
+    ),
+    (
+        SEEN_PENDING,
+        2,
+        "atomic: in this order each view shows the latest updates before it\n\
+        \x20 call 1 of process 0, record 2, pending: update 0:1:3\n\
+        \x20 call 3 of process 2, records 4 and 5: view 0:1:3\n",
+    ),
+    (
+        WRONG_VALUE,
+        2,
+        "not regular\n\
+        integrity: view 2 shows 0:1:8, which no update wrote\n\
+        \x20 call 2 of process 1, records 4 and 5: view 0:1:8\n\
+        \x20 call 1 of process 0, records 2 and 3: update 0:1:7\n",
+    ),
+    (
+        NEVER_WRITTEN,
+        2,
+        "not regular\n\
+        integrity: view 1 shows 0:4294967295:7, which no update wrote\n\
+        \x20 call 1 of process 1, records 2 and 3: view 0:4294967295:7\n",
+    ),
+    (
+        STALE_AND_WRONG,
+        2,
+        "not regular\n\
+        integrity: view 3 shows 0:1:9, which no update wrote\n\
+        \x20 call 3 of process 2, records 6 and 7: view 0:1:9\n\
+        \x20 call 1 of process 0, records 2 and 3: update 0:1:7\n\
+        proximity: view 2 shows 0:0, though update 0:1 had ended before the view began\n\
+        \x20 call 2 of process 1, records 4 and 5: view\n\
+        \x20 call 1 of process 0, records 2 and 3: update 0:1:7\n",
+    ),
+    (
+        SHOWN_TOO_EARLY,
+        2,
+        "not regular\n\
+        proximity: view 1 shows 0:1, though that update began after the view had ended\n\
+        \x20 call 1 of process 1, records 2 and 3: view 0:1:7\n\
+        \x20 call 2 of process 0, records 4 and 5: update 0:1:7\n",
+    ),
+    (
+        NEW_THEN_OLD,
+        2,
+        "regular, and not atomic\n\
+        read: view 2 shows more of component 0 than view 3, and had ended before that view began\n\
+        \x20 call 2 of process 1, records 3 and 4: view 0:1:7\n\
+        \x20 call 3 of process 2, records 5 and 6: view\n",
+    ),
+    (
+        CROSSED_VIEWS,
+        2,
+        "regular, and not atomic\n\
+        read: view 3 shows more of component 0 than view 4, and less of component 1\n\
+        \x20 call 3 of process 2, records 4 and 6: view 0:1:1\n\
+        \x20 call 4 of process 3, records 5 and 7: view 1:1:1\n",
+    ),
+    (
+        MISSED_UPDATE,
+        2,
+        "regular, and not atomic\n\
+        write: view 1 shows update 1:1, and misses update 0:1, which had ended before that one began\n\
+        \x20 call 1 of process 2, records 2 and 7: view 1:1:6\n\
+        \x20 call 2 of process 0, records 3 and 4: update 0:1:5\n\
+        \x20 call 3 of process 1, records 5 and 6: update 1:1:6\n",
+    ),
+    (
+        EARLY_AND_PENDING,
+        100,
+        "not regular\n\
+        proximity: view 2 shows 9:2, though that update began after the view had ended\n\
+        \x20 call 2 of process 65535, records 102 and 103: view 9:2:5\n\
+        \x20 call 3 of process 3, record 104, pending: update 9:2:5\n",
+    ),
+];
+
+#[test]
+fn each_worked_history_has_its_explanation_with_records_from_the_first_on(
+    rt: HostRuntime,
+) -> Result<(), Fail> {
+    for (steps, first, text) in WORKED {
+        let history = history_of(rt.alloc(), steps)?;
+        let found = explained(rt.alloc(), &history, *first)?;
+        assert_eq!(rt; str::from_utf8(&found)?, *text);
+    }
+    Ok(())
+}
+
+// Places, faults and what is said of them, of a text that has one record under its header.
+const REFUSED: &[(u32, TextFault, &str)] = &[
+    (
+        0,
+        TextFault::TooLong,
+        "refused record 0: toolong\n\
+        a text has at most 67108864 bytes\n\
+        \x20 no record of the text has that number\n",
+    ),
+    (
+        1,
+        TextFault::Header,
+        "refused record 1: header\n\
+        the first record is event,process,op,data, or at,event,process,op,data where records have stamps\n\
+        \x20 record 1 has the fields \"event\" \"process\" \"op\"\n",
+    ),
+    (
+        2,
+        TextFault::TooMany,
+        "refused record 2: toomany\n\
+        a history has at most 65536 events\n\
+        \x20 record 2 has the fields \"end\" \"1\" \"view\" \"0:1:7  1:1:8\"\n",
+    ),
+    (
+        2,
+        TextFault::BadData,
+        "refused record 2: data\n\
+        the field data is an entry at the begin of an update, entries of rising components with one space between two, \
+        or none, at the end of a view, and empty otherwise; an entry is COMPONENT:NUMBER:VALUE, from 0:1:0 to \
+        255:4294967295:4294967295, without signs or leading zeros\n\
+        \x20 record 2 has the fields \"end\" \"1\" \"view\" \"0:1:7  1:1:8\"\n",
+    ),
+];
+
+#[test]
+fn a_fault_of_a_text_has_its_rule_and_the_record_of_its_place(rt: HostRuntime) -> Result<(), Fail> {
+    let text = b"event,process,op\nend,1,view,0:1:7  1:1:8\n".as_slice();
+    for (place, fault, known) in REFUSED {
+        let said = explain_refusal(rt.alloc(), text, *place, *fault)?;
+        assert_eq!(rt; said.as_slice(), known.as_bytes());
+    }
+    Ok(())
+}

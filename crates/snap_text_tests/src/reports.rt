@@ -1,0 +1,39 @@
+use snap_conditions::{is_atomic, tally_range};
+use snap_csv::TextFault;
+use snap_index::Index;
+use snap_report::{refusal_text, report, verdict_text};
+use snap_testing::{history_of, worked};
+use std::test::Fail;
+
+#[test]
+fn a_refusal_names_the_record_and_its_fault(rt: HostRuntime) -> Result<(), Fail> {
+    let text = refusal_text(rt.alloc(), 3, TextFault::Busy)?;
+    assert_eq!(rt; text.as_slice(), b"refused record 3: busy\n".as_slice());
+    Ok(())
+}
+
+#[test]
+fn a_stale_view_is_reported_with_the_number_that_it_shows(rt: HostRuntime) -> Result<(), Fail> {
+    let alloc = rt.alloc();
+    let history = history_of(alloc, worked::STALE_VIEW)?;
+    let index = Index::build(alloc, &history)?;
+    let tally = tally_range(&index, 0, index.view_count());
+    assert!(rt; !is_atomic(&tally));
+    let text = report(alloc, &index, &tally, None)?;
+    let expected =
+        b"events 4 calls 2 pending 0 views 1\nregular no\nmonotone yes\natomic no\nproximity 1 first view 2 entry 0:0 old\n";
+    assert_eq!(rt; text.as_slice(), expected.as_slice());
+    Ok(())
+}
+
+#[test]
+fn the_verdicts_alone_are_three_lines(rt: HostRuntime) -> Result<(), Fail> {
+    let alloc = rt.alloc();
+    let history = history_of(alloc, worked::NEW_THEN_OLD)?;
+    let index = Index::build(alloc, &history)?;
+    let tally = tally_range(&index, 0, index.view_count());
+    let text = verdict_text(alloc, &tally)?;
+    let expected = b"regular yes\nmonotone no\natomic no\n";
+    assert_eq!(rt; text.as_slice(), expected.as_slice());
+    Ok(())
+}

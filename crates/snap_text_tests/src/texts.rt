@@ -1,0 +1,270 @@
+use snap_core::{Counted, Entry, Event, History, View};
+use snap_csv::{ReadRefusal, WriteRefusal, fields_of, read_history, write_history};
+use snap_testing::{Cup, Drip, Newlines};
+use std::alloc::Global;
+use std::io::Read;
+use std::process::Abort;
+use std::test::Fail;
+
+mod record_numbers;
+mod stamps;
+
+const STALE_VIEW: &[u8] =
+    b"event,process,op,data\nbegin,0,update,0:1:7\nend,0,update,\nbegin,1,view,\nend,1,view,\n";
+
+const VIEW_BESIDE_UPDATE: &[u8] =
+    b"event,process,op,data\nbegin,0,update,0:1:3\nbegin,1,view,\nend,1,view,\nend,0,update,\n";
+
+const EACH_FAULT_ONCE: &[(&[u8], u32, &str)] = &[
+    (b"", 1, "header"),
+    (b"event,process,op\n", 1, "header"),
+    (b"Event,process,op,data\n", 1, "header"),
+    (b"event,process,op,data\nbegin,0,view\n", 2, "fields"),
+    (b"event,process,op,data\nbegin,0,view,,\n", 2, "fields"),
+    (
+        b"event,process,op,data\r\nstart,65536,scan,x\r\n",
+        2,
+        "event",
+    ),
+    (b"event,process,op,data\nbegin,65536,scan,x\n", 2, "process"),
+    (b"event,process,op,data\nbegin,00,view,\n", 2, "process"),
+    (b"event,process,op,data\nbegin,+1,view,\n", 2, "process"),
+    (b"event,process,op,data\nbegin,0,scan,x\n", 2, "op"),
+    (b"event,process,op,data\nbegin,0,update,0:01:1\n", 2, "data"),
+    (
+        b"event,process,op,data\nbegin,0,update,256:1:1\n",
+        2,
+        "data",
+    ),
+    (b"event,process,op,data\nbegin,0,update,0:0:1\n", 2, "data"),
+    (b"event,process,op,data\nbegin,0,update,0:1\n", 2, "data"),
+    (
+        b"event,process,op,data\nbegin,0,update,0:1:1:1\n",
+        2,
+        "data",
+    ),
+    (b"event,process,op,data\nbegin,0,update,\n", 2, "data"),
+    (b"event,process,op,data\nbegin,0,view,x\n", 2, "data"),
+    (
+        b"event,process,op,data\nend,0,view,1:1:1 0:1:1\n",
+        2,
+        "data",
+    ),
+    (
+        b"event,process,op,data\nend,0,view,0:1:1  1:1:1\n",
+        2,
+        "data",
+    ),
+    (b"event,process,op,data\nend,0,view, 0:1:1\n", 2, "data"),
+    (
+        b"event,process,op,data\nbegin,0,update,0:1:4294967296\n",
+        2,
+        "data",
+    ),
+    (
+        b"event,process,op,data\nbegin,0,view,\nbegin,0,view,\n",
+        3,
+        "busy",
+    ),
+    (
+        b"\"event\",process,op,data\r\n\r\n\"end\",\"0\",view,\n",
+        2,
+        "idle",
+    ),
+    (
+        b"event,process,op,data\nbegin,0,view,\nend,0,update,\n",
+        3,
+        "otherop",
+    ),
+    (
+        b"event,process,op,data\nbegin,0,update,0:1:1\nend,0,update,\nbegin,1,update,0:2:1\n",
+        4,
+        "writer",
+    ),
+    (
+        b"event,process,op,data\nbegin,0,update,0:2:1\n",
+        2,
+        "number",
+    ),
+    (
+        b"event,process,op,data\nbegin,0,update,0:4294967295:1\n",
+        2,
+        "number",
+    ),
+    (
+        b"event,process,op,data\nbegin,0,update,0:1:1\nend,0,update,\nbegin,0,update,0:1:1\n",
+        4,
+        "number",
+    ),
+];
+
+fn refusal_of<R: Read + Drop>(alloc: Global, inner: R) -> (u32, &'static str) {
+    let mut reader = Counted::new(inner);
+    match read_history(alloc, &mut reader) {
+        Ok(_) => (0, "none"),
+        Err(ReadRefusal::Text { place, fault }) => (place, fault.word()),
+        Err(ReadRefusal::Device) => (0, "device"),
+        Err(ReadRefusal::Memory) => (0, "memory"),
+    }
+}
+
+fn count_of(alloc: Global, text: &[u8]) -> Option<usize> {
+    let mut reader = Counted::new(text);
+    match read_history(alloc, &mut reader) {
+        Ok(history) => Some(history.len()),
+        Err(_) => None,
+    }
+}
+
+// The header, and process 0's begins and ends of 32,768 updates.
+fn full_text(alloc: Global) -> Result<Vec<u8>, std::alloc::AllocError> {
+    let mut text = Vec::from_slice(alloc, b"event,process,op,data\n")?;
+    for i in 1..32769u32 {
+        text.extend_from_slice(b"begin,0,update,0:")?;
+        text.extend_from_slice(itoa::Buffer::new().format(i).as_bytes())?;
+        text.extend_from_slice(b":0\nend,0,update,\n")?;
+    }
+    Ok(text)
+}
+
+#[test]
+fn refuses_each_fault_at_its_place_by_its_word(rt: HostRuntime) {
+    for (text, place, word) in EACH_FAULT_ONCE {
+        let (found, fault) = refusal_of(rt.alloc(), *text);
+        assert_eq!(rt; found, *place, "at {word}");
+        assert_eq!(rt; fault, *word);
+    }
+}
+
+#[test]
+fn names_the_first_of_two_faults(rt: HostRuntime) {
+    let in_one_record = b"event,process,op,data\nstart,0,scan,x\n".as_slice();
+    assert_eq!(rt; refusal_of(rt.alloc(), in_one_record).1, "event");
+    let in_two_records = b"event,process,op,data\nbegin,0,scan,\nstart,0,view,\n".as_slice();
+    assert_eq!(rt; refusal_of(rt.alloc(), in_two_records).0, 2);
+    assert_eq!(rt; refusal_of(rt.alloc(), in_two_records).1, "op");
+}
+
+#[test]
+fn takes_a_history_as_long_as_it_may_be_and_no_event_more(rt: HostRuntime) -> Result<(), Fail> {
+    let mut text = full_text(rt.alloc())?;
+    assert_eq!(rt; count_of(rt.alloc(), &text), Some(65536));
+    text.extend_from_slice(b"begin,0,view,\n")?;
+    assert_eq!(rt; refusal_of(rt.alloc(), text.as_slice()).0, 65538);
+    assert_eq!(rt; refusal_of(rt.alloc(), text.as_slice()).1, "toomany");
+    Ok(())
+}
+
+#[test]
+fn tests_the_length_of_a_text_before_its_records(rt: HostRuntime) {
+    let too_long = refusal_of(rt.alloc(), Newlines { left: 67108865 });
+    assert_eq!(rt; too_long.0, 0);
+    assert_eq!(rt; too_long.1, "toolong");
+    let longest = refusal_of(rt.alloc(), Newlines { left: 67108864 });
+    assert_eq!(rt; longest.0, 1);
+    assert_eq!(rt; longest.1, "header");
+}
+
+#[test]
+fn reads_the_header_alone(rt: HostRuntime) {
+    assert_eq!(rt; count_of(rt.alloc(), b"event,process,op,data\n"), Some(0));
+    assert_eq!(rt; count_of(rt.alloc(), b"event,process,op,data"), Some(0));
+}
+
+#[test]
+fn reads_quoted_fields_and_every_end_of_a_line(rt: HostRuntime) {
+    let quoted =
+        b"\"event\",\"process\",\"op\",\"data\"\r\n\"begin\",\"0\",\"view\",\"\"\r\n".as_slice();
+    assert_eq!(rt; count_of(rt.alloc(), quoted), Some(1));
+    let returns = b"event,process,op,data\rbegin,0,view,\r".as_slice();
+    assert_eq!(rt; count_of(rt.alloc(), returns), Some(1));
+    let marked = b"\xef\xbb\xbfevent,process,op,data\nbegin,0,view,\n".as_slice();
+    assert_eq!(rt; count_of(rt.alloc(), marked), Some(1));
+}
+
+#[test]
+fn reads_a_byte_at_a_time(rt: HostRuntime) {
+    let mut reader = Counted::new(Drip::new(STALE_VIEW, 0));
+    let count = read_history(rt.alloc(), &mut reader).ok().map(|h| h.len());
+    assert_eq!(rt; count, Some(4));
+    assert_eq!(rt; reader.failures(), 0);
+}
+
+#[test]
+fn a_failed_read_is_the_answer_wherever_it_comes(rt: HostRuntime) {
+    for at in 1..STALE_VIEW.len() as u64 + 2 {
+        let mut reader = Counted::new(Drip::new(STALE_VIEW, at));
+        let answer = read_history(rt.alloc(), &mut reader).err();
+        assert_eq!(rt; answer, Some(ReadRefusal::Device));
+        assert_eq!(rt; reader.failures(), 1);
+    }
+}
+
+// An event has these four fields.
+fn expect_fields(
+    rt: &impl Abort,
+    alloc: Global,
+    event: &Event,
+    known: [&str; 4],
+) -> Result<(), Fail> {
+    let fields = fields_of(alloc, event)?;
+    for (field, known) in fields.iter().zip(known) {
+        assert_eq!(rt; field.as_slice(), known.as_bytes());
+    }
+    Ok(())
+}
+
+#[test]
+fn spells_the_four_fields_of_an_event(rt: HostRuntime) -> Result<(), Fail> {
+    let entry = Entry {
+        component: 0,
+        number: 1,
+        value: 3,
+    };
+    let begin = Event::BeginUpdate { process: 0, entry };
+    expect_fields(&rt, rt.alloc(), &begin, ["begin", "0", "update", "0:1:3"])?;
+    let shown = vec![in rt.alloc();
+        entry,
+        Entry {
+            component: 255,
+            number: 4294967295,
+            value: 0
+        },
+    ]?;
+    let view = View::from_entries(shown).ok().ok_or("a view")?;
+    let end = Event::EndView {
+        process: 65535,
+        view,
+    };
+    let known = ["end", "65535", "view", "0:1:3 255:4294967295:0"];
+    expect_fields(&rt, rt.alloc(), &end, known)
+}
+
+#[test]
+fn writes_the_text_that_it_read(rt: HostRuntime) -> Result<(), Fail> {
+    let mut reader = Counted::new(VIEW_BESIDE_UPDATE);
+    let history = read_history(rt.alloc(), &mut reader)
+        .ok()
+        .ok_or("a history")?;
+    let mut writer = Counted::new(Vec::new(rt.alloc()));
+    assert_eq!(rt; write_history(rt.alloc(), &mut writer, &history), Ok(()));
+    assert_eq!(rt; writer.into_inner().as_slice(), VIEW_BESIDE_UPDATE);
+    Ok(())
+}
+
+#[test]
+fn a_failed_write_or_flush_is_the_answer(rt: HostRuntime) -> Result<(), Fail> {
+    let mut history = History::new(rt.alloc());
+    assert!(rt; history.push(Event::BeginView { process: 0 }).is_ok());
+    let text = b"event,process,op,data\nbegin,0,view,\n".as_slice();
+    for (room, fails_at_flush) in [(0, false), (10, false), (36, true)] {
+        let mut writer = Counted::new(Cup::new(rt.alloc(), room, 3, false, fails_at_flush));
+        let answer = write_history(rt.alloc(), &mut writer, &history);
+        assert_eq!(rt; answer, Err(WriteRefusal::Device));
+        assert_eq!(rt; writer.failures(), 1);
+        let cup = writer.into_inner();
+        assert_eq!(rt; cup.held.as_slice(), &text[..room]);
+        assert_eq!(rt; cup.flushes, u64::from(fails_at_flush));
+    }
+    Ok(())
+}
