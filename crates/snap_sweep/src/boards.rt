@@ -1,9 +1,12 @@
 //! Desks of a board, which are as before where memory is refused.
+ghost use Rattle.std.specs.Prelude.{IfOk, IfSome};
+ghost use Rattle.snap_board.specs.Desks.{IsDeskOf, IsGatheredOf};
+
 use crate::fault::{Fault, expect};
 use snap_core::Entry;
-use snap_record::{Board, CollectRefusal, Record, RecordedOp, ScanRefusal};
+use snap_record::{Board, CollectRefusal, Desk, Gathered, Record, RecordedOp, ScanRefusal};
 use snap_testing::entry;
-use std::alloc::Global;
+use std::alloc::{AllocError, Global};
 
 // The record has these stamps and is of a view that shows just this entry.
 fn expect_view(record: &Record, begun: u64, ended: u64, shown: Entry) -> Result<(), Fault> {
@@ -14,26 +17,46 @@ fn expect_view(record: &Record, begun: u64, ended: u64, shown: Entry) -> Result<
     expect(record.begun == begun && record.ended == ended && shows)
 }
 
+// Takes a desk, and once more where that is refused.
+fn take_desk(
+    alloc: Global,
+    board: &Board,
+    gathered: &mut Gathered,
+) -> Result<Option<Desk>, AllocError>
+    requires { IsGatheredOf board.now gathered.old }
+    ensures gathered { IsGatheredOf board.now gathered.new }
+    ensures desk { IfOk result (λ taken. IfSome taken (λ desk. IsDeskOf board.now desk)) }
+{
+    match board.take(alloc, gathered) {
+        Ok(taken) => Ok(taken),
+        Err(_refused) => board.take(alloc, gathered),
+    }
+}
+
+// Stores, and then collects, and once more where that is refused, with the stamps that the refused collect would have had.
+fn store_and_collect(alloc: Global, board: &Board, desk: &mut Desk) -> Result<(), Fault>
+    requires { IsDeskOf board.now desk.old }
+    ensures { IsDeskOf board.now desk.new }
+{
+    let Ok(stored) = board.store(desk, 9) else {
+        return Err(Fault::Wrong);
+    };
+    expect(desk.process() == 1 && stored.begun == 0 && stored.ended == 1)?;
+    let viewed = match board.collect(alloc, desk) {
+        Err(CollectRefusal::Memory) => board.collect(alloc, desk)?,
+        answer => answer?,
+    };
+    expect_view(&viewed, 2, 3, entry(1, 1, 9))
+}
+
 /// The first desk stores and collects. After a refusal the next `take` gives the same desk, and the next collect has the
 /// stamps that the refused one would have had.
 pub fn collect(alloc: Global) -> Result<(), Fault> {
     let (board, mut gathered) = Board::open(alloc, 2)?;
-    let taken = match board.take(alloc, &mut gathered) {
-        Ok(taken) => taken,
-        Err(_refused) => board.take(alloc, &mut gathered)?,
-    };
-    let Some(mut desk) = taken else {
+    let Some(mut desk) = take_desk(alloc, &board, &mut gathered)? else {
         return Err(Fault::Wrong);
     };
-    let Ok(stored) = board.store(&mut desk, 9) else {
-        return Err(Fault::Wrong);
-    };
-    expect(desk.process() == 1 && stored.begun == 0 && stored.ended == 1)?;
-    let viewed = match board.collect(alloc, &mut desk) {
-        Err(CollectRefusal::Memory) => board.collect(alloc, &mut desk)?,
-        answer => answer?,
-    };
-    expect_view(&viewed, 2, 3, entry(1, 1, 9))?;
+    store_and_collect(alloc, &board, &mut desk)?;
     let gathered = board.give_back(gathered, desk);
     let Ok(closed) = board.close(gathered) else {
         return Err(Fault::Wrong);

@@ -58,27 +58,46 @@ pub fn index(alloc: Global) -> Result<(), Fault> {
     expect(index.update_call(1, 1) == Some(1) && index.update_call(1, 2).is_none())
 }
 
+// The list is a legal order, and the one that is printed.
+fn expect_printed<R: Threads + Sync>(
+    rt: &R,
+    alloc: Global,
+    index: &Index<'_>,
+    order: &[u32],
+) -> Result<(), Fault> {
+    if !check_order(alloc, index, order)? {
+        return Err(Fault::Wrong);
+    }
+    expect(build(rt, alloc, index)?.as_slice() == order)
+}
+
 /// The update that was shown and then the view are a legal order, and the one that is printed.
 pub fn order<R: Threads + Sync>(rt: &R, alloc: Global) -> Result<(), Fault> {
     let history = history_of(alloc, SEEN_PENDING)?;
     let index = Index::build(alloc, &history)?;
     expect(!check_order(alloc, &index, &[2, 0])?)?;
-    if !check_order(alloc, &index, &[0, 2])? {
+    expect_printed(rt, alloc, &index, &[0, 2])
+}
+
+// In as many pieces and by as many workers as there may be, an index has two read faults and no other.
+fn expect_two_read_faults<R: Threads + Sync>(
+    rt: &R,
+    alloc: Global,
+    index: &Index<'_>,
+) -> Result<(), Fault> {
+    let Ok(cutting) = Cutting::new(PIECE_LIMIT, WORKER_LIMIT) else {
         return Err(Fault::Wrong);
-    }
-    expect(build(rt, alloc, &index)?.as_slice() == [0, 2].as_slice())
+    };
+    let found = tally(rt, alloc, index, cutting, &OpenGate)?;
+    expect(found.integrity.count() == 0 && found.proximity.count() == 0)?;
+    expect(found.read.count() == 2 && found.write.count() == 0)
 }
 
 /// Two views disagree, and as many workers as there may be see it.
 pub fn tally_of_pieces<R: Threads + Sync>(rt: &R, alloc: Global) -> Result<(), Fault> {
     let history = history_of(alloc, CROSSED_VIEWS)?;
     let index = Index::build(alloc, &history)?;
-    let Ok(cutting) = Cutting::new(PIECE_LIMIT, WORKER_LIMIT) else {
-        return Err(Fault::Wrong);
-    };
-    let found = tally(rt, alloc, &index, cutting, &OpenGate)?;
-    expect(found.integrity.count() == 0 && found.proximity.count() == 0)?;
-    expect(found.read.count() == 2 && found.write.count() == 0)
+    expect_two_read_faults(rt, alloc, &index)
 }
 
 /// Of three pieces the first claim draws two, and both claims close the counter.

@@ -138,6 +138,21 @@ pub fn fields(alloc: Global) -> Result<(), Fault> {
     expect(fields[3].as_slice() == b"0:1:3".as_slice())
 }
 
+// A text was made, and is this one.
+fn expect_bytes(made: Result<Vec<u8>, AllocError>, text: &[u8]) -> Result<(), Fault> {
+    expect(made?.as_slice() == text)
+}
+
+// A status and a text were made, and are these.
+fn expect_verdict(
+    made: Result<(Status, Vec<u8>), AllocError>,
+    wanted: Status,
+    text: &[u8],
+) -> Result<(), Fault> {
+    let (status, made) = made?;
+    expect(status == wanted && made.as_slice() == text)
+}
+
 /// The report of a history with faults.
 pub fn report_of_faults(alloc: Global) -> Result<(), Fault> {
     let history = history_of(alloc, CROSSED_VIEWS)?;
@@ -146,11 +161,10 @@ pub fn report_of_faults(alloc: Global) -> Result<(), Fault> {
     if is_atomic(&tally) {
         return Err(Fault::Wrong);
     }
-    let text = report(alloc, &index, &tally, None)?;
-    expect(text.as_slice() == CROSSED_VIEWS_REPORT)
+    expect_bytes(report(alloc, &index, &tally, None), CROSSED_VIEWS_REPORT)
 }
 
-/// The same in the memory of a vector, and then with its status.
+/// The same in the memory of a vector.
 pub fn report_in_memory(alloc: Global) -> Result<(), Fault> {
     let history = history_of(alloc, CROSSED_VIEWS)?;
     let index = Index::build(alloc, &history)?;
@@ -159,21 +173,37 @@ pub fn report_in_memory(alloc: Global) -> Result<(), Fault> {
         return Err(Fault::Wrong);
     }
     let room = vec![in alloc; b'x']?;
-    let text = report_in(room, &index, &tally, None)?;
-    expect(text.as_slice() == CROSSED_VIEWS_REPORT)?;
-    let (status, text) = verdict_of(&index, &tally, None, text)?;
-    expect(status == Status::Regular && text.as_slice() == CROSSED_VIEWS_REPORT)
+    expect_bytes(report_in(room, &index, &tally, None), CROSSED_VIEWS_REPORT)
 }
 
-/// The lines of the verdicts alone, and then with the status.
+/// The same with its status.
+pub fn verdict_in_memory(alloc: Global) -> Result<(), Fault> {
+    let history = history_of(alloc, CROSSED_VIEWS)?;
+    let index = Index::build(alloc, &history)?;
+    let tally = tally_range(&index, 0, index.view_count());
+    if is_atomic(&tally) {
+        return Err(Fault::Wrong);
+    }
+    let room = vec![in alloc; b'x']?;
+    let made = verdict_of(&index, &tally, None, room);
+    expect_verdict(made, Status::Regular, CROSSED_VIEWS_REPORT)
+}
+
+/// The lines of the verdicts alone.
 pub fn verdicts_alone(alloc: Global) -> Result<(), Fault> {
     let history = history_of(alloc, CROSSED_VIEWS)?;
     let index = Index::build(alloc, &history)?;
     let tally = tally_range(&index, 0, index.view_count());
-    let text = verdict_text(alloc, &tally)?;
-    expect(text.as_slice() == CROSSED_VIEWS_VERDICTS)?;
-    let (status, text) = brief_verdict_of(alloc, &index, &tally)?;
-    expect(status == Status::Regular && text.as_slice() == CROSSED_VIEWS_VERDICTS)
+    expect_bytes(verdict_text(alloc, &tally), CROSSED_VIEWS_VERDICTS)
+}
+
+/// The same with the status.
+pub fn brief_verdict(alloc: Global) -> Result<(), Fault> {
+    let history = history_of(alloc, CROSSED_VIEWS)?;
+    let index = Index::build(alloc, &history)?;
+    let tally = tally_range(&index, 0, index.view_count());
+    let made = brief_verdict_of(alloc, &index, &tally);
+    expect_verdict(made, Status::Regular, CROSSED_VIEWS_VERDICTS)
 }
 
 /// Of a view that misses an update and one that shows a value that nobody wrote, the latter is the witness, with the update.
@@ -189,17 +219,19 @@ pub fn witness_of_fault(alloc: Global) -> Result<(), Fault> {
 
 /// The line of a text that is refused.
 pub fn refusal(alloc: Global) -> Result<(), Fault> {
-    let text = refusal_text(alloc, 3, TextFault::Busy)?;
-    expect(text.as_slice() == b"refused record 3: busy\n".as_slice())
+    expect_bytes(
+        refusal_text(alloc, 3, TextFault::Busy),
+        b"refused record 3: busy\n",
+    )
 }
 
 /// The status and the report of a history, of its text, and of a text that is none.
 pub fn verdict(alloc: Global) -> Result<(), Fault> {
     let history = history_of(alloc, VIEW_BESIDE_UPDATE)?;
-    let (status, text) = verdict_alone(alloc, &history)?;
-    expect(status == Status::Atomic && text.as_slice() == VIEW_BESIDE_UPDATE_REPORT)?;
-    let (status, text) = judge_text(alloc, VIEW_BESIDE_UPDATE_TEXT)?;
-    expect(status == Status::Atomic && text.as_slice() == VIEW_BESIDE_UPDATE_REPORT)?;
-    let (status, text) = judge_text(alloc, BUSY_TEXT)?;
-    expect(status == Status::Refused && text.as_slice() == b"refused record 3: busy\n".as_slice())
+    let made = verdict_alone(alloc, &history);
+    expect_verdict(made, Status::Atomic, VIEW_BESIDE_UPDATE_REPORT)?;
+    let made = judge_text(alloc, VIEW_BESIDE_UPDATE_TEXT);
+    expect_verdict(made, Status::Atomic, VIEW_BESIDE_UPDATE_REPORT)?;
+    let made = judge_text(alloc, BUSY_TEXT);
+    expect_verdict(made, Status::Refused, b"refused record 3: busy\n")
 }

@@ -29,7 +29,39 @@ const SEVEN_NEW_THEN_OLD: &[Step<'static>] = &[
     Updated(0),
 ];
 
-// The views of a history have these sums, this chain, and such an order.
+// A list was made, and is this one.
+fn expect_places(made: Option<Vec<u32>>, known: Option<&[u32]>) -> Result<(), Fault> {
+    match made {
+        Some(places) => expect(Some(places.as_slice()) == known),
+        None => expect(known.is_none()),
+    }
+}
+
+// The views of an index have these sums and this chain.
+fn expect_sorted(
+    alloc: Global,
+    index: &Index<'_>,
+    known_sums: &[u64],
+    known_chain: Option<&[u32]>,
+) -> Result<(), Fault> {
+    let sums = view_sums(alloc, index)?;
+    expect(sums.as_slice() == known_sums)?;
+    expect_places(chain(alloc, index, &sums)?, known_chain)
+}
+
+// By their sums the views of an index are in order or not, and the quick test passes or not.
+fn expect_passes(
+    alloc: Global,
+    index: &Index<'_>,
+    is_ordered: bool,
+    passes: bool,
+) -> Result<(), Fault> {
+    let sums = view_sums(alloc, index)?;
+    expect(ordered(alloc, index, &sums)? == is_ordered)?;
+    expect(has_no_read_fault(alloc, index, &sums)? == passes)
+}
+
+// The views of a history have these sums, this chain, and such an order, and have no read fault or have one.
 fn expect_chain(
     alloc: Global,
     steps: &[Step<'_>],
@@ -39,30 +71,20 @@ fn expect_chain(
 ) -> Result<(), Fault> {
     let history = history_of(alloc, steps)?;
     let index = Index::build(alloc, &history)?;
-    let sums = view_sums(alloc, &index)?;
-    expect(sums.as_slice() == known_sums)?;
-    match chain(alloc, &index, &sums)? {
-        Some(places) => expect(Some(places.as_slice()) == known_chain)?,
-        None => expect(known_chain.is_none())?,
-    }
-    expect(ordered(alloc, &index, &sums)? == is_ordered)
-}
-
-// The quick test finds that a history has no read fault, or that it has one.
-fn expect_quick_test(alloc: Global, steps: &[Step<'_>], passes: bool) -> Result<(), Fault> {
-    let history = history_of(alloc, steps)?;
-    let index = Index::build(alloc, &history)?;
-    let sums = view_sums(alloc, &index)?;
-    expect(has_no_read_fault(alloc, &index, &sums)? == passes)
+    expect_sorted(alloc, &index, known_sums, known_chain)?;
+    expect_passes(
+        alloc,
+        &index,
+        is_ordered,
+        is_ordered && known_chain.is_some(),
+    )
 }
 
 /// Views that disagree are no chain, a view after a newer one is one out of order, and those of an atomic run are one in order.
 pub fn chains(alloc: Global) -> Result<(), Fault> {
     expect_chain(alloc, CROSSED_VIEWS, &[1, 1], None, true)?;
     expect_chain(alloc, NEW_THEN_OLD, &[1, 0], Some(&[1, 0]), false)?;
-    expect_chain(alloc, ATOMIC_RUN, &[1, 3], Some(&[0, 1]), true)?;
-    expect_quick_test(alloc, NEW_THEN_OLD, false)?;
-    expect_quick_test(alloc, ATOMIC_RUN, true)
+    expect_chain(alloc, ATOMIC_RUN, &[1, 3], Some(&[0, 1]), true)
 }
 
 // A tally has so many read faults and stale views, and no other fault.
@@ -83,12 +105,22 @@ fn expect_tally_alone(
     expect_faults(&tally_alone(alloc, &index)?, read, stale)
 }
 
-// By its grid a history has so many of them.
+// By the grid of its views an index has so many of them.
+fn expect_tally_by_grid(
+    alloc: Global,
+    index: &Index<'_>,
+    read: u64,
+    stale: u64,
+) -> Result<(), Fault> {
+    let grid = ViewGrid::build(alloc, index)?;
+    expect_faults(&grid.tally(alloc, 0, index.view_count())?, read, stale)
+}
+
+// By the grid of its views a history has so many of them.
 fn expect_tally(alloc: Global, steps: &[Step<'_>], read: u64, stale: u64) -> Result<(), Fault> {
     let history = history_of(alloc, steps)?;
     let index = Index::build(alloc, &history)?;
-    let grid = ViewGrid::build(alloc, &index)?;
-    expect_faults(&grid.tally(alloc, 0, index.view_count())?, read, stale)
+    expect_tally_by_grid(alloc, &index, read, stale)
 }
 
 /// Grids of few views, and of views most of which leave a component out; and the tally without one.
