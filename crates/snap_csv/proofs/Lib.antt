@@ -1,4 +1,5 @@
 pub mod RowFacts
+pub mod PlainFacts
 pub mod NumberFacts
 pub mod FrontFacts
 pub mod FieldFacts

@@ -1,5 +1,5 @@
 -- Reading the records under the header in turn.
-use Rattle.std.proofs.Common.{Bor, ◌≡◌, ◌<◌, ◌≤◌, ◌+◌, ◌++◌, inl, inr, ℕ, suc, true, false, List, [], ◌∷◌, length, get_or, take, drop, Some, None, Result, Ok, Err, refl, arith, ◌∙◌, sym, ap, add-one}
+use Rattle.std.proofs.Common.{◌≡◌, ◌<◌, ◌≤◌, ◌+◌, ◌++◌, inl, inr, ℕ, suc, true, false, List, [], ◌∷◌, length, get_or, take, drop, Some, None, Result, Ok, Err, refl, arith, ◌∙◌, sym, ap, add-one}
 use Rattle.std.specs.Prelude.{◌==◌, ◌≢◌, nat_le}
 use Rattle.std.specs.Global.{Vec}
 use Rattle.std.specs.List.{range_with_len}
@@ -9,25 +9,24 @@ use Rattle.std.proofs.lemmas.Bool.Decides.{nat_tests}
 use Rattle.std.proofs.lemmas.List.{drop_all, length-append, length-drop, take_all}
 use Rattle.std.proofs.lemmas.List.Elements.{filter_map-append}
 use Rattle.std.proofs.Math.Seq.{drop-cons, take-suc}
-use Rattle.csv.specs.declared.reader.Reader.{Reader}
 use Rattle.snap_core.specs.declared.event.Event.{Event}
 use Rattle.snap_core.specs.Events.{event_limit}
 use Rattle.snap_csv.specs.declared.refusal.TextFault.TheVariants as faults
 use Rattle.snap_csv.specs.declared.refusal.ReadRefusal.{ReadRefusal}
 use Rattle.snap_csv.specs.declared.refusal.ReadRefusal.TheVariants as refusals
-use Rattle.snap_csv.specs.Rows.{Fields, Stands}
+use Rattle.snap_csv.specs.Rows.{Fields}
 use Rattle.snap_csv.specs.Fields.{event_of, is_header_row, is_stamped_header_row}
 use Rattle.snap_csv.specs.Faults.{event_in, events_in, fault_with, fault_at, row_event, row_fault}
 use Rattle.snap_csv.specs.Texts.{RowsFault}
 use Rattle.snap_csv.specs.Answers.{AnswersNumbered, AnswersStamps, FailsEvent, RefusesRow, RefusesRows, RefusesStamps, TakesEvent, TakesRow}
 
--- the reader stands before the record at place i under the header, and the history is that of those before it
-pub record Midway (rows : List Fields) (r : Reader (Bor (List ℕ))) (events : List Event) (i : ℕ) : Type 0 where
+-- what is left to be read is the records from place i under the header on, and the history is that of those before it
+pub record Midway (rows : List Fields) (Left : List Fields → Type 0) (events : List Event) (i : ℕ) : Type 0 where
   pub head : Fields
   pub later : List Fields
   pub whole : rows ≡ head ∷ later
   pub header : is_header_row head ≡ true
-  pub stands : Stands r (drop i later)
+  pub left : Left (drop i later)
   pub within : i ≤ length later
   pub fine : (j : ℕ) → j < i → fault_at later j ≡ None
   pub history : events ≡ events_in (take i later)
@@ -83,44 +82,44 @@ at_drop xs i r rest e = elim (cases_lt i (length xs)) [
   | inr le ↦ let none = drop_all i xs le in absurd (cc)
 ]
 
-pub begun : (rows : List Fields) (r : Reader (Bor (List ℕ))) (head : Fields) (events : List Event) → (rest : List Fields) × (rows ≡ head ∷ rest) × Stands r rest → is_header_row head ≡ true → events ≡ [] → Midway rows r events 0
-begun rows r head events (rest, e, s) h none = record {
+pub begun : (rows : List Fields) (Left : List Fields → Type 0) (head : Fields) (events : List Event) → (rest : List Fields) × (rows ≡ head ∷ rest) × Left rest → is_header_row head ≡ true → events ≡ [] → Midway rows Left events 0
+begun rows Left head events (rest, e, s) h none = record {
   head = head;
   later = rest;
   whole = e;
   header = h;
-  stands = s;
+  left = s;
   within = omega arith;
   fine = λ j lt. absurd (omega arith);
   history = none;
   count = rw none refl;
 }
 
-pub done : (rows : List Fields) (r : Reader (Bor (List ℕ))) (events : List Event) (i : ℕ) (m : Midway rows r events i) → drop i m.later ≡ [] → AnswersNumbered rows (Ok (events, None))
-done rows r events i m e =
+pub done : (rows : List Fields) (Left : List Fields → Type 0) (events : List Event) (i : ℕ) (m : Midway rows Left events i) → drop i m.later ≡ [] → AnswersNumbered rows (Ok (events, None))
+done rows Left events i m e =
     let len : length m.later ≤ i = omega (arith, length-drop i m.later, ap length e) in
     let all : take i m.later ≡ m.later = take_all i m.later len in
     let count : length events ≡ length m.later = omega (arith, m.count, m.within) in
     rw m.whole (inl (m.header, λ j lt. m.fine j (omega (arith, m.within)), rw all at m.history), inl (m.header, ap (range_with_len 2) count))
 
-fault_here : (rows : List Fields) (r : Reader (Bor (List ℕ))) (events : List Event) (i : ℕ) (m : Midway rows r events i) (row : Fields) → get_or m.later i [] ≡ row
+fault_here : (rows : List Fields) (Left : List Fields → Type 0) (events : List Event) (i : ℕ) (m : Midway rows Left events i) (row : Fields) → get_or m.later i [] ≡ row
     → fault_at m.later i ≡ row_fault events row
-fault_here rows r events i m row e = rw (e, ← m.history) refl
+fault_here rows Left events i m row e = rw (e, ← m.history) refl
 
-pub stopped : (rows : List Fields) (r : Reader (Bor (List ℕ))) (events : List Event) (i : ℕ) (m : Midway rows r events i) (row : Fields) (rest : List Fields) (e : ReadRefusal)
+pub stopped : (rows : List Fields) (Left : List Fields → Type 0) (events : List Event) (i : ℕ) (m : Midway rows Left events i) (row : Fields) (rest : List Fields) (e : ReadRefusal)
     → drop i m.later ≡ row ∷ rest → RefusesRow (i + 2) events row e → RefusesRows rows e
-stopped rows r events i m row rest (refusals.Text p f) d t =
+stopped rows Left events i m row rest (refusals.Text p f) d t =
     let (lt, here, next) = at_drop m.later i row rest d in
-    rw m.whole (inr (inl (m.header, i, t.0, record { place = lt; fault = fault_here rows r events i m row here ∙ t.1; first = m.fine })))
-stopped rows r events i m row rest refusals.Device d t = t
-stopped rows r events i m row rest refusals.Memory d t = tt
+    rw m.whole (inr (inl (m.header, i, t.0, record { place = lt; fault = fault_here rows Left events i m row here ∙ t.1; first = m.fine })))
+stopped rows Left events i m row rest refusals.Device d t = t
+stopped rows Left events i m row rest refusals.Memory d t = tt
 
 fine_more : (later : List Fields) (i : ℕ) → ((j : ℕ) → j < i → fault_at later j ≡ None) → fault_at later i ≡ None → (j : ℕ) → j < i + 1 → fault_at later j ≡ None
 fine_more later i h here = below_more (λ j. fault_at later j ≡ None) i h here
 
-pub more : (rows : List Fields) (a b : Reader (Bor (List ℕ))) (old new : List Event) (i : ℕ) (m : Midway rows a old i) (row : Fields)
-    → (rest : List Fields) × (drop i m.later ≡ row ∷ rest) × Stands b rest → TakesRow (i + 2) old new row (Ok tt) → Midway rows b new (i + 1)
-more rows a b old new i m row (rest, d, s) (none, x, is, longer) =
+pub more : (rows : List Fields) (A B : List Fields → Type 0) (old new : List Event) (i : ℕ) (m : Midway rows A old i) (row : Fields)
+    → (rest : List Fields) × (drop i m.later ≡ row ∷ rest) × B rest → TakesRow (i + 2) old new row (Ok tt) → Midway rows B new (i + 1)
+more rows A B old new i m row (rest, d, s) (none, x, is, longer) =
     let (lt, here, next) = at_drop m.later i row rest d in
     let taken : take (i + 1) m.later ≡ take i m.later ++ row ∷ [] = rw (add-one, take-suc m.later i [] lt, here) refl in
     let events : new ≡ events_in (take (i + 1) m.later) = rw (longer, taken, filter_map-append (λ r. event_in (row_event r)) (take i m.later) (row ∷ []), m.history, is) refl in
@@ -129,9 +128,9 @@ more rows a b old new i m row (rest, d, s) (none, x, is, longer) =
       later = m.later;
       whole = m.whole;
       header = m.header;
-      stands = rw next s;
+      left = rw next s;
       within = omega arith;
-      fine = fine_more m.later i m.fine (fault_here rows a old i m row here ∙ none);
+      fine = fine_more m.later i m.fine (fault_here rows A old i m row here ∙ none);
       history = events;
       count = rw longer (omega (arith, length-append old (x ∷ []), m.count));
     }

@@ -1,4 +1,5 @@
 pub mod Rows
+pub mod Lines
 pub mod Words
 pub mod Fields
 pub mod Faults

@@ -6,6 +6,7 @@ mod fields;
 mod intake;
 mod known;
 mod law;
+mod lines;
 mod number;
 mod read;
 mod records;

@@ -1,4 +1,4 @@
-ghost use Rattle.std.specs.Prelude.{◌≡◌, IfSome};
+ghost use Rattle.std.specs.Prelude.{◌≡◌, ◌∷◌, [], IfSome};
 ghost use Rattle.snap_core.specs.Counting.{inner_of, failures_in};
 ghost use Rattle.snap_csv.specs.Answers.{AnswersNumbered, AnswersRows, AnswersText, AnswersWhole, Counts, TakesEvent, TakesRow};
 ghost use Rattle.snap_csv.specs.Faults.{fault_of};
@@ -8,6 +8,7 @@ ghost use Rattle.csv.specs.Records.{fields_of};
 use crate::fields::{event_of_fields, four_fields, is_header, is_stamped_header};
 use crate::intake::{BYTE_LIMIT, take_in};
 use crate::known::Known;
+use crate::lines::{lines_history, lines_under_header};
 use crate::refusal::{ReadRefusal, TextFault};
 use crate::rows::{next_row, reader_of};
 use crate::stamped::stamped_history;
@@ -44,19 +45,33 @@ fn take_row(
 ) -> Result<(), ReadRefusal>
     ensures { TakesRow place history.old history.new (fields_of row.now) result }
 {
-    let Some((event, process, op, entries)) = four_fields(row) else {
+    let Some(fields) = four_fields(row) else {
         return Err(ReadRefusal::Text {
             place,
             fault: TextFault::Fields,
         });
     };
+    take_fields(alloc, known, history, place, fields)
+}
+
+/// Adds the event of a record to a history, by the record's four fields.
+pub fn take_fields(
+    alloc: Global,
+    known: &mut Known,
+    history: &mut History,
+    place: u32,
+    fields: (&[u8], &[u8], &[u8], &[u8]),
+) -> Result<(), ReadRefusal>
+    ensures { TakesRow place history.old history.new (fields.entry.0.now ∷ fields.entry.1.now ∷ fields.entry.2.now ∷ fields.entry.3.now ∷ []) result }
+{
     if history.len() >= EVENT_LIMIT {
         return Err(ReadRefusal::Text {
             place,
             fault: TextFault::TooMany,
         });
     }
-    let event = event_of_fields(alloc, known, place, event, process, op, entries)?;
+    let (event, process, op, data) = fields;
+    let event = event_of_fields(alloc, known, place, event, process, op, data)?;
     push_event(history, place, event)
 }
 
@@ -81,6 +96,9 @@ pub fn numbered_history(
 ) -> Result<(History, Option<Vec<u32>>), ReadRefusal>
     ensures { AnswersNumbered (rows_of text.now) result }
 {
+    if let Some(lines) = lines_under_header(text) {
+        return lines_history(alloc, lines);
+    }
     let mut reader = reader_of(alloc, text);
     let mut row = ByteRecord::new(alloc);
     if !next_row(&mut reader, &mut row)? {

@@ -1,0 +1,267 @@
+-- What `csv` reads of a plain text, field by field.
+use Rattle.std.proofs.Common.{codes, cond, drop, ◌≡◌, ◌<◌, ◌≤◌, ◌==◌, ◌+◌, ◌++◌, ◌⊎◌, inl, inr, ℕ, zero, suc, Bool, true, false, List, [], ◌∷◌, length, get_or, All, Option, Some, None, refl, sym, ap, ◌∙◌, subst, arith, append-nil, append_assoc}
+use Rattle.std.specs.Prelude.{◌≢◌, is_some, slice_index}
+use Rattle.memchr.specs.Find.{IsFirstByte, is_byte2}
+use Rattle.std.proofs.lemmas.Bool.Decides.{nat_tests}
+use Rattle.std.proofs.lemmas.List.{length-append}
+use Rattle.std.proofs.lemmas.List.Elements.{All-cons, All-from_get_or, All-head, All-nil, All-tail}
+use Rattle.csv.specs.Machine.{Read, ends_at_end, field_after, fields_after, in_field, is_end, next_record, step}
+use Rattle.csv.specs.Reading.{default_config, records, records_from, strip_bom}
+use Rattle.csv.specs.declared.parser.State.{State}
+use Rattle.csv.specs.declared.parser.State.TheVariants as st
+use Rattle.csv.specs.declared.parser.Action.TheVariants as act
+use Rattle.snap_csv.specs.Lines.{FieldGoesOn, FieldIsLast, FourThen, HasRows, IsInner, IsPlain, NotFour}
+use Rattle.snap_csv.specs.Fields.{header}
+use Rattle.snap_csv.specs.Rows.{Fields, rows_of}
+use Rattle.snap_csv.proofs.RowFacts.{records_step, records_stop, some_fuel}
+
+-- ---- one byte
+
+-- a state in which a plain byte is taken as in the middle of a field
+InLine : State → Type 0
+InLine s = (c : ℕ) → IsPlain c → step default_config s c ≡ in_field default_config c
+
+in_field_line : InLine st.InField
+unfolding InLine
+in_field_line c plain = refl
+
+start_line : InLine st.StartField
+unfolding InLine
+start_line c plain =
+    let quote : (c == 34) ≡ false = grind (arith, nat_tests, plain.0) in
+    rw quote refl
+
+copied : (c : ℕ) → IsPlain c → IsInner c → in_field default_config c ≡ (st.InField, act.Copy)
+copied c plain inner =
+    let comma : (c == 44) ≡ false = grind (arith, nat_tests, inner.0) in
+    let return : (c == 13) ≡ false = grind (arith, nat_tests, plain.1) in
+    let feed : (c == 10) ≡ false = grind (arith, nat_tests, inner.1) in
+    rw (comma, return, feed) refl
+
+-- the first byte of a record is that of its first field
+pub begun : (c : ℕ) (text : List ℕ) → IsPlain c → c ≢ 10 → next_record default_config st.StartRecord [] [] (c ∷ text) ≡ next_record default_config st.StartField [] [] (c ∷ text)
+unfolding next_record
+begun c text plain line =
+    let return : (c == 13) ≡ false = grind (arith, nat_tests, plain.1) in
+    let feed : (c == 10) ≡ false = grind (arith, nat_tests, line) in
+    rw (return, feed) refl
+
+-- ---- one field
+
+comma_plain : IsPlain 44
+comma_plain = (λ e. absurd (omega (arith, e)), λ e. absurd (omega (arith, e)))
+
+newline_plain : IsPlain 10
+newline_plain = (λ e. absurd (omega (arith, e)), λ e. absurd (omega (arith, e)))
+
+comma_now : (s : State) (fs : Fields) (p rest : List ℕ) → step default_config s 44 ≡ (st.StartField, act.EndField)
+    → next_record default_config s fs p (44 ∷ rest) ≡ next_record default_config st.StartField (fs ++ p ∷ []) [] rest
+unfolding next_record
+comma_now s fs p rest e = rw e refl
+
+after_comma : (s : State) (fs : Fields) (p f rest : List ℕ) → InLine s → All IsPlain f → All IsInner f
+    → next_record default_config s fs p (f ++ 44 ∷ rest) ≡ next_record default_config st.StartField (fs ++ (p ++ f) ∷ []) [] rest
+unfolding next_record InLine
+after_comma s fs p [] rest line plain inner = comma_now s fs p rest (line 44 comma_plain) ∙ ap (λ (q : List ℕ). next_record default_config st.StartField (fs ++ q ∷ []) [] rest) (sym (append-nil p))
+after_comma s fs p (c ∷ f) rest line plain inner =
+    rw (line c (All-head IsPlain c f plain) ∙ copied c (All-head IsPlain c f plain) (All-head IsInner c f inner)) (after_comma st.InField fs (p ++ c ∷ []) f rest in_field_line (All-tail IsPlain c f plain) (All-tail IsInner c f inner)
+    ∙ ap (λ (q : List ℕ). next_record default_config st.StartField (fs ++ q ∷ []) [] rest) (append_assoc p (c ∷ []) f))
+
+after_newline : (s : State) (fs : Fields) (p f rest : List ℕ) → InLine s → All IsPlain f → All IsInner f
+    → next_record default_config s fs p (f ++ 10 ∷ rest) ≡ Some (fs ++ (p ++ f) ∷ [], st.StartRecord, rest)
+unfolding next_record InLine
+after_newline s fs p [] rest line plain inner = rw (line 10 newline_plain, append-nil p) refl
+after_newline s fs p (c ∷ f) rest line plain inner =
+    rw (line c (All-head IsPlain c f plain) ∙ copied c (All-head IsPlain c f plain) (All-head IsInner c f inner)) (after_newline st.InField fs (p ++ c ∷ []) f rest in_field_line (All-tail IsPlain c f plain) (All-tail IsInner c f inner)
+    ∙ ap (λ (q : List ℕ). Some (fs ++ q ∷ [], st.StartRecord, rest)) (append_assoc p (c ∷ []) f))
+
+at_end : (s : State) (fs : Fields) (p f : List ℕ) → InLine s → ends_at_end s ≡ true → All IsPlain f → All IsInner f
+    → next_record default_config s fs p f ≡ Some (fs ++ (p ++ f) ∷ [], st.StartRecord, [])
+unfolding next_record InLine
+at_end s fs p [] line end plain inner = rw (end, append-nil p) refl
+at_end s fs p (c ∷ f) line end plain inner =
+    rw (line c (All-head IsPlain c f plain) ∙ copied c (All-head IsPlain c f plain) (All-head IsInner c f inner)) (at_end st.InField fs (p ++ c ∷ []) f in_field_line refl (All-tail IsPlain c f plain) (All-tail IsInner c f inner)
+    ∙ ap (λ (q : List ℕ). Some (fs ++ q ∷ [], st.StartRecord, [])) (append_assoc p (c ∷ []) f))
+
+-- a text in which no quote and no carriage return is found
+passes_not : (text : List ℕ) (i : ℕ) → ((is_byte2 34 13 (slice_index text i) ≡ true) → ⊥) → IsPlain (get_or text i 0)
+passes_not text i h = (λ quote. h (rw quote refl), λ return. h (rw return refl))
+
+pub plain_by_search : (text : List ℕ) (o : Option ℕ) → IsFirstByte (is_byte2 34 13) text o → is_some o ≡ false → All IsPlain text
+plain_by_search text None found none = All-from_get_or IsPlain text 0 (λ i lt. passes_not text i (found i (omega arith) lt))
+plain_by_search text (Some k) found none = absurd cc
+
+-- the two parts of a plain text are plain
+plain_front : (f rest : List ℕ) → All IsPlain (f ++ rest) → All IsPlain f
+plain_front [] rest h = All-nil IsPlain
+plain_front (c ∷ f) rest h = All-cons IsPlain c f (All-head IsPlain c (f ++ rest) h) (plain_front f rest (All-tail IsPlain c (f ++ rest) h))
+
+plain_rest : (f rest : List ℕ) → All IsPlain (f ++ rest) → All IsPlain rest
+plain_rest [] rest h = h
+plain_rest (c ∷ f) rest h = plain_rest f rest (All-tail IsPlain c (f ++ rest) h)
+
+-- the record goes on behind a comma
+pub record Goes (fs : Fields) (f rest text : List ℕ) : Type 0 where
+  pub plain : All IsPlain rest
+  pub shorter : length rest < length text
+  pub reads : next_record default_config st.StartField fs [] text ≡ next_record default_config st.StartField (fs ++ f ∷ []) [] rest
+
+pub goes_on : (fs : Fields) (f rest text : List ℕ) → All IsPlain text → FieldGoesOn f rest text → Goes fs f rest text
+goes_on fs f rest text plain h =
+    let all = subst (All IsPlain) h.whole plain in
+    record {
+      plain = All-tail IsPlain 44 rest (plain_rest f (44 ∷ rest) all);
+      shorter = omega (arith, ap length h.whole, length-append f (44 ∷ rest));
+      reads = ap (next_record default_config st.StartField fs []) h.whole ∙ after_comma st.StartField fs [] f rest start_line (plain_front f (44 ∷ rest) all) h.inner;
+    }
+
+-- and ends at a newline, or with the text
+pub record Ends (fs : Fields) (f rest text : List ℕ) : Type 0 where
+  pub plain : All IsPlain rest
+  pub shorter : length rest ≤ length text
+  pub reads : next_record default_config st.StartField fs [] text ≡ Some (fs ++ f ∷ [], st.StartRecord, rest)
+
+pub is_last : (fs : Fields) (f rest text : List ℕ) → All IsPlain text → FieldIsLast f rest text → Ends fs f rest text
+is_last fs f rest text plain h = go h.whole
+  where
+    go : (text ≡ f ++ 10 ∷ rest) ⊎ ((text ≡ f) × (rest ≡ [])) → Ends fs f rest text
+    go (inl line) =
+        let all = subst (All IsPlain) line plain in
+        record {
+          plain = All-tail IsPlain 10 rest (plain_rest f (10 ∷ rest) all);
+          shorter = omega (arith, ap length line, length-append f (10 ∷ rest));
+          reads = ap (next_record default_config st.StartField fs []) line ∙ after_newline st.StartField fs [] f rest start_line (plain_front f (10 ∷ rest) all) h.inner;
+        }
+    go (inr (all, none)) = rw none (record {
+      plain = All-nil IsPlain;
+      shorter = omega arith;
+      reads = ap (next_record default_config st.StartField fs []) all ∙ at_end st.StartField fs [] f start_line refl (subst (All IsPlain) all plain) h.inner;
+    })
+
+-- where a field is read, one more than those before it is
+More : Fields → Option Read → Type 0
+More fs None = ⊥
+More fs (Some r) = length fs < length r.0
+
+more_than : (fs gs : Fields) (o : Option Read) → length fs ≤ length gs → More gs o → More fs o
+unfolding More
+more_than fs gs None le h = h
+more_than fs gs (Some r) le h = omega (arith, h)
+
+kinds : (c : ℕ) → c ≢ 13 → (in_field default_config c ≡ (st.StartField, act.EndField)) ⊎ (in_field default_config c ≡ (st.StartRecord, act.EndRecord)) ⊎ (in_field default_config c ≡ (st.InField, act.Copy))
+kinds c h = go (c == 44) (c == 10) refl refl
+  where
+    return : (c == 13) ≡ false
+    return = grind (arith, nat_tests, h)
+
+    go : (comma feed : Bool) → (c == 44) ≡ comma → (c == 10) ≡ feed
+        → (in_field default_config c ≡ (st.StartField, act.EndField)) ⊎ (in_field default_config c ≡ (st.StartRecord, act.EndRecord)) ⊎ (in_field default_config c ≡ (st.InField, act.Copy))
+    go true feed e g = inl (rw e refl)
+    go false true e g = inr (inl (rw (e, return, g) refl))
+    go false false e g = inr (inr (rw (e, return, g) refl))
+
+some_more : (s : State) (fs : Fields) (p text : List ℕ) → InLine s → ends_at_end s ≡ true → All IsPlain text → More fs (next_record default_config s fs p text)
+unfolding next_record InLine More
+some_more s fs p [] line end plain = rw end (omega (arith, length-append fs (p ∷ [])))
+some_more s fs p (c ∷ text) line end plain =
+    rw (line c (All-head IsPlain c text plain)) (go (kinds c (All-head IsPlain c text plain).1)
+    (some_more st.StartField (fs ++ p ∷ []) [] text start_line refl (All-tail IsPlain c text plain))
+    (some_more st.InField fs (p ++ c ∷ []) text in_field_line refl (All-tail IsPlain c text plain)))
+  where
+    go : (in_field default_config c ≡ (st.StartField, act.EndField)) ⊎ (in_field default_config c ≡ (st.StartRecord, act.EndRecord)) ⊎ (in_field default_config c ≡ (st.InField, act.Copy))
+        → More (fs ++ p ∷ []) (next_record default_config st.StartField (fs ++ p ∷ []) [] text) → More fs (next_record default_config st.InField fs (p ++ c ∷ []) text)
+        → More fs (cond (is_end (in_field default_config c).1) (Some (fields_after (in_field default_config c).1 fs p, (in_field default_config c).0, text))
+        (next_record default_config (in_field default_config c).0 (fields_after (in_field default_config c).1 fs p) (field_after (in_field default_config c).1 c p) text))
+    go (inl e) next same = rw e (more_than fs (fs ++ p ∷ []) _ (omega (arith, length-append fs (p ∷ []))) next)
+    go (inr (inl e)) next same = rw e (omega (arith, length-append fs (p ∷ [])))
+    go (inr (inr e)) next same = rw e same
+
+-- ---- a record
+
+-- these fields of a text's first record are read, and the next begins with this rest
+pub record Upto (fs : Fields) (rest text : List ℕ) : Type 0 where
+  pub plain : All IsPlain rest
+  pub shorter : length rest + length fs ≤ length text
+  pub reads : next_record default_config st.StartRecord [] [] text ≡ next_record default_config st.StartField fs [] rest
+
+pub upto_first : (text : List ℕ) → 0 < length text → get_or text 0 0 ≢ 10 → All IsPlain text → Upto [] text text
+upto_first [] some line plain = absurd (omega arith)
+upto_first (c ∷ text) some line plain = record { plain = plain; shorter = omega arith; reads = begun c text (All-head IsPlain c text plain) line }
+
+pub upto_next : (fs : Fields) (f rest left text : List ℕ) → Upto fs left text → FieldGoesOn f rest left → Upto (fs ++ f ∷ []) rest text
+upto_next fs f rest left text h field =
+    let goes = goes_on fs f rest left h.plain field in
+    record { plain = goes.plain; shorter = omega (arith, h.shorter, goes.shorter, length-append fs (f ∷ [])); reads = h.reads ∙ goes.reads }
+
+first_row : (text : List ℕ) (rows : List Fields) (h : HasRows text rows) (r : Read) → next_record default_config st.StartRecord [] [] text ≡ Some r
+    → (m : ℕ) × (h.fuel ≡ suc m) × (rows ≡ r.0 ∷ records_from default_config m r.1 r.2)
+first_row text rows h r e =
+    let (m, fuel) = some_fuel text h.fuel h.enough in
+    (m, fuel, sym (rw fuel at h.gives) ∙ records_step m st.StartRecord text r e)
+
+pub too_few : (text : List ℕ) (fs : Fields) (left f rest : List ℕ) → (All IsPlain text → Upto fs left text) → FieldIsLast f rest left → length fs < 3 → NotFour text
+too_few text fs left f rest upto field few rows h =
+    let u = upto h.plain in
+    let (m, fuel, e) = first_row text rows h (fs ++ f ∷ [], st.StartRecord, rest) (u.reads ∙ (is_last fs f rest left u.plain field).reads) in
+    (fs ++ f ∷ [], records_from default_config m st.StartRecord rest, e, λ four. omega (arith, length-append fs (f ∷ [])))
+
+pub too_many : (text : List ℕ) (fs : Fields) (left : List ℕ) → (All IsPlain text → Upto fs left text) → length fs ≡ 4 → NotFour text
+unfolding More
+too_many text fs left upto four rows h = go (next_record default_config st.StartField fs [] left) refl (some_more st.StartField fs [] left start_line refl (upto h.plain).plain)
+  where
+    go : (o : Option Read) → next_record default_config st.StartField fs [] left ≡ o → More fs o → (row : Fields) × (later : List Fields) × (rows ≡ row ∷ later) × (length row ≢ 4)
+    go None e more = absurd more
+    go (Some r) e more =
+        let (m, fuel, is) = first_row text rows h r ((upto h.plain).reads ∙ e) in
+        (r.0, records_from default_config m r.1 r.2, is, λ same. omega (arith, more))
+
+pub just_four : (text : List ℕ) (a p o left d rest : List ℕ) → (All IsPlain text → Upto (a ∷ p ∷ o ∷ []) left text) → FieldIsLast d rest left → FourThen a p o d rest text
+just_four text a p o left d rest upto field rows h =
+    let u = upto h.plain in
+    let last = is_last (a ∷ p ∷ o ∷ []) d rest left u.plain field in
+    let (m, fuel, e) = first_row text rows h (a ∷ p ∷ o ∷ d ∷ [], st.StartRecord, rest) (u.reads ∙ last.reads) in
+    (records_from default_config m st.StartRecord rest, e, record { plain = last.plain; fuel = m; enough = omega (arith, h.enough, u.shorter, last.shorter, fuel); gives = refl })
+
+-- ---- lines
+
+pub no_line : (rows : List Fields) → HasRows [] rows → rows ≡ []
+unfolding next_record
+no_line rows h = sym h.gives ∙ records_stop h.fuel st.StartRecord [] refl
+
+empty_line : (n : ℕ) (text : List ℕ) → 0 < n → records_from default_config n st.StartRecord (10 ∷ text) ≡ records_from default_config n st.StartRecord text
+unfolding next_record records_from
+empty_line zero text some = absurd (omega arith)
+empty_line (suc n) text some = refl
+
+pub behind_newline : (text : List ℕ) (rows : List Fields) → 0 < length text → get_or text 0 0 ≡ 10 → HasRows text rows → HasRows (drop 1 text) rows
+behind_newline [] rows some line h = absurd (omega arith)
+behind_newline (c ∷ text) rows some line h = record {
+  plain = All-tail IsPlain c text h.plain;
+  fuel = h.fuel;
+  enough = omega (arith, h.enough);
+  gives = sym (empty_line h.fuel text (omega (arith, h.enough))) ∙ ap (λ (b : ℕ). records_from default_config h.fuel st.StartRecord (b ∷ text)) (sym line) ∙ h.gives;
+}
+
+-- ---- the header
+
+abbrev line : List ℕ
+line = codes "event,process,op,data\n"
+
+no_mark : (lines : List ℕ) → strip_bom (line ++ lines) ≡ line ++ lines
+unfolding strip_bom
+no_mark lines = refl
+
+header_first : (lines : List ℕ) → next_record default_config st.StartRecord [] [] (line ++ lines) ≡ Some (header, st.StartRecord, lines)
+unfolding next_record
+header_first lines = refl
+
+under : (lines : List ℕ) → All IsPlain (line ++ lines) → (later : List Fields) × (rows_of (line ++ lines) ≡ header ∷ later) × HasRows lines later
+under lines plain =
+    let (m, fuel) = some_fuel (line ++ lines) (length (line ++ lines) + 1) (omega arith) in (
+      records_from default_config m st.StartRecord lines,
+      ap (records default_config) (no_mark lines) ∙ ap (λ (n : ℕ). records_from default_config n st.StartRecord (line ++ lines)) fuel ∙ records_step m st.StartRecord (line ++ lines) (header, st.StartRecord, lines) (header_first lines),
+      record { plain = plain_rest line lines plain; fuel = m; enough = omega (arith, fuel, length-append line lines); gives = refl },
+    )
+
+pub under_header : (text lines : List ℕ) → text ≡ codes "event,process,op,data\n" ++ lines → All IsPlain text → (later : List Fields) × (rows_of text ≡ header ∷ later) × HasRows lines later
+under_header text lines is plain = rw is (under lines (subst (All IsPlain) is plain))

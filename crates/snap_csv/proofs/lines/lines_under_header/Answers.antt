@@ -1,0 +1,14 @@
+use Rattle.std.proofs.Common.{◌≡◌, ◌<◌, ◌++◌, All, codes, length, get_or, drop, ℕ, sym, ◌∙◌, arith, rules}
+use Rattle.std.proofs.lemmas.Bool.Decides.{Decides-eqb}
+use Rattle.std.proofs.lemmas.List.{take_rest}
+use Rattle.std.proofs.lemmas.List.Elements.{All-from_get_or}
+use Rattle.std.proofs.lemmas.Slice.Eq.{starts_is}
+use Rattle.snap_csv.specs.Lines.{IsPlain}
+use Rattle.snap_csv.proofs.PlainFacts.{plain_by_search, under_header}
+use Rattle.snap_csv.proofs.lines.lines_under_header.Goals as goal
+
+pub returns : goal.returns
+returns c =
+    let text = c.args.text.now in
+    let begins : text ≡ codes "event,process,op,data\n" ++ drop 22 text = (starts_is Decides-eqb text (codes "event,process,op,data\n") c.starts_with.result c.starts_with.ensures.value).0 (search rules) in
+    rw (take_rest text 22) (under_header text (drop 22 text) begins (plain_by_search text c.memchr2.result c.memchr2.ensures (search rules)))

@@ -1,0 +1,124 @@
+//! Histories in plain texts. Without quotes and carriage returns a record is a line and a field ends at a comma, so that such a
+//! text is cut by a search for these two marks. Any other text is read byte by byte, by `csv`.
+ghost use Rattle.std.specs.Prelude.{◌≡◌, ◌≢◌, ◌<◌, ◌∷◌, ◌++◌, [], List, ℕ, All, MatchOption, IfSome, get_or, length};
+ghost use Rattle.snap_csv.specs.Answers.{AnswersNumbered};
+ghost use Rattle.snap_csv.specs.Fields.{header};
+ghost use Rattle.snap_csv.specs.Lines.{EndsField, FieldGoesOn, FieldIsLast, FourThen, HasRows, IsInner, NotFour};
+ghost use Rattle.snap_csv.specs.Rows.{Fields, rows_of};
+
+use crate::known::Known;
+use crate::read::{ROW_LIMIT, take_fields};
+use crate::refusal::{ReadRefusal, TextFault};
+use memchr::memchr2;
+use snap_core::History;
+use std::alloc::Global;
+
+const HEADER: &[u8] = b"event,process,op,data\n";
+
+/// What stands under the header, where a plain text begins with its line.
+pub fn lines_under_header(text: &[u8]) -> Option<&[u8]>
+    ensures { IfSome result (λ lines. (later : List Fields) × (rows_of text.now ≡ header ∷ later) × HasRows lines.now later) }
+{
+    if !text.starts_with(HEADER) || memchr2(b'"', b'\r', text).is_some() {
+        return None;
+    }
+    Some(&text[HEADER.len()..])
+}
+
+// The field that a text begins with, and what is behind it: nothing, or the mark that ends it and more.
+#[inline(always)]
+fn field_first(text: &[u8]) -> (&[u8], &[u8])
+    ensures inner { All IsInner result.0.now }
+    ensures whole { text.now ≡ result.0.now ++ result.1.now }
+    ensures ends { EndsField result.1.now }
+{
+    match memchr2(b',', b'\n', text) {
+        Some(at) => text.split_at(at),
+        None => (text, &[]),
+    }
+}
+
+// The field that a text begins with, where a comma ends it, and what is behind the comma.
+#[inline(always)]
+fn field_and_comma(text: &[u8]) -> Option<(&[u8], &[u8])>
+    ensures { MatchOption result ((f : List ℕ) × (rest : List ℕ) × FieldIsLast f rest text.now) (λ x. FieldGoesOn x.0.now x.1.now text.now) }
+{
+    let (field, behind) = field_first(text);
+    let (mark, rest) = behind.split_first()?;
+    if *mark == b',' {
+        Some((field, rest))
+    } else {
+        None
+    }
+}
+
+// The field that a text begins with, where its line ends there, and the lines behind it.
+#[inline(always)]
+fn last_field(text: &[u8]) -> Option<(&[u8], &[u8])>
+    ensures { MatchOption result ((f : List ℕ) × (rest : List ℕ) × FieldGoesOn f rest text.now) (λ x. FieldIsLast x.0.now x.1.now text.now) }
+{
+    let (field, behind) = field_first(text);
+    match behind.split_first() {
+        Some((mark, rest)) => {
+            if *mark == b',' {
+                None
+            } else {
+                Some((field, rest))
+            }
+        }
+        None => Some((field, &[])),
+    }
+}
+
+// The fields of the line that a text begins with, where it has four, and the lines behind it.
+fn four_first(text: &[u8]) -> Option<((&[u8], &[u8], &[u8], &[u8]), &[u8])>
+    requires some { 0 < length text.now }
+    requires begins { get_or text.now 0 0 ≢ 10 }
+    ensures { MatchOption result (NotFour text.now) (λ x. FourThen x.0.0.now x.0.1.now x.0.2.now x.0.3.now x.1.now text.now) }
+{
+    let (event, rest) = field_and_comma(text)?;
+    let (process, rest) = field_and_comma(rest)?;
+    let (op, rest) = field_and_comma(rest)?;
+    let (data, rest) = last_field(rest)?;
+    Some(((event, process, op, data), rest))
+}
+
+// A text behind the empty lines at its front, which are no records.
+fn behind_newlines(text: &[u8]) -> &[u8]
+    ensures same { (rows : List Fields) → HasRows text.now rows → HasRows result.now rows }
+    ensures begins { 0 < length result.now → get_or result.now 0 0 ≢ 10 }
+{
+    let mut left = text;
+    while !left.is_empty() && left[0] == b'\n' {
+        left = &left[1..];
+    }
+    left
+}
+
+/// The history of the lines under the header, or the first fault.
+pub fn lines_history(
+    alloc: Global,
+    lines: &[u8],
+) -> Result<(History, Option<Vec<u32>>), ReadRefusal>
+    ensures { (later : List Fields) → HasRows lines.now later → AnswersNumbered (header ∷ later) result }
+{
+    let mut known = Known::new(alloc);
+    let mut history = History::new(alloc);
+    let mut left = lines;
+    for i in 0..ROW_LIMIT {
+        let line = behind_newlines(left);
+        if line.is_empty() {
+            return Ok((history, None));
+        }
+        let Some((fields, rest)) = four_first(line) else {
+            return Err(ReadRefusal::Text {
+                place: i + 2,
+                fault: TextFault::Fields,
+            });
+        };
+        take_fields(alloc, &mut known, &mut history, i + 2, fields)?;
+        left = rest;
+    }
+    let _len = history.len();
+    unreachable!()
+}
