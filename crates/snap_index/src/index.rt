@@ -1,4 +1,4 @@
-ghost use Rattle.std.specs.Prelude.{◌≡◌, ◌<◌, ◌≤◌, ℕ, length, map, count_by, find, IfOk, slice_get};
+ghost use Rattle.std.specs.Prelude.{◌≡◌, ◌<◌, ◌≤◌, ◌+◌, ℕ, length, map, count_by, find, IfOk, slice_get};
 ghost use Rattle.std.specs.Option.{option_and_then, option_copied, option_map};
 ghost use Rattle.snap_core.specs.Calls.{calls_of, views_of, is_update_numbered, call_numbered, precedes as spec_precedes};
 ghost use Rattle.snap_core.specs.Entries.{component_count};
@@ -199,10 +199,11 @@ impl<'h> Index<'h> {
         self.updates(k).len() as u32
     }
 
-    /// A component from which on no component has an update.
+    /// The least number of components from which on no component has an update: 0, or the component before it has one.
     pub fn update_limit(&self) -> usize
         ensures few { result ≤ component_count }
         ensures none { (k : ℕ) → result ≤ k → k < component_count → count_by (is_update_of k) (calls_of self.now) ≡ 0 }
+        ensures least { (k : ℕ) → result ≡ k + 1 → 0 < count_by (is_update_of k) (calls_of self.now) }
     {
         self.updates.limit()
     }

@@ -1,4 +1,4 @@
-ghost use Rattle.std.specs.Prelude.{◌≡◌, ◌≤◌, ◌<◌, ℕ, [], ◌∷◌, ◌++◌, OnOk, get_or, length, replicate, slice_set};
+ghost use Rattle.std.specs.Prelude.{◌≡◌, ◌≤◌, ◌<◌, ◌+◌, ℕ, [], ◌∷◌, ◌++◌, OnOk, get_or, length, replicate, slice_set};
 ghost use Rattle.snap_core.specs.Entries.{component_count};
 ghost use Rattle.snap_index.specs.Tables.{padded, rows};
 
@@ -38,6 +38,19 @@ fn make_room<T: Drop>(table: &mut Vec<Vec<T>>, k: u8) -> Result<(), AllocError>
     Ok(())
 }
 
+// How many lists there are up to the last that has something. A put without memory may leave empty ones behind it.
+fn filled<T: Drop>(table: &[Vec<T>]) -> usize
+    ensures within { result ≤ length table.now }
+    ensures none { (i : ℕ) → result ≤ i → i < length table.now → get_or (rows table.now) i [] ≡ [] }
+    ensures last { (i : ℕ) → result ≡ i + 1 → 0 < length (get_or (rows table.now) i []) }
+{
+    let mut count = table.len();
+    while count > 0 && table[count - 1].is_empty() {
+        count -= 1;
+    }
+    count
+}
+
 impl<T: Drop> UpdateTable<T> {
     // No update.
     pub(crate) fn new(alloc: Global) -> UpdateTable<T>
@@ -67,11 +80,12 @@ impl<T: Drop> UpdateTable<T> {
         }
     }
 
-    // How many components have a list: none behind them has an update.
+    // How many components there are up to the last that has an update.
     pub(crate) fn limit(&self) -> usize
         ensures few { result ≤ component_count }
         ensures none { (k : ℕ) → result ≤ k → k < component_count → get_or self.now k [] ≡ [] }
+        ensures last { (k : ℕ) → result ≡ k + 1 → 0 < length (get_or self.now k []) }
     {
-        self.by_component.len()
+        filled(&self.by_component)
     }
 }
