@@ -21,7 +21,7 @@ HISTORIES = [("atomic", 16384, 8), ("overlapping", 16384, 8), ("atomic", 2048, 2
 PARTS = [
     ("tally", [r"snap_pairs::workers::each_job"]),
     ("order", [r"snap_order::levels::\w+", r"slice::sort::unstable::quicksort"]),
-    ("csv", [r"snap_csv::rows::next_row"]),
+    ("records", [r"snap_csv::rows::next_row", r"memchr::bytes::memchr2"]),
     ("fields", [r"snap_csv::fields::event_of_fields"]),
     ("events", [r"snap_csv::read::push_event"]),
     ("report", [r"snap_verdict::judge::verdict_of"]),

@@ -15,7 +15,7 @@ pub fn take_in<R: Read>(alloc: Global, reader: &mut Counted<R>) -> Result<Vec<u8
     ensures counts { Counts (failures_in reader.old) (failures_in reader.new) result }
 {
     let mut text = Vec::new(alloc);
-    let mut piece = [0u8; 65536];
+    let mut piece = [0u8; 16384];
     let mut ended = false;
     while !ended {
         match reader.read(&mut piece) {

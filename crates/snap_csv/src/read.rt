@@ -96,9 +96,16 @@ pub fn numbered_history(
 ) -> Result<(History, Option<Vec<u32>>), ReadRefusal>
     ensures { AnswersNumbered (rows_of text.now) result }
 {
-    if let Some(lines) = lines_under_header(text) {
-        return lines_history(alloc, lines);
+    match lines_under_header(text) {
+        Some(lines) => lines_history(alloc, lines),
+        None => rows_history(alloc, text),
     }
+}
+
+// The same of any text, by `csv`.
+fn rows_history(alloc: Global, text: &[u8]) -> Result<(History, Option<Vec<u32>>), ReadRefusal>
+    ensures { AnswersNumbered (rows_of text.now) result }
+{
     let mut reader = reader_of(alloc, text);
     let mut row = ByteRecord::new(alloc);
     if !next_row(&mut reader, &mut row)? {

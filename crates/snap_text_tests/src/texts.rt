@@ -178,6 +178,8 @@ fn reads_quoted_fields_and_every_end_of_a_line(rt: HostRuntime) {
     assert_eq!(rt; count_of(rt.alloc(), quoted), Some(1));
     let returns = b"event,process,op,data\rbegin,0,view,\r".as_slice();
     assert_eq!(rt; count_of(rt.alloc(), returns), Some(1));
+    let spaced = b"event,process,op,data\n\n\nbegin,0,view,\n\nend,0,view,".as_slice();
+    assert_eq!(rt; count_of(rt.alloc(), spaced), Some(2));
     let marked = b"\xef\xbb\xbfevent,process,op,data\nbegin,0,view,\n".as_slice();
     assert_eq!(rt; count_of(rt.alloc(), marked), Some(1));
 }

@@ -1,4 +1,4 @@
-use Rattle.std.proofs.Common.{sym, ◌∙◌, arith, rules}
+use Rattle.std.proofs.Common.{rules}
 use Rattle.std.proofs.lemmas.List.{take_rest}
 use Rattle.snap_csv.proofs.PlainFacts.{behind_newline}
 use Rattle.snap_csv.proofs.lines.behind_newlines.Goals as goal

@@ -1,4 +1,4 @@
-use Rattle.std.proofs.Common.{◌≡◌, [], inr, refl, append-nil, ◌∙◌, ap}
+use Rattle.std.proofs.Common.{◌≡◌, [], inr, refl, append-nil, ◌∙◌}
 use Rattle.std.proofs.lemmas.List.{nil_from_length}
 use Rattle.snap_csv.proofs.lines.field_and_comma.Goals as goal
 

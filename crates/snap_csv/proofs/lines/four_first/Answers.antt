@@ -1,4 +1,4 @@
-use Rattle.std.proofs.Common.{[], ◌∷◌, All, List, ℕ, refl, arith}
+use Rattle.std.proofs.Common.{[], All, refl, arith}
 use Rattle.snap_csv.specs.Lines.{IsPlain}
 use Rattle.snap_csv.proofs.PlainFacts.{just_four, too_few, too_many, upto_first, upto_next}
 use Rattle.snap_csv.proofs.lines.four_first.Goals as goal

@@ -1,9 +1,7 @@
-use Rattle.std.proofs.Common.{◌≡◌, ◌<◌, ◌++◌, All, codes, length, get_or, drop, ℕ, sym, ◌∙◌, arith, rules}
+use Rattle.std.proofs.Common.{◌≡◌, ◌++◌, codes, drop, rules}
 use Rattle.std.proofs.lemmas.Bool.Decides.{Decides-eqb}
 use Rattle.std.proofs.lemmas.List.{take_rest}
-use Rattle.std.proofs.lemmas.List.Elements.{All-from_get_or}
 use Rattle.std.proofs.lemmas.Slice.Eq.{starts_is}
-use Rattle.snap_csv.specs.Lines.{IsPlain}
 use Rattle.snap_csv.proofs.PlainFacts.{plain_by_search, under_header}
 use Rattle.snap_csv.proofs.lines.lines_under_header.Goals as goal
 
