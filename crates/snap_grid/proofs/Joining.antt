@@ -1,13 +1,11 @@
 -- The kinds of a block's rows, one row after another.
 use Rattle.std.proofs.Common.{◌≡◌, ℕ, ◌+◌, ◌*◌, ◌<◌, ◌≤◌, List, [], ◌∷◌, ◌++◌, length, get_or, set, length-set, get_or-set_same, get_or-set_other, refl, sym, ap, subst, ◌∙◌, inl, inr, arith}
-use Rattle.std.specs.Prelude.{sum_by}
-use Rattle.std.specs.List.{range_with_len}
 use Rattle.std.proofs.lemmas.Bool.{cases_lt, cases_eq}
 use Rattle.std.proofs.lemmas.List.{get_or_append_left, length-append}
 use Rattle.std.proofs.lemmas.List.Sums.{sum_by-append, sum_by-cons, sum_by-set, get_or-le-sum_by}
 use Rattle.std.proofs.Math.Seq.{get_or-append_seam}
 use Rattle.snap_grid.specs.declared.kind.Kind.{Kind}
-use Rattle.snap_grid.specs.Kinds.{AreAlike, AreKinds, IsOfNumbers, sum_of_kinds}
+use Rattle.snap_grid.specs.Kinds.{AreAlike, AreKinds}
 use Rattle.snap_grid.proofs.Clashing.{sum_more, sum_small}
 
 -- what holds of each element, and of one more

@@ -1,16 +1,15 @@
 -- What is told by the rows of a block's kinds, each as often as there are rows of it, is told by all of its rows.
-use Rattle.std.proofs.Common.{◌≡◌, ℕ, zero, suc, ◌+◌, ◌*◌, ◌<◌, ◌≤◌, Bool, true, false, cond, ◌&&◌, ◌||◌, List, [], ◌∷◌, length, get_or, refl, sym, ap, ◌∙◌, arith}
+use Rattle.std.proofs.Common.{◌≡◌, ℕ, zero, suc, ◌+◌, ◌*◌, ◌<◌, Bool, true, false, cond, ◌&&◌, ◌||◌, List, [], ◌∷◌, refl, sym, ap, ◌∙◌, arith}
 use Rattle.std.specs.Prelude.{nat_lt, sum_by, count_by, count_ones}
 use Rattle.std.specs.List.{list_any, range_with_len}
 use Rattle.std.proofs.lemmas.Bool.{lt-ltb}
 use Rattle.std.proofs.lemmas.List.Sums.{sum_by-cons}
 use Rattle.snap_grid.specs.declared.kind.Kind.{Kind}
 use Rattle.snap_grid.specs.Columns.{GridValue, number, passes, any_passes, clashes, drops}
-use Rattle.snap_grid.specs.Kinds.{AreAlike, AreKinds, IsOfNumbers, sum_of_kinds}
+use Rattle.snap_grid.specs.Kinds.{AreAlike, AreKinds, sum_of_kinds}
 use Rattle.snap_grid.specs.Masks.{mask_below}
 use Rattle.snap_grid.specs.Clashes.{ClashesWith, pair_count}
 use Rattle.snap_grid.proofs.Bits.{mask_below_same, ones_below}
-use Rattle.snap_grid.proofs.Clashing.{sum_small}
 
 -- whether a row clashes with one that begins behind its end, or with one that does not
 abbrev pub tells : List (List ℕ) → Bool → ℕ → ℕ → Bool

@@ -2,11 +2,13 @@ ghost use Rattle.std.specs.Prelude.{◌≡◌, ◌≤◌, ◌<◌, ◌+◌, ◌*
 ghost use Rattle.std.specs.List.{range_with_len, list_any};
 ghost use Rattle.snap_grid.specs.Columns.{GridValue, any_passes, clashes, number, clash_count, drop_count, has_clash, HaveSameRows};
 ghost use Rattle.snap_grid.specs.Facing.{faces};
+ghost use Rattle.snap_grid.specs.Kinds.{AreKinds};
 ghost use Rattle.snap_grid.specs.Masks.{mask_below};
 ghost use Rattle.snap_grid.specs.Clashes.{AreApart, ClashesWith};
 
 use crate::block::{Against, Block};
 use crate::column::Column;
+use crate::kind::Kind;
 use crate::kinds::Kinds;
 use crate::mask::{Mask, WIDTH};
 use crate::masks::Masks;
@@ -113,6 +115,14 @@ impl Grid {
         true
     }
 
+    // The kinds of a block of rows.
+    fn kinds_of(&self, block: usize) -> &[Kind]
+        requires { block * 512 < length self.now.begins }
+        ensures { AreKinds self.now.columns (block * 512) (min 512 (length self.now.begins - block * 512)) result.now }
+    {
+        self.kinds[block].all()
+    }
+
     // Our rows against the kinds of a block, where each of ours ends before each of theirs begins, or none before any.
     fn kinds_clashing(
         &self,
@@ -131,13 +141,13 @@ impl Grid {
         requires apart { (a i : ℕ) → a < ours.now.count → i < count → nat_lt (number self.now.ends (ours.now.from + a)) (number self.now.begins (block * 512 + i)) ≡ apart }
         ensures { ClashesWith self.now ours.now.from ours.now.count (block * 512) count result }
     {
-        let kinds = self.kinds[block].all();
+        let kinds = self.kinds_of(block);
         let mut found = 0;
         let mut rows = Mask::none();
         for k in 0..kinds.len() {
             let kind = kinds[k];
             let mask = against.clashing(usize::from(kind.row), apart);
-            found += u64::from(kind.times) * mask.count();
+            found += u64::from(kind.times) * u64::from(mask.count());
             rows = rows.or(&mask);
         }
         Clashing {
@@ -186,8 +196,8 @@ impl Grid {
             let passing = against.passing(i);
             let mask = passing.more.and(&passing.less.or(&before));
             let dropping = passing.more.and(&before);
-            found += mask.count();
-            drops += dropping.count();
+            found += u64::from(mask.count());
+            drops += u64::from(dropping.count());
             rows = rows.or(&mask);
         }
         Ok(Clashing {

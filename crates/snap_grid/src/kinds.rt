@@ -70,7 +70,7 @@ impl Model for Kinds {
 }
 
 impl Kinds {
-    // The kinds of so many rows from one on.
+    // The kinds of so many rows from one on. A row that is like an earlier one is found where no other has taken its place since.
     pub(crate) fn of(
         alloc: Global,
         columns: &[Column],
@@ -82,9 +82,29 @@ impl Kinds {
         requires rows { HaveRows columns.now (from + count) }
         ensures { IfOk result (λ kinds. AreKinds columns.now from count kinds) }
     {
-        Ok(Kinds {
-            kinds: kinds_of(alloc, columns, from, count)?,
-        })
+        let places = places_of(alloc, columns, from, count)?;
+        let mut last = [0; PLACES];
+        let mut kinds: Vec<Kind> = Vec::with_capacity(alloc, count)?;
+        for row in 0..count {
+            let place = places.get(row).map_or(0, |place| *place) as usize % PLACES;
+            let known = usize::from(last[place]);
+            if known < kinds.len()
+                && are_alike(columns, from + usize::from(kinds[known].row), from + row)
+            {
+                let kind = kinds[known];
+                kinds[known] = Kind {
+                    row: kind.row,
+                    times: kind.times + 1,
+                };
+            } else {
+                last[place] = kinds.len() as u16;
+                kinds.push(Kind {
+                    row: row as u16,
+                    times: 1,
+                })?;
+            }
+        }
+        Ok(Kinds { kinds })
     }
 
     // All kinds.
@@ -93,41 +113,4 @@ impl Kinds {
     {
         &self.kinds
     }
-}
-
-// The kinds of so many rows from one on. A row that is like an earlier one is found where no other has taken its place since.
-fn kinds_of(
-    alloc: Global,
-    columns: &[Column],
-    from: usize,
-    count: usize,
-) -> Result<Vec<Kind>, AllocError>
-    requires small { from ≤ 65536 }
-    requires few { count ≤ 512 }
-    requires rows { HaveRows columns.now (from + count) }
-    ensures { IfOk result (λ kinds. AreKinds columns.now from count kinds.items) }
-{
-    let places = places_of(alloc, columns, from, count)?;
-    let mut last = [0; PLACES];
-    let mut kinds: Vec<Kind> = Vec::with_capacity(alloc, count)?;
-    for row in 0..count {
-        let place = places.get(row).map_or(0, |place| *place) as usize % PLACES;
-        let known = usize::from(last[place]);
-        if known < kinds.len()
-            && are_alike(columns, from + usize::from(kinds[known].row), from + row)
-        {
-            let kind = kinds[known];
-            kinds[known] = Kind {
-                row: kind.row,
-                times: kind.times + 1,
-            };
-        } else {
-            last[place] = kinds.len() as u16;
-            kinds.push(Kind {
-                row: row as u16,
-                times: 1,
-            })?;
-        }
-    }
-    Ok(kinds)
 }

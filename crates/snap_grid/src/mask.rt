@@ -92,12 +92,12 @@ impl Mask {
 
     // How many rows it has.
     #[inline]
-    pub(crate) fn count(&self) -> u64
+    pub(crate) fn count(&self) -> u32
         ensures { result ≡ count_ones self.now }
     {
         let mut count = 0;
         for lane in 0..LANES {
-            count += u64::from(self.lanes[lane].count_ones());
+            count += self.lanes[lane].count_ones();
         }
         count
     }

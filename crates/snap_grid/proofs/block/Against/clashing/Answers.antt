@@ -1,4 +1,4 @@
-use Rattle.std.proofs.Common.{◌≡◌, ◌&&◌, ◌||◌, Bool, ℕ, refl, sym, ap, ◌∙◌}
+use Rattle.std.proofs.Common.{◌≡◌, ◌&&◌, ◌||◌, Bool, refl, sym, ap, ◌∙◌}
 use Rattle.std.specs.Prelude.{true, false, bit_and}
 use Rattle.snap_grid.specs.Facing.{faces}
 use Rattle.snap_grid.proofs.Bits.{mask_below_same}

@@ -1,4 +1,4 @@
-use Rattle.std.proofs.Common.{◌+◌, ◌<◌, ◌||◌, ◌≡◌, ℕ, not, length, take, sym, ap, ◌∙◌, arith}
+use Rattle.std.proofs.Common.{◌+◌, ◌<◌, ◌||◌, ◌≡◌, not, length, take, sym, ap, ◌∙◌, arith}
 use Rattle.std.specs.Prelude.{true, false, nat_lt}
 use Rattle.std.proofs.lemmas.Bool.{eqb-true}
 use Rattle.std.proofs.lemmas.List.{take_all}
@@ -6,7 +6,7 @@ use Rattle.snap_grid.specs.declared.facing.Facing.{Facing}
 use Rattle.snap_grid.specs.Columns.{number}
 use Rattle.snap_grid.specs.Facing.{any_faces}
 use Rattle.snap_grid.specs.Masks.{mask_by, mask_below}
-use Rattle.snap_grid.proofs.Bits.{mask_others, mask_below_same}
+use Rattle.snap_grid.proofs.Bits.{mask_others}
 use Rattle.snap_grid.proofs.Faces.{or_false, at_most_joined, less_joined, full_more, full_less, full_still, none_face}
 use Rattle.snap_grid.proofs.Lanes.{or_none}
 use Rattle.snap_grid.proofs.block.Against.passing.Goals as goal

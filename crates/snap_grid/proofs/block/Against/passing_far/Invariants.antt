@@ -1,6 +1,6 @@
-use Rattle.std.proofs.Common.{◌≡◌, ◌||◌, not, take}
+use Rattle.std.proofs.Common.{◌≡◌, not, take}
 use Rattle.std.specs.Prelude.{true, false}
-use Rattle.snap_grid.specs.Facing.{any_faces, faces}
+use Rattle.snap_grid.specs.Facing.{faces}
 use Rattle.snap_grid.specs.Masks.{mask_below}
 use Rattle.snap_grid.proofs.block.Against.passing_far.Given as goal
 

@@ -1,8 +1,7 @@
-use Rattle.std.proofs.Common.{◌≡◌, ◌+◌, ◌*◌, ◌<◌, ◌||◌, ◌++◌, ◌∷◌, [], ℕ, length, get_or, sym, ap, ◌∙◌, arith}
+use Rattle.std.proofs.Common.{◌≡◌, ◌+◌, ◌*◌, ◌<◌, ◌++◌, ◌∷◌, [], ℕ, length, get_or, sym, ap, ◌∙◌, arith}
 use Rattle.std.specs.Prelude.{true, false}
 use Rattle.std.proofs.lemmas.Bool.{eqb-false}
 use Rattle.snap_grid.specs.declared.facing.Facing.{Facing}
-use Rattle.snap_grid.specs.Columns.{any_passes}
 use Rattle.snap_grid.proofs.Faces.{far_pushed, near_pushed, faces_passed_over, ours_length}
 use Rattle.snap_grid.proofs.Joining.{pushed}
 use Rattle.snap_grid.proofs.Passing.{any_none, none_passes, ours_at, theirs_at, theirs_count}

@@ -1,9 +1,9 @@
-use Rattle.std.proofs.Common.{◌≡◌, ◌≤◌, ◌+◌, ◌*◌, ◌<◌, ◌||◌, ℕ, Bool, List, length, get_or, ap, subst, ◌∙◌, arith}
+use Rattle.std.proofs.Common.{◌≡◌, ◌≤◌, ◌+◌, ◌*◌, ◌<◌, ℕ, Bool, List, length, get_or, ap, subst, ◌∙◌, arith}
 use Rattle.std.specs.Prelude.{true, false, nat_lt, bit_and, bit_or, take, drop}
 use Rattle.snap_grid.specs.Columns.{GridValue, HaveSameRows, number, any_passes, clashes, drops}
 use Rattle.snap_grid.specs.Masks.{mask_by, mask_below}
 use Rattle.snap_grid.specs.Facing.{faces}
-use Rattle.std.proofs.lemmas.Bool.{lt-ltb, le-ltb}
+use Rattle.std.proofs.lemmas.Bool.{lt-ltb}
 use Rattle.snap_grid.proofs.Bits.{mask_below_same}
 use Rattle.snap_grid.proofs.Passing.{row_at, row_count}
 use Rattle.snap_grid.proofs.Clashing.{drop_lane, few_ones, few_pairs, lane, with_more, with_none, with_nothing}
@@ -61,7 +61,7 @@ overflow_add-found c =
     let more = faced (λ a. faces true against.more against.near.items against.far.items a c.loop-i.i) (λ a. any_passes true b.columns.now (b.from + a) s) b.count against.ours _ c.passing-passing.ensures.more c.in_ok-against.ensures.rows.0 (λ a l. c.in_ok-against.ensures.more a c.loop-i.i l c.loop-i-test.true) in
     let less = faced (λ a. faces false against.less against.near.items against.far.items a c.loop-i.i) (λ a. any_passes false b.columns.now (b.from + a) s) b.count against.ours _ c.passing-passing.ensures.less c.in_ok-against.ensures.rows.0 (λ a l. c.in_ok-against.ensures.less a c.loop-i.i l c.loop-i-test.true) in
     let mask = c.and-mask.ensures ∙ ap (bit_and c.passing-passing.result.more) c.or.ensures ∙ here g b.columns.now b.from b.count s _ _ _ c.self.inside.begins c.args.ends.now same c.requires.columns c.requires.within c.requires.ends begins more less before in
-    record { fits = omega (arith, c.loop-i.invariant.small, c.loop-i-test.true, c.requires.whole, c.count-found.ensures, b.rows.few, few_ones (λ a. clashes g (b.from + a) s) b.count c.and-mask.result mask) }
+    record { fits = omega (arith, c.loop-i.invariant.small, c.loop-i-test.true, c.requires.whole, (c.from-found.ensures ∙ c.count.ensures), b.rows.few, few_ones (λ a. clashes g (b.from + a) s) b.count c.and-mask.result mask) }
 
 pub overflow_add-drops : goal.overflow_add-drops
 overflow_add-drops c =
@@ -75,7 +75,7 @@ overflow_add-drops c =
     let more = faced (λ a. faces true against.more against.near.items against.far.items a c.loop-i.i) (λ a. any_passes true b.columns.now (b.from + a) s) b.count against.ours _ c.passing-passing.ensures.more c.in_ok-against.ensures.rows.0 (λ a l. c.in_ok-against.ensures.more a c.loop-i.i l c.loop-i-test.true) in
     let dropping = c.and-dropping.ensures ∙ dropping_here g b.columns.now b.from b.count s _ _ c.self.inside.begins c.args.ends.now same c.requires.columns c.requires.within c.requires.ends begins more before in
     let few = few_pairs (drops g) b.from b.count (c.args.block * 512) c.loop-i.i c.loop-i.drops b.rows.few c.loop-i.invariant.found.drops in
-    record { fits = omega (arith, few, c.loop-i-test.true, c.requires.whole, c.count-drops.ensures, b.rows.few, few_ones (λ a. drops g (b.from + a) s) b.count c.and-dropping.result dropping) }
+    record { fits = omega (arith, few, c.loop-i-test.true, c.requires.whole, (c.from-drops.ensures ∙ c.count-in-loop-i.ensures), b.rows.few, few_ones (λ a. drops g (b.from + a) s) b.count c.and-dropping.result dropping) }
 
 pub loop-i-preserved : goal.loop-i-preserved
 loop-i-preserved c =
@@ -91,9 +91,9 @@ loop-i-preserved c =
     let mask = c.and-mask.ensures ∙ ap (bit_and c.passing-passing.result.more) c.or.ensures ∙ here g b.columns.now b.from b.count s _ _ _ c.self.inside.begins c.args.ends.now same c.requires.columns c.requires.within c.requires.ends begins more less before in
     let dropping = c.and-dropping.ensures ∙ dropping_here g b.columns.now b.from b.count s _ _ c.self.inside.begins c.args.ends.now same c.requires.columns c.requires.within c.requires.ends begins more before in
     record {
-      small = omega (arith, c.loop-i.invariant.small, c.count-found.ensures, b.rows.few, few_ones (λ a. clashes g (b.from + a) s) b.count c.and-mask.result mask);
+      small = omega (arith, c.loop-i.invariant.small, (c.from-found.ensures ∙ c.count.ensures), b.rows.few, few_ones (λ a. clashes g (b.from + a) s) b.count c.and-mask.result mask);
       found = with_more g b.from b.count (c.args.block * 512) c.loop-i.i c.loop-i.found c.loop-i.drops c.loop-i.rows c.and-mask.result c.and-dropping.result _ _ c.or-rows.result mask dropping
-          (ap (λ z. c.loop-i.found + z) c.count-found.ensures) (ap (λ z. c.loop-i.drops + z) c.count-drops.ensures) c.or-rows.ensures c.loop-i.invariant.found;
+          (ap (λ z. c.loop-i.found + z) (c.from-found.ensures ∙ c.count.ensures)) (ap (λ z. c.loop-i.drops + z) (c.from-drops.ensures ∙ c.count-in-loop-i.ensures)) c.or-rows.ensures c.loop-i.invariant.found;
     }
 
 -- an end of ours and a begin of theirs, by their bounds

@@ -1,4 +1,4 @@
-use Rattle.std.proofs.Common.{◌≤◌, ◌<◌, length, sym, ap, ◌∙◌, arith}
+use Rattle.std.proofs.Common.{◌≤◌, sym, ap, ◌∙◌, arith}
 use Rattle.std.specs.Prelude.{count_ones, sum_by}
 use Rattle.std.proofs.lemmas.List.{take_all}
 use Rattle.std.proofs.lemmas.List.Sums.{sum_by_more_le}
@@ -9,7 +9,7 @@ pub overflow_add-count : goal.overflow_add-count
 overflow_add-count c =
     let lanes = c.self.inside.lanes in
     let few : sum_by count_ones lanes ≤ 512 = omega (arith, few_sum lanes c.self.invariant.small, c.self.invariant.count) in
-    record { fits = omega (arith, few, c.loop-lane.invariant, c.from-count.ensures, sum_by_more_le count_ones lanes c.loop-lane.lane 0 (omega (arith, c.loop-lane-test.true, c.self.invariant.count))) }
+    record { fits = omega (arith, few, c.loop-lane.invariant, sum_by_more_le count_ones lanes c.loop-lane.lane 0 (omega (arith, c.loop-lane-test.true, c.self.invariant.count))) }
 
 pub returns : goal.returns
 returns c =

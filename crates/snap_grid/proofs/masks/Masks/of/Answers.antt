@@ -1,4 +1,4 @@
-use Rattle.std.proofs.Common.{◌≡◌, ◌≤◌, ◌<◌, ◌+◌, ◌-◌, ◌++◌, ◌∷◌, [], ℕ, List, take, drop, length, get_or, sym, ap, ◌∙◌, subst, refl, arith, length-append, length-drop}
+use Rattle.std.proofs.Common.{◌≡◌, ◌≤◌, ◌<◌, ◌+◌, ◌-◌, ◌++◌, ◌∷◌, [], ℕ, List, take, drop, length, get_or, ap, ◌∙◌, refl, arith, length-drop}
 use Rattle.std.proofs.lemmas.List.{nil_from_length, append-nil, with_items_is}
 use Rattle.snap_grid.specs.declared.bounds.Bounds.{Bounds}
 use Rattle.snap_grid.specs.Tables.{AreUnder}

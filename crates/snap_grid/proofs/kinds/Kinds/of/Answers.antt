@@ -1,10 +1,10 @@
-use Rattle.std.proofs.Common.{◌≡◌, ◌≤◌, ◌<◌, ◌+◌, ◌++◌, ◌∷◌, [], ℕ, List, set, length, length-set, length-append, get_or, refl, sym, ap, subst, ◌∙◌, arith}
-use Rattle.std.proofs.lemmas.List.{get_or_default, with_items_is}
+use Rattle.std.proofs.Common.{◌≤◌, ◌<◌, ◌+◌, ◌++◌, ◌∷◌, [], ℕ, List, set, length, length-set, length-append, refl, sym, ap, subst, ◌∙◌, arith}
+use Rattle.std.proofs.lemmas.List.{get_or_default}
 use Rattle.snap_grid.specs.declared.kind.Kind.{Kind}
 use Rattle.snap_grid.specs.Kinds.{AreAlike}
 use Rattle.snap_grid.proofs.Joining.{few_times, kind_added, kind_joined}
-use Rattle.snap_grid.proofs.kinds.kinds_of.Goals as goal
-use Rattle.snap_grid.proofs.kinds.kinds_of.Goals.{then-known-len+then-are_alike, else-known-len+in_ok-push}
+use Rattle.snap_grid.proofs.kinds.Kinds.of.Goals as goal
+use Rattle.snap_grid.proofs.kinds.Kinds.of.Goals.{then-known-len+then-are_alike, else-known-len+in_ok-push}
 
 still_few : (kinds : List Kind) (k : ℕ) (new : Kind) (n : ℕ) → length kinds ≤ n → length (set kinds k new) ≤ n + 1
 still_few kinds k new n l = omega (arith, l, length-set kinds k new)

@@ -1,6 +1,6 @@
 use Rattle.std.proofs.Common.{◌≤◌, length}
 use Rattle.snap_grid.specs.Kinds.{AreKinds}
-use Rattle.snap_grid.proofs.kinds.kinds_of.Given as goal
+use Rattle.snap_grid.proofs.kinds.Kinds.of.Given as goal
 
 abbrev pub invariant-loop-row : goal.invariant-loop-row
 invariant-loop-row l = record {
