@@ -1,11 +1,14 @@
-ghost use Rattle.std.specs.Prelude.{IfOk};
+ghost use Rattle.std.specs.Prelude.{◌≡◌, IfOk};
+ghost use Rattle.snap_core.specs.Calls.{calls_of, views_of};
 ghost use Rattle.snap_core.specs.Counting.{failures_in, inner_of};
-ghost use Rattle.snap_runs.specs.Options.{IsReportWith, IsVerdictWith};
+ghost use Rattle.snap_conditions.specs.Tally.{tally_of};
+ghost use Rattle.snap_runs.specs.Options.{IsReportWith, IsVerdictWith, IsWritten};
 ghost use Rattle.snap_runs.specs.Runs.{JudgeCounts, JudgesBy, RunCounts, WroteBy};
 
 use crate::check::report_of;
 use crate::fault::RunFault;
 use crate::reading::{Reading, read_in};
+use snap_conditions::Tally;
 use snap_core::{Counted, EVENT_LIMIT, Gate, History};
 use snap_index::Index;
 use snap_pairs::{Cutting, tally};
@@ -26,6 +29,26 @@ pub struct CheckOptions {
     pub views: u32,
 }
 
+// The status of a history and its report, or quiet, of the report the lines of the verdicts alone; by its index and the tally of
+// its completed views.
+fn written_of<Rt: Threads + Sync>(
+    rt: &Rt,
+    alloc: Global,
+    index: &Index<'_>,
+    tally: &Tally,
+    room: Vec<u8>,
+    quiet: bool,
+) -> Result<(Status, Vec<u8>), AllocError>
+    requires { tally.now ≡ tally_of (calls_of index.now) (views_of (calls_of index.now)) }
+    ensures { IfOk result (λ answer. IsWritten quiet index.now answer.0 answer.1.items) }
+{
+    if quiet {
+        brief_verdict_of(alloc, index, tally)
+    } else {
+        report_of(rt, alloc, index, tally, room)
+    }
+}
+
 // The status of a history and what is written of its report; nothing where it has too few completed views.
 fn verdict_with<Rt: Threads + Sync, G: Gate>(
     rt: &Rt,
@@ -43,11 +66,7 @@ fn verdict_with<Rt: Threads + Sync, G: Gate>(
         return Ok((None, Vec::new(alloc)));
     }
     let tally = tally(rt, alloc, &index, cutting, gate)?;
-    let (status, text) = if options.quiet {
-        brief_verdict_of(alloc, &index, &tally)?
-    } else {
-        report_of(rt, alloc, &index, &tally, room)?
-    };
+    let (status, text) = written_of(rt, alloc, &index, &tally, room, options.quiet)?;
     Ok((Some(status), text))
 }
 
