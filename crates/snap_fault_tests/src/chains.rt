@@ -7,6 +7,35 @@ use std::alloc::Global;
 use std::process::Abort;
 use std::test::Fail;
 
+// The views of an index have these sums and this chain.
+fn expect_sorted(
+    rt: &impl Abort,
+    alloc: Global,
+    index: &Index<'_>,
+    known_sums: &[u64],
+    known_chain: Option<&[u32]>,
+) -> Result<(), Fail> {
+    let sums = view_sums(alloc, index)?;
+    assert_eq!(rt; sums.as_slice(), known_sums);
+    match chain(alloc, index, &sums)? {
+        Some(places) => assert_eq!(rt; Some(places.as_slice()), known_chain),
+        None => assert!(rt; known_chain.is_none()),
+    }
+    Ok(())
+}
+
+// By their sums the views of an index are in order, or are not.
+fn expect_ordered(
+    rt: &impl Abort,
+    alloc: Global,
+    index: &Index<'_>,
+    is_ordered: bool,
+) -> Result<(), Fail> {
+    let sums = view_sums(alloc, index)?;
+    assert_eq!(rt; ordered(alloc, index, &sums)?, is_ordered);
+    Ok(())
+}
+
 // The views of a history have these sums, this chain, and such an order.
 fn expect(
     rt: &impl Abort,
@@ -18,14 +47,8 @@ fn expect(
 ) -> Result<(), Fail> {
     let history = history_of(alloc, steps)?;
     let index = Index::build(alloc, &history)?;
-    let sums = view_sums(alloc, &index)?;
-    assert_eq!(rt; sums.as_slice(), known_sums);
-    match chain(alloc, &index, &sums)? {
-        Some(places) => assert_eq!(rt; Some(places.as_slice()), known_chain),
-        None => assert!(rt; known_chain.is_none()),
-    }
-    assert_eq!(rt; ordered(alloc, &index, &sums)?, is_ordered);
-    Ok(())
+    expect_sorted(rt, alloc, &index, known_sums, known_chain)?;
+    expect_ordered(rt, alloc, &index, is_ordered)
 }
 
 #[test]

@@ -1,7 +1,9 @@
-use snap_core::History;
+//! The calls, views and updates of worked histories.
+use snap_core::{Entry, History};
 use snap_index::{Call, CallOp, Index};
-use snap_testing::{entry, history_of, worked};
+use snap_testing::{Step, entry, history_of, worked};
 use std::alloc::Global;
+use std::process::Abort;
 use std::test::Fail;
 
 fn counts(alloc: Global, history: &History) -> Result<[u32; 4], Fail> {
@@ -35,6 +37,16 @@ fn counts_are_of_events_calls_pending_calls_and_completed_views(
     Ok(())
 }
 
+// Of component 1 this update is the first and the only one.
+fn expect_only_update(rt: &impl Abort, index: &Index<'_>, number: u32, known: &Call) {
+    assert_eq!(rt; index.update(1, 1), Some(known));
+    assert_eq!(rt; index.update_call(1, 1), Some(number));
+    for n in [0, 2, u32::MAX] {
+        assert!(rt; index.update(1, n).is_none(), "at {n}");
+        assert!(rt; index.update_call(1, n).is_none(), "at {n}");
+    }
+}
+
 #[test]
 fn a_pending_update_is_found_and_there_is_none_after_it(rt: HostRuntime) -> Result<(), Fail> {
     let history = history_of(rt.alloc(), worked::SEEN_PENDING)?;
@@ -45,32 +57,39 @@ fn a_pending_update_is_found_and_there_is_none_after_it(rt: HostRuntime) -> Resu
         begun: 1,
         ended: None,
     };
-    assert_eq!(rt; index.update(1, 1), Some(&pending));
-    assert_eq!(rt; index.update_call(1, 1), Some(1));
-    for n in [0, 2, u32::MAX] {
-        assert!(rt; index.update(1, n).is_none(), "at {n}");
-        assert!(rt; index.update_call(1, n).is_none(), "at {n}");
-    }
-    assert!(rt; index.call_count() == 3);
-    assert!(rt; !index.precedes(0, 2));
-    assert!(rt; !index.precedes(2, 0));
+    expect_only_update(&rt, &index, 1, &pending);
     Ok(())
+}
+
+// Of each pair the first call precedes the second, or it does not, and the second never precedes the first.
+fn expect_precedence(rt: &impl Abort, index: &Index<'_>, pairs: &[(u32, u32)], precedes: bool) {
+    for &(a, b) in pairs {
+        assert!(rt; a < index.call_count() && b < index.call_count());
+        assert_eq!(rt;
+            (index.precedes(a, b), index.precedes(b, a)),
+            (precedes, false),
+            "{a} and {b}"
+        );
+    }
 }
 
 #[test]
 fn a_call_precedes_those_that_begin_after_its_end(rt: HostRuntime) -> Result<(), Fail> {
     let history = history_of(rt.alloc(), worked::ATOMIC_RUN)?;
     let index = Index::build(rt.alloc(), &history)?;
-    assert!(rt; index.call_count() == 5);
     // The end of call 0 and the begin of call 1 are neighbours.
-    for (a, b) in [(0, 1), (0, 2), (0, 3), (0, 4), (2, 4), (3, 4)] {
-        assert!(rt; index.precedes(a, b), "{a} before {b}");
-        assert!(rt; !index.precedes(b, a), "{b} before {a}");
-    }
-    for (a, b) in [(1, 2), (1, 3), (1, 4), (2, 3), (3, 3)] {
-        assert!(rt; !index.precedes(a, b), "{a} before {b}");
-        assert!(rt; !index.precedes(b, a), "{b} before {a}");
-    }
+    let in_turn = [(0, 1), (0, 2), (0, 3), (0, 4), (2, 4), (3, 4)];
+    expect_precedence(&rt, &index, &in_turn, true);
+    let beside = [(1, 2), (1, 3), (1, 4), (2, 3), (3, 3)];
+    expect_precedence(&rt, &index, &beside, false);
+    Ok(())
+}
+
+#[test]
+fn calls_that_do_not_end_precede_none(rt: HostRuntime) -> Result<(), Fail> {
+    let history = history_of(rt.alloc(), worked::SEEN_PENDING)?;
+    let index = Index::build(rt.alloc(), &history)?;
+    expect_precedence(&rt, &index, &[(0, 2), (1, 2), (0, 1)], false);
     Ok(())
 }
 
@@ -119,10 +138,23 @@ fn views_are_the_completed_ones_by_call_number(rt: HostRuntime) -> Result<(), Fa
     Ok(())
 }
 
+// Of a history each of these calls has such an answer.
+fn expect_answers(
+    rt: &impl Abort,
+    alloc: Global,
+    steps: &[Step<'_>],
+    answers: &[(u32, Option<&[Entry]>)],
+) -> Result<(), Fail> {
+    let history = history_of(alloc, steps)?;
+    let index = Index::build(alloc, &history)?;
+    for &(c, answer) in answers {
+        assert_eq!(rt; index.answer(c).map(|v| v.entries()), answer, "of call {c}");
+    }
+    Ok(())
+}
+
 #[test]
 fn only_completed_views_have_answers(rt: HostRuntime) -> Result<(), Fail> {
-    let history = history_of(rt.alloc(), worked::ATOMIC_RUN)?;
-    let index = Index::build(rt.alloc(), &history)?;
     let first = [entry(0, 1, 10)];
     let second = [entry(0, 2, 11), entry(1, 1, 20)];
     let answers = [
@@ -134,31 +166,25 @@ fn only_completed_views_have_answers(rt: HostRuntime) -> Result<(), Fail> {
         (5, None),
         (u32::MAX, None),
     ];
-    for (c, answer) in answers {
-        assert_eq!(rt; index.answer(c).map(|v| v.entries()), answer, "of call {c}");
+    expect_answers(&rt, rt.alloc(), worked::ATOMIC_RUN, &answers)?;
+    let of_pending = [(0, None), (1, None), (2, None), (3, None), (4, None)];
+    expect_answers(&rt, rt.alloc(), worked::PENDING_AT_THE_LIMITS, &of_pending)
+}
+
+// Of each component these calls are the updates.
+fn expect_updates(rt: &impl Abort, index: &Index<'_>, known: &[(u8, &[u32])]) {
+    for &(k, calls) in known {
+        assert_eq!(rt; index.updates(k), calls, "of {k}");
+        assert_eq!(rt; index.update_count(k) as usize, calls.len(), "of {k}");
     }
-    let history = history_of(rt.alloc(), worked::PENDING_AT_THE_LIMITS)?;
-    let index = Index::build(rt.alloc(), &history)?;
-    for c in 0..5 {
-        assert!(rt; index.answer(c).is_none(), "of pending call {c}");
-    }
-    Ok(())
 }
 
 #[test]
 fn updates_are_told_apart_by_component(rt: HostRuntime) -> Result<(), Fail> {
     let history = history_of(rt.alloc(), worked::ATOMIC_RUN)?;
     let index = Index::build(rt.alloc(), &history)?;
-    let cases = [
-        (0, &[0, 3][..]),
-        (1, &[1][..]),
-        (2, &[][..]),
-        (255, &[][..]),
-    ];
-    for (k, calls) in cases {
-        assert_eq!(rt; index.updates(k), calls, "of {k}");
-        assert_eq!(rt; index.update_count(k) as usize, calls.len(), "of {k}");
-    }
+    let known: [(u8, &[u32]); 4] = [(0, &[0, 3]), (1, &[1]), (2, &[]), (255, &[])];
+    expect_updates(&rt, &index, &known);
     assert_eq!(rt; index.update_call(0, 2), Some(3));
     assert_eq!(rt; index.update(0, 2), index.call(3));
     Ok(())

@@ -1,196 +1,102 @@
-use snap_core::{Entry, View};
-use snap_index::{Call, CallOp, Index};
+//! The printed orders of worked histories, and lists that are legal orders or not.
+use snap_index::Index;
 use snap_order::{build, check_order};
 use snap_testing::worked::{ATOMIC_RUN, SEEN_PENDING, VIEW_BESIDE_UPDATE};
 use snap_testing::{Step, history_of};
 use std::alloc::Global;
+use std::process::Abort;
 use std::test::Fail;
+use std::thread::Threads;
 
-// What the definition of a legal order says, part by part.
-fn is_legal(index: &Index<'_>, order: &[u32]) -> bool {
-    order.iter().all(|number| has_effect(index, *number))
-        && is_distinct(order)
-        && has_completed_calls(index, order)
-        && keeps_precedence(index, order)
-        && shows_last_updates(index, order)
+// The list is a legal order, and the one that is printed.
+fn expect_printed<R: Abort + Threads + Sync>(
+    rt: &R,
+    alloc: Global,
+    index: &Index<'_>,
+    order: &[u32],
+) -> Result<(), Fail> {
+    assert!(rt; check_order(alloc, index, order)?);
+    assert_eq!(rt; build(rt, alloc, index)?.as_slice(), order);
+    Ok(())
 }
 
-// A completed call, or an update.
-fn has_effect(index: &Index<'_>, number: u32) -> bool {
-    match index.call(number) {
-        Some(call) => call.ended.is_some() || call.op != CallOp::View,
-        None => false,
+// A history's printed order is this list.
+fn expect_order<R: Abort + Threads + Sync>(
+    rt: &R,
+    alloc: Global,
+    steps: &[Step<'_>],
+    order: &[u32],
+) -> Result<(), Fail> {
+    let history = history_of(alloc, steps)?;
+    let index = Index::build(alloc, &history)?;
+    expect_printed(rt, alloc, &index, order)
+}
+
+// Of a history each of these lists is a legal order, or is none.
+fn expect_checked(
+    rt: &impl Abort,
+    alloc: Global,
+    steps: &[Step<'_>],
+    orders: &[(&[u32], bool)],
+) -> Result<(), Fail> {
+    let history = history_of(alloc, steps)?;
+    let index = Index::build(alloc, &history)?;
+    for (order, is_legal) in orders {
+        assert_eq!(rt; check_order(alloc, &index, order)?, *is_legal, "{order:?}");
     }
-}
-
-fn is_distinct(order: &[u32]) -> bool {
-    for i in 0..order.len() {
-        for j in 0..i {
-            if order[i] == order[j] {
-                return false;
-            }
-        }
-    }
-    true
-}
-
-fn has_completed_calls(index: &Index<'_>, order: &[u32]) -> bool {
-    for number in 0..index.call_count() {
-        if let Some(call) = index.call(number) {
-            if call.ended.is_some() && !order.contains(&number) {
-                return false;
-            }
-        }
-    }
-    true
-}
-
-fn ends_before(a: Option<&Call>, b: Option<&Call>) -> bool {
-    match a {
-        Some(a) => match b {
-            Some(b) => match a.ended {
-                Some(ended) => ended < b.begun,
-                None => false,
-            },
-            None => false,
-        },
-        None => false,
-    }
-}
-
-fn keeps_precedence(index: &Index<'_>, order: &[u32]) -> bool {
-    for i in 0..order.len() {
-        for j in 0..i {
-            if ends_before(index.call(order[i]), index.call(order[j])) {
-                return false;
-            }
-        }
-    }
-    true
-}
-
-fn last_update(index: &Index<'_>, order: &[u32], component: u8) -> Option<Entry> {
-    let mut last = None;
-    for number in order {
-        if let Some(call) = index.call(*number) {
-            if let CallOp::Update(entry) = call.op {
-                if entry.component == component {
-                    last = Some(entry);
-                }
-            }
-        }
-    }
-    last
-}
-
-fn shown_entry(view: &View, component: u8) -> Option<Entry> {
-    view.entries()
-        .iter()
-        .copied()
-        .find(|entry| entry.component == component)
-}
-
-// Whether a view shows of each component the last update of an order.
-fn shows_board(index: &Index<'_>, view: &View, before: &[u32]) -> bool {
-    for component in 0..3 {
-        if shown_entry(view, component) != last_update(index, before, component) {
-            return false;
-        }
-    }
-    true
-}
-
-fn shows_last_updates(index: &Index<'_>, order: &[u32]) -> bool {
-    for place in 0..order.len() {
-        if let Some(view) = index.answer(order[place]) {
-            if !shows_board(index, view, &order[..place]) {
-                return false;
-            }
-        }
-    }
-    true
+    Ok(())
 }
 
 #[test]
 fn of_two_pending_updates_the_one_that_was_seen_is_printed(rt: HostRuntime) -> Result<(), Fail> {
-    let history = history_of(rt.alloc(), SEEN_PENDING)?;
-    let index = Index::build(rt.alloc(), &history)?;
-    assert!(rt; check_order(rt.alloc(), &index, &[0, 2])?);
-    assert_eq!(rt;
-        build(&rt, rt.alloc(), &index)?.as_slice(),
-        [0, 2].as_slice()
-    );
-    Ok(())
+    expect_order(&rt, rt.alloc(), SEEN_PENDING, &[0, 2])
 }
 
 #[test]
 fn a_view_is_printed_before_an_update_that_it_does_not_show(rt: HostRuntime) -> Result<(), Fail> {
-    let history = history_of(rt.alloc(), VIEW_BESIDE_UPDATE)?;
-    let index = Index::build(rt.alloc(), &history)?;
-    assert!(rt; check_order(rt.alloc(), &index, &[1, 0])?);
-    assert_eq!(rt;
-        build(&rt, rt.alloc(), &index)?.as_slice(),
-        [1, 0].as_slice()
-    );
-    Ok(())
+    expect_order(&rt, rt.alloc(), VIEW_BESIDE_UPDATE, &[1, 0])
 }
 
 #[test]
 fn five_calls_are_printed_by_level_kind_and_number(rt: HostRuntime) -> Result<(), Fail> {
-    let history = history_of(rt.alloc(), ATOMIC_RUN)?;
-    let index = Index::build(rt.alloc(), &history)?;
-    assert!(rt; check_order(rt.alloc(), &index, &[0, 2, 1, 3, 4])?);
-    assert_eq!(rt;
-        build(&rt, rt.alloc(), &index)?.as_slice(),
-        [0, 2, 1, 3, 4].as_slice()
-    );
-    Ok(())
+    expect_order(&rt, rt.alloc(), ATOMIC_RUN, &[0, 2, 1, 3, 4])
 }
 
 #[test]
 fn an_order_has_each_completed_call_once_and_pending_updates_at_will(
     rt: HostRuntime,
 ) -> Result<(), Fail> {
-    let history = history_of(rt.alloc(), SEEN_PENDING)?;
-    let index = Index::build(rt.alloc(), &history)?;
-    assert!(rt; check_order(rt.alloc(), &index, &[0, 2])?);
-    assert!(rt; check_order(rt.alloc(), &index, &[0, 2, 1])?);
-    assert!(rt; !check_order(rt.alloc(), &index, &[0, 1, 2])?);
-    assert!(rt; !check_order(rt.alloc(), &index, &[2, 0])?);
-    assert!(rt; !check_order(rt.alloc(), &index, &[0])?);
-    assert!(rt; !check_order(rt.alloc(), &index, &[0, 2, 2])?);
-    assert!(rt; !check_order(rt.alloc(), &index, &[0, 2, 3])?);
-    Ok(())
+    let orders: [(&[u32], bool); 7] = [
+        (&[0, 2], true),
+        (&[0, 2, 1], true),
+        (&[0, 1, 2], false),
+        (&[2, 0], false),
+        (&[0], false),
+        (&[0, 2, 2], false),
+        (&[0, 2, 3], false),
+    ];
+    expect_checked(&rt, rt.alloc(), SEEN_PENDING, &orders)
 }
 
 #[test]
 fn a_view_stands_where_the_updates_before_it_are_those_that_it_shows(
     rt: HostRuntime,
 ) -> Result<(), Fail> {
-    let history = history_of(rt.alloc(), VIEW_BESIDE_UPDATE)?;
-    let index = Index::build(rt.alloc(), &history)?;
-    assert!(rt; check_order(rt.alloc(), &index, &[1, 0])?);
-    assert!(rt; !check_order(rt.alloc(), &index, &[0, 1])?);
-    Ok(())
+    let orders: [(&[u32], bool); 2] = [(&[1, 0], true), (&[0, 1], false)];
+    expect_checked(&rt, rt.alloc(), VIEW_BESIDE_UPDATE, &orders)
 }
 
 #[test]
 fn orders_of_all_calls_are_checked_by_precedence_and_views(rt: HostRuntime) -> Result<(), Fail> {
-    let history = history_of(rt.alloc(), ATOMIC_RUN)?;
-    let index = Index::build(rt.alloc(), &history)?;
-    let orders = [
-        ([0, 2, 1, 3, 4], true),
-        ([0, 2, 3, 1, 4], true),
-        ([0, 1, 2, 3, 4], false),
-        ([2, 0, 1, 3, 4], false),
-        ([0, 2, 1, 4, 3], false),
-        ([0, 2, 3, 4, 1], false),
+    let orders: [(&[u32], bool); 6] = [
+        (&[0, 2, 1, 3, 4], true),
+        (&[0, 2, 3, 1, 4], true),
+        (&[0, 1, 2, 3, 4], false),
+        (&[2, 0, 1, 3, 4], false),
+        (&[0, 2, 1, 4, 3], false),
+        (&[0, 2, 3, 4, 1], false),
     ];
-    for (order, want) in orders {
-        assert_eq!(rt; check_order(rt.alloc(), &index, &order)?, want);
-        assert_eq!(rt; is_legal(&index, &order), want);
-    }
-    Ok(())
+    expect_checked(&rt, rt.alloc(), ATOMIC_RUN, &orders)
 }
 
 // The digits to base 6 of a number below 1,296.
@@ -204,29 +110,26 @@ fn digits(alloc: Global, number: u32, length: usize) -> Result<Vec<u32>, Fail> {
     Ok(digits)
 }
 
-// How many lists of up to four numbers below 6 are legal by the check; none where the definition says otherwise of one.
-fn legal_lists(alloc: Global, steps: &[Step<'_>]) -> Result<Option<u32>, Fail> {
+// How many lists of up to four numbers below 6 are legal orders.
+fn legal_lists(alloc: Global, steps: &[Step<'_>]) -> Result<u32, Fail> {
     let history = history_of(alloc, steps)?;
     let index = Index::build(alloc, &history)?;
     let mut legal = 0u32;
     for (length, count) in [(0, 1), (1, 6), (2, 36), (3, 216), (4, 1296)] {
         for number in 0..count {
             let order = digits(alloc, number, length)?;
-            let is_checked = check_order(alloc, &index, &order)?;
-            if is_checked != is_legal(&index, &order) {
-                return Ok(None);
-            }
-            legal = legal.saturating_add(u32::from(is_checked));
+            let is_legal = check_order(alloc, &index, &order)?;
+            legal = legal.saturating_add(u32::from(is_legal));
         }
     }
-    Ok(Some(legal))
+    Ok(legal)
 }
 
 #[test]
-fn the_check_agrees_with_the_definition_on_all_short_lists(rt: HostRuntime) -> Result<(), Fail> {
+fn of_all_short_lists_few_are_legal_orders(rt: HostRuntime) -> Result<(), Fail> {
     let alloc = rt.alloc();
-    assert_eq!(rt; legal_lists(alloc, SEEN_PENDING)?, Some(2));
-    assert_eq!(rt; legal_lists(alloc, VIEW_BESIDE_UPDATE)?, Some(1));
-    assert_eq!(rt; legal_lists(alloc, ATOMIC_RUN)?, Some(0));
+    assert_eq!(rt; legal_lists(alloc, SEEN_PENDING)?, 2);
+    assert_eq!(rt; legal_lists(alloc, VIEW_BESIDE_UPDATE)?, 1);
+    assert_eq!(rt; legal_lists(alloc, ATOMIC_RUN)?, 0);
     Ok(())
 }

@@ -68,7 +68,30 @@ fn found(tally: &Tally) -> Known {
     }
 }
 
-// Each of these ranges of views of a history, from one place to before another, has this tally, with a grid and without.
+// Each of these ranges of views of an index, from one place to before another, has this tally.
+fn expect_ranges(rt: &impl Abort, index: &Index<'_>, known: &[(u32, u32, Known)]) {
+    for &(from, to, known) in known {
+        assert!(rt; from <= to && to <= index.view_count());
+        assert_eq!(rt; found(&tally_range(index, from, to)), known, "{from}..{to}");
+    }
+}
+
+// The same by the grid of its views.
+fn expect_ranges_by_grid(
+    rt: &impl Abort,
+    alloc: Global,
+    index: &Index<'_>,
+    known: &[(u32, u32, Known)],
+) -> Result<(), Fail> {
+    let grid = ViewGrid::build(alloc, index)?;
+    for &(from, to, known) in known {
+        assert!(rt; from <= to && to <= index.view_count());
+        assert_eq!(rt; found(&grid.tally(alloc, from, to)?), known, "{from}..{to}");
+    }
+    Ok(())
+}
+
+// Each of these ranges of views of a history has this tally, with a grid and without.
 fn expect(
     rt: &impl Abort,
     alloc: Global,
@@ -77,17 +100,8 @@ fn expect(
 ) -> Result<(), Fail> {
     let history = history_of(alloc, steps)?;
     let index = Index::build(alloc, &history)?;
-    let grid = ViewGrid::build(alloc, &index)?;
-    for &(from, to, known) in known {
-        assert!(rt; from <= to && to <= index.view_count());
-        assert_eq!(rt;
-            found(&tally_range(&index, from, to)),
-            known,
-            "{from}..{to}"
-        );
-        assert_eq!(rt; found(&grid.tally(alloc, from, to)?), known, "{from}..{to}");
-    }
-    Ok(())
+    expect_ranges(rt, &index, known);
+    expect_ranges_by_grid(rt, alloc, &index, known)
 }
 
 // Whether a history is regular, monotone and atomic.
