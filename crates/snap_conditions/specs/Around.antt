@@ -1,5 +1,5 @@
 -- Where the updates stand between which a view is by what it shows: at each component the one that it shows and the next.
-use Rattle.std.specs.Prelude.{ℕ, suc, ◌≡◌, ◌<◌, ◌≤◌, List, get_or, None}
+use Rattle.std.specs.Prelude.{ℕ, suc, ◌≡◌, ◌<◌, ◌≤◌, List, get_or}
 use Rattle.snap_core.specs.Calls.{Call, shown_number}
 use Rattle.snap_core.specs.Entries.{component_count}
 use Rattle.snap_conditions.specs.declared.around.Around.{Around}
@@ -20,7 +20,7 @@ pub record IsAround (calls : List Call) (r : Call) (around : Around) : Type 0 wh
   pub latest : (k : ℕ) → k < component_count → begin_shown calls r k ≤ around.latest
   pub earliest : (k : ℕ) → k < component_count → around.earliest ≤ end_next calls r k
 
--- from a component on nothing was looked up
-pub record AreNoneFrom (limit : ℕ) (around : Around) : Type 0 where
-  pub begins : (k : ℕ) → limit ≤ k → k < component_count → get_or around.begins k 0 ≡ begin_or_0 None
-  pub ends : (k : ℕ) → limit ≤ k → k < component_count → get_or around.ends k 0 ≡ end_or_never None
+-- the same around the numbers that were looked up last
+pub record AreAround (calls : List Call) (around : Around) : Type 0 where
+  pub begins : (k : ℕ) → k < component_count → get_or around.begins k 0 ≡ begin_or_0 (begin_of (update_of calls k (get_or around.numbers k 0)))
+  pub ends : (k : ℕ) → k < component_count → get_or around.ends k 0 ≡ end_or_never (end_of (update_of calls k (suc (get_or around.numbers k 0))))

@@ -1,8 +1,8 @@
-ghost use Rattle.std.specs.Prelude.{ℕ};
+ghost use Rattle.std.specs.Prelude.{◌≤◌, ◌<◌, ℕ, length, get_or};
 ghost use Rattle.snap_core.specs.Calls.{Call as SpecCall, calls_of};
 ghost use Rattle.snap_core.specs.Entries.{AreEntries};
 ghost use Rattle.snap_core.specs.Events.{IsKept};
-ghost use Rattle.snap_conditions.specs.Around.{AreNoneFrom, IsAround};
+ghost use Rattle.snap_conditions.specs.Around.{AreAround, IsAround};
 ghost use Rattle.snap_conditions.specs.Limits.{IsLimit};
 ghost use Rattle.snap_conditions.specs.Seen.{IsSeen};
 
@@ -27,41 +27,69 @@ pub(crate) struct Around {
     pub(crate) earliest: u32,
 }
 
+// The latest of some places, 0 where there are none.
+fn latest_of(places: &[u32]) -> u32
+    ensures { (k : ℕ) → k < length places.now → get_or places.now k 0 ≤ result }
+{
+    let mut latest = 0;
+    for place in places {
+        latest = latest.max(*place);
+    }
+    latest
+}
+
+// The earliest of some places, `NEVER` where there are none.
+fn earliest_of(places: &[u32]) -> u32
+    ensures places { (k : ℕ) → k < length places.now → result ≤ get_or places.now k 0 }
+    ensures never { result ≤ 4294967295 }
+{
+    let mut earliest = NEVER;
+    for place in places {
+        earliest = earliest.min(*place);
+    }
+    earliest
+}
+
 impl Around {
-    // Around no view: one serves for many views, since it is long.
-    pub(crate) fn new() -> Around
-        ensures { (limit : ℕ) → AreNoneFrom limit result }
+    // Around a view that shows nothing, where no component from a limit on has an update. One serves for many views, which
+    // mostly show what the view before them showed.
+    pub(crate) fn new(index: &Index<'_>, limit: usize) -> Around
+        requires kept { IsKept index.now }
+        requires limit { IsLimit (calls_of index.now) limit }
+        ensures { AreAround (calls_of index.now) result }
     {
+        let mut ends = [NEVER; COMPONENT_COUNT];
+        for k in 0..limit {
+            ends[k] = end_of_next(index, k as u8, 0).unwrap_or(NEVER);
+        }
         Around {
             numbers: [0; COMPONENT_COUNT],
             begins: [0; COMPONENT_COUNT],
-            ends: [NEVER; COMPONENT_COUNT],
+            ends,
             latest: 0,
             earliest: NEVER,
         }
     }
 
-    // Looks up the updates around a view, where no component from a limit on has an update.
+    // Looks up the updates around a view where it shows another number than the view before, where no component from a limit on
+    // has an update.
     pub(crate) fn look(&mut self, index: &Index<'_>, view: &SeenView<'_>, limit: usize)
-        requires none { AreNoneFrom limit self.old }
+        requires before { AreAround (calls_of index.now) self.old }
         requires kept { IsKept index.now }
         requires limit { IsLimit (calls_of index.now) limit }
         requires view { AreEntries view.now.entries.now }
-        ensures none { AreNoneFrom limit self.new }
+        ensures numbers { AreAround (calls_of index.now) self.new }
         ensures around { (r : SpecCall) → IsSeen r view.now → IsAround (calls_of index.now) r self.new }
     {
-        self.numbers = numbers_of(view.entries);
-        let mut latest = 0;
-        let mut earliest = NEVER;
+        let numbers = numbers_of(view.entries);
         for k in 0..limit {
-            let begun = begin_of_update(index, k as u8, self.numbers[k]).unwrap_or(0);
-            let ended = end_of_next(index, k as u8, self.numbers[k]).unwrap_or(NEVER);
-            self.begins[k] = begun;
-            self.ends[k] = ended;
-            latest = latest.max(begun);
-            earliest = earliest.min(ended);
+            if numbers[k] != self.numbers[k] {
+                self.begins[k] = begin_of_update(index, k as u8, numbers[k]).unwrap_or(0);
+                self.ends[k] = end_of_next(index, k as u8, numbers[k]).unwrap_or(NEVER);
+            }
         }
-        self.latest = latest;
-        self.earliest = earliest;
+        self.numbers = numbers;
+        self.latest = latest_of(&self.begins[..limit]);
+        self.earliest = earliest_of(&self.ends[..limit]);
     }
 }

@@ -1,7 +1,7 @@
 ghost use Rattle.std.specs.Prelude.{◌≡◌, ◌<◌, ◌≤◌, ◌-◌, ◌∷◌, [], length, take, drop};
 ghost use Rattle.snap_core.specs.Calls.{calls_of, views_of};
 ghost use Rattle.snap_core.specs.Events.{IsKept};
-ghost use Rattle.snap_conditions.specs.Around.{AreNoneFrom};
+ghost use Rattle.snap_conditions.specs.Around.{AreAround};
 ghost use Rattle.snap_conditions.specs.Limits.{IsLimit};
 ghost use Rattle.snap_conditions.specs.Seen.{view_in};
 ghost use Rattle.snap_conditions.specs.Tally.{tally_of, without_read};
@@ -26,11 +26,11 @@ fn component_limit(index: &Index<'_>) -> usize
 
 // The faults of the view at a place but for its read faults and stale views, where no component from a limit on has an update.
 fn view_without_read(index: &Index<'_>, place: u32, limit: usize, around: &mut Around) -> Tally
-    requires none { AreNoneFrom limit around.old }
+    requires before { AreAround (calls_of index.now) around.old }
     requires limit { IsLimit (calls_of index.now) limit }
     requires place { place < length (views_of (calls_of index.now)) }
     requires kept { IsKept index.now }
-    ensures none { AreNoneFrom limit around.new }
+    ensures numbers { AreAround (calls_of index.now) around.new }
     ensures tally { result ≡ without_read (tally_of (calls_of index.now) (view_in (calls_of index.now) place ∷ [])) }
 {
     let view = view_at(index, place);
@@ -46,11 +46,11 @@ fn view_without_read(index: &Index<'_>, place: u32, limit: usize, around: &mut A
 
 // The faults of the view at a place, where no component from a limit on has an update.
 fn view_tally(index: &Index<'_>, place: u32, limit: usize, around: &mut Around) -> Tally
-    requires none { AreNoneFrom limit around.old }
+    requires before { AreAround (calls_of index.now) around.old }
     requires limit { IsLimit (calls_of index.now) limit }
     requires place { place < length (views_of (calls_of index.now)) }
     requires kept { IsKept index.now }
-    ensures none { AreNoneFrom limit around.new }
+    ensures numbers { AreAround (calls_of index.now) around.new }
     ensures tally { result ≡ tally_of (calls_of index.now) (view_in (calls_of index.now) place ∷ []) }
 {
     let others = view_without_read(index, place, limit, around);
@@ -74,7 +74,7 @@ pub fn tally_range(index: &Index<'_>, from: u32, to: u32) -> Tally
     // what is known of the history that the index is of
     let _events = index.event_count();
     let limit = component_limit(index);
-    let mut around = Around::new();
+    let mut around = Around::new(index, limit);
     let mut tally = Tally::none();
     for place in from..to {
         tally = merge(tally, view_tally(index, place, limit, &mut around));
@@ -92,7 +92,7 @@ pub fn tally_without_read(index: &Index<'_>, from: u32, to: u32) -> Tally
     // what is known of the history that the index is of
     let _events = index.event_count();
     let limit = component_limit(index);
-    let mut around = Around::new();
+    let mut around = Around::new(index, limit);
     let mut tally = Tally::none();
     for place in from..to {
         tally = merge(tally, view_without_read(index, place, limit, &mut around));

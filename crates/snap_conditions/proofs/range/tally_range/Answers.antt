@@ -7,7 +7,7 @@ use Rattle.snap_conditions.proofs.range.tally_range.Goals as goal
 pub loop-place-init : goal.loop-place-init
 loop-place-init c =
     let calls = calls_of c.args.index.now in
-    (c.new-around.ensures c.component_limit-limit.result, c.none-tally.ensures ∙ sym (ap (tally_of calls) (empty_between calls c.args.from) ∙ (tallies_join calls).nothing))
+    (c.new-around.ensures, c.none-tally.ensures ∙ sym (ap (tally_of calls) (empty_between calls c.args.from) ∙ (tallies_join calls).nothing))
 
 pub merge-tally-requires : goal.merge-tally-requires
 merge-tally-requires c =
@@ -22,7 +22,7 @@ loop-place-preserved c =
     let calls = calls_of c.args.index.now in
     let place = c.loop-place.place in
     let here = c.view_tally.ensures.tally ∙ ap (tally_of calls) (sym (one_between calls place (omega arith))) in (
-      c.view_tally.ensures.none,
+      c.view_tally.ensures.numbers,
       c.merge-tally.ensures ∙ ap (λ t. merged t c.view_tally.result) c.loop-place.invariant.1 ∙ ap (merged (tally_of calls (views_between calls c.args.from place))) here
           ∙ sym ((tallies_join calls).adjoining c.args.from place (place + 1) (omega arith) (omega arith)),
     )

@@ -11,7 +11,7 @@ fit_without a b s = record { integrity = s.integrity; proximity = s.proximity; r
 pub loop-place-init : goal.loop-place-init
 loop-place-init c =
     let calls = calls_of c.args.index.now in
-    (c.new-around.ensures c.component_limit-limit.result, c.none-tally.ensures ∙ ap without_read (sym (ap (tally_of calls) (empty_between calls c.args.from) ∙ (tallies_join calls).nothing)))
+    (c.new-around.ensures, c.none-tally.ensures ∙ ap without_read (sym (ap (tally_of calls) (empty_between calls c.args.from) ∙ (tallies_join calls).nothing)))
 
 pub merge-tally-requires : goal.merge-tally-requires
 merge-tally-requires c =
@@ -26,7 +26,7 @@ loop-place-preserved c =
     let calls = calls_of c.args.index.now in
     let place = c.loop-place.place in
     let here = c.view_without_read.ensures.tally ∙ ap (λ t. without_read (tally_of calls t)) (sym (one_between calls place (omega arith))) in (
-      c.view_without_read.ensures.none,
+      c.view_without_read.ensures.numbers,
       c.merge-tally.ensures ∙ ap (λ t. merged t c.view_without_read.result) c.loop-place.invariant.1 ∙ ap (merged (without_read (tally_of calls (views_between calls c.args.from place)))) here
           ∙ ap without_read (sym ((tallies_join calls).adjoining c.args.from place (place + 1) (omega arith) (omega arith))),
     )

@@ -12,6 +12,6 @@ returns c =
     let calls = calls_of c.args.index.now in
     let others = c.view_without_read-others.ensures.tally in
     record {
-      none = c.view_without_read-others.ensures.none;
+      numbers = c.view_without_read-others.ensures.numbers;
       tally = tally_is _ (tally_of calls (view_in calls c.args.place ∷ [])) (ap (λ (t : Tally). t.integrity) others) (ap (λ (t : Tally). t.proximity) others) c.read_part-read.ensures (ap (λ (t : Tally). t.write) others) c.stale_beside.ensures;
     }

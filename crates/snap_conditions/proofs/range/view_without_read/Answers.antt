@@ -10,6 +10,6 @@ unfolding tally_of
 returns c =
     let calls = calls_of c.args.index.now in
     record {
-      none = c.look.ensures.none;
+      numbers = c.look.ensures.numbers;
       tally = tally_is _ (without_read (tally_of calls (view_in calls c.args.place ∷ []))) c.integrity_part.ensures c.proximity_part.ensures c.none.ensures c.write_part.ensures refl;
     }

@@ -1,9 +1,27 @@
-use Rattle.std.proofs.Common.{ℕ}
+use Rattle.std.proofs.Common.{ℕ, suc, refl, sym, ap, ◌∙◌, inl, inr, arith}
+use Rattle.std.proofs.lemmas.Bool.{cases_lt}
 use Rattle.std.proofs.lemmas.List.{get_or-replicate}
+use Rattle.snap_core.specs.Calls.{calls_of}
+use Rattle.snap_conditions.specs.Places.{update_of, begin_of, end_of, begin_or_0, end_or_never}
+use Rattle.snap_index.proofs.Known.{no_update_0}
+use Rattle.snap_conditions.proofs.Viewed.{none_of_none}
 use Rattle.snap_conditions.proofs.around.Around.new.Goals as goal
 
-pub returns : goal.returns
-returns c = λ limit. record {
-  begins = λ k l m. get_or-replicate {A = ℕ} 256 k 0 0 m;
-  ends = λ k l m. get_or-replicate {A = ℕ} 256 k 4294967295 0 m;
+pub loop-k-init : goal.loop-k-init
+loop-k-init c = record {
+  size = refl;
+  ends = λ q l. absurd (omega (arith, l));
+  never = λ q l m. get_or-replicate {A = ℕ} 256 q 4294967295 0 m;
 }
+
+pub returns : goal.returns
+returns c =
+    let es = c.args.index.now in
+    let calls = calls_of es in
+    record {
+      begins = λ k l. get_or-replicate {A = ℕ} 256 k 0 0 l ∙ sym (ap (λ n. begin_or_0 (begin_of (update_of calls k n))) (get_or-replicate {A = ℕ} 256 k 0 0 l) ∙ ap (λ o. begin_or_0 (begin_of o)) (no_update_0 es c.requires.kept.history k));
+      ends = λ k l. elim (cases_lt k c.args.limit) [
+        | inl b ↦ c.loop-k.invariant.ends k (omega (arith, b, c.loop-k-test.false))
+        | inr b ↦ c.loop-k.invariant.never k (omega (arith, b)) l ∙ sym (ap (λ o. end_or_never (end_of o)) (none_of_none es c.requires.kept k 1 (c.requires.limit.none k (omega (arith, b)) l)))
+      ] ∙ sym (ap (λ n. end_or_never (end_of (update_of calls k (suc n)))) (get_or-replicate {A = ℕ} 256 k 0 0 l));
+    }
