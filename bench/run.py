@@ -5,7 +5,8 @@ usage: run.py [--against PROGRAM] [--repeats N] [KIND ..]
 
 Each history is made by generate.py from the number 1. With one worker, with two and, where another judge of the same text and
 report is given, by that one, it is judged in turn, N times (7, if not said), and the least time of each counts. The reports are
-compared byte for byte. PROGRAM is called as `PROGRAM check`, with the history on its standard input.
+compared byte for byte. PROGRAM is called as `PROGRAM check`, with the history on its standard input. All run in the environment
+that the launcher makes, in which the C library takes memory in large pages.
 
 The first row is of a process that does nothing.
 """
@@ -19,6 +20,8 @@ import time
 
 HERE = os.path.dirname(os.path.abspath(__file__))
 SNAPJUDGE = os.environ.get("SNAPJUDGE", os.path.join(HERE, "..", "built", "snapjudge"))
+# as the launcher starts the program
+ENVIRONMENT = {**os.environ, "GLIBC_TUNABLES": "glibc.malloc.hugetlb=1:glibc.malloc.top_pad=8388608"}
 CASES = [
     ("atomic", 1024, 8), ("atomic", 4096, 8), ("atomic", 16384, 8), ("atomic", 65536, 8), ("atomic", 16384, 256), ("atomic", 65536, 256),
     ("pending", 16384, 8), ("pending", 65536, 8), ("pending", 16384, 256), ("pending", 65536, 256),
@@ -35,7 +38,7 @@ def run(words, history, report):
     """The status, the milliseconds by the clock and of user time, and the peak memory in MB of one run."""
     files = [(os.POSIX_SPAWN_OPEN, 0, history, os.O_RDONLY, 0), (os.POSIX_SPAWN_OPEN, 1, report, os.O_WRONLY | os.O_CREAT | os.O_TRUNC, 0o600)]
     begun = time.perf_counter()
-    child = os.posix_spawn(words[0], words, os.environ, file_actions=files)
+    child = os.posix_spawn(words[0], words, ENVIRONMENT, file_actions=files)
     _, status, used = os.wait4(child, 0)
     return os.waitstatus_to_exitcode(status), (time.perf_counter() - begun) * 1000, used.ru_utime * 1000, used.ru_maxrss / 1024
 

@@ -51,6 +51,15 @@ named_stale=${named_stale%.}
 ln -s "$top/snapjudge" "$room/first"
 ln -s first "$room/second"
 cd "$room" || exit 1
+mkdir -p stand/bin stand/libexec/snapjudge
+cp "$top/snapjudge" stand/bin/snapjudge
+printf '#!/bin/sh\necho "$GLIBC_TUNABLES $*"\n' >stand/libexec/snapjudge/snapjudge
+chmod +x stand/libexec/snapjudge/snapjudge
+large=glibc.malloc.hugetlb=1:glibc.malloc.top_pad=8388608
+expect "memory in large pages" 0 "$large record
+" env -u GLIBC_TUNABLES stand/bin/snapjudge record
+expect "what the caller has set for the C library stays" 0 "$large:glibc.malloc.arena_max=1 record
+" env GLIBC_TUNABLES=glibc.malloc.arena_max=1 stand/bin/snapjudge record
 expect "a file" 2 "$stale" "$top/snapjudge" check "$examples/stale-view.csv"
 expect "a file through two symbolic links" 1 "$inversion" ./second check "$examples/new-old-inversion.csv"
 expect "a file between options" 1 "$inversion" ./second check --pieces 3 "$examples/new-old-inversion.csv" --workers=4

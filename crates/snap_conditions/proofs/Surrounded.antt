@@ -1,21 +1,24 @@
 -- The faults of a view by the updates around it.
-use Rattle.std.proofs.Common.{◌≡◌, ℕ, zero, suc, ◌+◌, ◌<◌, ◌≤◌, false, ◌||◌, List, [], ◌∷◌, length, get_or, Option, Some, None, refl, sym, ap, ◌∙◌, inl, inr, arith}
-use Rattle.std.specs.Prelude.{nat_lt}
+use Rattle.std.proofs.Common.{◌≡◌, ℕ, zero, suc, ◌+◌, ◌<◌, ◌≤◌, false, ◌&&◌, ◌||◌, List, [], ◌∷◌, length, get_or, Option, Some, None, refl, sym, ap, ◌∙◌, inl, inr, arith}
+use Rattle.std.specs.Prelude.{◌==◌, nat_lt}
 use Rattle.std.specs.List.{range_with_len}
-use Rattle.std.proofs.lemmas.Bool.{le-ltb, ltb-false, or_from, cases_lt}
+use Rattle.std.proofs.lemmas.Bool.{le-ltb, ltb-false, or_from, cases_lt, eq-eqb, ne_eqb}
 use Rattle.snap_core.specs.declared.event.Event.{Event}
-use Rattle.snap_core.specs.Entries.{AreEntries}
+use Rattle.snap_core.specs.declared.entry.Entry.{Entry}
+use Rattle.snap_core.specs.Entries.{AreEntries, EntryFits}
 use Rattle.snap_core.specs.Events.{IsKept}
-use Rattle.snap_core.specs.Calls.{Call, calls_of, entries_of, is_before, shown_number}
+use Rattle.snap_core.specs.Calls.{Call, calls_of, entries_of, is_before, shown, shown_number}
 use Rattle.snap_core.proofs.Facts.{shown_number_at}
 use Rattle.snap_core.proofs.Histories.{are_calls}
 use Rattle.snap_core.proofs.Lists.{In}
+use Rattle.snap_index.specs.Bare.{value_written}
+use Rattle.snap_index.proofs.Known.{update_found}
 use Rattle.snap_conditions.specs.declared.around.Around.{Around}
 use Rattle.snap_conditions.specs.Around.{IsAround, end_next}
-use Rattle.snap_conditions.specs.Faults.{components, old_fault, early_fault, proximity_faults, write_faults, missed_at}
+use Rattle.snap_conditions.specs.Faults.{components, old_fault, early_fault, proximity_faults, write_faults, missed_at, writes_entry}
 use Rattle.snap_conditions.specs.Parts.{no_part, part_of}
 use Rattle.snap_conditions.specs.PartValue.{PartValue}
-use Rattle.snap_conditions.specs.Places.{update_of, end_of, begin_of, begin_of_shown, begin_or_0, end_or_never, IsNoLater}
+use Rattle.snap_conditions.specs.Places.{update_of, value_of, end_of, begin_of, begin_of_shown, is_written, value_or_none, begin_or_0, end_or_never, IsNoLater}
 use Rattle.snap_conditions.specs.Tally.{reported_proximity, reported_write}
 use Rattle.snap_conditions.proofs.Entries.{nothing}
 use Rattle.snap_conditions.proofs.Finds.{shown_at, none_behind}
@@ -112,3 +115,22 @@ none_missed_around es kept r around a shape fits l =
     let calls = calls_of es in
     write_alone calls r
     ∙ ap (part_of reported_write) (flat_map_none (missed_at calls r) components (λ j i. empty reported_write (missed_at calls r j) (none_missed_at es kept r around j a shape fits (omega (arith, l, a.earliest j (omega (arith, below 256 0 j i)))))))
+
+-- an entry of a view, by the value of the update that it shows
+
+written_of : (es : List Event) → IsKept es → (e : Entry) → EntryFits e → (o : Option Call) → update_of (calls_of es) e.component e.number ≡ o → is_written o e ≡ (value_or_none (value_of o) == e.value)
+written_of es kept e fits None is = sym (ne_eqb 4294967296 e.value (λ same. omega (arith, same, fits.2)))
+written_of es kept e fits (Some c) is =
+    let u = update_found es e.component e.number c is in
+    ap (λ o. writes_entry o e) u.update.writes
+    ∙ ap (λ b. b && ((u.entry.number == e.number) && (u.entry.value == e.value))) (eq-eqb _ _ u.component)
+    ∙ ap (λ b. b && (u.entry.value == e.value)) (eq-eqb _ _ u.number)
+    ∙ ap (λ v. v == e.value) (sym (ap value_written u.update.writes))
+
+pub written_around : (es : List Event) → IsKept es → (r : Call) (around : Around) (e : Entry) → IsAround (calls_of es) r around → shown r e.component ≡ Some e → EntryFits e →
+    is_written (update_of (calls_of es) e.component e.number) e ≡ (get_or around.values e.component 0 == e.value)
+written_around es kept r around e a is fits =
+    let calls = calls_of es in
+    written_of es kept e fits (update_of calls e.component e.number) refl
+    ∙ ap (λ n. value_or_none (value_of (update_of calls e.component n)) == e.value) (sym (shown_number_at r e.component e is))
+    ∙ ap (λ v. v == e.value) (sym (a.values e.component fits.0))

@@ -3,7 +3,11 @@ use Rattle.std.specs.Prelude.{ℕ, suc, ◌≡◌, ◌<◌, ◌≤◌, List, get
 use Rattle.snap_core.specs.Calls.{Call, shown_number}
 use Rattle.snap_core.specs.Entries.{component_count}
 use Rattle.snap_conditions.specs.declared.around.Around.{Around}
-use Rattle.snap_conditions.specs.Places.{update_of, begin_of, end_of, begin_or_0, end_or_never}
+use Rattle.snap_conditions.specs.Places.{update_of, value_of, begin_of, end_of, value_or_none, begin_or_0, end_or_never}
+
+-- the value of the update that a view shows of a component, one that is no update's where there is none
+abbrev pub value_shown : List Call → Call → ℕ → ℕ
+value_shown calls r k = value_or_none (value_of (update_of calls k (shown_number r k)))
 
 -- where the update that a view shows of a component begins, 0 where there is none
 abbrev pub begin_shown : List Call → Call → ℕ → ℕ
@@ -15,6 +19,7 @@ end_next calls r k = end_or_never (end_of (update_of calls k (suc (shown_number 
 
 pub record IsAround (calls : List Call) (r : Call) (around : Around) : Type 0 where
   pub numbers : (k : ℕ) → k < component_count → get_or around.numbers k 0 ≡ shown_number r k
+  pub values : (k : ℕ) → k < component_count → get_or around.values k 0 ≡ value_shown calls r k
   pub begins : (k : ℕ) → k < component_count → get_or around.begins k 0 ≡ begin_shown calls r k
   pub ends : (k : ℕ) → k < component_count → get_or around.ends k 0 ≡ end_next calls r k
   pub latest : (k : ℕ) → k < component_count → begin_shown calls r k ≤ around.latest
@@ -22,5 +27,6 @@ pub record IsAround (calls : List Call) (r : Call) (around : Around) : Type 0 wh
 
 -- the same around the numbers that were looked up last
 pub record AreAround (calls : List Call) (around : Around) : Type 0 where
+  pub values : (k : ℕ) → k < component_count → get_or around.values k 0 ≡ value_or_none (value_of (update_of calls k (get_or around.numbers k 0)))
   pub begins : (k : ℕ) → k < component_count → get_or around.begins k 0 ≡ begin_or_0 (begin_of (update_of calls k (get_or around.numbers k 0)))
   pub ends : (k : ℕ) → k < component_count → get_or around.ends k 0 ≡ end_or_never (end_of (update_of calls k (suc (get_or around.numbers k 0))))

@@ -6,6 +6,7 @@ use Rattle.snap_core.specs.Calls.{Call, views_of}
 use Rattle.snap_conditions.specs.Faults.{exceeds}
 use Rattle.snap_conditions.specs.Quick.{shown_sum}
 use Rattle.snap_conditions.specs.Seen.{view_in}
+use Rattle.snap_conditions.specs.declared.view_chain.ViewChain.{ViewChain}
 
 -- the sum of each completed view, by call number
 abbrev pub AreViewSums : List Call → List ℕ → Type 0
@@ -23,6 +24,11 @@ summed_at calls place = (shown_sum (view_in calls place), place)
 pub record IsChain (calls : List Call) (places : List ℕ) : Type 0 where
   pub views : IsPermutation (range_with_len 0 (length (views_of calls))) places
   pub sorted : AllPairs (λ a b. KeyLess (summed_at calls a) (summed_at calls b)) places
+
+-- the same, and the sum of each view
+pub record IsViewChain (calls : List Call) (chain : ViewChain) : Type 0 where
+  pub places : IsChain calls chain.places.items
+  pub sums : AreViewSums calls chain.sums.items
 
 -- each completed view by its sum and its place
 abbrev pub summed_views : List Call → List (ℕ × ℕ)

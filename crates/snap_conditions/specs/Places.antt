@@ -2,6 +2,7 @@
 use Rattle.std.specs.Prelude.{ℕ, ◌≤◌, ⊤, Bool, false, List, Option, Some, None, find, get_or, unwrap_or}
 use Rattle.snap_core.specs.declared.entry.Entry.{Entry}
 use Rattle.snap_core.specs.Calls.{Call, is_update_numbered, is_before}
+use Rattle.snap_index.specs.Bare.{value_written}
 use Rattle.snap_conditions.specs.Faults.{writes_entry}
 
 -- update n of component k, if there is one
@@ -17,6 +18,11 @@ end_of (Some a) = a.ended
 abbrev pub begin_of : Option Call → Option ℕ
 begin_of None = None
 begin_of (Some a) = Some a.begun
+
+-- the value of an update, if there is one
+abbrev pub value_of : Option Call → Option ℕ
+value_of None = None
+value_of (Some a) = Some (value_written a.operation)
 
 -- a begin that stands behind an end
 abbrev pub begins_behind : Option ℕ → Option ℕ → Bool
@@ -41,6 +47,10 @@ begin_of_shown calls entries i = let e = get_or entries i (record { component = 
 -- the end of a call, or a place behind all begins
 abbrev pub end_or_never : Option ℕ → ℕ
 end_or_never ended = unwrap_or ended 4294967295
+
+-- a value, or one that is no update's
+abbrev pub value_or_none : Option ℕ → ℕ
+value_or_none value = unwrap_or value 4294967296
 
 -- a begin, or 0 where there is none
 abbrev pub begin_or_0 : Option ℕ → ℕ

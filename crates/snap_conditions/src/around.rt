@@ -1,23 +1,29 @@
-ghost use Rattle.std.specs.Prelude.{◌≤◌, ◌<◌, ℕ, length, get_or};
+ghost use Rattle.std.specs.Prelude.{◌≡◌, ◌≤◌, ◌<◌, ℕ, length, get_or};
 ghost use Rattle.snap_core.specs.Calls.{Call as SpecCall, calls_of};
 ghost use Rattle.snap_core.specs.Entries.{AreEntries};
 ghost use Rattle.snap_core.specs.Events.{IsKept};
 ghost use Rattle.snap_conditions.specs.Around.{AreAround, IsAround};
 ghost use Rattle.snap_conditions.specs.Limits.{IsLimit};
+ghost use Rattle.snap_conditions.specs.Places.{value_or_none as spec_value_or_none};
 ghost use Rattle.snap_conditions.specs.Seen.{IsSeen};
 
 use crate::row::numbers_of;
-use crate::seen::{SeenView, begin_of_update, end_of_next};
+use crate::seen::{SeenView, begin_of_update, end_of_next, value_of_update};
 use snap_core::COMPONENT_COUNT;
 use snap_index::Index;
 
 // A place behind all events.
 pub(crate) const NEVER: u32 = u32::MAX;
 
+// A value that is no update's.
+const NO_VALUE: u64 = u32::MAX as u64 + 1;
+
 // Where the updates stand between which a view is by what it shows, component by component.
 #[derive(Drop)]
 pub(crate) struct Around {
     pub(crate) numbers: [u32; COMPONENT_COUNT],
+    // the value of the update of that number, `NO_VALUE` where there is none
+    pub(crate) values: [u64; COMPONENT_COUNT],
     // where the update of that number begins, 0 where there is none
     pub(crate) begins: [u32; COMPONENT_COUNT],
     // where the update after it ends, `NEVER` where there is none or it is pending
@@ -25,6 +31,16 @@ pub(crate) struct Around {
     // no begin is later, and no end is earlier
     pub(crate) latest: u32,
     pub(crate) earliest: u32,
+}
+
+// A value, or `NO_VALUE`.
+fn value_or_none(value: Option<u32>) -> u64
+    ensures { result ≡ spec_value_or_none value }
+{
+    match value {
+        Some(value) => u64::from(value),
+        None => NO_VALUE,
+    }
 }
 
 // The latest of some places, 0 where there are none.
@@ -64,6 +80,7 @@ impl Around {
         }
         Around {
             numbers: [0; COMPONENT_COUNT],
+            values: [NO_VALUE; COMPONENT_COUNT],
             begins: [0; COMPONENT_COUNT],
             ends,
             latest: 0,
@@ -84,6 +101,7 @@ impl Around {
         let numbers = numbers_of(view.entries);
         for k in 0..limit {
             if numbers[k] != self.numbers[k] {
+                self.values[k] = value_or_none(value_of_update(index, k as u8, numbers[k]));
                 self.begins[k] = begin_of_update(index, k as u8, numbers[k]).unwrap_or(0);
                 self.ends[k] = end_of_next(index, k as u8, numbers[k]).unwrap_or(NEVER);
             }

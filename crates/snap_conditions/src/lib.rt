@@ -32,6 +32,6 @@ pub use quick_test::{entries_sum, view_sum, view_sums};
 pub use range::{tally_range, tally_without_read};
 pub use sweep::ordered;
 pub use tally::{Tally, is_atomic, is_monotone, is_regular, merge};
-pub use view_chain::chain;
+pub use view_chain::{ViewChain, chain};
 pub use view_grid::ViewGrid;
-pub use whole::{has_no_read_fault, tally_alone};
+pub use whole::{faultless_chain, tally_alone, tally_and_chain_alone};

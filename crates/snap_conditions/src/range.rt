@@ -36,7 +36,7 @@ fn view_without_read(index: &Index<'_>, place: u32, limit: usize, around: &mut A
     let view = view_at(index, place);
     around.look(index, &view, limit);
     Tally {
-        integrity: integrity_part(index, place, &view),
+        integrity: integrity_part(index, place, &view, around),
         proximity: proximity_part(index, place, &view, around, limit),
         read: Part::none(),
         write: write_part(index, place, &view, around, limit),

@@ -1,7 +1,7 @@
 ghost use Rattle.std.specs.Prelude.{◌<◌, ◌≡◌, suc, length};
 ghost use Rattle.snap_core.specs.Events.{IsKept};
 ghost use Rattle.snap_core.specs.Calls.{calls_of, views_of, is_before as spec_is_before};
-ghost use Rattle.snap_conditions.specs.Places.{update_of, end_of, begin_of};
+ghost use Rattle.snap_conditions.specs.Places.{update_of, value_of, end_of, begin_of};
 ghost use Rattle.snap_conditions.specs.Seen.{IsSeen, view_in};
 
 use snap_core::Entry;
@@ -44,6 +44,14 @@ pub(crate) fn is_before(ended: Option<u32>, place: u32) -> bool
         Some(ended) => ended < place,
         None => false,
     }
+}
+
+// The value of update n of component k, if there is one.
+pub(crate) fn value_of_update(index: &Index<'_>, k: u8, n: u32) -> Option<u32>
+    ensures { result ≡ value_of (update_of (calls_of index.now) k n) }
+{
+    let write = index.write(k, n)?;
+    Some(write.value)
 }
 
 // Where update n of component k began, if there is one.

@@ -13,6 +13,15 @@ use snap_core::{COMPONENT_COUNT, Entry};
 use snap_index::Index;
 use std::alloc::{AllocError, Global};
 
+/// The completed views of a history as a chain, in which each shows no less than those before it.
+#[derive(Debug, Drop)]
+pub struct ViewChain {
+    /// The places of the views by call number, counted from 0, sorted by the sums of the numbers that they show and then by place.
+    pub places: Vec<u32>,
+    /// The sum of each view, by call number.
+    pub sums: Vec<u64>,
+}
+
 /// The places of the completed views by call number, counted from 0, sorted by the sums of the numbers that they show and
 /// then by place, where of any two of these views one shows no component above the other's; `None` exactly where two views
 /// are not so. `sums` has the sum of each completed view, by call number. The error is want of memory.

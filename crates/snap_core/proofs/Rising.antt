@@ -1,6 +1,8 @@
 -- Entries that rise, by places.
-use Rattle.std.proofs.Common.{◌≡◌, ℕ, zero, suc, ◌<◌, ◌≤◌, true, false, List, [], ◌∷◌, length, get_or, cond, nat_lt, Some, refl, ap, ◌∙◌, arith}
-use Rattle.std.proofs.lemmas.Bool.{ltb-true, lt-ltb, and_parts, and_from, false_from_ne_true}
+use Rattle.std.proofs.Common.{◌≡◌, ℕ, zero, suc, ◌<◌, ◌≤◌, true, false, List, [], ◌∷◌, length, get_or, cond, nat_lt, Some, refl, ap, ◌∙◌, inl, inr, arith}
+use Rattle.std.proofs.lemmas.Bool.{ltb-true, ltb-false, lt-ltb, and_parts, and_from, cases_lt, false_from_ne_true}
+use Rattle.std.specs.List.Sorted.{IsPartitionedBy, IsPartitionPoint}
+use Rattle.std.proofs.lemmas.List.Sorted.{IsPartitionedBy-ltb}
 use Rattle.std.specs.Prelude.{Bool, None, not, if◌then◌else◌}
 use Rattle.std.proofs.lemmas.Bool.{eq-eqb, ne_eqb}
 use Rattle.snap_core.specs.declared.entry.Entry.{Entry}
@@ -38,6 +40,35 @@ entry_at (e ∷ es) zero x k s l same = ap (λ b. cond b (Some e) (entry_of k es
 entry_at (e ∷ es) (suc i) x k s l same =
     let lower = first_lower e es i x s (omega arith) in
     ap (λ b. cond b (Some e) (entry_of k es)) (ne_eqb e.component k (λ q. omega (arith, lower, same, q))) ∙ entry_at es i x k (rises_tail e es s) (omega arith) same
+
+-- no entry of a component that none has
+no_entry : (es : List Entry) (x : Entry) (k : ℕ) → ((i : ℕ) → i < length es → (get_or es i x).component ≡ k → ⊥) → entry_of k es ≡ None
+no_entry [] x k none = refl
+no_entry (e ∷ es) x k none = ap (λ b. cond b (Some e) (entry_of k es)) (ne_eqb e.component k (none 0 (omega arith))) ∙ no_entry es x k (λ i l. none (suc i) (omega (arith, l)))
+
+-- components rise from place to place
+rises_apart : (es : List Entry) (i j : ℕ) (x : Entry) → rises es ≡ true → i < j → j < length es → (get_or es i x).component < (get_or es j x).component
+rises_apart [] i j x s l m = absurd (omega arith)
+rises_apart (e ∷ es) i zero x s l m = absurd (omega arith)
+rises_apart (e ∷ es) zero (suc j) x s l m = first_lower e es j x s (omega arith)
+rises_apart (e ∷ es) (suc i) (suc j) x s l m = rises_apart es i j x (rises_tail e es s) (omega arith) (omega arith)
+
+pub parted_at : (es : List Entry) (k : ℕ) → rises es ≡ true → IsPartitionedBy (λ e. nat_lt e.component k) es
+parted_at es k s = IsPartitionedBy-ltb (λ e. e.component) es k (λ i j d l m. elim (cases_lt i j) [
+  | inl less ↦ omega (arith, rises_apart es i j d s less m)
+  | inr same ↦ (let e : i ≡ j = omega (arith, l, same) in omega (arith, ap (λ z. (get_or es z d).component) e))
+])
+
+-- where the components below k end, the entry of k stands or none does
+pub none_at : (es : List Entry) (x : Entry) (k p : ℕ) → IsPartitionPoint (λ e. nat_lt e.component k ≡ true) (λ e. nat_lt e.component k ≡ false) es p → rises es ≡ true →
+    (p < length es → (get_or es p x).component ≡ k → ⊥) → entry_of k es ≡ None
+none_at es x k p point s other = no_entry es x k (λ i l same. elim (cases_lt i p) [
+  | inl before ↦ omega (arith, same, ltb-true _ _ (point.0 i x (omega arith) before))
+  | inr behind ↦ elim (cases_lt p i) [
+    | inl after ↦ omega (arith, same, rises_apart es p i x s after l, ltb-false _ _ (point.1 p x (omega arith) (omega (arith, after, l))))
+    | inr at ↦ (let e : p ≡ i = omega (arith, behind, at) in other (omega (arith, e, l)) (ap (λ z. (get_or es z x).component) e ∙ same))
+  ]
+])
 
 -- the first refusal, by what its two tests say
 pub refusal_by : (es : List Entry) (r z : Bool) → rises es ≡ r → has_zero es ≡ z → view_refusal es ≡ (if not r then Some NotRising else if z then Some ZeroNumber else None)

@@ -66,7 +66,11 @@ fn find_entry(entries: &[Entry], k: u8) -> Option<Entry>
     if place < entries.len() && entries[place].component == k {
         return Some(entries[place]);
     }
-    entries.iter().copied().find(|e| e.component == k)
+    let place = entries.partition_point(|entry| entry.component < k);
+    if place == entries.len() || entries[place].component != k {
+        return None;
+    }
+    Some(entries[place])
 }
 
 impl View {

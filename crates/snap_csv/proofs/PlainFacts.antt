@@ -1,6 +1,6 @@
 -- What `csv` reads of a plain text, field by field.
-use Rattle.std.proofs.Common.{codes, cond, drop, ◌≡◌, ◌<◌, ◌≤◌, ◌==◌, ◌+◌, ◌++◌, ◌⊎◌, inl, inr, ℕ, zero, suc, Bool, true, false, List, [], ◌∷◌, length, get_or, All, Option, Some, None, refl, sym, ap, ◌∙◌, subst, arith, append-nil, append_assoc}
-use Rattle.std.specs.Prelude.{◌≢◌, is_some, slice_index}
+use Rattle.std.proofs.Common.{codes, cond, drop, take, ◌≡◌, ◌<◌, ◌≤◌, ◌==◌, ◌+◌, ◌++◌, ◌⊎◌, inl, inr, ℕ, zero, suc, Bool, true, false, List, [], ◌∷◌, length, get_or, All, Option, Some, None, refl, sym, ap, ◌∙◌, subst, arith, append-nil, append_assoc}
+use Rattle.std.specs.Prelude.{◌≢◌, MatchOption, is_some, slice_index}
 use Rattle.memchr.specs.Find.{IsFirstByte, is_byte2}
 use Rattle.std.proofs.lemmas.Bool.Decides.{nat_tests}
 use Rattle.std.proofs.lemmas.List.{length-append}
@@ -90,6 +90,27 @@ passes_not text i h = (λ quote. h (rw quote refl), λ return. h (rw return refl
 pub plain_by_search : (text : List ℕ) (o : Option ℕ) → IsFirstByte (is_byte2 34 13) text o → is_some o ≡ false → All IsPlain text
 plain_by_search text None found none = All-from_get_or IsPlain text 0 (λ i lt. passes_not text i (found i (omega arith) lt))
 plain_by_search text (Some k) found none = absurd cc
+
+-- the bytes before the first mark that a search finds behind some inner ones are inner, too
+
+both_parts : (n m : ℕ) (xs : List ℕ) → All IsInner (take n xs) → All IsInner (take m (drop n xs)) → All IsInner (take (n + m) xs)
+both_parts zero m xs a b = let e : m ≡ zero + m = omega arith in subst (λ z. All IsInner (take z xs)) e b
+both_parts (suc n) m [] a b = let e : suc (n + m) ≡ suc n + m = omega arith in subst (λ z. All IsInner (take z [])) e (All-nil IsInner)
+both_parts (suc n) m (x ∷ xs) a b =
+    let e : suc (n + m) ≡ suc n + m = omega arith in
+    subst (λ z. All IsInner (take z (x ∷ xs))) e (All-cons IsInner x (take (n + m) xs) (All-head IsInner x (take n xs) a) (both_parts n m xs (All-tail IsInner x (take n xs) a) b))
+
+inner_not : (text : List ℕ) (i : ℕ) → ((is_byte2 44 10 (slice_index text i) ≡ true) → ⊥) → IsInner (get_or text i 0)
+inner_not text i h = (λ comma. h (rw comma refl), λ newline. h (rw newline refl))
+
+inner_first : (m : ℕ) (xs : List ℕ) → ((i : ℕ) → i < m → IsInner (get_or xs i 0)) → All IsInner (take m xs)
+inner_first zero xs h = All-nil IsInner
+inner_first (suc m) [] h = All-nil IsInner
+inner_first (suc m) (x ∷ xs) h = All-cons IsInner x (take m xs) (h zero (omega arith)) (inner_first m xs (λ i l. h (suc i) (omega (arith, l))))
+
+pub inner_by_search : (near : ℕ) (text : List ℕ) (o : Option ℕ) (m : ℕ) → All IsInner (take near text) → IsFirstByte (is_byte2 44 10) (drop near text) o → MatchOption o (m ≡ length (drop near text)) (λ at. m ≡ at) → All IsInner (take (near + m) text)
+inner_by_search near text None m a found is = both_parts near m text a (inner_first m (drop near text) (λ i l. inner_not (drop near text) i (found i (omega arith) (omega (arith, l, is)))))
+inner_by_search near text (Some at) m a found is = both_parts near m text a (inner_first m (drop near text) (λ i l. inner_not (drop near text) i (found.0.before i (omega arith) (omega (arith, l, is)))))
 
 -- the two parts of a plain text are plain
 plain_front : (f rest : List ℕ) → All IsPlain (f ++ rest) → All IsPlain f

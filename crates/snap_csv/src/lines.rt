@@ -1,6 +1,6 @@
 //! Histories in plain texts. Without quotes and carriage returns a record is a line and a field ends at a comma, so that such a
 //! text is cut by a search for these two marks. Any other text is read byte by byte, by `csv`.
-ghost use Rattle.std.specs.Prelude.{◌≡◌, ◌≢◌, ◌<◌, ◌∷◌, ◌++◌, [], List, ℕ, All, MatchOption, IfSome, get_or, length};
+ghost use Rattle.std.specs.Prelude.{◌≡◌, ◌≢◌, ◌<◌, ◌≤◌, take, drop, ◌∷◌, ◌++◌, [], List, ℕ, All, MatchOption, IfSome, get_or, length};
 ghost use Rattle.snap_csv.specs.Answers.{AnswersNumbered};
 ghost use Rattle.snap_csv.specs.Fields.{header};
 ghost use Rattle.snap_csv.specs.Lines.{EndsField, FieldGoesOn, FieldIsLast, FourThen, HasRows, IsInner, NotFour};
@@ -25,6 +25,28 @@ pub fn lines_under_header(text: &[u8]) -> Option<&[u8]>
     Some(&text[HEADER.len()..])
 }
 
+// Most fields end among so many bytes, so that these are looked at one by one before a search begins.
+const NEAR: usize = 12;
+
+// How many bytes the field has that a text begins with.
+#[inline(always)]
+fn field_size(text: &[u8]) -> usize
+    ensures within { result ≤ length text.now }
+    ensures inner { All IsInner (take result text.now) }
+    ensures ends { EndsField (drop result text.now) }
+{
+    let near = text.len().min(NEAR);
+    for at in 0..near {
+        if text[at] == b',' || text[at] == b'\n' {
+            return at;
+        }
+    }
+    match memchr2(b',', b'\n', &text[near..]) {
+        Some(at) => near + at,
+        None => text.len(),
+    }
+}
+
 // The field that a text begins with, and what is behind it: nothing, or the mark that ends it and more.
 #[inline(always)]
 fn field_first(text: &[u8]) -> (&[u8], &[u8])
@@ -32,10 +54,7 @@ fn field_first(text: &[u8]) -> (&[u8], &[u8])
     ensures whole { text.now ≡ result.0.now ++ result.1.now }
     ensures ends { EndsField result.1.now }
 {
-    match memchr2(b',', b'\n', text) {
-        Some(at) => text.split_at(at),
-        None => (text, &[]),
-    }
+    text.split_at(field_size(text))
 }
 
 // The field that a text begins with, where a comma ends it, and what is behind the comma.

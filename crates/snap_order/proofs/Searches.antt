@@ -1,8 +1,10 @@
 -- Levels as places in the chain of the completed views.
-use Rattle.std.proofs.Common.{◌≡◌, ℕ, ◌<◌, Bool, not, ◌&&◌, cond, true, false, List, length, get_or, Some, refl, sym, ap, ◌∙◌, inl, inr, arith}
+use Rattle.std.proofs.Common.{◌≡◌, ℕ, ◌<◌, Bool, not, ◌&&◌, cond, true, false, List, length, get_or, slice_get, Some, None, refl, sym, ap, ◌∙◌, inl, inr, arith}
 use Rattle.std.specs.Prelude.{count_by, nat_lt, nat_le}
 use Rattle.std.specs.List.{All, Contains, list_any, range_with_len}
 use Rattle.std.specs.List.Sorted.{IsNonDecreasingBy}
+use Rattle.std.specs.Option.{option_map}
+use Rattle.std.proofs.lemmas.Option.{slice_get_within}
 use Rattle.std.proofs.lemmas.Bool.{ltb-true, ltb-false, lt-leb, le-leb, cases_lt}
 use Rattle.std.proofs.lemmas.List.Elements.{All-contains}
 use Rattle.std.proofs.lemmas.List.FromFn.{fill_by_all, get_or-range_with_len, length-range_with_len}
@@ -10,7 +12,10 @@ use Rattle.std.proofs.lemmas.List.Sorted.{All-permutation, sum_by-IsPermutation,
 use Rattle.snap_core.specs.declared.entry.Entry.{Entry}
 use Rattle.snap_core.specs.declared.event.Event.{Event}
 use Rattle.snap_core.specs.Events.{IsKept}
-use Rattle.snap_core.specs.Calls.{Call, Views, calls_of, views_of, entries_of, is_view, is_answer, shown_number, nobody}
+use Rattle.snap_core.specs.Calls.{Call, Operation, Updates, Views, calls_of, call_numbered, views_of, entries_of, is_view, is_answer, shown_number, nobody}
+use Rattle.snap_index.specs.Bare.{answer_of, answered_by, number_of}
+use Rattle.snap_index.proofs.BareCalls.{mapped_some, numbered_there}
+use Rattle.snap_index.proofs.Known.{view_within}
 use Rattle.snap_core.specs.Regular.{IsViewOf}
 use Rattle.snap_core.proofs.Fits.{bytes_of_events}
 use Rattle.snap_core.proofs.Lists.{Contains-from_In}
@@ -85,6 +90,31 @@ update_place calls places c e =
 
 pub sum_place : (calls : List Call) (places sums : List ℕ) → IsChain calls places → AreViewSums calls sums → (n : ℕ) → count_by (λ place. nat_lt (get_or sums place 0) n) places ≡ count_by (λ s. nat_lt (shown_sum s) n) (views_of calls)
 sum_place calls places sums c s n = chain_count calls places c (λ place. nat_lt (get_or sums place 0) n) (λ s. nat_lt (shown_sum s) n) (λ place l. ap (λ z. nat_lt z n) (sum_in calls sums place 0 s l))
+
+-- the completed view of a number, by its place
+pub view_of_number : (es : List Event) (place number : ℕ) → option_map number_of (slice_get (views_of (calls_of es)) place) ≡ Some number → (place < length (views_of (calls_of es))) × (view_in (calls_of es) place ≡ call_numbered (calls_of es) number)
+view_of_number es place number h =
+    let calls = calls_of es in
+    let m = mapped_some number_of (slice_get (views_of calls) place) number h in
+    let within = slice_get_within (views_of calls) place m.from m.is in
+    let r = view_within es place within in
+    let same : Some (view_in calls place).number ≡ Some number = sym (ap (option_map number_of) r.is) ∙ h in
+    let own : (view_in calls place).number ≡ number = cc in
+    (within, sym r.own ∙ ap (call_numbered calls) own)
+
+answered_entries : (o : Operation) (entries : List Entry) → answered_by o ≡ Some entries → entries_of o ≡ entries
+answered_entries (Updates e) entries h = absurd (cc)
+answered_entries (Views None) entries h = absurd (cc)
+answered_entries (Views (Some es)) entries h = cc
+
+-- and its sum
+pub sum_of_number : (es : List Event) → IsKept es → (sums : List ℕ) → AreViewSums (calls_of es) sums → (place number : ℕ) (entries : List Entry) → number < length (calls_of es) →
+    option_map number_of (slice_get (views_of (calls_of es)) place) ≡ Some number → answer_of (call_numbered (calls_of es) number) ≡ Some entries → get_or sums place 0 ≡ entry_sum entries
+sum_of_number es kept sums s place number entries l h a =
+    let calls = calls_of es in
+    let r = call_numbered calls number in
+    let v = view_of_number es place number h in
+    sum_in calls sums place 0 s v.0 ∙ ap shown_sum v.1 ∙ sum_is r (fit_views es kept.fit r (numbered_there calls number l)) ∙ ap entry_sum (answered_entries r.operation entries a)
 
 -- the views below one are those with a smaller sum
 pub view_level_is : (es : List Event) → IsKept es → AreComparable (calls_of es) → (r : Call) (entries : List Entry) → Contains (calls_of es) r → r.operation ≡ Views (Some entries) →

@@ -1,13 +1,16 @@
 //! The levels of calls: places in the chain of the completed views.
-ghost use Rattle.std.specs.Prelude.{◌≡◌, ◌<◌, ◌≤◌, length, get_or, nat_lt, count_by, IfOk};
+ghost use Rattle.std.specs.Prelude.{◌≡◌, ◌<◌, ◌≤◌, length, get_or, nat_lt, count_by, slice_get, Some, IfOk, IsTrue};
+ghost use Rattle.std.specs.Option.{option_map};
 ghost use Rattle.snap_core.specs.Calls.{calls_of, call_numbered, views_of, shown_number};
+ghost use Rattle.snap_conditions.specs.Chains.{IsViewChain};
 ghost use Rattle.snap_conditions.specs.Faults.{HasNoFault};
 ghost use Rattle.snap_conditions.specs.Quick.{entry_sum, shown_sum};
 ghost use Rattle.snap_conditions.specs.Seen.{view_in};
+ghost use Rattle.snap_index.specs.Bare.{answer_of, number_of};
 ghost use Rattle.snap_order.specs.Keys.{printed_keys, rank_of};
 ghost use Rattle.snap_order.specs.Levels.{update_level as spec_update_level};
 
-use snap_conditions::{chain, entries_sum, view_sums};
+use snap_conditions::{ViewChain, entries_sum};
 use snap_core::{Entry, View};
 use snap_index::{CallOp, Index};
 use std::alloc::{AllocError, Global};
@@ -53,18 +56,19 @@ fn sum_at(sums: &[u64], place: u32) -> u64
 }
 
 impl<'i, 'h> Levels<'i, 'h> {
-    // Without a fault the completed views are a chain.
-    pub(crate) fn of(alloc: Global, index: &'i Index<'h>) -> Result<Levels<'i, 'h>, AllocError>
-        requires { HasNoFault (calls_of index.now) }
-        ensures { IfOk result (λ levels. levels ≡ index.now) }
+    // By the completed views as a chain.
+    pub(crate) fn of(index: &'i Index<'h>, chain: ViewChain) -> Levels<'i, 'h>
+        requires fault { HasNoFault (calls_of index.now) }
+        requires chain { IsViewChain (calls_of index.now) chain }
+        ensures { result ≡ index.now }
     {
         // that the events are a history
         let _events = index.event_count();
-        let sums = view_sums(alloc, index)?;
-        let Some(chain) = chain(alloc, index, &sums)? else {
-            unreachable!()
-        };
-        Ok(Levels { index, chain, sums })
+        Levels {
+            index,
+            chain: chain.places,
+            sums: chain.sums,
+        }
     }
 
     // The keys of the printed calls, rank and number, by call number.
@@ -72,16 +76,41 @@ impl<'i, 'h> Levels<'i, 'h> {
         ensures { IfOk result (λ keys. keys.items ≡ printed_keys (calls_of self.now)) }
     {
         let mut keys = Vec::new(alloc);
+        // how many completed views come before the call
+        let mut views = 0;
         for number in 0..self.index.call_count() {
-            if let Some(rank) = self.rank(number) {
+            if let Some(rank) = self.rank(number, views) {
                 keys.push((rank, number))?;
+            }
+            if self.is_view_at(views, number) {
+                views += 1;
             }
         }
         Ok(keys)
     }
 
-    // The rank of a printed call: twice its level, and one more for a view.
-    fn rank(&self, number: u32) -> Option<u32>
+    // Whether the completed view at a place is the call of a number.
+    fn is_view_at(&self, place: u32, number: u32) -> bool
+        ensures { IsTrue result → option_map number_of (slice_get (views_of (calls_of self.now)) place) ≡ Some number }
+    {
+        self.index.view_call(place) == Some(number)
+    }
+
+    // The sum of what a completed view shows, which is known where the view is the one at a place.
+    fn sum_of(&self, number: u32, place: u32, view: &View) -> u64
+        requires number { number < length (calls_of self.now) }
+        requires view { answer_of (call_numbered (calls_of self.now) number) ≡ Some view.now }
+        ensures { result ≡ entry_sum view.now }
+    {
+        if self.is_view_at(place, number) {
+            sum_at(&self.sums, place)
+        } else {
+            entries_sum(view.entries())
+        }
+    }
+
+    // The rank of a printed call: twice its level, and one more for a view, which is looked for at a place.
+    fn rank(&self, number: u32, place: u32) -> Option<u32>
         requires { number < length (calls_of self.now) }
         ensures { let calls = calls_of self.now in result ≡ rank_of calls (call_numbered calls number) }
     {
@@ -95,7 +124,7 @@ impl<'i, 'h> Levels<'i, 'h> {
             }
             CallOp::View => {
                 let view = self.index.answer(number)?;
-                Some(2 * self.view_level(view) + 1)
+                Some(2 * self.view_level(self.sum_of(number, place, view)) + 1)
             }
         }
     }
@@ -115,12 +144,11 @@ impl<'i, 'h> Levels<'i, 'h> {
             .partition_point(|place| shown_at(index, *place, component) < number) as u32
     }
 
-    // How many completed views have a smaller sum than this one.
-    fn view_level(&self, view: &View) -> u32
-        ensures level { result ≡ count_by (λ s. nat_lt (shown_sum s) (entry_sum view.now)) (views_of (calls_of self.now)) }
+    // How many completed views have a smaller sum than this.
+    fn view_level(&self, sum: u64) -> u32
+        ensures level { result ≡ count_by (λ s. nat_lt (shown_sum s) sum) (views_of (calls_of self.now)) }
         ensures few { result ≤ length (views_of (calls_of self.now)) }
     {
-        let sum = entries_sum(view.entries());
         let sums = self.sums.as_slice();
         self.chain
             .partition_point(|place| sum_at(sums, *place) < sum) as u32

@@ -11,4 +11,4 @@ pub use checking::check_order;
 pub use law::{
     legal_orders_grow, printed_order_is_alone, shrinking_lemma, sorted_keys_give_the_order,
 };
-pub use printing::{build, build_alone};
+pub use printing::{build, build_alone, build_along};

@@ -1,10 +1,12 @@
 ghost use Rattle.std.specs.Prelude.{◌≡◌, map, IfOk};
 ghost use Rattle.snap_core.specs.Calls.{calls_of};
+ghost use Rattle.snap_conditions.specs.Chains.{IsViewChain};
 ghost use Rattle.snap_conditions.specs.Faults.{HasNoFault};
 ghost use Rattle.snap_order.specs.Levels.{printed_order};
 ghost use Rattle.snap_order.specs.Numbers.{IsLegalList};
 
 use crate::levels::Levels;
+use snap_conditions::{ViewChain, faultless_chain, view_sums};
 use snap_index::Index;
 use std::alloc::{AllocError, Global};
 use std::thread::Threads;
@@ -35,9 +37,28 @@ pub fn build_alone(alloc: Global, index: &Index<'_>) -> Result<Vec<u32>, AllocEr
         (λ order. order.items ≡ map (λ c. c.number) (printed_order (calls_of index.now))) }
     ensures legal { IfOk result (λ order. IsLegalList (calls_of index.now) order.items) }
 {
+    let sums = view_sums(alloc, index)?;
+    let Some(chain) = faultless_chain(alloc, index, sums)? else {
+        unreachable!()
+    };
+    build_along(alloc, index, chain)
+}
+
+/// The same order, where the completed views are known as a chain.
+pub fn build_along(
+    alloc: Global,
+    index: &Index<'_>,
+    chain: ViewChain,
+) -> Result<Vec<u32>, AllocError>
+    requires fault { HasNoFault (calls_of index.now) }
+    requires chain { IsViewChain (calls_of index.now) chain }
+    ensures printed { IfOk result
+        (λ order. order.items ≡ map (λ c. c.number) (printed_order (calls_of index.now))) }
+    ensures legal { IfOk result (λ order. IsLegalList (calls_of index.now) order.items) }
+{
     // that the events are a history
     let _events = index.event_count();
-    let mut keys = Levels::of(alloc, index)?.keys(alloc)?;
+    let mut keys = Levels::of(index, chain).keys(alloc)?;
     keys.sort_unstable();
     numbers(alloc, &keys)
 }

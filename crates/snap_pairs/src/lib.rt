@@ -13,4 +13,4 @@ mod workers;
 
 pub use claims::{Claim, Claims};
 pub use cutting::{Cutting, CuttingRefusal, PIECE_LIMIT, WORKER_LIMIT};
-pub use whole::tally;
+pub use whole::{tally, tally_and_chain};

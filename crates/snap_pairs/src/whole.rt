@@ -1,5 +1,7 @@
-ghost use Rattle.std.specs.Prelude.{◌≡◌, [], IfOk};
+ghost use Rattle.std.specs.Prelude.{◌≡◌, ◌↔◌, [], IfOk, IfSome, IsSome};
 ghost use Rattle.snap_core.specs.Calls.{calls_of, views_of};
+ghost use Rattle.snap_conditions.specs.Chains.{IsViewChain};
+ghost use Rattle.snap_conditions.specs.Faults.{read_faults};
 ghost use Rattle.snap_conditions.specs.Tally.{tally_of};
 ghost use Rattle.snap_pairs.specs.Claiming.{IsClaimOf};
 ghost use Rattle.snap_pairs.specs.Pieces.{IsAnswer};
@@ -8,14 +10,32 @@ ghost use Rattle.snap_pairs.specs.Reads.{IsGridFor};
 use crate::claims::{Claim, Claims};
 use crate::cutting::Cutting;
 use crate::gather::{gather, merge_slots};
-use crate::reads::grid_for_reads;
+use crate::reads::grid_or_chain;
 use crate::worker::{Answer, draw_all};
 use crate::workers::each_job;
-use snap_conditions::Tally;
+use snap_conditions::{Tally, ViewChain, ViewGrid};
 use snap_core::Gate;
 use snap_index::Index;
 use std::alloc::{AllocError, Global};
 use std::thread::Threads;
+
+/// The tally of all completed views, as `tally` gives it, and these views as a chain exactly where no two of them are a read
+/// fault, so that an order can be built along it.
+pub fn tally_and_chain<R: Threads + Sync, G: Gate>(
+    rt: &R,
+    alloc: Global,
+    index: &Index<'_>,
+    cutting: Cutting,
+    gate: &G,
+) -> Result<(Tally, Option<ViewChain>), AllocError>
+    ensures tally { IfOk result (λ all. all.0 ≡ tally_of (calls_of index.now) (views_of (calls_of index.now))) }
+    ensures chain { IfOk result (λ all. IfSome all.1 (IsViewChain (calls_of index.now))) }
+    ensures found { IfOk result (λ all. IsSome all.1 ↔ (read_faults (calls_of index.now) (views_of (calls_of index.now)) ≡ [])) }
+{
+    let (grid, chain) = grid_or_chain(rt, alloc, index)?;
+    let tally = tally_by(rt, alloc, index, &grid, cutting, gate)?;
+    Ok((tally, chain))
+}
 
 /// The tally of all completed views, whatever the cutting and the gate are. The workers draw pieces of the views from
 /// one counter until all are drawn. A worker calls `gate.at` with its own number, from 0, and the count of pieces that
@@ -30,8 +50,22 @@ pub fn tally<R: Threads + Sync, G: Gate>(
 ) -> Result<Tally, AllocError>
     ensures { IfOk result (λ all. all ≡ tally_of (calls_of index.now) (views_of (calls_of index.now))) }
 {
-    let grid = grid_for_reads(rt, alloc, index)?;
-    let reads = &grid;
+    let (tally, _chain) = tally_and_chain(rt, alloc, index, cutting, gate)?;
+    Ok(tally)
+}
+
+// The tally of all completed views, by a grid of them where they have a read fault.
+fn tally_by<R: Threads + Sync, G: Gate>(
+    rt: &R,
+    alloc: Global,
+    index: &Index<'_>,
+    reads: &Option<ViewGrid<'_, '_>>,
+    cutting: Cutting,
+    gate: &G,
+) -> Result<Tally, AllocError>
+    requires { IsGridFor index.now reads.now }
+    ensures { IfOk result (λ all. all ≡ tally_of (calls_of index.now) (views_of (calls_of index.now))) }
+{
     let (counter, claims) = Claims::start(alloc, cutting)?;
     let shared = &counter;
     let answers = each_job(

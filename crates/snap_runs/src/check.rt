@@ -1,41 +1,17 @@
 ghost use Rattle.std.specs.Prelude.{◌≡◌, IfOk};
-ghost use Rattle.snap_core.specs.Calls.{calls_of, views_of};
 ghost use Rattle.snap_core.specs.Counting.{failures_in, inner_of};
-ghost use Rattle.snap_conditions.specs.Tally.{tally_of};
 ghost use Rattle.snap_runs.specs.Runs.{JudgeCounts, Judges, RunCounts, Wrote};
 ghost use Rattle.snap_verdict.specs.Verdicts.{IsVerdict};
 
 use crate::fault::RunFault;
 use crate::reading::{Reading, read_in};
-use snap_conditions::{Tally, is_atomic};
 use snap_core::{Counted, Gate, History};
 use snap_index::Index;
-use snap_order::build;
-use snap_pairs::{Cutting, tally};
-use snap_verdict::{Status, verdict_of};
+use snap_pairs::{Cutting, tally_and_chain};
+use snap_verdict::{Status, verdict_along};
 use std::alloc::{AllocError, Global};
 use std::io::{Read, Write};
 use std::thread::Threads;
-
-// The status and the report of a history, by its index and the tally of its completed views. The report takes the memory of a
-// vector.
-pub(crate) fn report_of<Rt: Threads + Sync>(
-    rt: &Rt,
-    alloc: Global,
-    index: &Index<'_>,
-    tally: &Tally,
-    room: Vec<u8>,
-) -> Result<(Status, Vec<u8>), AllocError>
-    requires tally { tally.now ≡ tally_of (calls_of index.now) (views_of (calls_of index.now)) }
-    ensures { IfOk result (λ answer. IsVerdict index.now answer.0 answer.1.items) }
-{
-    if is_atomic(tally) {
-        let order = build(rt, alloc, index)?;
-        verdict_of(index, tally, Some(&order), room)
-    } else {
-        verdict_of(index, tally, None, room)
-    }
-}
 
 // The status and the report of a history. The report takes the memory of a vector.
 pub(crate) fn verdict<Rt: Threads + Sync, G: Gate>(
@@ -49,8 +25,8 @@ pub(crate) fn verdict<Rt: Threads + Sync, G: Gate>(
     ensures { IfOk result (λ answer. IsVerdict history.now answer.0 answer.1.items) }
 {
     let index = Index::build(alloc, history)?;
-    let tally = tally(rt, alloc, &index, cutting, gate)?;
-    report_of(rt, alloc, &index, &tally, room)
+    let (tally, chain) = tally_and_chain(rt, alloc, &index, cutting, gate)?;
+    verdict_along(alloc, &index, &tally, chain, room)
 }
 
 // The status and the report of the text that a reader has.

@@ -1,18 +1,19 @@
-ghost use Rattle.std.specs.Prelude.{◌≡◌, IfOk};
+ghost use Rattle.std.specs.Prelude.{◌≡◌, [], IfOk, IfSome, IsSome};
 ghost use Rattle.snap_core.specs.Calls.{calls_of, views_of};
 ghost use Rattle.snap_core.specs.Counting.{failures_in, inner_of};
+ghost use Rattle.snap_conditions.specs.Chains.{IsViewChain};
+ghost use Rattle.snap_conditions.specs.Faults.{read_faults};
 ghost use Rattle.snap_conditions.specs.Tally.{tally_of};
 ghost use Rattle.snap_runs.specs.Options.{IsReportWith, IsVerdictWith, IsWritten};
 ghost use Rattle.snap_runs.specs.Runs.{JudgeCounts, JudgesBy, RunCounts, WroteBy};
 
-use crate::check::report_of;
 use crate::fault::RunFault;
 use crate::reading::{Reading, read_in};
-use snap_conditions::Tally;
+use snap_conditions::{Tally, ViewChain};
 use snap_core::{Counted, EVENT_LIMIT, Gate, History};
 use snap_index::Index;
-use snap_pairs::{Cutting, tally};
-use snap_verdict::{Status, brief_verdict_of};
+use snap_pairs::{Cutting, tally_and_chain};
+use snap_verdict::{Status, brief_verdict_of, verdict_along};
 use std::alloc::{AllocError, Global};
 use std::io::{Read, Write};
 use std::thread::Threads;
@@ -29,23 +30,25 @@ pub struct CheckOptions {
     pub views: u32,
 }
 
-// The status of a history and its report, or quiet, of the report the lines of the verdicts alone; by its index and the tally of
-// its completed views.
-fn written_of<Rt: Threads + Sync>(
-    rt: &Rt,
+// The status of a history and its report, or quiet, of the report the lines of the verdicts alone; by its index, the tally of its
+// completed views, and these as a chain where no two of them are a read fault.
+fn written_of(
     alloc: Global,
     index: &Index<'_>,
     tally: &Tally,
+    chain: Option<ViewChain>,
     room: Vec<u8>,
     quiet: bool,
 ) -> Result<(Status, Vec<u8>), AllocError>
-    requires { tally.now ≡ tally_of (calls_of index.now) (views_of (calls_of index.now)) }
+    requires tally { tally.now ≡ tally_of (calls_of index.now) (views_of (calls_of index.now)) }
+    requires chain { IfSome chain (IsViewChain (calls_of index.now)) }
+    requires given { read_faults (calls_of index.now) (views_of (calls_of index.now)) ≡ [] → IsSome chain }
     ensures { IfOk result (λ answer. IsWritten quiet index.now answer.0 answer.1.items) }
 {
     if quiet {
         brief_verdict_of(alloc, index, tally)
     } else {
-        report_of(rt, alloc, index, tally, room)
+        verdict_along(alloc, index, tally, chain, room)
     }
 }
 
@@ -65,8 +68,8 @@ fn verdict_with<Rt: Threads + Sync, G: Gate>(
     if index.view_count() < options.views {
         return Ok((None, Vec::new(alloc)));
     }
-    let tally = tally(rt, alloc, &index, cutting, gate)?;
-    let (status, text) = written_of(rt, alloc, &index, &tally, room, options.quiet)?;
+    let (tally, chain) = tally_and_chain(rt, alloc, &index, cutting, gate)?;
+    let (status, text) = written_of(alloc, &index, &tally, chain, room, options.quiet)?;
     Ok((Some(status), text))
 }
 

@@ -1,6 +1,6 @@
 //! The sums, the chains and the grids of views.
 use crate::fault::{Fault, expect};
-use snap_conditions::{Tally, ViewGrid, chain, has_no_read_fault, ordered, tally_alone, view_sums};
+use snap_conditions::{Tally, ViewGrid, chain, faultless_chain, ordered, tally_alone, view_sums};
 use snap_index::Index;
 use snap_testing::Step::{Update, Updated, View, Viewed};
 use snap_testing::worked::{ATOMIC_RUN, CROSSED_VIEWS, NEW_THEN_OLD};
@@ -58,7 +58,7 @@ fn expect_passes(
 ) -> Result<(), Fault> {
     let sums = view_sums(alloc, index)?;
     expect(ordered(alloc, index, &sums)? == is_ordered)?;
-    expect(has_no_read_fault(alloc, index, &sums)? == passes)
+    expect(faultless_chain(alloc, index, sums)?.is_some() == passes)
 }
 
 // The views of a history have these sums, this chain, and such an order, and have no read fault or have one.

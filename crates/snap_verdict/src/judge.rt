@@ -1,6 +1,8 @@
-ghost use Rattle.std.specs.Prelude.{◌≡◌, IfOk, is_some, map};
+ghost use Rattle.std.specs.Prelude.{◌≡◌, [], IfOk, IfSome, IsSome, is_some, map};
 ghost use Rattle.std.specs.Option.{ForSome};
 ghost use Rattle.snap_core.specs.Calls.{calls_of, views_of};
+ghost use Rattle.snap_conditions.specs.Chains.{IsViewChain};
+ghost use Rattle.snap_conditions.specs.Faults.{read_faults};
 ghost use Rattle.snap_conditions.specs.Tally.{tally_of};
 ghost use Rattle.snap_order.specs.Levels.{printed_order};
 ghost use Rattle.snap_report.specs.Reports.{has_no_fault};
@@ -8,11 +10,11 @@ ghost use Rattle.snap_verdict.specs.Verdicts.{HasStatus, IsBriefVerdict, IsVerdi
 ghost use Rattle.snap_verdict.specs.Reports.{IsReport};
 
 use crate::status::{Status, status_by};
-use snap_conditions::{Tally, is_atomic, tally_alone};
+use snap_conditions::{Tally, ViewChain, is_atomic, tally_and_chain_alone};
 use snap_core::History;
 use snap_csv::{ReadRefusal, read_text};
 use snap_index::Index;
-use snap_order::build_alone;
+use snap_order::build_along;
 use snap_report::{refusal_text, report_in, verdict_text};
 use std::alloc::{AllocError, Global};
 
@@ -34,6 +36,28 @@ pub fn verdict_of(
     let _events = index.event_count();
     let text = report_in(room, index, tally, order)?;
     Ok((status_by(tally), text))
+}
+
+/// The status and the report of a history, by its index, the tally of all its completed views, and these as a chain, which is given
+/// where no two of them are a read fault. The report takes the memory of a vector; what the vector had is lost.
+pub fn verdict_along(
+    alloc: Global,
+    index: &Index<'_>,
+    tally: &Tally,
+    chain: Option<ViewChain>,
+    room: Vec<u8>,
+) -> Result<(Status, Vec<u8>), AllocError>
+    requires tally { tally.now ≡ tally_of (calls_of index.now) (views_of (calls_of index.now)) }
+    requires chain { IfSome chain (IsViewChain (calls_of index.now)) }
+    requires given { read_faults (calls_of index.now) (views_of (calls_of index.now)) ≡ [] → IsSome chain }
+    ensures { IfOk result (λ answer. IsVerdict index.now answer.0 answer.1.items) }
+{
+    if !is_atomic(tally) {
+        return verdict_of(index, tally, None, room);
+    }
+    let Some(chain) = chain else { unreachable!() };
+    let order = build_along(alloc, index, chain)?;
+    verdict_of(index, tally, Some(&order), room)
 }
 
 /// The status of a history, by its index and the tally of all its completed views.
@@ -74,14 +98,9 @@ fn verdict_in(
     ensures { IfOk result (λ answer. IsVerdict history.now answer.0 answer.1.items) }
 {
     let index = Index::build(alloc, history)?;
-    let tally = tally_alone(alloc, &index)?;
+    let (tally, chain) = tally_and_chain_alone(alloc, &index)?;
     let room = Vec::with_capacity(alloc, size)?;
-    if is_atomic(&tally) {
-        let order = build_alone(alloc, &index)?;
-        verdict_of(&index, &tally, Some(&order), room)
-    } else {
-        verdict_of(&index, &tally, None, room)
-    }
+    verdict_along(alloc, &index, &tally, chain, room)
 }
 
 /// The status and the report of a history, without a runtime: on the calling thread alone.

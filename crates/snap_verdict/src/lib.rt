@@ -5,6 +5,8 @@ mod judge;
 mod law;
 mod status;
 
-pub use judge::{brief_verdict_of, judge_text, status_of, verdict_alone, verdict_of};
+pub use judge::{
+    brief_verdict_of, judge_text, status_of, verdict_alone, verdict_along, verdict_of,
+};
 pub use law::one_report;
 pub use status::Status;

@@ -3,6 +3,7 @@ use Rattle.std.proofs.lemmas.List.{take_all, length-map, get_or-map}
 use Rattle.std.specs.Prelude.{filter}
 use Rattle.std.specs.Bool.{then_some}
 use Rattle.snap_core.specs.declared.entry.Entry.{Entry}
+use Rattle.snap_core.specs.Entries.{EntryFits}
 use Rattle.snap_core.specs.Calls.{calls_of, entries_of, shown}
 use Rattle.snap_conditions.specs.Faults.{integrity_fault, listed}
 use Rattle.snap_conditions.specs.Parts.{part_of, found_at}
@@ -40,8 +41,9 @@ loop-entry-preserved c =
     let is_shown : shown r e.component ≡ Some e = subst (λ z. shown r (get_or z i nothing).component ≡ Some (get_or z i nothing)) (sym shape) (shown_at r i nothing c.requires.view.shape within) in
     let at : get_or (listed r) i 0 ≡ e.component = get_or-map (λ (d : Entry). d.component) (entries_of r.operation) i nothing 0 within ∙ ap (λ z. (get_or z i nothing).component) (sym shape) in
     let fault : ℕ → IntegrityFault = λ n. record { view = n; entry = e } in
+    let fits : EntryFits e = subst (λ z. EntryFits (get_or z i nothing)) (sym shape) (c.requires.view.shape.fit i nothing within) in
     let found : (b : Bool) → c.is_written.result ≡ b → then_some (not b) (fault c.args.view.now.number) ≡ found_at (λ k. reported_integrity (r, k)) (integrity_fault calls r) (get_or (listed r) i 0) = λ b is.
-    ap (λ z. then_some (not z) (fault c.args.view.now.number)) (sym is ∙ c.is_written.ensures)
+    ap (λ z. then_some (not z) (fault c.args.view.now.number)) (sym is ∙ c.is_written.ensures es r c.requires.kept c.requires.around is_shown fits)
     ∙ ap (λ n. then_some (not (is_written (update_of calls e.component e.number) e)) (fault n)) c.requires.view.number ∙ sym (integrity_found es c.requires.kept r e is_shown)
     ∙ ap (found_at (λ k. reported_integrity (r, k)) (integrity_fault calls r)) (sym at) in
     let next = next_noted (λ k. reported_integrity (r, k)) (integrity_fault calls r) (listed r) i 0 (omega (arith, within, length-map (entries_of r.operation) (λ d. d.component))) in

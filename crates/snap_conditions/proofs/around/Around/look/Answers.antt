@@ -2,8 +2,8 @@ use Rattle.std.proofs.Common.{◌≡◌, ◌≤◌, ℕ, suc, ◌<◌, get_or, N
 use Rattle.std.proofs.lemmas.Bool.{cases_lt}
 use Rattle.std.proofs.lemmas.List.{get_or-take}
 use Rattle.snap_core.specs.Calls.{calls_of, shown_number}
-use Rattle.snap_conditions.specs.Around.{begin_shown, end_next}
-use Rattle.snap_conditions.specs.Places.{update_of, begin_of, end_of, begin_or_0, end_or_never}
+use Rattle.snap_conditions.specs.Around.{begin_shown, end_next, value_shown}
+use Rattle.snap_conditions.specs.Places.{update_of, value_of, begin_of, end_of, value_or_none, begin_or_0, end_or_never}
 use Rattle.snap_conditions.specs.Rows.{number_among}
 use Rattle.snap_conditions.proofs.Rows.{among_is_shown}
 use Rattle.snap_conditions.proofs.Viewed.{none_of_none}
@@ -17,6 +17,10 @@ pub returns-clause-numbers : goal.returns-clause-numbers
 returns-clause-numbers c =
     let old = c.loop-k.self.numbers in
     record {
+      values = λ k l. elim (cases_lt k c.args.limit) [
+        | inl b ↦ c.loop-k.invariant.values k (omega (arith, b, c.loop-k-test.false))
+        | inr b ↦ c.loop-k.invariant.values_before k (omega (arith, b)) l ∙ ap (λ o. value_or_none (value_of o)) (none_from c k b l (get_or old k 0) ∙ sym (none_from c k b l (get_or c.numbers_of-numbers.result k 0)))
+      ];
       begins = λ k l. elim (cases_lt k c.args.limit) [
         | inl b ↦ c.loop-k.invariant.begins k (omega (arith, b, c.loop-k-test.false))
         | inr b ↦ c.loop-k.invariant.begins_before k (omega (arith, b)) l ∙ ap (λ o. begin_or_0 (begin_of o)) (none_from c k b l (get_or old k 0) ∙ sym (none_from c k b l (get_or c.numbers_of-numbers.result k 0)))
@@ -33,10 +37,12 @@ returns-clause-around c = λ r seen.
     let calls = calls_of es in
     let around = returns-clause-numbers c in
     let numbers : (k : ℕ) → k < 256 → get_or c.numbers_of-numbers.result k 0 ≡ shown_number r k = λ k l. c.numbers_of-numbers.ensures k l ∙ ap (λ z. number_among z k) seen.entries ∙ among_is_shown r k in
+    let values : (k : ℕ) → k < 256 → get_or c.loop-k.self.values k 0 ≡ value_shown calls r k = λ k l. around.values k l ∙ ap (λ n. value_or_none (value_of (update_of calls k n))) (numbers k l) in
     let begins : (k : ℕ) → k < 256 → get_or c.loop-k.self.begins k 0 ≡ begin_shown calls r k = λ k l. around.begins k l ∙ ap (λ n. begin_or_0 (begin_of (update_of calls k n))) (numbers k l) in
     let ends : (k : ℕ) → k < 256 → get_or c.loop-k.self.ends k 0 ≡ end_next calls r k = λ k l. around.ends k l ∙ ap (λ n. end_or_never (end_of (update_of calls k (suc n)))) (numbers k l) in
     record {
       numbers = numbers;
+      values = values;
       begins = begins;
       ends = ends;
       latest = λ k l. elim (cases_lt k c.args.limit) [

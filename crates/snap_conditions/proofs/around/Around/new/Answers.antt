@@ -2,7 +2,7 @@ use Rattle.std.proofs.Common.{ℕ, suc, refl, sym, ap, ◌∙◌, inl, inr, arit
 use Rattle.std.proofs.lemmas.Bool.{cases_lt}
 use Rattle.std.proofs.lemmas.List.{get_or-replicate}
 use Rattle.snap_core.specs.Calls.{calls_of}
-use Rattle.snap_conditions.specs.Places.{update_of, begin_of, end_of, begin_or_0, end_or_never}
+use Rattle.snap_conditions.specs.Places.{update_of, value_of, begin_of, end_of, value_or_none, begin_or_0, end_or_never}
 use Rattle.snap_index.proofs.Known.{no_update_0}
 use Rattle.snap_conditions.proofs.Viewed.{none_of_none}
 use Rattle.snap_conditions.proofs.around.Around.new.Goals as goal
@@ -19,6 +19,7 @@ returns c =
     let es = c.args.index.now in
     let calls = calls_of es in
     record {
+      values = λ k l. get_or-replicate {A = ℕ} 256 k 4294967296 0 l ∙ sym (ap (λ n. value_or_none (value_of (update_of calls k n))) (get_or-replicate {A = ℕ} 256 k 0 0 l) ∙ ap (λ o. value_or_none (value_of o)) (no_update_0 es c.requires.kept.history k));
       begins = λ k l. get_or-replicate {A = ℕ} 256 k 0 0 l ∙ sym (ap (λ n. begin_or_0 (begin_of (update_of calls k n))) (get_or-replicate {A = ℕ} 256 k 0 0 l) ∙ ap (λ o. begin_or_0 (begin_of o)) (no_update_0 es c.requires.kept.history k));
       ends = λ k l. elim (cases_lt k c.args.limit) [
         | inl b ↦ c.loop-k.invariant.ends k (omega (arith, b, c.loop-k-test.false))

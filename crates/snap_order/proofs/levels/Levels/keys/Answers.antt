@@ -1,4 +1,4 @@
-use Rattle.std.proofs.Common.{◌≡◌, ◌<◌, ◌+◌, ◌∙◌, ◌++◌, ◌∷◌, [], cond, Bool, true, false, ℕ, List, Some, None, length, map, take, refl, sym, ap, arith}
+use Rattle.std.proofs.Common.{◌≡◌, ◌<◌, ◌+◌, ◌∙◌, ◌++◌, ◌∷◌, [], cond, Bool, true, false, ℕ, List, Some, None, length, map, take, refl, sym, ap, subst, arith}
 use Rattle.std.specs.List.{filter}
 use Rattle.std.proofs.lemmas.List.{map-append, append-nil, take_more}
 use Rattle.std.proofs.lemmas.List.Elements.{filter-append}
@@ -7,6 +7,10 @@ use Rattle.snap_core.specs.Calls.{Call, calls_of, call_numbered, nobody}
 use Rattle.snap_core.proofs.Histories.{numbered_calls}
 use Rattle.snap_order.specs.Levels.{rank, is_printed}
 use Rattle.snap_order.specs.Keys.{key_of, rank_of}
+use Rattle.snap_core.specs.Events.{IsKept}
+use Rattle.snap_conditions.proofs.Ranges.{few_views}
+use Rattle.snap_order.proofs.Ranking.{word_fits}
+use Rattle.snap_order.proofs.Searches.{view_of_number}
 use Rattle.snap_order.proofs.levels.Levels.keys.Goals as goal
 use Rattle.snap_order.proofs.levels.Levels.keys.Goals.{in-Some+in_ok-push, in_default}
 
@@ -55,3 +59,9 @@ loop-number-preserved c =
           ap (λ z. z.items) w.keys-is ∙ c.loop-number.invariant ∙ sym (append-nil (first_keys calls i))
           ∙ ap (λ z. first_keys calls i ++ map (key_of calls) (cond z (call_numbered calls i ∷ []) [])) (sym none) ∙ sym (one_more es i within)
     ]
+
+pub overflow_add-views : goal.overflow_add-views
+overflow_add-views c =
+    let es = c.args.self.now in
+    let within = (view_of_number es c.loop-number.views c.loop-number.number (c.is_view_at.ensures c.if-is_view_at.true)).0 in
+    word_fits (c.loop-number.views + 1) (omega (arith, within, few_views es (subst IsKept c.self.view_is c.self.invariant.kept)))

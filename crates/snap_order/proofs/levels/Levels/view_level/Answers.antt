@@ -1,11 +1,11 @@
-use Rattle.std.proofs.Common.{rules, of_calls, ◌≡◌, ◌∙◌, ℕ, Bool, List, length, get_or, sym, ap, subst, arith}
+use Rattle.std.proofs.Common.{rules, of_calls, ◌∙◌, ℕ, Bool, List, length, get_or, sym, ap, subst, arith}
 use Rattle.std.specs.Prelude.{nat_lt, count_by}
 use Rattle.std.specs.List.Sorted.{IsPartitionedBy}
 use Rattle.std.proofs.lemmas.Fn.{always_returns_same}
 use Rattle.std.proofs.lemmas.List.Sorted.{IsPartitionedBy-ltb}
 use Rattle.snap_core.specs.declared.event.Event.{Event}
 use Rattle.snap_core.specs.Calls.{calls_of, views_of}
-use Rattle.snap_conditions.specs.Quick.{shown_sum, entry_sum}
+use Rattle.snap_conditions.specs.Quick.{shown_sum}
 use Rattle.snap_conditions.proofs.Ranges.{few_views}
 use Rattle.snap_order.proofs.Counts.{point_counts}
 use Rattle.snap_order.proofs.Ranking.{word_fits}
@@ -17,15 +17,13 @@ returns-clause-level c =
     let calls = calls_of c.self.inside.index.now in
     let chain = c.self.inside.chain.items in
     let sums = c.self.inside.sums.items in
-    let sum = c.entries_sum-sum.result in
-    let same : sum ≡ entry_sum c.args.view.now = c.entries_sum-sum.ensures ∙ ap entry_sum c.entries.ensures.entries in
+    let sum = c.args.sum in
     let test : ℕ → Bool = λ place. nat_lt (get_or sums place 0) sum in
     let parted = subst (IsPartitionedBy test) (sym c.deref.ensures.value) (IsPartitionedBy-ltb (λ place. get_or sums place 0) chain sum (sums_rise_by calls chain sums c.self.invariant.chain c.self.invariant.summed)) in
     let point = c.partition_point.ensures.partitioned test (always_returns_same _ _ _ (λ a r q k. search (rules, of_calls, c.as_slice-sums.ensures.value))) parted in
     point_counts test c.deref.result.now c.partition_point.result c.partition_point.ensures.bound point
     ∙ ap (count_by test) c.deref.ensures.value ∙ sum_place calls chain sums c.self.invariant.chain c.self.invariant.summed sum
-    ∙ ap (λ n. count_by (λ s. nat_lt (shown_sum s) n) (views_of calls)) same
-    ∙ ap (λ (z : List Event). count_by (λ s. nat_lt (shown_sum s) (entry_sum c.args.view.now)) (views_of (calls_of z))) c.self.view_is
+    ∙ ap (λ (z : List Event). count_by (λ s. nat_lt (shown_sum s) sum) (views_of (calls_of z))) c.self.view_is
 
 pub returns-clause-few : goal.returns-clause-few
 returns-clause-few c =

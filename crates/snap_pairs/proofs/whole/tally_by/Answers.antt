@@ -4,7 +4,7 @@ use Rattle.snap_pairs.specs.Claiming.{ClaimView, new_claim}
 use Rattle.snap_conditions.specs.declared.tally.Tally.{Tally}
 use Rattle.snap_pairs.specs.Pieces.{IsFull}
 use Rattle.snap_pairs.proofs.Gathering.{drawn_full, some_of_all}
-use Rattle.snap_pairs.proofs.whole.tally.Goals as goal
+use Rattle.snap_pairs.proofs.whole.tally_by.Goals as goal
 
 pub each_job-requires-after_bounds : goal.each_job-requires-after_bounds
 each_job-requires-after_bounds g c κs within i x lt is =
@@ -13,7 +13,7 @@ each_job-requires-after_bounds g c κs within i x lt is =
     let long = ap length claims ∙ length-map-range_with_len (new_claim counter) 0 counter.workers in
     let from_zero : 0 + i ≡ i = omega arith in
     let new : x ≡ new_claim counter i = is ∙ ap (λ (l : List ClaimView). get_or l i x) claims ∙ get_or-map-range_with_len (new_claim counter) 0 counter.workers i i x (omega (arith, lt, long)) from_zero in
-    ((c.in_ok-grid.ensures, c.in_ok-counter.ensures.counter.0, (ap (λ (v : ClaimView). v.table) new, ap (λ (v : ClaimView). v.pieces) new), ap (λ (v : ClaimView). v.drawn) new), search rules)
+    ((c.requires, c.in_ok-counter.ensures.counter.0, (ap (λ (v : ClaimView). v.table) new, ap (λ (v : ClaimView). v.pieces) new), ap (λ (v : ClaimView). v.drawn) new), search rules)
 
 pub unreachable-requires : goal.unreachable-requires
 unreachable-requires g c =
