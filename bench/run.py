@@ -21,7 +21,7 @@ import time
 HERE = os.path.dirname(os.path.abspath(__file__))
 SNAPJUDGE = os.environ.get("SNAPJUDGE", os.path.join(HERE, "..", "built", "snapjudge"))
 # as the launcher starts the program
-ENVIRONMENT = {**os.environ, "GLIBC_TUNABLES": "glibc.malloc.hugetlb=1:glibc.malloc.top_pad=8388608"}
+ENVIRONMENT = {**os.environ, "GLIBC_TUNABLES": "glibc.malloc.hugetlb=1:glibc.malloc.top_pad=67108864"}
 CASES = [
     ("atomic", 1024, 8), ("atomic", 4096, 8), ("atomic", 16384, 8), ("atomic", 65536, 8), ("atomic", 16384, 256), ("atomic", 65536, 256),
     ("pending", 16384, 8), ("pending", 65536, 8), ("pending", 16384, 256), ("pending", 65536, 256),
@@ -35,8 +35,10 @@ CASES = [
 
 
 def run(words, history, report):
-    """The status, the milliseconds by the clock and of user time, and the peak memory in MB of one run."""
-    files = [(os.POSIX_SPAWN_OPEN, 0, history, os.O_RDONLY, 0), (os.POSIX_SPAWN_OPEN, 1, report, os.O_WRONLY | os.O_CREAT | os.O_TRUNC, 0o600)]
+    """The status, the milliseconds by the clock and of user time, and the peak memory in MB of one run. What it says on standard
+    error is thrown away."""
+    files = [(os.POSIX_SPAWN_OPEN, 0, history, os.O_RDONLY, 0), (os.POSIX_SPAWN_OPEN, 1, report, os.O_WRONLY | os.O_CREAT | os.O_TRUNC, 0o600),
+             (os.POSIX_SPAWN_OPEN, 2, os.devnull, os.O_WRONLY, 0)]
     begun = time.perf_counter()
     child = os.posix_spawn(words[0], words, ENVIRONMENT, file_actions=files)
     _, status, used = os.wait4(child, 0)

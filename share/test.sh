@@ -55,7 +55,7 @@ mkdir -p stand/bin stand/libexec/snapjudge
 cp "$top/snapjudge" stand/bin/snapjudge
 printf '#!/bin/sh\necho "$GLIBC_TUNABLES $*"\n' >stand/libexec/snapjudge/snapjudge
 chmod +x stand/libexec/snapjudge/snapjudge
-large=glibc.malloc.hugetlb=1:glibc.malloc.top_pad=8388608
+large=glibc.malloc.hugetlb=1:glibc.malloc.top_pad=67108864
 expect "memory in large pages" 0 "$large record
 " env -u GLIBC_TUNABLES stand/bin/snapjudge record
 expect "what the caller has set for the C library stays" 0 "$large:glibc.malloc.arena_max=1 record
