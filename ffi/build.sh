@@ -18,7 +18,7 @@ trap 'rm -rf "$work"' EXIT
 
 # Proves snap_c, and below it what no gate has just proved, and builds it.
 prove() {
-  if [ -n "$begun" ] && python3 -B "$top/ffi/over_built.py" "$kit" "$begun"; then
+  if [ -n "$begun" ] && python3 -B "$top/share/over_built.py" "$kit" "$begun"; then
     return 0
   fi
   rt lib

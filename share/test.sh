@@ -244,7 +244,14 @@ echo old >tree/crates/snapjudge/src/main.rt
 cat >bin/rt <<'RT'
 #!/bin/sh
 [ "$1" != version ] || { echo a prover; exit; }
-[ "$(cat "$ANSWER")" = proved ] || { echo "not proved: main"; exit 1; }
+case "$(cat "$ANSWER") $2" in
+  "proved, on an older processor --cpu=x86-64-v3") exit 127 ;;
+  proved*) ;;
+  *)
+    echo "not proved: main"
+    exit 1
+    ;;
+esac
 { echo '#!/bin/sh'; echo "echo $(cat src/main.rt)"; } >out/snapjudge
 chmod +x out/snapjudge
 exit 5
@@ -259,6 +266,8 @@ expect_said "how far it is" "snapjudge: proving snapjudge, 1 of 1"
 expect "a program that is there" 0 "old
 " tree/snapjudge check
 expect_said "nothing" ""
+expect "the processors that it is for" 0 "snapjudge 0 for x86-64-v3, proved with a prover
+" tree/snapjudge --version
 sleep 1.1
 echo new >tree/crates/snapjudge/src/main.rt
 echo refused >answer
@@ -270,6 +279,11 @@ done
 echo proved >answer
 expect "the edit, once it builds" 0 "new
 " tree/snapjudge check
+sleep 1.1
+touch tree/crates/snapjudge/src/main.rt
+echo "proved, on an older processor" >answer
+expect "an older processor" 0 "snapjudge 0 for x86-64-v2, proved with a prover
+" tree/snapjudge --version
 sleep 1.1
 touch tree/crates/snapjudge/src/main.rt
 rm bin/rt
