@@ -1,12 +1,14 @@
 -- How clashes are counted, and which rows have one.
-use Rattle.std.proofs.Common.{◌≡◌, ℕ, zero, suc, ◌+◌, ◌*◌, ◌<◌, ◌≤◌, Bool, true, false, cond, ◌&&◌, ◌||◌, List, [], ◌∷◌, ◌++◌, Some, None, take, drop, length, min, max, refl, sym, ap, ◌∙◌, subst, arith}
+use Rattle.std.proofs.Common.{◌≡◌, ℕ, zero, suc, ◌+◌, ◌-◌, ◌*◌, ◌<◌, ◌≤◌, Bool, true, false, cond, ◌&&◌, ◌||◌, List, [], ◌∷◌, ◌++◌, Option, Some, None, take, drop, length, get_or, min, max, refl, sym, ap, ◌∙◌, subst, arith}
 use Rattle.std.specs.Prelude.{nat_lt, bit_or, bit_and, sum_by, count_by, count_ones, find}
 use Rattle.std.specs.List.{list_any, range_with_len}
 use Rattle.std.specs.Int.{bit_at}
+use Rattle.std.proofs.lemmas.Bool.{false≢true}
 use Rattle.std.proofs.lemmas.Nat.Bits.{bit_at_or, bit_at_and, bit_at-zero}
+use Rattle.std.proofs.lemmas.List.{get_or_default}
 use Rattle.std.proofs.lemmas.List.Sums.{sum_by-cons, sum_by-append, count_by-le-length}
 use Rattle.std.proofs.lemmas.List.Folds.{list_any-append, find-append}
-use Rattle.std.specs.Option.{option_or}
+use Rattle.std.specs.Option.{is_some, option_or}
 use Rattle.std.proofs.lemmas.List.FromFn.{length-range_with_len}
 use Rattle.snap_grid.specs.Columns.{GridValue, number, any_passes, clashes, clash_count, drops, drop_count, has_clash, rows_of}
 use Rattle.snap_grid.specs.Masks.{mask_by, mask_below}
@@ -263,3 +265,41 @@ find_nothing p (suc n) from h =
 
 pub find_both : (p : ℕ → Bool) (from m k next : ℕ) → next ≡ from + m → find p (range_with_len from (m + k)) ≡ option_or (find p (range_with_len from m)) (find p (range_with_len next k))
 find_both p from m k next e = ap (find p) (range-append from m k) ∙ find-append p (range_with_len from m) (range_with_len (from + m) k) ∙ ap (λ z. option_or (find p (range_with_len from m)) (find p (range_with_len z k))) (sym e)
+
+-- a clash by what was read of the two rows
+pub clash_by : (g : GridValue) (a b : ℕ) (more before less : Bool) → any_passes true g.columns a b ≡ more → nat_lt (number g.ends a) (number g.begins b) ≡ before → any_passes false g.columns a b ≡ less → clashes g a b ≡ (more && (before || less))
+unfolding clashes
+clash_by g a b more before less m f l =
+    ap (λ z. z && (nat_lt (number g.ends a) (number g.begins b) || any_passes false g.columns a b)) m
+    ∙ ap (λ z. more && (z || any_passes false g.columns a b)) f ∙ ap (λ z. more && (before || z)) l
+
+pub before_by : (g : GridValue) (ends begins : List ℕ) (a b end begin : ℕ) → ends ≡ g.ends → begins ≡ g.begins → a < length ends → end ≡ get_or ends a end → begin ≡ get_or begins b 0 → nat_lt (number g.ends a) (number g.begins b) ≡ nat_lt end begin
+before_by g ends begins a b end begin e f l h k =
+    let first : number g.ends a ≡ end = ap (λ z. number z a) (sym e) ∙ get_or_default ends a 0 end l ∙ sym h in
+    let second : number g.begins b ≡ begin = ap (λ z. number z b) (sym f) ∙ sym k in
+    ap (λ z. nat_lt z (number g.begins b)) first ∙ ap (nat_lt end) second
+
+-- the first of all rows is the first of a part, where none stands before that part
+pub find_in : (p : ℕ → Bool) (m k n : ℕ) → m + k ≤ n → ((b : ℕ) → b < m → p b ≡ false) → is_some (find p (range_with_len m k)) ≡ true → find p (range_with_len 0 n) ≡ find p (range_with_len m k)
+find_in p m k n l h s =
+    let rest = n - (m + k) in
+    let whole : n ≡ m + k + rest = omega (arith, l) in
+    let part = find_both p 0 m k m (omega arith) ∙ ap (λ z. option_or z (find p (range_with_len m k))) (find_nothing p m 0 (λ a b. let e : 0 + a ≡ a = omega arith in ap p e ∙ h a b)) in
+    ap (λ z. find p (range_with_len 0 z)) whole ∙ find_both p 0 (m + k) rest (m + k) (omega arith) ∙ ap (λ z. option_or z (find p (range_with_len (m + k) rest))) part
+    ∙ some_or (find p (range_with_len m k)) (find p (range_with_len (m + k) rest)) s
+  where
+    some_or : (o other : Option ℕ) → is_some o ≡ true → option_or o other ≡ o
+    some_or (Some x) other t = refl
+    some_or None other t = absurd (false≢true t)
+
+-- a part in which none is found has none
+pub none_found : (p : ℕ → Bool) (n from t : ℕ) → is_some (find p (range_with_len from n)) ≡ false → t < n → p (from + t) ≡ false
+none_found p zero from t h l = absurd (omega (arith, l))
+none_found p (suc n) from t h l = at (p from) refl t l (λ i g m. none_found p n (from + 1) i g m)
+  where
+    at : (b : Bool) → p from ≡ b → (t : ℕ) → t < suc n → ((i : ℕ) → is_some (find p (range_with_len (from + 1) n)) ≡ false → i < n → p (from + 1 + i) ≡ false) → p (from + t) ≡ false
+    at true e t l rest = absurd (false≢true (sym h ∙ ap (λ b. is_some (cond b (Some from) (find p (range_with_len (from + 1) n)))) e))
+    at false e zero l rest = let here : from + 0 ≡ from = omega arith in ap p here ∙ e
+    at false e (suc t) l rest =
+        let on : from + suc t ≡ from + 1 + t = omega arith in
+        ap p on ∙ rest t (sym (ap (λ b. is_some (cond b (Some from) (find p (range_with_len (from + 1) n)))) e) ∙ h) (omega (arith, l))

@@ -1,5 +1,5 @@
 -- Which rows pass others, by masks of columns.
-use Rattle.std.proofs.Common.{◌≡◌, ℕ, ◌+◌, ◌-◌, ◌*◌, ◌<◌, ◌≤◌, Bool, true, false, cond, ◌||◌, List, [], take, drop, length, get_or, refl, ap, ◌∙◌, arith}
+use Rattle.std.proofs.Common.{◌≡◌, ℕ, ◌+◌, ◌-◌, ◌*◌, ◌<◌, ◌≤◌, Bool, true, false, cond, ◌||◌, List, [], take, drop, length, get_or, refl, sym, ap, ◌∙◌, arith}
 use Rattle.std.specs.Prelude.{nat_lt}
 use Rattle.std.proofs.lemmas.Bool.{lt-ltb, le-ltb, ltb-true, ltb-false}
 use Rattle.std.proofs.lemmas.List.{get_or_default, get_or-drop, get_or-take, length-take, length-drop}
@@ -70,3 +70,11 @@ pub theirs_count : (columns : List (List ℕ)) (j block count : ℕ) (theirs d :
 theirs_count columns j block count theirs d l have t =
     let size : block * 512 + (block * 512 + count - block * 512) ≤ length (get_or columns j d) = omega (arith, have j l, ap length (get_or_default columns j d [] l)) in
     ap length t ∙ row_count (get_or columns j d) (block * 512) (block * 512 + count - block * 512) size ∙ omega arith
+
+-- two numbers of a column that were read, and whether the first passes the second
+pub passes_read : (more : Bool) (columns : List (List ℕ)) (j a s n x : ℕ) (ours theirs : List ℕ) (b : Bool) → j < length columns → ours ≡ get_or columns j ours → theirs ≡ get_or columns j theirs → n ≡ get_or ours a 0 → x ≡ get_or theirs s 0 → b ≡ passes more n x →
+    passes more (number (get_or columns j []) a) (number (get_or columns j []) s) ≡ b
+passes_read more columns j a s n x ours theirs b l o t f g h =
+    let first : n ≡ number (get_or columns j []) a = f ∙ ap (λ z. get_or z a 0) (o ∙ get_or_default columns j ours [] l) in
+    let second : x ≡ number (get_or columns j []) s = g ∙ ap (λ z. get_or z s 0) (t ∙ get_or_default columns j theirs [] l) in
+    ap (λ z. passes more z (number (get_or columns j []) s)) (sym first) ∙ ap (passes more n) (sym second) ∙ sym h

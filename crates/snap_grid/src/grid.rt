@@ -1,6 +1,6 @@
 ghost use Rattle.std.specs.Prelude.{◌≡◌, ◌≤◌, ◌<◌, ◌+◌, ◌*◌, ◌-◌, true, false, ℕ, Bool, [], length, get_or, min, nat_lt, take, drop, sum_by, count_by, find, IfOk, IsTrue};
 ghost use Rattle.std.specs.List.{range_with_len, list_any};
-ghost use Rattle.snap_grid.specs.Columns.{GridValue, any_passes, clashes, number, clash_count, drop_count, has_clash, HaveSameRows};
+ghost use Rattle.snap_grid.specs.Columns.{GridValue, any_passes, clashes, number, passes as spec_passes, rows_of, clash_count, drop_count, has_clash, HaveSameRows};
 ghost use Rattle.snap_grid.specs.Facing.{faces};
 ghost use Rattle.snap_grid.specs.Kinds.{AreKinds};
 ghost use Rattle.snap_grid.specs.Masks.{mask_below};
@@ -53,6 +53,14 @@ pub(crate) struct Clashing {
     pub(crate) count: u64,
     pub(crate) drops: u64,
     pub(crate) rows: Mask,
+}
+
+// Whether a number is greater than another, or less.
+#[inline]
+fn passes(more: bool, number: u32, other: u32) -> bool
+    ensures { result ≡ spec_passes more number other }
+{
+    if more { other < number } else { number < other }
 }
 
 // The first row of a mask of the rows from one on.
@@ -244,6 +252,70 @@ impl Grid {
             drops,
             rows,
         })
+    }
+
+    // Whether a row has a greater number than another in some column, or a lesser one.
+    fn passes(&self, more: bool, row: usize, other: usize) -> bool
+        requires row { row < length self.now.begins }
+        requires other { other < length self.now.begins }
+        ensures { result ≡ any_passes more self.now.columns row other }
+    {
+        for j in 0..self.columns.len() {
+            let ours = self.columns[j].number(row);
+            let theirs = self.columns[j].number(other);
+            if passes(more, ours, theirs) {
+                return true;
+            }
+        }
+        false
+    }
+
+    // Whether a row clashes with another.
+    fn is_clash(&self, row: usize, other: usize) -> bool
+        requires row { row < length self.now.begins }
+        requires other { other < length self.now.begins }
+        ensures { result ≡ clashes self.now row other }
+    {
+        self.passes(true, row, other)
+            && (self.ends[row] < self.begins.number(other) || self.passes(false, row, other))
+    }
+
+    // The first of so many rows from one on that a row clashes with.
+    fn first_clash_among(&self, row: usize, first: usize, count: usize) -> Option<usize>
+        requires row { row < length self.now.begins }
+        requires within { first + count ≤ length self.now.begins }
+        ensures { result ≡ find (clashes self.now row) (range_with_len first count) }
+    {
+        // that there are few rows
+        let _rows = self.ends.len();
+        for other in first..first + count {
+            if self.is_clash(row, other) {
+                return Some(other);
+            }
+        }
+        None
+    }
+
+    /// The first row that a row clashes with. Blocks whose bounds tell that none of theirs does are passed over.
+    pub fn first_clash(&self, alloc: Global, row: usize) -> Result<Option<usize>, AllocError>
+        requires { row < length self.now.begins }
+        ensures { IfOk result (λ first. first ≡ find (clashes self.now row) (rows_of self.now)) }
+    {
+        let ours = Block::of(alloc, &self.columns, row, 1)?;
+        let ends = Masks::of(alloc, &self.ends[row..row + 1], PLACES)?;
+        let rows = self.ends.len();
+        let mut block: usize = 0;
+        while block * WIDTH < rows {
+            let count = (rows - block * WIDTH).min(WIDTH);
+            if !self.are_apart(&ours, &ends, block, count) {
+                let first = self.first_clash_among(row, block * WIDTH, count);
+                if first.is_some() {
+                    return Ok(first);
+                }
+            }
+            block += 1;
+        }
+        Ok(None)
     }
 
     /// The clashes and the drops of the rows from `from` to before `to` with all rows: how many there are, and the first of our
