@@ -1,6 +1,6 @@
 -- The read faults of a range of views, by the clashes of a grid.
 use Rattle.std.proofs.Common.{◌≡◌, ℕ, zero, suc, ◌+◌, ◌-◌, ◌<◌, ◌≤◌, Bool, true, false, cond, ◌||◌, List, [], ◌∷◌, ◌++◌, map, take, drop, length, get_or, Option, Some, None, refl, sym, ap, ◌∙◌, subst, arith}
-use Rattle.std.specs.Prelude.{nat_lt, filter, sum_by, count_by, find}
+use Rattle.std.specs.Prelude.{nat_lt, filter, sum_by, count_by, find, option_map, IfSome}
 use Rattle.std.specs.List.{list_any, range_with_len}
 use Rattle.std.proofs.lemmas.Bool.{lt-ltb, ltb-true, ltb-false}
 use Rattle.std.proofs.lemmas.List.{length-map, length-append, drop_more}
@@ -11,7 +11,7 @@ use Rattle.snap_grid.specs.Columns.{GridValue, clashes, clash_count, has_clash, 
 use Rattle.snap_conditions.specs.Faults.{read_fault, read_faults, first_of, is_stale, stale_count}
 use Rattle.snap_conditions.specs.Seen.{view_in}
 use Rattle.snap_conditions.specs.Tally.{views_between}
-use Rattle.snap_conditions.specs.Grids.{IsGridOf}
+use Rattle.snap_conditions.specs.Grids.{IsGridOf, faults_at}
 
 -- a range of views by their places
 pub by_places : (xs : List Call) (n a : ℕ) → a + n ≤ length xs → take n (drop a xs) ≡ map (λ i. get_or xs i nobody) (range_with_len a n)
@@ -25,10 +25,6 @@ sum_alike f g (suc n) a h = omega (arith, sum_by-cons f a (range_with_len (a + 1
 sum_map : {X : Type 0} (f : X → ℕ) (g : ℕ → X) (xs : List ℕ) → sum_by f (map g xs) ≡ sum_by (λ i. f (g i)) xs
 sum_map f g [] = refl
 sum_map f g (x ∷ xs) = omega (arith, sum_by-cons f (g x) (map g xs), sum_by-cons (λ i. f (g i)) x xs, sum_map f g xs)
-
--- the read faults of one view
-abbrev pub faults_at : List Call → ℕ → List Call
-faults_at calls i = filter (read_fault (view_in calls i)) (views_of calls)
 
 all_views : (calls : List Call) → views_of calls ≡ map (view_in calls) (range_with_len 0 (length (views_of calls)))
 all_views calls = sym (take_whole (views_of calls)) ∙ by_places (views_of calls) (length (views_of calls)) 0 (omega arith)
@@ -148,3 +144,38 @@ are_found es g h (suc n) a l = at (has_clash g a) refl (are_found es g h n (a + 
 pub are_found_between : (es : List Event) (g : GridValue) → IsGridOf es g → (from to : ℕ) → from ≤ to → to ≤ length (views_of (calls_of es)) → AreFound (calls_of es) g from (to - from) (read_faults (calls_of es) (views_between (calls_of es) from to))
 are_found_between es g h from to l m =
     subst (λ z. AreFound (calls_of es) g from (to - from) (read_faults (calls_of es) z)) (sym (by_places (views_of (calls_of es)) (to - from) from (omega (arith, l, m)))) (are_found es g h (to - from) from (omega (arith, l, m)))
+
+-- the first view of which a view is a read fault, by the first row that its row clashes with
+pub first_at : (es : List Event) (g : GridValue) → IsGridOf es g → (i : ℕ) → i < length (views_of (calls_of es)) → option_map (view_in (calls_of es)) (find (clashes g i) (rows_of g)) ≡ first_of (faults_at (calls_of es) i)
+first_at es g h i l =
+    let calls = calls_of es in
+    let n = length (views_of calls) in
+    ap (λ z. option_map (view_in calls) (find (clashes g i) (range_with_len 0 z))) h.rows
+    ∙ first_alike (clashes g i) n 0 (λ b _ m. h.clash i b l (omega (arith, m)))
+    ∙ ap (λ xs. first_of (filter (read_fault (view_in calls i)) xs)) (sym (all_views calls))
+  where
+    first_alike : (p : ℕ → Bool) (n a : ℕ) → ((b : ℕ) → a ≤ b → b < a + n → p b ≡ read_fault (view_in (calls_of es) i) (view_in (calls_of es) b)) →
+        option_map (view_in (calls_of es)) (find p (range_with_len a n)) ≡ first_of (filter (read_fault (view_in (calls_of es) i)) (map (view_in (calls_of es)) (range_with_len a n)))
+    first_alike p zero a h = refl
+    first_alike p (suc n) a h = at (p a) refl (h a (omega arith) (omega arith)) (first_alike p n (a + 1) (λ b l m. h b (omega (arith, l)) (omega (arith, m))))
+      where
+        at : (b : Bool) → p a ≡ b → p a ≡ read_fault (view_in (calls_of es) i) (view_in (calls_of es) a) →
+            option_map (view_in (calls_of es)) (find p (range_with_len (a + 1) n)) ≡ first_of (filter (read_fault (view_in (calls_of es) i)) (map (view_in (calls_of es)) (range_with_len (a + 1) n))) →
+            option_map (view_in (calls_of es)) (find p (range_with_len a (suc n))) ≡ first_of (filter (read_fault (view_in (calls_of es) i)) (map (view_in (calls_of es)) (range_with_len a (suc n))))
+        at true t same rest =
+            ap (λ b. option_map (view_in (calls_of es)) (cond b (Some a) (find p (range_with_len (a + 1) n)))) t
+            ∙ sym (ap (λ b. first_of (cond b (view_in (calls_of es) a ∷ filter (read_fault (view_in (calls_of es) i)) (map (view_in (calls_of es)) (range_with_len (a + 1) n))) (filter (read_fault (view_in (calls_of es) i)) (map (view_in (calls_of es)) (range_with_len (a + 1) n))))) (sym same ∙ t))
+        at false t same rest =
+            ap (λ b. option_map (view_in (calls_of es)) (cond b (Some a) (find p (range_with_len (a + 1) n)))) t ∙ rest
+            ∙ sym (ap (λ b. first_of (cond b (view_in (calls_of es) a ∷ filter (read_fault (view_in (calls_of es) i)) (map (view_in (calls_of es)) (range_with_len (a + 1) n))) (filter (read_fault (view_in (calls_of es) i)) (map (view_in (calls_of es)) (range_with_len (a + 1) n))))) (sym same ∙ t))
+
+-- what is found in a range is within it
+pub found_within : (p : ℕ → Bool) (n a : ℕ) → IfSome (find p (range_with_len a n)) (λ b. b < a + n)
+found_within p zero a = tt
+found_within p (suc n) a = at (p a) refl (found_within p n (a + 1))
+  where
+    at : (b : Bool) → p a ≡ b → IfSome (find p (range_with_len (a + 1) n)) (λ b. b < a + 1 + n) → IfSome (find p (range_with_len a (suc n))) (λ b. b < a + suc n)
+    at true t rest = subst (λ o. IfSome o (λ b. b < a + suc n)) (sym (ap (λ b. cond b (Some a) (find p (range_with_len (a + 1) n))) t)) (omega arith)
+    at false t rest =
+        subst (λ o. IfSome o (λ b. b < a + suc n)) (sym (ap (λ b. cond b (Some a) (find p (range_with_len (a + 1) n))) t))
+        (let on : a + 1 + n ≡ a + suc n = omega arith in subst (λ m. IfSome (find p (range_with_len (a + 1) n)) (λ b. b < m)) on rest)

@@ -1,5 +1,5 @@
 -- What views show, in a grid of numbers.
-use Rattle.std.specs.Prelude.{ℕ, ◌<◌, ◌≡◌, true, List, [], length, get_or, nat_lt}
+use Rattle.std.specs.Prelude.{ℕ, ◌<◌, ◌≡◌, true, List, [], length, get_or, nat_lt, filter}
 use Rattle.snap_core.specs.declared.event.Event.{Event}
 use Rattle.snap_core.specs.Calls.{Call, calls_of, views_of, shown_number, precedes}
 use Rattle.snap_core.specs.Events.{IsKept}
@@ -22,6 +22,10 @@ pub record AreColumnsOf (calls : List Call) (edge : ℕ) (columns : List (List �
 pub record ShowAll (calls : List Call) (columns : List (List ℕ)) : Type 0 where
   pub count : (j : ℕ) → j < length columns → length (get_or columns j []) ≡ length (views_of calls)
   pub exceed : (a b : ℕ) → a < length (views_of calls) → b < length (views_of calls) → exceeds (view_in calls a) (view_in calls b) ≡ any_passes true columns a b
+
+-- the views of which the view at a place is a read fault
+abbrev pub faults_at : List Call → ℕ → List Call
+faults_at calls place = filter (read_fault (view_in calls place)) (views_of calls)
 
 -- where the first completed views begin and end
 pub record ArePlacesOf (calls : List Call) (n : ℕ) (begins ends : List ℕ) : Type 0 where

@@ -1,9 +1,10 @@
-ghost use Rattle.std.specs.Prelude.{◌≡◌, ◌<◌, ◌∷◌, [], ◌+◌, ◌^◌, Some, length, option_map};
+ghost use Rattle.std.specs.Prelude.{◌≡◌, ◌<◌, ◌∷◌, [], ◌+◌, ◌^◌, Some, IfSome, length, option_map};
 ghost use Rattle.snap_core.specs.Calls.{Call as SpecCall, calls_of, views_of};
 ghost use Rattle.snap_core.specs.Entries.{AreEntries};
 ghost use Rattle.snap_core.specs.Events.{IsKept};
 ghost use Rattle.snap_conditions.specs.Rows.{AreNumbersOf};
 ghost use Rattle.snap_conditions.specs.Faults.{read_faults, read_fault, first_of};
+ghost use Rattle.snap_conditions.specs.Grids.{faults_at};
 ghost use Rattle.snap_conditions.specs.Parts.{noted, part_of};
 ghost use Rattle.snap_conditions.specs.Seen.{IsSeen, view_in};
 ghost use Rattle.snap_conditions.specs.Tally.{reported_read};
@@ -67,19 +68,20 @@ pub(crate) fn read_part(index: &Index<'_>, place: u32) -> Part<ReadFault>
     part
 }
 
-// The first read fault whose first view is the one at a place.
-pub(crate) fn first_read_fault(index: &Index<'_>, place: u32) -> Option<ReadFault>
+// The first read fault whose first view is the one at a place, where it is known of which view that one is a read fault first.
+pub(crate) fn first_read_fault(
+    index: &Index<'_>,
+    place: u32,
+    other: Option<usize>,
+) -> Option<ReadFault>
     requires place { place < length (views_of (calls_of index.now)) }
+    requires within { IfSome other (λ other. other < length (views_of (calls_of index.now))) }
+    requires first { option_map (view_in (calls_of index.now)) other ≡ first_of (faults_at (calls_of index.now) place) }
     requires kept { IsKept index.now }
     ensures { result ≡ option_map reported_read (first_of (read_faults (calls_of index.now) (view_in (calls_of index.now) place ∷ []))) }
 {
+    let other = view_at(index, other? as u32);
     let view = view_at(index, place);
     let row = Row::of(view.entries);
-    for other in 0..index.view_count() {
-        let other = view_at(index, other);
-        if is_read_fault(&view, &row, &other) {
-            return note_fault(Part::none(), &view, &row, &other).first();
-        }
-    }
-    None
+    note_fault(Part::none(), &view, &row, &other).first()
 }

@@ -119,7 +119,8 @@ impl<'i, 'h> ViewGrid<'i, 'h> {
         let found = self.grid.clashes(alloc, from as usize, to as usize)?;
         match found.first {
             Some(place) => {
-                let first = first_read_fault(self.index, place as u32);
+                let other = self.grid.first_clash(alloc, place)?;
+                let first = first_read_fault(self.index, place as u32, other);
                 let faults = Part::none().note(first).counted(found.count);
                 Ok((faults, found.drops))
             }

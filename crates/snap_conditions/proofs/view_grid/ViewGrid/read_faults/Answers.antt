@@ -1,5 +1,5 @@
-use Rattle.std.proofs.Common.{◌≡◌, ◌<◌, ◌-◌, Option, Some, None, [], ◌∷◌, List, length, refl, sym, ap, subst, ◌∙◌, arith, ◌≤◌, ℕ}
-use Rattle.std.specs.Prelude.{option_map, filter}
+use Rattle.std.proofs.Common.{◌≡◌, ◌<◌, ◌+◌, ◌-◌, Option, Some, None, [], ◌∷◌, List, length, refl, sym, ap, subst, ◌∙◌, arith, ◌≤◌, ℕ}
+use Rattle.std.specs.Prelude.{option_map, filter, IfSome}
 use Rattle.std.specs.List.{range_with_len, sum_by}
 use Rattle.snap_core.specs.declared.event.Event.{Event}
 use Rattle.snap_core.specs.Calls.{Call, calls_of, views_of}
@@ -10,8 +10,8 @@ use Rattle.snap_conditions.specs.Faults.{read_fault, read_faults, first_of, stal
 use Rattle.snap_conditions.specs.Seen.{view_in}
 use Rattle.snap_conditions.specs.Tally.{reported_read, views_between}
 use Rattle.snap_conditions.specs.Grids.{IsGridOf}
-use Rattle.snap_grid.specs.Columns.{GridValue, drop_count}
-use Rattle.snap_conditions.proofs.Counted.{IsFirst, are_found_between, stale_between}
+use Rattle.snap_grid.specs.Columns.{GridValue, clashes, drop_count}
+use Rattle.snap_conditions.proofs.Counted.{IsFirst, are_found_between, first_at, found_within, stale_between}
 use Rattle.snap_conditions.proofs.OneView.{read_alone}
 use Rattle.snap_conditions.proofs.Parts.{part_is}
 use Rattle.snap_conditions.proofs.Ranges.{few_views}
@@ -32,6 +32,31 @@ first_read_fault-first-requires-clause-place c =
     let found = are_found_between es c.self.inside.grid c.self.invariant c.args.from c.args.to c.requires.order (omega (arith, views, c.requires.views)) in
     let first = subst (λ o. IsFirst (calls_of es) (read_faults (calls_of es) (views_between (calls_of es) c.args.from c.args.to)) o c.args.from (c.args.to - c.args.from)) (sym c.in_ok-found.ensures.first ∙ c.in-Some.is) found.first in
     omega (arith, first.1, views, c.requires.order, c.requires.views)
+
+pub first_clash-requires : goal.first_clash-requires
+first_clash-requires c =
+    let es = c.self.inside.index.now in
+    let views = ap (λ (z : List Event). length (views_of (calls_of z))) c.self.view_is in
+    let found = are_found_between es c.self.inside.grid c.self.invariant c.args.from c.args.to c.requires.order (omega (arith, views, c.requires.views)) in
+    let first = subst (λ o. IsFirst (calls_of es) (read_faults (calls_of es) (views_between (calls_of es) c.args.from c.args.to)) o c.args.from (c.args.to - c.args.from)) (sym c.in_ok-found.ensures.first ∙ c.in-Some.is) found.first in
+    omega (arith, first.1, views, c.self.invariant.rows, c.requires.order, c.requires.views)
+
+pub first_read_fault-first-requires-clause-within : goal.first_read_fault-first-requires-clause-within
+first_read_fault-first-requires-clause-within c =
+    let es = c.self.inside.index.now in
+    let g = c.self.inside.grid in
+    let rows : 0 + length g.begins ≡ length (views_of (calls_of es)) = omega (arith, c.self.invariant.rows) in
+    let within = subst (λ o. IfSome o (λ b. b < 0 + length g.begins)) (sym c.in_ok-other-in-Some.ensures) (found_within (clashes g c.in-Some.place) (length g.begins) 0) in
+    subst (λ n. IfSome c.in_ok-other-in-Some.other (λ b. b < n)) rows within
+
+pub first_read_fault-first-requires-clause-first : goal.first_read_fault-first-requires-clause-first
+first_read_fault-first-requires-clause-first c =
+    let es = c.self.inside.index.now in
+    let views = ap (λ (z : List Event). length (views_of (calls_of z))) c.self.view_is in
+    let found = are_found_between es c.self.inside.grid c.self.invariant c.args.from c.args.to c.requires.order (omega (arith, views, c.requires.views)) in
+    let first = subst (λ o. IsFirst (calls_of es) (read_faults (calls_of es) (views_between (calls_of es) c.args.from c.args.to)) o c.args.from (c.args.to - c.args.from)) (sym c.in_ok-found.ensures.first ∙ c.in-Some.is) found.first in
+    ap (option_map (view_in (calls_of es))) c.in_ok-other-in-Some.ensures
+    ∙ first_at es c.self.inside.grid c.self.invariant c.in-Some.place (omega (arith, first.1, views, c.requires.order, c.requires.views))
 
 -- a view that has a fault has a first one
 some_first : (calls : List Call) (r : Call) → 0 < length (filter (read_fault r) (views_of calls)) → (f : ReadFault) × (option_map reported_read (first_of (read_faults calls (r ∷ []))) ≡ Some f)
@@ -62,8 +87,8 @@ counted-faults-requires-clause-count c =
     let first = subst (λ o. IsFirst (calls_of es) (read_faults (calls_of es) (views_between (calls_of es) c.args.from c.args.to)) o c.args.from (c.args.to - c.args.from)) (sym c.in_ok-found.ensures.first ∙ c.in-Some.is) found.first in
     omega (arith, first.3, found.count, c.in_ok-found.ensures.count)
 
-pub returns-in-Some-clause-faults : goal.returns-in-Some-clause-faults
-returns-in-Some-clause-faults c =
+pub returns-in_ok-other-in-Some-clause-faults : goal.returns-in_ok-other-in-Some-clause-faults
+returns-in_ok-other-in-Some-clause-faults c =
     let es = c.self.inside.index.now in
     let calls = calls_of es in
     let faults = read_faults calls (views_between calls c.args.from c.args.to) in
@@ -91,8 +116,8 @@ stale_is es now g from to drops h same l m d =
     let views = ap (λ (z : List Event). length (views_of (calls_of z))) same in
     d ∙ stale_between es g h from to l (omega (arith, views, m)) ∙ ap (λ (z : List Event). stale_count (calls_of z) (views_between (calls_of z) from to)) same
 
-pub returns-in-Some-clause-stale : goal.returns-in-Some-clause-stale
-returns-in-Some-clause-stale c = stale_is c.self.inside.index.now c.args.self.now c.self.inside.grid c.args.from c.args.to _ c.self.invariant c.self.view_is c.requires.order c.requires.views c.in_ok-found.ensures.drops
+pub returns-in_ok-other-in-Some-clause-stale : goal.returns-in_ok-other-in-Some-clause-stale
+returns-in_ok-other-in-Some-clause-stale c = stale_is c.self.inside.index.now c.args.self.now c.self.inside.grid c.args.from c.args.to _ c.self.invariant c.self.view_is c.requires.order c.requires.views c.in_ok-found.ensures.drops
 
 pub returns-in-None-clause-stale : goal.returns-in-None-clause-stale
 returns-in-None-clause-stale c = stale_is c.self.inside.index.now c.args.self.now c.self.inside.grid c.args.from c.args.to _ c.self.invariant c.self.view_is c.requires.order c.requires.views c.in_ok-found.ensures.drops

@@ -1,4 +1,4 @@
-use Rattle.std.proofs.Common.{◌≡◌, ◌+◌, ◌-◌, true, Some, length, sym, ap, subst, ◌∙◌, arith}
+use Rattle.std.proofs.Common.{◌≡◌, ◌+◌, ◌-◌, Some, sym, ap, subst, ◌∙◌, arith}
 use Rattle.snap_grid.specs.Columns.{GridValue, HaveSameRows, clashes}
 use Rattle.snap_grid.proofs.Clashing.{find_first, find_nothing}
 use Rattle.snap_grid.proofs.grid.Grid.first_clash_among.Goals as goal

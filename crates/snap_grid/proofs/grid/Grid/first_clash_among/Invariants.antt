@@ -1,4 +1,4 @@
-use Rattle.std.proofs.Common.{◌≡◌, ◌<◌, ◌+◌, ◌≤◌, ℕ, false}
+use Rattle.std.proofs.Common.{◌≡◌, ◌<◌, ◌≤◌, ℕ, false}
 use Rattle.snap_grid.specs.Columns.{clashes}
 use Rattle.snap_grid.proofs.grid.Grid.first_clash_among.Given as goal
 

@@ -1,4 +1,4 @@
-use Rattle.std.proofs.Common.{◌≡◌, ◌<◌, ◌+◌, length, true, false, take, sym, ap, subst, ◌∙◌, arith}
+use Rattle.std.proofs.Common.{◌≡◌, ◌+◌, false, take, sym, ap, subst, ◌∙◌, arith}
 use Rattle.snap_grid.specs.Columns.{GridValue, any_passes}
 use Rattle.snap_grid.proofs.Passing.{any_at, any_none, none_more, passes_read}
 use Rattle.snap_grid.proofs.grid.Grid.passes.Goals as goal
