@@ -14,6 +14,7 @@ pub mod Sorting
 pub mod Places
 pub mod Counts
 pub mod Sums
+pub mod Parts
 pub mod Searches
 pub mod Ranking
 pub mod Standing

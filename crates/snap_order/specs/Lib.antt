@@ -1,4 +1,5 @@
 pub mod Levels
+pub mod Near
 pub mod Starts
 pub mod Keys
 pub mod Numbers

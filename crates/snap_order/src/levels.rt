@@ -1,5 +1,5 @@
 //! The levels of calls: places in the chain of the completed views.
-ghost use Rattle.std.specs.Prelude.{◌≡◌, ◌<◌, ◌≤◌, length, get_or, nat_lt, count_by, slice_get, Some, IfOk, IsTrue};
+ghost use Rattle.std.specs.Prelude.{◌≡◌, ◌<◌, ◌≤◌, ◌↔◌, length, get_or, nat_lt, count_by, slice_get, Some, IfOk, IsTrue};
 ghost use Rattle.std.specs.Option.{option_map};
 ghost use Rattle.snap_core.specs.Calls.{calls_of, call_numbered, views_of, shown_number};
 ghost use Rattle.snap_conditions.specs.Chains.{IsViewChain};
@@ -10,6 +10,7 @@ ghost use Rattle.snap_index.specs.Bare.{answer_of, number_of};
 ghost use Rattle.snap_order.specs.Keys.{printed_keys, rank_of};
 ghost use Rattle.snap_order.specs.Levels.{update_level as spec_update_level};
 
+use crate::near::partition_near;
 use snap_conditions::{ViewChain, entries_sum};
 use snap_core::{Entry, View};
 use snap_index::{CallOp, Index};
@@ -78,9 +79,12 @@ impl<'i, 'h> Levels<'i, 'h> {
         let mut keys = Vec::new(alloc);
         // how many completed views come before the call
         let mut views = 0;
+        // the level of the printed call before, to which that of the next is mostly close
+        let mut level = 0;
         for number in 0..self.index.call_count() {
-            if let Some(rank) = self.rank(number, views) {
+            if let Some(rank) = self.rank(number, views, level) {
                 keys.push((rank, number))?;
+                level = rank / 2;
             }
             if self.is_view_at(views, number) {
                 views += 1;
@@ -91,7 +95,7 @@ impl<'i, 'h> Levels<'i, 'h> {
 
     // Whether the completed view at a place is the call of a number.
     fn is_view_at(&self, place: u32, number: u32) -> bool
-        ensures { IsTrue result → option_map number_of (slice_get (views_of (calls_of self.now)) place) ≡ Some number }
+        ensures { IsTrue result ↔ (option_map number_of (slice_get (views_of (calls_of self.now)) place) ≡ Some number) }
     {
         self.index.view_call(place) == Some(number)
     }
@@ -109,28 +113,31 @@ impl<'i, 'h> Levels<'i, 'h> {
         }
     }
 
-    // The rank of a printed call: twice its level, and one more for a view, which is looked for at a place.
-    fn rank(&self, number: u32, place: u32) -> Option<u32>
+    // The rank of a printed call: twice its level, and one more for a view, which is looked for at a place. The search for the
+    // level begins near a number, and any will do.
+    fn rank(&self, number: u32, place: u32, near: u32) -> Option<u32>
         requires { number < length (calls_of self.now) }
         ensures { let calls = calls_of self.now in result ≡ rank_of calls (call_numbered calls number) }
     {
         let call = self.index.call(number)?;
         match call.op {
             CallOp::Update(entry) => {
-                let level = self.update_level(entry);
+                let level = self.update_level(entry, near);
                 // a pending update is printed where some completed view shows its number or a later one
                 let is_printed = call.ended.is_some() || level < self.index.view_count();
                 is_printed.then_some(2 * level)
             }
             CallOp::View => {
                 let view = self.index.answer(number)?;
-                Some(2 * self.view_level(self.sum_of(number, place, view)) + 1)
+                let sum = self.sum_of(number, place, view);
+                Some(2 * self.view_level(sum, near) + 1)
             }
         }
     }
 
-    // How many completed views show an earlier number than the entry's of its component, or none.
-    fn update_level(&self, entry: Entry) -> u32
+    // How many completed views show an earlier number than the entry's of its component, or none. The search begins near a
+    // number, and any will do.
+    fn update_level(&self, entry: Entry, near: u32) -> u32
         ensures level { result ≡ spec_update_level (calls_of self.now) entry }
         ensures few { result ≤ length (views_of (calls_of self.now)) }
     {
@@ -140,17 +147,19 @@ impl<'i, 'h> Levels<'i, 'h> {
             ..
         } = entry;
         let index = self.index;
-        self.chain
-            .partition_point(|place| shown_at(index, *place, component) < number) as u32
+        partition_near(&self.chain, near as usize, |place| {
+            shown_at(index, *place, component) < number
+        }) as u32
     }
 
-    // How many completed views have a smaller sum than this.
-    fn view_level(&self, sum: u64) -> u32
+    // How many completed views have a smaller sum than this. The search begins near a number, and any will do.
+    fn view_level(&self, sum: u64, near: u32) -> u32
         ensures level { result ≡ count_by (λ s. nat_lt (shown_sum s) sum) (views_of (calls_of self.now)) }
         ensures few { result ≤ length (views_of (calls_of self.now)) }
     {
         let sums = self.sums.as_slice();
-        self.chain
-            .partition_point(|place| sum_at(sums, *place) < sum) as u32
+        partition_near(&self.chain, near as usize, |place| {
+            sum_at(sums, *place) < sum
+        }) as u32
     }
 }

@@ -5,6 +5,7 @@ mod checking;
 mod last_entries;
 mod law;
 mod levels;
+mod near;
 mod printing;
 
 pub use checking::check_order;

@@ -15,8 +15,9 @@ use std::thread::Threads;
 /// updates those of which some completed view shows the number or a later one. It is sorted by level; within a level
 /// updates come before views, and then calls by their numbers. It is a legal order.
 ///
-/// The views are sorted once; then each level is a search among them. All of it is done on the calling thread: at no length
-/// of a history do the searches take so long that the start of threads would pay.
+/// The views are sorted once; then each level is a search among them, which begins near the level of the call before. All of
+/// it is done on the calling thread: at no length of a history do the searches take so long that the start of threads would
+/// pay.
 pub fn build<R: Threads + Sync>(
     _rt: &R,
     alloc: Global,

@@ -63,5 +63,5 @@ loop-number-preserved c =
 pub overflow_add-views : goal.overflow_add-views
 overflow_add-views c =
     let es = c.args.self.now in
-    let within = (view_of_number es c.loop-number.views c.loop-number.number (c.is_view_at.ensures c.if-is_view_at.true)).0 in
+    let within = (view_of_number es c.loop-number.views c.loop-number.number (c.is_view_at.ensures.0 c.if-is_view_at.true)).0 in
     word_fits (c.loop-number.views + 1) (omega (arith, within, few_views es (subst IsKept c.self.view_is c.self.invariant.kept)))

@@ -53,7 +53,7 @@ returns-in_ok-view-in-View c =
     let bare_call = found bare calls c.args.number nobody c.in_ok-call.call.now c.requires (rw c.self.view_is at c.in_ok-call.ensures) in
     let shows = answered_view call c.in_ok-view-in-View.view.now (sym (ap (λ (z : Call). z.op) bare_call) ∙ c.in-View.is) ((rw c.self.view_is at c.in_ok-view-in-View.ensures) ∙ answer_at calls c.args.number c.requires) in
     view_rank calls call c.in_ok-view-in-View.view.now c.view_level.result shows
-    (c.view_level.ensures.level ∙ ap (λ n. count_by (λ s. nat_lt (shown_sum s) n) (views_of calls)) c.sum_of.ensures ∙ view_level_is es (subst IsKept c.self.view_is c.self.invariant.kept) (subst (λ (z : List Event). AreComparable (calls_of z)) c.self.view_is c.self.invariant.comparable) call c.in_ok-view-in-View.view.now (numbered_there calls c.args.number c.requires) shows)
+    (c.view_level.ensures.level ∙ ap (λ n. count_by (λ s. nat_lt (shown_sum s) n) (views_of calls)) c.sum_of-sum.ensures ∙ view_level_is es (subst IsKept c.self.view_is c.self.invariant.kept) (subst (λ (z : List Event). AreComparable (calls_of z)) c.self.view_is c.self.invariant.comparable) call c.in_ok-view-in-View.view.now (numbered_there calls c.args.number c.requires) shows)
 
 pub returns-in_err-view-in-View : goal.returns-in_err-view-in-View
 returns-in_err-view-in-View c =

@@ -12,4 +12,4 @@ returns-then-is_view_at c =
     let sums = c.self.inside.sums.items in
     c.sum_at.ensures ∙ ap (λ z. get_or z c.args.place 0) c.deref.ensures.value
     ∙ sum_of_number es (subst IsKept c.self.view_is c.self.invariant.kept) sums (subst (λ (z : List Event). AreViewSums (calls_of z) sums) c.self.view_is c.self.invariant.summed)
-    c.args.place c.args.number c.args.view.now c.requires.number (c.is_view_at.ensures c.if-is_view_at.true) c.requires.view
+    c.args.place c.args.number c.args.view.now c.requires.number (c.is_view_at.ensures.0 c.if-is_view_at.true) c.requires.view
