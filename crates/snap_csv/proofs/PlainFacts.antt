@@ -1,10 +1,10 @@
 -- What `csv` reads of a plain text, field by field.
 use Rattle.std.proofs.Common.{codes, cond, drop, take, ◌≡◌, ◌<◌, ◌≤◌, ◌==◌, ◌+◌, ◌++◌, ◌⊎◌, inl, inr, ℕ, zero, suc, Bool, true, false, List, [], ◌∷◌, length, get_or, All, Option, Some, None, refl, sym, ap, ◌∙◌, subst, arith, append-nil, append_assoc}
-use Rattle.std.specs.Prelude.{◌≢◌, MatchOption, is_some, slice_index}
+use Rattle.std.specs.Prelude.{◌≢◌, ◌↔◌, ◌&&◌, IsTrue, MatchOption, is_none, slice_index}
 use Rattle.memchr.specs.Find.{IsFirstByte, is_byte2}
 use Rattle.std.proofs.lemmas.Bool.Decides.{nat_tests}
 use Rattle.std.proofs.lemmas.List.{length-append}
-use Rattle.std.proofs.lemmas.List.Elements.{All-cons, All-from_get_or, All-head, All-nil, All-tail}
+use Rattle.std.proofs.lemmas.List.Elements.{All-append, All-cons, All-from_get_or, All-get_or, All-head, All-nil, All-tail}
 use Rattle.csv.specs.Machine.{Read, ends_at_end, field_after, fields_after, in_field, is_end, next_record, step}
 use Rattle.csv.specs.Reading.{default_config, records, records_from, strip_bom}
 use Rattle.csv.specs.declared.parser.State.{State}
@@ -83,13 +83,21 @@ at_end s fs p (c ∷ f) line end plain inner =
     rw (line c (All-head IsPlain c f plain) ∙ copied c (All-head IsPlain c f plain) (All-head IsInner c f inner)) (at_end st.InField fs (p ++ c ∷ []) f in_field_line refl (All-tail IsPlain c f plain) (All-tail IsInner c f inner)
     ∙ ap (λ (q : List ℕ). Some (fs ++ q ∷ [], st.StartRecord, [])) (append_assoc p (c ∷ []) f))
 
--- a text in which no quote and no carriage return is found
+-- a text is plain just where no quote and no carriage return is found in it
+
 passes_not : (text : List ℕ) (i : ℕ) → ((is_byte2 34 13 (slice_index text i) ≡ true) → ⊥) → IsPlain (get_or text i 0)
 passes_not text i h = (λ quote. h (rw quote refl), λ return. h (rw return refl))
 
-pub plain_by_search : (text : List ℕ) (o : Option ℕ) → IsFirstByte (is_byte2 34 13) text o → is_some o ≡ false → All IsPlain text
-plain_by_search text None found none = All-from_get_or IsPlain text 0 (λ i lt. passes_not text i (found i (omega arith) lt))
-plain_by_search text (Some k) found none = absurd cc
+marked_not : (b : ℕ) → IsPlain b → is_byte2 34 13 b ≡ true → ⊥
+marked_not b plain mark =
+    let quote : (b == 34) ≡ false = grind (arith, nat_tests, plain.0) in
+    let return : (b == 13) ≡ false = grind (arith, nat_tests, plain.1) in
+    let none : false ≡ true = rw (quote, return) at mark in
+    absurd cc
+
+pub plain_by_search : (text : List ℕ) (o : Option ℕ) → IsFirstByte (is_byte2 34 13) text o → IsTrue (is_none o) ↔ All IsPlain text
+plain_by_search text None found = (λ none. All-from_get_or IsPlain text 0 (λ i lt. passes_not text i (found i (omega arith) lt)), λ plain. refl)
+plain_by_search text (Some k) found = (λ none. absurd cc, λ plain. absurd (marked_not (slice_index text k) (All-get_or IsPlain text k 0 found.0.high plain) found.1))
 
 -- the bytes before the first mark that a search finds behind some inner ones are inner, too
 
@@ -120,6 +128,11 @@ plain_front (c ∷ f) rest h = All-cons IsPlain c f (All-head IsPlain c (f ++ re
 plain_rest : (f rest : List ℕ) → All IsPlain (f ++ rest) → All IsPlain rest
 plain_rest [] rest h = h
 plain_rest (c ∷ f) rest h = plain_rest f rest (All-tail IsPlain c (f ++ rest) h)
+
+-- a text and a piece behind it are plain where both are
+pub plain_with : (a b : Bool) (text piece : List ℕ) → (IsTrue a ↔ All IsPlain text) → (IsTrue b ↔ All IsPlain piece) → IsTrue (a && b) ↔ All IsPlain (text ++ piece)
+plain_with true b text piece h k = (λ is. All-append IsPlain text piece (h.0 refl) (k.0 is), λ plain. k.1 (plain_rest text piece plain))
+plain_with false b text piece h k = (λ is. absurd cc, λ plain. h.1 (plain_front text piece plain))
 
 -- the record goes on behind a comma
 pub record Goes (fs : Fields) (f rest text : List ℕ) : Type 0 where

@@ -12,6 +12,7 @@ use Rattle.snap_csv.specs.declared.refusal.ReadRefusal.{ReadRefusal}
 use Rattle.snap_csv.specs.declared.refusal.ReadRefusal.TheVariants as refusals
 use Rattle.snap_csv.specs.Rows.{Fields}
 use Rattle.snap_csv.specs.Faults.{fault_with, row_event, row_fault}
+use Rattle.snap_csv.specs.declared.intake.Taken.{Taken}
 use Rattle.snap_csv.specs.declared.stamped.Stamped.{Stamped}
 use Rattle.snap_csv.specs.Stamps.{FirstOf, NoneOf, ShapeFault, StampedFault, StampedRead, events_of, nothing, order_at, places_of, shape_at, shape_fault, stamped_in, stamped_row, stamps_of}
 use Rattle.snap_csv.specs.Texts.{RowsRead, RowsFault, IsText, HasFault, byte_limit}
@@ -117,8 +118,8 @@ RefusesIntake known (refusals.Text place f) = (place ≡ 0) × (f ≡ faults.Too
 RefusesIntake known refusals.Device = Unit {0}
 RefusesIntake known refusals.Memory = Unit {0}
 
-abbrev pub TakesIn : Option (List ℕ) → Result (Vec ℕ) ReadRefusal → Type 0
-TakesIn known (Ok v) = (length v.items ≤ byte_limit) × IfSome known (λ text. v.items ≡ text)
+abbrev pub TakesIn : Option (List ℕ) → Result Taken ReadRefusal → Type 0
+TakesIn known (Ok taken) = (length taken.text.items ≤ byte_limit) × IfSome known (λ text. taken.text.items ≡ text)
 TakesIn known (Err e) = RefusesIntake known e
 
 -- what the stamps of some events are known by: a set that has them, and no two are equal

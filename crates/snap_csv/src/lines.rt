@@ -1,9 +1,9 @@
 //! Histories in plain texts. Without quotes and carriage returns a record is a line and a field ends at a comma, so that such a
 //! text is cut by a search for these two marks. Any other text is read byte by byte, by `csv`.
-ghost use Rattle.std.specs.Prelude.{◌≡◌, ◌≢◌, ◌<◌, ◌≤◌, take, drop, ◌∷◌, ◌++◌, [], List, ℕ, All, MatchOption, IfSome, get_or, length};
+ghost use Rattle.std.specs.Prelude.{◌≡◌, ◌≢◌, ◌↔◌, ◌<◌, ◌≤◌, take, drop, ◌∷◌, ◌++◌, [], List, ℕ, All, IsTrue, MatchOption, IfSome, get_or, length};
 ghost use Rattle.snap_csv.specs.Answers.{AnswersNumbered};
 ghost use Rattle.snap_csv.specs.Fields.{header};
-ghost use Rattle.snap_csv.specs.Lines.{EndsField, FieldGoesOn, FieldIsLast, FourThen, HasRows, IsInner, NotFour};
+ghost use Rattle.snap_csv.specs.Lines.{EndsField, FieldGoesOn, FieldIsLast, FourThen, HasRows, IsInner, IsPlain, NotFour};
 ghost use Rattle.snap_csv.specs.Rows.{Fields, rows_of};
 
 use crate::known::Known;
@@ -15,11 +15,19 @@ use std::alloc::Global;
 
 const HEADER: &[u8] = b"event,process,op,data\n";
 
-/// What stands under the header, where a plain text begins with its line.
-pub fn lines_under_header(text: &[u8]) -> Option<&[u8]>
+/// Whether a text is plain: it has no quote and no carriage return.
+pub fn is_plain(text: &[u8]) -> bool
+    ensures { IsTrue result ↔ All IsPlain text.now }
+{
+    memchr2(b'"', b'\r', text).is_none()
+}
+
+/// What stands under the header, where a text is known to be plain and begins with its line.
+pub fn lines_under_header(text: &[u8], plain: bool) -> Option<&[u8]>
+    requires { IsTrue plain → All IsPlain text.now }
     ensures { IfSome result (λ lines. (later : List Fields) × (rows_of text.now ≡ header ∷ later) × HasRows lines.now later) }
 {
-    if !text.starts_with(HEADER) || memchr2(b'"', b'\r', text).is_some() {
+    if !plain || !text.starts_with(HEADER) {
         return None;
     }
     Some(&text[HEADER.len()..])

@@ -1,14 +1,15 @@
-ghost use Rattle.std.specs.Prelude.{◌≡◌, ◌∷◌, [], IfSome};
+ghost use Rattle.std.specs.Prelude.{◌≡◌, ◌∷◌, [], All, IfSome, IsTrue};
 ghost use Rattle.snap_core.specs.Counting.{inner_of, failures_in};
 ghost use Rattle.snap_csv.specs.Answers.{AnswersNumbered, AnswersRows, AnswersText, AnswersWhole, Counts, TakesEvent, TakesRow};
 ghost use Rattle.snap_csv.specs.Faults.{fault_of};
+ghost use Rattle.snap_csv.specs.Lines.{IsPlain};
 ghost use Rattle.snap_csv.specs.Rows.{rows_of};
 ghost use Rattle.csv.specs.Records.{fields_of};
 
 use crate::fields::{event_of_fields, four_fields, is_header, is_stamped_header};
-use crate::intake::{BYTE_LIMIT, take_in};
+use crate::intake::{BYTE_LIMIT, Taken, take_in};
 use crate::known::Known;
-use crate::lines::{lines_history, lines_under_header};
+use crate::lines::{is_plain, lines_history, lines_under_header};
 use crate::refusal::{ReadRefusal, TextFault};
 use crate::rows::{next_row, reader_of};
 use crate::stamped::stamped_history;
@@ -89,14 +90,17 @@ pub fn push_event(history: &mut History, place: u32, event: Event) -> Result<(),
 }
 
 /// The history of a text, or its first fault; and the numbers of its events' records where these have stamps. Records
-/// without stamps stand one after the other, and their numbers are not kept.
+/// without stamps stand one after the other, and their numbers are not kept. A text that is known to be plain may be cut at
+/// its marks.
 pub fn numbered_history(
     alloc: Global,
     text: &[u8],
+    plain: bool,
 ) -> Result<(History, Option<Vec<u32>>), ReadRefusal>
+    requires { IsTrue plain → All IsPlain text.now }
     ensures { AnswersNumbered (rows_of text.now) result }
 {
-    match lines_under_header(text) {
+    match lines_under_header(text, plain) {
         Some(lines) => lines_history(alloc, lines),
         None => rows_history(alloc, text),
     }
@@ -137,10 +141,11 @@ fn rows_history(alloc: Global, text: &[u8]) -> Result<(History, Option<Vec<u32>>
 }
 
 // The history of a text, or its first fault.
-fn history_of(alloc: Global, text: &[u8]) -> Result<History, ReadRefusal>
+fn history_of(alloc: Global, text: &[u8], plain: bool) -> Result<History, ReadRefusal>
+    requires { IsTrue plain → All IsPlain text.now }
     ensures { AnswersRows (rows_of text.now) result }
 {
-    let (history, _) = numbered_history(alloc, text)?;
+    let (history, _) = numbered_history(alloc, text, plain)?;
     Ok(history)
 }
 
@@ -167,8 +172,9 @@ pub fn read_history_in<R: Read>(
     ensures text { IfSome (R.remaining (inner_of reader.old)) (λ text. AnswersText text result) }
     ensures counts { Counts (failures_in reader.old) (failures_in reader.new) result }
 {
-    *room = take_in(alloc, reader)?;
-    history_of(alloc, room)
+    let Taken { text, plain } = take_in(alloc, reader)?;
+    *room = text;
+    history_of(alloc, room, plain)
 }
 
 /// Reads the history of a text in memory, as `read_history` does of a reader: the text is not copied, and no device can fail.
@@ -181,5 +187,5 @@ pub fn read_text(alloc: Global, text: &[u8]) -> Result<History, ReadRefusal>
             fault: TextFault::TooLong,
         });
     }
-    history_of(alloc, text)
+    history_of(alloc, text, is_plain(text))
 }

@@ -7,7 +7,7 @@ ghost use Rattle.snap_csv.specs.Answers.{AnswersRecords, Counts, Leaves};
 ghost use Rattle.snap_csv.specs.Records.{record_at};
 ghost use Rattle.snap_csv.specs.Rows.{rows_of};
 
-use crate::intake::take_in;
+use crate::intake::{Taken, take_in};
 use crate::read::numbered_history;
 use crate::refusal::ReadRefusal;
 use crate::rows::{next_row, reader_of};
@@ -36,8 +36,9 @@ pub fn read_records<R: Read>(
     ensures counts { Counts (failures_in reader.old) (failures_in reader.new) result }
     ensures room { IfSome (R.remaining (inner_of reader.old)) (λ text. Leaves text room.new.items result) }
 {
-    *room = take_in(alloc, reader)?;
-    let (history, kept) = numbered_history(alloc, room)?;
+    let Taken { text, plain } = take_in(alloc, reader)?;
+    *room = text;
+    let (history, kept) = numbered_history(alloc, room, plain)?;
     let records = match kept {
         Some(numbers) => numbers,
         None => in_turn(alloc, history.len())?,
