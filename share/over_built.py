@@ -18,6 +18,7 @@ here = os.getcwd()
 crate = rtlib.Crate(here, rtlib.root_above(here), {})
 for library in crate.below():
     if not os.path.isdir(library.rlib) or os.path.getmtime(library.rlib) <= os.path.getmtime(begun):
+        print(f"the gate left no {library.name}", file=sys.stderr)
         sys.exit(3)
 if crate.is_program:
     # the locks of `rt run`, which lets go of them when the program starts

@@ -187,3 +187,56 @@ fn equal_rows_of_a_later_block_are_counted_each(rt: HostRuntime) -> Result<(), F
         ],
     )
 }
+
+// Of a grid whose rows may each end before the next begins, the first row that each of some rows clashes with.
+fn expect_first(
+    rt: &impl Abort,
+    alloc: Global,
+    first: &[(u32, u32)],
+    second: &[(u32, u32)],
+    apart: bool,
+    known: &[(usize, Option<usize>)],
+) -> Result<(), Fail> {
+    let first = runs(alloc, first)?;
+    let second = runs(alloc, second)?;
+    let rows = first.len();
+    assert!(rt; rows <= 65536 && second.len() == rows);
+    let grid = grid_of(rt, alloc, first, second, 5, apart)?;
+    for &(row, other) in known {
+        assert!(rt; row < rows);
+        assert_eq!(rt; grid.first_clash(alloc, row)?, other, "{row}");
+    }
+    Ok(())
+}
+
+#[test]
+fn the_first_row_that_one_falls_to_may_stand_blocks_behind_it(rt: HostRuntime) -> Result<(), Fail> {
+    expect_first(
+        &rt,
+        rt.alloc(),
+        &[(700, 5), (1, 4), (400, 5), (1, 3)],
+        &[(1102, 0)],
+        true,
+        &[
+            (0, Some(700)),
+            (699, Some(700)),
+            (700, Some(1101)),
+            (701, Some(1101)),
+            (1101, None),
+        ],
+    )
+}
+
+#[test]
+fn of_rows_that_overlap_each_clashes_first_with_one_that_it_is_crossed_with(
+    rt: HostRuntime,
+) -> Result<(), Fail> {
+    expect_first(
+        &rt,
+        rt.alloc(),
+        &[(1, 1), (1, 0), (1, 2)],
+        &[(1, 0), (1, 1), (1, 2)],
+        false,
+        &[(0, Some(1)), (1, Some(0)), (2, None)],
+    )
+}
