@@ -1,21 +1,56 @@
-ghost use Rattle.std.specs.Prelude.{◌↔◌, IfOk, IsTrue, All};
-ghost use Rattle.snap_core.specs.Counting.{inner_of, failures_in};
+ghost use Rattle.std.specs.Prelude.{◌≡◌, ◌≤◌, ◌<◌, ◌↔◌, IfOk, IsTrue, All, OnOk, drop, is_err, length, take};
+ghost use Rattle.std.specs.Io.{ReadsAtMost};
+ghost use Rattle.std.specs.Io.KnownBytes.{ReadConsumes};
+ghost use Rattle.snap_core.specs.Counting.{counted, inner_of, failures_in};
 ghost use Rattle.snap_csv.specs.Answers.{Counts, TakesIn};
 ghost use Rattle.snap_csv.specs.Lines.{IsPlain};
+ghost use Rattle.snap_csv.specs.Texts.{byte_limit};
 
 use crate::lines::is_plain;
 use crate::refusal::{ReadRefusal, TextFault};
 use snap_core::Counted;
-use std::alloc::Global;
-use std::io::Read;
+use std::alloc::{AllocError, Global};
+use std::io::{self, Read};
 
 /// How many bytes a text may have.
 pub const BYTE_LIMIT: usize = 67_108_864;
+
+// For how many bytes a text makes room at a time.
+const PIECE: usize = 65_536;
 
 /// A text that was taken from a reader, and whether it is plain.
 pub struct Taken {
     pub text: Vec<u8>,
     pub plain: bool,
+}
+
+// Makes room for a piece, where a text has no room left behind the bytes that are filled.
+fn make_room(text: &mut Vec<u8>, filled: usize) -> Result<(), AllocError>
+    requires within { filled ≤ byte_limit }
+    requires has { filled ≤ length text.old.items }
+    ensures kept { OnOk result (take filled text.new.items ≡ take filled text.old.items) }
+    ensures room { OnOk result (filled < length text.new.items) }
+{
+    if filled == text.len() {
+        text.resize(filled + PIECE, 0)?;
+    }
+    Ok(())
+}
+
+// Reads once into the room behind the bytes that are filled.
+fn read_behind<R: Read>(
+    reader: &mut Counted<R>,
+    text: &mut Vec<u8>,
+    filled: usize,
+) -> io::Result<usize>
+    requires { filled ≤ length text.old.items }
+    ensures kept { take filled text.new.items ≡ take filled text.old.items }
+    ensures len { length text.new.items ≡ length text.old.items }
+    ensures bound { ReadsAtMost result (drop filled text.new.items) }
+    ensures bytes { ReadConsumes (R.remaining (inner_of reader.old)) (R.remaining (inner_of reader.new)) result (drop filled text.new.items) }
+    ensures counts { failures_in reader.new ≡ counted (is_err result) (failures_in reader.old) }
+{
+    reader.read(&mut text[filled..])
 }
 
 /// All that a reader has left, where that is within the limit. Each piece is searched for quotes and carriage returns when it
@@ -26,24 +61,26 @@ pub fn take_in<R: Read>(alloc: Global, reader: &mut Counted<R>) -> Result<Taken,
     ensures counts { Counts (failures_in reader.old) (failures_in reader.new) result }
 {
     let mut text = Vec::new(alloc);
+    let mut filled = 0;
     let mut plain = true;
-    let mut piece = [0u8; 16384];
     let mut ended = false;
     while !ended {
-        match reader.read(&mut piece) {
+        make_room(&mut text, filled)?;
+        match read_behind(reader, &mut text, filled) {
             Err(_) => return Err(ReadRefusal::Device),
             Ok(n) => {
-                if n > BYTE_LIMIT - text.len() {
+                if n > BYTE_LIMIT - filled {
                     return Err(ReadRefusal::Text {
                         place: 0,
                         fault: TextFault::TooLong,
                     });
                 }
-                plain &= is_plain(&piece[..n]);
-                text.extend_from_slice(&piece[..n])?;
+                plain &= is_plain(&text[filled..filled + n]);
+                filled += n;
                 ended = n == 0;
             }
         }
     }
+    text.truncate(filled);
     Ok(Taken { text, plain })
 }
