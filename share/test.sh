@@ -235,6 +235,11 @@ expect "its version" 0 "$(cat "$top/built/snapjudge.version")
 "$top/install" --remove "$room/prefix" >/dev/null
 expect "what is left of it" 0 "" find "$room/prefix" -type f
 
+# The C library can hide what a processor has.
+if grep -q x86-64-v3 "$top/built/snapjudge.version"; then
+  expect "a processor that lacks something" 127 "" env GLIBC_TUNABLES=glibc.cpu.hwcaps=-AVX2,-AVX2_Usable "$top/snapjudge" check "$examples/stale-view.csv"
+fi
+
 # A tree of one crate, with a prover that does what the file `answer` says.
 mkdir -p tree/crates/snapjudge/src tree/crates/snapjudge/out bin
 cp "$top/snapjudge" "$top/build" tree
