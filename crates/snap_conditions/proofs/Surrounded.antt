@@ -14,16 +14,18 @@ use Rattle.snap_core.proofs.Lists.{In}
 use Rattle.snap_index.specs.Bare.{value_written}
 use Rattle.snap_index.proofs.Known.{update_found}
 use Rattle.snap_conditions.specs.declared.around.Around.{Around}
-use Rattle.snap_conditions.specs.Around.{IsAround, end_next}
+use Rattle.snap_conditions.specs.Around.{AreAround, IsAround, begin_shown, end_next}
 use Rattle.snap_conditions.specs.Faults.{components, old_fault, early_fault, proximity_faults, write_faults, missed_at, writes_entry}
 use Rattle.snap_conditions.specs.Parts.{no_part, part_of}
 use Rattle.snap_conditions.specs.PartValue.{PartValue}
 use Rattle.snap_conditions.specs.Places.{update_of, value_of, end_of, begin_of, begin_of_shown, is_written, value_or_none, begin_or_0, end_or_never, IsNoLater}
+use Rattle.snap_conditions.specs.Rows.{number_among}
 use Rattle.snap_conditions.specs.Tally.{reported_proximity, reported_write}
 use Rattle.snap_conditions.proofs.Entries.{nothing}
 use Rattle.snap_conditions.proofs.Finds.{shown_at, none_behind}
 use Rattle.snap_conditions.proofs.OneView.{proximity_alone, write_alone}
 use Rattle.snap_conditions.proofs.Places.{old_by_place, early_by_place, behind_begin}
+use Rattle.snap_conditions.proofs.Rows.{among_is_shown}
 use Rattle.snap_conditions.proofs.Tallies.{filter_none, flat_map_none}
 use Rattle.snap_conditions.proofs.Viewed.{no_update_past}
 
@@ -43,6 +45,27 @@ number_fits es kept j n ended e = elim (cases_lt n 4294967296) [
   | inl l ↦ l
   | inr l ↦ absurd (let gone : None ≡ Some ended = sym (ap end_of (no_update_past es kept j n (omega (arith, l)))) ∙ e in cc)
 ]
+
+-- where the updates stand around the view that was looked at last
+
+pub around_seen : (calls : List Call) (r : Call) (around : Around) → AreAround calls around → around.entries.now ≡ entries_of r.operation → IsAround calls r around
+around_seen calls r around a same = record {
+  numbers = numbers;
+  values = λ k l. a.values k l ∙ ap (λ n. value_or_none (value_of (update_of calls k n))) (numbers k l);
+  begins = begins;
+  ends = ends;
+  latest = λ k l. omega (arith, a.latest k l, begins k l);
+  earliest = λ k l. omega (arith, a.earliest k l, ends k l);
+}
+  where
+    numbers : (k : ℕ) → k < 256 → get_or around.numbers k 0 ≡ shown_number r k
+    numbers k l = a.numbers k l ∙ ap (λ es. number_among es k) same ∙ among_is_shown r k
+
+    begins : (k : ℕ) → k < 256 → get_or around.begins k 0 ≡ begin_shown calls r k
+    begins k l = a.begins k l ∙ ap (λ n. begin_or_0 (begin_of (update_of calls k n))) (numbers k l)
+
+    ends : (k : ℕ) → k < 256 → get_or around.ends k 0 ≡ end_next calls r k
+    ends k l = a.ends k l ∙ ap (λ n. end_or_never (end_of (update_of calls k (suc n)))) (numbers k l)
 
 -- the tests of a view alone
 

@@ -4,6 +4,7 @@ use Rattle.snap_core.specs.Calls.{Call, shown_number}
 use Rattle.snap_core.specs.Entries.{component_count}
 use Rattle.snap_conditions.specs.declared.around.Around.{Around}
 use Rattle.snap_conditions.specs.Places.{update_of, value_of, begin_of, end_of, value_or_none, begin_or_0, end_or_never}
+use Rattle.snap_conditions.specs.Rows.{AreNumbersOf}
 
 -- the value of the update that a view shows of a component, one that is no update's where there is none
 abbrev pub value_shown : List Call → Call → ℕ → ℕ
@@ -25,8 +26,11 @@ pub record IsAround (calls : List Call) (r : Call) (around : Around) : Type 0 wh
   pub latest : (k : ℕ) → k < component_count → begin_shown calls r k ≤ around.latest
   pub earliest : (k : ℕ) → k < component_count → around.earliest ≤ end_next calls r k
 
--- the same around the numbers that were looked up last
+-- the same around the view that was looked at last, by its entries
 pub record AreAround (calls : List Call) (around : Around) : Type 0 where
+  pub numbers : AreNumbersOf around.entries.now around.numbers
   pub values : (k : ℕ) → k < component_count → get_or around.values k 0 ≡ value_or_none (value_of (update_of calls k (get_or around.numbers k 0)))
   pub begins : (k : ℕ) → k < component_count → get_or around.begins k 0 ≡ begin_or_0 (begin_of (update_of calls k (get_or around.numbers k 0)))
   pub ends : (k : ℕ) → k < component_count → get_or around.ends k 0 ≡ end_or_never (end_of (update_of calls k (suc (get_or around.numbers k 0))))
+  pub latest : (k : ℕ) → k < component_count → get_or around.begins k 0 ≤ around.latest
+  pub earliest : (k : ℕ) → k < component_count → around.earliest ≤ get_or around.ends k 0

@@ -9,7 +9,7 @@ ghost use Rattle.snap_conditions.specs.Seen.{IsSeen};
 
 use crate::row::numbers_of;
 use crate::seen::{SeenView, begin_of_update, end_of_next, value_of_update};
-use snap_core::COMPONENT_COUNT;
+use snap_core::{COMPONENT_COUNT, Entry, are_same};
 use snap_index::Index;
 
 // A place behind all events.
@@ -20,7 +20,9 @@ const NO_VALUE: u64 = u32::MAX as u64 + 1;
 
 // Where the updates stand between which a view is by what it shows, component by component.
 #[derive(Drop)]
-pub(crate) struct Around {
+pub(crate) struct Around<'i> {
+    // the entries of the view that was looked at last, none before the first
+    pub(crate) entries: &'i [Entry],
     pub(crate) numbers: [u32; COMPONENT_COUNT],
     // the value of the update of that number, `NO_VALUE` where there is none
     pub(crate) values: [u64; COMPONENT_COUNT],
@@ -66,10 +68,10 @@ fn earliest_of(places: &[u32]) -> u32
     earliest
 }
 
-impl Around {
+impl<'i> Around<'i> {
     // Around a view that shows nothing, where no component from a limit on has an update. One serves for many views, which
     // mostly show what the view before them showed.
-    pub(crate) fn new(index: &Index<'_>, limit: usize) -> Around
+    pub(crate) fn new(index: &Index<'_>, limit: usize) -> Around<'i>
         requires kept { IsKept index.now }
         requires limit { IsLimit (calls_of index.now) limit }
         ensures { AreAround (calls_of index.now) result }
@@ -78,19 +80,21 @@ impl Around {
         for k in 0..limit {
             ends[k] = end_of_next(index, k as u8, 0).unwrap_or(NEVER);
         }
+        let earliest = earliest_of(&ends);
         Around {
+            entries: &[],
             numbers: [0; COMPONENT_COUNT],
             values: [NO_VALUE; COMPONENT_COUNT],
             begins: [0; COMPONENT_COUNT],
             ends,
             latest: 0,
-            earliest: NEVER,
+            earliest,
         }
     }
 
     // Looks up the updates around a view where it shows another number than the view before, where no component from a limit on
     // has an update.
-    pub(crate) fn look(&mut self, index: &Index<'_>, view: &SeenView<'_>, limit: usize)
+    pub(crate) fn look(&mut self, index: &Index<'_>, view: &SeenView<'i>, limit: usize)
         requires before { AreAround (calls_of index.now) self.old }
         requires kept { IsKept index.now }
         requires limit { IsLimit (calls_of index.now) limit }
@@ -98,6 +102,9 @@ impl Around {
         ensures numbers { AreAround (calls_of index.now) self.new }
         ensures around { (r : SpecCall) → IsSeen r view.now → IsAround (calls_of index.now) r self.new }
     {
+        if are_same(self.entries, view.entries) {
+            return;
+        }
         let numbers = numbers_of(view.entries);
         for k in 0..limit {
             if numbers[k] != self.numbers[k] {
@@ -106,6 +113,7 @@ impl Around {
                 self.ends[k] = end_of_next(index, k as u8, numbers[k]).unwrap_or(NEVER);
             }
         }
+        self.entries = view.entries;
         self.numbers = numbers;
         self.latest = latest_of(&self.begins[..limit]);
         self.earliest = earliest_of(&self.ends[..limit]);

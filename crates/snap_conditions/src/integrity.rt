@@ -19,7 +19,7 @@ use snap_core::Entry;
 use snap_index::Index;
 
 // Whether an entry of a view is the number and the value of an update of its component.
-fn is_written(around: &Around, entry: Entry) -> bool
+fn is_written(around: &Around<'_>, entry: Entry) -> bool
     ensures { (es : List Event) (r : SpecCall) → IsKept es → IsAround (calls_of es) r around.now → shown r entry.component ≡ Some entry → EntryFits entry
         → result ≡ spec_is_written (update_of (calls_of es) entry.component entry.number) entry }
 {
@@ -31,7 +31,7 @@ pub(crate) fn integrity_part(
     index: &Index<'_>,
     place: u32,
     view: &SeenView<'_>,
-    around: &Around,
+    around: &Around<'_>,
 ) -> Part<IntegrityFault>
     requires place { place < length (views_of (calls_of index.now)) }
     requires kept { IsKept index.now }

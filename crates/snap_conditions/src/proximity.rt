@@ -16,7 +16,7 @@ use crate::seen::{SeenView, is_before};
 use snap_index::Index;
 
 // The proximity fault of a view at component k.
-fn proximity_fault(view: &SeenView<'_>, around: &Around, k: u8) -> Option<ProximityFault>
+fn proximity_fault(view: &SeenView<'_>, around: &Around<'_>, k: u8) -> Option<ProximityFault>
     ensures { (es : List Event) (r : SpecCall) → IsKept es → IsSeen r view.now → IsAround (calls_of es) r around.now → result
         ≡ found_at (λ k. reported_proximity (calls_of es) (r, k)) (λ k. old_fault (calls_of es) r k || early_fault (calls_of es) r k) k }
 {
@@ -41,7 +41,7 @@ pub(crate) fn proximity_part(
     index: &Index<'_>,
     place: u32,
     view: &SeenView<'_>,
-    around: &Around,
+    around: &Around<'_>,
     limit: usize,
 ) -> Part<ProximityFault>
     requires limit { IsLimit (calls_of index.now) limit }

@@ -25,7 +25,12 @@ fn component_limit(index: &Index<'_>) -> usize
 }
 
 // The faults of the view at a place but for its read faults and stale views, where no component from a limit on has an update.
-fn view_without_read(index: &Index<'_>, place: u32, limit: usize, around: &mut Around) -> Tally
+fn view_without_read<'i>(
+    index: &'i Index<'_>,
+    place: u32,
+    limit: usize,
+    around: &mut Around<'i>,
+) -> Tally
     requires before { AreAround (calls_of index.now) around.old }
     requires limit { IsLimit (calls_of index.now) limit }
     requires place { place < length (views_of (calls_of index.now)) }
@@ -45,7 +50,7 @@ fn view_without_read(index: &Index<'_>, place: u32, limit: usize, around: &mut A
 }
 
 // The faults of the view at a place, where no component from a limit on has an update.
-fn view_tally(index: &Index<'_>, place: u32, limit: usize, around: &mut Around) -> Tally
+fn view_tally<'i>(index: &'i Index<'_>, place: u32, limit: usize, around: &mut Around<'i>) -> Tally
     requires before { AreAround (calls_of index.now) around.old }
     requires limit { IsLimit (calls_of index.now) limit }
     requires place { place < length (views_of (calls_of index.now)) }

@@ -27,12 +27,13 @@ pub fn faultless_chain(
 {
     // what is known of the history that the index is of
     let _events = index.event_count();
-    let Some(places) = chain(alloc, index, &sums)? else {
-        return Ok(None);
-    };
+    // the cheaper test stands first
     if !ordered(alloc, index, &sums)? {
         return Ok(None);
     }
+    let Some(places) = chain(alloc, index, &sums)? else {
+        return Ok(None);
+    };
     Ok(Some(ViewChain { places, sums }))
 }
 

@@ -20,7 +20,7 @@ use snap_core::{COMPONENT_COUNT, Entry};
 use snap_index::Index;
 
 // Where the updates that entries show begin, entry by entry: at place 0, where there is none, nothing begins behind an end.
-fn begins_of(around: &Around, entries: &[Entry]) -> [u32; COMPONENT_COUNT]
+fn begins_of(around: &Around<'_>, entries: &[Entry]) -> [u32; COMPONENT_COUNT]
     requires { length entries.now ≤ component_count }
     ensures size { length result ≡ component_count }
     ensures each { (i : ℕ) (e : Entry) → i < length entries.now → get_or result i 0 ≡ get_or around.now.begins (get_or entries.now i e).component 0 }
@@ -98,7 +98,7 @@ pub(crate) fn write_part(
     index: &Index<'_>,
     place: u32,
     view: &SeenView<'_>,
-    around: &Around,
+    around: &Around<'_>,
     limit: usize,
 ) -> Part<WriteFault>
     requires limit { IsLimit (calls_of index.now) limit }

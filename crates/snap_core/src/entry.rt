@@ -1,3 +1,4 @@
+ghost use Rattle.std.specs.Prelude.{◌≡◌, ◌↔◌, IsTrue};
 ghost use Rattle.snap_core.specs.Entries.{EntryFits};
 
 /// How many components there are: each is a byte.
@@ -15,3 +16,10 @@ pub struct Entry {
 pub(crate) fn fields_fit(component: u8, number: u32, value: u32)
     ensures { EntryFits (record { component = component; number = number; value = value }) }
 {}
+
+/// Whether two lists of entries are the same, entry by entry.
+pub fn are_same(a: &[Entry], b: &[Entry]) -> bool
+    ensures { IsTrue result ↔ (a.now ≡ b.now) }
+{
+    a == b
+}

@@ -11,7 +11,7 @@ mod tables;
 mod view;
 
 pub use counted::Counted;
-pub use entry::{COMPONENT_COUNT, Entry};
+pub use entry::{COMPONENT_COUNT, Entry, are_same};
 pub use event::Event;
 pub use gate::{Gate, OpenGate};
 pub use history::{EVENT_LIMIT, EventRefusal, History};

@@ -1,11 +1,10 @@
 //! Words of lines.
 ghost use Rattle.std.specs.Prelude.{◌≡◌, ◌+◌, ◌*◌, ◌≤◌, ◌++◌, IfOk, OnOk, codes, decimal, drop, length};
-ghost use Rattle.std.specs.Bool.{OnTrue};
 ghost use Rattle.std.specs.List.{flat_map};
 ghost use Rattle.snap_report.specs.Lines.{call_word, entry_word, process_word, update_word};
 
 use itoa::write_digits;
-use snap_core::Entry;
+use snap_core::{Entry, are_same};
 use snap_csv::{ENTRY_SIZE, write_entry, write_number, write_text};
 use std::alloc::{AllocError, Global};
 
@@ -101,13 +100,6 @@ impl Group {
     }
 }
 
-// Whether two lists of entries are the same.
-fn is_same(a: &[Entry], b: &[Entry]) -> bool
-    ensures { OnTrue result (a.now ≡ b.now) }
-{
-    a == b
-}
-
 // Adds the entries of a group, each behind a space. Where the group that is known has them, its text is copied.
 fn put_group(
     out: &mut Vec<u8>,
@@ -119,7 +111,7 @@ fn put_group(
     ensures { OnOk result (out.new.items ≡ out.old.items ++ flat_map (λ entry. codes " " ++ entry_word entry) entries.now) }
 {
     if let Some(Some(group)) = known.get(place) {
-        if is_same(&group.entries, entries) {
+        if are_same(&group.entries, entries) {
             return out.extend_from_slice(&group.text);
         }
     }

@@ -1,56 +1,49 @@
 use Rattle.std.proofs.Common.{◌≡◌, ◌≤◌, ℕ, suc, ◌<◌, get_or, None, sym, ap, ◌∙◌, inl, inr, arith}
 use Rattle.std.proofs.lemmas.Bool.{cases_lt}
 use Rattle.std.proofs.lemmas.List.{get_or-take}
-use Rattle.snap_core.specs.Calls.{calls_of, shown_number}
-use Rattle.snap_conditions.specs.Around.{begin_shown, end_next, value_shown}
+use Rattle.snap_core.specs.Calls.{calls_of}
 use Rattle.snap_conditions.specs.Places.{update_of, value_of, begin_of, end_of, value_or_none, begin_or_0, end_or_never}
-use Rattle.snap_conditions.specs.Rows.{number_among}
-use Rattle.snap_conditions.proofs.Rows.{among_is_shown}
+use Rattle.snap_conditions.proofs.Surrounded.{around_seen}
 use Rattle.snap_conditions.proofs.Viewed.{none_of_none}
 use Rattle.snap_conditions.proofs.around.Around.look.Goals as goal
 
 -- no update of a component from the limit on
-none_from : (c : goal.After-self-3-1) → (k : ℕ) → c.args.limit ≤ k → k < 256 → (n : ℕ) → update_of (calls_of c.args.index.now) k n ≡ None
+none_from : (c : goal.After-self-5-1) → (k : ℕ) → c.args.limit ≤ k → k < 256 → (n : ℕ) → update_of (calls_of c.args.index.now) k n ≡ None
 none_from c k b l n = none_of_none c.args.index.now c.requires.kept k n (c.requires.limit.none k b l)
 
 pub returns-clause-numbers : goal.returns-clause-numbers
 returns-clause-numbers c =
+    let calls = calls_of c.args.index.now in
     let old = c.loop-k.self.numbers in
+    let new = c.numbers_of-numbers.result in
+    let begins : (k : ℕ) → k < 256 → get_or c.loop-k.self.begins k 0 ≡ begin_or_0 (begin_of (update_of calls k (get_or new k 0))) = λ k l. elim (cases_lt k c.args.limit) [
+      | inl b ↦ c.loop-k.invariant.begins k (omega (arith, b, c.loop-k-test.false))
+      | inr b ↦ c.loop-k.invariant.begins_before k (omega (arith, b)) l ∙ ap (λ o. begin_or_0 (begin_of o)) (none_from c k b l (get_or old k 0) ∙ sym (none_from c k b l (get_or new k 0)))
+    ] in
+    let ends : (k : ℕ) → k < 256 → get_or c.loop-k.self.ends k 0 ≡ end_or_never (end_of (update_of calls k (suc (get_or new k 0)))) = λ k l. elim (cases_lt k c.args.limit) [
+      | inl b ↦ c.loop-k.invariant.ends k (omega (arith, b, c.loop-k-test.false))
+      | inr b ↦ c.loop-k.invariant.ends_before k (omega (arith, b)) l ∙ ap (λ o. end_or_never (end_of o)) (none_from c k b l (suc (get_or old k 0)) ∙ sym (none_from c k b l (suc (get_or new k 0))))
+    ] in
     record {
+      numbers = c.numbers_of-numbers.ensures;
       values = λ k l. elim (cases_lt k c.args.limit) [
         | inl b ↦ c.loop-k.invariant.values k (omega (arith, b, c.loop-k-test.false))
-        | inr b ↦ c.loop-k.invariant.values_before k (omega (arith, b)) l ∙ ap (λ o. value_or_none (value_of o)) (none_from c k b l (get_or old k 0) ∙ sym (none_from c k b l (get_or c.numbers_of-numbers.result k 0)))
+        | inr b ↦ c.loop-k.invariant.values_before k (omega (arith, b)) l ∙ ap (λ o. value_or_none (value_of o)) (none_from c k b l (get_or old k 0) ∙ sym (none_from c k b l (get_or new k 0)))
       ];
-      begins = λ k l. elim (cases_lt k c.args.limit) [
-        | inl b ↦ c.loop-k.invariant.begins k (omega (arith, b, c.loop-k-test.false))
-        | inr b ↦ c.loop-k.invariant.begins_before k (omega (arith, b)) l ∙ ap (λ o. begin_or_0 (begin_of o)) (none_from c k b l (get_or old k 0) ∙ sym (none_from c k b l (get_or c.numbers_of-numbers.result k 0)))
-      ];
-      ends = λ k l. elim (cases_lt k c.args.limit) [
-        | inl b ↦ c.loop-k.invariant.ends k (omega (arith, b, c.loop-k-test.false))
-        | inr b ↦ c.loop-k.invariant.ends_before k (omega (arith, b)) l ∙ ap (λ o. end_or_never (end_of o)) (none_from c k b l (suc (get_or old k 0)) ∙ sym (none_from c k b l (suc (get_or c.numbers_of-numbers.result k 0))))
-      ];
-    }
-
-pub returns-clause-around : goal.returns-clause-around
-returns-clause-around c = λ r seen.
-    let es = c.args.index.now in
-    let calls = calls_of es in
-    let around = returns-clause-numbers c in
-    let numbers : (k : ℕ) → k < 256 → get_or c.numbers_of-numbers.result k 0 ≡ shown_number r k = λ k l. c.numbers_of-numbers.ensures k l ∙ ap (λ z. number_among z k) seen.entries ∙ among_is_shown r k in
-    let values : (k : ℕ) → k < 256 → get_or c.loop-k.self.values k 0 ≡ value_shown calls r k = λ k l. around.values k l ∙ ap (λ n. value_or_none (value_of (update_of calls k n))) (numbers k l) in
-    let begins : (k : ℕ) → k < 256 → get_or c.loop-k.self.begins k 0 ≡ begin_shown calls r k = λ k l. around.begins k l ∙ ap (λ n. begin_or_0 (begin_of (update_of calls k n))) (numbers k l) in
-    let ends : (k : ℕ) → k < 256 → get_or c.loop-k.self.ends k 0 ≡ end_next calls r k = λ k l. around.ends k l ∙ ap (λ n. end_or_never (end_of (update_of calls k (suc n)))) (numbers k l) in
-    record {
-      numbers = numbers;
-      values = values;
       begins = begins;
       ends = ends;
       latest = λ k l. elim (cases_lt k c.args.limit) [
-        | inl b ↦ omega (arith, c.latest_of-self.ensures k (omega (arith, b)), get_or-take {A = ℕ} c.args.limit c.loop-k.self.begins k 0 b, begins k l)
-        | inr b ↦ omega (arith, ap (λ o. begin_or_0 (begin_of o)) (none_from c k b l (shown_number r k)))
+        | inl b ↦ omega (arith, c.latest_of-self.ensures k (omega (arith, b)), get_or-take {A = ℕ} c.args.limit c.loop-k.self.begins k 0 b)
+        | inr b ↦ omega (arith, begins k l, ap (λ o. begin_or_0 (begin_of o)) (none_from c k b l (get_or new k 0)))
       ];
       earliest = λ k l. elim (cases_lt k c.args.limit) [
-        | inl b ↦ omega (arith, c.earliest_of-self.ensures.places k (omega (arith, b)), get_or-take {A = ℕ} c.args.limit c.loop-k.self.ends k 0 b, ends k l)
-        | inr b ↦ omega (arith, c.earliest_of-self.ensures.never, ap (λ o. end_or_never (end_of o)) (none_from c k b l (suc (shown_number r k))))
+        | inl b ↦ omega (arith, c.earliest_of-self.ensures.places k (omega (arith, b)), get_or-take {A = ℕ} c.args.limit c.loop-k.self.ends k 0 b)
+        | inr b ↦ omega (arith, c.earliest_of-self.ensures.never, ends k l, ap (λ o. end_or_never (end_of o)) (none_from c k b l (suc (get_or new k 0))))
       ];
     }
+
+pub returns-then-are_same-clause-around : goal.returns-then-are_same-clause-around
+returns-then-are_same-clause-around c = λ r seen. around_seen (calls_of c.args.index.now) r c.args.self.now c.requires.before (c.are_same.ensures.0 c.if-are_same.true ∙ seen.entries)
+
+pub returns-clause-around : goal.returns-clause-around
+returns-clause-around c = λ r seen. around_seen (calls_of c.args.index.now) r _ (returns-clause-numbers c) seen.entries

@@ -1,9 +1,8 @@
 use Rattle.std.proofs.Common.{◌≡◌, ◌&&◌, ◌==◌, ℕ, true, false, Bool, refl, subst, eq-eqb, eqb-true}
 use Rattle.std.specs.Bool.{Decides}
-use Rattle.std.proofs.lemmas.Bool.{OnTrue_from}
 use Rattle.std.proofs.lemmas.Slice.Eq.{slice_eq-Decides}
 use Rattle.snap_core.specs.declared.entry.Entry.{Entry}
-use Rattle.snap_report.proofs.words.is_same.Goals as goal
+use Rattle.snap_core.proofs.entry.are_same.Goals as goal
 
 both : (a b : Bool) → (a && b) ≡ true → (a ≡ true) × (b ≡ true)
 both true b e = (refl, e)
@@ -26,6 +25,4 @@ same_entry a b = (forth, back)
         (rw (eq-eqb a.component a.component refl, eq-eqb a.number a.number refl, eq-eqb a.value a.value refl) refl)
 
 pub returns : goal.returns
-returns c =
-    let d = slice_eq-Decides {A = Entry} same_entry c.args.a.now c.args.b.now c.eq.result c.eq.ensures in
-    OnTrue_from c.eq.result (c.args.a.now ≡ c.args.b.now) d.0
+returns c = slice_eq-Decides {A = Entry} same_entry c.args.a.now c.args.b.now c.eq.result c.eq.ensures
