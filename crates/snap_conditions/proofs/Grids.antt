@@ -1,8 +1,8 @@
 -- The numbers of views in a grid.
-use Rattle.std.proofs.Common.{◌≡◌, ℕ, suc, ◌+◌, ◌<◌, ◌≤◌, Bool, true, false, ◌&&◌, ◌||◌, List, [], ◌∷◌, ◌++◌, length, get_or, refl, sym, ap, ◌∙◌, subst, inl, inr, arith}
+use Rattle.std.proofs.Common.{◌≡◌, ℕ, suc, ◌+◌, ◌-◌, ◌<◌, ◌≤◌, Bool, true, false, ◌&&◌, ◌||◌, List, [], ◌∷◌, ◌++◌, length, get_or, refl, sym, ap, ◌∙◌, subst, inl, inr, arith}
 use Rattle.std.specs.Prelude.{nat_lt}
 use Rattle.std.proofs.lemmas.Bool.{cases_lt, cases_eq, false≢true, lt-ltb, ltb-true}
-use Rattle.std.proofs.lemmas.List.{length-append, get_or_append_left}
+use Rattle.std.proofs.lemmas.List.{length-append, get_or_append_left, get_or-append_right}
 use Rattle.std.proofs.Math.Seq.{get_or-append_seam}
 use Rattle.snap_core.specs.declared.entry.Entry.{Entry}
 use Rattle.snap_core.specs.declared.event.Event.{Event}
@@ -45,33 +45,56 @@ placed es kept n begins ends size h = record {
 
 -- columns of the components that are shown
 
-pub columns_skip : (calls : List Call) (k : ℕ) (columns : List (List ℕ)) → ((place : ℕ) → place < length (views_of calls) → shown_number (view_in calls place) k ≡ 0) → AreColumnsOf calls k columns → AreColumnsOf calls (k + 1) columns
-columns_skip calls k columns h c = record {
-  each = c.each;
-  all = λ place j b l t. elim (cases_eq j k) [
+pub columns_skip : (calls : List Call) (from k : ℕ) (columns : List (List ℕ)) → ((place : ℕ) → place < length (views_of calls) → shown_number (view_in calls place) k ≡ 0) → AreColumnsOf calls from k columns → AreColumnsOf calls from (k + 1) columns
+columns_skip calls from k columns h c = record {
+  each = λ j l. let old = c.each j l in (old.0, old.1, omega (arith, old.2), old.3);
+  all = λ place j b a l t. elim (cases_eq j k) [
     | inl same ↦ absurd (let none = h place b in let here = ap (shown_number (view_in calls place)) same in omega (arith, none, here, t))
-    | inr other ↦ c.all place j b (omega (arith, l, other)) t
+    | inr other ↦ c.all place j b a (omega (arith, l, other)) t
   ];
 }
 
-pub columns_add : (calls : List Call) (k : ℕ) (columns : List (List ℕ)) (column : List ℕ) → IsColumnOf calls k column → AreColumnsOf calls k columns → AreColumnsOf calls (k + 1) (columns ++ column ∷ [])
-columns_add calls k columns column new c = record {
+pub columns_add : (calls : List Call) (from k : ℕ) (columns : List (List ℕ)) (column : List ℕ) → from ≤ k → IsColumnOf calls k column → AreColumnsOf calls from k columns → AreColumnsOf calls from (k + 1) (columns ++ column ∷ [])
+columns_add calls from k columns column low new c = record {
   each = λ j l. elim (cases_lt j (length columns)) [
-    | inl b ↦ let old = c.each j b in (old.0, subst (IsColumnOf calls old.0) (sym (get_or_append_left columns (column ∷ []) [] j b)) old.1)
+    | inl b ↦ let old = c.each j b in (old.0, old.1, omega (arith, old.2), subst (IsColumnOf calls old.0) (sym (get_or_append_left columns (column ∷ []) [] j b)) old.3)
     | inr b ↦
         let here : j ≡ length columns = omega (arith, b, l, length-append columns (column ∷ [])) in
-        (k, subst (IsColumnOf calls k) (sym (last j here)) new)
+        (k, low, omega arith, subst (IsColumnOf calls k) (sym (last j here)) new)
   ];
-  all = λ place j b l t. elim (cases_eq j k) [
+  all = λ place j b a l t. elim (cases_eq j k) [
     | inl same ↦ (length columns, omega (arith, length-append columns (column ∷ [])), subst (λ z. IsColumnOf calls z (get_or (columns ++ column ∷ []) (length columns) [])) (sym same) (subst (IsColumnOf calls k) (sym (last (length columns) refl)) new))
     | inr other ↦
-        let old = c.all place j b (omega (arith, l, other)) t in
+        let old = c.all place j b a (omega (arith, l, other)) t in
         (old.0, omega (arith, old.1, length-append columns (column ∷ [])), subst (IsColumnOf calls j) (sym (get_or_append_left columns (column ∷ []) [] old.0 old.1)) old.2)
   ];
 }
   where
     last : (j : ℕ) → j ≡ length columns → get_or (columns ++ column ∷ []) j [] ≡ column
     last j e = ap (λ z. get_or (columns ++ column ∷ []) z []) e ∙ get_or-append_seam columns column [] []
+
+-- the columns of the components before one and from there on
+pub columns_join : (calls : List Call) (from edge to : ℕ) (low high : List (List ℕ)) → from ≤ edge → edge ≤ to → AreColumnsOf calls from edge low → AreColumnsOf calls edge to high → AreColumnsOf calls from to (low ++ high)
+columns_join calls from edge to low high l0 l1 a b = record {
+  each = λ j l. elim (cases_lt j (length low)) [
+    | inl near ↦ let x = a.each j near in (x.0, x.1, omega (arith, x.2, l1), subst (IsColumnOf calls x.0) (sym (get_or_append_left low high [] j near)) x.3)
+    | inr far ↦
+        let x = b.each (j - length low) (omega (arith, l, far, length-append low high)) in
+        (x.0, omega (arith, x.1, l0), x.2, subst (IsColumnOf calls x.0) (sym (get_or-append_right low high (length low) j [] refl (omega (arith, far)))) x.3)
+  ];
+  all = λ place k p f t s. elim (cases_lt k edge) [
+    | inl below ↦
+        let x = a.all place k p f below s in
+        (x.0, omega (arith, x.1, length-append low high), subst (IsColumnOf calls k) (sym (get_or_append_left low high [] x.0 x.1)) x.2)
+    | inr above ↦
+        let x = b.all place k p (omega (arith, above)) t s in
+        let past : (length low + x.0) - length low ≡ x.0 = omega arith in (
+          length low + x.0,
+          omega (arith, x.1, length-append low high),
+          subst (IsColumnOf calls k) (sym (get_or-append_right low high (length low) (length low + x.0) [] refl (omega arith) ∙ ap (λ z. get_or high z []) past)) x.2,
+        )
+  ];
+}
 
 bool_same : (p q : Bool) → (p ≡ true → q ≡ true) → (q ≡ true → p ≡ true) → p ≡ q
 bool_same true q h g = sym (h refl)
@@ -86,10 +109,10 @@ any_index p (x ∷ xs) h = at (p x) refl (any_index p xs)
     at true t rest = (0, omega arith, t)
     at false t rest = let r = rest (sym (ap (λ b. b || list_any p xs) t) ∙ h) in (suc r.0, omega (arith, r.1), r.2)
 
-pub show_all : (es : List Event) → IsKept es → (edge : ℕ) (columns : List (List ℕ)) → 256 ≤ edge → AreColumnsOf (calls_of es) edge columns → ShowAll (calls_of es) columns
+pub show_all : (es : List Event) → IsKept es → (columns : List (List ℕ)) → AreColumnsOf (calls_of es) 0 256 columns → ShowAll (calls_of es) columns
 unfolding any_passes
-show_all es kept edge columns l c = record {
-  count = λ j m. (c.each j m).1.count;
+show_all es kept columns c = record {
+  count = λ j m. (c.each j m).3.count;
   exceed = λ a b m n. bool_same (exceeds (view_in calls a) (view_in calls b)) (any_passes true columns a b) (to a b m n) (from a b m n);
 }
   where
@@ -102,14 +125,14 @@ show_all es kept edge columns l c = record {
         let x = exceeds_to r (view_in calls b) h in
         let fits = fit_views es kept.fit r (from_views calls r (view_there es a m)).there in
         let byte = small r x.component fits (omega (arith, x.more)) in
-        let j = c.all a x.component m (omega (arith, byte, l)) (omega (arith, x.more)) in
+        let j = c.all a x.component m (omega arith) byte (omega (arith, x.more)) in
         any_at true columns j.0 a b j.1 (lt-ltb _ _ (omega (arith, x.more, j.2.each a m, j.2.each b n)))
 
     from : (a b : ℕ) → a < length (views_of (calls_of es)) → b < length (views_of (calls_of es)) → any_passes true columns a b ≡ true → exceeds (view_in (calls_of es) a) (view_in (calls_of es) b) ≡ true
     from a b m n h =
         let j = any_index (λ column. passes true (number column a) (number column b)) columns h in
         let k = c.each j.0 j.1 in
-        exceeds_from (view_in calls a) (view_in calls b) k.0 (omega (arith, ltb-true _ _ j.2, k.1.each a m, k.1.each b n))
+        exceeds_from (view_in calls a) (view_in calls b) k.0 (omega (arith, ltb-true _ _ j.2, k.3.each a m, k.3.each b n))
 
 -- the grid of columns and places
 

@@ -31,5 +31,6 @@ pub mod Ordering
 mod Worked
 mod Surrounded
 pub mod Rising
+mod Between
 pub mod NumberTables
 pub mod Faultless

@@ -1,5 +1,5 @@
 -- What views show, in a grid of numbers.
-use Rattle.std.specs.Prelude.{ℕ, ◌<◌, ◌≡◌, true, List, [], length, get_or, nat_lt, filter}
+use Rattle.std.specs.Prelude.{ℕ, ◌<◌, ◌≤◌, ◌≡◌, true, List, [], length, get_or, nat_lt, filter}
 use Rattle.snap_core.specs.declared.event.Event.{Event}
 use Rattle.snap_core.specs.Calls.{Call, calls_of, views_of, shown_number, precedes}
 use Rattle.snap_core.specs.Events.{IsKept}
@@ -13,10 +13,10 @@ pub record IsColumnOf (calls : List Call) (k : ℕ) (column : List ℕ) : Type 0
   pub count : length column ≡ length (views_of calls)
   pub each : (place : ℕ) → place < length (views_of calls) → number column place ≡ shown_number (view_in calls place) k
 
--- a column for each component below an edge of which some view shows a number, and no other
-pub record AreColumnsOf (calls : List Call) (edge : ℕ) (columns : List (List ℕ)) : Type 0 where
-  pub each : (j : ℕ) → j < length columns → (k : ℕ) × IsColumnOf calls k (get_or columns j [])
-  pub all : (place k : ℕ) → place < length (views_of calls) → k < edge → 0 < shown_number (view_in calls place) k → (j : ℕ) × (j < length columns) × IsColumnOf calls k (get_or columns j [])
+-- a column for each component from one to before another of which some view shows a number, and none of any other component
+pub record AreColumnsOf (calls : List Call) (from to : ℕ) (columns : List (List ℕ)) : Type 0 where
+  pub each : (j : ℕ) → j < length columns → (k : ℕ) × (from ≤ k) × (k < to) × IsColumnOf calls k (get_or columns j [])
+  pub all : (place k : ℕ) → place < length (views_of calls) → from ≤ k → k < to → 0 < shown_number (view_in calls place) k → (j : ℕ) × (j < length columns) × IsColumnOf calls k (get_or columns j [])
 
 -- the columns show of any two views whether one shows more of some component than the other
 pub record ShowAll (calls : List Call) (columns : List (List ℕ)) : Type 0 where

@@ -24,10 +24,10 @@ pub record IsPut (count place : ℕ) (entries : List Entry) (old new : List (Lis
   pub here : (k : ℕ) → k < component_count → number (get_or old k []) place ≡ 0 → number (get_or new k []) place ≡ number_among entries k
   pub others : (k p : ℕ) → k < component_count → p ≢ place → number (get_or new k []) p ≡ number (get_or old k []) p
 
--- the numbers of the first n views, 0 for the others
-pub record AreFilled (calls : List Call) (n : ℕ) (table : List (List ℕ)) : Type 0 where
+-- the numbers of the first n views of the components from one to before another, 0 for the other views
+pub record AreFilled (calls : List Call) (from to n : ℕ) (table : List (List ℕ)) : Type 0 where
   pub rows : HasRows (length (views_of calls)) table
-  pub seen : (place k : ℕ) → place < n → k < component_count → number (get_or table k []) place ≡ shown_number (view_in calls place) k
+  pub seen : (place k : ℕ) → place < n → from ≤ k → k < to → k < component_count → number (get_or table k []) place ≡ shown_number (view_in calls place) k
   pub later : (place k : ℕ) → n ≤ place → k < component_count → number (get_or table k []) place ≡ 0
 
 -- a component's numbers, or none where no view shows one

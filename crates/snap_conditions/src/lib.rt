@@ -2,6 +2,7 @@
 #![tactic(auto)]
 
 mod around;
+mod columns;
 mod fault;
 mod integrity;
 mod law;
@@ -21,6 +22,7 @@ mod view_grid;
 mod whole;
 mod write;
 
+pub use columns::columns_between;
 pub use fault::{IntegrityFault, ProximityFault, ReadFault, Side, WriteFault};
 pub use law::{
     conditions_by_faults, conditions_by_tally, faults_join, faults_rise, monotone_by_tally,

@@ -1,6 +1,6 @@
-ghost use Rattle.std.specs.Prelude.{◌≡◌, ◌<◌, [], length, get_or, replicate, slice_set, IfOk, OnOk};
+ghost use Rattle.std.specs.Prelude.{◌≡◌, ◌<◌, true, [], length, get_or, replicate, slice_set, All, IfOk, OnOk};
 ghost use Rattle.snap_conditions.specs.NumberTables.{opened, HasRows, IsPut};
-ghost use Rattle.snap_core.specs.Entries.{AreEntries, component_count};
+ghost use Rattle.snap_core.specs.Entries.{EntryFits, component_count, rises};
 
 use snap_core::{COMPONENT_COUNT, Entry};
 use std::alloc::{AllocError, Global};
@@ -74,7 +74,8 @@ impl NumberTable {
     ) -> Result<(), AllocError>
         requires rows { HasRows count self.old }
         requires place { place < count }
-        requires entries { AreEntries entries.now }
+        requires rising { rises entries.now ≡ true }
+        requires fit { All EntryFits entries.now }
         ensures { OnOk result (IsPut count place entries.now self.old self.new) }
     {
         for entry in entries {

@@ -1,20 +1,20 @@
 ghost use Rattle.std.specs.Prelude.{◌≡◌, ◌≤◌, length, IfOk};
 ghost use Rattle.snap_core.specs.Calls.{calls_of, views_of};
 ghost use Rattle.snap_core.specs.Events.{IsKept};
-ghost use Rattle.snap_conditions.specs.Grids.{ShowAll, ArePlacesOf};
-ghost use Rattle.snap_conditions.specs.NumberTables.{AreFilled};
+ghost use Rattle.snap_core.specs.Entries.{component_count};
+ghost use Rattle.snap_conditions.specs.Grids.{AreColumnsOf, ArePlacesOf};
 ghost use Rattle.snap_conditions.specs.Faults.{read_faults, stale_count};
 ghost use Rattle.snap_conditions.specs.Parts.{part_of};
 ghost use Rattle.snap_conditions.specs.Tally.{reported_read, tally_of, views_between};
 
+use crate::columns::columns_between;
 use crate::fault::ReadFault;
-use crate::number_table::NumberTable;
 use crate::part::Part;
 use crate::range::tally_without_read;
 use crate::read::first_read_fault;
 use crate::seen::view_at;
 use crate::tally::Tally;
-use snap_core::{COMPONENT_COUNT, EVENT_LIMIT};
+use snap_core::COMPONENT_COUNT;
 use snap_grid::{Column, Grid};
 use snap_index::Index;
 use std::alloc::{AllocError, Global};
@@ -39,40 +39,6 @@ impl<'i, 'h> Model for ViewGrid<'i, 'h> {
     ghost invariant = { λ c. IsGridOf c.index.now c.grid };
 }
 
-// The numbers of all completed views.
-fn numbers_of_views(alloc: Global, index: &Index<'_>) -> Result<NumberTable, AllocError>
-    requires { IsKept index.now }
-    ensures { IfOk result (λ table. AreFilled (calls_of index.now) (length (views_of (calls_of index.now))) table) }
-{
-    let mut table = NumberTable::new(alloc)?;
-    let count = index.view_count() as usize;
-    for place in 0..index.view_count() {
-        table.put_view(alloc, count, place as usize, view_at(index, place).entries)?;
-    }
-    Ok(table)
-}
-
-// A column for each component that some completed view lists.
-fn columns_of(alloc: Global, index: &Index<'_>) -> Result<Vec<Column>, AllocError>
-    requires { IsKept index.now }
-    ensures { IfOk result (λ columns. ShowAll (calls_of index.now) columns.items) }
-{
-    let mut table = numbers_of_views(alloc, index)?;
-    let mut columns = Vec::new(alloc);
-    for k in 0..COMPONENT_COUNT {
-        let numbers = table.take(alloc, k as u8);
-        if !numbers.is_empty() {
-            // a view may show the update after the last, and be faulty
-            let limit = index
-                .update_count(k as u8)
-                .saturating_add(1)
-                .min(EVENT_LIMIT as u32);
-            columns.push(Column::new(alloc, numbers, limit)?)?;
-        }
-    }
-    Ok(columns)
-}
-
 // Where each completed view begins and where it ends.
 fn places_of(alloc: Global, index: &Index<'_>) -> Result<(Vec<u32>, Vec<u32>), AllocError>
     requires { IsKept index.now }
@@ -94,9 +60,22 @@ impl<'i, 'h> ViewGrid<'i, 'h> {
     pub fn build(alloc: Global, index: &'i Index<'h>) -> Result<ViewGrid<'i, 'h>, AllocError>
         ensures { IfOk result (λ grid. grid ≡ index.now) }
     {
+        let columns = columns_between(alloc, index, 0, COMPONENT_COUNT)?;
+        ViewGrid::of_columns(alloc, index, columns)
+    }
+
+    /// The same grid, where `columns` has the columns of all components, as `columns_between` gives them. The error is want of
+    /// memory.
+    pub fn of_columns(
+        alloc: Global,
+        index: &'i Index<'h>,
+        columns: Vec<Column>,
+    ) -> Result<ViewGrid<'i, 'h>, AllocError>
+        requires { AreColumnsOf (calls_of index.now) 0 component_count columns.items }
+        ensures { IfOk result (λ grid. grid ≡ index.now) }
+    {
         // what is known of the history that the index is of
         let _events = index.event_count();
-        let columns = columns_of(alloc, index)?;
         let (begins, ends) = places_of(alloc, index)?;
         Ok(ViewGrid {
             index,

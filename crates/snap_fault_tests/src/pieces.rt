@@ -5,7 +5,7 @@ use snap_conditions::{IntegrityFault, ProximityFault, ReadFault, Side, Tally};
 use snap_core::{Gate, OpenGate};
 use snap_index::Index;
 use snap_pairs::{Claim, Claims, Cutting, CuttingRefusal, tally};
-use snap_testing::worked::{ATOMIC_RUN, CROSSED_VIEWS, STALE_AND_WRONG};
+use snap_testing::worked::{ATOMIC_RUN, CROSSED_VIEWS, FOUR_WAYS, STALE_AND_WRONG};
 use snap_testing::{Arrivals, Meeting, Step, entry, history_of};
 use std::alloc::Global;
 use std::test::Fail;
@@ -65,6 +65,16 @@ fn is_of_crossed_views(tally: &Tally) -> bool {
     counts(tally) == [0, 0, 2, 0] && tally.read.first() == Some(first)
 }
 
+// The faults of `FOUR_WAYS`: each view is a read fault with the three others.
+fn is_of_four_ways(tally: &Tally) -> bool {
+    let first = ReadFault {
+        view: 4,
+        other: 5,
+        component: 0,
+    };
+    counts(tally) == [0, 0, 12, 0] && tally.read.first() == Some(first)
+}
+
 // The faults of `STALE_AND_WRONG`.
 fn is_of_stale_and_wrong(tally: &Tally) -> bool {
     let wrong = IntegrityFault {
@@ -98,6 +108,13 @@ fn every_cutting_gives_the_same_tally(rt: HostRuntime) -> Result<(), Fail> {
     assert_eq!(rt; all, Tally::none());
     let all = tally_by_every_cutting(&rt, rt.alloc(), STALE_AND_WRONG)?;
     assert!(rt; is_of_stale_and_wrong(&all));
+    Ok(())
+}
+
+#[test]
+fn components_far_from_one_another_are_compared(rt: HostRuntime) -> Result<(), Fail> {
+    let all = tally_by(&rt, rt.alloc(), FOUR_WAYS, 2, 2, &OpenGate)?;
+    assert!(rt; is_of_four_ways(&all));
     Ok(())
 }
 

@@ -4,3 +4,4 @@ pub mod Finishing
 pub mod Closing
 pub mod Starts
 pub mod Gathering
+mod Columns

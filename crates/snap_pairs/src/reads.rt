@@ -1,15 +1,23 @@
 //! The read faults of the pieces: none where the quick test passes, else by a grid of the views.
-ghost use Rattle.std.specs.Prelude.{◌≡◌, ◌<◌, ◌≤◌, ◌↔◌, [], length, IfOk, IfSome, IsSome};
+ghost use Rattle.std.specs.Prelude.{◌≡◌, ◌<◌, ◌≤◌, ◌+◌, ◌↔◌, [], ℕ, length, get_or, IfOk, IfSome, IsSome};
 ghost use Rattle.snap_core.specs.Calls.{calls_of, views_of};
 ghost use Rattle.snap_conditions.specs.Chains.{AreViewSums, IsViewChain};
+ghost use Rattle.snap_core.specs.Entries.{component_count};
 ghost use Rattle.snap_conditions.specs.Faults.{read_faults};
+ghost use Rattle.snap_conditions.specs.Grids.{AreColumnsOf};
 ghost use Rattle.snap_conditions.specs.Quick.{shown_sum};
 ghost use Rattle.snap_conditions.specs.Seen.{view_in};
 ghost use Rattle.snap_conditions.specs.Tally.{tally_of, views_between};
-ghost use Rattle.snap_pairs.specs.Reads.{IsGridFor};
+ghost use Rattle.snap_pairs.specs.Reads.{AreParts, IsGridFor, part_start};
 
+use crate::cutting::Cutting;
+use crate::workers::each_job;
 use rayon::prelude::*;
-use snap_conditions::{Tally, ViewChain, ViewGrid, faultless_chain, tally_without_read, view_sum};
+use snap_conditions::{
+    Tally, ViewChain, ViewGrid, columns_between, faultless_chain, tally_without_read, view_sum,
+};
+use snap_core::COMPONENT_COUNT;
+use snap_grid::Column;
 use snap_index::Index;
 use std::alloc::{AllocError, Global};
 use std::thread::Threads;
@@ -17,11 +25,15 @@ use std::thread::Threads;
 // So many views are worth a thread of their own: the sums of fewer take less time than its start.
 const VIEWS_A_THREAD: usize = 4096;
 
+// The columns of so many components take less time than the start of a thread.
+const FEW_COMPONENTS: usize = 64;
+
 // A grid of the views where they have a read fault, and else these as a chain.
 pub(crate) fn grid_or_chain<'i, 'h, R: Threads + Sync>(
     rt: &R,
     alloc: Global,
     index: &'i Index<'h>,
+    cutting: Cutting,
 ) -> Result<(Option<ViewGrid<'i, 'h>>, Option<ViewChain>), AllocError>
     ensures grid { IfOk result (λ found. IsGridFor index.entry.now found.0) }
     ensures chain { IfOk result (λ found. IfSome found.1 (IsViewChain (calls_of index.entry.now))) }
@@ -32,7 +44,8 @@ pub(crate) fn grid_or_chain<'i, 'h, R: Threads + Sync>(
     if chain.is_some() {
         return Ok((None, chain));
     }
-    Ok((Some(ViewGrid::build(alloc, index)?), None))
+    let columns = view_columns(rt, alloc, index, cutting)?;
+    Ok((Some(ViewGrid::of_columns(alloc, index, columns)?), None))
 }
 
 // The tally of the views from one place to before another.
@@ -72,4 +85,76 @@ fn view_sums<R: Threads + Sync>(
         )
         .with_min_len(VIEWS_A_THREAD)
         .collect(rt, alloc)
+}
+
+// A column for each component that some completed view lists, made by the workers of the cutting, each its part of the components.
+fn view_columns<R: Threads + Sync>(
+    rt: &R,
+    alloc: Global,
+    index: &Index<'_>,
+    cutting: Cutting,
+) -> Result<Vec<Column>, AllocError>
+    ensures { IfOk result (λ columns. AreColumnsOf (calls_of index.now) 0 component_count columns.items) }
+{
+    if index.update_limit() <= FEW_COMPONENTS {
+        return columns_between(alloc, index, 0, COMPONENT_COUNT);
+    }
+    let parts = each_job(
+        rt,
+        alloc,
+        part_numbers(alloc, cutting)?,
+        &|part: u32| -> Result<Vec<Column>, AllocError>
+            requires { part < cutting.workers }
+            ensures { IfOk result (λ columns. AreColumnsOf (calls_of index.entry.now) (part_start cutting.workers part) (part_start cutting.workers (part + 1)) columns.items) }
+        { columns_of_part(alloc, index, cutting, part) },
+    )?;
+    joined(alloc, index, cutting, parts)
+}
+
+// The numbers of the parts of the components, one for each worker.
+fn part_numbers(alloc: Global, cutting: Cutting) -> Result<Vec<u32>, AllocError>
+    ensures count { IfOk result (λ parts. length parts.items ≡ cutting.workers) }
+    ensures each { IfOk result (λ parts. (i : ℕ) → i < cutting.workers → get_or parts.items i 0 ≡ i) }
+{
+    let mut parts = Vec::with_capacity(alloc, cutting.workers() as usize)?;
+    for part in 0..cutting.workers() {
+        parts.push(part)?;
+    }
+    Ok(parts)
+}
+
+// The columns of a part of the components.
+fn columns_of_part(
+    alloc: Global,
+    index: &Index<'_>,
+    cutting: Cutting,
+    part: u32,
+) -> Result<Vec<Column>, AllocError>
+    requires { part < cutting.workers }
+    ensures { IfOk result (λ columns. AreColumnsOf (calls_of index.now) (part_start cutting.workers part) (part_start cutting.workers (part + 1)) columns.items) }
+{
+    let (part, workers) = (part as usize, cutting.workers() as usize);
+    let from = part * COMPONENT_COUNT / workers;
+    let to = (part + 1) * COMPONENT_COUNT / workers;
+    columns_between(alloc, index, from, to)
+}
+
+// The columns of all parts, in the order of their components.
+fn joined(
+    alloc: Global,
+    index: &Index<'_>,
+    cutting: Cutting,
+    mut parts: Vec<Result<Vec<Column>, AllocError>>,
+) -> Result<Vec<Column>, AllocError>
+    requires count { length parts.items ≡ cutting.workers }
+    requires parts { AreParts (calls_of index.now) cutting.workers parts.items }
+    ensures { IfOk result (λ columns. AreColumnsOf (calls_of index.now) 0 component_count columns.items) }
+{
+    let mut all = Vec::new(alloc);
+    while let Some(part) = parts.pop() {
+        let mut columns = part?;
+        columns.append(&mut all)?;
+        all = columns;
+    }
+    Ok(all)
 }

@@ -32,7 +32,7 @@ pub fn tally_and_chain<R: Threads + Sync, G: Gate>(
     ensures chain { IfOk result (λ all. IfSome all.1 (IsViewChain (calls_of index.now))) }
     ensures found { IfOk result (λ all. IsSome all.1 ↔ (read_faults (calls_of index.now) (views_of (calls_of index.now)) ≡ [])) }
 {
-    let (grid, chain) = grid_or_chain(rt, alloc, index)?;
+    let (grid, chain) = grid_or_chain(rt, alloc, index, cutting)?;
     let tally = tally_by(rt, alloc, index, &grid, cutting, gate)?;
     Ok((tally, chain))
 }

@@ -4,8 +4,8 @@ use snap_core::{Event, EventRefusal, History, OpenGate, View};
 use snap_index::Index;
 use snap_order::{build, check_order};
 use snap_pairs::{Claims, Cutting, PIECE_LIMIT, WORKER_LIMIT, tally};
-use snap_testing::worked::{CROSSED_VIEWS, SEEN_PENDING};
-use snap_testing::{entry, history_of};
+use snap_testing::worked::{CROSSED_VIEWS, FOUR_WAYS, SEEN_PENDING};
+use snap_testing::{Step, entry, history_of};
 use std::alloc::Global;
 use std::thread::Threads;
 
@@ -79,25 +79,32 @@ pub fn order<R: Threads + Sync>(rt: &R, alloc: Global) -> Result<(), Fault> {
     expect_printed(rt, alloc, &index, &[0, 2])
 }
 
-// In as many pieces and by as many workers as there may be, an index has two read faults and no other.
-fn expect_two_read_faults<R: Threads + Sync>(
+// The tally of a history that is cut so has so many read faults and no other.
+fn expect_read_faults<R: Threads + Sync>(
     rt: &R,
     alloc: Global,
-    index: &Index<'_>,
+    steps: &[Step<'_>],
+    cutting: Cutting,
+    count: u64,
 ) -> Result<(), Fault> {
-    let Ok(cutting) = Cutting::new(PIECE_LIMIT, WORKER_LIMIT) else {
-        return Err(Fault::Wrong);
-    };
-    let found = tally(rt, alloc, index, cutting, &OpenGate)?;
+    let history = history_of(alloc, steps)?;
+    let index = Index::build(alloc, &history)?;
+    let found = tally(rt, alloc, &index, cutting, &OpenGate)?;
     expect(found.integrity.count() == 0 && found.proximity.count() == 0)?;
-    expect(found.read.count() == 2 && found.write.count() == 0)
+    expect(found.read.count() == count && found.write.count() == 0)
 }
 
 /// Two views disagree, and as many workers as there may be see it.
 pub fn tally_of_pieces<R: Threads + Sync>(rt: &R, alloc: Global) -> Result<(), Fault> {
-    let history = history_of(alloc, CROSSED_VIEWS)?;
-    let index = Index::build(alloc, &history)?;
-    expect_two_read_faults(rt, alloc, &index)
+    let Ok(cutting) = Cutting::new(PIECE_LIMIT, WORKER_LIMIT) else {
+        return Err(Fault::Wrong);
+    };
+    expect_read_faults(rt, alloc, CROSSED_VIEWS, cutting, 2)
+}
+
+/// Four views disagree about components far from one another, whose numbers several threads take up.
+pub fn tally_of_parts<R: Threads + Sync>(rt: &R, alloc: Global) -> Result<(), Fault> {
+    expect_read_faults(rt, alloc, FOUR_WAYS, Cutting::usual(), 12)
 }
 
 /// Of three pieces the first claim draws two, and both claims close the counter.

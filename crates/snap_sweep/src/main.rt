@@ -28,6 +28,7 @@ fn main(rt: HostRuntime) {
         ("index", histories::index(alloc)),
         ("order", histories::order(&rt, alloc)),
         ("tally", histories::tally_of_pieces(&rt, alloc)),
+        ("tally of parts", histories::tally_of_parts(&rt, alloc)),
         ("chains", views::chains(alloc)),
         ("grids", views::grids(alloc)),
         ("claims", histories::claims(alloc)),

@@ -77,6 +77,26 @@ pub const CROSSED_VIEWS: &[Step<'static>] = &[
     Updated(1),
 ];
 
+/// Each of four views shows another one of four open updates, of components far from one another.
+pub const FOUR_WAYS: &[Step<'static>] = &[
+    Update(0, (0, 1, 1)),
+    Update(1, (63, 1, 1)),
+    Update(2, (64, 1, 1)),
+    Update(3, (255, 1, 1)),
+    View(4),
+    View(5),
+    View(6),
+    View(7),
+    Viewed(4, &[(0, 1, 1)]),
+    Viewed(5, &[(63, 1, 1)]),
+    Viewed(6, &[(64, 1, 1)]),
+    Viewed(7, &[(255, 1, 1)]),
+    Updated(0),
+    Updated(1),
+    Updated(2),
+    Updated(3),
+];
+
 /// A view shows an update and not the one that ended before it began.
 pub const MISSED_UPDATE: &[Step<'static>] = &[
     View(2),

@@ -9,4 +9,4 @@ loop-entry-init c = none_put c.args.count c.args.place c.args.self.now c.require
 pub loop-entry-preserved : goal.loop-entry-preserved
 loop-entry-preserved c =
     subst (IsPut c.args.count c.args.place _ c.args.self.now) (sym c.in_ok-put.ensures)
-    (one_put c.args.count c.args.place c.args.entries.now c.loop-entry.entry-index c.args.self.now c.loop-entry.self c.requires.entries c.loop-entry-test.true c.requires.place c.loop-entry.invariant)
+    (one_put c.args.count c.args.place c.args.entries.now c.loop-entry.entry-index c.args.self.now c.loop-entry.self (record { rising = c.requires.rising }) c.requires.fit c.loop-entry-test.true c.requires.place c.loop-entry.invariant)

@@ -2,11 +2,11 @@ use Rattle.std.proofs.Common.{◌≡◌, ◌<◌, ◌≤◌, ℕ, [], get_or, le
 use Rattle.snap_core.specs.Calls.{calls_of}
 use Rattle.snap_conditions.specs.Grids.{AreColumnsOf}
 use Rattle.snap_conditions.specs.NumberTables.{IsRowOf}
-use Rattle.snap_conditions.proofs.view_grid.columns_of.Given as goal
+use Rattle.snap_conditions.proofs.columns.columns_between.Given as goal
 
 abbrev pub invariant-loop-k : goal.invariant-loop-k
 invariant-loop-k l = record {
   size : length l.table ≡ 256;
-  columns : AreColumnsOf (calls_of l.index) l.k l.columns.items;
-  left : (j : ℕ) → l.k ≤ j → j < 256 → IsRowOf (calls_of l.index) j (get_or l.table j []);
+  columns : AreColumnsOf (calls_of l.index) l.from l.k l.columns.items;
+  left : (j : ℕ) → l.k ≤ j → j < l.to → IsRowOf (calls_of l.index) j (get_or l.table j []);
 }
