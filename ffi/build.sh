@@ -2,6 +2,7 @@
 # Proves and builds the judge as libsnapjudge.a and libsnapjudge.so, in the folder that is named or in ffi/build. One object
 # is made of the library and of the kit's few lines over malloc, and of its names only the two calls are seen.
 # usage: build.sh [--built BEGUN] [FOLDER]; with --built it takes the libraries that a gate has proved since the file BEGUN
+unset CDPATH
 set -eu
 top=$(cd "$(dirname "${BASH_SOURCE[0]}")/.." && pwd)
 begun=
@@ -16,16 +17,8 @@ out=$(cd "$out" && pwd)
 work=$(mktemp -d)
 trap 'rm -rf "$work"' EXIT
 
-# Proves snap_c, and below it what no gate has just proved, and builds it.
-prove() {
-  if [ -n "$begun" ] && python3 -B "$top/share/over_built.py" "$kit" "$begun"; then
-    return 0
-  fi
-  rt lib
-}
-
-cd "$top/crates/snap_c"
-if ! prove >"$work/log" 2>&1; then
+# proves snap_c, and below it what is not proved already; how far it is goes to standard error
+if ! python3 -B "$top/share/prove.py" ${begun:+--built "$begun"} snap_c >"$work/log"; then
   tail -n 20 "$work/log" >&2
   exit 1
 fi

@@ -2,6 +2,7 @@
 # Builds the library and tries it from C, C++, Rust and Python on the examples, with little room, with refused memory and from
 # eight threads on small stacks. The last line is 'N passed, M failed'. A language whose compiler is missing is skipped.
 # usage: test.sh [--built BEGUN], as build.sh
+unset CDPATH
 set -u
 cd "$(dirname "${BASH_SOURCE[0]}")" || exit 1
 build=$PWD/build

@@ -3,6 +3,7 @@
 # memory the same, where the crate snap_sweep is built. The last line is 'N passed, M failed'. Without a C compiler or Python it
 # is skipped.
 # usage: test.sh [PROGRAM], the program itself and not its launcher; it is built/snapjudge where it is not named
+unset CDPATH
 set -u
 here=$(cd "$(dirname "${BASH_SOURCE[0]}")" && pwd)
 program=$(realpath -m "${1:-$here/../built/snapjudge}")

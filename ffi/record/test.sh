@@ -3,6 +3,7 @@
 # be atomic, and of a naive collect, of which those that were caught are counted. The last line is 'N passed, M failed'. A
 # language whose compiler is missing is skipped.
 # usage: test.sh [PROGRAM], where PROGRAM judges; it may stand in SNAPJUDGE_PROGRAM too
+unset CDPATH
 set -u
 here=$(cd "$(dirname "${BASH_SOURCE[0]}")" && pwd)
 program=$(realpath -m "${1:-${SNAPJUDGE_PROGRAM:-$here/../../built/snapjudge}}")

@@ -1,0 +1,95 @@
+#!/usr/bin/env bash
+# Tries the gate itself over a tree whose parts do what a file says: each part in turn fails, dies or is not there, and each
+# must make the gate red. The last line is 'N passed, M failed'.
+set -u
+top=$(cd "$(dirname "${BASH_SOURCE[0]}")/.." && pwd)
+room=$(mktemp -d) || exit 1
+trap 'rm -rf "$room"' EXIT
+passed=0
+failed=0
+
+mkdir -p "$room"/{bin,tree/{share,ffi/record,sweep,examples}}
+cp "$top/test" "$room/tree"
+echo "regular yes" >"$room/tree/examples/one.report"
+touch "$room/tree/examples/one.csv"
+
+# A part that does what the file of its name says, or passes where there is none.
+stub() {
+  cat >"$room/tree/$2" <<STUB
+#!/usr/bin/env bash
+case \$(cat "$room/$1" 2>/dev/null) in
+  fails) echo "2 passed, 1 failed"; exit 1 ;;
+  dies) kill -9 \$\$ ;;
+  "ends early") echo "half of it"; exit 0 ;;
+  "denies its failure") echo "3 passed, 1 failed"; exit 0 ;;
+  "denies its status") echo "3 passed, 0 failed"; exit 1 ;;
+  skips) echo "java: skipped, there is no javac"; echo "2 passed, 0 failed, 1 skipped"; exit 0 ;;
+esac
+$3
+STUB
+  chmod +x "$room/tree/$2"
+}
+
+stub gate share/test-gate.sh 'echo "3 passed, 0 failed"'
+stub proofs ../bin/rt 'echo "3 passed, 0 failed"'
+stub build build 'exit 0'
+stub examples snapjudge 'cat examples/one.report'
+stub launcher share/test.sh 'echo "3 passed, 0 failed"'
+stub library ffi/test.sh 'echo "3 passed, 0 failed"'
+stub recorders ffi/record/test.sh 'echo "3 passed, 0 failed"'
+stub sweep sweep/test.sh 'echo "3 passed, 0 failed"'
+
+# expect NAME STATUS LAST [LINE]: the gate's status and its last line, and a line that must be among the others
+expect() {
+  local name=$1 wanted=$2 last=$3 line=${4-} status
+  PATH="$room/bin:$PATH" "$room/tree/test" >"$room/out" 2>&1
+  status=$?
+  if [ "$status" = "$wanted" ] && [[ $(tail -n 1 "$room/out") =~ ^$last$ ]] && { [ -z "$line" ] || grep -qF "$line" "$room/out"; }; then
+    passed=$((passed + 1))
+  else
+    failed=$((failed + 1))
+    echo "gate: $name: status $status, wanted $wanted and the last line $last; it ends"
+    tail -n 16 "$room/out"
+  fi
+}
+
+parts="gate proofs build examples launcher library recorders sweep"
+expect "all parts pass" 0 "20 passed, 0 failed"
+for part in $parts; do
+  for way in fails dies "ends early" "denies its failure" "denies its status"; do
+    case "$part $way" in
+      # of these two the status alone counts, and what an example prints
+      "build ends early" | "build denies its failure") continue ;;
+    esac
+    echo "$way" >"$room/$part"
+    expect "$part $way" 1 '[0-9]+ passed, [1-9][0-9]* failed'
+  done
+  rm "$room/$part"
+done
+echo fails >"$room/build"
+expect "parts that need the program are named" 1 "6 passed, 6 failed" "launcher was not reached: there is no program"
+rm "$room/build"
+echo skips >"$room/recorders"
+expect "what is skipped is said" 0 "19 passed, 0 failed, 1 skipped" "recorders: java: skipped, there is no javac"
+rm "$room/recorders"
+for file in share/test.sh ffi/test.sh ffi/record/test.sh sweep/test.sh build; do
+  mv "$room/tree/$file" "$room/kept"
+  expect "$file is not there" 1 '[0-9]+ passed, [1-9][0-9]* failed'
+  mv "$room/kept" "$room/tree/$file"
+done
+mkdir "$room/few"
+for tool in bash dirname mktemp touch rm; do
+  ln -s "$(command -v "$tool")" "$room/few/$tool"
+done
+status=0
+PATH="$room/few" "$room/tree/test" >"$room/out" 2>&1 || status=$?
+if [ "$status" = 1 ] && grep -q "^there is no rt on the path" "$room/out"; then
+  passed=$((passed + 1))
+else
+  failed=$((failed + 1))
+  echo "gate: no tools: status $status"
+  cat "$room/out"
+fi
+
+echo "$passed passed, $failed failed"
+[ "$failed" = 0 ]
