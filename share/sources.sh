@@ -1,0 +1,79 @@
+#!/bin/sh
+# Tells the files that the program is made of or promises: crates.txt, VERSION, and the code and the specs of each crate that the
+# program stands on. A changed proof, test or sweep changes none of them.
+#
+# usage: sources.sh list      each file of every crate, its size, and when its text and its entry changed
+#        sources.sh sum       one sum over the names and the texts of the program's files
+#        sources.sh crates    the crates that the program stands on, the lowest first, and its own last
+#
+# The launcher reads this file at each start, since a shell more would take half a millisecond. Nor is there time to tell the
+# program's crates from others in a list: where only another one's has changed, the sum has not.
+
+# Goes to the folder that is named, and lists.
+list_sources() {
+  unset CDPATH
+  export LC_ALL=C
+  cd "$1" && exec find -L crates.txt VERSION crates/*/src crates/*/specs -type f -printf '%p %s %T@ %C@\n' 2>/dev/null
+}
+
+# In crates.txt a crate stands behind those that it stands on, so from the last line up each is met before those below it.
+find_crates() {
+  upwards=
+  while IFS= read -r line; do
+    upwards="${line%%#*}
+$upwards"
+  done <crates.txt || exit
+  found=
+  needed=' snapjudge '
+  IFS='
+'
+  for line in $upwards; do
+    name=${line%%[ :]*}
+    case $needed in
+      *" $name "*)
+        found="$name${found:+ }$found"
+        needed="$needed${line#*:} "
+        ;;
+    esac
+  done
+  unset IFS
+  echo "$found"
+}
+
+# Writes the names of the program's files, each before a byte 0.
+find_files() {
+  set --
+  for crate in $(find_crates); do
+    for folder in "crates/$crate/src" "crates/$crate/specs"; do
+      ! [ -d "$folder" ] || set -- "$@" "$folder"
+    done
+  done
+  find -L crates.txt VERSION "$@" \( -path '*/src/tests' -o -path '*/src/tests.rt' \) -prune -o -type f -print0
+}
+
+# Goes to the folder that is named, and sums up.
+sum_sources() {
+  unset CDPATH
+  export LC_ALL=C
+  cd "$1" || return
+  sum=$(find_files | sort -z | xargs -0 sha256sum | sha256sum) && [ "${#sum}" -ge 64 ] && echo "${sum%% *}"
+}
+
+# What this file does as a command.
+run_verb() {
+  case ${1-} in
+    list) list_sources . ;;
+    sum) sum_sources . ;;
+    crates) find_crates ;;
+    *)
+      sed -n 's/^# usage: /usage: /p; s/^#  *\(sources\.sh .*\)/       \1/p' share/sources.sh >&2
+      exit 5
+      ;;
+  esac
+}
+
+case $0 in
+  sources.sh) cd .. && run_verb "$@" ;;
+  /*/sources.sh) cd "${0%/*}/.." && run_verb "$@" ;;
+  */sources.sh) cd "./${0%/*}/.." && run_verb "$@" ;;
+esac
