@@ -1,6 +1,7 @@
 #!/usr/bin/env bash
 # Builds the library and tries it from C, C++, Rust and Python on the examples, with little room, with refused memory and from
-# eight threads on small stacks. The last line is 'N passed, M failed'. A language whose compiler is missing is skipped.
+# eight threads on small stacks. The last line is 'N passed, M failed', with ', K skipped' behind it where a tool is missing; a line
+# before it names the language.
 # usage: test.sh [--built BEGUN], as build.sh
 unset CDPATH
 set -u
@@ -8,6 +9,7 @@ cd "$(dirname "${BASH_SOURCE[0]}")" || exit 1
 build=$PWD/build
 passed=0
 failed=0
+skipped=0
 log=$(mktemp)
 trap 'rm -f "$log"' EXIT
 
@@ -25,17 +27,32 @@ try() {
   fi
 }
 
-# has PROGRAM LANGUAGE: whether there is such a program; else says that the language is skipped
+# skip WHAT TOOL: counts what was not tried
+skip() {
+  echo "skipped: $1, $2 is not here"
+  skipped=$((skipped + 1))
+}
+
+# has PROGRAM LANGUAGE: whether there is such a program; else the language is skipped
 has() {
   command -v "$1" >/dev/null && return 0
-  echo "ffi: $2: skipped, there is no $1"
+  skip "$2" "$1"
   return 1
 }
 
 has_pip() {
   python3 -m pip --version >/dev/null 2>&1 && return 0
-  echo "ffi: Python by pip: skipped, there is no pip"
+  skip "Python by pip" pip
   return 1
+}
+
+# Says at the end what was passed, failed and skipped.
+end() {
+  local more=
+  [ "$skipped" = 0 ] || more=", $skipped skipped"
+  echo "$passed passed, $failed failed$more"
+  [ "$failed" = 0 ]
+  exit
 }
 
 # compiled COMPILER FLAGS: the tests in C or C++, with the static and the shared library
@@ -78,10 +95,7 @@ for name in sys.argv[2:]:
 }
 
 for tool in cc ar ld objcopy nm; do
-  if ! has $tool "all languages"; then
-    echo "$passed passed, $failed failed"
-    exit 0
-  fi
+  has $tool "all languages" || end
 done
 try "build" ./build.sh "$@" "$build"
 if [ "$failed" = 0 ]; then
@@ -91,6 +105,4 @@ if [ "$failed" = 0 ]; then
   has cargo "Rust" && try "Rust" rust
   has python3 "Python" && try "Python" python && has_pip && try "Python by pip" installed
 fi
-
-echo "$passed passed, $failed failed"
-[ "$failed" = 0 ]
+end

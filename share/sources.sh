@@ -6,16 +6,15 @@
 #        sources.sh sum       one sum over the names and the texts of the program's files
 #        sources.sh crates    the crates that the program stands on, the lowest first, and its own last
 #
-# `list` is asked at each start. It takes no time to tell the program's crates from others: where another one's list has changed,
-# the sum has not.
-unset CDPATH
-LC_ALL=C
-export LC_ALL
-case $0 in
-  /*) cd "${0%/*}/.." || exit ;;
-  */*) cd "./${0%/*}/.." || exit ;;
-  *) cd .. || exit ;;
-esac
+# The launcher reads this file at each start, since a shell more would take half a millisecond. Nor is there time to tell the
+# program's crates from others in a list: where only another one's has changed, the sum has not.
+
+# Goes to the folder that is named, and lists.
+list_sources() {
+  unset CDPATH
+  export LC_ALL=C
+  cd "$1" && exec find -L crates.txt VERSION crates/*/src crates/*/specs -type f -printf '%p %s %T@ %C@\n' 2>/dev/null
+}
 
 # In crates.txt a crate stands behind those that it stands on, so from the last line up each is met before those below it.
 find_crates() {
@@ -41,8 +40,9 @@ $upwards"
   echo "$found"
 }
 
-# The names of the program's files, each before a byte 0.
+# Writes the names of the program's files, each before a byte 0.
 find_files() {
+  set --
   for crate in $(find_crates); do
     for folder in "crates/$crate/src" "crates/$crate/specs"; do
       ! [ -d "$folder" ] || set -- "$@" "$folder"
@@ -51,14 +51,29 @@ find_files() {
   find -L crates.txt VERSION "$@" \( -path '*/src/tests' -o -path '*/src/tests.rt' \) -prune -o -type f -print0
 }
 
-case ${1-} in
-  list) exec find -L crates.txt VERSION crates/*/src crates/*/specs -type f -printf '%p %s %T@ %C@\n' 2>/dev/null ;;
-  sum)
-    sum=$(find_files | sort -z | xargs -0 sha256sum | sha256sum) && [ "${#sum}" -ge 64 ] && echo "${sum%% *}"
-    ;;
-  crates) find_crates ;;
-  *)
-    sed -n 's/^# usage: /usage: /p; s/^#  *\(sources\.sh .*\)/       \1/p' share/sources.sh >&2
-    exit 5
-    ;;
+# Goes to the folder that is named, and sums up.
+sum_sources() {
+  unset CDPATH
+  export LC_ALL=C
+  cd "$1" || return
+  sum=$(find_files | sort -z | xargs -0 sha256sum | sha256sum) && [ "${#sum}" -ge 64 ] && echo "${sum%% *}"
+}
+
+# What this file does as a command.
+run_verb() {
+  case ${1-} in
+    list) list_sources . ;;
+    sum) sum_sources . ;;
+    crates) find_crates ;;
+    *)
+      sed -n 's/^# usage: /usage: /p; s/^#  *\(sources\.sh .*\)/       \1/p' share/sources.sh >&2
+      exit 5
+      ;;
+  esac
+}
+
+case $0 in
+  sources.sh) cd .. && run_verb "$@" ;;
+  /*/sources.sh) cd "${0%/*}/.." && run_verb "$@" ;;
+  */sources.sh) cd "./${0%/*}/.." && run_verb "$@" ;;
 esac

@@ -1,5 +1,7 @@
 #!/bin/sh
-# Tries the launcher, the build and the installation over the program in built/. The last line is 'N passed, M failed'.
+# Tries the launcher, the build, the installation and the completions over the program in built/. The last line is 'N passed,
+# M failed, K skipped'; a line before it names what was skipped, since a tool is not here.
+unset CDPATH
 set -u
 top=$(cd "$(dirname "$0")/.." && pwd)
 examples=$top/examples
@@ -7,6 +9,15 @@ room=$(mktemp -d) || exit 1
 trap 'rm -rf "$room"' EXIT
 passed=0
 failed=0
+skipped=0
+
+# Whether there is such a tool; else what it would have tried is counted as skipped.
+has() {
+  ! command -v "$1" >/dev/null || return 0
+  echo "skipped: $1 is not here"
+  skipped=$((skipped + 1))
+  return 1
+}
 
 # Runs a command, and compares status and output with what is wanted of them. Standard error is kept in $room/err.
 expect() {
@@ -72,6 +83,41 @@ expect_said "its name and the reason" "snapjudge: none.csv: no such file"
 expect "a folder" 4 "" ./second check "$room"
 expect_said "its name and the reason" "snapjudge: $room: is a directory"
 expect "a file among others that is not there" 4 "$named_inversion" ./second check none.csv old.csv
+! command -v bash >/dev/null ||
+  expect "two files, by another shell" 2 "$named_inversion$named_stale" bash "$top/snapjudge" check old.csv "a b.csv"
+expect "a file without a name" 4 "" ./second check ""
+expect "a file whose name begins with a hyphen" 2 "$stale" sh -c 'cp "a b.csv" ./-x.csv; ./second check -- -x.csv'
+expect "an option with a blank" 5 "" ./second check --pieces "3 --quiet" old.csv
+
+# no status of a verdict where the report was not written, or the history not read
+for files in old.csv 'old.csv old.csv'; do
+  for command in "check $files" "check --quiet $files"; do
+    expect "$command, and a full disk" 4 "" sh -c "./second $command >/dev/full"
+    expect "$command, and no output" 4 "" sh -c "./second $command >&-"
+    expect "$command, and a reader that has gone" 4 "" sh -c "{ sleep 0.3; ./second $command; echo \$? >gone; } | :
+      exit \$(cat gone)"
+  done
+done
+for command in "shrink old.csv" "explain old.csv" "record --rounds 2" --version; do
+  expect "$command, and a full disk" 4 "" sh -c "./second $command >/dev/full"
+  expect "$command, and no output" 4 "" sh -c "./second $command >&-"
+done
+for command in check "check -" "shrink -" "explain -"; do
+  expect "$command, and no input" 4 "" sh -c "./second $command <&-"
+  expect_said "the reason" "snapjudge: read failed"
+done
+expect "a file beside no input" 4 "$named_inversion" sh -c './second check - old.csv <&-'
+expect_said "the reason" "-: snapjudge: read failed"
+expect "two files, and no input" 2 "$named_inversion$named_stale" sh -c './second check old.csv "a b.csv" <&-'
+expect "two files, and no errors" 4 "$named_inversion" sh -c './second check old.csv none.csv 2>&-'
+expect "a pattern, and no file" 4 "" ./second check "*"
+for words in --help -h help "check --help" "explain old.csv --help"; do
+  expect "the words $words" 5 "" ./second $words
+  cp err help
+  for line in "snapjudge check [OPTIONS] [FILE ..]" "snapjudge shrink [FILE]" "snapjudge explain [FILE]" "snapjudge --version"; do
+    expect "$words tells $line" 0 "" grep -qF "$line" help
+  done
+done
 expect "a file without its command" 5 "" ./second old.csv
 expect_said "the tip" "snapjudge: to judge a file, write: snapjudge check old.csv"
 
@@ -228,71 +274,203 @@ for script in *.sh; do
 done
 cd ..
 
-"$top/install" "$room/prefix" >/dev/null
-expect "the installed program" 2 "$stale" "$room/prefix/bin/snapjudge" check "$examples/stale-view.csv"
+on_path="
+To find it by name, put $room/pre fix/bin on your PATH.
+"
+expect "an installation" 0 "snapjudge is installed as $room/pre fix/bin/snapjudge$on_path" "$top/install" "pre fix"
+expect "the installed program" 2 "$stale" "pre fix/bin/snapjudge" check "$examples/stale-view.csv"
 expect "its version" 0 "$(cat "$top/built/snapjudge.version")
-" "$room/prefix/bin/snapjudge" --version
-"$top/install" --remove "$room/prefix" >/dev/null
-expect "what is left of it" 0 "" find "$room/prefix" -type f
+" "pre fix/bin/snapjudge" --version
+expect "a full disk" 1 "" sh -c 'ulimit -f 8; "$1" "pre fix" 2>/dev/null' sh "$top/install"
+expect "the program that was there" 2 "$stale" "pre fix/bin/snapjudge" check "$examples/stale-view.csv"
+expect "what it left by halves" 0 "" find "pre fix" -name '*.new'
+expect "no output for what it says" 1 "" sh -c '"$1" "pre fix" >/dev/full' sh "$top/install"
+rm "pre fix/libexec/snapjudge/snapjudge"
+expect "a launcher without its program" 4 "" "pre fix/bin/snapjudge" check old.csv
+expect_said "what is missing" "snapjudge: ./pre fix/bin/../libexec/snapjudge/snapjudge is not there; install it again"
+expect "a removal of what is not all there" 0 "snapjudge is no more under $room/pre fix
+" "$top/install" --remove "pre fix"
+expect_said "what is missing" "snapjudge: these were not under $room/pre fix: libexec/snapjudge/snapjudge"
+expect "what is left of it" 0 "" find "pre fix" -type f
+expect "a removal of what is not there" 1 "" "$top/install" --remove "pre fix"
+expect_said "the reason" "snapjudge: nothing of it was under $room/pre fix"
+mkdir "pre fix/bin/snapjudge"
+expect "a folder in its place" 1 "" "$top/install" "pre fix"
+expect_said "the reason" "snapjudge: $room/pre fix/bin/snapjudge is a directory; nothing is installed"
+expect "what is there of it" 0 "" find "pre fix" -type f
+expect "a removal of a folder in its place" 1 "" "$top/install" --remove "pre fix"
+expect "a full disk, and nothing there" 1 "" sh -c 'ulimit -f 8; "$1" new 2>/dev/null' sh "$top/install"
+expect "what is there of it" 0 "" find new -type f
+for words in "''" "--remove ''" "a b" "--prefix"; do
+  expect "the words $words" 5 "" sh -c "\"\$1\" $words" sh "$top/install"
+  expect_said "the usage" "usage: install [--remove] [PREFIX]      PREFIX is ~/.local where none is given"
+done
+expect "neither a prefix nor a home" 1 "" env -u HOME "$top/install"
+expect_said "the reason" "snapjudge: HOME is not set: name a PREFIX"
+
+# Expects these completions of the words, in a shell that is here: each word of the completions stands between blanks.
+completes() {
+  wanted=$2
+  case $shell in
+    bash) expect "bash: $1" 0 "$wanted " bash -c '. "$1"
+      read -r -a COMP_WORDS <<<"$2"
+      [[ $2 != *" " ]] || COMP_WORDS+=("")
+      COMP_CWORD=$((${#COMP_WORDS[@]} - 1))
+      _snapjudge
+      printf "%s\n" "${COMPREPLY[@]}" | LC_ALL=C sort | tr "\n" " "' bash "$top/share/snapjudge.bash" "$1" ;;
+    zsh) expect "zsh: $1" 0 "$wanted " sh -c 'zsh -f "$1/complete.zsh" "$1" "$2" "$3" | sed "/^$/d" | LC_ALL=C sort | tr "\n" " "' \
+      sh "$top/share" "$room/zsh" "$1" ;;
+    fish) expect "fish: $1" 0 "$wanted " sh -c 'fish --no-config -c "source \$argv[1]; complete -C \$argv[2]" "$1" "$2" | cut -f 1 |
+      LC_ALL=C sort | tr "\n" " "' sh "$top/share/snapjudge.fish" "$1" ;;
+  esac
+}
+mkdir -p complete zsh
+cd complete || exit 1
+touch one.csv two.csv
+for shell in bash zsh fish; do
+  has "$shell" || continue
+  completes "snapjudge sh" shrink
+  completes "snapjudge --v" --version
+  completes "snapjudge check --" "--help --pieces --quiet --views --workers"
+  completes "snapjudge check --quiet --pi" --pieces
+  completes "snapjudge record --" "--help --judge --rounds --scan --stamped --workers"
+  completes "snapjudge record --scan --r" --rounds
+  for command in check shrink explain; do
+    completes "snapjudge $command " "one.csv two.csv"
+    completes "snapjudge $command t" two.csv
+  done
+  completes "snapjudge check one.csv t" two.csv
+done
+cd ..
 
 # The C library can hide what a processor has.
 if grep -q x86-64-v3 "$top/built/snapjudge.version"; then
   expect "a processor that lacks something" 127 "" env GLIBC_TUNABLES=glibc.cpu.hwcaps=-AVX2,-AVX2_Usable "$top/snapjudge" check "$examples/stale-view.csv"
 fi
 
-# A tree of one crate, with a prover that does what the file `answer` says.
-mkdir -p tree/crates/snapjudge/src tree/crates/snapjudge/out bin
+# A tree of one crate, with a prover that does what the file `answer` says, and tells when it is at work.
+mkdir -p tree/share tree/crates/snapjudge/src/tests tree/crates/snapjudge/specs tree/crates/snapjudge/proofs tree/crates/snap_sweep/src bin
 cp "$top/snapjudge" "$top/build" tree
-echo snapjudge: >tree/crates.txt
+cp "$top/share/sources.sh" tree/share
+printf 'snapjudge:\nsnap_sweep: snapjudge\n' >tree/crates.txt
 echo 0 >tree/VERSION
-echo old >tree/crates/snapjudge/src/main.rt
-cat >bin/rt <<'RT'
-#!/bin/sh
-[ "$1" != version ] || { echo a prover; exit; }
-case "$(cat "$ANSWER") $2" in
-  "proved, on an older processor --cpu=x86-64-v3") exit 127 ;;
-  proved*) ;;
-  *)
-    echo "not proved: main"
-    exit 1
-    ;;
-esac
-{ echo '#!/bin/sh'; echo "echo $(cat src/main.rt)"; } >out/snapjudge
-chmod +x out/snapjudge
-exit 5
-RT
+main=tree/crates/snapjudge/src/main.rt
+echo old >$main
+printf '#!/bin/sh\necho a prover\n' >bin/rt
+cat >tree/share/prove.py <<'PY'
+import os, sys
+
+with open(os.environ["ANSWER"]) as file:
+    answer = file.read().strip()
+print("at work", file=sys.stderr, flush=True)
+if answer == "refused":
+    print("not proved: main")
+    sys.exit(1)
+with open("crates/snapjudge/src/main.rt") as file:
+    text = file.read().strip()
+help_status = 127 if answer == "proved, on an older processor" and "--cpu=x86-64-v3" in sys.argv else 5
+os.makedirs("crates/snapjudge/out", exist_ok=True)
+with open("crates/snapjudge/out/snapjudge", "w") as program:
+    program.write(f'#!/bin/sh\n[ "$1" != --help ] || exit {help_status}\necho {text}\n')
+os.chmod("crates/snapjudge/out/snapjudge", 0o755)
+PY
 chmod +x bin/rt
 export ANSWER="$room/answer"
 export PATH="$room/bin:$PATH"
 echo proved >answer
-expect "a first build" 0 "old
-" tree/snapjudge check
-expect_said "how far it is" "snapjudge: proving snapjudge, 1 of 1"
-expect "a program that is there" 0 "old
-" tree/snapjudge check
-expect_said "nothing" ""
+
+# Expects that a call builds first, and then runs the program of this name; or that it runs it as it is.
+builds() {
+  expect "$1" 0 "$2
+" "${3-tree}/snapjudge" check
+  expect_said "$1 is built" "at work"
+}
+runs() {
+  expect "$1" 0 "$2
+" "${3-tree}/snapjudge" check
+  expect_said "$1 is not built" ""
+}
+builds "a first call" old
+runs "a second call" old
 expect "the processors that it is for" 0 "snapjudge 0 for x86-64-v3, proved with a prover
 " tree/snapjudge --version
-sleep 1.1
-echo new >tree/crates/snapjudge/src/main.rt
+
+# what changes the program, whatever its times say
+cp -a tree/crates saved
+echo new >$main
 echo refused >answer
 for call in first second; do
   expect "an edit that does not build, $call call" 70 "" tree/snapjudge check
-  expect_said "the reason" "snapjudge: proving snapjudge, 1 of 1
+  expect_said "the reason" "at work
 snapjudge: the build failed: not proved: main"
 done
 echo proved >answer
-expect "the edit, once it builds" 0 "new
-" tree/snapjudge check
-sleep 1.1
-touch tree/crates/snapjudge/src/main.rt
+builds "the edit, once it builds" new
+rm -r tree/crates
+cp -a saved tree/crates
+builds "sources of before, with their times" old
+tar cf saved.tar -C tree crates
+echo new >$main
+builds "an edit" new
+tar xf saved.tar -C tree
+builds "sources of before, out of an archive" old
+echo new >$main
+touch -r saved/snapjudge/src/main.rt $main
+builds "an edit of the same size and time" new
+echo old >$main
+touch -d 2001-01-01 $main
+builds "an edit by a clock that went back" old
+for file in src/more.rt specs/More.antt; do
+  touch tree/crates/snapjudge/$file
+  builds "one file more, $file" old
+  rm tree/crates/snapjudge/$file
+  builds "one file less, $file" old
+done
+echo 1 >tree/VERSION
+builds "another version" old
+printf 'snap_core:\nsnapjudge: snap_core\n' >tree/crates.txt
+mkdir -p tree/crates/snap_core/src
+echo core >tree/crates/snap_core/src/lib.rt
+builds "a crate below" old
+echo more >>tree/crates/snap_core/src/lib.rt
+builds "an edit of the crate below" old
+rm tree/built/sources
+builds "a program of which no source is known" old
+: >tree/built/sources
+builds "a program whose sources were not written" old
+
+# what does not
+touch $main tree/VERSION
+runs "a file with another time" old
+before=$(cat tree/built/sources)
+cp -r tree "a tree"
+runs "a copy" old "a tree"
+expect "a list of its own" 1 "" cmp -s tree/built/sources "a tree/built/sources"
+expect "and no file beside it" 0 "" find "a tree/built" tree/built -name 'sources.*'
+expect "the list of the first" 0 "$before
+" cat tree/built/sources
+for file in crates/snapjudge/src/tests/jobs.rt crates/snapjudge/src/tests.rt crates/snapjudge/proofs/Main.antt crates/snap_sweep/src/main.rt test; do
+  echo more >>tree/$file
+  runs "a change of $file" old
+done
+mkdir -p elsewhere
+cp -r tree elsewhere/tree
+echo other >elsewhere/$main
+export CDPATH="$room/elsewhere"
+runs "another tree that cd would find" old
+echo new >$main
+builds "an edit beside it" new
+unset CDPATH
+
+echo old >$main
 echo "proved, on an older processor" >answer
-expect "an older processor" 0 "snapjudge 0 for x86-64-v2, proved with a prover
+expect "an older processor" 0 "snapjudge 1 for x86-64-v2, proved with a prover
 " tree/snapjudge --version
-sleep 1.1
-touch tree/crates/snapjudge/src/main.rt
+echo new >$main
 rm bin/rt
 expect "an edit, with no prover on the path" 70 "" env PATH=/usr/bin:/bin tree/snapjudge check
 
-echo "$passed passed, $failed failed"
+more=
+[ "$skipped" = 0 ] || more=", $skipped skipped"
+echo "$passed passed, $failed failed$more"
 [ "$failed" = 0 ]

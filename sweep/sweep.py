@@ -6,7 +6,8 @@ usage: sweep.py SHIM PROGRAM [CALLS]        where SHIM is built from refuse.c an
 Each run has to end with its whole answer, or say what failed and have written nothing, or a front of its text where it was a
 write that failed. CALLS makes each public call that takes memory and says of each how it ended. Texts that are cut or damaged
 are judged by the library in one process, where ffi/build has it, and some of them by the program. The tests run side by side,
-one for each processor. The last line is 'N passed, M failed'; the line before it says how much was refused.
+one for each processor. The last line is 'N passed, M failed', and ', K skipped' behind it where CALLS or the library is missing, which a line
+before it names.
 """
 import concurrent.futures
 import ctypes
@@ -446,16 +447,18 @@ def main():
     for each in list(cut_records()) + list(long_texts()):
         case = check(*each, 8)
         TESTS.add(case.name, TESTS.unrefused(case))
+    skipped = [] if sys.argv[3:] else ["the calls, snap_sweep is not built"]
     judge = judge_by_library()
     if judge is None:
-        print("sweep: the library is not built: fewer awkward texts")
+        skipped.append("awkward texts by the library, it is not built")
     else:
         TESTS.add("awkward texts, by the library", TESTS.awkward(awkward_texts(given + small), judge, 1))
     TESTS.add("awkward texts, by the program", TESTS.awkward(awkward_texts(given + small), judge_by_program, 97))
     said, passed, (allocations, threads, devices, texts) = run_all()
     print("".join(f"{line}\n" for line in said), end="")
     print(f"sweep: refused {allocations} allocations and {threads} threads, failed {devices} devices, cut or damaged {texts} texts")
-    print(f"{passed} passed, {len(TESTS.tests) - passed} failed")
+    print("".join(f"skipped: {what}\n" for what in skipped), end="")
+    print(f"{passed} passed, {len(TESTS.tests) - passed} failed" + (f", {len(skipped)} skipped" if skipped else ""))
     return passed < len(TESTS.tests)
 
 

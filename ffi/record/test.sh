@@ -1,7 +1,7 @@
 #!/usr/bin/env bash
 # Tries the recorders: the text of a worked run, the fault of each misuse, and recorded runs of a double collect, which must all
-# be atomic, and of a naive collect, of which those that were caught are counted. The last line is 'N passed, M failed'. A
-# language whose compiler is missing is skipped.
+# be atomic, and of a naive collect, of which some must be caught. The last line is 'N passed, M failed', with ', K skipped' behind
+# it where a tool is missing; a line before it names the language.
 # usage: test.sh [PROGRAM], where PROGRAM judges; it may stand in SNAPJUDGE_PROGRAM too
 unset CDPATH
 set -u
@@ -10,6 +10,7 @@ program=$(realpath -m "${1:-${SNAPJUDGE_PROGRAM:-$here/../../built/snapjudge}}")
 runs=20
 passed=0
 failed=0
+skipped=0
 work=$(mktemp -d)
 trap 'rm -rf "$work"' EXIT
 cd "$work" || exit 1
@@ -28,28 +29,60 @@ try() {
   fi
 }
 
-# has PROGRAM LANGUAGE: whether there is such a program; else says that the language is skipped
+# skip WHAT TOOL: counts what was not tried
+skip() {
+  echo "skipped: $1, $2 is not here"
+  skipped=$((skipped + 1))
+}
+
+# has PROGRAM LANGUAGE: whether there is such a program; else the language is skipped
 has() {
   command -v "$1" >/dev/null && return 0
-  echo "record: $2: skipped, there is no $1"
+  skip "$2" "$1"
   return 1
+}
+
+# run OBJECT COMMAND ..: the verdicts of the object's runs go to the file objects; a run that dies has a status of its own
+run() {
+  local object=$1
+  shift
+  timeout 300 "$@" "$program" "$object" $runs >objects && cat objects
 }
 
 # atomic COMMAND ..: each run of the double collect is atomic
 atomic() {
-  timeout 300 "$@" "$program" double $runs | tee objects && grep -qx "double: atomic $runs, regular 0, neither 0, refused 0" objects
+  run double "$@" && [ "$(cat objects)" = "double: atomic $runs, regular 0, neither 0, refused 0" ]
 }
 
-# objects LANGUAGE COMMAND ..: both objects, the second of which is only counted
+# caught COMMAND ..: each run of the naive collect is regular, and some are not atomic
+caught() {
+  run naive "$@" && [[ $(cat objects) =~ ^naive:\ atomic\ ([0-9]+),\ regular\ ([0-9]+),\ neither\ 0,\ refused\ 0$ ]] &&
+    [ $((BASH_REMATCH[1] + BASH_REMATCH[2])) = $runs ] && [ "${BASH_REMATCH[2]}" -gt 0 ]
+}
+
+# unjudged COMMAND ..: where the program dies, nothing is said of the runs
+unjudged() {
+  local status
+  timeout 60 "$@" "$work/dies" double 2 >objects
+  status=$?
+  [ $status != 0 ] && [ $status -lt 124 ] && ! [ -s objects ]
+}
+printf '#!/bin/sh\nkill -9 $$\n' >dies
+chmod +x dies
+
+# objects LANGUAGE COMMAND ..: both objects, and a program that dies
 objects() {
   local language=$1
   shift
   try "$language: double collect" atomic "$@"
-  echo "record: $language: $(timeout 300 "$@" "$program" naive $runs)"
+  try "$language: naive collect is caught" caught "$@"
+  echo "record: $language: $(cat objects)"
+  try "$language: a program that dies" unjudged "$@"
 }
 
 # worked COMMAND ..: the tests of misuse pass, and the text of the worked run is as it is to be
 worked() {
+  rm -f worked.csv
   timeout 60 "$@" worked.csv && cmp worked.csv "$here/worked.csv"
 }
 
@@ -82,7 +115,7 @@ full() {
 sanitizes() {
   echo 'int main(void) { return 0; }' >empty.c
   "$1" -fsanitize=thread -o empty empty.c 2>/dev/null && ./empty && return 0
-  echo "record: $2 without races: skipped, $1 has no ThreadSanitizer"
+  skip "$2 without races" "ThreadSanitizer of $1"
   return 1
 }
 
@@ -130,12 +163,14 @@ if [ -x "$program" ]; then
   has cc C && try_c
   has c++ C++ && try_cpp
   has rustc Rust && try_rust
-  has javac Java && try_java
+  has javac Java && has java Java && try_java
   has python3 Python && try_python
 else
   echo "record: there is no program $program"
   failed=$((failed + 1))
 fi
 
-echo "$passed passed, $failed failed"
+more=
+[ "$skipped" = 0 ] || more=", $skipped skipped"
+echo "$passed passed, $failed failed$more"
 [ "$failed" = 0 ]

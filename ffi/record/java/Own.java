@@ -101,6 +101,11 @@ public final class Own {
 
     public static void main(String[] words) throws IOException, InterruptedException {
         if (words.length < 3) throw new IllegalArgumentException("usage: Own PROGRAM OBJECT RUNS [none]");
+        // a thread that died made no whole run: nothing is said of it
+        Thread.setDefaultUncaughtExceptionHandler((thread, error) -> {
+            error.printStackTrace();
+            Runtime.getRuntime().halt(4);
+        });
         int[] found = new int[4];
         for (int runs = Integer.parseInt(words[2]); runs > 0; runs--)
             found[run(words[0], new Board(words[1].equals("double"), words.length == 3))]++;

@@ -81,10 +81,29 @@ class Misuse(unittest.TestCase):
         recorder.log(0).end_view([(1, 1, 1), (0, 1, 1)])
         self.assertFault(Fault.COMPONENT, recorder)
 
+    def test_component_of_another_kind(self):
+        for component in (True, 1.0, "1", None):
+            recorder = Recorder(1, 2, 4)
+            self.assertEqual(recorder.log(0).begin_update(component, 1), 0)
+            self.assertFault(Fault.COMPONENT, recorder)
+            recorder = Recorder(1, 2, 4)
+            self.assertTrue(recorder.log(0).begin_view())
+            recorder.log(0).end_view([(component, 1, 1)])
+            self.assertFault(Fault.COMPONENT, recorder)
+
     def test_value(self):
-        for value in (-1, 1 << 32, 1.5, "1"):
+        for value in (-1, 1 << 32, 1.5, "1", True, False):
             recorder = Recorder(1, 1, 4)
             self.assertEqual(recorder.log(0).begin_update(0, value), 0)
+            self.assertFault(Fault.VALUE, recorder)
+            for entry in ((0, value, 1), (0, 1, value)):
+                recorder = Recorder(1, 1, 4)
+                self.assertTrue(recorder.log(0).begin_view())
+                recorder.log(0).end_view([entry])
+                self.assertFault(Fault.VALUE, recorder)
+            recorder = Recorder(1, 1, 4)
+            self.assertTrue(recorder.log(0).begin_view())
+            recorder.log(0).end_view_values([value])
             self.assertFault(Fault.VALUE, recorder)
 
     def test_two_writers(self):

@@ -83,7 +83,15 @@ def run(program, is_double, yields):
     return status
 
 
+def stop(died):
+    """A thread that died made no whole run: nothing is said of it."""
+    sys.excepthook(died.exc_type, died.exc_value, died.exc_traceback)
+    sys.stderr.flush()
+    os._exit(4)
+
+
 def main():
+    threading.excepthook = stop
     if len(sys.argv) < 4:
         raise SystemExit("usage: own.py PROGRAM OBJECT RUNS [none]")
     program, name, runs = sys.argv[1:4]

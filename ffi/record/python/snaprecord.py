@@ -88,8 +88,12 @@ def _clock():
     return tick
 
 
+def _is_number_below(limit, number):
+    return type(number) is int and 0 <= number < limit  # True is an int as well, and would be written by its name
+
+
 def _has_32_bits(number):
-    return isinstance(number, int) and 0 <= number < 1 << 32
+    return _is_number_below(1 << 32, number)
 
 
 class Log:
@@ -122,7 +126,7 @@ class Log:
         return self._misused(Fault.AFTER_FULL if self._state is _State.REFUSED else Fault.NOT_OPEN)
 
     def _is_component(self, component):
-        return isinstance(component, int) and 0 <= component < self._recorder.components
+        return _is_number_below(self._recorder.components, component)
 
     def _begin(self, state, kind, data):
         self._state = state
