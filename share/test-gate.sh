@@ -12,6 +12,11 @@ mkdir -p "$room"/{bin,tree/{share,ffi/record,sweep,examples}}
 cp "$top/test" "$room/tree"
 echo "regular yes" >"$room/tree/examples/one.report"
 touch "$room/tree/examples/one.csv"
+# what has changed since a gate passed is what a file says
+echo "import sys; print(open('$room/touched').read() if sys.argv[1] == 'since' else 'snap_core 0', end='')" >"$room/tree/share/touched.py"
+touch "$room/touched"
+echo "snap_core:" >"$room/tree/crates.txt"
+mkdir -p "$room/tree/crates/snap_core/src" "$room/tree/crates/snap_core/must-fail"
 
 # A part that does what the file of its name says, or passes where there is none.
 stub() {
@@ -39,10 +44,12 @@ stub library ffi/test.sh 'echo "3 passed, 0 failed"'
 stub recorders ffi/record/test.sh 'echo "3 passed, 0 failed"'
 stub sweep sweep/test.sh 'echo "3 passed, 0 failed"'
 
-# expect NAME STATUS LAST [LINE]: the gate's status and its last line, and a line that must be among the others
+# expect NAME STATUS LAST [LINE]: the gate's status and its last line, and a line that must be among the others. The gate has
+# the words in `words`.
+words=()
 expect() {
   local name=$1 wanted=$2 last=$3 line=${4-} status
-  PATH="$room/bin:$PATH" "$room/tree/test" >"$room/out" 2>&1
+  PATH="$room/bin:$PATH" "$room/tree/test" "${words[@]}" >"$room/out" 2>&1
   status=$?
   if [ "$status" = "$wanted" ] && [[ $(tail -n 1 "$room/out") =~ ^$last$ ]] && { [ -z "$line" ] || grep -qF "$line" "$room/out"; }; then
     passed=$((passed + 1))
@@ -77,6 +84,19 @@ for file in share/test.sh ffi/test.sh ffi/record/test.sh sweep/test.sh build; do
   expect "$file is not there" 1 '[0-9]+ passed, [1-9][0-9]* failed'
   mv "$room/kept" "$room/tree/$file"
 done
+
+# what is tried of a change
+words=(--quick)
+expect "nothing has changed" 0 "4 passed, 0 failed" "left out: snap_core, since nothing of snap_core has changed"
+echo snap_core >"$room/touched"
+expect "a crate has changed" 0 "6 passed, 0 failed" "left out: launcher, since nothing of snapjudge share has changed"
+echo fails >"$room/proofs"
+expect "a changed crate fails" 1 "3 passed, 3 failed" "program was not reached: a crate has failed"
+rm "$room/proofs"
+rm "$room/tree/built/passed"
+expect "no gate has passed" 1 "no gate has passed here yet.*"
+words=(--slow)
+expect "a word that the gate does not know" 5 "usage: test.*"
 mkdir "$room/few"
 for tool in bash dirname mktemp touch rm; do
   ln -s "$(command -v "$tool")" "$room/few/$tool"
