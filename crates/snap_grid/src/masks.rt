@@ -4,6 +4,7 @@ ghost use Rattle.snap_grid.specs.Masks.{mask_by};
 use crate::bounds::Bounds;
 use crate::facing::Facing;
 use crate::mask::{Mask, mask_of_all};
+use crate::ranked::Ranked;
 use std::alloc::{AllocError, Global};
 use std::marker::Model;
 
@@ -24,7 +25,7 @@ pub(crate) fn mask_under(numbers: &[u32], x: u64) -> Mask
 }
 
 // So many masks of no row.
-fn empty_masks(alloc: Global, count: usize) -> Result<Vec<Mask>, AllocError>
+pub(crate) fn empty_masks(alloc: Global, count: usize) -> Result<Vec<Mask>, AllocError>
     ensures count { IfOk result (λ masks. length masks.items ≡ count) }
     ensures empty { IfOk result (λ masks. (x : ℕ) → get_or masks.items x 0 ≡ 0) }
 {
@@ -37,7 +38,7 @@ fn empty_masks(alloc: Global, count: usize) -> Result<Vec<Mask>, AllocError>
 
 // Makes a table of empty masks one of the masks of the numbers below each x, counted on from the least: at x + 1 the numbers
 // that are x are put first, and then each mask is joined to the next.
-fn fill(table: &mut [Mask], numbers: &[u32], least: u32)
+pub(crate) fn fill(table: &mut [Mask], numbers: &[u32], least: u32)
     requires few { length numbers.now ≤ 512 }
     requires empty { (x : ℕ) → get_or table.old x 0 ≡ 0 }
     requires least { (i : ℕ) → i < length numbers.now → least ≤ get_or numbers.now i 0 }
@@ -61,6 +62,8 @@ pub(crate) struct Masks<'c> {
     // behind an empty mask those of the numbers below each x from the least to two more than the greatest; nothing, where these
     // are too far apart
     under: Vec<Mask>,
+    // what has the masks in place of the table, where there is none
+    ranked: Option<Ranked<'c>>,
     // the mask of all
     all: Mask,
 }
@@ -73,7 +76,7 @@ impl<'c> Model for Masks<'c> {
 
     ghost view = { λ m. m.numbers.now };
 
-    ghost invariant = { λ m. AreTables m.numbers.now m.bounds m.under.items m.all };
+    ghost invariant = { λ m. AreTables m.numbers.now m.bounds m.under.items m.ranked m.all };
 }
 
 impl<'c> Masks<'c> {
@@ -85,15 +88,19 @@ impl<'c> Masks<'c> {
     {
         let bounds = Bounds::of(numbers);
         let mut under = Vec::new(alloc);
+        let mut ranked = None;
         let spread = bounds.greatest.saturating_sub(bounds.least);
         if spread <= limit {
             under = empty_masks(alloc, spread as usize + 4)?;
             fill(&mut under[1..], numbers, bounds.least);
+        } else {
+            ranked = Some(Ranked::of(alloc, numbers, limit + 2)?);
         }
         Ok(Masks {
             numbers,
             bounds,
             under,
+            ranked,
             all: mask_of_all(numbers.len()),
         })
     }
@@ -114,6 +121,7 @@ impl<'c> Masks<'c> {
             ours: self.numbers,
             bounds: self.bounds,
             under: &self.under,
+            ranked: &self.ranked,
             theirs,
         }
     }
