@@ -8,22 +8,6 @@ use crate::ranked::Ranked;
 use std::alloc::{AllocError, Global};
 use std::marker::Model;
 
-// The mask of the numbers below x.
-#[cold]
-#[inline(never)]
-pub(crate) fn mask_under(numbers: &[u32], x: u64) -> Mask
-    requires { length numbers.now ≤ 512 }
-    ensures { result ≡ mask_by (λ n. nat_lt n x) numbers.now }
-{
-    let mut mask = Mask::none();
-    for i in 0..numbers.len() {
-        if u64::from(numbers[i]) < x {
-            mask.set(i);
-        }
-    }
-    mask
-}
-
 // So many masks of no row.
 pub(crate) fn empty_masks(alloc: Global, count: usize) -> Result<Vec<Mask>, AllocError>
     ensures count { IfOk result (λ masks. length masks.items ≡ count) }
@@ -62,7 +46,7 @@ pub(crate) struct Masks<'c> {
     // behind an empty mask those of the numbers below each x from the least to two more than the greatest; nothing, where these
     // are too far apart
     under: Vec<Mask>,
-    // what has the masks in place of the table, where there is none
+    // the numbers by their ranks, where there is no table
     ranked: Option<Ranked<'c>>,
     // the mask of all
     all: Mask,
@@ -94,7 +78,7 @@ impl<'c> Masks<'c> {
             under = empty_masks(alloc, spread as usize + 4)?;
             fill(&mut under[1..], numbers, bounds.least);
         } else {
-            ranked = Some(Ranked::of(alloc, numbers, limit + 2)?);
+            ranked = Some(Ranked::of(alloc, numbers, limit + 1)?);
         }
         Ok(Masks {
             numbers,
@@ -136,7 +120,10 @@ impl<'c> Masks<'c> {
         } else if self.bounds.greatest < x {
             self.all.copy()
         } else if self.under.is_empty() {
-            mask_under(self.numbers, u64::from(x))
+            let Some(ranked) = &self.ranked else {
+                unreachable!()
+            };
+            ranked.around(x).below.copy()
         } else {
             self.under[(x - self.bounds.least) as usize + 1].copy()
         }
