@@ -139,6 +139,131 @@ fn numbers_above_the_limit_are_compared_too(rt: HostRuntime) -> Result<(), Fail>
     )
 }
 
+// The first three rows fall to the last (1 > 0), the far one to the four behind it, and the next three to the last (2 > 0):
+// 3 + 4 + 3.
+#[test]
+fn one_far_number_is_greater_than_all_others_of_its_block(rt: HostRuntime) -> Result<(), Fail> {
+    expect_falls(
+        &rt,
+        rt.alloc(),
+        &[(3, 1), (1, u32::MAX), (3, 2), (1, 0)],
+        2,
+        &[
+            (0, 8, 10, Some(0)),
+            (3, 4, 4, Some(3)),
+            (4, 7, 3, Some(4)),
+            (7, 8, 0, None),
+        ],
+    )
+}
+
+// Row 0 falls to the four others, row 1 to none but row 4, row 2 to the two behind it, and row 3 to row 4: 4 + 1 + 2 + 1.
+#[test]
+fn numbers_that_are_all_far_apart_are_compared_by_their_ranks(rt: HostRuntime) -> Result<(), Fail> {
+    expect_falls(
+        &rt,
+        rt.alloc(),
+        &[
+            (1, u32::MAX),
+            (1, 1_000_000_000),
+            (1, u32::MAX - 1),
+            (1, 3_000_000_000),
+            (1, 999_999_999),
+        ],
+        0,
+        &[
+            (0, 5, 8, Some(0)),
+            (1, 2, 1, Some(1)),
+            (2, 4, 3, Some(2)),
+            (4, 5, 0, None),
+        ],
+    )
+}
+
+// Each of the first two rows falls to the four rows with a 9, and each of the other two with the greatest number to the last
+// row: 2 * 4 + 2 * 1. No row falls to one of the same number.
+#[test]
+fn equal_far_numbers_have_the_same_rank(rt: HostRuntime) -> Result<(), Fail> {
+    expect_falls(
+        &rt,
+        rt.alloc(),
+        &[(2, u32::MAX), (3, 9), (2, u32::MAX), (1, 9)],
+        1,
+        &[
+            (0, 8, 10, Some(0)),
+            (2, 5, 0, None),
+            (4, 6, 1, Some(5)),
+            (7, 8, 0, None),
+        ],
+    )
+}
+
+// The numbers 7 to 10 are near the least, and the last is not: each of the rows with 10, 9 and 8 falls to those of a lesser
+// number behind it, which are 3 + 2 + 1, and the first to the four others.
+#[test]
+fn numbers_near_the_least_and_far_from_it_stand_in_one_block(rt: HostRuntime) -> Result<(), Fail> {
+    expect_falls(
+        &rt,
+        rt.alloc(),
+        &[(1, u32::MAX), (1, 10), (1, 9), (1, 8), (1, 7)],
+        4,
+        &[(0, 5, 10, Some(0)), (1, 4, 6, Some(1)), (3, 5, 1, Some(3))],
+    )
+}
+
+// The one row of the second block has a number between the two of the first: row 0 falls to it and to the 511 rows of 0.
+#[test]
+fn a_block_of_far_numbers_faces_one_of_a_single_row(rt: HostRuntime) -> Result<(), Fail> {
+    expect_falls(
+        &rt,
+        rt.alloc(),
+        &[(1, u32::MAX), (511, 0), (1, 1_000_000)],
+        0,
+        &[
+            (0, 513, 512, Some(0)),
+            (1, 513, 0, None),
+            (512, 513, 0, None),
+        ],
+    )
+}
+
+// The second block begins with a number that is greater than all of the first, to which none falls. It falls to the last row,
+// and so does the last row of the first block.
+#[test]
+fn a_number_behind_all_ranks_of_a_block_is_less_than_none_of_them(
+    rt: HostRuntime,
+) -> Result<(), Fail> {
+    expect_falls(
+        &rt,
+        rt.alloc(),
+        &[(511, 0), (1, 5_000_000), (1, u32::MAX), (1, 4)],
+        3,
+        &[
+            (0, 514, 2, Some(511)),
+            (0, 511, 0, None),
+            (511, 512, 1, Some(511)),
+            (512, 514, 1, Some(512)),
+        ],
+    )
+}
+
+// Of the first two rows each has the greater number in one column, and the third is less than none of them in any.
+#[test]
+fn rows_that_are_crossed_in_far_numbers_clash_both_ways(rt: HostRuntime) -> Result<(), Fail> {
+    let alloc = rt.alloc();
+    for (apart, drops) in [(false, 0), (true, 1)] {
+        let first = runs(alloc, &[(1, u32::MAX - 1), (1, 0), (1, u32::MAX)])?;
+        let second = runs(alloc, &[(1, 0), (1, u32::MAX - 1), (1, u32::MAX)])?;
+        assert!(rt; first.len() == 3);
+        let grid = grid_of(&rt, alloc, first, second, 2, apart)?;
+        let found = grid.clashes(alloc, 0, 3)?;
+        assert_eq!(rt; found.count, 2);
+        assert_eq!(rt; found.drops, drops);
+        assert_eq!(rt; found.first, Some(0));
+    }
+    Ok(())
+}
+
 #[test]
 fn crossed_rows_clash_both_ways_and_drop_only_to_later_ones(rt: HostRuntime) -> Result<(), Fail> {
     let alloc = rt.alloc();
@@ -222,6 +347,26 @@ fn the_first_row_that_one_falls_to_may_stand_blocks_behind_it(rt: HostRuntime) -
             (699, Some(700)),
             (700, Some(1101)),
             (701, Some(1101)),
+            (1101, None),
+        ],
+    )
+}
+
+#[test]
+fn the_first_row_that_one_of_a_far_number_falls_to_is_found_by_blocks(
+    rt: HostRuntime,
+) -> Result<(), Fail> {
+    expect_first(
+        &rt,
+        rt.alloc(),
+        &[(700, u32::MAX), (1, 1_000_000), (400, u32::MAX), (1, 3)],
+        &[(1102, 0)],
+        true,
+        &[
+            (0, Some(700)),
+            (699, Some(700)),
+            (700, Some(1101)),
+            (1100, Some(1101)),
             (1101, None),
         ],
     )

@@ -5,3 +5,4 @@ pub mod Clashing
 pub mod Faces
 pub mod Joining
 pub mod Kindred
+pub mod Ranking

@@ -17,6 +17,10 @@ faces more told near far a b = (told || any_faces more near a b) || any_faces mo
 abbrev pub AreTabled : List Facing → Type 0
 AreTabled columns = (j : ℕ) (column : Facing) → j < length columns → 0 < length (get_or columns j column).under.now
 
+-- no column has a table
+abbrev pub AreFar : List Facing → Type 0
+AreFar columns = (j : ℕ) (column : Facing) → j < length columns → length (get_or columns j column).under.now ≡ 0
+
 -- columns of n rows of ours and m rows of theirs
 pub record AreFacing (columns : List Facing) (n m : ℕ) : Type 0 where
   pub ours : (j : ℕ) (column : Facing) → j < length columns → length (get_or columns j column).ours.now ≡ n

@@ -1,6 +1,7 @@
 pub mod Columns
 pub mod Masks
 pub mod Tables
+pub mod Ranked
 pub mod Kept
 pub mod Kinds
 pub mod Facing

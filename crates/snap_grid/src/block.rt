@@ -2,7 +2,7 @@ ghost use Rattle.std.specs.Prelude.{◌≡◌, ◌≤◌, ◌<◌, ◌+◌, ◌*
 ghost use Rattle.snap_grid.specs.Columns.{any_passes};
 ghost use Rattle.snap_grid.specs.Masks.{mask_below};
 ghost use Rattle.snap_grid.specs.Kept.{AreRows, HaveRows};
-ghost use Rattle.snap_grid.specs.Facing.{AreFacing, AreTabled, IsWhole, any_faces, faces};
+ghost use Rattle.snap_grid.specs.Facing.{AreFacing, AreFar, AreTabled, IsWhole, any_faces, faces};
 
 use crate::bounds::Bounds;
 use crate::column::Column;
@@ -64,6 +64,7 @@ pub(crate) struct Against<'b, 'g> {
     ours: usize,
     theirs: usize,
     ghost near_tabled: { AreTabled near.items },
+    ghost far_ranked: { AreFar far.items },
     ghost near_facing: { AreFacing near.items ours theirs },
     ghost far_facing: { AreFacing far.items ours theirs },
     ghost whole: { IsWhole all.now ours theirs },
@@ -147,8 +148,12 @@ impl<'b, 'g> Against<'b, 'g> {
         let mut at_most = near_at_most.copy();
         let mut less = near_less.copy();
         for j in 0..self.far.len() {
-            at_most = at_most.and(&self.far[j].at_most(row));
-            less = less.or(&self.far[j].below(row));
+            if at_most.or(&less.xor(self.all)).is_none() {
+                return self.full();
+            }
+            let far = self.far[j].around_far(row);
+            at_most = at_most.and(far.at_most);
+            less = less.or(far.below);
         }
         Passing {
             more: self.all.xor(&at_most),

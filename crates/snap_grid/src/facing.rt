@@ -1,11 +1,11 @@
-ghost use Rattle.std.specs.Prelude.{◌≡◌, ◌≤◌, ◌<◌, ◌+◌, ℕ, length, get_or, nat_lt};
+ghost use Rattle.std.specs.Prelude.{◌≡◌, ◌<◌, ◌+◌, length, nat_lt};
 ghost use Rattle.snap_grid.specs.Columns.{number};
 ghost use Rattle.snap_grid.specs.Masks.{mask_by};
-ghost use Rattle.snap_grid.specs.Tables.{AreUnder};
+ghost use Rattle.snap_grid.specs.Tables.{AreRankedElse, AreUnder};
 
 use crate::bounds::Bounds;
 use crate::mask::Mask;
-use crate::masks::mask_under;
+use crate::ranked::Ranked;
 
 // A column whose bounds do not tell all of our rows and of a block of theirs.
 #[derive(Drop)]
@@ -14,8 +14,11 @@ pub(crate) struct Facing<'b, 'g> {
     pub(crate) bounds: Bounds,
     // the table of our masks, if there is one
     pub(crate) under: &'b [Mask],
+    // our numbers by their ranks, if there is no table
+    pub(crate) ranked: &'b Option<Ranked<'g>>,
     pub(crate) theirs: &'g [u32],
     ghost tables: { AreUnder ours.now bounds under.now },
+    ghost ranked_else: { AreRankedElse ours.now under.now ranked.now },
 }
 
 // The masks of our numbers below one of theirs, and of those that are at most that.
@@ -43,21 +46,16 @@ impl<'b, 'g> Facing<'b, 'g> {
         }
     }
 
-    // The mask of our numbers below one of theirs, where there is no table.
-    pub(crate) fn below(&self, row: usize) -> Mask
-        requires few { length self.now.ours.now ≤ 512 }
+    // The masks around a number of theirs, where there is no table.
+    pub(crate) fn around_far(&self, row: usize) -> Around<'b>
+        requires far { length self.now.under.now ≡ 0 }
         requires row { row < length self.now.theirs.now }
-        ensures { result ≡ mask_by (λ n. nat_lt n (number self.now.theirs.now row)) self.now.ours.now }
+        ensures below { result.below.now ≡ mask_by (λ n. nat_lt n (number self.now.theirs.now row)) self.now.ours.now }
+        ensures at_most { result.at_most.now ≡ mask_by (λ n. nat_lt n (number self.now.theirs.now row + 1)) self.now.ours.now }
     {
-        mask_under(self.ours, u64::from(self.theirs[row]))
-    }
-
-    // The mask of our numbers that are at most one of theirs, where there is no table.
-    pub(crate) fn at_most(&self, row: usize) -> Mask
-        requires few { length self.now.ours.now ≤ 512 }
-        requires row { row < length self.now.theirs.now }
-        ensures { result ≡ mask_by (λ n. nat_lt n (number self.now.theirs.now row + 1)) self.now.ours.now }
-    {
-        mask_under(self.ours, u64::from(self.theirs[row]) + 1)
+        let Some(ranked) = self.ranked else {
+            unreachable!()
+        };
+        ranked.around(self.theirs[row])
     }
 }

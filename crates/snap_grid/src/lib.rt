@@ -10,6 +10,7 @@ mod kind;
 mod kinds;
 mod mask;
 mod masks;
+mod ranked;
 
 pub use bounds::Bounds;
 pub use column::Column;

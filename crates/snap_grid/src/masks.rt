@@ -4,27 +4,12 @@ ghost use Rattle.snap_grid.specs.Masks.{mask_by};
 use crate::bounds::Bounds;
 use crate::facing::Facing;
 use crate::mask::{Mask, mask_of_all};
+use crate::ranked::Ranked;
 use std::alloc::{AllocError, Global};
 use std::marker::Model;
 
-// The mask of the numbers below x.
-#[cold]
-#[inline(never)]
-pub(crate) fn mask_under(numbers: &[u32], x: u64) -> Mask
-    requires { length numbers.now ≤ 512 }
-    ensures { result ≡ mask_by (λ n. nat_lt n x) numbers.now }
-{
-    let mut mask = Mask::none();
-    for i in 0..numbers.len() {
-        if u64::from(numbers[i]) < x {
-            mask.set(i);
-        }
-    }
-    mask
-}
-
 // So many masks of no row.
-fn empty_masks(alloc: Global, count: usize) -> Result<Vec<Mask>, AllocError>
+pub(crate) fn empty_masks(alloc: Global, count: usize) -> Result<Vec<Mask>, AllocError>
     ensures count { IfOk result (λ masks. length masks.items ≡ count) }
     ensures empty { IfOk result (λ masks. (x : ℕ) → get_or masks.items x 0 ≡ 0) }
 {
@@ -37,7 +22,7 @@ fn empty_masks(alloc: Global, count: usize) -> Result<Vec<Mask>, AllocError>
 
 // Makes a table of empty masks one of the masks of the numbers below each x, counted on from the least: at x + 1 the numbers
 // that are x are put first, and then each mask is joined to the next.
-fn fill(table: &mut [Mask], numbers: &[u32], least: u32)
+pub(crate) fn fill(table: &mut [Mask], numbers: &[u32], least: u32)
     requires few { length numbers.now ≤ 512 }
     requires empty { (x : ℕ) → get_or table.old x 0 ≡ 0 }
     requires least { (i : ℕ) → i < length numbers.now → least ≤ get_or numbers.now i 0 }
@@ -61,6 +46,8 @@ pub(crate) struct Masks<'c> {
     // behind an empty mask those of the numbers below each x from the least to two more than the greatest; nothing, where these
     // are too far apart
     under: Vec<Mask>,
+    // the numbers by their ranks, where there is no table
+    ranked: Option<Ranked<'c>>,
     // the mask of all
     all: Mask,
 }
@@ -73,7 +60,7 @@ impl<'c> Model for Masks<'c> {
 
     ghost view = { λ m. m.numbers.now };
 
-    ghost invariant = { λ m. AreTables m.numbers.now m.bounds m.under.items m.all };
+    ghost invariant = { λ m. AreTables m.numbers.now m.bounds m.under.items m.ranked m.all };
 }
 
 impl<'c> Masks<'c> {
@@ -85,15 +72,19 @@ impl<'c> Masks<'c> {
     {
         let bounds = Bounds::of(numbers);
         let mut under = Vec::new(alloc);
+        let mut ranked = None;
         let spread = bounds.greatest.saturating_sub(bounds.least);
         if spread <= limit {
             under = empty_masks(alloc, spread as usize + 4)?;
             fill(&mut under[1..], numbers, bounds.least);
+        } else {
+            ranked = Some(Ranked::of(alloc, numbers, limit + 1)?);
         }
         Ok(Masks {
             numbers,
             bounds,
             under,
+            ranked,
             all: mask_of_all(numbers.len()),
         })
     }
@@ -114,6 +105,7 @@ impl<'c> Masks<'c> {
             ours: self.numbers,
             bounds: self.bounds,
             under: &self.under,
+            ranked: &self.ranked,
             theirs,
         }
     }
@@ -128,7 +120,10 @@ impl<'c> Masks<'c> {
         } else if self.bounds.greatest < x {
             self.all.copy()
         } else if self.under.is_empty() {
-            mask_under(self.numbers, u64::from(x))
+            let Some(ranked) = &self.ranked else {
+                unreachable!()
+            };
+            ranked.around(x).below.copy()
         } else {
             self.under[(x - self.bounds.least) as usize + 1].copy()
         }

@@ -1,6 +1,6 @@
 use Rattle.std.proofs.Common.{◌≡◌, ◌+◌, ◌*◌, ◌<◌, ◌++◌, ◌∷◌, [], ℕ, length, get_or, sym, ap, ◌∙◌, arith}
 use Rattle.std.specs.Prelude.{true, false}
-use Rattle.std.proofs.lemmas.Bool.{eqb-false}
+use Rattle.std.proofs.lemmas.Bool.{eqb-false, eqb-true}
 use Rattle.snap_grid.specs.declared.facing.Facing.{Facing}
 use Rattle.snap_grid.proofs.Faces.{far_pushed, near_pushed, faces_passed_over, ours_length}
 use Rattle.snap_grid.proofs.Joining.{pushed}
@@ -13,6 +13,7 @@ loop-j-init c =
     let b = c.args.self.now in
     rw (c.new-near.ensures.items, c.new-far.ensures.items) (record {
       tabled = λ k column l. absurd (omega (arith, l));
+      ranked = λ k column l. absurd (omega (arith, l));
       near = record { ours = λ k column l. absurd (omega (arith, l)); theirs = λ k column l. absurd (omega (arith, l)) };
       far = record { ours = λ k column l. absurd (omega (arith, l)); theirs = λ k column l. absurd (omega (arith, l)) };
       more = λ h a i k l. sym (any_none true (b.from + a) (c.args.block * 512 + i));
@@ -34,6 +35,7 @@ loop-j-preserved c =
           let theirs = w.facing-column.ensures.theirs ∙ w.rows-theirs.ensures in
           rw (items, near) (record {
             tabled = before.tabled;
+            ranked = pushed (λ (f : Facing). length f.under.now ≡ 0) c.loop-j.far.items new before.ranked (eqb-true _ _ (sym w.is_empty.ensures ∙ w.if-is_empty.true));
             near = before.near;
             far = record {
               ours = pushed (λ (f : Facing). length f.ours.now ≡ b.count) c.loop-j.far.items new before.far.ours (ours_length b.columns.now b.masks.items b.from b.count b.all j new.ours.now b.rows l ours);
@@ -50,6 +52,7 @@ loop-j-preserved c =
           let theirs = w.facing-column.ensures.theirs ∙ w.rows-theirs.ensures in
           rw (items, far) (record {
             tabled = pushed (λ (f : Facing). 0 < length f.under.now) c.loop-j.near.items new before.tabled (omega (arith, eqb-false _ _ (sym w.is_empty.ensures ∙ w.if-is_empty.false)));
+            ranked = before.ranked;
             near = record {
               ours = pushed (λ (f : Facing). length f.ours.now ≡ b.count) c.loop-j.near.items new before.near.ours (ours_length b.columns.now b.masks.items b.from b.count b.all j new.ours.now b.rows l ours);
               theirs = pushed (λ (f : Facing). length f.theirs.now ≡ c.args.count) c.loop-j.near.items new before.near.theirs (theirs_count b.columns.now j c.args.block c.args.count new.theirs.now w.index-self-j-then-is_open.result l c.requires.rows theirs);
@@ -65,6 +68,7 @@ loop-j-preserved c =
           let theirs = λ (i : ℕ) (m : i < c.args.count). theirs_at b.columns.now j c.args.block (c.args.block * 512 + i) c.index-self-j.result c.bounds-theirs.result l c.bounds-theirs.ensures (omega arith) (omega (arith, m, c.requires.few)) (λ x y. omega (arith, m, c.requires.rows x y)) in
           rw (near, far) (record {
             tabled = before.tabled;
+            ranked = before.ranked;
             near = before.near;
             far = before.far;
             more = λ h a i k m. faces_passed_over true b.columns.now j (b.from + a) (c.args.block * 512 + i) _ l (none_passes true _ _ c.bounds-ours.result c.bounds-theirs.result (ours a k) (theirs i m) (c.is_open.ensures.more w.if-is_open.false h)) (before.more h a i k m);

@@ -1,9 +1,10 @@
 use Rattle.std.proofs.Common.{◌≡◌, ◌≤◌, ◌<◌, ◌+◌, ◌-◌, ◌++◌, ◌∷◌, [], ℕ, List, take, drop, length, get_or, ap, ◌∙◌, refl, arith, length-drop}
+use Rattle.std.specs.Prelude.{Some}
 use Rattle.std.proofs.lemmas.List.{nil_from_length, append-nil, with_items_is}
 use Rattle.snap_grid.specs.declared.bounds.Bounds.{Bounds}
 use Rattle.snap_grid.specs.Tables.{AreUnder}
 use Rattle.snap_grid.proofs.masks.Masks.of.Goals as goal
-use Rattle.snap_grid.proofs.masks.Masks.of.Goals.{then-spread-limit+in_ok-under, else-spread-limit}
+use Rattle.snap_grid.proofs.masks.Masks.of.Goals.{then-spread-limit+in_ok-under, else-spread-limit+in_ok-of}
 use borrow.Rule.Slice.PartMut.{post_of}
 
 -- a table that was filled behind its first mask
@@ -31,12 +32,14 @@ invariant_of-result c =
           record {
             few = c.requires.numbers;
             tabled = rw items (record { bounded = c.of-bounds.ensures; first = ap (λ z. get_or z 0 0) w.deref_mut.ensures.value ∙ w.in_ok-under.ensures.empty 0; tabled = λ x l. w.fill.ensures.tabled x (omega (arith, l, w.fill.ensures.size)); long = λ l. (omega (arith, size, w.fill.ensures.size), omega (arith, size, w.fill.ensures.size, c.saturating_sub-spread.ensures)) });
+            ranked_else = λ none. absurd (omega (arith, none, ap length items));
             whole = c.mask_of_all.ensures;
           }
-      | else-spread-limit w ↦
+      | else-spread-limit+in_ok-of w ↦
           record {
             few = c.requires.numbers;
             tabled = no_table c.args.numbers.now c.of-bounds.result c.if-spread-limit.under.items c.of-bounds.ensures (ap (λ v. v.items) w.under-is ∙ c.new-under.ensures.items);
+            ranked_else = λ none. w.ranked-is ∙ ap Some w.in_ok-of.ensures;
             whole = c.mask_of_all.ensures;
           }
     ]
