@@ -6,6 +6,7 @@ use Rattle.snap_account.specs.declared.account.Answer.{Answer}
 use Rattle.snap_account.specs.declared.account.Answer.TheVariants.{Stored, Viewed, Scanned, Interfered}
 use Rattle.snap_account.specs.declared.account.Doing.{Doing}
 use Rattle.snap_account.specs.declared.account.Doing.TheVariants.{Idle, Begun, Written, Viewing, Scanning}
+use Rattle.snap_account.specs.declared.account.Scan.{Scan}
 use Rattle.snap_account.specs.Calls.{Mem, Write, Look, Mark, write, look, op_marks, marks_in, marks_of, middles_of, all_stamps, op_writes, op_looks, writes_in, looks_in, stamps_in, open_writes, open_looks, open_stamps, writes_of, looks_of, stamps_of, op_entry, latest, open_entry, in_word}
 use Rattle.snap_account.specs.Rule.{Own}
 use Rattle.snap_account.proofs.Lists.{mem_split, mem_left, mem_right, mem_one, numbered_mem}
@@ -13,8 +14,16 @@ use Rattle.snap_account.proofs.Lists.{mem_split, mem_left, mem_right, mem_one, n
 abbrev pub acct : ℕ → List Answered → Doing → ℕ → Account
 acct d rs o t = record { desk = d; calls = rs; doing = o; ticks = t }
 
+abbrev pub rec_with : ℕ → List ℕ → ℕ → Answer → Answered
+rec_with b ms e o = record { begun = b; middles = ms; ended = e; op = o }
+
+-- a call without middle ticks
 abbrev pub rec : ℕ → ℕ → Answer → Answered
-rec b e o = record { begun = b; ended = e; op = o }
+rec b e o = rec_with b [] e o
+
+-- the scan, answered
+abbrev pub rec_scan : Scan → ℕ → Answer → Answered
+rec_scan s e o = rec_with s.begun s.middles e o
 
 pub writes_in-append : (rs qs : List Answered) → writes_in (rs ++ qs) ≡ writes_in rs ++ writes_in qs
 writes_in-append [] qs = refl

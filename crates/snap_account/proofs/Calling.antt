@@ -11,7 +11,7 @@ use Rattle.snap_account.specs.Calls.{Mem, Look, look, looks_in, stamps_in, begun
 use Rattle.snap_account.specs.Rule.{code, first_step}
 use Rattle.snap_account.specs.Plays.{Seated, entry_of, Above, ReadAll}
 use Rattle.snap_account.specs.Hands.{idle, answered_of, showing, has_read}
-use Rattle.snap_account.proofs.Accounts.{acct, rec}
+use Rattle.snap_account.proofs.Accounts.{acct, rec, rec_scan}
 use Rattle.snap_account.proofs.Moves.{code_number}
 use Rattle.snap_account.proofs.Reading.{looks_over}
 
@@ -39,11 +39,11 @@ stored_after me now d rs t b e m v is told = told ∙ ap (λ (x : Seated). (firs
 pub viewed_after : (me now : Seated) (d : ℕ) (rs : List Answered) (t b e : ℕ) (xs : List (ℕ × ℕ)) → me ≡ at_desk (acct d rs (Viewing b xs) t) → now ≡ (first_step (ended e) me.0, me.1) → now ≡ at_desk (idle d (rs ++ rec b e (Viewed xs) ∷ []) (t + 1))
 viewed_after me now d rs t b e xs is told = told ∙ ap (λ (x : Seated). (first_step (ended e) x.0, x.1)) is
 
-pub scanned_after : (me now : Seated) (d : ℕ) (rs : List Answered) (t e : ℕ) (s : Scan) → me ≡ at_desk (acct d rs (Scanning s) t) → now ≡ (first_step (ended e) me.0, me.1) → now ≡ at_desk (idle d (rs ++ rec s.begun e (Scanned s.middle s.since) ∷ []) (t + 1))
+pub scanned_after : (me now : Seated) (d : ℕ) (rs : List Answered) (t e : ℕ) (s : Scan) → me ≡ at_desk (acct d rs (Scanning s) t) → now ≡ (first_step (ended e) me.0, me.1) → now ≡ at_desk (idle d (rs ++ rec_scan s e (Scanned s.middle s.since) ∷ []) (t + 1))
 scanned_after me now d rs t e s is told = told ∙ ap (λ (x : Seated). (first_step (ended e) x.0, x.1)) is
 
 pub gave_up_after : (me now : Seated) (d : ℕ) (rs : List Answered) (t e : ℕ) (s : Scan) → me ≡ at_desk (acct d rs (Scanning s) t) → now ≡ (first_step (gave_up e) me.0, me.1)
-    → now ≡ at_desk (idle d (rs ++ rec s.begun e (Interfered s.made s.first s.since) ∷ []) (t + 1))
+    → now ≡ at_desk (idle d (rs ++ rec_scan s e (Interfered (length s.middles) s.first s.since) ∷ []) (t + 1))
 gave_up_after me now d rs t e s is told = told ∙ ap (λ (x : Seated). (first_step (gave_up e) x.0, x.1)) is
 
 pub middled_after : (me now : Seated) (d : ℕ) (rs : List Answered) (o : Doing) (t e : ℕ) → me ≡ at_desk (acct d rs o t) → now ≡ (first_step (middled e) me.0, me.1) → now ≡ at_desk (acct d rs (middle_open e o) (t + 1))

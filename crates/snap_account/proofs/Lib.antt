@@ -2,6 +2,7 @@ pub mod Lists
 pub mod Accounts
 pub mod Core
 pub mod Ticks
+pub mod Drawing
 pub mod Stores
 pub mod Steps
 pub mod Marking

@@ -1,5 +1,5 @@
 -- Each kind of step keeps what holds of scans.
-use Rattle.std.proofs.Common.{◌≡◌, ℕ, suc, ◌+◌, ◌<◌, ◌≤◌, ◌≢◌, ◌⊎◌, true, false, true≢false, List, [], ◌∷◌, ◌++◌, length, set, sym, refl, ap, ◌∙◌, subst, inl, inr, ⊎_elim, arith, append-nil}
+use Rattle.std.proofs.Common.{◌≡◌, ℕ, suc, ◌+◌, ◌<◌, ◌≤◌, ◌≢◌, ◌⊎◌, true, false, true≢false, List, [], ◌∷◌, ◌++◌, length, set, sym, refl, ap, ◌∙◌, subst, inl, inr, ⊎_elim, arith, append-nil, length-append}
 use mathlib.Core.Option.{some, some-injective, some-ne-none}
 use native.Mathlib.Decide.{ℕ_discrete}
 use lib.ListN.{get_elem?}
@@ -13,7 +13,7 @@ use Rattle.snap_account.specs.Calls.{Mem, Write, Look, Mark, write, look, mark, 
 use Rattle.snap_account.specs.Rule.{Core, Numbered, clock}
 use Rattle.snap_account.specs.Marks.{Spans, InTurn, Inside, HasClimbed, Climbs, Marked, sum}
 use Rattle.snap_account.proofs.Lists.{mem_split, mem_left, mem_right, mem_one, at_push, at_below}
-use Rattle.snap_account.proofs.Accounts.{acct, rec, writes_in-append, marks_in-append, latest-push, look_in_all, write_in_all, middle_in_all, number_le}
+use Rattle.snap_account.proofs.Accounts.{acct, rec, rec_scan, writes_in-append, marks_in-append, latest-push, look_in_all, write_in_all, middle_in_all, number_le}
 use Rattle.snap_account.proofs.Steps.{scan}
 
 off : false ≡ true → ⊥
@@ -281,10 +281,10 @@ module _ (n : ℕ) (b : List Account) (h : Core n b) (g : Marked n b) (k d : ℕ
 
   -- kind 9, the first
   pub middles_first : (b0 : ℕ) (xs : List (ℕ × ℕ)) → get_elem? b k ≡ some (acct d rs (Viewing b0 xs) t) → length xs ≡ n
-      → (let a' = acct d rs (Scanning (scan b0 xs 1 (clock b) xs [])) (t + 1) in Core n (set b k a') → clock (set b k a') ≤ clock b + 1 → Marked n (set b k a'))
+      → (let a' = acct d rs (Scanning (scan b0 xs (clock b ∷ []) (clock b) xs [])) (t + 1) in Core n (set b k a') → clock (set b k a') ≤ clock b + 1 → Marked n (set b k a'))
   middles_first b0 xs at all h' up =
       let a = acct d rs (Viewing b0 xs) t in
-      let a' = acct d rs (Scanning (scan b0 xs 1 (clock b) xs [])) (t + 1) in
+      let a' = acct d rs (Scanning (scan b0 xs (clock b ∷ []) (clock b) xs [])) (t + 1) in
       let v0 : Look = look b0 0 false xs in
       let there : Mem v0 (looks_of a) = mem_right (looks_in rs) (v0 ∷ []) v0 (inl refl) in
       changes n b h g k a at a' h' up
@@ -297,10 +297,10 @@ module _ (n : ℕ) (b : List Account) (h : Core n b) (g : Marked n b) (k d : ℕ
 
   -- kind 9, a later one, of a scan whose two last collects are not equal
   pub middles : (s : Scan) → get_elem? b k ≡ some (acct d rs (Scanning s) t) → length s.since ≡ n → s.before ≢ s.since
-      → (let a' = acct d rs (Scanning (scan s.begun s.first (suc s.made) (clock b) s.since [])) (t + 1) in Core n (set b k a') → clock (set b k a') ≤ clock b + 1 → Marked n (set b k a'))
+      → (let a' = acct d rs (Scanning (scan s.begun s.first (s.middles ++ clock b ∷ []) (clock b) s.since [])) (t + 1) in Core n (set b k a') → clock (set b k a') ≤ clock b + 1 → Marked n (set b k a'))
   middles s at all ne h' up =
       let a = acct d rs (Scanning s) t in
-      let a' = acct d rs (Scanning (scan s.begun s.first (suc s.made) (clock b) s.since [])) (t + 1) in
+      let a' = acct d rs (Scanning (scan s.begun s.first (s.middles ++ clock b ∷ []) (clock b) s.since [])) (t + 1) in
       let v0 : Look = look s.begun 0 false s.since in
       let there : Mem v0 (looks_of a) = mem_right (looks_in rs) (open_looks (Scanning s)) v0 (inr (inr (inl refl))) in
       changes n b h g k a at a' h' up
@@ -309,15 +309,15 @@ module _ (n : ℕ) (b : List Account) (h : Core n b) (g : Marked n b) (k d : ℕ
       (λ x. inr (sym (mem_one m (mark s.begun (clock b) 0 false s.since []) x)))
       (mem_split (marks_in rs) (mark s.begun (clock b) 0 false s.since [] ∷ []) m q)))
       (same_spans n b h g k a at a' refl refl)
-      (record { answered = (g.climbs k a at).answered; doing = let l = more n b h g k d rs t s at all ne in let c = (g.climbs k a at).doing in omega arith })
+      (record { answered = (g.climbs k a at).answered; doing = let l = more n b h g k d rs t s at all ne in let c = (g.climbs k a at).doing in let z = length-append s.middles (clock b ∷ []) in omega arith })
 
   -- kind 10
   pub reads_again : (s : Scan) (c0 : Account) → get_elem? b k ≡ some (acct d rs (Scanning s) t) → get_elem? b (length s.since) ≡ some c0
-      → (let a' = acct d rs (Scanning (scan s.begun s.first s.made s.middle s.before (s.since ++ in_word c0 ∷ []))) t in Core n (set b k a') → clock (set b k a') ≤ clock b + 1 → Marked n (set b k a'))
+      → (let a' = acct d rs (Scanning (scan s.begun s.first s.middles s.middle s.before (s.since ++ in_word c0 ∷ []))) t in Core n (set b k a') → clock (set b k a') ≤ clock b + 1 → Marked n (set b k a'))
   reads_again s c0 at at0 h' up =
       let a = acct d rs (Scanning s) t in
       let ys = s.since ++ in_word c0 ∷ [] in
-      let a' = acct d rs (Scanning (scan s.begun s.first s.made s.middle s.before ys)) t in
+      let a' = acct d rs (Scanning (scan s.begun s.first s.middles s.middle s.before ys)) t in
       let m0 : Mark = mark s.begun s.middle 0 false s.before s.since in
       let m1 : Mark = mark s.begun s.middle 0 false s.before ys in
       let there : Mem m0 (marks_of a) = mem_right (marks_in rs) (m0 ∷ []) m0 (inl refl) in
@@ -354,10 +354,10 @@ module _ (n : ℕ) (b : List Account) (h : Core n b) (g : Marked n b) (k d : ℕ
 
   -- kind 6 of a scan whose two last collects are equal
   pub ends_scan : (s : Scan) → get_elem? b k ≡ some (acct d rs (Scanning s) t) → s.before ≡ s.since
-      → (let a' = acct d (rs ++ rec s.begun (clock b) (Scanned s.middle s.since) ∷ []) Idle (t + 1) in Core n (set b k a') → clock (set b k a') ≤ clock b + 1 → Marked n (set b k a'))
+      → (let a' = acct d (rs ++ rec_scan s (clock b) (Scanned s.middle s.since) ∷ []) Idle (t + 1) in Core n (set b k a') → clock (set b k a') ≤ clock b + 1 → Marked n (set b k a'))
   ends_scan s at same h' up =
       let a = acct d rs (Scanning s) t in
-      let last = rec s.begun (clock b) (Scanned s.middle s.since) in
+      let last = rec_scan s (clock b) (Scanned s.middle s.since) in
       let a' = acct d (rs ++ last ∷ []) Idle (t + 1) in
       let m0 : Mark = mark s.begun s.middle 0 false s.before s.since in
       let m1 : Mark = mark s.begun s.middle (clock b) true s.since s.since in
@@ -378,10 +378,10 @@ module _ (n : ℕ) (b : List Account) (h : Core n b) (g : Marked n b) (k d : ℕ
 
   -- kind 11 of a scan whose two last collects are not equal
   pub gives_up : (s : Scan) → get_elem? b k ≡ some (acct d rs (Scanning s) t) → length s.since ≡ n → s.before ≢ s.since
-      → (let a' = acct d (rs ++ rec s.begun (clock b) (Interfered s.made s.first s.since) ∷ []) Idle (t + 1) in Core n (set b k a') → clock (set b k a') ≤ clock b + 1 → Marked n (set b k a'))
+      → (let a' = acct d (rs ++ rec_scan s (clock b) (Interfered (length s.middles) s.first s.since) ∷ []) Idle (t + 1) in Core n (set b k a') → clock (set b k a') ≤ clock b + 1 → Marked n (set b k a'))
   gives_up s at all ne h' up =
       let a = acct d rs (Scanning s) t in
-      let last = rec s.begun (clock b) (Interfered s.made s.first s.since) in
+      let last = rec_scan s (clock b) (Interfered (length s.middles) s.first s.since) in
       let a' = acct d (rs ++ last ∷ []) Idle (t + 1) in
       let marks' : marks_of a' ≡ marks_in rs = append-nil (marks_in (rs ++ last ∷ [])) ∙ marks_in-append rs (last ∷ []) ∙ append-nil (marks_in rs) in
       changes n b h g k a at a' h' up (old_marks n b h g k a at a' (λ m q. mem_left (marks_in rs) (open_marks (Scanning s)) m (subst (λ (l : List Mark). Mem m l) marks' q)))

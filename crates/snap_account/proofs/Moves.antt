@@ -13,13 +13,14 @@ use Rattle.snap_account.specs.declared.account.Scan.{Scan}
 use Rattle.snap_account.specs.Calls.{Mem, latest, in_word, writes_of, looks_of, stamps_of, begun_store, middles_of, begun_view, wrote, read, ended, middled, gave_up}
 use Rattle.snap_core.proofs.Sums.{total-set}
 use Rattle.snap_account.specs.Marks.{Marked}
-use Rattle.snap_account.specs.Rule.{tick_limit, Core, Boarded, clock, code, words_of, first_step}
+use Rattle.snap_account.specs.Rule.{tick_limit, Core, Ticked, Boarded, clock, code, words_of, first_step}
 use Rattle.snap_account.specs.Plays.{Seated, entry_of, BeginsStore, BeginsView, Writes, Ends, Learns, Reads, Above, HasRead, ReadAll, Middles, GivesUp}
-use Rattle.snap_account.proofs.Accounts.{acct, rec, latest-push}
+use Rattle.snap_account.proofs.Accounts.{acct, rec, rec_scan, latest-push}
 use Rattle.snap_account.proofs.Lists.{mem_left, numbered_positive}
 use Rattle.snap_account.proofs.Stores.{begins_store, writes, ends_store}
 use Rattle.snap_account.proofs.Steps.{begins_view, reads, ends_view, middles_first, middles, reads_again, ends_scan, gives_up, scan}
 use Rattle.snap_account.proofs.Marking as marking
+use Rattle.snap_account.proofs.Drawing as drawing
 use Rattle.snap_account.proofs.Seats.{St, held_step, words_ticked, words_quiet, words_written, clock_word, desk_word, set_self, clock_small}
 
 -- the account of the seat, among all
@@ -29,13 +30,14 @@ here n s r id a at = r.held.fits id (a ∷ []) at a (inl refl)
 -- the rule after one account changed, and the words with it
 after : (n : ℕ) (s : St) (r : Boarded n s) (id : ℕ) (a a' : Account) (i m : ℕ) (me : Seated) → get_elem? s.views id ≡ some (a ∷ []) → a'.desk ≡ a.desk → a'.ticks ≤ a.ticks + 1 → Core n (set r.accounts a.desk a')
     → (Core n (set r.accounts a.desk a') → clock (set r.accounts a.desk a') ≤ clock r.accounts + 1 → Marked n (set r.accounts a.desk a'))
-    → set s.words i m ≡ words_of (set r.accounts a.desk a') → Boarded n (stepped s i m id me.1 (a' ∷ []) keeps)
-after n s r id a a' i m me at same more core marked words = record {
+    → set s.words i m ≡ words_of (set r.accounts a.desk a') → Ticked (set r.accounts a.desk a') → Boarded n (stepped s i m id me.1 (a' ∷ []) keeps)
+after n s r id a a' i m me at same more core marked words ticks = record {
   accounts = set r.accounts a.desk a';
   words = words;
   held = held_step n s.views r.accounts r.held id a a' at same r.core.size;
   core = core;
   scans = marked core (let t = total-set (λ (x : Account). x.ticks) r.accounts a.desk a a' (here n s r id a at) in omega arith);
+  ticks = ticks;
 }
 
 -- the clock is above all stamps of the desk
@@ -98,7 +100,8 @@ module _ (n slots id : ℕ) (me : Seated) (d : ℕ) (rs : List Answered) (t : �
         tt,
         after n s r id a a' 0 ((slice_index s.words 0 + 1) % 2 ^ 64) me at' refl (omega arith) (begins_store n b r.core d d rs t (here n s r id a at') room)
             (marking.begins_store n b r.core r.scans d d rs t (clock b) (here n s r id a at'))
-            (ap (λ z. set s.words 0 z) next ∙ words_ticked b d a a' (here n s r id a at') refl refl s.words r.words),
+            (ap (λ z. set s.words 0 z) next ∙ words_ticked b d a a' (here n s r id a at') refl refl s.words r.words)
+            (drawing.ticks b r.ticks d a (here n s r id a at') a' (drawing.within d rs Idle (Begun (clock b)) t (t + 1) (clock b) refl) refl),
         ((λ i. (first_step (begun_store (sym found i)) (sym is i), me.1)), above n s r id a at' me is),
       )
 
@@ -116,7 +119,8 @@ module _ (n slots id : ℕ) (me : Seated) (d : ℕ) (rs : List Answered) (t : �
         tt,
         after n s r id a a' 0 ((slice_index s.words 0 + 1) % 2 ^ 64) me at' refl (omega arith) (begins_view n b r.core d d rs t (here n s r id a at') room)
             (marking.begins_view n b r.core r.scans d d rs t (clock b) (here n s r id a at'))
-            (ap (λ z. set s.words 0 z) next ∙ words_ticked b d a a' (here n s r id a at') refl refl s.words r.words),
+            (ap (λ z. set s.words 0 z) next ∙ words_ticked b d a a' (here n s r id a at') refl refl s.words r.words)
+            (drawing.ticks b r.ticks d a (here n s r id a at') a' (drawing.within d rs Idle (Viewing (clock b) []) t (t + 1) (clock b) refl) refl),
         ((λ i. (first_step (begun_view (sym found i)) (sym is i), me.1)), above n s r id a at' me is),
       )
 
@@ -133,7 +137,8 @@ module _ (n slots id : ℕ) (me : Seated) (d : ℕ) (rs : List Answered) (t : �
         tt,
         after n s r id a a' (suc d) word me at' refl (omega arith) (writes n b r.core d d rs t b0 m v (here n s r id a at') next fits)
             (marking.writes n b r.core r.scans d d rs t b0 m v (here n s r id a at') next)
-            (ap (λ z. set s.words (suc d) z) words ∙ words_written b d a a' (here n s r id a at') refl s.words r.words),
+            (ap (λ z. set s.words (suc d) z) words ∙ words_written b d a a' (here n s r id a at') refl s.words r.words)
+            (drawing.rests b r.ticks d a (here n s r id a at') a' refl refl),
         λ i. (first_step (wrote (entry i)) (sym is i), me.1),
       )
 
@@ -151,7 +156,8 @@ module _ (n slots id : ℕ) (me : Seated) (d : ℕ) (rs : List Answered) (t : �
         tt,
         after n s r id a a' 0 ((slice_index s.words 0 + 1) % 2 ^ 64) me at' refl (omega arith) (ends_store n b r.core d d rs t b0 m v (here n s r id a at') room)
             (marking.ends_store n b r.core r.scans d d rs t b0 m v (here n s r id a at'))
-            (ap (λ z. set s.words 0 z) next ∙ words_ticked b d a a' (here n s r id a at') (latest-push (0, 0) rs (rec b0 (clock b) (Stored m v))) refl s.words r.words),
+            (ap (λ z. set s.words 0 z) next ∙ words_ticked b d a a' (here n s r id a at') (latest-push (0, 0) rs (rec b0 (clock b) (Stored m v))) refl s.words r.words)
+            (drawing.ticks b r.ticks d a (here n s r id a at') a' (drawing.at_end d rs (rec b0 (clock b) (Stored m v)) (Written b0 m v) t (t + 1) (clock b) refl) refl),
         ((λ i. (first_step (ended (sym found i)) (sym is i), me.1)), above n s r id a at' me is, λ x is_x ys e. absurd (not_reading b0 m v x.doing ys (ap (λ (z : Account). z.doing) (first_same a x (sym is ∙ is_x))) e)),
       )
 
@@ -169,7 +175,8 @@ module _ (n slots id : ℕ) (me : Seated) (d : ℕ) (rs : List Answered) (t : �
         tt,
         after n s r id a a' 0 ((slice_index s.words 0 + 1) % 2 ^ 64) me at' refl (omega arith) (ends_view n b r.core d d rs t b0 xs (here n s r id a at') all room)
             (marking.ends_view n b r.core r.scans d d rs t b0 (clock b) xs (here n s r id a at'))
-            (ap (λ z. set s.words 0 z) next ∙ words_ticked b d a a' (here n s r id a at') (latest-push (0, 0) rs (rec b0 (clock b) (Viewed xs))) refl s.words r.words),
+            (ap (λ z. set s.words 0 z) next ∙ words_ticked b d a a' (here n s r id a at') (latest-push (0, 0) rs (rec b0 (clock b) (Viewed xs))) refl s.words r.words)
+            (drawing.ticks b r.ticks d a (here n s r id a at') a' (drawing.at_end d rs (rec b0 (clock b) (Viewed xs)) (Viewing b0 xs) t (t + 1) (clock b) refl) refl),
         ((λ i. (first_step (ended (sym found i)) (sym is i), me.1)), above n s r id a at' me is, all_read n b r.core a (here n s r id a at') (λ ys e. ap length (sym e) ∙ all) me is),
       )
 
@@ -190,7 +197,8 @@ module _ (n slots id : ℕ) (me : Seated) (d : ℕ) (rs : List Answered) (t : �
         tt,
         after n s r id a a' (suc j) (slice_index s.words (suc j)) me at' refl (omega arith) (reads n b r.core d d rs t b0 xs c.0 (here n s r id a at') c.1)
             (marking.reads n b r.core r.scans d d rs t b0 xs (xs ++ p ∷ []) (here n s r id a at'))
-            (set_self s.words (suc j) ∙ r.words ∙ words_quiet b d a a' (here n s r id a at') refl refl),
+            (set_self s.words (suc j) ∙ r.words ∙ words_quiet b d a a' (here n s r id a at') refl refl)
+            (drawing.rests b r.ticks d a (here n s r id a at') a' refl refl),
         (
           (λ i. (first_step (read (sym entry i)) (sym is i), me.1)),
           λ k x at_k is_x. learns n b r.core a (here n s r id a at') j c.0 c.1 k x (suc_same j k at_k) (first_same a x (sym is ∙ is_x)) (entry_of (slice_index s.words (suc j))) entry,
@@ -214,7 +222,7 @@ module _ (n slots id : ℕ) (me : Seated) (d : ℕ) (rs : List Answered) (t : �
       let size = r.core.size in
       let c = some_account b j (omega arith) in
       let p : ℕ × ℕ = in_word c.0 in
-      let a' = acct d rs (Scanning (scan s0.begun s0.first s0.made s0.middle s0.before (s0.since ++ p ∷ []))) t in
+      let a' = acct d rs (Scanning (scan s0.begun s0.first s0.middles s0.middle s0.before (s0.since ++ p ∷ []))) t in
       let found : slice_index s.words (suc j) ≡ code p = desk_word b s.words r.words j c.0 c.1 in
       let entry : entry_of (slice_index s.words (suc j)) ≡ p = ap entry_of found ∙ code_number p (r.core.own j c.0 c.1).small in (
         a' ∷ [],
@@ -222,7 +230,8 @@ module _ (n slots id : ℕ) (me : Seated) (d : ℕ) (rs : List Answered) (t : �
         tt,
         after n s r id a a' (suc j) (slice_index s.words (suc j)) me at' refl (omega arith) (reads_again n b r.core d d rs t s0 c.0 (here n s r id a at') c.1)
             (marking.reads_again n b r.core r.scans d d rs t s0 c.0 (here n s r id a at') c.1)
-            (set_self s.words (suc j) ∙ r.words ∙ words_quiet b d a a' (here n s r id a at') refl refl),
+            (set_self s.words (suc j) ∙ r.words ∙ words_quiet b d a a' (here n s r id a at') refl refl)
+            (drawing.rests b r.ticks d a (here n s r id a at') a' refl refl),
         (
           (λ i. (first_step (read (sym entry i)) (sym is i), me.1)),
           λ k x at_k is_x. learns n b r.core a (here n s r id a at') j c.0 c.1 k x (suc_same j k at_k) (first_same a x (sym is ∙ is_x)) (entry_of (slice_index s.words (suc j))) entry,
@@ -246,7 +255,7 @@ module _ (n slots id : ℕ) (me : Seated) (d : ℕ) (rs : List Answered) (t : �
       let a = acct d rs (Viewing b0 xs) t in
       let b = r.accounts in
       let at' : get_elem? s.views id ≡ some (a ∷ []) = at ∙ ap some is in
-      let a' = acct d rs (Scanning (scan b0 xs 1 (clock b) xs [])) (t + 1) in
+      let a' = acct d rs (Scanning (scan b0 xs (clock b ∷ []) (clock b) xs [])) (t + 1) in
       let found = clock_word b s.words r.words in
       let small = clock_small n b r.core in
       let next : (slice_index s.words 0 + 1) % 2 ^ 64 ≡ clock b + 1 = omega arith in (
@@ -255,7 +264,8 @@ module _ (n slots id : ℕ) (me : Seated) (d : ℕ) (rs : List Answered) (t : �
         tt,
         after n s r id a a' 0 ((slice_index s.words 0 + 1) % 2 ^ 64) me at' refl (omega arith) (middles_first n b r.core d d rs t b0 xs (here n s r id a at') room)
             (marking.middles_first n b r.core r.scans d d rs t b0 xs (here n s r id a at') all)
-            (ap (λ z. set s.words 0 z) next ∙ words_ticked b d a a' (here n s r id a at') refl refl s.words r.words),
+            (ap (λ z. set s.words 0 z) next ∙ words_ticked b d a a' (here n s r id a at') refl refl s.words r.words)
+            (drawing.ticks b r.ticks d a (here n s r id a at') a' (drawing.within d rs (Viewing b0 xs) (Scanning (scan b0 xs (clock b ∷ []) (clock b) xs [])) t (t + 1) (clock b) refl) refl),
         ((λ i. (first_step (middled (sym found i)) (sym is i), me.1)), above n s r id a at' me is),
       )
 
@@ -264,7 +274,7 @@ module _ (n slots id : ℕ) (me : Seated) (d : ℕ) (rs : List Answered) (t : �
       let a = acct d rs (Scanning s0) t in
       let b = r.accounts in
       let at' : get_elem? s.views id ≡ some (a ∷ []) = at ∙ ap some is in
-      let a' = acct d rs (Scanning (scan s0.begun s0.first (suc s0.made) (clock b) s0.since [])) (t + 1) in
+      let a' = acct d rs (Scanning (scan s0.begun s0.first (s0.middles ++ clock b ∷ []) (clock b) s0.since [])) (t + 1) in
       let found = clock_word b s.words r.words in
       let small = clock_small n b r.core in
       let next : (slice_index s.words 0 + 1) % 2 ^ 64 ≡ clock b + 1 = omega arith in (
@@ -273,7 +283,8 @@ module _ (n slots id : ℕ) (me : Seated) (d : ℕ) (rs : List Answered) (t : �
         tt,
         after n s r id a a' 0 ((slice_index s.words 0 + 1) % 2 ^ 64) me at' refl (omega arith) (middles n b r.core d d rs t s0 (here n s r id a at') room)
             (marking.middles n b r.core r.scans d d rs t s0 (here n s r id a at') all ne)
-            (ap (λ z. set s.words 0 z) next ∙ words_ticked b d a a' (here n s r id a at') refl refl s.words r.words),
+            (ap (λ z. set s.words 0 z) next ∙ words_ticked b d a a' (here n s r id a at') refl refl s.words r.words)
+            (drawing.ticks b r.ticks d a (here n s r id a at') a' (drawing.within d rs (Scanning s0) (Scanning (scan s0.begun s0.first (s0.middles ++ clock b ∷ []) (clock b) s0.since [])) t (t + 1) (clock b) refl) refl),
         ((λ i. (first_step (middled (sym found i)) (sym is i), me.1)), above n s r id a at' me is),
       )
 
@@ -283,7 +294,7 @@ module _ (n slots id : ℕ) (me : Seated) (d : ℕ) (rs : List Answered) (t : �
       let a = acct d rs (Scanning s0) t in
       let b = r.accounts in
       let at' : get_elem? s.views id ≡ some (a ∷ []) = at ∙ ap some is in
-      let last = rec s0.begun (clock b) (Scanned s0.middle s0.since) in
+      let last = rec_scan s0 (clock b) (Scanned s0.middle s0.since) in
       let a' = acct d (rs ++ last ∷ []) Idle (t + 1) in
       let found = clock_word b s.words r.words in
       let small = clock_small n b r.core in
@@ -293,7 +304,8 @@ module _ (n slots id : ℕ) (me : Seated) (d : ℕ) (rs : List Answered) (t : �
         tt,
         after n s r id a a' 0 ((slice_index s.words 0 + 1) % 2 ^ 64) me at' refl (omega arith) (ends_scan n b r.core d d rs t s0 (here n s r id a at') all room)
             (marking.ends_scan n b r.core r.scans d d rs t s0 (here n s r id a at') same)
-            (ap (λ z. set s.words 0 z) next ∙ words_ticked b d a a' (here n s r id a at') (latest-push (0, 0) rs last) refl s.words r.words),
+            (ap (λ z. set s.words 0 z) next ∙ words_ticked b d a a' (here n s r id a at') (latest-push (0, 0) rs last) refl s.words r.words)
+            (drawing.ticks b r.ticks d a (here n s r id a at') a' (drawing.at_end d rs last (Scanning s0) t (t + 1) (clock b) refl) refl),
         ((λ i. (first_step (ended (sym found i)) (sym is i), me.1)), above n s r id a at' me is, all_read n b r.core a (here n s r id a at') (λ ys e. ap length (sym e) ∙ all) me is),
       )
 
@@ -303,7 +315,7 @@ module _ (n slots id : ℕ) (me : Seated) (d : ℕ) (rs : List Answered) (t : �
       let a = acct d rs (Scanning s0) t in
       let b = r.accounts in
       let at' : get_elem? s.views id ≡ some (a ∷ []) = at ∙ ap some is in
-      let last = rec s0.begun (clock b) (Interfered s0.made s0.first s0.since) in
+      let last = rec_scan s0 (clock b) (Interfered (length s0.middles) s0.first s0.since) in
       let a' = acct d (rs ++ last ∷ []) Idle (t + 1) in
       let found = clock_word b s.words r.words in
       let small = clock_small n b r.core in
@@ -313,6 +325,7 @@ module _ (n slots id : ℕ) (me : Seated) (d : ℕ) (rs : List Answered) (t : �
         tt,
         after n s r id a a' 0 ((slice_index s.words 0 + 1) % 2 ^ 64) me at' refl (omega arith) (gives_up n b r.core d d rs t s0 (here n s r id a at') first all room)
             (marking.gives_up n b r.core r.scans d d rs t s0 (here n s r id a at') all ne)
-            (ap (λ z. set s.words 0 z) next ∙ words_ticked b d a a' (here n s r id a at') (latest-push (0, 0) rs last) refl s.words r.words),
+            (ap (λ z. set s.words 0 z) next ∙ words_ticked b d a a' (here n s r id a at') (latest-push (0, 0) rs last) refl s.words r.words)
+            (drawing.ticks b r.ticks d a (here n s r id a at') a' (drawing.at_end d rs last (Scanning s0) t (t + 1) (clock b) refl) refl),
         ((λ i. (first_step (gave_up (sym found i)) (sym is i), me.1)), above n s r id a at' me is),
       )

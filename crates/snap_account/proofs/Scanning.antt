@@ -10,9 +10,9 @@ use Rattle.snap_account.specs.Calls.{Mem, Look, looks_in, open_looks, stamps_in,
 use Rattle.snap_account.specs.Rule.{first_step}
 use Rattle.snap_account.specs.Plays.{Seated, Above, ReadAll}
 use Rattle.snap_account.specs.Hands.{idle, has_read, one_desk, doing_of, desk_of, answered_of, ticks_of, begun_of, begun_in}
-use Rattle.snap_account.specs.Tries.{IsRead, IsTrying, HasAgreed, made_in, made_of, middle_in}
+use Rattle.snap_account.specs.Tries.{IsRead, IsTrying, HasAgreed, middles_made, made_in, made_of, middle_in}
 use Rattle.snap_account.proofs.Lists.{mem_left, mem_right}
-use Rattle.snap_account.proofs.Accounts.{acct, rec}
+use Rattle.snap_account.proofs.Accounts.{acct, rec_with}
 use Rattle.snap_account.proofs.Reading.{looks_over}
 use Rattle.snap_account.proofs.Calling.{at_desk, viewing_after, grew, scanned_after, gave_up_after, above_old}
 
@@ -66,25 +66,26 @@ after_tries me2 me3 d rs t b m xs o r one same ticks is =
     (whole, ap (λ (x : Seated). begun_of x.0) (sym whole) ∙ same.2 ∙ ap (λ (x : Seated). begun_of x.0) r.me)
 
 -- what a scan with a record leaves
-pub record ScanDone (d : ℕ) (rs : List Answered) (t b e m middle : ℕ) (ys : List (ℕ × ℕ)) (last : Seated) : Type 0 where
-  pub me : last ≡ at_desk (idle d (rs ++ rec b e (Scanned middle ys) ∷ []) (t + m + 2))
+pub record ScanDone (d : ℕ) (rs : List Answered) (t b e m middle : ℕ) (ms : List ℕ) (ys : List (ℕ × ℕ)) (last : Seated) : Type 0 where
+  pub me : last ≡ at_desk (idle d (rs ++ rec_with b ms e (Scanned middle ys) ∷ []) (t + m + 2))
   pub in_turn : b < e
   pub above : (x : ℕ) → Mem x (stamps_in rs) → x < b
   pub whole : (v : Look) → Mem v (looks_in rs) → length v.shown ≡ length ys
 
 pub scan_done : (me0 me1 me2 me3 me4 : Seated) (d : ℕ) (rs : List Answered) (t b e m : ℕ) (xs ys : List (ℕ × ℕ)) → me0 ≡ at_desk (idle d rs t) → (me1 ≡ (first_step (begun_view b) me0.0, me0.1)) × Above b me0 → me2 ≡ has_read me1 xs
     → me3 ≡ one_desk me3 → (desk_of me3.0 ≡ desk_of me2.0) × (answered_of me3.0 ≡ answered_of me2.0) × (begun_of me3.0 ≡ begun_of me2.0) → ticks_of me3.0 ≡ ticks_of me2.0 + m → HasAgreed ys (doing_of me3.0)
-    → (me4 ≡ (first_step (ended e) me3.0, me3.1)) × Above e me3 × ReadAll me3 → ScanDone d rs t b e m (middle_in (doing_of me3.0)) ys me4
+    → (me4 ≡ (first_step (ended e) me3.0, me3.1)) × Above e me3 × ReadAll me3 → ScanDone d rs t b e m (middle_in (doing_of me3.0)) (middles_made (doing_of me3.0)) ys me4
 scan_done me0 me1 me2 me3 me4 d rs t b e m xs ys is first second one same ticks agreed last =
     let r = get_ready me0 me1 me2 d rs t b xs is first.0 second in
     let s = agreed_scan ys (doing_of me3.0) agreed in
     let a = after_tries me2 me3 d rs t b m xs (Scanning s.0) r one same ticks s.1 in
     let two : t + 1 + m + 1 ≡ t + m + 2 = omega arith in
+    let made : s.0.middles ≡ middles_made (doing_of me3.0) = ap middles_made (sym s.1) in
     let mid : s.0.middle ≡ middle_in (doing_of me3.0) = ap middle_in (sym s.1) in
     let o = Scanning s.0 in
     let there : Mem b (stamps_in rs ++ s.0.begun ∷ []) = mem_right (stamps_in rs) (s.0.begun ∷ []) b (inl a.1) in
     record {
-      me = scanned_after me3 me4 d rs (t + 1 + m) e s.0 a.0 last.0 ∙ (λ i. at_desk (idle d (rs ++ rec (a.1 i) e (Scanned (mid i) (s.3 i)) ∷ []) (two i)));
+      me = scanned_after me3 me4 d rs (t + 1 + m) e s.0 a.0 last.0 ∙ (λ i. at_desk (idle d (rs ++ rec_with (a.1 i) (made i) e (Scanned (mid i) (s.3 i)) ∷ []) (two i)));
       in_turn = last.1 (acct d rs o (t + 1 + m)) (ap (λ (z : Seated). z.0) a.0) b there;
       above = above_old me0 d rs t b is first.1;
       whole = λ v q. last.2 (acct d rs o (t + 1 + m)) (ap (λ (z : Seated). z.0) a.0) ys s.3 v (mem_left (looks_in rs) (open_looks o) v q) (looks_over rs v q);
@@ -93,10 +94,10 @@ scan_done me0 me1 me2 me3 me4 d rs t b e m xs ys is first second one same ticks 
 -- what a scan without a record leaves
 pub scan_lost : (me2 me3 me4 : Seated) (n d : ℕ) (rs : List Answered) (t b e m : ℕ) (xs ys : List (ℕ × ℕ)) → Ready d rs t b xs me2 → me3 ≡ one_desk me3
     → (desk_of me3.0 ≡ desk_of me2.0) × (answered_of me3.0 ≡ answered_of me2.0) × (begun_of me3.0 ≡ begun_of me2.0) → ticks_of me3.0 ≡ ticks_of me2.0 + m → made_in (doing_of me3.0) ≡ m → 0 < m → IsTrying n d rs ys (doing_of me3.0)
-    → me4 ≡ (first_step (gave_up e) me3.0, me3.1) → (fs : List (ℕ × ℕ)) × (me4 ≡ at_desk (idle d (rs ++ rec b e (Interfered m fs ys) ∷ []) (t + m + 2)))
+    → me4 ≡ (first_step (gave_up e) me3.0, me3.1) → (ms : List ℕ) × (length ms ≡ m) × (fs : List (ℕ × ℕ)) × (me4 ≡ at_desk (idle d (rs ++ rec_with b ms e (Interfered m fs ys) ∷ []) (t + m + 2)))
 scan_lost me2 me3 me4 n d rs t b e m xs ys r one same ticks made pos try last =
     let s = trying_scan n d rs ys (doing_of me3.0) try (omega arith) in
     let a = after_tries me2 me3 d rs t b m xs (Scanning s.0) r one same ticks s.1 in
     let two : t + 1 + m + 1 ≡ t + m + 2 = omega arith in
-    let many : s.0.made ≡ m = ap made_in (sym s.1) ∙ made in
-    (s.0.first, gave_up_after me3 me4 d rs (t + 1 + m) e s.0 a.0 last ∙ (λ i. at_desk (idle d (rs ++ rec (a.1 i) e (Interfered (many i) s.0.first (s.2 i)) ∷ []) (two i))))
+    let many : length s.0.middles ≡ m = ap made_in (sym s.1) ∙ made in
+    (s.0.middles, many, s.0.first, gave_up_after me3 me4 d rs (t + 1 + m) e s.0 a.0 last ∙ (λ i. at_desk (idle d (rs ++ rec_with (a.1 i) s.0.middles e (Interfered (many i) s.0.first (s.2 i)) ∷ []) (two i))))

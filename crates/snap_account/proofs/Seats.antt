@@ -139,10 +139,10 @@ held_join n views b h id v other u at apart there =
     }
 
 pub splits : (n id : ℕ) (v : List Account) → Splits (Boarded n) id v (but_first v) (only_first v)
-splits n id v s r at = record { accounts = r.accounts; words = r.words; held = held_split n s.views r.accounts r.held id v at; core = r.core; scans = r.scans }
+splits n id v s r at = record { accounts = r.accounts; words = r.words; held = held_split n s.views r.accounts r.held id v at; core = r.core; scans = r.scans; ticks = r.ticks }
 
 pub joins : (n id : ℕ) (v : List Account) (other : ℕ) (u : List Account) → Joins (Boarded n) id v other u (merge v u) []
-joins n id v other u s r at apart there = record { accounts = r.accounts; words = r.words; held = held_join n s.views r.accounts r.held id v other u at apart there; core = r.core; scans = r.scans }
+joins n id v other u s r at apart there = record { accounts = r.accounts; words = r.words; held = held_join n s.views r.accounts r.held id v other u at apart there; core = r.core; scans = r.scans; ticks = r.ticks }
 
 -- the words after a step
 module _ (b : List Account) (k : ℕ) (a a' : Account) (at : get_elem? b k ≡ some a) where
@@ -202,6 +202,7 @@ looks n slots id me s r _ at _ = (
     held = subst (λ (views : List (List Account)). Held n views r.accounts) (sym (set_again s.views id me.0 at)) r.held;
     core = r.core;
     scans = r.scans;
+    ticks = r.ticks;
   },
   (refl, λ d. let l = total-at (of_desk d) s.views id me.0 at in let o = r.held.once d in let z = once_least d n in omega arith),
 )

@@ -1,5 +1,5 @@
 -- Each kind of step of a collect or a scan keeps what holds of all accounts together.
-use Rattle.std.proofs.Common.{◌≡◌, ℕ, suc, ◌+◌, ◌<◌, ◌≤◌, ◌⊎◌, true, false, true≢false, List, [], ◌∷◌, ◌++◌, length, map, set, sym, refl, ap, ◌∙◌, subst, inl, inr, ⊎_elim, arith, append_assoc, append-nil}
+use Rattle.std.proofs.Common.{◌≡◌, ℕ, ◌+◌, ◌<◌, ◌≤◌, ◌⊎◌, true, false, true≢false, List, [], ◌∷◌, ◌++◌, length, map, set, sym, refl, ap, ◌∙◌, subst, inl, inr, ⊎_elim, arith, append_assoc, append-nil}
 use mathlib.Core.Option.{some, some-injective, some-ne-none}
 use lib.ListN.{get_elem?}
 use Rattle.std.proofs.lemmas.List.{map-append}
@@ -11,7 +11,7 @@ use Rattle.snap_account.specs.declared.account.Scan.{Scan}
 use Rattle.snap_account.specs.Calls.{Mem, Write, Look, Mark, look, mark, writes_in, looks_in, stamps_in, marks_in, op_looks, open_looks, open_marks, writes_of, looks_of, stamps_of, marks_of, middles_of, all_stamps, in_word}
 use Rattle.snap_account.specs.Rule.{tick_limit, Own, Sees, After, Core, clock, Rising, Numbered}
 use Rattle.snap_account.proofs.Lists.{mem_split, mem_left, mem_right, mem_one, at_push}
-use Rattle.snap_account.proofs.Accounts.{acct, rec, writes_in-append, looks_in-append, stamps_in-append, marks_in-append, latest-push, word_there, word_blank, look_in_all, write_in_all, number_le}
+use Rattle.snap_account.proofs.Accounts.{acct, rec, rec_scan, writes_in-append, looks_in-append, stamps_in-append, marks_in-append, latest-push, word_there, word_blank, look_in_all, write_in_all, number_le}
 use Rattle.snap_account.proofs.Core.{Views, Follows, Inner, below_ticked, below_quiet, apart_ticked, apart_quiet, changes, same_stores}
 use Rattle.snap_account.proofs.Ticks.{Ticks, ends_tick, middle_tick}
 
@@ -131,8 +131,8 @@ module _ (n : ℕ) (b : List Account) (h : Core n b) (k : ℕ) (a : Account) (at
 abbrev pub middle : Mark → ℕ
 middle m = m.middle
 
-abbrev pub scan : ℕ → List (ℕ × ℕ) → ℕ → ℕ → List (ℕ × ℕ) → List (ℕ × ℕ) → Scan
-scan b f m t p q = record { begun = b; first = f; made = m; middle = t; before = p; since = q }
+abbrev pub scan : ℕ → List (ℕ × ℕ) → List ℕ → ℕ → List (ℕ × ℕ) → List (ℕ × ℕ) → Scan
+scan b f m t p q = record { begun = b; first = f; middles = m; middle = t; before = p; since = q }
 
 -- a call that is answered puts its looks behind those of the calls before it
 looks_after : (rs : List Answered) (r : Answered) (v : Look) → Mem v (looks_in (rs ++ r ∷ []) ++ []) → Mem v (looks_in rs) ⊎ Mem v (op_looks r.begun r.ended r.op)
@@ -197,10 +197,10 @@ module _ (n : ℕ) (b : List Account) (h : Core n b) (k d : ℕ) (rs : List Answ
 
   -- kind 9: a middle tick, after the first collect
   pub middles_first : (b0 : ℕ) (xs : List (ℕ × ℕ)) → get_elem? b k ≡ some (acct d rs (Viewing b0 xs) t) → t + 1 ≤ tick_limit
-      → Core n (set b k (acct d rs (Scanning (scan b0 xs 1 (clock b) xs [])) (t + 1)))
+      → Core n (set b k (acct d rs (Scanning (scan b0 xs (clock b ∷ []) (clock b) xs [])) (t + 1)))
   middles_first b0 xs at room =
       let a = acct d rs (Viewing b0 xs) t in
-      let s' = scan b0 xs 1 (clock b) xs [] in
+      let s' = scan b0 xs (clock b ∷ []) (clock b) xs [] in
       let a' = acct d rs (Scanning s') (t + 1) in
       let v0 : Look = look b0 0 false xs in
       let there : Mem v0 (looks_of a) = mem_right (looks_in rs) (v0 ∷ []) v0 (inl refl) in
@@ -219,10 +219,10 @@ module _ (n : ℕ) (b : List Account) (h : Core n b) (k d : ℕ) (rs : List Answ
       tick_step n b h k a at a' (empties n b h k a at a' cases) refl refl refl ticks room (still_whole n b h k a at a' (λ v. (v.over ≡ false) × (v.shown ≡ [])) (λ v x. x.0) cases)
 
   -- kind 9: a middle tick, after a later collect, which becomes the one before it
-  pub middles : (s : Scan) → get_elem? b k ≡ some (acct d rs (Scanning s) t) → t + 1 ≤ tick_limit → Core n (set b k (acct d rs (Scanning (scan s.begun s.first (suc s.made) (clock b) s.since [])) (t + 1)))
+  pub middles : (s : Scan) → get_elem? b k ≡ some (acct d rs (Scanning s) t) → t + 1 ≤ tick_limit → Core n (set b k (acct d rs (Scanning (scan s.begun s.first (s.middles ++ clock b ∷ []) (clock b) s.since [])) (t + 1)))
   middles s at room =
       let a = acct d rs (Scanning s) t in
-      let s' = scan s.begun s.first (suc s.made) (clock b) s.since [] in
+      let s' = scan s.begun s.first (s.middles ++ clock b ∷ []) (clock b) s.since [] in
       let a' = acct d rs (Scanning s') (t + 1) in
       let old : (v : Look) → Mem v (open_looks (Scanning s)) → Mem v (looks_of a) = λ v m. mem_right (looks_in rs) (open_looks (Scanning s)) v m in
       let cases : (v : Look) → Mem v (looks_of a') → Mem v (looks_of a) ⊎ ((v.over ≡ false) × (v.shown ≡ [])) = λ v m. ⊎_elim
@@ -240,10 +240,10 @@ module _ (n : ℕ) (b : List Account) (h : Core n b) (k d : ℕ) (rs : List Answ
 
   -- kind 10: a load of a later collect of a scan
   pub reads_again : (s : Scan) (c0 : Account) → get_elem? b k ≡ some (acct d rs (Scanning s) t) → get_elem? b (length s.since) ≡ some c0
-      → Core n (set b k (acct d rs (Scanning (scan s.begun s.first s.made s.middle s.before (s.since ++ in_word c0 ∷ []))) t))
+      → Core n (set b k (acct d rs (Scanning (scan s.begun s.first s.middles s.middle s.before (s.since ++ in_word c0 ∷ []))) t))
   reads_again s c0 at at0 =
       let a = acct d rs (Scanning s) t in
-      let s' = scan s.begun s.first s.made s.middle s.before (s.since ++ in_word c0 ∷ []) in
+      let s' = scan s.begun s.first s.middles s.middle s.before (s.since ++ in_word c0 ∷ []) in
       let a' = acct d rs (Scanning s') t in
       let v0 : Look = look s.begun 0 false s.since in
       let old : (v : Look) → Mem v (open_looks (Scanning s)) → Mem v (looks_of a) = λ v m. mem_right (looks_in rs) (open_looks (Scanning s)) v m in
@@ -263,10 +263,10 @@ module _ (n : ℕ) (b : List Account) (h : Core n b) (k d : ℕ) (rs : List Answ
 
   -- kind 6: end tick of a scan that has read every component
   pub ends_scan : (s : Scan) → get_elem? b k ≡ some (acct d rs (Scanning s) t) → length s.since ≡ n → t + 1 ≤ tick_limit
-      → Core n (set b k (acct d (rs ++ rec s.begun (clock b) (Scanned s.middle s.since) ∷ []) Idle (t + 1)))
+      → Core n (set b k (acct d (rs ++ rec_scan s (clock b) (Scanned s.middle s.since) ∷ []) Idle (t + 1)))
   ends_scan s at all room =
       let a = acct d rs (Scanning s) t in
-      let last = rec s.begun (clock b) (Scanned s.middle s.since) in
+      let last = rec_scan s (clock b) (Scanned s.middle s.since) in
       let a' = acct d (rs ++ last ∷ []) Idle (t + 1) in
       let v0 : Look = look s.begun 0 false s.since in
       let there : Mem v0 (looks_of a) = mem_right (looks_in rs) (open_looks (Scanning s)) v0 (inr (inr (inl refl))) in
@@ -285,10 +285,10 @@ module _ (n : ℕ) (b : List Account) (h : Core n b) (k d : ℕ) (rs : List Answ
 
   -- kind 11: closing tick of a scan whose collects are whole
   pub gives_up : (s : Scan) → get_elem? b k ≡ some (acct d rs (Scanning s) t) → length s.first ≡ n → length s.since ≡ n → t + 1 ≤ tick_limit
-      → Core n (set b k (acct d (rs ++ rec s.begun (clock b) (Interfered s.made s.first s.since) ∷ []) Idle (t + 1)))
+      → Core n (set b k (acct d (rs ++ rec_scan s (clock b) (Interfered (length s.middles) s.first s.since) ∷ []) Idle (t + 1)))
   gives_up s at first_all all room =
       let a = acct d rs (Scanning s) t in
-      let last = rec s.begun (clock b) (Interfered s.made s.first s.since) in
+      let last = rec_scan s (clock b) (Interfered (length s.middles) s.first s.since) in
       let a' = acct d (rs ++ last ∷ []) Idle (t + 1) in
       let old : (v : Look) → Mem v (open_looks (Scanning s)) → Mem v (looks_of a) = λ v m. mem_right (looks_in rs) (open_looks (Scanning s)) v m in
       let New : Look → Type 0 = λ v. (u : Look) × Mem u (looks_of a) × (v ≡ look u.begun (clock b) true u.shown) × (length u.shown ≡ n) in

@@ -1,5 +1,5 @@
 -- One try of a scan.
-use Rattle.std.proofs.Common.{◌≡◌, ◌≢◌, ℕ, ◌+◌, ◌*◌, ◌/◌, ◌%◌, ◌^◌, ◌<◌, ◌≤◌, suc, List, [], ◌∷◌, length, sym, refl, ap, ◌∙◌, subst, arith}
+use Rattle.std.proofs.Common.{◌≡◌, ◌≢◌, ℕ, ◌+◌, ◌*◌, ◌/◌, ◌%◌, ◌^◌, ◌<◌, ◌≤◌, suc, List, [], ◌∷◌, length, sym, refl, ap, ◌∙◌, subst, arith, length-append}
 use mathlib.Core.Option.{none, some-injective}
 use lib.ListN.{get_elem?}
 use Rattle.atomic_table.specs.Table.{step, Allows}
@@ -60,7 +60,7 @@ one_more n d rs xs ys t Idle try = absurd try
 one_more n d rs xs ys t (Begun b) try = absurd try
 one_more n d rs xs ys t (Written b m v) try = absurd try
 one_more n d rs xs ys t (Viewing b zs) try = (refl, refl)
-one_more n d rs xs ys t (Scanning s) try = (omega arith, refl)
+one_more n d rs xs ys t (Scanning s) try = (length-append s.middles (t ∷ []), refl)
 
 -- what one try leaves in the desk's seat
 pub record Tried (n : ℕ) (me0 me2 : Seated) (t : ℕ) (xs ys : List (ℕ × ℕ)) : Type 0 where

@@ -1,5 +1,5 @@
 -- The calls of an account.
-use Rattle.std.specs.Prelude.{◌≡◌, ℕ, ◌+◌, ◌<◌, ◌⊎◌, suc, Bool, true, false, List, [], ◌∷◌, ◌++◌, map}
+use Rattle.std.specs.Prelude.{◌≡◌, ℕ, ◌+◌, ◌<◌, ◌⊎◌, Bool, true, false, List, [], ◌∷◌, ◌++◌, map, length}
 use Rattle.snap_account.specs.declared.account.Account.{Account}
 use Rattle.snap_account.specs.declared.account.Answered.{Answered}
 use Rattle.snap_account.specs.declared.account.Answer.{Answer}
@@ -179,7 +179,7 @@ wrote p a = record { desk = a.desk; calls = a.calls; doing = write_open p a.doin
 
 -- the scan, which has read these since its last middle tick
 abbrev pub reading : Scan → List (ℕ × ℕ) → Scan
-reading s xs = record { begun = s.begun; first = s.first; made = s.made; middle = s.middle; before = s.before; since = xs }
+reading s xs = record { begun = s.begun; first = s.first; middles = s.middles; middle = s.middle; before = s.before; since = xs }
 
 abbrev pub read_open : ℕ × ℕ → Doing → Doing
 read_open p Idle = Idle
@@ -194,9 +194,9 @@ read p a = record { desk = a.desk; calls = a.calls; doing = read_open p a.doing;
 abbrev pub closing : ℕ → Doing → List Answered
 closing t Idle = []
 closing t (Begun b) = []
-closing t (Written b n v) = record { begun = b; ended = t; op = Stored n v } ∷ []
-closing t (Viewing b xs) = record { begun = b; ended = t; op = Viewed xs } ∷ []
-closing t (Scanning s) = record { begun = s.begun; ended = t; op = Scanned s.middle s.since } ∷ []
+closing t (Written b n v) = record { begun = b; middles = []; ended = t; op = Stored n v } ∷ []
+closing t (Viewing b xs) = record { begun = b; middles = []; ended = t; op = Viewed xs } ∷ []
+closing t (Scanning s) = record { begun = s.begun; middles = s.middles; ended = t; op = Scanned s.middle s.since } ∷ []
 
 abbrev pub ended : ℕ → Account → Account
 ended t a = record { desk = a.desk; calls = a.calls ++ closing t a.doing; doing = Idle; ticks = a.ticks + 1 }
@@ -205,8 +205,8 @@ abbrev pub middle_open : ℕ → Doing → Doing
 middle_open t Idle = Idle
 middle_open t (Begun b) = Begun b
 middle_open t (Written b n v) = Written b n v
-middle_open t (Viewing b xs) = Scanning (record { begun = b; first = xs; made = 1; middle = t; before = xs; since = [] })
-middle_open t (Scanning s) = Scanning (record { begun = s.begun; first = s.first; made = suc s.made; middle = t; before = s.since; since = [] })
+middle_open t (Viewing b xs) = Scanning (record { begun = b; first = xs; middles = t ∷ []; middle = t; before = xs; since = [] })
+middle_open t (Scanning s) = Scanning (record { begun = s.begun; first = s.first; middles = s.middles ++ t ∷ []; middle = t; before = s.since; since = [] })
 
 abbrev pub middled : ℕ → Account → Account
 middled t a = record { desk = a.desk; calls = a.calls; doing = middle_open t a.doing; ticks = a.ticks + 1 }
@@ -216,7 +216,7 @@ giving_up t Idle = []
 giving_up t (Begun b) = []
 giving_up t (Written b n v) = []
 giving_up t (Viewing b xs) = []
-giving_up t (Scanning s) = record { begun = s.begun; ended = t; op = Interfered s.made s.first s.since } ∷ []
+giving_up t (Scanning s) = record { begun = s.begun; middles = s.middles; ended = t; op = Interfered (length s.middles) s.first s.since } ∷ []
 
 abbrev pub gave_up : ℕ → Account → Account
 gave_up t a = record { desk = a.desk; calls = a.calls ++ giving_up t a.doing; doing = Idle; ticks = a.ticks + 1 }

@@ -1,4 +1,5 @@
 pub mod Calls
+pub mod Drawn
 pub mod Marks
 pub mod Rule
 pub mod Plays

@@ -47,7 +47,7 @@ IsClimbing Idle = ⊤
 IsClimbing (Begun b) = ⊤
 IsClimbing (Written b n v) = ⊤
 IsClimbing (Viewing b xs) = ⊤
-IsClimbing (Scanning s) = sum s.first + s.made ≤ sum s.before + 1
+IsClimbing (Scanning s) = sum s.first + length s.middles ≤ sum s.before + 1
 
 pub record Climbs (a : Account) : Type 0 where
   pub answered : (r : Answered) → Mem r a.calls → HasClimbed r.op

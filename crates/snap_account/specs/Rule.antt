@@ -8,6 +8,7 @@ use Rattle.snap_account.specs.declared.account.Doing.TheVariants.{Idle}
 use Rattle.snap_account.specs.declared.rule.TheConstants.{TICK_LIMIT}
 use Rattle.snap_core.specs.Sums.{total, one_if, times, once_below}
 use Rattle.snap_account.specs.Marks.{Marked}
+use Rattle.snap_account.specs.Drawn.{drawn}
 use Rattle.snap_account.specs.Calls.{Mem, Write, Look, writes_of, looks_of, stamps_of, all_stamps, in_word}
 
 -- how many ticks a desk may draw
@@ -55,6 +56,11 @@ After r s = r.over ≡ true → r.ended < s.begun → (k : ℕ) (p q : ℕ × �
 abbrev pub clock : List Account → ℕ
 clock b = total (λ a. a.ticks) b
 
+-- each tick below the clock is a begin, a middle tick or an end of exactly one call, and each desk drew its own in their order
+pub record Ticked (b : List Account) : Type 0 where
+  pub once : (x : ℕ) → total (λ a. times x (drawn a)) b ≡ once_below x (clock b)
+  pub rising : (k : ℕ) (a : Account) → get_elem? b k ≡ some a → Rising (drawn a)
+
 -- what holds of all accounts together, desk by desk
 pub record Core (n : ℕ) (b : List Account) : Type 0 where
   pub size : length b ≡ n
@@ -89,6 +95,7 @@ pub record Boarded (n : ℕ) (s : State (Unit {0}) (List Account)) : Type 0 wher
   pub held : Held n s.views accounts
   pub core : Core n accounts
   pub scans : Marked n accounts
+  pub ticks : Ticked accounts
 
 abbrev pub newcomer : ℕ → Account
 newcomer d = record { desk = d; calls = []; doing = Idle; ticks = 0 }

@@ -27,13 +27,17 @@ HasAgreed xs (Written b m v) = ⊥
 HasAgreed xs (Viewing b ys) = ⊥
 HasAgreed xs (Scanning s) = (s.before ≡ xs) × (s.since ≡ xs)
 
--- how many middle ticks the open call made
+-- the middle ticks of the open call
+abbrev pub middles_made : Doing → List ℕ
+middles_made Idle = []
+middles_made (Begun b) = []
+middles_made (Written b m v) = []
+middles_made (Viewing b ys) = []
+middles_made (Scanning s) = s.middles
+
+-- how many they are
 abbrev pub made_in : Doing → ℕ
-made_in Idle = 0
-made_in (Begun b) = 0
-made_in (Written b m v) = 0
-made_in (Viewing b ys) = 0
-made_in (Scanning s) = s.made
+made_in o = length (middles_made o)
 
 abbrev pub made_of : List Account → ℕ
 made_of [] = 0

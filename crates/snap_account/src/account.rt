@@ -13,9 +13,10 @@ pub enum Answer {
     Interfered(u64, LinkedList<(u64, u64)>, LinkedList<(u64, u64)>),
 }
 
-/// A call that was answered, with the stamps of its begin and its end.
+/// A call that was answered, with the ticks that it drew: its begin, its middle ticks in their order, and its end.
 pub struct Answered {
     pub begun: u64,
+    pub middles: LinkedList<u64>,
     pub ended: u64,
     pub op: Answer,
 }
@@ -25,8 +26,8 @@ pub struct Scan {
     pub begun: u64,
     /// What its first collect read.
     pub first: LinkedList<(u64, u64)>,
-    /// How many middle ticks it made.
-    pub made: u64,
+    /// Its middle ticks, in their order.
+    pub middles: LinkedList<u64>,
     /// The last of them.
     pub middle: u64,
     /// What the collect before that tick read.

@@ -14,11 +14,12 @@ use Rattle.snap_account.specs.declared.account.Doing.TheVariants.{Idle, Begun, W
 use Rattle.snap_board.specs.declared.kept.Kept.{Kept}
 use Rattle.snap_core.specs.Sums.{once_below, one_if, times, total}
 use Rattle.snap_account.specs.Calls.{Mem, Write, Look, Mark, mark, op_marks, open_marks, open_writes, marks_in, marks_of, all_stamps, all_stamps_in, writes_in, looks_in, stamps_in, writes_of, looks_of, stamps_of, latest, in_word}
-use Rattle.snap_account.specs.Rule.{tick_limit, Own, Sees, Core, Held, Boarded, clock, code, words_of, of_desk, newcomer, newcomers}
+use Rattle.snap_account.specs.Rule.{tick_limit, Numbered, Own, Rising, Sees, Core, Held, Boarded, clock, code, words_of, of_desk, newcomer, newcomers}
 use Rattle.snap_account.specs.Marks.{Climbs}
 use Rattle.snap_account.specs.Hands.{Brief, brief, is_idle}
 use Rattle.snap_board.specs.Slots.{ins, slot_brief, brief_of, AllIn}
-use Rattle.snap_board.specs.Regular.{falling, Settled, ScansSettled}
+use Rattle.snap_account.specs.Drawn.{drawn, drawn_in, drawn_open}
+use Rattle.snap_board.specs.Regular.{falling, Settled, ScansSettled, TicksSettled}
 use Rattle.snap_account.proofs.Lists.{mem_split, mem_left, mem_one}
 use Rattle.snap_account.proofs.Reading.{looks_over}
 
@@ -80,6 +81,10 @@ writes_over (q ∷ rs) w m = ⊎_elim (λ x. one q.op x) (λ x. writes_over rs w
     one (Rattle.snap_account.specs.declared.account.Answer.TheVariants.Scanned t xs) x = absurd x
     one (Rattle.snap_account.specs.declared.account.Answer.TheVariants.Interfered i xs ys) x = absurd x
 
+same_total : (f g : Account → ℕ) (l : List Account) → ((c : Account) → Mem c l → f c ≡ g c) → total f l ≡ total g l
+same_total f g [] e = refl
+same_total f g (x ∷ l) e = let a = e x (inl refl) in let t = same_total f g l (λ c m. e c (inr m)) in omega arith
+
 pub settles : (n id : ℕ) (hand : List Account) (slots : List (Option Kept)) (s : State (Unit {0}) (List Account)) → Boarded n s → get_elem? s.views id ≡ some hand → map brief hand ≡ ins n slots → AllIn n slots → Settled n hand
 settles n id hand slots s r at matches all =
     let b = r.accounts in let h = r.core in
@@ -97,10 +102,10 @@ settles n id hand slots s r at matches all =
     record {
       desks = desks;
       idle = idle;
-      rising = λ a m. subst Rattle.snap_account.specs.Rule.Rising (stamps a m) (h.own a.desk a (fits a m)).rising;
+      rising = λ a m. subst Rising (stamps a m) (h.own a.desk a (fits a m)).rising;
       below = λ a m x q. let l = h.below a.desk a (fits a m) x (subst (λ (l : List ℕ). Mem x l) (sym (every a m)) q) in let e = sums (λ (c : Account). c.ticks) in omega arith;
       apart = λ x. let e = h.apart x in let t = sums (λ (c : Account). times x (all_stamps c)) in let u = same_total (λ (c : Account). times x (all_stamps c)) (λ (c : Account). times x (all_stamps_in c.calls)) hand (λ c m. ap (times x) (every c m)) in omega arith;
-      numbered = λ a m. subst (Rattle.snap_account.specs.Rule.Numbered 1) (writes a m) (h.own a.desk a (fits a m)).numbered;
+      numbered = λ a m. subst (Numbered 1) (writes a m) (h.own a.desk a (fits a m)).numbered;
       whole = λ a m v q. (h.own a.desk a (fits a m)).whole v (look_there a v q) (looks_over a.calls v q);
       regular = λ a m v q c mc p at_p.
           let see = h.sees a.desk a (fits a m) v (look_there a v q) c.desk c (fits c mc) p at_p in
@@ -110,10 +115,22 @@ settles n id hand slots s r at matches all =
           };
       monotone = λ a c ma mc v u mv mu lt k p q at_p at_q. h.after a.desk a (fits a ma) v (look_there a v mv) c.desk c (fits c mc) u (look_there c u mu) (looks_over a.calls v mv) lt k p q at_p at_q;
     }
-  where
-    same_total : (f g : Account → ℕ) (l : List Account) → ((c : Account) → Mem c l → f c ≡ g c) → total f l ≡ total g l
-    same_total f g [] e = refl
-    same_total f g (x ∷ l) e = let a = e x (inl refl) in let t = same_total f g l (λ c m. e c (inr m)) in omega arith
+
+-- the ticks of a board whose desks are all in
+pub settles_ticks : (n id : ℕ) (hand : List Account) (slots : List (Option Kept)) (s : State (Unit {0}) (List Account)) → Boarded n s → get_elem? s.views id ≡ some hand → map brief hand ≡ ins n slots → AllIn n slots → TicksSettled hand
+settles_ticks n id hand slots s r at matches all =
+    let b = r.accounts in
+    let fits : (a : Account) → Mem a hand → get_elem? b a.desk ≡ some a = λ a m. r.held.fits id hand at a m in
+    let desks : map (λ (a : Account). a.desk) hand ≡ falling n = map_map hand ∙ ap (λ l. map (λ (x : Brief). x.desk) l) matches ∙ ins_all n slots all in
+    let whole : take n b ≡ b = take_all n b (omega (arith, r.core.size)) in
+    let sums : (f : Account → ℕ) → total f hand ≡ total f b = λ f. total-hand f b hand n desks fits ∙ ap (total f) whole in
+    let idle : (a : Account) → Mem a hand → a.doing ≡ Idle = λ a m. idle_doing a.doing (ins_idle n slots (brief a) (subst (λ (l : List Brief). Mem (brief a) l) matches (mem_map brief hand a m))) in
+    let same : (a : Account) → Mem a hand → drawn a ≡ drawn_in a.calls = λ a m. ap (λ o. drawn_in a.calls ++ drawn_open o) (idle a m) ∙ append-nil (drawn_in a.calls) in
+    record {
+      once = λ x. sym (same_total (λ (c : Account). times x (drawn c)) (λ (c : Account). times x (drawn_in c.calls)) hand (λ c m. ap (times x) (same c m)))
+          ∙ sums (λ (c : Account). times x (drawn c)) ∙ r.ticks.once x ∙ ap (once_below x) (sym (sums (λ (c : Account). c.ticks)));
+      rising = λ a m. subst Rising (same a m) (r.ticks.rising a.desk a (fits a m));
+    }
 
 -- what a scan shows is what it read before its middle tick and after it
 marks_same : (rs : List Answered) (m : Mark) → Mem m (marks_in rs) → (m.before ≡ m.since) × (m.over ≡ true)
@@ -191,6 +208,11 @@ once_more d n = grind (arith, nat_tests)
 once_none : (d : ℕ) → once_below d 0 ≡ 0
 once_none d = grind (arith, nat_tests)
 
+rows_drawn : (x d n : ℕ) → total (λ a. times x (drawn a)) (rows_from d n) ≡ 0
+unfolding rows_from
+rows_drawn x d zero = refl
+rows_drawn x d (suc n) = let r = rows_drawn x (suc d) n in omega arith
+
 pub begins : (n : ℕ) (words : List ℕ) → words ≡ replicate (suc n) 0 → Boarded n (opening words [] (newcomers n))
 begins n words is =
     let b = rows_from 0 n in
@@ -215,6 +237,10 @@ begins n words is =
         spans = λ i a e m q. absurd (subst (λ (z : Account). Mem m (marks_of z)) (new i a e) q);
         in_turn = λ i a e m q. absurd (subst (λ (z : Account). Mem m (marks_of z)) (new i a e) q);
         climbs = λ i a e. subst Climbs (sym (new i a e)) (record { answered = λ r q. absurd q; doing = tt });
+      };
+      ticks = record {
+        once = λ x. rows_drawn x 0 n ∙ sym (once_none x) ∙ ap (once_below x) (sym (rows_clock 0 n));
+        rising = λ i a e. subst (λ (z : Account). Rising (drawn z)) (sym (new i a e)) tt;
       };
     }
   where

@@ -146,7 +146,7 @@ view_of d (q ∷ rs) r t p es m = ⊎_elim
       quiet = quiet_later q rs o.begun t r (event_stamp d rs (o.begun, BeginView d) o.begins).0 o.quiet;
     }
 
-    mine : (o : Answer) → Mem (t, EndView p es) (op_events d q.begun q.ended o) → ViewEnded d t es (record { begun = q.begun; ended = q.ended; op = o } ∷ rs)
+    mine : (o : Answer) → Mem (t, EndView p es) (op_events d q.begun q.ended o) → ViewEnded d t es (record { begun = q.begun; middles = q.middles; ended = q.ended; op = o } ∷ rs)
     mine (Stored n v) (inl e) = let k : ◌≡◌ {A = ℕ} 0 3 = kind_same (q.begun, BeginUpdate d (entry d n v)) (t, EndView p es) e in absurd (omega arith)
     mine (Stored n v) (inr (inl e)) = let k : ◌≡◌ {A = ℕ} 2 3 = kind_same (q.ended, EndUpdate d) (t, EndView p es) e in absurd (omega arith)
     mine (Stored n v) (inr (inr z)) = absurd z
@@ -160,7 +160,7 @@ view_of d (q ∷ rs) r t p es m = ⊎_elim
           lists = ap (λ (y : Stamp). entries_in_event y.1) e;
           begins = inl refl;
           order = (let l = rising_head q.begun (q.ended ∷ stamps_in rs) r q.ended (inl refl) in omega arith);
-          quiet = subst (λ (u : ℕ). Quiet q.begun u (record { begun = q.begun; ended = q.ended; op = Viewed ys } ∷ rs)) at (quiet_first (record { begun = q.begun; ended = q.ended; op = Viewed ys }) rs r);
+          quiet = subst (λ (u : ℕ). Quiet q.begun u (record { begun = q.begun; middles = q.middles; ended = q.ended; op = Viewed ys } ∷ rs)) at (quiet_first (record { begun = q.begun; middles = q.middles; ended = q.ended; op = Viewed ys }) rs r);
         }
     mine (Viewed ys) (inr (inr z)) = absurd z
     mine (Scanned mid ys) (inl e) = let k : ◌≡◌ {A = ℕ} 1 3 = kind_same (q.begun, BeginView d) (t, EndView p es) e in absurd (omega arith)
@@ -173,7 +173,7 @@ view_of d (q ∷ rs) r t p es m = ⊎_elim
           lists = ap (λ (y : Stamp). entries_in_event y.1) e;
           begins = inl refl;
           order = (let l = rising_head q.begun (q.ended ∷ stamps_in rs) r q.ended (inl refl) in omega arith);
-          quiet = subst (λ (u : ℕ). Quiet q.begun u (record { begun = q.begun; ended = q.ended; op = Scanned mid ys } ∷ rs)) at (quiet_first (record { begun = q.begun; ended = q.ended; op = Scanned mid ys }) rs r);
+          quiet = subst (λ (u : ℕ). Quiet q.begun u (record { begun = q.begun; middles = q.middles; ended = q.ended; op = Scanned mid ys } ∷ rs)) at (quiet_first (record { begun = q.begun; middles = q.middles; ended = q.ended; op = Scanned mid ys }) rs r);
         }
     mine (Scanned mid ys) (inr (inr z)) = absurd z
     mine (Interfered n ys zs) a = absurd a
@@ -206,7 +206,7 @@ update_of d (q ∷ rs) r t p m = ⊎_elim
       quiet = quiet_later q rs o.begun t r (event_stamp d rs (o.begun, BeginUpdate d (entry d o.number o.value)) o.begins).0 o.quiet;
     }
 
-    mine : (o : Answer) → Mem (t, EndUpdate p) (op_events d q.begun q.ended o) → StoreEnded d t (record { begun = q.begun; ended = q.ended; op = o } ∷ rs)
+    mine : (o : Answer) → Mem (t, EndUpdate p) (op_events d q.begun q.ended o) → StoreEnded d t (record { begun = q.begun; middles = q.middles; ended = q.ended; op = o } ∷ rs)
     mine (Viewed ys) (inl e) = let k : ◌≡◌ {A = ℕ} 1 2 = kind_same (q.begun, BeginView d) (t, EndUpdate p) e in absurd (omega arith)
     mine (Viewed ys) (inr (inl e)) = let k : ◌≡◌ {A = ℕ} 3 2 = kind_same (q.ended, EndView d (listed 0 ys)) (t, EndUpdate p) e in absurd (omega arith)
     mine (Viewed ys) (inr (inr z)) = absurd z
@@ -224,7 +224,7 @@ update_of d (q ∷ rs) r t p m = ⊎_elim
           there = inl (λ i. write n v q.begun (at i) true);
           begins = inl refl;
           order = (let l = rising_head q.begun (q.ended ∷ stamps_in rs) r q.ended (inl refl) in omega arith);
-          quiet = subst (λ (u : ℕ). Quiet q.begun u (record { begun = q.begun; ended = q.ended; op = Stored n v } ∷ rs)) at (quiet_first (record { begun = q.begun; ended = q.ended; op = Stored n v }) rs r);
+          quiet = subst (λ (u : ℕ). Quiet q.begun u (record { begun = q.begun; middles = q.middles; ended = q.ended; op = Stored n v } ∷ rs)) at (quiet_first (record { begun = q.begun; middles = q.middles; ended = q.ended; op = Stored n v }) rs r);
         }
     mine (Stored n v) (inr (inr z)) = absurd z
 

@@ -19,7 +19,7 @@ writes_kept : (rs : List Answered) → writes_in (kept rs) ≡ writes_in rs
 writes_kept [] = refl
 writes_kept (r ∷ rs) = one r.op (writes_kept rs)
   where
-    one : (o : Answer) → writes_in (kept rs) ≡ writes_in rs → writes_in (op_kept o (record { begun = r.begun; ended = r.ended; op = o }) ++ kept rs) ≡ op_writes r.begun r.ended o ++ writes_in rs
+    one : (o : Answer) → writes_in (kept rs) ≡ writes_in rs → writes_in (op_kept o (record { begun = r.begun; middles = r.middles; ended = r.ended; op = o }) ++ kept rs) ≡ op_writes r.begun r.ended o ++ writes_in rs
     one (Stored n v) rest = ap (λ l. op_writes r.begun r.ended (Stored n v) ++ l) rest
     one (Viewed xs) rest = rest
     one (Scanned t xs) rest = rest
@@ -29,7 +29,7 @@ marks_kept : (rs : List Answered) → marks_in (kept rs) ≡ marks_in rs
 marks_kept [] = refl
 marks_kept (r ∷ rs) = one r.op (marks_kept rs)
   where
-    one : (o : Answer) → marks_in (kept rs) ≡ marks_in rs → marks_in (op_kept o (record { begun = r.begun; ended = r.ended; op = o }) ++ kept rs) ≡ op_marks r.begun r.ended o ++ marks_in rs
+    one : (o : Answer) → marks_in (kept rs) ≡ marks_in rs → marks_in (op_kept o (record { begun = r.begun; middles = r.middles; ended = r.ended; op = o }) ++ kept rs) ≡ op_marks r.begun r.ended o ++ marks_in rs
     one (Stored n v) rest = rest
     one (Viewed xs) rest = rest
     one (Scanned t xs) rest = ap (λ l. op_marks r.begun r.ended (Scanned t xs) ++ l) rest
@@ -49,7 +49,7 @@ looks_kept : (rs : List Answered) (v : Look) → Mem v (looks_in (kept rs)) → 
 looks_kept [] v m = m
 looks_kept (r ∷ rs) v m = one r.op m (λ x. looks_kept rs v x)
   where
-    one : (o : Answer) → Mem v (looks_in (op_kept o (record { begun = r.begun; ended = r.ended; op = o }) ++ kept rs)) → (Mem v (looks_in (kept rs)) → Mem v (looks_in rs)) → Mem v (op_looks r.begun r.ended o ++ looks_in rs)
+    one : (o : Answer) → Mem v (looks_in (op_kept o (record { begun = r.begun; middles = r.middles; ended = r.ended; op = o }) ++ kept rs)) → (Mem v (looks_in (kept rs)) → Mem v (looks_in rs)) → Mem v (op_looks r.begun r.ended o ++ looks_in rs)
     one (Stored n w) x rest = rest x
     one (Viewed xs) x rest = inr (rest x)
     one (Scanned t xs) x rest = ⊎_elim (λ e. inl e) (λ y. inr (rest y)) x
@@ -60,8 +60,8 @@ pub look_mark : (rs : List Answered) (v : Look) → Mem v (looks_in (kept rs)) �
 look_mark [] v m = absurd m
 look_mark (r ∷ rs) v m = one r.op m (λ x. look_mark rs v x)
   where
-    one : (o : Answer) → Mem v (looks_in (op_kept o (record { begun = r.begun; ended = r.ended; op = o }) ++ kept rs)) → (Mem v (looks_in (kept rs)) → (m : Mark) × Mem m (marks_in (kept rs)) × (m.begun ≡ v.begun) × (m.ended ≡ v.ended) × (m.before ≡ v.shown))
-        → (m : Mark) × Mem m (marks_in (op_kept o (record { begun = r.begun; ended = r.ended; op = o }) ++ kept rs)) × (m.begun ≡ v.begun) × (m.ended ≡ v.ended) × (m.before ≡ v.shown)
+    one : (o : Answer) → Mem v (looks_in (op_kept o (record { begun = r.begun; middles = r.middles; ended = r.ended; op = o }) ++ kept rs)) → (Mem v (looks_in (kept rs)) → (m : Mark) × Mem m (marks_in (kept rs)) × (m.begun ≡ v.begun) × (m.ended ≡ v.ended) × (m.before ≡ v.shown))
+        → (m : Mark) × Mem m (marks_in (op_kept o (record { begun = r.begun; middles = r.middles; ended = r.ended; op = o }) ++ kept rs)) × (m.begun ≡ v.begun) × (m.ended ≡ v.ended) × (m.before ≡ v.shown)
     one (Stored n w) x rest = rest x
     one (Viewed xs) x rest = rest x
     one (Scanned t xs) x rest = ⊎_elim
@@ -179,7 +179,7 @@ pub records_kept : (d : ℕ) (rs : List Answered) → collects_in rs ≡ 0 → r
 records_kept d [] e = refl
 records_kept d (r ∷ rs) e = one r.op e (λ z. records_kept d rs z)
   where
-    one : (o : Answer) → op_collects o + collects_in rs ≡ 0 → (collects_in rs ≡ 0 → records_at d (kept rs) ≡ records_at d rs) → records_at d (op_kept o (record { begun = r.begun; ended = r.ended; op = o }) ++ kept rs) ≡ op_records d r.begun r.ended o ++ records_at d rs
+    one : (o : Answer) → op_collects o + collects_in rs ≡ 0 → (collects_in rs ≡ 0 → records_at d (kept rs) ≡ records_at d rs) → records_at d (op_kept o (record { begun = r.begun; middles = r.middles; ended = r.ended; op = o }) ++ kept rs) ≡ op_records d r.begun r.ended o ++ records_at d rs
     one (Stored n v) z rest = ap (λ l. op_records d r.begun r.ended (Stored n v) ++ l) (rest (omega arith))
     one (Viewed xs) z rest = absurd (omega arith)
     one (Scanned t xs) z rest = ap (λ l. op_records d r.begun r.ended (Scanned t xs) ++ l) (rest (omega arith))

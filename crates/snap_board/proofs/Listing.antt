@@ -151,7 +151,7 @@ pub last_number : (d : ℕ) (last : Option Entry) (p : ℕ × ℕ) (rs : List An
 last_number d last p [] e = e
 last_number d last p (r ∷ rs) e = go (λ l q x. last_number d l q rs x) r.op
   where
-    go : ((l : Option Entry) (q : ℕ × ℕ) → number_in l ≡ q.0 → number_in (last_stored l (records_at d rs)) ≡ (latest q rs).0) → (o : Answer) → number_in (last_stored last (records_at d (record { begun = r.begun; ended = r.ended; op = o } ∷ rs))) ≡ (latest (op_entry p o) rs).0
+    go : ((l : Option Entry) (q : ℕ × ℕ) → number_in l ≡ q.0 → number_in (last_stored l (records_at d rs)) ≡ (latest q rs).0) → (o : Answer) → number_in (last_stored last (records_at d (record { begun = r.begun; middles = r.middles; ended = r.ended; op = o } ∷ rs))) ≡ (latest (op_entry p o) rs).0
     go rest (Stored n v) = rest (Some (record { component = d; number = n; value = v })) (n, v) refl
     go rest (Viewed xs) = rest last p e
     go rest (Scanned t xs) = rest last p e
@@ -162,8 +162,8 @@ pub last_entry : (d : ℕ) (p : ℕ × ℕ) (rs : List Answered) → AllNumbered
 last_entry d p [] pos = refl
 last_entry d p (r ∷ rs) pos = go (λ q x. last_entry d q rs x) r.op pos
   where
-    go : ((q : ℕ × ℕ) → AllNumbered (writes_in rs) → entry_at d (latest q rs) ≡ last_stored (entry_at d q) (records_at d rs)) → (o : Answer) → AllNumbered (writes_in (record { begun = r.begun; ended = r.ended; op = o } ∷ rs))
-        → entry_at d (latest (op_entry p o) rs) ≡ last_stored (entry_at d p) (records_at d (record { begun = r.begun; ended = r.ended; op = o } ∷ rs))
+    go : ((q : ℕ × ℕ) → AllNumbered (writes_in rs) → entry_at d (latest q rs) ≡ last_stored (entry_at d q) (records_at d rs)) → (o : Answer) → AllNumbered (writes_in (record { begun = r.begun; middles = r.middles; ended = r.ended; op = o } ∷ rs))
+        → entry_at d (latest (op_entry p o) rs) ≡ last_stored (entry_at d p) (records_at d (record { begun = r.begun; middles = r.middles; ended = r.ended; op = o } ∷ rs))
     go rest (Stored n v) q = rest (n, v) (λ w m. q w (inr m)) ∙ ap (λ z. last_stored z (records_at d rs)) (entry_at_positive d n v (q (write n v r.begun r.ended true) (inl refl)))
     go rest (Viewed xs) q = rest p q
     go rest (Scanned t xs) q = rest p q

@@ -2,6 +2,7 @@ pub use Rattle.snap_account.specs.Rule
 pub use Rattle.snap_account.specs.Plays
 pub mod Boards
 pub mod Desks
+pub mod LastCall
 pub mod Slots
 pub mod Fields
 pub mod Regular

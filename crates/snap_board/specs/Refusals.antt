@@ -9,6 +9,7 @@ use Rattle.snap_board.specs.declared.refusals.CollectRefusal.TheVariants as Coll
 use Rattle.snap_board.specs.declared.refusals.ScanRefusal.{ScanRefusal}
 use Rattle.snap_board.specs.declared.refusals.ScanRefusal.TheVariants as Scanning
 use Rattle.snap_board.specs.Boards.{DeskView}
+use Rattle.snap_board.specs.LastCall.{HasCalled, IsLostScan}
 use Rattle.snap_board.specs.Desks.{records, ticks, lost}
 
 -- how many desks a board has at most
@@ -35,7 +36,7 @@ IsNotScanned ticks tries Scanning.Interfered = ticks + tries + 2 ≤ tick_limit
 abbrev pub IsLeft : ℕ → DeskView → DeskView → ScanRefusal → Type 0
 IsLeft tries old new Scanning.Spent = new ≡ old
 IsLeft tries old new Scanning.Memory = new ≡ old
-IsLeft tries old new Scanning.Interfered = (records new ≡ records old) × (ticks new ≡ ticks old + tries + 2) × (lost new ≡ lost old ++ tries ∷ [])
+IsLeft tries old new Scanning.Interfered = (records new ≡ records old) × (ticks new ≡ ticks old + tries + 2) × (lost new ≡ lost old ++ tries ∷ []) × HasCalled (λ r. IsLostScan tries r.middles r.op) old new
 
 -- that scan was not the only one to step
 abbrev pub IsNotInterfered : ScanRefusal → Type 0

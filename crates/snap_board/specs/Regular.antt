@@ -7,7 +7,8 @@ use Rattle.snap_account.specs.declared.account.Doing.TheVariants.{Idle}
 use Rattle.snap_board.specs.Boards.{ClosedView}
 use Rattle.snap_core.specs.declared.entry.Entry.{Entry}
 use Rattle.snap_board.specs.Desks.{records_in, last_stored}
-use Rattle.snap_core.specs.Sums.{times, total}
+use Rattle.snap_core.specs.Sums.{once_below, times, total}
+use Rattle.snap_account.specs.Drawn.{drawn_in}
 use Rattle.snap_account.specs.Calls.{Mem, Write, Look, writes_in, looks_in, stamps_in, all_stamps_in, marks_in, Mark}
 use Rattle.snap_account.specs.declared.account.Answered.{Answered}
 use Rattle.snap_account.specs.declared.account.Answer.{Answer}
@@ -37,6 +38,11 @@ pub record Settled (n : ℕ) (hand : List Account) : Type 0 where
   pub regular : (a : Account) → Mem a hand → (r : Look) → Mem r (looks_in a.calls) → (c : Account) → Mem c hand → (p : ℕ × ℕ) → get_elem? r.shown c.desk ≡ some p → Shows r p c
   pub monotone : (a c : Account) → Mem a hand → Mem c hand → (r s : Look) → Mem r (looks_in a.calls) → Mem s (looks_in c.calls) → r.ended < s.begun
       → (k : ℕ) (p q : ℕ × ℕ) → get_elem? r.shown k ≡ some p → get_elem? s.shown k ≡ some q → p.0 ≤ q.0
+
+-- each tick of a closed board, from 0 up to its clock, is a begin, a middle tick or an end of exactly one call, and each desk drew its own in their order
+pub record TicksSettled (hand : List Account) : Type 0 where
+  pub once : (x : ℕ) → total (λ (a : Account). times x (drawn_in a.calls)) hand ≡ once_below x (clock hand)
+  pub rising : (a : Account) → Mem a hand → Rising (drawn_in a.calls)
 
 -- one component of one scan, against the stores of the component's desk: what it shows was stored before its middle tick, and so was nothing later
 pub record ShowsAt (m : Mark) (p : ℕ × ℕ) (c : Account) : Type 0 where

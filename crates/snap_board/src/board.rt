@@ -9,7 +9,7 @@ ghost use Rattle.snap_account.specs.Plays.{but_first, only_first, insert};
 ghost use Rattle.snap_board.specs.Desks.{account, accounts, IsDeskOf, IsGatheredOf};
 ghost use Rattle.snap_board.specs.History.{board_history, AllCompleted};
 ghost use Rattle.snap_board.specs.Refusals.{IsNotOpened, desk_limit};
-ghost use Rattle.snap_board.specs.Regular.{AreUpTo, Settled, ScansSettled, WereInterfered, LastStores, entry_in};
+ghost use Rattle.snap_board.specs.Regular.{AreUpTo, Settled, ScansSettled, TicksSettled, WereInterfered, LastStores, entry_in};
 ghost use Rattle.snap_board.specs.Scans.{scan_history};
 
 use crate::kept::Kept;
@@ -143,13 +143,15 @@ impl Board {
 
     /// Ends the board where all its desks are in. The begins and ends of all records, in the order of their stamps, are
     /// then a regular and monotone history with no call pending, and those of the stores and scans alone are an atomic
-    /// one. Each scan that was interfered with had at least as many stores of other desks beside it as it had tries. Where
-    /// a desk is out both come back unchanged.
+    /// one. Each scan that was interfered with had at least as many stores of other desks beside it as it had tries. Each
+    /// tick of the board's clock, from 0 on, is a begin, a middle tick or an end of exactly one call. Where a desk is out
+    /// both come back unchanged.
     pub fn close(self, gathered: Gathered) -> Result<Closed, (Board, Gathered)>
         requires { IsGatheredOf self gathered }
         ensures exact { IsOk result ↔ (length (accounts gathered) ≡ self.desks) }
         ensures settled { IsOk result → Settled self.desks (accounts gathered) }
         ensures scans { IsOk result → ScansSettled (accounts gathered) }
+        ensures ticks { IsOk result → TicksSettled (accounts gathered) }
         ensures history { IsOk result → IsHistory (board_history (accounts gathered)) }
         ensures completed { IsOk result → AllCompleted (calls_of (board_history (accounts gathered))) }
         ensures regular { IsOk result → IsRegular (calls_of (board_history (accounts gathered))) }

@@ -2,6 +2,7 @@ ghost use Rattle.std.specs.Prelude.{◌≡◌, ◌+◌, ◌<◌, ◌≤◌, [], 
 ghost use Rattle.snap_core.specs.Entries.{view_refusal, number_in};
 ghost use Rattle.snap_account.specs.Rule.{tick_limit};
 ghost use Rattle.snap_board.specs.Refusals.{IsNotCollected, desk_limit};
+ghost use Rattle.snap_board.specs.LastCall.{HasCalled, IsStore, IsCollect};
 ghost use Rattle.snap_board.specs.Desks.{records, ticks, collects, lost, IsDeskOf, listed, IsLater, last_stored, shown_by, IsNoOlder, ShowsOwnLast};
 ghost use Rattle.snap_account.specs.Hands.{has_read, doing_of, desk_of, answered_of, pairs, Told};
 ghost use Rattle.snap_account.specs.Plays.{HasRead};
@@ -66,6 +67,7 @@ impl Board {
         ensures stamps { IfOk result (λ r. r.begun < r.ended) }
         ensures later { IfOk result (IsLater (records desk.old)) }
         ensures process { IfOk result (λ r. r.process ≡ desk.old.desk) }
+        ensures call { OnOk result (HasCalled (λ r. IsStore value r.middles r.op) desk.old desk.new) }
         ensures entry { IfOk result (λ r. r.op ≡ RecordedOp.Stored (record { component = desk.old.desk; number = number_in (last_stored None (records desk.old)) + 1; value = value })) }
         ensures collects { collects desk.new ≡ collects desk.old }
         ensures lost { lost desk.new ≡ lost desk.old }
@@ -130,6 +132,7 @@ impl Board {
         ensures stamps { IfOk result (λ r. r.begun < r.ended) }
         ensures later { IfOk result (IsLater (records desk.old)) }
         ensures process { IfOk result (λ r. r.process ≡ desk.old.desk) }
+        ensures call { OnOk result (HasCalled (λ r. IsCollect r.middles r.op) desk.old desk.new) }
         ensures view { IfOk result (λ r. r.op ≡ RecordedOp.Viewed (shown_by r)) }
         ensures own { IfOk result (ShowsOwnLast desk.old.desk (records desk.old)) }
         ensures no_older { IfOk result (IsNoOlder (records desk.old)) }

@@ -1,6 +1,7 @@
 ghost use Rattle.std.specs.Prelude.{◌≡◌, ◌≢◌, ◌↔◌, ◌+◌, ◌<◌, ◌≤◌, [], ◌∷◌, ◌++◌, length, vec_capacity, IfOk, IfErr, OnOk, OnErr, IsTrue, MatchOption, true, false};
 ghost use Rattle.snap_account.specs.Rule.{tick_limit};
 ghost use Rattle.snap_board.specs.Refusals.{IsNotScanned, IsLeft, IsNotInterfered};
+ghost use Rattle.snap_board.specs.LastCall.{HasCalled, IsRecordedScan};
 ghost use Rattle.snap_board.specs.Desks.{records, ticks, collects, lost, IsDeskOf, IsLater, shown_by, IsNoOlder, ShowsOwnLast};
 ghost use Rattle.snap_account.specs.Hands.{one_desk, ticks_of};
 ghost use Rattle.snap_account.specs.Tries.{HasReadAll, StillTries, AgreesOn, IsSameCall, made_of};
@@ -89,6 +90,7 @@ impl Board {
         ensures stamps { IfOk result (λ r. r.begun < r.ended) }
         ensures later { IfOk result (IsLater (records desk.old)) }
         ensures process { IfOk result (λ r. r.process ≡ desk.old.desk) }
+        ensures call { OnOk result (HasCalled (λ r. IsRecordedScan tries r.middles r.op) desk.old desk.new) }
         ensures view { IfOk result (λ r. r.op ≡ RecordedOp.Viewed (shown_by r)) }
         ensures own { IfOk result (ShowsOwnLast desk.old.desk (records desk.old)) }
         ensures no_older { IfOk result (IsNoOlder (records desk.old)) }

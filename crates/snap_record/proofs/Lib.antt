@@ -10,3 +10,4 @@ pub mod Running
 pub mod Whole
 pub mod Telling
 pub mod Narrow
+pub mod Placing

@@ -8,11 +8,12 @@ use Rattle.snap_board.proofs.Listing.{listed_short}
 use Rattle.snap_board.proofs.DeskEvents.{view_of}
 use Rattle.snap_board.proofs.Merging.{mem_event}
 use Rattle.snap_board.proofs.Ordering.{in_order_of}
+use Rattle.snap_record.specs.declared.plan.Step.{Step}
 use Rattle.snap_record.specs.Recording.{AreStamped}
 
 -- a view shows what a look read, one word of each desk
-pub shows_few : (n : ℕ) (events : List Event) (stamps : List ℕ) → AreStamped n events stamps → (p : ℕ) (es : List Entry) → Mem (EndView p es) events → length es ≤ n
-shows_few n events stamps s p es m =
+pub shows_few : (scripts : List (List Step)) (events : List Event) (stamps : List ℕ) → AreStamped scripts events stamps → (p : ℕ) (es : List Entry) → Mem (EndView p es) events → length es ≤ length scripts
+shows_few scripts events stamps s p es m =
     let at = mem_event s.timeline (EndView p es) (subst (Mem (EndView p es)) s.events_are m) in
     let own = (in_order_of s.accounts s.timeline s.merged).only (at.0, EndView p es) at.1 in
     let view = view_of own.0.desk own.0.calls (s.closed.rising own.0 own.1) at.0 p es own.2 in

@@ -21,7 +21,7 @@ use Rattle.snap_record.specs.Recording.{DidScripts}
 use Rattle.snap_board.specs.Regular.{falling}
 use Rattle.snap_record.specs.Relays.{SenderView, AreNew, HasPlaces, TookAll}
 use Rattle.snap_account.specs.Rule.{newcomers}
-use Rattle.snap_record.specs.Scripts.{DidSome}
+use Rattle.snap_record.specs.Scripts.{AreCallsOf, DidSome}
 use Rattle.snap_record.specs.Workers.{EachAt, IsWorkerOf, IsUnused, AreUnused, HasRun, HaveRun, HaveDone, HaveClosed}
 use Rattle.snap_record.specs.declared.worker.Recorder.{Recorder}
 use Rattle.snap_record.specs.declared.worker.Worker.{Worker}
@@ -92,21 +92,22 @@ pub none_new : (m : ℕ) → [] ≡ newcomers (suc m) → ⊥
 none_new m e = cc
 
 -- a desk that comes out of new ones
-pub new_desk : (d : DeskView) (m : ℕ) (hand : List Account) → hand ≡ newcomers (suc m) → account d ∷ [] ≡ only_first hand → (d.desk ≡ m) × (records d ≡ []) × (ticks d ≡ 0) × (lost d ≡ []) × (collects d ≡ 0)
+pub new_desk : (d : DeskView) (m : ℕ) (hand : List Account) → hand ≡ newcomers (suc m) → account d ∷ [] ≡ only_first hand → (d.desk ≡ m) × (records d ≡ []) × (ticks d ≡ 0) × (lost d ≡ []) × (collects d ≡ 0) × (d.calls ≡ [])
 new_desk d m hand is out =
     let first = out ∙ ap only_first is in
-    let calls = ap answered_of first in (ap desk_of first, ap (records_at d.desk) calls, ap ticks_of first, ap lost_in calls, ap collects_in calls)
+    let calls = ap answered_of first in (ap desk_of first, ap (records_at d.desk) calls, ap ticks_of first, ap lost_in calls, ap collects_in calls, calls)
 
 -- one more worker gives its desk back
 pub one_done : (scripts : List (List Step)) (accounts : List Account) (senders : List SenderView) (interfered more : ℕ) (s : SenderView) (a : Account) → HaveDone scripts accounts senders interfered
-    → a.desk ≡ length senders → s.place ≡ a.desk → records_in a ≡ s.sent → DidSome a.desk (get_or scripts a.desk []) (records_in a) (lost_in a.calls) → collects_in a.calls ≡ views_in (get_or scripts a.desk [])
+    → a.desk ≡ length senders → s.place ≡ a.desk → records_in a ≡ s.sent → DidSome a.desk (get_or scripts a.desk []) (records_in a) (lost_in a.calls) → collects_in a.calls ≡ views_in (get_or scripts a.desk []) → AreCallsOf (get_or scripts a.desk []) a.calls
     → more ≡ length (lost_in a.calls) → HaveDone scripts (a ∷ accounts) (senders ++ s ∷ []) (interfered + more)
-one_done scripts accounts senders interfered more s a h next place sent did views count = record {
+one_done scripts accounts senders interfered more s a h next place sent did views calls count = record {
   desks = (λ i. next i ∷ h.desks i) ∙ ap falling longer;
   theirs = record {
     did = λ c m. ⊎_elim (λ e. subst (λ (z : Account). DidSome z.desk (get_or scripts z.desk []) (records_in z) (lost_in z.calls)) e did) (λ q. h.theirs.did c q) m;
     views = λ c m. ⊎_elim (λ e. subst (λ (z : Account). collects_in z.calls ≡ views_in (get_or scripts z.desk [])) e views) (λ q. h.theirs.views c q) m;
     left = let l = h.theirs.left in omega (arith, l, count);
+    calls = λ c m. ⊎_elim (λ e. subst (λ (z : Account). AreCallsOf (get_or scripts z.desk []) z.calls) e calls) (λ q. h.theirs.calls c q) m;
   };
   places = λ w other lt. ⊎_elim
       (λ e. ap (λ (z : SenderView). z.place) (get_or_push senders s other w (sym e.1)) ∙ place ∙ next ∙ sym e.1)
@@ -161,6 +162,7 @@ did_scripts queue scripts senders all interfered n is closed took = record {
   accounts = closed.accounts;
   settled = closed.settled;
   scans = closed.scans;
+  ticks = closed.ticks;
   theirs = closed.done.theirs;
   own = λ a ma.
       let low = hand_low (length senders) closed.accounts closed.done.desks a ma in

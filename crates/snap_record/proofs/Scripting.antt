@@ -7,7 +7,10 @@ use Rattle.snap_record.specs.declared.plan.Step.{Step}
 use Rattle.snap_board.specs.declared.record.Record.{Record}
 use Rattle.snap_record.specs.Choices.{chosen, left_out, LeavesScans, IsScan, tries_of, one_view, views_in}
 use Rattle.snap_record.specs.Plans.{has_tries, step_ticks, draws_within}
-use Rattle.snap_record.specs.Scripts.{IsStepOf, DidScript, DidSome}
+use Rattle.snap_record.specs.Scripts.{IsStepOf, DidScript, DidSome, IsCallOf, AreCallsOf}
+use Rattle.snap_account.specs.declared.account.Answered.{Answered}
+use Rattle.snap_board.specs.Boards.{DeskView}
+use Rattle.snap_board.specs.LastCall.{HasCalled}
 
 did_more : (d : ℕ) (steps : List Step) (rs : List Record) (s : Step) (r : Record) → DidScript d steps rs → IsStepOf d s r → DidScript d (steps ++ s ∷ []) (rs ++ r ∷ [])
 did_more d [] [] s r old new = (new, tt)
@@ -62,6 +65,17 @@ did_push d script k other rs items r lost lost' lt is same old new =
 pub did_leave : (d : ℕ) (script : List Step) (k : ℕ) (other : Step) (rs : List Record) (lost lost' : List ℕ) → k < length script → lost' ≡ lost ++ tries_of (get_or script k other) → DidSome d (take k script) rs lost → IsScan (get_or script k other) → DidSome d (take (k + 1) script) rs lost'
 did_leave d script k other rs lost lost' lt same old new =
     subst (λ (z : List Step × List ℕ). DidSome d z.0 rs z.1) (λ i. (sym (take_more script k other lt) i, sym same i)) (some_left d (take k script) rs lost (get_or script k other) old new)
+
+calls_more : (steps : List Step) (rs : List Answered) (s : Step) (r : Answered) → AreCallsOf steps rs → IsCallOf s r → AreCallsOf (steps ++ s ∷ []) (rs ++ r ∷ [])
+calls_more [] [] s r old new = (new, tt)
+calls_more [] (y ∷ rs) s r old new = absurd old
+calls_more (t ∷ steps) [] s r old new = absurd old
+calls_more (t ∷ steps) (y ∷ rs) s r old new = (old.0, calls_more steps rs s r old.1 new)
+
+-- one more call, for one more step
+pub calls_push : (script : List Step) (k : ℕ) (other : Step) (d d' : DeskView) → k < length script → AreCallsOf (take k script) d.calls → HasCalled (IsCallOf (get_or script k other)) d d' → AreCallsOf (take (k + 1) script) d'.calls
+calls_push script k other d d' lt old new =
+    subst (λ (z : List Step × List Answered). AreCallsOf z.0 z.1) (λ i. (sym (take_more script k other lt) i, sym new.1 i)) (calls_more (take k script) d.calls (get_or script k other) new.0 old new.2)
 
 pub views-more : (script : List Step) (k : ℕ) (other : Step) → k < length script → views_in (take (k + 1) script) ≡ views_in (take k script) + one_view (get_or script k other)
 views-more script k other lt = let t = total-append one_view (take k script) (get_or script k other ∷ []) in let e = ap views_in (take_more script k other lt) in omega arith

@@ -78,10 +78,12 @@ module _ (scripts : List (List Step)) (all : List Record) (interfered : ℕ) (d 
   pub told_monotone : (es : List Stamp) → Merged all es → IsMonotone (calls_of (events_in es))
   told_monotone es m = monotone n hand es d.settled (in_hand es m)
 
-  pub told_stamps : (es : List Stamp) → Merged all es → AreStamped n (events_in es) (event_stamps es)
+  pub told_stamps : (es : List Stamp) → Merged all es → AreStamped scripts (events_in es) (event_stamps es)
   told_stamps es m = record {
     accounts = hand;
     closed = d.settled;
+    calls = d.theirs.calls;
+    ticks = d.ticks;
     timeline = es;
     merged = merged_hand es m;
     events_are = refl;

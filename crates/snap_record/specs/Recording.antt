@@ -1,5 +1,5 @@
 -- What the workers of a plan did on a board that was closed, and its history.
-use Rattle.std.specs.Prelude.{◌≡◌, ℕ, List, [], slice_index_or, length}
+use Rattle.std.specs.Prelude.{◌≡◌, ℕ, ◌<◌, List, [], slice_index, slice_index_or, length}
 use Rattle.snap_core.specs.Sums.{total}
 use Rattle.snap_account.specs.Calls.{Mem}
 use Rattle.snap_core.specs.declared.event.Event.{Event}
@@ -9,22 +9,24 @@ use Rattle.snap_record.specs.declared.plan.Step.{Step}
 use Rattle.snap_board.specs.declared.record.Record.{Record}
 use Rattle.snap_record.specs.Delivery.{of_worker, AreBelow}
 use Rattle.snap_board.specs.Desks.{records_in, lost_in, collects_in}
-use Rattle.snap_board.specs.Regular.{Settled, ScansSettled}
+use Rattle.snap_board.specs.Regular.{Settled, ScansSettled, TicksSettled}
 use Rattle.snap_record.specs.Choices.{views_in}
 use Rattle.snap_board.specs.History.{all_records, event_stamps, events_in, stamped_events, Merged}
-use Rattle.snap_record.specs.Scripts.{DidSome}
+use Rattle.snap_record.specs.Scripts.{AreCallsOf, DidSome}
 
 -- the calls of each desk are those of the script of its number, but for so many scans that have no record
 pub record DidTheirs (scripts : List (List Step)) (accounts : List Account) (interfered : ℕ) : Type 0 where
   pub did : (a : Account) → Mem a accounts → DidSome a.desk (slice_index_or scripts a.desk []) (records_in a) (lost_in a.calls)
   pub views : (a : Account) → Mem a accounts → collects_in a.calls ≡ views_in (slice_index_or scripts a.desk [])
   pub left : total (λ (a : Account). length (lost_in a.calls)) accounts ≡ interfered
+  pub calls : (a : Account) → Mem a accounts → AreCallsOf (slice_index_or scripts a.desk []) a.calls
 
 -- each worker did its script on a board that was closed, its records are those of its number, and so many scans have none
 pub record DidScripts (scripts : List (List Step)) (records : List Record) (interfered : ℕ) : Type 0 where
   pub accounts : List Account
   pub settled : Settled (length scripts) accounts
   pub scans : ScansSettled accounts
+  pub ticks : TicksSettled accounts
   pub theirs : DidTheirs scripts accounts interfered
   pub own : (a : Account) → Mem a accounts → records_in a ≡ of_worker a.desk records
   pub no_other : AreBelow (length scripts) records
@@ -33,11 +35,19 @@ pub record DidScripts (scripts : List (List Step)) (records : List Record) (inte
 abbrev pub IsTold : List Record → List Event → Type 0
 IsTold records history = (p : ℕ) → events_of p history ≡ events_in (stamped_events (of_worker p records))
 
--- the events are the begins and ends of the records of n desks whose board was closed, in the order of their stamps, and these are the stamps
-pub record AreStamped (n : ℕ) (history : List Event) (stamps : List ℕ) : Type 0 where
+-- the events are the begins and ends of the records of a closed board whose desks did these scripts, in the order of their ticks, and the stamps are these ticks
+pub record AreStamped (scripts : List (List Step)) (history : List Event) (stamps : List ℕ) : Type 0 where
   pub accounts : List Account
-  pub closed : Settled n accounts
+  pub closed : Settled (length scripts) accounts
+  -- each desk made the calls of its script, each once and in their order
+  pub calls : (a : Account) → Mem a accounts → AreCallsOf (slice_index_or scripts a.desk []) a.calls
+  -- each tick of the board, from 0 on, is a begin, a middle tick or an end of exactly one of these calls
+  pub ticks : TicksSettled accounts
   pub timeline : List (ℕ × Event)
   pub merged : Merged (all_records accounts) timeline
   pub events_are : history ≡ events_in timeline
   pub stamps_are : stamps ≡ event_stamps timeline
+
+-- the number at each place is that of the place: 0, 1, 2 and so on
+abbrev pub ArePlaces : List ℕ → Type 0
+ArePlaces stamps = (k : ℕ) → k < length stamps → slice_index stamps k ≡ k

@@ -1,5 +1,7 @@
 -- The records of a worker, beside its script.
-use Rattle.std.specs.Prelude.{◌≡◌, ℕ, List, [], ◌∷◌, ⊤, Bool, length}
+use Rattle.std.specs.Prelude.{◌≡◌, ◌⊎◌, ℕ, List, [], ◌∷◌, ⊤, Bool, length}
+use Rattle.snap_account.specs.declared.account.Answered.{Answered}
+use Rattle.snap_board.specs.LastCall.{IsStore, IsCollect, IsRecordedScan, IsLostScan}
 use Rattle.snap_record.specs.Choices.{chosen, left_out, LeavesScans}
 use Rattle.snap_record.specs.declared.plan.Step.{Step}
 use Rattle.snap_record.specs.declared.plan.Step.TheVariants.{Store, View, Scan}
@@ -22,6 +24,18 @@ abbrev pub DidScript : ℕ → List Step → List Record → Type 0
 DidScript d [] [] = ⊤
 DidScript d (step ∷ steps) (r ∷ rs) = IsStepOf d step r × DidScript d steps rs
 DidScript d _ _ = ⊥
+
+-- the call is what the step asks for
+abbrev pub IsCallOf : Step → Answered → Type 0
+IsCallOf (Store v) r = IsStore v r.middles r.op
+IsCallOf View r = IsCollect r.middles r.op
+IsCallOf (Scan tries) r = IsRecordedScan tries r.middles r.op ⊎ IsLostScan tries r.middles r.op
+
+-- the calls are those of the script's steps, each once and in order, scans without a record among them
+abbrev pub AreCallsOf : List Step → List Answered → Type 0
+AreCallsOf [] [] = ⊤
+AreCallsOf (step ∷ steps) (r ∷ rs) = IsCallOf step r × AreCallsOf steps rs
+AreCallsOf _ _ = ⊥
 
 -- the records are those of the script's steps but for scans, whose tries are `lost`
 pub record DidSome (d : ℕ) (steps : List Step) (rs : List Record) (lost : List ℕ) : Type 0 where

@@ -9,9 +9,9 @@ use Rattle.snap_record.specs.declared.worker.Ran.{Ran}
 use Rattle.snap_account.specs.Calls.{Mem}
 use Rattle.snap_board.specs.Desks.{records, records_in, ticks, lost, collects, IsDeskOf}
 use Rattle.snap_record.specs.Recording.{DidTheirs}
-use Rattle.snap_board.specs.Regular.{falling, Settled, ScansSettled}
+use Rattle.snap_board.specs.Regular.{falling, Settled, ScansSettled, TicksSettled}
 use Rattle.snap_record.specs.Relays.{RelayView, SenderView, IsSenderOf, IsTakerOf}
-use Rattle.snap_record.specs.Scripts.{DidSome}
+use Rattle.snap_record.specs.Scripts.{AreCallsOf, DidSome}
 use Rattle.snap_record.specs.Choices.{views_in}
 
 -- the worker's desk and its sender are of this recorder, and have one place
@@ -20,7 +20,7 @@ IsWorkerOf r w = IsDeskOf r.board w.desk × IsSenderOf r.relay w.sender × (w.se
 
 -- the worker has made no call and sent nothing
 abbrev pub IsUnused : Worker → Type 0
-IsUnused w = (records w.desk ≡ []) × (ticks w.desk ≡ 0) × (lost w.desk ≡ []) × (collects w.desk ≡ 0) × (w.sender.sent ≡ [])
+IsUnused w = (records w.desk ≡ []) × (ticks w.desk ≡ 0) × (lost w.desk ≡ []) × (collects w.desk ≡ 0) × (w.sender.sent ≡ []) × (w.desk.calls ≡ [])
 
 -- the worker of desk d ran its script: where memory was not refused, it sent the records of its desk, and they are the script's
 pub record HasRun (recorder : Recorder) (d : ℕ) (steps : List Step) (ran : Ran) : Type 0 where
@@ -30,6 +30,7 @@ pub record HasRun (recorder : Recorder) (d : ℕ) (steps : List Step) (ran : Ran
   pub script : OnOk ran.outcome (DidSome d steps ran.worker.sender.sent (lost ran.worker.desk))
   pub count : IfOk ran.outcome (λ count. count ≡ length (lost ran.worker.desk))
   pub views : OnOk ran.outcome (collects ran.worker.desk ≡ views_in steps)
+  pub calls : OnOk ran.outcome (AreCallsOf steps ran.worker.desk.calls)
 
 -- P holds of each element and its place
 abbrev pub EachAt : {X : Type 0} → (ℕ → X → Type 0) → List X → Type 0
@@ -55,6 +56,7 @@ pub record HaveClosed (scripts : List (List Step)) (senders : List SenderView) (
   pub accounts : List Account
   pub settled : Settled (length scripts) accounts
   pub scans : ScansSettled accounts
+  pub ticks : TicksSettled accounts
   pub count : length senders ≡ length scripts
   pub done : HaveDone scripts accounts senders interfered
 

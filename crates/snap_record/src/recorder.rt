@@ -8,7 +8,7 @@ ghost use Rattle.snap_board.specs.Desks.{accounts, IsGatheredOf};
 ghost use Rattle.snap_board.specs.History.{AllCompleted};
 ghost use Rattle.snap_record.specs.Plans.{HasScripts, HasWholeScripts, HasNoScans, HasNoViews, AreWorkers, steps_in};
 ghost use Rattle.snap_core.specs.Orders.{IsAtomic};
-ghost use Rattle.snap_record.specs.Recording.{AreStamped, DidScripts};
+ghost use Rattle.snap_record.specs.Recording.{ArePlaces, AreStamped, DidScripts};
 ghost use Rattle.snap_record.specs.Relays.{IsSenderOf, IsTakerOf};
 ghost use Rattle.snap_record.specs.Workers.{IsWorkerOf, IsUnused, AreUnused, HasRun, HaveRun, HaveClosed, IsTakenOf};
 
@@ -208,7 +208,9 @@ fn run_plan<R: Threads + Wait + Sync, G: Gate>(
 /// The history is regular and monotone and has no pending call, and it is atomic where no script has a collect. Worker w is process w
 /// in it, with the calls of its script in their order, each once, and there is no other call; but scans that were
 /// interfered with are left out, as many in all as `interfered` says. The stamps are the board's: for each event that of
-/// its record's begin or end, strictly rising.
+/// its record's begin or end, strictly rising. Each tick of the board's clock, from 0 on, is a begin, a middle tick or an
+/// end of exactly one call of the scripts, scans that were left out among them. So each try of a scan leaves a gap, and
+/// where no script has a scan the stamps are 0, 1, 2 and so on.
 pub fn record_plan<R: Threads + Wait + Sync, G: Gate>(
     rt: &R,
     alloc: Global,
@@ -223,8 +225,9 @@ pub fn record_plan<R: Threads + Wait + Sync, G: Gate>(
     ensures scripts { IfOk result (λ r. HasScripts plan.now r.history r.interfered) }
     ensures whole { HasNoScans plan.now → IfOk result (λ r. HasWholeScripts plan.now r.history) }
     ensures none_left { HasNoScans plan.now → IfOk result (λ r. r.interfered ≡ 0) }
-    ensures stamps { IfOk result (λ r. AreStamped (length plan.now) r.history r.stamps.items) }
+    ensures stamps { IfOk result (λ r. AreStamped plan.now r.history r.stamps.items) }
     ensures rising { IfOk result (λ r. IsStrictlyIncreasing r.stamps.items) }
+    ensures places { HasNoScans plan.now → IfOk result (λ r. ArePlaces r.stamps.items) }
     ensures each_stamp { IfOk result (λ r. length r.stamps.items ≡ length r.history) }
 {
     let (all, interfered) = run_plan(rt, alloc, plan, gate)?;

@@ -1,7 +1,8 @@
 ghost use Rattle.std.specs.Prelude.{◌≡◌, ◌+◌, ◌*◌, ◌<◌, ◌≤◌, ◌++◌, ◌∷◌, [], IfOk, IfSome, IfNone, OnOk, MatchOption, length, slice_index_or, true};
 ghost use Rattle.snap_core.specs.Events.{event_limit};
 ghost use Rattle.snap_board.specs.Desks.{records, ticks, lost, collects, IsDeskOf};
-ghost use Rattle.snap_record.specs.Scripts.{DidSome, IsStepOf};
+ghost use Rattle.snap_record.specs.Scripts.{AreCallsOf, DidSome, IsCallOf, IsStepOf};
+ghost use Rattle.snap_board.specs.LastCall.{HasCalled};
 ghost use Rattle.snap_record.specs.Choices.{tries_of, IsScan, one_view, views_in};
 ghost use Rattle.snap_record.specs.Plans.{has_tries, step_ticks, draws_within};
 ghost use Rattle.snap_account.specs.Rule.{tick_limit};
@@ -52,6 +53,7 @@ fn run_step(
     ensures scan { IfOk result (λ o. IfNone o (IsScan step)) }
     ensures step { IfOk result (λ o. IfSome o (IsStepOf desk.old.desk step)) }
     ensures views { OnOk result (collects desk.new ≡ collects desk.old + one_view step) }
+    ensures call { OnOk result (HasCalled (IsCallOf step) desk.old desk.new) }
 {
     match step {
         Step::Store(value) => match board.store(desk, value) {
@@ -90,6 +92,7 @@ fn run_steps<R: Wait, G: Gate>(
     ensures script { OnOk result (DidSome worker.old.desk.desk script.now worker.new.sender.sent (lost worker.new.desk)) }
     ensures count { IfOk result (λ count. count ≡ length (lost worker.new.desk)) }
     ensures views { OnOk result (collects worker.new.desk ≡ views_in script.now) }
+    ensures calls { OnOk result (AreCallsOf script.now worker.new.desk.calls) }
 {
     let number = u32::from(worker.desk.process());
     let mut interfered = 0u32;

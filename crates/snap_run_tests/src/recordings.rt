@@ -119,6 +119,30 @@ fn one_round_with_stamps_has_the_stamps_from_0_to_7_in_order(rt: HostRuntime) ->
     expect_stamps(&text, &["0", "1", "2", "3", "4", "5", "6", "7"])
 }
 
+// Worker 0 stores, scans and stores again, and the others have no calls.
+fn lone_scan(alloc: Global, workers: usize) -> Result<Plan, Fail> {
+    let mut scripts = vec![in alloc;
+        vec![in alloc; Step::Store(9), Step::Scan(3), Step::Store(8)]?,
+    ]?;
+    for _ in 1..workers {
+        scripts.push(Vec::new(alloc))?;
+    }
+    Ok(Plan::new(scripts)?)
+}
+
+// The first store draws 0 and 1. The scan begins at 2. Nobody stores beside it, so its first two collects read the same:
+// it draws 3 between them, which is no event's, and ends at 4. The second store draws 5 and 6.
+#[test]
+fn a_lone_scan_leaves_the_stamp_between_its_collects_out(rt: HostRuntime) -> Result<(), Fail> {
+    for workers in 2..9 {
+        let plan = lone_scan(rt.alloc(), workers)?;
+        let (end, text, failures) = record_stamped(&rt, rt.alloc(), &plan, 1000);
+        same((end, failures), ("recorded", 0))?;
+        expect_stamps(&text, &["0", "1", "2", "4", "5", "6"])?;
+    }
+    Ok(())
+}
+
 #[test]
 fn a_recording_with_stamps_whose_writer_fails_has_a_front_of_its_text(
     rt: HostRuntime,

@@ -11,6 +11,7 @@ use Rattle.snap_csv.specs.Spelling.{history_text}
 use Rattle.snap_csv.specs.Texts.{byte_limit}
 use Rattle.snap_csv.proofs.LengthFacts.{narrow_text_short}
 use Rattle.snap_record.specs.Calls.{Mem}
+use Rattle.snap_record.specs.declared.plan.Step.{Step}
 use Rattle.snap_record.specs.Recording.{AreStamped}
 use Rattle.snap_record.proofs.Narrow.{shows_few}
 
@@ -25,6 +26,6 @@ all_list n (x ∷ xs) h = All-cons (ListsAtMost n) x xs (one x (λ p es e. h p e
     one (EndView p es) g = g p es refl
 
 -- a board has at most eight desks
-pub recording_short : (n : ℕ) (events : List Event) (stamps : List ℕ) → IsKept events → n ≤ 8 → AreStamped n events stamps → length (history_text events) ≤ byte_limit
-recording_short n events stamps k few s =
-    narrow_text_short events k (all_list 36 events (λ p es m. let l = shows_few n events stamps s p es m in omega arith))
+pub recording_short : (scripts : List (List Step)) (events : List Event) (stamps : List ℕ) → IsKept events → length scripts ≤ 8 → AreStamped scripts events stamps → length (history_text events) ≤ byte_limit
+recording_short scripts events stamps k few s =
+    narrow_text_short events k (all_list 36 events (λ p es m. let l = shows_few scripts events stamps s p es m in omega arith))

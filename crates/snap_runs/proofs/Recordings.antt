@@ -51,7 +51,7 @@ stamped_written scripts events stamps recording has_stamps old new answer h =
 pub report_written : (scripts : List (List Step)) (events : List Event) (stamps : List ℕ) → length scripts ≤ 8 → IsRecordingOf scripts events → HasStamps scripts events stamps → (old new : Option (List ℕ)) (answer : Result Status RunFault) →
     WroteAs (IsVerdict events) old new answer → WroteAs (IsRecorded true scripts) old new answer
 report_written scripts events stamps few recording has_stamps old new answer h =
-    wrote_also (IsVerdict events) (IsRecorded true scripts) (report_of scripts events recording (recording_short (length scripts) events stamps recording.kept few has_stamps.stamped)) old new answer h
+    wrote_also (IsVerdict events) (IsRecorded true scripts) (report_of scripts events recording (recording_short scripts events stamps recording.kept few has_stamps.stamped)) old new answer h
 
 -- the verdict on an atomic history
 pub atomic_status : (events : List Event) (status : Status) (out : List ℕ) → IsAtomic (calls_of events) → IsVerdict events status out → status ≡ Atomic

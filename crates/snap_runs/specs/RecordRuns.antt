@@ -13,7 +13,7 @@ use Rattle.snap_csv.specs.Spelling.{history_text, stamped_text}
 use Rattle.snap_record.specs.declared.plan.Step.{Step}
 use Rattle.snap_record.specs.History.{AllCompleted}
 use Rattle.snap_record.specs.Plans.{HasScripts, HasWholeScripts, HasNoScans, HasNoViews}
-use Rattle.snap_record.specs.Recording.{AreStamped}
+use Rattle.snap_record.specs.Recording.{ArePlaces, AreStamped}
 use Rattle.snap_runs.specs.Runs.{WroteFront, WroteWhole}
 use Rattle.snap_runs.specs.declared.fault.RunFault.{RunFault}
 use Rattle.snap_runs.specs.declared.fault.RunFault.TheVariants as faults
@@ -34,11 +34,13 @@ pub record IsRecordingOf (scripts : List (List Step)) (events : List Event) : Ty
   pub whole : HasNoScans scripts → HasWholeScripts scripts events
   pub atomic : HasNoViews scripts → IsAtomic (calls_of events)
 
--- the stamps that the board gave the events of a run of these scripts, one for each event, strictly rising
+-- the stamps that the board gave the events of a run of these scripts, one for each event, strictly rising, and 0, 1, 2 and so on where no script
+-- has a scan
 pub record HasStamps (scripts : List (List Step)) (events : List Event) (stamps : List ℕ) : Type 0 where
-  pub stamped : AreStamped (length scripts) events stamps
+  pub stamped : AreStamped scripts events stamps
   pub rising : IsStrictlyIncreasing stamps
   pub each : length stamps ≡ length events
+  pub places : HasNoScans scripts → ArePlaces stamps
 
 -- the text of such a history
 pub record IsRecordingText (scripts : List (List Step)) (status : Status) (out : List ℕ) : Type 0 where

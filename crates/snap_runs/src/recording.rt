@@ -125,8 +125,9 @@ pub fn record_run<Rt: Threads + Wait + Sync, W: Write, G: Gate>(
 }
 
 /// Records a run of the plan on a board, and writes its history as text with stamps, with the status `Recorded`: before
-/// each event the stamp that the board gave it, that of its record's begin or end. The stamps rise strictly. Of the
-/// history, the refusals, the writer and the waiting the same is true as in `record_run`.
+/// each event the stamp that the board gave it, that of its record's begin or end. The stamps rise strictly, and where no
+/// script has a scan they are 0, 1, 2 and so on. Of the history, the refusals, the writer and the waiting the same is true
+/// as in `record_run`.
 pub fn record_run_stamped<Rt: Threads + Wait + Sync, W: Write, G: Gate>(
     rt: &Rt,
     alloc: Global,

@@ -61,5 +61,5 @@ each-preserved c =
           (one_done scripts (accounts c.each.gathered) (vec_items c.each.senders) c.each.interfered c.in_ok-interfered.field-0 s a i.done next last.0.worker.2
           (IfOk-at_ok _ c.in_ok-interfered.was last.0.sent)
           (subst (λ (rs : List Record). DidSome d.desk (get_or scripts d.desk []) rs (lost d)) (sym (IfOk-at_ok _ c.in_ok-interfered.was last.0.sent)) (IfOk-at_ok _ c.in_ok-interfered.was last.0.script))
-          (IfOk-at_ok _ c.in_ok-interfered.was last.0.views) (IfOk-at_ok _ c.in_ok-interfered.was last.0.count));
+          (IfOk-at_ok _ c.in_ok-interfered.was last.0.views) (IfOk-at_ok _ c.in_ok-interfered.was last.0.calls) (IfOk-at_ok _ c.in_ok-interfered.was last.0.count));
     }

@@ -12,6 +12,7 @@ use Rattle.snap_board.specs.History.{AllCompleted, event_stamps}
 use Rattle.snap_record.specs.Plans.{HasScripts}
 use Rattle.snap_record.proofs.Telling.{apart, told_history, told_completed, told_regular, told_monotone, told_atomic, told, told_stamps, stamps_rise, stamped_length}
 use Rattle.snap_record.proofs.Planning.{has_scripts}
+use Rattle.snap_record.proofs.Placing.{places}
 use Rattle.snap_record.proofs.Whole.{whole_scripts, none_interfered}
 use Rattle.snap_record.proofs.recorder.record_plan.Goals as goal
 
@@ -54,7 +55,7 @@ returns-clause-none_left g c none = none_interfered c.args.plan.now c.in_ok-hist
 pub returns-clause-stamps : goal.returns-clause-stamps
 returns-clause-stamps g c = let d = c.in_ok-all.ensures.did in
     let stamps = c.in_ok-stamps.ensures ∙ ap event_stamps c.deref.ensures.value in
-    subst (λ (z : ℕ × (List Event × List ℕ)). AreStamped z.0 z.1.0 z.1.1) (λ i. (length c.args.plan.now, (sym c.in_ok-history.ensures i, sym stamps i)))
+    subst (λ (z : List Event × List ℕ). AreStamped c.args.plan.now z.0 z.1) (λ i. (sym c.in_ok-history.ensures i, sym stamps i))
     (told_stamps c.args.plan.now c.in_ok-all.all.items c.in_ok-all.interfered d c.in_ok-events.events.items c.in_ok-events.ensures.merged)
 
 pub returns-clause-rising : goal.returns-clause-rising
@@ -65,3 +66,6 @@ pub returns-clause-each_stamp : goal.returns-clause-each_stamp
 returns-clause-each_stamp g c =
     ap length (c.in_ok-stamps.ensures ∙ ap event_stamps c.deref.ensures.value) ∙ length-map c.in_ok-events.events.items (λ (x : Stamp). x.0)
     ∙ sym (ap length c.in_ok-history.ensures ∙ length-map c.in_ok-events.events.items (λ (x : Stamp). x.1))
+
+pub returns-clause-places : goal.returns-clause-places
+returns-clause-places g c none = places c.args.plan.now c.in_ok-history.history c.in_ok-stamps.stamps.items (returns-clause-stamps g c) none

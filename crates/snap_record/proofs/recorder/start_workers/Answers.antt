@@ -41,5 +41,5 @@ places-preserved g c =
       senders = front.0;
       count = omega (arith, i.count, long, longer);
       unused = subst (AreUnused recorder c.args.workers) (sym pushed) (unused_push recorder c.args.workers (vec_items c.places.all) (record { desk = d; sender = s }) i.unused
-          (of_board, ap (λ (x : SenderView). x.queue) front.1, place ∙ sym desk.0) (desk.1, desk.2, desk.3, desk.4, ap (λ (x : SenderView). x.sent) front.1) (omega (arith, desk.0, size, i.count, long)));
+          (of_board, ap (λ (x : SenderView). x.queue) front.1, place ∙ sym desk.0) (desk.1, desk.2, desk.3, desk.4, ap (λ (x : SenderView). x.sent) front.1, desk.5) (omega (arith, desk.0, size, i.count, long)));
     }

@@ -8,8 +8,8 @@ use Rattle.snap_board.specs.Desks.{records, ticks, lost}
 use Rattle.snap_record.specs.Plans.{step_ticks}
 use Rattle.snap_account.specs.Rule.{tick_limit}
 use Rattle.snap_record.specs.Relays.{SenderView}
-use Rattle.snap_record.specs.Scripts.{IsStepOf, DidSome}
-use Rattle.snap_record.proofs.Scripting.{did_push, did_leave, views-more, has_room, draws_more}
+use Rattle.snap_record.specs.Scripts.{AreCallsOf, IsStepOf, DidSome}
+use Rattle.snap_record.proofs.Scripting.{did_push, did_leave, calls_push, views-more, has_room, draws_more}
 use Rattle.snap_record.proofs.worker.run_steps.Goals as goal
 
 one_scan : (s : Step) → IsScan s → length (tries_of s) ≡ 1
@@ -52,6 +52,7 @@ steps-preserved g c =
       count = i.count ∙ ap length (sym same_lost);
       most = omega (arith, i.most);
       views = e.views ∙ ap (λ z. z + one_view (get_or script k (Store 0))) i.views ∙ sym (views-more script k (Store 0) c.steps-test.true);
+      calls = calls_push script k (Store 0) c.steps.worker.desk c.run_step.new.desk c.steps-test.true i.calls e.call;
     }
 
 pub steps-preserved-in_default : goal.steps-preserved-in_default
@@ -74,6 +75,7 @@ steps-preserved-in_default g c =
       count = (let a = ap length more_lost in let b = length-append (lost c.steps.worker.desk) (tries_of (get_or script k (Store 0))) in let o = one_scan (get_or script k (Store 0)) scan in omega (arith, i.count));
       most = omega (arith, i.most);
       views = e.views ∙ ap (λ z. z + one_view (get_or script k (Store 0))) i.views ∙ sym (views-more script k (Store 0) c.steps-test.true);
+      calls = calls_push script k (Store 0) c.steps.worker.desk c.run_step.new.desk c.steps-test.true i.calls e.call;
     }
 
 pub returns-clause-script : goal.returns-clause-script
@@ -82,3 +84,7 @@ returns-clause-script g c = let i = c.steps.invariant in
 
 pub returns-clause-views : goal.returns-clause-views
 returns-clause-views g c = let i = c.steps.invariant in i.views ∙ ap views_in (take_all c.steps.turn c.args.script.now (omega (arith, c.steps-test.false)))
+
+pub returns-clause-calls : goal.returns-clause-calls
+returns-clause-calls g c = let i = c.steps.invariant in
+    subst (λ (l : List Step). AreCallsOf l c.steps.worker.desk.calls) (take_all c.steps.turn c.args.script.now (omega (arith, c.steps-test.false))) i.calls

@@ -3,7 +3,7 @@ use Rattle.snap_record.specs.Choices.{views_in}
 use Rattle.snap_board.specs.Desks.{records, ticks, lost, collects}
 use Rattle.snap_record.specs.Plans.{draws_within}
 use Rattle.snap_account.specs.Rule.{tick_limit}
-use Rattle.snap_record.specs.Scripts.{DidSome}
+use Rattle.snap_record.specs.Scripts.{AreCallsOf, DidSome}
 use Rattle.snap_record.specs.Workers.{IsWorkerOf}
 use Rattle.snap_record.proofs.worker.run_steps.Given as goal
 
@@ -18,4 +18,5 @@ invariant-steps g l = record {
   count : l.interfered ≡ length (lost l.worker.desk);
   most : l.interfered ≤ l.turn;
   views : collects l.worker.desk ≡ views_in (take l.turn l.script);
+  calls : AreCallsOf (take l.turn l.script) l.worker.desk.calls;
 }

@@ -2,9 +2,9 @@ use Rattle.std.proofs.Common.{◌≡◌, ℕ, length, map, true≢false, refl, a
 use Rattle.snap_account.specs.Rule.{Boarded}
 use Rattle.snap_board.specs.Boards.{BoardView, GatheredView}
 use Rattle.snap_account.specs.Hands.{brief}
-use Rattle.snap_board.specs.Regular.{Settled, ScansSettled}
+use Rattle.snap_board.specs.Regular.{Settled, ScansSettled, TicksSettled}
 use Rattle.snap_board.specs.Slots.{ins, AllIn, HasLast}
-use Rattle.snap_board.proofs.Closing.{settles, settles_scans}
+use Rattle.snap_board.proofs.Closing.{settles, settles_scans, settles_ticks}
 use Rattle.snap_board.proofs.Ordering.{close_history, close_completed, close_regular}
 use Rattle.snap_board.proofs.Monotone.{close_monotone}
 use Rattle.snap_board.proofs.Atomic.{close_atomic}
@@ -38,6 +38,15 @@ returns-clause-settled c _ =
     (subst (λ (g : GatheredView). Settled self.desks g.accounts) c.gathered.view_is
     (settles self.desks old.seat.id old.seat.me.0 old.slots v.0 (subst (λ (z : ℕ). Boarded z v.0) c.self.invariant.keyed v.1.0) v.1.1
     (c.gathered.invariant.matches ∙ ap (λ z. ins z old.slots) at.1) (subst (λ (z : ℕ). AllIn z old.slots) at.1 (c.if-not-all_in.ensures.0 refl))))
+
+pub returns-clause-ticks : goal.returns-clause-ticks
+returns-clause-ticks c _ =
+    let old = c.gathered.inside in let self = c.self.inside in
+    let v = c.close_with.ensures.values.2 in
+    let at = gathered_at self _ old _ c.self.view_is c.gathered.view_is c.requires in
+    subst (λ (g : GatheredView). TicksSettled g.accounts) c.gathered.view_is
+    (settles_ticks self.desks old.seat.id old.seat.me.0 old.slots v.0 (subst (λ (z : ℕ). Boarded z v.0) c.self.invariant.keyed v.1.0) v.1.1
+    (c.gathered.invariant.matches ∙ ap (λ z. ins z old.slots) at.1) (subst (λ (z : ℕ). AllIn z old.slots) at.1 (c.if-not-all_in.ensures.0 refl)))
 
 pub returns-clause-history : goal.returns-clause-history
 returns-clause-history c e = close_history c.args.self.desks c.args.gathered.accounts (returns-clause-settled c e)

@@ -160,3 +160,11 @@ returns-clause-lost c = rw (← c.desk.view_is) (
     let xs = pairs c.load_words.new.words.items in
     let is = answered desk ok t1 t3 _ _ _ xs c.fetch_add-begun.ensures.2 c.load_words.ensures.read c.fetch_add-ended.ensures.2 in
     ap lost_in is ∙ lost-push (answered_of desk.seat.me.0) (rec t1 t3 (Viewed xs)) ∙ append-nil (lost_in (answered_of desk.seat.me.0)))
+
+pub returns-clause-call : goal.returns-clause-call
+returns-clause-call c = rw (← c.desk.view_is) (
+    let desk = c.desk.inside in let ok = c.desk.invariant in
+    let t1 = c.fetch_add-begun.result in let t3 = c.fetch_add-ended.result in
+    let xs = pairs c.load_words.new.words.items in
+    let is = answered desk ok t1 t3 _ _ _ xs c.fetch_add-begun.ensures.2 c.load_words.ensures.read c.fetch_add-ended.ensures.2 in
+    (rec t1 t3 (Viewed xs), is, refl))

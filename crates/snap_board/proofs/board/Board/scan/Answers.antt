@@ -15,8 +15,8 @@ use Rattle.snap_account.specs.Rule.{first_step}
 use Rattle.snap_board.specs.Desks.{records_at, lost_in, collects_in, number_shown}
 use Rattle.snap_account.specs.Hands.{idle, pairs, has_read, one_desk, answered_of, desk_of, doing_of, ticks_of, begun_of, Told}
 use Rattle.snap_account.specs.Plays.{Seated, entry_of, Above, ReadAll}
-use Rattle.snap_account.specs.Tries.{IsRead, IsTrying, HasAgreed, made_of, middle_in}
-use Rattle.snap_account.proofs.Accounts.{rec, latest-push}
+use Rattle.snap_account.specs.Tries.{IsRead, IsTrying, HasAgreed, made_of, middle_in, middles_made}
+use Rattle.snap_account.proofs.Accounts.{rec_with, latest-push}
 use Rattle.snap_account.proofs.Moves.{begins_view_as, ends_scan_as, gives_up_as}
 use Rattle.snap_account.proofs.Calling.{at_desk, alone_of, viewing_after}
 use Rattle.snap_account.proofs.Reading.{ready}
@@ -94,7 +94,7 @@ fetch_add-requires c =
 -- what a scan without a record leaves
 gone : (n : ℕ) (desk : fields.Inside) (ok : IsDesk desk) (t1 t4 m : ℕ) (xs ys : List (ℕ × ℕ)) (me1 me2 me3 me4 : Seated) → me1 ≡ (first_step (begun_view t1) desk.seat.me.0, desk.seat.me.1) → me2 ≡ has_read me1 xs → me3 ≡ one_desk me3
     → (desk_of me3.0 ≡ desk_of me2.0) × (answered_of me3.0 ≡ answered_of me2.0) × (begun_of me3.0 ≡ begun_of me2.0) → ticks_of me3.0 ≡ ticks_of me2.0 + m → made_of me3.0 ≡ m → 0 < m → IsTrying n (desk_of me2.0) (answered_of me2.0) ys (doing_of me3.0)
-    → me4 ≡ (first_step (gave_up t4) me3.0, me3.1) → (fs : List (ℕ × ℕ)) × (me4 ≡ at_desk (idle desk.desk (answered_of desk.seat.me.0 ++ rec t1 t4 (Interfered m fs ys) ∷ []) (desk.kept.ticks + m + 2)))
+    → me4 ≡ (first_step (gave_up t4) me3.0, me3.1) → (ms : List ℕ) × (length ms ≡ m) × (fs : List (ℕ × ℕ)) × (me4 ≡ at_desk (idle desk.desk (answered_of desk.seat.me.0 ++ rec_with t1 ms t4 (Interfered m fs ys) ∷ []) (desk.kept.ticks + m + 2)))
 gone n desk ok t1 t4 m xs ys me1 me2 me3 me4 first second one same ticks made pos try last =
     let r = get_ready desk.seat.me me1 me2 desk.desk (answered_of desk.seat.me.0) desk.kept.ticks t1 xs ok.alone first second in
     scan_lost me2 me3 me4 n desk.desk (answered_of desk.seat.me.0) desk.kept.ticks t1 t4 m xs ys r one same ticks (sym (made_same me3.0) ∙ made) pos (trying_of n desk t1 xs ys me2 me3 r try) last
@@ -107,10 +107,10 @@ invariant_of-desk c =
     let ys = pairs c.try_until.new.before.items in
     let e = c.in_default-try_until.ensures in
     let g = gone c.args.self.now.desks desk ok t1 t4 c.args.tries (pairs c.load_words.new.words.items) ys _ _ _ _ c.fetch_add-begun.ensures.2.0 c.load_words.ensures.read e.seat.1 e.account (omega (arith, e.ticks, e.made)) e.made c.requires.tries e.ends c.fetch_add.ensures.2.0 in
-    let a = alone_of c.fetch_add.new.seat.me desk.desk (rs ++ rec t1 t4 (Interfered c.args.tries g.0 ys) ∷ []) (desk.kept.ticks + c.args.tries + 2) (desk.kept.ticks + (c.args.tries + 2)) g.1 (omega arith) in
+    let a = alone_of c.fetch_add.new.seat.me desk.desk (rs ++ rec_with t1 g.0 t4 (Interfered c.args.tries g.2 ys) ∷ []) (desk.kept.ticks + c.args.tries + 2) (desk.kept.ticks + (c.args.tries + 2)) g.3 (omega arith) in
     record {
       alone = a.0;
-      stored = ap (λ l. latest (0, 0) l) a.1 ∙ latest-push (0, 0) rs (rec t1 t4 (Interfered c.args.tries g.0 ys)) ∙ ok.stored;
+      stored = ap (λ l. latest (0, 0) l) a.1 ∙ latest-push (0, 0) rs (rec_with t1 g.0 t4 (Interfered c.args.tries g.2 ys)) ∙ ok.stored;
       small = (omega (arith, ok.small.0), omega (arith, c.if-from.false, c.from.ensures, c.from-2.ensures, c.from-3.ensures));
     }
 
@@ -122,11 +122,12 @@ returns-in_default-try_until-clause-left c = rw (← c.desk.view_is) (
     let ys = pairs c.try_until.new.before.items in
     let e = c.in_default-try_until.ensures in
     let g = gone c.args.self.now.desks desk ok t1 t4 c.args.tries (pairs c.load_words.new.words.items) ys _ _ _ _ c.fetch_add-begun.ensures.2.0 c.load_words.ensures.read e.seat.1 e.account (omega (arith, e.ticks, e.made)) e.made c.requires.tries e.ends c.fetch_add.ensures.2.0 in
-    let r = rec t1 t4 (Interfered c.args.tries g.0 ys) in
-    let is = ap (λ (m : Seated). answered_of m.0) g.1 in (
+    let r = rec_with t1 g.0 t4 (Interfered c.args.tries g.2 ys) in
+    let is = ap (λ (m : Seated). answered_of m.0) g.3 in (
       ap (records_at desk.desk) is ∙ records-push desk.desk rs r ∙ append-nil (records_at desk.desk rs),
       omega arith,
       ap lost_in is ∙ lost-push rs r,
+      (r, is, g.1),
     ))
 
 pub returns-in_default-try_until-clause-collects : goal.returns-in_default-try_until-clause-collects
@@ -137,8 +138,8 @@ returns-in_default-try_until-clause-collects c = rw (← c.desk.view_is) (
     let ys = pairs c.try_until.new.before.items in
     let e = c.in_default-try_until.ensures in
     let g = gone c.args.self.now.desks desk ok t1 t4 c.args.tries (pairs c.load_words.new.words.items) ys _ _ _ _ c.fetch_add-begun.ensures.2.0 c.load_words.ensures.read e.seat.1 e.account (omega (arith, e.ticks, e.made)) e.made c.requires.tries e.ends c.fetch_add.ensures.2.0 in
-    let r = rec t1 t4 (Interfered c.args.tries g.0 ys) in
-    let is = ap (λ (m : Seated). collects_in (answered_of m.0)) g.1 in let n = collects-push rs r in omega arith)
+    let r = rec_with t1 g.0 t4 (Interfered c.args.tries g.2 ys) in
+    let is = ap (λ (m : Seated). collects_in (answered_of m.0)) g.3 in let n = collects-push rs r in omega arith)
 
 pub returns-in_default-try_until-clause-alone : goal.returns-in_default-try_until-clause-alone
 returns-in_default-try_until-clause-alone c one =
@@ -161,7 +162,7 @@ returns-in_default-try_until-clause-alone c one =
 -- what a scan with a record leaves
 done : (desk : fields.Inside) (ok : IsDesk desk) (t1 t4 m : ℕ) (xs ys : List (ℕ × ℕ)) (me1 me2 me3 me4 : Seated) → (me1 ≡ (first_step (begun_view t1) desk.seat.me.0, desk.seat.me.1)) × Above t1 desk.seat.me → me2 ≡ has_read me1 xs → me3 ≡ one_desk me3
     → (desk_of me3.0 ≡ desk_of me2.0) × (answered_of me3.0 ≡ answered_of me2.0) × (begun_of me3.0 ≡ begun_of me2.0) → ticks_of me3.0 ≡ ticks_of me2.0 + m → HasAgreed ys (doing_of me3.0)
-    → (me4 ≡ (first_step (ended t4) me3.0, me3.1)) × Above t4 me3 × ReadAll me3 → ScanDone desk.desk (answered_of desk.seat.me.0) desk.kept.ticks t1 t4 m (middle_in (doing_of me3.0)) ys me4
+    → (me4 ≡ (first_step (ended t4) me3.0, me3.1)) × Above t4 me3 × ReadAll me3 → ScanDone desk.desk (answered_of desk.seat.me.0) desk.kept.ticks t1 t4 m (middle_in (doing_of me3.0)) (middles_made (doing_of me3.0)) ys me4
 done desk ok t1 t4 m xs ys me1 me2 me3 me4 first second one same ticks agreed last = scan_done desk.seat.me me1 me2 me3 me4 desk.desk (answered_of desk.seat.me.0) desk.kept.ticks t1 t4 m xs ys ok.alone first second one same ticks agreed last
 
 pub fetch_add-ended-requires : goal.fetch_add-ended-requires
@@ -206,7 +207,7 @@ invariant_of-desk-2 c =
     let e = c.in-Some.ensures in
     let mid = middle_in (doing_of c.try_until.new.seat.me.0) in
     let s = done desk ok t1 t4 m xs ys _ _ _ _ c.fetch_add-begun.ensures.2 c.load_words.ensures.read e.seat.1 e.account (omega (arith, e.ticks, e.made.0)) e.ends c.fetch_add-ended.ensures.2 in
-    let r = rec t1 t4 (Scanned mid ys) in
+    let r = rec_with t1 (middles_made (doing_of c.try_until.new.seat.me.0)) t4 (Scanned mid ys) in
     let a = alone_of c.fetch_add-ended.new.seat.me desk.desk (rs ++ r ∷ []) (desk.kept.ticks + m + 2) (desk.kept.ticks + (m + 2)) s.me (omega arith) in
     record {
       alone = a.0;
@@ -225,7 +226,7 @@ returns-clause-recorded c = rw (← c.desk.view_is) (
     let e = c.in-Some.ensures in
     let mid = middle_in (doing_of c.try_until.new.seat.me.0) in
     let s = done desk ok t1 t4 m xs ys _ _ _ _ c.fetch_add-begun.ensures.2 c.load_words.ensures.read e.seat.1 e.account (omega (arith, e.ticks, e.made.0)) e.ends c.fetch_add-ended.ensures.2 in
-    let r = rec t1 t4 (Scanned mid ys) in
+    let r = rec_with t1 (middles_made (doing_of c.try_until.new.seat.me.0)) t4 (Scanned mid ys) in
     let is = ap (λ (z : Seated). answered_of z.0) s.me in
     ap (records_at desk.desk) is ∙ records-push desk.desk rs r
     ∙ (λ i. records_at desk.desk (answered_of desk.seat.me.0) ++ record { process = sym c.from-7.ensures i; begun = t1; ended = t4; op = Kind.Viewed (sym c.view_of.ensures i) } ∷ []))
@@ -241,7 +242,7 @@ returns-clause-collects c = rw (← c.desk.view_is) (
     let e = c.in-Some.ensures in
     let mid = middle_in (doing_of c.try_until.new.seat.me.0) in
     let s = done desk ok t1 t4 m xs ys _ _ _ _ c.fetch_add-begun.ensures.2 c.load_words.ensures.read e.seat.1 e.account (omega (arith, e.ticks, e.made.0)) e.ends c.fetch_add-ended.ensures.2 in
-    let r = rec t1 t4 (Scanned mid ys) in
+    let r = rec_with t1 (middles_made (doing_of c.try_until.new.seat.me.0)) t4 (Scanned mid ys) in
     let is = ap (λ (z : Seated). collects_in (answered_of z.0)) s.me in let n = collects-push rs r in omega arith)
 
 pub returns-clause-lost : goal.returns-clause-lost
@@ -255,8 +256,25 @@ returns-clause-lost c = rw (← c.desk.view_is) (
     let e = c.in-Some.ensures in
     let mid = middle_in (doing_of c.try_until.new.seat.me.0) in
     let s = done desk ok t1 t4 m xs ys _ _ _ _ c.fetch_add-begun.ensures.2 c.load_words.ensures.read e.seat.1 e.account (omega (arith, e.ticks, e.made.0)) e.ends c.fetch_add-ended.ensures.2 in
-    let r = rec t1 t4 (Scanned mid ys) in
+    let r = rec_with t1 (middles_made (doing_of c.try_until.new.seat.me.0)) t4 (Scanned mid ys) in
     ap (λ (z : Seated). lost_in (answered_of z.0)) s.me ∙ lost-push rs r ∙ append-nil (lost_in rs))
+
+pub returns-clause-call : goal.returns-clause-call
+returns-clause-call c = rw (← c.desk.view_is) (
+    let desk = c.desk.inside in let ok = c.desk.invariant in
+    let rs = answered_of desk.seat.me.0 in
+    let t1 = c.fetch_add-begun.result in let t4 = c.fetch_add-ended.result in
+    let m = c.in-Some.made in
+    let xs = pairs c.load_words.new.words.items in
+    let ys = pairs c.try_until.new.since.items in
+    let e = c.in-Some.ensures in
+    let mid = middle_in (doing_of c.try_until.new.seat.me.0) in
+    let s = done desk ok t1 t4 m xs ys _ _ _ _ c.fetch_add-begun.ensures.2 c.load_words.ensures.read e.seat.1 e.account (omega (arith, e.ticks, e.made.0)) e.ends c.fetch_add-ended.ensures.2 in
+    let many : length (middles_made (doing_of c.try_until.new.seat.me.0)) ≡ m = sym (made_same c.try_until.new.seat.me.0) ∙ e.made.0 in (
+      rec_with t1 (middles_made (doing_of c.try_until.new.seat.me.0)) t4 (Scanned mid ys),
+      ap (λ (z : Seated). answered_of z.0) s.me,
+      (omega (arith, many, e.made.1), omega (arith, many, e.made.2)),
+    ))
 
 pub returns-clause-stamps : goal.returns-clause-stamps
 returns-clause-stamps c =

@@ -145,3 +145,12 @@ returns-clause-lost c = rw (← c.desk.view_is) (
     let words : c.from.result * 4294967296 + c.from-2.result ≡ code (desk.kept.stores + 1, value) = omega (arith, c.from.ensures, c.from-2.ensures) in
     let is = answered desk ok t1 t3 _ _ _ value _ words c.ranges.value.fits c.fetch_add-begun.ensures.2 c.store.ensures.2 c.fetch_add-ended.ensures.2 in
     ap lost_in is ∙ lost-push (answered_of desk.seat.me.0) (rec t1 t3 (Stored (desk.kept.stores + 1) value)) ∙ append-nil (lost_in (answered_of desk.seat.me.0)))
+
+pub returns-clause-call : goal.returns-clause-call
+returns-clause-call c = rw (← c.desk.view_is) (
+    let desk = c.desk.inside in let ok = c.desk.invariant in
+    let value = c.args.value in
+    let t1 = c.fetch_add-begun.result in let t3 = c.fetch_add-ended.result in
+    let words : c.from.result * 4294967296 + c.from-2.result ≡ code (desk.kept.stores + 1, value) = omega (arith, c.from.ensures, c.from-2.ensures) in
+    let is = answered desk ok t1 t3 _ _ _ value _ words c.ranges.value.fits c.fetch_add-begun.ensures.2 c.store.ensures.2 c.fetch_add-ended.ensures.2 in
+    (rec t1 t3 (Stored (desk.kept.stores + 1) value), is, (refl, refl)))
