@@ -1,0 +1,58 @@
+#!/usr/bin/env python3
+"""Seconds of the proofs by crate and by function, from the times of the files that the prover wrote.
+
+usage: proofs.py [MOST]        (after a first `./build --keep`; MOST functions are told, 30 where it is not said)
+
+The prover writes a file for each part of a proof as soon as it has checked it. The span between two files that come one after the
+other is counted to the later. Where a crate was proved by several jobs, what they did at the same time is so counted once.
+"""
+import collections
+import os
+import re
+import sys
+
+TOP = os.path.dirname(os.path.dirname(os.path.abspath(__file__)))
+# A longer span is no proof: the check was run again later.
+PAUSE = 120
+# The last words of a file's name that tell the part of a function's proof and not the function.
+PART = re.compile(r"[A-Z]\w*$|decls$|\w*-\w*$")
+
+
+def files_of(crate):
+    """The times and names of the files that the prover wrote for a crate, in the order of their times."""
+    found = []
+    for at, _, names in os.walk(f"{TOP}/crates/{crate}/out/incremental"):
+        found += [(os.stat(f"{at}/{name}").st_mtime, name.removesuffix(".oantt")) for name in names if name.endswith(".oantt")]
+    return sorted(found)
+
+
+def function_of(name):
+    """The function or the subject that a file is of."""
+    words = re.sub(r"^Rattle-\w+[.-](proofs|specs)\.(contracts\.)?", "", name).split(".")
+    while len(words) > 1 and PART.match(words[-1]):
+        words.pop()
+    return ".".join(words[:3])
+
+
+def main(words):
+    most = int(words[0]) if words else 30
+    crates, functions = collections.Counter(), collections.Counter()
+    for crate in sorted(os.listdir(f"{TOP}/crates")):
+        files = files_of(crate)
+        for (before, _), (after, name) in zip(files, files[1:]):
+            if after - before < PAUSE:
+                crates[crate] += after - before
+                functions[f"{crate} {function_of(name)}"] += after - before
+    if not crates:
+        print("nothing is kept here: run ./build --keep first", file=sys.stderr)
+        return 1
+    for title, counts in (("crate", crates), ("function", functions)):
+        print(f"| seconds | {title} |\n|---|---|")
+        for name, seconds in counts.most_common(most):
+            print(f"| {seconds:.0f} | {name} |")
+        print()
+    return 0
+
+
+if __name__ == "__main__":
+    sys.exit(main(sys.argv[1:]))
