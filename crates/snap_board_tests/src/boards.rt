@@ -67,6 +67,32 @@ fn a_board_is_closed_once_all_its_desks_are_in(rt: HostRuntime) -> Result<(), Fa
 }
 
 #[test]
+fn a_board_is_closed_once_both_its_desks_came_back(rt: HostRuntime) -> Result<(), Fail> {
+    let alloc = rt.alloc();
+    let Ok((board, mut gathered)) = Board::open(alloc, 2) else {
+        panic!(rt; "not opened")
+    };
+    let Some(mut one) = board.take(alloc, &mut gathered)? else {
+        panic!(rt; "no desk is in")
+    };
+    let Some(mut zero) = board.take(alloc, &mut gathered)? else {
+        panic!(rt; "no desk is in")
+    };
+    assert!(rt; board.store(&mut zero, 7).is_ok() && board.store(&mut one, 9).is_ok());
+    let gathered = board.give_back(gathered, one);
+    let Err((board, gathered)) = board.close(gathered) else {
+        panic!(rt; "closed with a desk out")
+    };
+    let gathered = board.give_back(gathered, zero);
+    assert_eq!(rt; gathered.held(), 2);
+    let Ok(closed) = board.close(gathered) else {
+        panic!(rt; "not closed")
+    };
+    assert!(rt; closed.entry(0) == Some(entry(0, 1, 7)) && closed.entry(1) == Some(entry(1, 1, 9)));
+    Ok(())
+}
+
+#[test]
 fn the_highest_desk_goes_out_first(rt: HostRuntime) -> Result<(), Fail> {
     let alloc = rt.alloc();
     let Ok((board, mut gathered)) = Board::open(alloc, 2) else {

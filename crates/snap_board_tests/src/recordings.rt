@@ -1,4 +1,4 @@
-use snap_core::{Event, Gate, OpenGate};
+use snap_core::{Entry, Event, Gate, OpenGate};
 use snap_record::{Plan, PlanRefusal, Recording, Step, record_plan, rounds_plan};
 use snap_testing::{Meeting, entry};
 use std::alloc::Global;
@@ -204,6 +204,39 @@ fn two_workers_in_64_rounds_have_512_events(rt: HostRuntime) -> Result<(), Fail>
             _ => false,
         })
     );
+    Ok(())
+}
+
+/// How many events begin an update of this entry, by the process of its component.
+fn begins_of(recording: &Recording, want: Entry) -> usize {
+    let events = recording.history.events().iter();
+    events
+        .filter(|event| match event {
+            Event::BeginUpdate { process, entry } => {
+                *process == u16::from(want.component) && *entry == want
+            }
+            _ => false,
+        })
+        .count()
+}
+
+#[test]
+fn two_lists_of_16384_stores_fill_a_history(rt: HostRuntime) -> Result<(), Fail> {
+    let alloc = rt.alloc();
+    let Ok(plan) = Plan::new(vec![in alloc; stores(alloc, 16384)?, stores(alloc, 16384)?]?) else {
+        panic!(rt; "no plan")
+    };
+    let Ok(recording) = record_plan(&rt, alloc, &plan, &OpenGate) else {
+        panic!(rt; "no memory")
+    };
+    assert!(rt; recording.history.len() == 65_536 && recording.stamps.len() == 65_536);
+    assert!(rt; recording.stamps[0] == 0 && recording.stamps[65_535] == 65_535);
+    for component in 0..2 {
+        for number in [1, 16384] {
+            assert_eq!(rt; begins_of(&recording, entry(component, number, 0)), 1);
+        }
+        assert_eq!(rt; begins_of(&recording, entry(component, 16385, 0)), 0);
+    }
     Ok(())
 }
 

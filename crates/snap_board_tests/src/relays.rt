@@ -139,6 +139,18 @@ fn a_relay_ends_with_no_record_left(rt: HostRuntime) -> Result<(), Fail> {
 }
 
 #[test]
+fn a_fresh_relay_has_no_record(rt: HostRuntime) -> Result<(), Fail> {
+    let alloc = rt.alloc();
+    let (relay, zero, mut one, mut taker) = start_two(&rt, alloc)?;
+    assert!(rt; relay.next(&rt, &mut taker).is_none());
+    assert!(rt; relay.send(&rt, alloc, &mut one, stored_by(1)).is_ok());
+    assert_eq!(rt; next(&rt, &relay, &mut taker)?.process, 1);
+    let both = vec![in alloc; zero, one]?;
+    assert!(rt; relay.finish(&rt, both, taker).is_ok());
+    Ok(())
+}
+
+#[test]
 fn a_relay_ends_with_all_its_senders(rt: HostRuntime) -> Result<(), Fail> {
     let alloc = rt.alloc();
     let (relay, zero, one, taker) = start_two(&rt, alloc)?;

@@ -1,6 +1,6 @@
 ghost use Rattle.std.specs.Prelude.{◌≡◌, ◌∷◌, [], All, IfSome, IsTrue};
 ghost use Rattle.snap_core.specs.Counting.{inner_of, failures_in};
-ghost use Rattle.snap_csv.specs.Answers.{AnswersNumbered, AnswersRows, AnswersText, AnswersWhole, Counts, TakesEvent, TakesRow};
+ghost use Rattle.snap_csv.specs.Answers.{AnswersNumbered, AnswersRows, AnswersText, AnswersWhole, Counts, Leaves, TakesEvent, TakesRow};
 ghost use Rattle.snap_csv.specs.Faults.{fault_of};
 ghost use Rattle.snap_csv.specs.Lines.{IsPlain};
 ghost use Rattle.snap_csv.specs.Rows.{rows_of};
@@ -152,7 +152,8 @@ fn history_of(alloc: Global, text: &[u8], plain: bool) -> Result<History, ReadRe
 /// Reads a history: the whole text first, at most 67,108,864 bytes, and then its records in order. The answer is the
 /// history of the text exactly where the text has no fault, else the first fault with the place of its record, counted
 /// from 1, or place 0 for a text that is too long. `Device` is the answer at the first read that fails, of whatever
-/// kind: it is not tried again, and the reader's count of failures rose. `Memory` is answered where memory ran out. After
+/// kind: it is not tried again, and the reader's count of failures rose, or stands at `u64::MAX`. `Memory` is answered where
+/// memory ran out, and then no contract tells the count. With a history or a fault of the text the count is as before. After
 /// an error a part of the text is taken from the reader.
 pub fn read_history<R: Read>(alloc: Global, reader: &mut Counted<R>) -> Result<History, ReadRefusal>
     ensures text { IfSome (R.remaining (inner_of reader.old)) (λ text. AnswersText text result) }
@@ -162,8 +163,8 @@ pub fn read_history<R: Read>(alloc: Global, reader: &mut Counted<R>) -> Result<H
     read_history_in(alloc, reader, &mut room)
 }
 
-/// As `read_history`, and leaves the text in a vector, whose memory can then serve for something else. What the vector had
-/// is lost.
+/// As `read_history`, and leaves the text in a vector, also where the text was refused at a record. The vector's memory can
+/// then serve for something else. What the vector had is lost.
 pub fn read_history_in<R: Read>(
     alloc: Global,
     reader: &mut Counted<R>,
@@ -171,6 +172,7 @@ pub fn read_history_in<R: Read>(
 ) -> Result<History, ReadRefusal>
     ensures text { IfSome (R.remaining (inner_of reader.old)) (λ text. AnswersText text result) }
     ensures counts { Counts (failures_in reader.old) (failures_in reader.new) result }
+    ensures room { IfSome (R.remaining (inner_of reader.old)) (λ text. Leaves text room.new.items result) }
 {
     let Taken { text, plain } = take_in(alloc, reader)?;
     *room = text;

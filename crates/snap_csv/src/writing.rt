@@ -101,7 +101,8 @@ fn text_of(alloc: Global, history: &History) -> Result<Vec<u8>, AllocError>
 
 /// Writes a history: the header, and then the record of each event, each ended by one newline. The whole text is built
 /// before its first byte goes out, and the writer is flushed once at the end. After `Memory` nothing was written; after
-/// `Device` a front of the text went out, perhaps all of it, and the writer's count of failures rose.
+/// `Device` a front of the text went out, perhaps all of it, and the writer's count of failures rose, or stands at
+/// `u64::MAX`. Otherwise the count is as before.
 pub fn write_history<W: Write>(
     alloc: Global,
     writer: &mut Counted<W>,

@@ -158,6 +158,20 @@ fn a_counter_with_pieces_left_stays_open(rt: HostRuntime) -> Result<(), Fail> {
 }
 
 #[test]
+fn a_close_that_is_refused_between_two_draws_loses_no_piece(rt: HostRuntime) -> Result<(), Fail> {
+    let alloc = rt.alloc();
+    let (counter, mut claims) = Claims::start(alloc, Cutting::new(2, 1)?)?;
+    let mut claim = claims.pop().expect(&rt, "the claim");
+    assert_eq!(rt; counter.draw(&mut claim), Some(0));
+    let (counter, mut claims) = still_open(counter, vec![in alloc; claim]?)?;
+    let mut claim = claims.pop().expect(&rt, "the claim");
+    assert_eq!(rt; counter.draw(&mut claim), Some(1));
+    assert_eq!(rt; counter.draw(&mut claim), None);
+    assert!(rt; counter.close(vec![in alloc; claim]?).is_ok());
+    Ok(())
+}
+
+#[test]
 fn two_workers_get_a_piece_each_at_the_same_time(rt: HostRuntime) -> Result<(), Fail> {
     let gate = Meeting::at_turn(0);
     let all = tally_by(&rt, rt.alloc(), CROSSED_VIEWS, 2, 2, &gate)?;
