@@ -254,6 +254,25 @@ done
 expect "an explanation of two files" 5 "" ./second explain old.csv "a b.csv"
 expect_said "the reason" "snapjudge: explain takes one file"
 
+# The statuses of 20 recordings with these words, or x where one is not regular and monotone.
+record_often() {
+  for run in $(seq 20); do
+    ./second record "$@" --judge >report
+    status=$?
+    [ "$(sed -n 2,3p report)" = "regular yes
+monotone yes" ] || status=x
+    printf %s "$status"
+  done
+}
+
+# runs of stores and scans are atomic; of those of stores and collects some are not, so that a scan is told from a collect
+for words in "--workers 3 --rounds 1024" "--workers 4 --rounds 1024" "--workers 8 --rounds 512"; do
+  expect "scans, $words" 0 00000000000000000000 record_often $words --scan
+  statuses=$(record_often $words)
+  expect "collects, $words, with statuses $statuses" 0 "$statuses
+" sh -c 'echo "$1" | grep -x "[01]*1[01]*"' sh "$statuses"
+done
+
 # The examples of the documents: what the lines behind `$` print is the other lines of their block, where it has others.
 mkdir documents
 ln -s "$examples" documents/examples
