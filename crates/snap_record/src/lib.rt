@@ -8,7 +8,6 @@ mod relay;
 mod taking;
 mod timeline;
 mod worker;
-mod workers;
 
 pub use plan::{
     LEAST_WORKERS, Plan, PlanRefusal, ROUND_LIMIT, Step, TRY_LIMIT, WORKER_LIMIT, rounds_plan,

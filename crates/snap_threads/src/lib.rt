@@ -1,4 +1,6 @@
 //! Jobs in threads that the calling thread starts.
+#![tactic(auto)]
+
 ghost use Rattle.std.specs.Prelude.{IfOk};
 ghost use Rattle.std.specs.Thread.{IsSync, IsSend};
 ghost use Rattle.std.specs.Fork.{AcceptsJobs};
@@ -9,7 +11,7 @@ use std::thread::{Threads, join};
 
 /// Calls `f` at each job, each in a thread of its own or on this thread where none can be made, and `own` on this thread.
 /// The answers stand in the order of the jobs.
-pub(crate) fn each_job_beside<
+pub fn each_job_beside<
     R: Threads + Sync,
     J: Send + Drop,
     X: Send + Drop,
@@ -41,4 +43,33 @@ pub(crate) fn each_job_beside<
         Ok(()) => (Ok(all), mine),
         Err(_) => (Err(AllocError), mine),
     }
+}
+
+/// Calls `f` at each job: the last on this thread, and each other in a thread of its own, or on this thread where none can be
+/// made. The answers stand in the order of the jobs.
+pub fn each_job<R: Threads + Sync, J: Send + Drop, X: Send + Drop, F: Fn(J) -> X + Sync>(
+    rt: &R,
+    alloc: Global,
+    mut jobs: Vec<J>,
+    f: &F,
+) -> Result<Vec<X>, AllocError>
+    requires { AcceptsJobs F.Fn f.now jobs.items }
+    ensures { IfOk result (λ answers. GivesFor F.Fn f.now jobs.items answers.items) }
+{
+    let Some(last) = jobs.pop() else {
+        return Ok(Vec::new(alloc));
+    };
+    let (others, own) = each_job_beside(
+        rt,
+        alloc,
+        jobs,
+        f,
+        move || -> X
+            requires { F.pre f.now last }
+            ensures { F.post f.entry.now last result }
+        { f(last) },
+    );
+    let mut all = others?;
+    all.push(own)?;
+    Ok(all)
 }
