@@ -2,6 +2,7 @@
 #![tactic(auto)]
 
 mod delivery;
+mod pace;
 mod plan;
 mod recorder;
 mod relay;
@@ -9,6 +10,7 @@ mod taking;
 mod timeline;
 mod worker;
 
+pub use pace::Pace;
 pub use plan::{
     LEAST_WORKERS, Plan, PlanRefusal, ROUND_LIMIT, Step, TRY_LIMIT, WORKER_LIMIT, rounds_plan,
 };

@@ -1,24 +1,24 @@
 //! What the words of a command line ask for.
 ghost use Rattle.std.specs.Prelude.{◌≡◌, ◌<◌, ◌^◌, ◌∷◌, [], ℕ, Bool, List, Some, None, true, false, codes, decimal, IfOk, IfSome, IsSomeAnd, MatchResult, map, string_bytes};
 ghost use Rattle.clap.specs.Words.{Row, found_of, kind_of, one_of, rows_of, subcommand_rows_of};
-ghost use Rattle.snapjudge.specs.Jobs.{AsksCheck, AsksRecord, Flags, IsCheck, IsCheckWith, IsExplain, IsInRange, IsRecord, IsShrink, flag_text, no_flags, no_options};
-ghost use Rattle.snap_runs.specs.declared.check_with.CheckOptions.{CheckOptions as Options};
+ghost use Rattle.snap_words.specs.Jobs.{AsksCheck, AsksRecord, Flags, Options, IsCheck, IsCheckWith, IsExplain, IsInRange, IsRecord, IsShrink, flag_text, no_flags, no_options};
 
-use crate::command::program;
+use crate::command::{VIEW_LIMIT, program};
 use clap::error::ErrorKind;
 use clap::{ArgMatches, Error};
 use snap_pairs::Cutting;
 use snap_record::{LEAST_WORKERS, ROUND_LIMIT, WORKER_LIMIT};
-use snap_runs::CheckOptions;
 use std::alloc::{AllocError, Global};
 
 /// What the program is asked to do.
 #[derive(Clone, Copy)]
 pub enum Job {
-    /// Judge the history on standard input.
+    /// Judge the history on standard input: of its report only the lines of the verdicts where that is asked for, and of at
+    /// least so many completed views.
     Check {
         cutting: Cutting,
-        options: CheckOptions,
+        quiet: bool,
+        views: u32,
     },
     /// Cut the history on standard input down to a witness.
     Shrink,
@@ -45,7 +45,7 @@ pub enum JobFault {
 }
 
 impl From<AllocError> for JobFault {
-    ghost use Rattle.snapjudge.specs.declared.job.JobFault.TheVariants.{Memory};
+    ghost use Rattle.snap_words.specs.declared.job.JobFault.TheVariants.{Memory};
 
     ghost from_gives = { λ _ fault. fault ≡ Memory };
 
@@ -79,10 +79,14 @@ fn check_in(matches: &ArgMatches<'_>) -> Option<Job>
     let workers = number_in(matches, "workers")?;
     let views = number_in(matches, "views")?;
     let quiet = flag_in(matches, "quiet");
+    if views > VIEW_LIMIT {
+        return None;
+    }
     let cutting = Cutting::new(pieces, workers).ok()?;
     Some(Job::Check {
         cutting,
-        options: CheckOptions { quiet, views },
+        quiet,
+        views,
     })
 }
 

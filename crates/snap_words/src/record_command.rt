@@ -2,7 +2,7 @@
 ghost use Rattle.std.specs.Prelude.{◌≡◌, IfOk, false};
 ghost use Rattle.clap.specs.Words.{app_of, rule_of};
 ghost use Rattle.clap.specs.declared.builder.command.Command.TheViews.{out-Command as fields_of};
-ghost use Rattle.snapjudge.specs.CommandLine.{judge_rule, record_app, recorders_rule, rounds_app, rounds_rule, scan_rule, stamped_rule};
+ghost use Rattle.snap_words.specs.CommandLine.{judge_rule, record_app, recorders_rule, rounds_app, rounds_rule, scan_rule, stamped_rule};
 
 use clap::{Arg, ArgAction, Command};
 use snap_record::{LEAST_WORKERS, ROUND_LIMIT, WORKER_LIMIT};

@@ -1,14 +1,15 @@
-//! The recordings that the program makes: rounds of workers who keep pace.
+//! Recordings of rounds of workers who keep pace.
 ghost use Rattle.std.specs.Prelude.{◌≡◌, ◌<◌, ◌≤◌, IfOk};
 ghost use Rattle.snap_core.specs.Counting.{failures_in, inner_of};
 ghost use Rattle.snap_record.specs.Plans.{AreRounds, AreWorkers, rounds_scripts};
 ghost use Rattle.snap_runs.specs.RecordRuns.{IsRecorded, IsStampedRecording, WriteCounts, WroteAs};
 
-use crate::pace::Pace;
+use crate::fault::RunFault;
+use crate::recording::{record_run, record_run_stamped};
 use snap_core::Counted;
 use snap_pairs::Cutting;
-use snap_record::{Plan, PlanRefusal, rounds_plan};
-use snap_runs::{RunFault, Status, record_run, record_run_stamped};
+use snap_record::{Pace, Plan, PlanRefusal, rounds_plan};
+use snap_verdict::Status;
 use std::alloc::{AllocError, Global};
 use std::io::Write;
 use std::sync::Wait;

@@ -1,4 +1,4 @@
-//! The gate of the program's recordings.
+//! A gate for the workers of a recording.
 use snap_core::Gate;
 use std::sync::atomic::{AtomicU64, Ordering};
 use std::thread;
@@ -20,7 +20,7 @@ const WAITS_IN_VAIN: u64 = 64;
 /// started. After so many waits in vain nobody waits, until some worker comes to a meeting as its last: so a worker that
 /// never comes costs no more than these, and one that is late is waited for again.
 #[derive(Drop)]
-pub(crate) struct Pace {
+pub struct Pace {
     workers: u64,
     came: AtomicU64,
     in_vain: AtomicU64,
@@ -28,7 +28,7 @@ pub(crate) struct Pace {
 
 impl Pace {
     /// A gate for so many workers, none of whom has come.
-    pub(crate) fn of(workers: u32) -> Pace {
+    pub fn of(workers: u32) -> Pace {
         Pace {
             workers: u64::from(workers),
             came: AtomicU64::new(0),

@@ -2,7 +2,7 @@
 ghost use Rattle.std.specs.Prelude.{◌≡◌, false};
 ghost use Rattle.clap.specs.Words.{app_of};
 ghost use Rattle.clap.specs.declared.builder.command.Command.TheViews.{out-Command as fields_of};
-ghost use Rattle.snapjudge.specs.CommandLine.{shrink_app};
+ghost use Rattle.snap_words.specs.CommandLine.{shrink_app};
 
 use clap::Command;
 use std::alloc::Global;

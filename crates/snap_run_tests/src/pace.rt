@@ -1,7 +1,6 @@
-//! The gate of the program's recordings.
-use crate::pace::Pace;
+//! The gate at which workers keep pace.
 use snap_core::Gate;
-use snap_record::{record_plan, rounds_plan};
+use snap_record::{Pace, record_plan, rounds_plan};
 use std::test::Fail;
 
 #[test]

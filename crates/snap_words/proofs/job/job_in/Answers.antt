@@ -1,8 +1,8 @@
 use Rattle.std.proofs.Common.{◌≡◌, List, Option, Some, subst, ap, ◌∙◌}
 use Rattle.std.specs.Option.{option_map}
 use Rattle.clap.specs.Words.{Row, Text, rows_of, found_of}
-use Rattle.snapjudge.specs.Jobs.{AsksRecord}
-use Rattle.snapjudge.proofs.job.job_in.Goals as goal
+use Rattle.snap_words.specs.Jobs.{AsksRecord}
+use Rattle.snap_words.proofs.job.job_in.Goals as goal
 
 pub returns-else-eq-3-clause-recording : goal.returns-else-eq-3-clause-recording
 returns-else-eq-3-clause-recording c = λ rows workers rounds flags named asks.

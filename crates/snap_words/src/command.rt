@@ -2,15 +2,18 @@
 ghost use Rattle.std.specs.Prelude.{◌≡◌, IfOk, codes, false};
 ghost use Rattle.clap.specs.Words.{app_of, new_app, rule_of};
 ghost use Rattle.clap.specs.declared.builder.command.Command.TheViews.{out-Command as fields_of};
-ghost use Rattle.snapjudge.specs.CommandLine.{check_app, cutting_app, needs_subcommand, pieces_rule, program_app, quiet_rule, reading_app, views_rule, workers_rule};
+ghost use Rattle.snap_words.specs.CommandLine.{check_app, cutting_app, needs_subcommand, pieces_rule, program_app, quiet_rule, reading_app, views_rule, workers_rule};
 
 use crate::explain_command::explain_command;
 use crate::record_command::record_command;
 use crate::shrink_command::shrink_command;
 use clap::{Arg, ArgAction, Command};
+use snap_core::EVENT_LIMIT;
 use snap_pairs::{PIECE_LIMIT, WORKER_LIMIT};
-use snap_runs::VIEW_LIMIT;
 use std::alloc::{AllocError, Global};
+
+/// How many completed views a history has at most, each of two events.
+pub(crate) const VIEW_LIMIT: u32 = (EVENT_LIMIT / 2) as u32;
 
 // The first number that is past the limit of pieces.
 const PIECE_END: i64 = PIECE_LIMIT as i64 + 1;

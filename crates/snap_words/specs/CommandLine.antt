@@ -6,7 +6,7 @@ use Rattle.clap.specs.declared.builder.value_parser.ValueParser.TheVariants.{Sig
 use Rattle.snap_pairs.specs.declared.cutting.TheConstants.{PIECE_LIMIT, WORKER_LIMIT}
 use Rattle.snap_record.specs.Plans.{round_limit, worker_limit}
 use Rattle.snap_record.specs.declared.plan.TheConstants.{LEAST_WORKERS}
-use Rattle.snap_runs.specs.declared.check_with.TheConstants.{VIEW_LIMIT}
+use Rattle.snap_words.specs.declared.command.TheConstants.{VIEW_LIMIT}
 
 -- --pieces P, 8 where it is not given
 abbrev pub pieces_rule : Rule

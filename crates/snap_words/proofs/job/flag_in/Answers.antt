@@ -1,8 +1,8 @@
 use Rattle.std.proofs.Common.{◌≡◌, ◌∙◌, List, Option, Some, Bool, true, false, codes, ℕ}
 use Rattle.clap.specs.Words.{found_of, one_text}
 use Rattle.clap.proofs.WalkLemmas.{one_text-rows}
-use Rattle.snapjudge.specs.Jobs.{flag_text}
-use Rattle.snapjudge.proofs.job.flag_in.Goals as goal
+use Rattle.snap_words.specs.Jobs.{flag_text}
+use Rattle.snap_words.proofs.job.flag_in.Goals as goal
 
 flag_reads : (text : Option (List ℕ)) (r : Bool) → (text ≡ Some (codes "true") → r ≡ true) → (text ≡ Some (codes "false") → r ≡ false) → (flag : Bool) → text ≡ Some (flag_text flag) → r ≡ flag
 flag_reads text r given not_given true is = given is

@@ -3,8 +3,8 @@ use Rattle.std.specs.Prelude.{Some, decimal}
 use Rattle.std.specs.Str.Parse.{ParsesUnsigned, ExplainsUnsignedError, HasUnsignedDigitsIfOk}
 use Rattle.clap.specs.Words.{found_of, one_text}
 use Rattle.clap.proofs.WalkLemmas.{one_text-rows}
-use Rattle.snapjudge.proofs.Numbers.{decimal_reads}
-use Rattle.snapjudge.proofs.job.number_in.Goals as goal
+use Rattle.snap_words.proofs.Numbers.{decimal_reads}
+use Rattle.snap_words.proofs.job.number_in.Goals as goal
 
 pub returns-clause-given : goal.returns-clause-given
 returns-clause-given c = λ n lt one.

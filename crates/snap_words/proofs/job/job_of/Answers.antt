@@ -1,9 +1,9 @@
 use Rattle.std.proofs.Common.{◌∙◌, ap, ap₂, map, true}
 use Rattle.std.specs.Prelude.{string_bytes}
 use Rattle.clap.specs.Words.{is_simple, takes, subcommand_of}
-use Rattle.snapjudge.proofs.OnWords.{program_is_simple, check_is_taken, check_alone, quiet_is_taken, check_quiet, views_is_taken, check_views, shrink_is_taken, shrink_alone, explain_is_taken, explain_alone, record_is_taken, record_alone, judged_is_taken, record_judged, scanned_is_taken, record_scanned, stamped_is_taken, record_stamped}
-use Rattle.snapjudge.specs.Jobs.{no_flags, no_options}
-use Rattle.snapjudge.proofs.job.job_of.Goals as goal
+use Rattle.snap_words.proofs.OnWords.{program_is_simple, check_is_taken, check_alone, quiet_is_taken, check_quiet, views_is_taken, check_views, shrink_is_taken, shrink_alone, explain_is_taken, explain_alone, record_is_taken, record_alone, judged_is_taken, record_judged, scanned_is_taken, record_scanned, stamped_is_taken, record_stamped}
+use Rattle.snap_words.specs.Jobs.{no_flags, no_options}
+use Rattle.snap_words.proofs.job.job_of.Goals as goal
 
 pub returns-in-Err-clause-check_alone : goal.returns-in-Err-clause-check_alone
 returns-in-Err-clause-check_alone c = λ name e.

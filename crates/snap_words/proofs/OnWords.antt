@@ -3,9 +3,9 @@ use Rattle.std.proofs.Common.{◌≡◌, ℕ, List, Option, Some, None, [], ◌�
 use Rattle.std.proofs.lemmas.Bool.{false≢true}
 use Rattle.clap.specs.Words.{is_simple, subcommand_of, takes, Row, Text}
 use Rattle.clap.proofs.OnLiterals.{clap_on_literals}
-use Rattle.snapjudge.specs.CommandLine.{program_app}
-use Rattle.snapjudge.specs.Jobs.{AsksCheck, AsksRecord, no_flags, no_options}
-use Rattle.snapjudge.proofs.Numbers.{eight_text, five_text, sixteen_text, two_text, zero_text}
+use Rattle.snap_words.specs.CommandLine.{program_app}
+use Rattle.snap_words.specs.Jobs.{AsksCheck, AsksRecord, no_flags, no_options}
+use Rattle.snap_words.proofs.Numbers.{eight_text, five_text, sixteen_text, two_text, zero_text}
 
 abbrev rows_in : Option (Text × List Row) → List Row
 rows_in None = []

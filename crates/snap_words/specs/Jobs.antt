@@ -1,28 +1,37 @@
 -- What the words of a command line ask for.
-use Rattle.std.specs.Prelude.{◌≡◌, ◌<◌, ◌^◌, ℕ, Bool, true, false, List, Some, codes, decimal}
+use Rattle.std.specs.Prelude.{◌≡◌, ◌*◌, ◌≤◌, ℕ, Bool, true, false, List, Some, codes, decimal}
 use Rattle.clap.specs.Words.{Row, one_of}
+use Rattle.snap_core.specs.Events.{event_limit}
 use Rattle.snap_pairs.specs.Cuttings.{IsPieces, IsWorkers}
 use Rattle.snap_record.specs.Plans.{AreWorkers, AreRounds}
-use Rattle.snapjudge.specs.declared.job.Job.{Job}
-use Rattle.snapjudge.specs.declared.job.Job.TheVariants.{Check, Shrink, Explain, Record}
-use Rattle.snap_runs.specs.declared.check_with.CheckOptions.{CheckOptions}
+use Rattle.snap_words.specs.declared.job.Job.{Job}
+use Rattle.snap_words.specs.declared.job.Job.TheVariants.{Check, Shrink, Explain, Record}
+
+-- as many completed views, of two events each, as a history can have
+abbrev pub AreViews : ℕ → Type 0
+AreViews n = 2 * n ≤ event_limit
 
 -- the numbers of a job are in their ranges, and no report is asked for with stamps
 abbrev pub IsInRange : Job → Type 0
-IsInRange (Check cutting options) = IsPieces cutting.pieces × IsWorkers cutting.workers
+IsInRange (Check cutting quiet views) = IsPieces cutting.pieces × IsWorkers cutting.workers × AreViews views
 IsInRange Shrink = Unit {0}
 IsInRange Explain = Unit {0}
 IsInRange (Record workers rounds judge scan stamped) = AreWorkers workers × AreRounds rounds × (judge ≡ true → stamped ≡ false)
 
+-- what a check is asked for besides: the lines of the verdicts alone, and so many completed views
+pub record Options : Type 0 where
+  pub quiet : Bool
+  pub views : ℕ
+
 -- a check with so many pieces and workers, and with these options
-abbrev pub IsCheckWith : ℕ → ℕ → CheckOptions → Job → Type 0
-IsCheckWith pieces workers options (Check cutting o) = (cutting.pieces ≡ pieces) × (cutting.workers ≡ workers) × (o ≡ options)
+abbrev pub IsCheckWith : ℕ → ℕ → Options → Job → Type 0
+IsCheckWith pieces workers options (Check cutting quiet views) = (cutting.pieces ≡ pieces) × (cutting.workers ≡ workers) × (quiet ≡ options.quiet) × (views ≡ options.views)
 IsCheckWith pieces workers options Shrink = ⊥
 IsCheckWith pieces workers options Explain = ⊥
 IsCheckWith pieces workers options (Record w rounds judge scan stamped) = ⊥
 
 -- the whole report, of any number of completed views
-abbrev pub no_options : CheckOptions
+abbrev pub no_options : Options
 no_options = record { quiet = false; views = 0 }
 
 abbrev pub IsCheck : ℕ → ℕ → Job → Type 0
@@ -30,14 +39,14 @@ IsCheck pieces workers = IsCheckWith pieces workers no_options
 
 -- a history that is to be cut down
 abbrev pub IsShrink : Job → Type 0
-IsShrink (Check cutting options) = ⊥
+IsShrink (Check cutting quiet views) = ⊥
 IsShrink Shrink = Unit {0}
 IsShrink Explain = ⊥
 IsShrink (Record w rounds judge scan stamped) = ⊥
 
 -- a history that is to be explained
 abbrev pub IsExplain : Job → Type 0
-IsExplain (Check cutting options) = ⊥
+IsExplain (Check cutting quiet views) = ⊥
 IsExplain Shrink = ⊥
 IsExplain Explain = Unit {0}
 IsExplain (Record w rounds judge scan stamped) = ⊥
@@ -53,7 +62,7 @@ no_flags = record { judge = false; scan = false; stamped = false }
 
 -- a recording of so many workers and rounds with these flags
 abbrev pub IsRecord : ℕ → ℕ → Flags → Job → Type 0
-IsRecord workers rounds flags (Check cutting options) = ⊥
+IsRecord workers rounds flags (Check cutting quiet views) = ⊥
 IsRecord workers rounds flags Shrink = ⊥
 IsRecord workers rounds flags Explain = ⊥
 IsRecord workers rounds flags (Record w r judge scan stamped) =
@@ -65,10 +74,10 @@ flag_text true = codes "true"
 flag_text false = codes "false"
 
 -- the options of `check` have these numbers, which are in their ranges, and the flag is given or not
-pub record AsksCheck (rows : List Row) (pieces : ℕ) (workers : ℕ) (options : CheckOptions) : Type 0 where
+pub record AsksCheck (rows : List Row) (pieces : ℕ) (workers : ℕ) (options : Options) : Type 0 where
   pub pieces_fit : IsPieces pieces
   pub workers_fit : IsWorkers workers
-  pub views_fit : options.views < 2 ^ 32
+  pub views_fit : AreViews options.views
   pub pieces_are : one_of (codes "pieces") rows ≡ Some (decimal pieces)
   pub workers_are : one_of (codes "workers") rows ≡ Some (decimal workers)
   pub views_are : one_of (codes "views") rows ≡ Some (decimal options.views)

@@ -1,5 +1,6 @@
 //! The jobs that words ask for.
-use crate::{CheckOptions, Job, JobFault, job_of};
+use snap_runs::CheckOptions;
+use snap_words::{Job, JobFault, job_of};
 use std::alloc::{AllocError, Global};
 use std::test::Fail;
 
@@ -59,7 +60,19 @@ const CHECKS: &[(&str, u32, u32, CheckOptions)] = &[
 // The pieces and workers of the check that a line asks for, and its options.
 fn check_of(alloc: Global, line: &str) -> Result<(u32, u32, CheckOptions), Fail> {
     match job_of(alloc, words(alloc, line)?) {
-        Ok(Job::Check { cutting, options }) => Ok((cutting.pieces(), cutting.workers(), options)),
+        Ok(
+            Job::Check {
+                cutting,
+                quiet,
+                views,
+            },
+        ) => {
+            Ok((
+                cutting.pieces(),
+                cutting.workers(),
+                CheckOptions { quiet, views },
+            ))
+        }
         _ => Err(Fail::from(line)),
     }
 }
