@@ -8,6 +8,7 @@ pub mod Keys
 pub mod Unique
 pub mod Starts
 pub mod Numbers
+pub mod PrintedNumbers
 pub mod Matching
 pub mod State
 pub mod Sorting

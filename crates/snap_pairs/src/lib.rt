@@ -9,7 +9,6 @@ mod pieces;
 mod reads;
 mod whole;
 mod worker;
-mod workers;
 
 pub use claims::{Claim, Claims};
 pub use cutting::{Cutting, CuttingRefusal, PIECE_LIMIT, WORKER_LIMIT};

@@ -2,14 +2,15 @@
 #![tactic(auto)]
 
 mod delivery;
+mod pace;
 mod plan;
 mod recorder;
 mod relay;
 mod taking;
 mod timeline;
 mod worker;
-mod workers;
 
+pub use pace::Pace;
 pub use plan::{
     LEAST_WORKERS, Plan, PlanRefusal, ROUND_LIMIT, Step, TRY_LIMIT, WORKER_LIMIT, rounds_plan,
 };

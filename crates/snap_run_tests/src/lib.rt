@@ -9,9 +9,13 @@ mod devices;
 #[cfg(test)]
 mod explaining;
 #[cfg(test)]
+mod jobs;
+#[cfg(test)]
 mod limits;
 #[cfg(test)]
 mod options;
+#[cfg(test)]
+mod pace;
 #[cfg(test)]
 mod recordings;
 #[cfg(test)]

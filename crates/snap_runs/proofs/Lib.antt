@@ -3,3 +3,4 @@ pub mod Narrow
 pub mod Recordings
 pub mod Shrinking
 pub mod Explaining
+mod Asked

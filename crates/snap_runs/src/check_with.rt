@@ -7,19 +7,17 @@ ghost use Rattle.snap_conditions.specs.Tally.{tally_of};
 ghost use Rattle.snap_runs.specs.Options.{IsReportWith, IsVerdictWith, IsWritten};
 ghost use Rattle.snap_runs.specs.Runs.{JudgeCounts, JudgesBy, RunCounts, WroteBy};
 
+use crate::check::check_run;
 use crate::fault::RunFault;
 use crate::reading::{Reading, read_in};
 use snap_conditions::{Tally, ViewChain};
-use snap_core::{Counted, EVENT_LIMIT, Gate, History};
+use snap_core::{Counted, Gate, History};
 use snap_index::Index;
 use snap_pairs::{Cutting, tally_and_chain};
 use snap_verdict::{Status, brief_verdict_of, verdict_along};
 use std::alloc::{AllocError, Global};
 use std::io::{Read, Write};
 use std::thread::Threads;
-
-/// How many completed views a history has at most, each of two events.
-pub const VIEW_LIMIT: u32 = (EVENT_LIMIT / 2) as u32;
 
 /// What a check is asked for besides.
 #[derive(Clone, Copy, Debug, PartialEq, Eq)]
@@ -115,5 +113,27 @@ pub fn check_run_with<Rt: Threads + Sync, R: Read, W: Write, G: Gate>(
     match writer.send(&text) {
         Ok(()) => Ok(status),
         Err(_) => Err(RunFault::Write),
+    }
+}
+
+/// A check as its options ask for it: without any as `check_run` makes it, and otherwise as `check_run_with`.
+pub fn check_run_asked<Rt: Threads + Sync, R: Read, W: Write, G: Gate>(
+    rt: &Rt,
+    alloc: Global,
+    reader: &mut Counted<R>,
+    writer: &mut Counted<W>,
+    cutting: Cutting,
+    gate: &G,
+    options: CheckOptions,
+) -> Result<Option<Status>, RunFault>
+    ensures wrote { WroteBy (IsReportWith options) (R.remaining (inner_of reader.old)) (W.contents (inner_of writer.old)) (W.contents (inner_of writer.new)) result }
+    ensures counts { RunCounts (failures_in reader.old) (failures_in reader.new) (failures_in writer.old) (failures_in writer.new) result }
+{
+    if options.quiet || options.views > 0 {
+        return check_run_with(rt, alloc, reader, writer, cutting, gate, options);
+    }
+    match check_run(rt, alloc, reader, writer, cutting, gate) {
+        Ok(status) => Ok(Some(status)),
+        Err(fault) => Err(fault),
     }
 }

@@ -7,12 +7,14 @@ mod explain;
 mod fault;
 mod reading;
 mod recording;
+mod rounds;
 mod shrink;
 
 pub use check::check_run;
-pub use check_with::{CheckOptions, VIEW_LIMIT, check_run_with};
+pub use check_with::{CheckOptions, check_run_asked, check_run_with};
 pub use explain::explain_run;
 pub use fault::RunFault;
 pub use recording::{record_run, record_run_stamped};
+pub use rounds::{record_rounds, record_rounds_stamped};
 pub use shrink::shrink_run;
 pub use snap_verdict::Status;

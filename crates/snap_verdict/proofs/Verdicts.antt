@@ -1,32 +1,25 @@
 -- The verdict on a history, by the tally of its completed views.
-use Rattle.std.proofs.Common.{◌≡◌, ◌⊎◌, ◌∙◌, ◌↔◌, ℕ, Bool, true, false, List, Option, Some, None, map, refl, sym, ap, subst, inl, inr}
+use Rattle.std.proofs.Common.{◌≡◌, ◌∙◌, ◌↔◌, ℕ, Bool, true, false, List, Option, Some, None, map, refl, sym, ap, subst}
 use Rattle.std.specs.Borrow.{Bor}
 use Rattle.std.specs.Prelude.{IsTrue, is_some, option_copied, option_map}
 use Rattle.std.specs.Option.{ForSome}
-use Rattle.std.specs.List.{All}
 use Rattle.std.proofs.lemmas.Bool.{and_from, and_parts, eq-eqb, eqb-true}
-use Rattle.std.proofs.lemmas.List.Elements.{All-map}
 use Rattle.snap_core.specs.declared.event.Event.{Event}
-use Rattle.snap_core.specs.Calls.{Call, Operation, Updates, Views, calls_of, is_view, views_of}
+use Rattle.snap_core.specs.Calls.{Call, calls_of, views_of}
 use Rattle.snap_core.specs.Events.{HasByteComponents, IsKept}
 use Rattle.snap_core.specs.Monotone.{IsMonotone}
-use Rattle.snap_core.specs.Orders.{IsAtomic, is_update}
+use Rattle.snap_core.specs.Orders.{IsAtomic}
 use Rattle.snap_core.specs.Regular.{IsRegular}
 use Rattle.snap_core.proofs.Fits.{bytes_of_events}
-use Rattle.snap_core.proofs.Histories.{numbered_calls}
-use Rattle.snap_core.proofs.Lists.{Contains-from_In, In, In-get_or}
 use Rattle.snap_conditions.specs.declared.tally.Tally.{Tally}
 use Rattle.snap_conditions.specs.Faults.{HasNoFault}
 use Rattle.snap_conditions.specs.Tally.{CountsNoFault, CountsNoLocalFault, tally_of}
 use Rattle.snap_conditions.proofs.Ranges.{no_fault_by_tally, regular_by_tally}
 use Rattle.snap_conditions.proofs.StaleViews.{monotone_by_tally}
-use Rattle.snap_index.proofs.Known.{number_within, own_number}
-use Rattle.snap_order.specs.Levels.{is_printed, printed_order, stands_by}
-use Rattle.snap_order.specs.Numbers.{picked}
+use Rattle.snap_order.specs.Levels.{printed_order}
 use Rattle.snap_order.proofs.Laws.{atomic_exactly, prints_legal_order}
-use Rattle.snap_order.proofs.Numbers.{order_picked}
-use Rattle.snap_order.proofs.Printed.{in_printed}
-use Rattle.snap_report.specs.Orders.{HasLine, calls_numbered}
+use Rattle.snap_order.proofs.PrintedNumbers.{calls_of_order}
+use Rattle.snap_report.specs.Orders.{calls_numbered}
 use Rattle.snap_report.specs.Reports.{finding_lines, has_no_fault, has_no_local_fault, has_no_stale_view, report_lines, report_text, verdict_lines}
 use Rattle.snap_report.specs.Lines.{Line, text_of}
 use Rattle.snap_verdict.specs.declared.status.Status.{Status}
@@ -50,30 +43,6 @@ all_from t e = let p = and_parts _ _ e in let q = and_parts _ _ p.1 in record { 
 not_true : (b : Bool) → (b ≡ true → ⊥) → b ≡ false
 not_true true h = absurd (h refl)
 not_true false h = refl
-
--- ---- the printed order, by its numbers
-
-printed_kind : (calls : List Call) (o : Operation) (ended : Option ℕ) (c : Call) → c.operation ≡ o → stands_by calls ended o ≡ true → (is_update c ≡ true) ⊎ (is_view c ≡ true)
-unfolding is_update is_view
-printed_kind calls (Updates e) ended c h s = inl (rw h refl)
-printed_kind calls (Views answer) ended c h s = inr (rw h s)
-
-printed_line : (es : List Event) (c : Call) → In c (printed_order (calls_of es)) → HasLine (calls_of es) c.number
-unfolding is_printed
-printed_line es c i =
-    let p = in_printed (calls_of es) c i in
-    let own = own_number es c p.0 in
-    record { below = number_within es c p.0; kind = rw own (printed_kind (calls_of es) c.operation c.ended c refl p.1) }
-
-pub lines_of_order : (es : List Event) (numbers : List ℕ) → numbers ≡ map (λ c. c.number) (printed_order (calls_of es)) → All (HasLine (calls_of es)) numbers
-lines_of_order es numbers e =
-    rw e (All-map (HasLine (calls_of es)) (λ c. c.number) (printed_order (calls_of es)) (λ k d l. printed_line es _ (In-get_or (printed_order (calls_of es)) k d l)))
-
-pub calls_of_order : (es : List Event) (numbers : List ℕ) → numbers ≡ map (λ c. c.number) (printed_order (calls_of es)) → calls_numbered (calls_of es) numbers ≡ printed_order (calls_of es)
-unfolding picked
-calls_of_order es numbers e =
-    ap (calls_numbered (calls_of es)) e
-    ∙ sym (order_picked (calls_of es) (printed_order (calls_of es)) (numbered_calls es) (λ c i. Contains-from_In (calls_of es) c (in_printed (calls_of es) c i).0))
 
 -- ---- the verdict
 

@@ -2,9 +2,9 @@ use Rattle.std.proofs.Common.{◌++◌, ◌∙◌, Vec, Global, ap, codes, sym}
 use Rattle.std.specs.Prelude.{is_some}
 use Rattle.std.specs.List.{flat_map}
 use Rattle.snap_core.specs.Calls.{calls_of}
-use Rattle.snap_report.specs.Orders.{calls_numbered}
+use Rattle.snap_order.proofs.PrintedNumbers.{all_of_order}
+use Rattle.snap_report.specs.Orders.{HasLine, calls_numbered}
 use Rattle.snap_report.specs.Reports.{has_no_local_fault}
-use Rattle.snap_verdict.proofs.Verdicts.{lines_of_order}
 use Rattle.snap_explain.specs.Calls.{call_text}
 use Rattle.snap_explain.specs.Explanations.{verdict_text}
 use Rattle.snap_explain.specs.Faults.{faults_text}
@@ -13,7 +13,9 @@ use Rattle.snap_explain.proofs.explanation.explain.Goals as goal
 use Rattle.snap_explain.proofs.explanation.explain.Goals.{in-Some+in_ok-extend_from_slice-in-Some+in_ok-put_calls-in-Some, in-None+in_ok-put_verdict-in-None+in_ok-put_faults-in-None}
 
 pub put_calls-requires-clause-calls : goal.put_calls-requires-clause-calls
-put_calls-requires-clause-calls c = lines_of_order c.args.index.now c.in-Some.order.now (c.requires.order c.in-Some.order c.in-Some.is)
+put_calls-requires-clause-calls c =
+    let es = c.args.index.now in
+    all_of_order (HasLine (calls_of es)) es (λ n below kind. record { below = below; kind = kind }) c.in-Some.order.now (c.requires.order c.in-Some.order c.in-Some.is)
 
 pub returns : goal.returns
 returns c =

@@ -1,8 +1,13 @@
-use Rattle.snap_verdict.proofs.Verdicts.{lines_of_order, verdict_by}
+use Rattle.snap_core.specs.Calls.{calls_of}
+use Rattle.snap_order.proofs.PrintedNumbers.{all_of_order}
+use Rattle.snap_report.specs.Orders.{HasLine}
+use Rattle.snap_verdict.proofs.Verdicts.{verdict_by}
 use Rattle.snap_verdict.proofs.judge.verdict_of.Goals as goal
 
 pub report_in-requires-clause-calls : goal.report_in-requires-clause-calls
-report_in-requires-clause-calls c = λ numbers given. lines_of_order c.args.index.now numbers.now (c.requires.order numbers given)
+report_in-requires-clause-calls c = λ numbers given.
+    let es = c.args.index.now in
+    all_of_order (HasLine (calls_of es)) es (λ n below kind. record { below = below; kind = kind }) numbers.now (c.requires.order numbers given)
 
 pub returns : goal.returns
 returns c =

@@ -1,0 +1,237 @@
+//! The jobs that words ask for.
+use snap_runs::CheckOptions;
+use snap_words::{Job, JobFault, job_of};
+use std::alloc::{AllocError, Global};
+use std::test::Fail;
+
+// The words of a command line.
+fn words(alloc: Global, line: &str) -> Result<Vec<String>, AllocError> {
+    let mut words = Vec::new(alloc);
+    for word in line.split_whitespace() {
+        words.push(String::from_str(alloc, word)?)?;
+    }
+    Ok(words)
+}
+
+const NO_OPTIONS: CheckOptions = CheckOptions {
+    quiet: false,
+    views: 0,
+};
+
+const QUIET: CheckOptions = CheckOptions {
+    quiet: true,
+    views: 0,
+};
+
+// The pieces and workers of the check that each line asks for, and its options.
+const CHECKS: &[(&str, u32, u32, CheckOptions)] = &[
+    ("snapjudge check", 8, 2, NO_OPTIONS),
+    ("snapjudge check --pieces 3 --workers 4", 3, 4, NO_OPTIONS),
+    (
+        "snapjudge check --workers=8 --pieces=1024",
+        1024,
+        8,
+        NO_OPTIONS,
+    ),
+    ("snapjudge check --pieces 1 --workers 1", 1, 1, NO_OPTIONS),
+    ("snapjudge check --quiet", 8, 2, QUIET),
+    ("snapjudge check --workers 3 --quiet", 8, 3, QUIET),
+    ("snapjudge check --views 0", 8, 2, NO_OPTIONS),
+    (
+        "snapjudge check --views 5",
+        8,
+        2,
+        CheckOptions {
+            quiet: false,
+            views: 5,
+        },
+    ),
+    (
+        "snapjudge check --views=32768 --pieces 7 --quiet",
+        7,
+        2,
+        CheckOptions {
+            quiet: true,
+            views: 32768,
+        },
+    ),
+];
+
+// The pieces and workers of the check that a line asks for, and its options.
+fn check_of(alloc: Global, line: &str) -> Result<(u32, u32, CheckOptions), Fail> {
+    match job_of(alloc, words(alloc, line)?) {
+        Ok(
+            Job::Check {
+                cutting,
+                quiet,
+                views,
+            },
+        ) => {
+            Ok((
+                cutting.pieces(),
+                cutting.workers(),
+                CheckOptions { quiet, views },
+            ))
+        }
+        _ => Err(Fail::from(line)),
+    }
+}
+
+#[test]
+fn check_takes_pieces_workers_and_options(rt: HostRuntime) -> Result<(), Fail> {
+    for (line, pieces, workers, options) in CHECKS {
+        let found = check_of(rt.alloc(), line)?;
+        assert_eq!(rt; found, (*pieces, *workers, *options), "{line}");
+    }
+    Ok(())
+}
+
+#[test]
+fn shrink_takes_no_words(rt: HostRuntime) -> Result<(), Fail> {
+    let alloc = rt.alloc();
+    match job_of(alloc, words(alloc, "snapjudge shrink")?) {
+        Ok(Job::Shrink) => Ok(()),
+        _ => Err(Fail::from("snapjudge shrink")),
+    }
+}
+
+#[test]
+fn explain_takes_no_words(rt: HostRuntime) -> Result<(), Fail> {
+    let alloc = rt.alloc();
+    match job_of(alloc, words(alloc, "snapjudge explain")?) {
+        Ok(Job::Explain) => Ok(()),
+        _ => Err(Fail::from("snapjudge explain")),
+    }
+}
+
+// Whether a recording is judged, scans, and has stamps.
+type Flags = (bool, bool, bool);
+
+const NO_FLAGS: Flags = (false, false, false);
+
+// The workers and rounds of the recording that each line asks for, and its flags.
+const RECORDS: &[(&str, u32, u32, Flags)] = &[
+    ("snapjudge record", 2, 16, NO_FLAGS),
+    (
+        "snapjudge record --rounds 5 --judge",
+        2,
+        5,
+        (true, false, false),
+    ),
+    (
+        "snapjudge record --workers 2 --rounds=2048",
+        2,
+        2048,
+        NO_FLAGS,
+    ),
+    ("snapjudge record --workers 3 --rounds 1", 3, 1, NO_FLAGS),
+    (
+        "snapjudge record --rounds 512 --workers=8",
+        8,
+        512,
+        NO_FLAGS,
+    ),
+    (
+        "snapjudge record --judge --rounds 1",
+        2,
+        1,
+        (true, false, false),
+    ),
+    ("snapjudge record --scan", 2, 16, (false, true, false)),
+    (
+        "snapjudge record --scan --rounds 3 --judge",
+        2,
+        3,
+        (true, true, false),
+    ),
+    ("snapjudge record --stamped", 2, 16, (false, false, true)),
+    (
+        "snapjudge record --stamped --rounds 7 --scan",
+        2,
+        7,
+        (false, true, true),
+    ),
+];
+
+// The workers, the rounds and the flags of the recording that a line asks for.
+fn record_of(alloc: Global, line: &str) -> Result<(u32, u32, Flags), Fail> {
+    match job_of(alloc, words(alloc, line)?) {
+        Ok(
+            Job::Record {
+                workers,
+                rounds,
+                judge,
+                scan,
+                stamped,
+            },
+        ) => Ok((workers, rounds, (judge, scan, stamped))),
+        _ => Err(Fail::from(line)),
+    }
+}
+
+#[test]
+fn record_takes_workers_rounds_and_flags(rt: HostRuntime) -> Result<(), Fail> {
+    for (line, workers, rounds, flags) in RECORDS {
+        let found = record_of(rt.alloc(), line)?;
+        assert_eq!(rt; found, (*workers, *rounds, *flags), "{line}");
+    }
+    Ok(())
+}
+
+const OTHER_LINES: &[&str] = &[
+    "snapjudge",
+    "snapjudge judge",
+    "snapjudge check --pieces 0",
+    "snapjudge check --pieces 1025",
+    "snapjudge check --pieces x",
+    "snapjudge check --pieces",
+    "snapjudge check --workers 0",
+    "snapjudge check --workers 9",
+    "snapjudge check --rounds 3",
+    "snapjudge check more",
+    "snapjudge record --workers 1",
+    "snapjudge record --workers 9",
+    "snapjudge record --rounds 0",
+    "snapjudge record --rounds 2049",
+    "snapjudge record --pieces 8",
+    "snapjudge record --judge=yes",
+    "snapjudge record --scan=64",
+    "snapjudge record --judge --stamped",
+    "snapjudge record --stamped --rounds 3 --judge",
+    "snapjudge record --stamped=yes",
+    "snapjudge check --stamped",
+    "snapjudge check --scan",
+    "snapjudge check --views",
+    "snapjudge check --views 32769",
+    "snapjudge check --views -1",
+    "snapjudge check --quiet=yes",
+    "snapjudge shrink more",
+    "snapjudge shrink --quiet",
+    "snapjudge explain more",
+    "snapjudge explain --quiet",
+    "snapjudge record --quiet",
+    "snapjudge record --views 3",
+    "snapjudge --help",
+    "snapjudge check --help",
+    "snapjudge record --help",
+    "snapjudge shrink --help",
+    "snapjudge explain --help",
+];
+
+// Whether a line gets a text on the usage.
+fn gets_usage(alloc: Global, line: &str) -> Result<bool, AllocError> {
+    match job_of(alloc, words(alloc, line)?) {
+        Err(JobFault::Usage(text)) => Ok(!text.is_empty()),
+        _ => Ok(false),
+    }
+}
+
+#[test]
+fn other_words_get_the_usage(rt: HostRuntime) -> Result<(), Fail> {
+    for line in OTHER_LINES {
+        if !gets_usage(rt.alloc(), line)? {
+            return Err(Fail::from(*line));
+        }
+    }
+    Ok(())
+}

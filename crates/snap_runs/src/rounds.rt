@@ -1,0 +1,72 @@
+//! Recordings of rounds of workers who keep pace.
+ghost use Rattle.std.specs.Prelude.{◌≡◌, ◌<◌, ◌≤◌, IfOk};
+ghost use Rattle.snap_core.specs.Counting.{failures_in, inner_of};
+ghost use Rattle.snap_record.specs.Plans.{AreRounds, AreWorkers, rounds_scripts};
+ghost use Rattle.snap_runs.specs.RecordRuns.{IsRecorded, IsStampedRecording, WriteCounts, WroteAs};
+
+use crate::fault::RunFault;
+use crate::recording::{record_run, record_run_stamped};
+use snap_core::Counted;
+use snap_pairs::Cutting;
+use snap_record::{Pace, Plan, PlanRefusal, rounds_plan};
+use snap_verdict::Status;
+use std::alloc::{AllocError, Global};
+use std::io::Write;
+use std::sync::Wait;
+use std::thread::Threads;
+
+// So many workers in so many rounds of a store and a view each, or a scan in place of the view.
+fn plan_of(alloc: Global, workers: u32, rounds: u32, scan: bool) -> Result<Plan, AllocError>
+    requires { AreWorkers workers × AreRounds rounds }
+    ensures { IfOk result (λ plan. plan ≡ rounds_scripts scan workers rounds) }
+{
+    match rounds_plan(alloc, workers, rounds, scan) {
+        Ok(plan) => Ok(plan),
+        Err(PlanRefusal::Memory) => Err(AllocError),
+        Err(_) => unreachable!(),
+    }
+}
+
+/// Records `LEAST_WORKERS` to `WORKER_LIMIT` workers of a plan in so many rounds of a store and a view each, or a scan in
+/// place of the view, and judges with the usual cutting where that is asked for. Otherwise as `record_run`.
+pub fn record_rounds<Rt: Threads + Wait + Sync, W: Write>(
+    rt: &Rt,
+    alloc: Global,
+    workers: u32,
+    rounds: u32,
+    judge: bool,
+    scan: bool,
+    writer: &mut Counted<W>,
+) -> Result<Status, RunFault>
+    requires { AreWorkers workers × AreRounds rounds }
+    ensures wrote { WroteAs (IsRecorded judge (rounds_scripts scan workers rounds)) (W.contents (inner_of writer.old)) (W.contents (inner_of writer.new)) result }
+    ensures counts { WriteCounts (failures_in writer.old) (failures_in writer.new) result }
+{
+    let plan = plan_of(alloc, workers, rounds, scan)?;
+    record_run(
+        rt,
+        alloc,
+        &plan,
+        judge,
+        writer,
+        Cutting::usual(),
+        &Pace::of(workers),
+    )
+}
+
+/// Records the same rounds, and writes their history with stamps, as `record_run_stamped`.
+pub fn record_rounds_stamped<Rt: Threads + Wait + Sync, W: Write>(
+    rt: &Rt,
+    alloc: Global,
+    workers: u32,
+    rounds: u32,
+    scan: bool,
+    writer: &mut Counted<W>,
+) -> Result<Status, RunFault>
+    requires { AreWorkers workers × AreRounds rounds }
+    ensures wrote { WroteAs (IsStampedRecording (rounds_scripts scan workers rounds)) (W.contents (inner_of writer.old)) (W.contents (inner_of writer.new)) result }
+    ensures counts { WriteCounts (failures_in writer.old) (failures_in writer.new) result }
+{
+    let plan = plan_of(alloc, workers, rounds, scan)?;
+    record_run_stamped(rt, alloc, &plan, writer, &Pace::of(workers))
+}

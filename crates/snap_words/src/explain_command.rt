@@ -1,0 +1,52 @@
+//! The words of `explain`, and its help.
+ghost use Rattle.std.specs.Prelude.{◌≡◌, false};
+ghost use Rattle.clap.specs.Words.{app_of};
+ghost use Rattle.clap.specs.declared.builder.command.Command.TheViews.{out-Command as fields_of};
+ghost use Rattle.snap_words.specs.CommandLine.{explain_app};
+
+use clap::Command;
+use std::alloc::Global;
+
+const ABOUT: &str =
+    "Reads a history from standard input and writes to standard output what its faults are, call by call";
+
+const EXAMPLE: &str = "\
+Of a history that is not atomic the first fault of each kind is told in a sentence, and behind
+it stands a line for each call concerned: its number in the order of begins, its process, the
+records of its begin and its end, and what it wrote or showed. The header is record 1. From
+the history
+
+    event,process,op,data
+    begin,0,update,0:1:7
+    begin,1,view,
+    end,1,view,0:1:7
+    begin,2,view,
+    end,2,view,
+    end,0,update,
+
+it makes
+
+    regular, and not atomic
+    read: view 2 shows more of component 0 than view 3, and had ended before that view began
+      call 2 of process 1, records 3 and 4: view 0:1:7
+      call 3 of process 2, records 5 and 6: view
+
+Of an atomic history the lines of its calls stand in an order that explains each view. Of a
+text that is no history the rule that is broken is told, and the record that breaks it.
+
+Exit status:
+    0  the history is atomic
+    1  it is regular, and not atomic
+    2  it is not regular
+    3  the text is no history: the first line names the record and its fault
+    4  reading, writing or memory failed
+    5  the words of the command line were not taken";
+
+/// The command `explain`, which has no options.
+pub fn explain_command<'a>(alloc: Global) -> Command<'a>
+    ensures { (app_of result ≡ explain_app) × ((fields_of result).has_globals ≡ false) }
+{
+    Command::new(alloc, "explain")
+        .about(ABOUT)
+        .after_help(EXAMPLE)
+}

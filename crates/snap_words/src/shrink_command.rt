@@ -1,0 +1,57 @@
+//! The words of `shrink`, and its help.
+ghost use Rattle.std.specs.Prelude.{◌≡◌, false};
+ghost use Rattle.clap.specs.Words.{app_of};
+ghost use Rattle.clap.specs.declared.builder.command.Command.TheViews.{out-Command as fields_of};
+ghost use Rattle.snap_words.specs.CommandLine.{shrink_app};
+
+use clap::Command;
+use std::alloc::Global;
+
+const ABOUT: &str =
+    "Reads a history from standard input and writes a witness of its first fault to standard output";
+
+const EXAMPLE: &str = "\
+A witness is a history of at most four calls of the one that was read, with the same fault.
+A call keeps its process, its value and its place before or behind the others; an update
+becomes update 1 of its component, and a view shows what is left of what it showed. Of the
+kinds of fault the first is taken, in the order integrity, proximity, read, write, and of
+that kind the fault that `snapjudge check` prints. From the history
+
+    event,process,op,data
+    begin,0,update,0:1:7
+    end,0,update,
+    begin,0,update,0:2:8
+    begin,1,view,
+    end,1,view,0:2:8
+    begin,2,view,
+    end,2,view,0:1:7
+    end,0,update,
+
+it takes both views and update 0:2, which the second misses:
+
+    event,process,op,data
+    begin,0,update,0:1:8
+    begin,1,view,
+    end,1,view,0:1:8
+    begin,2,view,
+    end,2,view,
+    end,0,update,
+
+An atomic history has no fault, and is written as it is, without stamps.
+
+Exit status, of the history that was read:
+    0  it is atomic
+    1  it is regular, and not atomic
+    2  it is not regular
+    3  the text is no history: the one line that is written names the record and its fault
+    4  reading, writing or memory failed
+    5  the words of the command line were not taken";
+
+/// The command `shrink`, which has no options.
+pub fn shrink_command<'a>(alloc: Global) -> Command<'a>
+    ensures { (app_of result ≡ shrink_app) × ((fields_of result).has_globals ≡ false) }
+{
+    Command::new(alloc, "shrink")
+        .about(ABOUT)
+        .after_help(EXAMPLE)
+}
