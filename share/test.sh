@@ -481,6 +481,10 @@ echo new >$main
 builds "an edit beside it" new
 unset CDPATH
 
+mv tree/share/sources.sh saved.sh
+expect "a checkout without share/sources.sh" 70 "" tree/snapjudge check
+mv saved.sh tree/share/sources.sh
+
 echo old >$main
 echo "proved, on an older processor" >answer
 expect "an older processor" 0 "snapjudge 1 for x86-64-v2, proved with a prover
