@@ -447,7 +447,7 @@ for file in src/more.rt specs/More.antt; do
 done
 echo 1 >tree/VERSION
 builds "another version" old
-printf 'snap_core:\nsnapjudge: snap_core\n' >tree/crates.txt
+printf 'snapjudge: snap_core\nsnap_core:\n' >tree/crates.txt
 mkdir -p tree/crates/snap_core/src
 echo core >tree/crates/snap_core/src/lib.rt
 builds "a crate below" old
