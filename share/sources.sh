@@ -4,7 +4,7 @@
 #
 # usage: sources.sh list      each file of every crate, its size, and when its text and its entry changed
 #        sources.sh sum       one sum over the names and the texts of the program's files
-#        sources.sh crates    the crates that the program stands on, the lowest first, and its own last
+#        sources.sh crates    the crates that the program stands on, and its own
 #
 # The launcher reads this file at each start, since a shell more would take half a millisecond. Nor is there time to tell the
 # program's crates from others in a list: where only another one's has changed, the sum has not.
@@ -16,25 +16,33 @@ list_sources() {
   cd "$1" && exec find -L crates.txt VERSION crates/*/src crates/*/specs -type f -printf '%p %s %T@ %C@\n' 2>/dev/null
 }
 
-# In crates.txt a crate stands behind those that it stands on, so from the last line up each is met before those below it.
+# From the last line of crates.txt up each crate is met before those below it. Where the lines stand in another order, they are
+# gone through until no further crate is met.
 find_crates() {
   upwards=
   while IFS= read -r line; do
     upwards="${line%%#*}
 $upwards"
   done <crates.txt || exit
-  found=
   needed=' snapjudge '
+  before=
   IFS='
 '
-  for line in $upwards; do
-    name=${line%%[ :]*}
-    case $needed in
-      *" $name "*)
-        found="$name${found:+ }$found"
-        needed="$needed${line#*:} "
-        ;;
-    esac
+  while [ "$needed" != "$before" ]; do
+    before=$needed
+    found=
+    for line in $upwards; do
+      name=${line%%[ :]*}
+      below="${line#*:} "
+      case $needed in
+        *" $name "*) found="$name${found:+ }$found" ;;
+        *) continue ;;
+      esac
+      case $needed in
+        *"$below"*) ;;
+        *) needed="$needed$below" ;;
+      esac
+    done
   done
   unset IFS
   echo "$found"

@@ -428,7 +428,7 @@ for file in src/more.rt specs/More.antt; do
 done
 echo 1 >tree/VERSION
 builds "another version" old
-printf 'snap_core:\nsnapjudge: snap_core\n' >tree/crates.txt
+printf 'snapjudge: snap_core\nsnap_core:\n' >tree/crates.txt
 mkdir -p tree/crates/snap_core/src
 echo core >tree/crates/snap_core/src/lib.rt
 builds "a crate below" old
@@ -461,6 +461,10 @@ runs "another tree that cd would find" old
 echo new >$main
 builds "an edit beside it" new
 unset CDPATH
+
+mv tree/share/sources.sh saved.sh
+expect "a checkout without share/sources.sh" 70 "" tree/snapjudge check
+mv saved.sh tree/share/sources.sh
 
 echo old >$main
 echo "proved, on an older processor" >answer

@@ -2,7 +2,7 @@
 use histories::WORKED;
 use snap_conditions::{
     IntegrityFault, ProximityFault, ReadFault, Side, Tally, ViewGrid, WriteFault, is_atomic,
-    is_monotone, is_regular, tally_range,
+    is_monotone, is_regular, merge, tally_range,
 };
 use snap_index::Index;
 use snap_testing::worked::{
@@ -120,6 +120,16 @@ fn counts(tally: &Tally) -> [u64; 5] {
         tally.write.count(),
         tally.stale,
     ]
+}
+
+// The faults of both tallies, which are few.
+fn merged(rt: &impl Abort, first: &Tally, second: &Tally) -> Tally {
+    assert!(rt; first.integrity.count() <= 9 && second.integrity.count() <= 9);
+    assert!(rt; first.proximity.count() <= 9 && second.proximity.count() <= 9);
+    assert!(rt; first.read.count() <= 9 && second.read.count() <= 9);
+    assert!(rt; first.write.count() <= 9 && second.write.count() <= 9);
+    assert!(rt; first.stale <= 9 && second.stale <= 9);
+    merge(*first, *second)
 }
 
 #[test]
@@ -323,4 +333,44 @@ fn a_number_above_that_of_each_update_is_compared_too(rt: HostRuntime) -> Result
         (2, 3, one_integrity(last_wrong)),
     ];
     expect(&rt, rt.alloc(), &steps, &known)
+}
+
+#[test]
+fn merged_tallies_have_the_faults_of_both(rt: HostRuntime) -> Result<(), Fail> {
+    for steps in [STALE_AND_WRONG, NEW_THEN_OLD, ATOMIC_RUN] {
+        let history = history_of(rt.alloc(), steps)?;
+        let index = Index::build(rt.alloc(), &history)?;
+        assert_eq!(rt; index.view_count(), 2);
+        let first = tally_range(&index, 0, 1);
+        let second = tally_range(&index, 1, 2);
+        let all = tally_range(&index, 0, 2);
+        assert_eq!(rt; merged(&rt, &first, &second), all);
+        assert_eq!(rt; merged(&rt, &second, &first), all);
+        assert_eq!(rt; merged(&rt, &all, &Tally::none()), all);
+        assert_eq!(rt; merged(&rt, &Tally::none(), &all), all);
+    }
+    Ok(())
+}
+
+#[test]
+fn the_first_fault_of_merged_tallies_is_that_of_the_first(rt: HostRuntime) -> Result<(), Fail> {
+    let history = history_of(rt.alloc(), CROSSED_VIEWS)?;
+    let index = Index::build(rt.alloc(), &history)?;
+    assert_eq!(rt; index.view_count(), 2);
+    let first = tally_range(&index, 0, 1);
+    let second = tally_range(&index, 1, 2);
+    let of_first = ReadFault {
+        view: 2,
+        other: 3,
+        component: 0,
+    };
+    let of_second = ReadFault {
+        view: 3,
+        other: 2,
+        component: 1,
+    };
+    assert_eq!(rt; found(&merged(&rt, &first, &second)), reads(2, of_first));
+    assert_eq!(rt; found(&merged(&rt, &second, &first)), reads(2, of_second));
+    assert_eq!(rt; found(&merged(&rt, &second, &second)), reads(2, of_second));
+    Ok(())
 }
