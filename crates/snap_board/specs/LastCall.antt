@@ -1,5 +1,5 @@
 -- The last call of a desk: what it answered, and how many middle ticks it drew.
-use Rattle.std.specs.Prelude.{◌≡◌, ℕ, ◌<◌, ◌≤◌, List, [], ◌∷◌, ◌++◌, length, ⊤}
+use Rattle.std.specs.Prelude.{◌≡◌, ℕ, ◌<◌, ◌≤◌, List, [], ◌∷◌, ◌++◌, length}
 use Rattle.snap_account.specs.declared.account.Answered.{Answered}
 use Rattle.snap_account.specs.declared.account.Answer.{Answer}
 use Rattle.snap_account.specs.declared.account.Answer.TheVariants.{Stored, Viewed, Scanned, Interfered}
