@@ -207,11 +207,7 @@ fn numbers_near_the_least_and_far_from_it_stand_in_one_block(rt: HostRuntime) ->
         rt.alloc(),
         &[(1, u32::MAX), (1, 10), (1, 9), (1, 8), (1, 7)],
         4,
-        &[
-            (0, 5, 10, Some(0)),
-            (1, 4, 6, Some(1)),
-            (3, 5, 1, Some(3)),
-        ],
+        &[(0, 5, 10, Some(0)), (1, 4, 6, Some(1)), (3, 5, 1, Some(3))],
     )
 }
 
