@@ -29,6 +29,18 @@ const SEVEN_NEW_THEN_OLD: &[Step<'static>] = &[
     Updated(0),
 ];
 
+// Beside two open updates two views disagree, and one of them shows a number that is far from all others.
+const FAR_AND_CROSSED: &[Step<'static>] = &[
+    Update(0, (0, 1, 1)),
+    Update(1, (1, 1, 1)),
+    View(2),
+    View(3),
+    Viewed(2, &[(0, u32::MAX, 1)]),
+    Viewed(3, &[(1, 1, 1)]),
+    Updated(0),
+    Updated(1),
+];
+
 // A list was made, and is this one.
 fn expect_places(made: Option<Vec<u32>>, known: Option<&[u32]>) -> Result<(), Fault> {
     match made {
@@ -123,12 +135,22 @@ fn expect_tally(alloc: Global, steps: &[Step<'_>], read: u64, stale: u64) -> Res
     expect_tally_by_grid(alloc, &index, read, stale)
 }
 
-/// Grids of few views, and of views most of which leave a component out; and the tally without one.
+// By the grid of its views a history has so many faults of numbers that were never written, and so many read faults.
+fn expect_far(alloc: Global, steps: &[Step<'_>], integrity: u64, read: u64) -> Result<(), Fault> {
+    let history = history_of(alloc, steps)?;
+    let index = Index::build(alloc, &history)?;
+    let grid = ViewGrid::build(alloc, &index)?;
+    let found = grid.tally(alloc, 0, index.view_count())?;
+    expect(found.integrity.count() == integrity && found.read.count() == read)
+}
+
+/// Grids of few views, of views most of which leave a component out, and of a number far off; and the tally without one.
 pub fn grids(alloc: Global) -> Result<(), Fault> {
     expect_tally(alloc, CROSSED_VIEWS, 2, 0)?;
     expect_tally(alloc, NEW_THEN_OLD, 1, 1)?;
     expect_tally(alloc, ATOMIC_RUN, 0, 0)?;
     expect_tally(alloc, SEVEN_NEW_THEN_OLD, 7, 7)?;
+    expect_far(alloc, FAR_AND_CROSSED, 1, 2)?;
     expect_tally_alone(alloc, ATOMIC_RUN, 0, 0)?;
     expect_tally_alone(alloc, SEVEN_NEW_THEN_OLD, 7, 7)
 }
