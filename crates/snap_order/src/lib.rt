@@ -10,6 +10,7 @@ mod printing;
 
 pub use checking::check_order;
 pub use law::{
-    legal_orders_grow, printed_order_is_alone, shrinking_lemma, sorted_keys_give_the_order,
+    atomic_is_monotone, legal_orders_grow, printed_order_is_alone, shrinking_lemma,
+    sorted_keys_give_the_order,
 };
 pub use printing::{build, build_alone, build_along};

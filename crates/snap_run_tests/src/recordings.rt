@@ -171,6 +171,42 @@ fn a_judged_recording_of_scans_is_atomic_in_every_run(rt: HostRuntime) -> Result
     Ok(())
 }
 
+// The workers, their rounds, and how many runs of them are judged.
+const SCANNED: &[(u32, u32, u32)] = &[(4, 1024, 20), (8, 512, 5)];
+
+#[test]
+fn a_judged_recording_of_many_scanning_workers_is_atomic_in_every_run(
+    rt: HostRuntime,
+) -> Result<(), Fail> {
+    let cutting = cutting(8, 2)?;
+    for (workers, rounds, runs) in SCANNED {
+        let plan = rounds_plan(rt.alloc(), *workers, *rounds, true)?;
+        for _ in 0..*runs {
+            let (end, _report) = record(&rt, rt.alloc(), &plan, true, cutting, &OpenGate);
+            same(end, "atomic")?;
+        }
+    }
+    Ok(())
+}
+
+#[test]
+fn judged_recordings_of_four_workers_are_not_all_atomic_without_scans(
+    rt: HostRuntime,
+) -> Result<(), Fail> {
+    let plan = rounds_plan(rt.alloc(), 4, 1024, false)?;
+    let cutting = cutting(8, 2)?;
+    let mut are_all_atomic = true;
+    for _ in 0..20 {
+        let (end, _report) = record(&rt, rt.alloc(), &plan, true, cutting, &OpenGate);
+        if end != "atomic" {
+            same(end, "regular")?;
+            are_all_atomic = false;
+        }
+    }
+    assert!(rt; !are_all_atomic);
+    Ok(())
+}
+
 // Whether this is how the judged recording of one round ends, and the head of its report, where its history is regular.
 fn is_regular_report(end: &str, report: &[u8]) -> bool {
     (end == "atomic" || end == "regular")

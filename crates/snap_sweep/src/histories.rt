@@ -1,10 +1,14 @@
 //! Histories, their calls, their faults and their orders.
+ghost use Rattle.snap_core.specs.Calls.{calls_of};
+ghost use Rattle.snap_conditions.specs.Faults.{HasNoFault};
+
 use crate::fault::{Fault, expect};
+use snap_conditions::{faultless_chain, view_sums};
 use snap_core::{Event, EventRefusal, History, OpenGate, View};
 use snap_index::Index;
-use snap_order::{build, check_order};
-use snap_pairs::{Claims, Cutting, PIECE_LIMIT, WORKER_LIMIT, tally};
-use snap_testing::worked::{CROSSED_VIEWS, FOUR_WAYS, SEEN_PENDING};
+use snap_order::{build, build_along, check_order};
+use snap_pairs::{Claims, Cutting, PIECE_LIMIT, WORKER_LIMIT, tally, tally_and_chain};
+use snap_testing::worked::{ATOMIC_RUN, CROSSED_VIEWS, FOUR_WAYS, SEEN_PENDING};
 use snap_testing::{Step, entry, history_of};
 use std::alloc::Global;
 use std::thread::Threads;
@@ -79,6 +83,31 @@ pub fn order<R: Threads + Sync>(rt: &R, alloc: Global) -> Result<(), Fault> {
     expect_printed(rt, alloc, &index, &[0, 2])
 }
 
+// The order of an index along the chain of its views.
+fn order_along(alloc: Global, index: &Index<'_>) -> Result<Vec<u32>, Fault>
+    requires { HasNoFault (calls_of index.now) }
+{
+    let sums = view_sums(alloc, index)?;
+    let Some(chain) = faultless_chain(alloc, index, sums)? else {
+        return Err(Fault::Wrong);
+    };
+    Ok(build_along(alloc, index, chain)?)
+}
+
+/// The same order along the chain of the views. Where memory is refused both are made once more.
+pub fn order_along_chain(alloc: Global) -> Result<(), Fault> {
+    let history = history_of(alloc, SEEN_PENDING)?;
+    let index = Index::build(alloc, &history)?;
+    if !check_order(alloc, &index, &[0, 2])? {
+        return Err(Fault::Wrong);
+    }
+    let order = match order_along(alloc, &index) {
+        Err(Fault::Memory) => order_along(alloc, &index)?,
+        answer => answer?,
+    };
+    expect(order.as_slice() == [0, 2].as_slice())
+}
+
 // The tally of a history that is cut so has so many read faults and no other.
 fn expect_read_faults<R: Threads + Sync>(
     rt: &R,
@@ -105,6 +134,33 @@ pub fn tally_of_pieces<R: Threads + Sync>(rt: &R, alloc: Global) -> Result<(), F
 /// Four views disagree about components far from one another, whose numbers several threads take up.
 pub fn tally_of_parts<R: Threads + Sync>(rt: &R, alloc: Global) -> Result<(), Fault> {
     expect_read_faults(rt, alloc, FOUR_WAYS, Cutting::usual(), 12)
+}
+
+// By two workers a history has so many read faults, and its views are a chain or not. Where memory is refused that is found
+// once more.
+fn expect_tally_and_chain<R: Threads + Sync>(
+    rt: &R,
+    alloc: Global,
+    steps: &[Step<'_>],
+    count: u64,
+    is_chain: bool,
+) -> Result<(), Fault> {
+    let Ok(cutting) = Cutting::new(2, 2) else {
+        return Err(Fault::Wrong);
+    };
+    let history = history_of(alloc, steps)?;
+    let index = Index::build(alloc, &history)?;
+    let (found, chain) = match tally_and_chain(rt, alloc, &index, cutting, &OpenGate) {
+        Ok(both) => both,
+        Err(_refused) => tally_and_chain(rt, alloc, &index, cutting, &OpenGate)?,
+    };
+    expect(found.read.count() == count && chain.is_some() == is_chain)
+}
+
+/// Tallies by two workers, with a chain where there is no read fault.
+pub fn tallies_and_chains<R: Threads + Sync>(rt: &R, alloc: Global) -> Result<(), Fault> {
+    expect_tally_and_chain(rt, alloc, ATOMIC_RUN, 0, true)?;
+    expect_tally_and_chain(rt, alloc, CROSSED_VIEWS, 2, false)
 }
 
 /// Of three pieces the first claim draws two, and both claims close the counter.

@@ -1,16 +1,20 @@
 //! Texts of histories, and reports.
 use crate::fault::{Fault, expect};
-use snap_conditions::{is_atomic, tally_range};
+use snap_conditions::{is_atomic, tally_and_chain_alone, tally_range};
 use snap_core::{Counted, Event, History};
 use snap_csv::{
     TextFault, WriteRefusal, fields_of, read_history, read_history_in, read_records, read_text,
     record_of, write_history, write_history_stamped,
 };
 use snap_index::Index;
-use snap_report::{refusal_text, report, report_in, verdict_text};
+use snap_report::{
+    put_call, put_entry, put_number, put_update, refusal_text, report, report_in, verdict_text,
+};
 use snap_testing::worked::{CROSSED_VIEWS, STALE_AND_WRONG, VIEW_BESIDE_UPDATE};
 use snap_testing::{Cup, entry, history_of};
-use snap_verdict::{Status, brief_verdict_of, judge_text, verdict_alone, verdict_of};
+use snap_verdict::{
+    Status, brief_verdict_of, judge_text, verdict_alone, verdict_along, verdict_of,
+};
 use snap_witness::witness;
 use std::alloc::{AllocError, Global};
 
@@ -187,6 +191,49 @@ pub fn verdict_in_memory(alloc: Global) -> Result<(), Fault> {
     let room = vec![in alloc; b'x']?;
     let made = verdict_of(&index, &tally, None, room);
     expect_verdict(made, Status::Regular, CROSSED_VIEWS_REPORT)
+}
+
+// The status and the report of an atomic history, along the chain of its views.
+fn report_along_chain(alloc: Global) -> Result<(Status, Vec<u8>), Fault> {
+    let history = history_of(alloc, VIEW_BESIDE_UPDATE)?;
+    let index = Index::build(alloc, &history)?;
+    let (tally, chain) = tally_and_chain_alone(alloc, &index)?;
+    let room = Vec::new(alloc);
+    Ok(verdict_along(alloc, &index, &tally, chain, room)?)
+}
+
+/// The status and the report along a chain. Where memory is refused both are made once more.
+pub fn verdict_along_chain(alloc: Global) -> Result<(), Fault> {
+    let (status, report) = match report_along_chain(alloc) {
+        Err(Fault::Memory) => report_along_chain(alloc)?,
+        answer => answer?,
+    };
+    expect(status == Status::Atomic && report.as_slice() == VIEW_BESIDE_UPDATE_REPORT)
+}
+
+// A number, a call, an update and an entry, each behind a word in a vector of its own.
+fn words_of(alloc: Global) -> Result<[Vec<u8>; 4], AllocError> {
+    let mut number = Vec::new(alloc);
+    put_number(&mut number, b"component ", 255)?;
+    let mut call = Vec::new(alloc);
+    put_call(&mut call, b"view ", 0)?;
+    let mut update = Vec::new(alloc);
+    put_update(&mut update, b"update ", 255, 2)?;
+    let mut shown = Vec::new(alloc);
+    put_entry(&mut shown, b"entry ", &entry(255, 2, 7))?;
+    Ok([number, call, update, shown])
+}
+
+/// Words of lines. Where memory is refused they are put once more.
+pub fn words(alloc: Global) -> Result<(), Fault> {
+    let [number, call, update, shown] = match words_of(alloc) {
+        Ok(words) => words,
+        Err(_refused) => words_of(alloc)?,
+    };
+    expect(number.as_slice() == b"component 255".as_slice())?;
+    expect(call.as_slice() == b"view 1".as_slice())?;
+    expect(update.as_slice() == b"update 255:2".as_slice())?;
+    expect(shown.as_slice() == b"entry 255:2:7".as_slice())
 }
 
 /// The lines of the verdicts alone.

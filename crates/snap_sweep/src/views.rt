@@ -1,11 +1,15 @@
 //! The sums, the chains and the grids of views.
 use crate::fault::{Fault, expect};
-use snap_conditions::{Tally, ViewGrid, chain, faultless_chain, ordered, tally_alone, view_sums};
+use snap_conditions::{
+    Tally, ViewGrid, chain, columns_between, faultless_chain, ordered, tally_alone,
+    tally_and_chain_alone, view_sums,
+};
+use snap_core::COMPONENT_COUNT;
 use snap_index::Index;
 use snap_testing::Step::{Update, Updated, View, Viewed};
 use snap_testing::worked::{ATOMIC_RUN, CROSSED_VIEWS, NEW_THEN_OLD};
 use snap_testing::{Step, history_of};
-use std::alloc::Global;
+use std::alloc::{AllocError, Global};
 
 // Beside an open update of component 1 seven views show it, one after another, and a later one does not.
 const SEVEN_NEW_THEN_OLD: &[Step<'static>] = &[
@@ -153,4 +157,47 @@ pub fn grids(alloc: Global) -> Result<(), Fault> {
     expect_far(alloc, FAR_AND_CROSSED, 1, 2)?;
     expect_tally_alone(alloc, ATOMIC_RUN, 0, 0)?;
     expect_tally_alone(alloc, SEVEN_NEW_THEN_OLD, 7, 7)
+}
+
+// The tally of an index by a grid of columns that are made before it.
+fn tally_by_columns(alloc: Global, index: &Index<'_>) -> Result<Tally, AllocError> {
+    let columns = columns_between(alloc, index, 0, COMPONENT_COUNT)?;
+    let grid = ViewGrid::of_columns(alloc, index, columns)?;
+    grid.tally(alloc, 0, index.view_count())
+}
+
+/// Columns, and a grid of them. Where memory is refused both are made once more.
+pub fn columns(alloc: Global) -> Result<(), Fault> {
+    let history = history_of(alloc, SEVEN_NEW_THEN_OLD)?;
+    let index = Index::build(alloc, &history)?;
+    let found = match tally_by_columns(alloc, &index) {
+        Ok(tally) => tally,
+        Err(_refused) => tally_by_columns(alloc, &index)?,
+    };
+    expect_faults(&found, 7, 7)
+}
+
+// On one thread a history has so many read faults and stale views, and its views are a chain or not. Where memory is refused
+// that is found once more.
+fn expect_tally_and_chain(
+    alloc: Global,
+    steps: &[Step<'_>],
+    read: u64,
+    stale: u64,
+    is_chain: bool,
+) -> Result<(), Fault> {
+    let history = history_of(alloc, steps)?;
+    let index = Index::build(alloc, &history)?;
+    let (found, chain) = match tally_and_chain_alone(alloc, &index) {
+        Ok(both) => both,
+        Err(_refused) => tally_and_chain_alone(alloc, &index)?,
+    };
+    expect(chain.is_some() == is_chain)?;
+    expect_faults(&found, read, stale)
+}
+
+/// Tallies on one thread, with a chain where there is no read fault.
+pub fn tallies_and_chains(alloc: Global) -> Result<(), Fault> {
+    expect_tally_and_chain(alloc, ATOMIC_RUN, 0, 0, true)?;
+    expect_tally_and_chain(alloc, SEVEN_NEW_THEN_OLD, 7, 7, false)
 }

@@ -1,0 +1,89 @@
+#!/usr/bin/env python3
+"""Tries what the tests have to catch, since no contract says it.
+
+usage: must_catch.py [NAME ..]       where each NAME is must-catch/NAME.edit; without one it tries all
+
+An edit has a line 'tests: CRATE', lines 'catches: TEST', and then, as the edits of must-fail, lines 'file: PATH', from the top of
+the repository, and pairs of lines 'old: TEXT' and 'new: TEXT', each old text once in its file. It is applied to a copy of the
+crates, whose tests are built without a proof and run. Each of the named tests has to fail. The last line is 'N passed, M failed'.
+"""
+import os
+import shutil
+import subprocess
+import sys
+import tempfile
+
+HERE = os.path.dirname(os.path.abspath(__file__))
+TOP = os.path.dirname(HERE)
+
+
+def parsed(lines):
+    """The crate of the tests, the tests that have to fail, and file, old and new text of each change."""
+    crate, tests, changes, file, old = None, [], [], None, None
+    for line in lines:
+        word, _, text = line.rstrip("\n").partition(": ")
+        if word == "tests":
+            crate = text
+        elif word == "catches":
+            tests.append(text)
+        elif word == "file":
+            file = text
+        elif word == "old":
+            old = text
+        elif word == "new":
+            changes.append((file, old, text))
+    return crate, tests, changes
+
+
+def copied(folder):
+    """Copies what the crates are built from."""
+    built = shutil.ignore_patterns("out")
+    shutil.copytree(os.path.join(TOP, "crates"), os.path.join(folder, "crates"), ignore=built)
+    for name in ("crates.txt", "HANDLES"):
+        shutil.copy(os.path.join(TOP, name), folder)
+
+
+def applied(folder, changes):
+    """What hinders the changes in the copy, or nothing where they were made."""
+    for file, old, new in changes:
+        path = os.path.join(folder, file)
+        with open(path, encoding="utf-8") as source:
+            text = source.read()
+        if text.count(old) != 1:
+            return f"'{old}' is in {file} {text.count(old)} times"
+        with open(path, "w", encoding="utf-8") as source:
+            source.write(text.replace(old, new))
+    return None
+
+
+def fault(name):
+    """Why an edit is not caught, or nothing where it is."""
+    with open(os.path.join(HERE, "must-catch", name + ".edit"), encoding="utf-8") as edit:
+        crate, tests, changes = parsed(edit)
+    with tempfile.TemporaryDirectory() as folder:
+        copied(folder)
+        hindered = applied(folder, changes)
+        if hindered:
+            return hindered
+        where = os.path.join(folder, "crates", crate)
+        run = subprocess.run(["rt", "try", "--test"], cwd=where, capture_output=True, text=True)
+    said = (run.stdout + run.stderr).splitlines()
+    if not any(line.startswith("test result: ") for line in said):
+        return "the tests did not run:\n" + "\n".join(said[-20:])
+    missed = [test for test in tests if f"test {test} ... FAILED" not in said]
+    return f"it passes {', '.join(missed)}" if missed else None
+
+
+def main():
+    names = sys.argv[1:] or sorted(file[:-5] for file in os.listdir(os.path.join(HERE, "must-catch")) if file.endswith(".edit"))
+    passed = 0
+    for name in names:
+        why = fault(name)
+        passed += not why
+        print(f"must-catch: {name}: {why or 'caught'}", flush=True)
+    print(f"{passed} passed, {len(names) - passed} failed")
+    return passed != len(names)
+
+
+if __name__ == "__main__":
+    sys.exit(main())
