@@ -1,0 +1,165 @@
+"""Packs snapjudge for machines without Rattle: an archive, a Debian package and a Python wheel, and a file of their checksums.
+
+usage: package.py PREFIX LIBRARY SUM DATE DIST
+
+PREFIX has what is installed, LIBRARY is the folder of libsnapjudge.a and libsnapjudge.so, SUM is that of the program's sources, and
+DATE, in seconds since 1970, becomes the time of each file. The names are sorted, and owners and modes are the same everywhere: what is
+packed depends on nothing but these words and the files themselves.
+"""
+import gzip
+import hashlib
+import io
+import os
+import pathlib
+import re
+import sys
+import tarfile
+import tempfile
+
+TOP = pathlib.Path(__file__).resolve().parent.parent
+sys.path.insert(0, str(TOP / "ffi/python"))
+import snapjudge_backend  # noqa: E402
+
+NAME = "snapjudge"
+VERSION = (TOP / "VERSION").read_text().strip()
+DOCUMENTS = "share/doc/snapjudge"
+# What a recorder's folder may have besides, as a compiler or Python leaves it, is not packed.
+RECORDERS = {".c", ".cpp", ".csv", ".h", ".hpp", ".java", ".py", ".rs", ".sh"}
+OUR_TESTS = {"test.sh", "listings.py"}
+
+PKG_CONFIG = f"""prefix=${{pcfiledir}}/../..
+libdir=${{prefix}}/lib
+includedir=${{prefix}}/include
+
+Name: {NAME}
+Description: The judge of recorded histories of a single-writer board
+Version: {VERSION}
+Libs: -L${{libdir}} -lsnapjudge
+Cflags: -I${{includedir}}
+"""
+
+CONTROL = """Package: snapjudge
+Version: {version}
+Architecture: amd64
+Maintainer: {maintainer}
+Installed-Size: {kilobytes}
+Depends: libc6 (>= {glibc})
+Section: devel
+Priority: optional
+Description: judge of recorded histories of a single-writer board
+ It says whether a recorded run of a store-collect object or of an atomic
+ snapshot was atomic, only regular, or neither, and prints a legal order, or
+ the first fault of each kind. What it says is proved. The judge as a library
+ for C, C++ and Python and recorders to copy are with it.
+"""
+
+
+def glibc_of(*files):
+    """The earliest version of the C library that has all that these files call of it."""
+    found = [int(it) for file in files for it in re.findall(rb"\0GLIBC_2\.(\d+)", file)]
+    return f"2.{max(found)}"
+
+
+def is_recorder(path):
+    return path.is_file() and path.suffix in RECORDERS and path.name not in OUR_TESTS
+
+
+def tree_of(prefix, library, proved):
+    """What is packed: the bytes of each file by its place under a prefix, all but the wheel and the checksums."""
+    tree = {str(it.relative_to(prefix)): it.read_bytes() for it in prefix.rglob("*") if it.is_file()}
+    for name in ("libsnapjudge.a", "libsnapjudge.so"):
+        tree[f"lib/{name}"] = (library / name).read_bytes()
+    tree["lib/pkgconfig/snapjudge.pc"] = PKG_CONFIG.encode()
+    tree["include/snapjudge.h"] = (TOP / "ffi/c/snapjudge.h").read_bytes()
+    for it in filter(is_recorder, (TOP / "ffi/record").rglob("*")):
+        tree[f"share/snapjudge/record/{it.relative_to(TOP / 'ffi/record')}"] = it.read_bytes()
+    for it in (TOP / "README.md", TOP / "LICENSE", *TOP.glob("docs/*.md"), *TOP.glob("examples/*")):
+        tree[f"{DOCUMENTS}/{it.relative_to(TOP)}"] = it.read_bytes()
+    tree[f"{DOCUMENTS}/PROVED"] = proved.encode()
+    return tree
+
+
+def sums_of(files):
+    """The checksums of these files, as `sha256sum -c` reads them."""
+    return "".join(f"{hashlib.sha256(data).hexdigest()}  {name}\n" for name, data in sorted(files.items())).encode()
+
+
+def with_sums(tree):
+    return {**tree, f"{DOCUMENTS}/SHA256SUMS": sums_of(tree)}
+
+
+def is_executable(name):
+    return name.endswith(".sh") or "bin" in name.split("/") or name.endswith("libexec/snapjudge/snapjudge")
+
+
+def tar_of(tree, front, date):
+    """The archive of a tree, with each folder before what is in it. Each name has the front before it."""
+    folders = {str(above) for name in tree for above in pathlib.PurePosixPath(name).parents} - {"."}
+    packed = io.BytesIO()
+    with gzip.GzipFile("", "wb", 9, packed, mtime=0) as whole, tarfile.open(fileobj=whole, mode="w", format=tarfile.USTAR_FORMAT) as archive:
+        for name in sorted({*folders, *tree}):
+            member = tarfile.TarInfo(f"{front}{name}")
+            member.mtime = date
+            if name in folders:
+                member.type, member.mode = tarfile.DIRTYPE, 0o755
+                archive.addfile(member)
+            else:
+                member.size, member.mode = len(tree[name]), 0o755 if is_executable(name) else 0o644
+                archive.addfile(member, io.BytesIO(tree[name]))
+    return packed.getvalue()
+
+
+def deb_of(tree, glibc, date):
+    """The Debian package of a tree, which is an archive of archives. Debian has a folder of its own for what completes in zsh."""
+    tree = {name.replace("/zsh/site-functions/", "/zsh/vendor-completions/"): data for name, data in tree.items()}
+    tree = with_sums(tree)
+    holder = re.search(r"^Copyright \(c\) \d+ (.+)$", (TOP / "LICENSE").read_text(), re.MULTILINE).group(1)
+    kilobytes = sum(len(it) + 1023 for it in tree.values()) // 1024
+    control = CONTROL.format(version=VERSION, maintainer=holder, kilobytes=kilobytes, glibc=glibc).encode()
+    members = {
+        "debian-binary": b"2.0\n",
+        "control.tar.gz": tar_of({"control": control}, "./", date),
+        "data.tar.gz": tar_of({f"usr/{name}": data for name, data in tree.items()}, "./", date),
+    }
+    packed = b"!<arch>\n"
+    for name, data in members.items():
+        packed += f"{name:<16}{date:<12}{0:<6}{0:<6}{100644:<8}{len(data):<10}`\n".encode() + data + b"\n" * (len(data) % 2)
+    return packed
+
+
+def wheel_of(library, date):
+    """The name and the bytes of the wheel, which pip takes wherever the C library is not older than what it calls."""
+    platform = f"manylinux_{glibc_of(library.read_bytes()).replace('.', '_')}_x86_64"
+    with tempfile.TemporaryDirectory() as room:
+        name = snapjudge_backend.write_wheel(room, str(library), platform, date)
+        return name, pathlib.Path(room, name).read_bytes()
+
+
+def main(words):
+    prefix, library = map(pathlib.Path, words[:2])
+    total, date, dist = words[2], int(words[3]), pathlib.Path(words[4])
+    if snapjudge_backend.VERSION != VERSION:
+        sys.exit(f"snapjudge: there is no package: ffi/python is of version {snapjudge_backend.VERSION}, and the program of {VERSION}")
+    program = prefix / "libexec/snapjudge/snapjudge"
+    glibc = glibc_of(program.read_bytes(), (library / "libsnapjudge.so").read_bytes())
+    said = program.with_name("snapjudge.version").read_text()
+    tree = tree_of(prefix, library, f"{said}sources {total}\nglibc {glibc} or later\n")
+    name, wheel = wheel_of(library / "libsnapjudge.so", date)
+    tree[f"share/snapjudge/{name}"] = wheel
+    folder = f"{NAME}-{VERSION}-x86_64"
+    made = {
+        f"{folder}.tar.gz": tar_of({f"{folder}/{place}": data for place, data in with_sums(tree).items()}, "", date),
+        f"{NAME}_{VERSION}_amd64.deb": deb_of(tree, glibc, date),
+        name: wheel,
+    }
+    made["SHA256SUMS"] = sums_of(made)
+    dist.mkdir(parents=True, exist_ok=True)
+    for it, data in made.items():
+        (dist / f"{it}.new").write_bytes(data)
+    for it in made:
+        os.replace(dist / f"{it}.new", dist / it)
+        print(f"{dist / it}")
+
+
+if __name__ == "__main__":
+    main(sys.argv[1:])
