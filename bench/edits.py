@@ -1,0 +1,60 @@
+#!/usr/bin/env python3
+"""Processor seconds that each wrong body of a crate takes in the gate, the dearest first.
+
+usage: edits.py CRATE ..        (after ./build, which leaves the libraries below the crates)
+
+As in the gate, the edits of a crate are tried one after another over one folder of kept work. So the first of them takes besides
+what the proof of the crate takes.
+"""
+import importlib.machinery
+import importlib.util
+import os
+import resource
+import shutil
+import sys
+import tempfile
+
+TOP = os.path.dirname(os.path.dirname(os.path.abspath(__file__)))
+RT = os.path.realpath(shutil.which("rt") or sys.exit("there is no rt on the path"))
+sys.path.insert(0, os.path.dirname(RT))
+import rtlib  # noqa: E402
+
+
+def toolchain():
+    """The toolchain's command `rt`, as a module."""
+    loader = importlib.machinery.SourceFileLoader("rt_command", RT)
+    module = importlib.util.module_from_spec(importlib.util.spec_from_loader("rt_command", loader))
+    loader.exec_module(module)
+    return module
+
+
+def processor_seconds():
+    used = resource.getrusage(resource.RUSAGE_CHILDREN)
+    return used.ru_utime + used.ru_stime
+
+
+def main(names):
+    if not names:
+        print(__doc__, file=sys.stderr)
+        return 5
+    rtlib.guarded()
+    rt = toolchain()
+    rows = []
+    for name in names:
+        crate = rt.Crate(f"{TOP}/crates/{name}", TOP, {})
+        with tempfile.TemporaryDirectory() as kept:
+            before = processor_seconds()
+            proved = rt.checked(crate, {}, ["--jobs", "1"], kept).returncode == 0
+            rows.append((processor_seconds() - before, name, "the crate", "proved" if proved else "NOT PROVED"))
+            for edit in rt.edits_of(crate)[0]:
+                before = processor_seconds()
+                refused, said = rt.must_fail(crate, edit, ["--jobs", "1"], kept)
+                rows.append((processor_seconds() - before, name, os.path.basename(edit)[:-5], "refused" if refused else said))
+    print("| seconds | crate | wrong body | |\n|---|---|---|---|")
+    for seconds, name, edit, said in sorted(rows, reverse=True):
+        print(f"| {seconds:.1f} | {name} | {edit} | {said} |")
+    return 0
+
+
+if __name__ == "__main__":
+    sys.exit(main(sys.argv[1:]))
