@@ -220,10 +220,10 @@ same_files() {
   diff <(sort "$1/$documents/SHA256SUMS") <(sed 's,/zsh/vendor-completions/,/zsh/site-functions/,' "$2/$documents/SHA256SUMS" | sort)
 }
 
-# refuses STATUS WORD ..: package ends with this status, and leaves nothing
+# refuses STATUS REASON WORD ..: package ends with this status, says why, and leaves nothing
 refuses() {
-  ./package "${@:2}" "$room/none"
-  [ $? = "$1" ] && ! [ -e "$room/none" ]
+  ./package "${@:3}" "$room/none" 2>"$room/err"
+  [ $? = "$1" ] && grep -qF -- "$2" "$room/err" && ! [ -e "$room/none" ]
 }
 
 # try_prefix NAME PREFIX: what was installed there
@@ -242,9 +242,9 @@ done
 
 printf '#!/bin/sh\nexit 127\n' >"$room/later"
 chmod +x "$room/later"
-try "a program for later processors" refuses 1 --program "$room/later"
-try "a word that is none" refuses 5 --words
-try "two folders" refuses 5 "$room/other"
+try "a program for later processors" refuses 1 "does not run on every x86-64" "${words[@]}" --program "$room/later"
+try "a word that is none" refuses 5 "usage: package" "${words[@]}" --words
+try "two folders" refuses 5 "usage: package" "${words[@]}" "$room/other"
 
 mkdir "$room/first" "$room/second"
 if [ -z "$dist" ]; then
