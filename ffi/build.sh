@@ -29,6 +29,6 @@ ar x "$kit/c/liblibc_c.a"
 ld -r -o judge.o ./*.o
 objcopy --keep-global-symbol=snapjudge_check --keep-global-symbol=snapjudge_version judge.o
 rm -f "$out/libsnapjudge.a"
-ar rcs "$out/libsnapjudge.a" judge.o
+ar rcsD "$out/libsnapjudge.a" judge.o
 cc -shared -Wl,-soname,libsnapjudge.so -Wl,-z,noexecstack -o "$out/libsnapjudge.so" judge.o
 echo "built $out/libsnapjudge.a and $out/libsnapjudge.so"

@@ -139,12 +139,13 @@ calls_from_c() {
   libraries=$(PKG_CONFIG_LIBDIR=$1/lib/pkgconfig pkg-config --libs snapjudge) || return
   [ "$(PKG_CONFIG_LIBDIR=$1/lib/pkgconfig pkg-config --modversion snapjudge)" = "$version" ] || return
   (
-    cd "$room" || exit
-    cc -std=c11 -O1 $flags -o shared "$top/ffi/c/test_examples.c" $libraries -pthread &&
+    # beside its own header the caller would not take that of the prefix
+    cp ffi/c/test_examples.c "$room" && cd "$room" || exit
+    cc -std=c11 -O1 $flags -o shared test_examples.c $libraries -pthread &&
       LD_LIBRARY_PATH=$1/lib ./shared "$top"/examples/*.csv || exit
     env -u LD_LIBRARY_PATH ./shared "$top"/examples/*.csv
     [ $? = 127 ] || exit 1
-    cc -std=c11 -O1 $flags -o static "$top/ffi/c/test_examples.c" "$1/lib/libsnapjudge.a" -pthread && ./static "$top"/examples/*.csv
+    cc -std=c11 -O1 $flags -o static test_examples.c "$1/lib/libsnapjudge.a" -pthread && ./static "$top"/examples/*.csv
   )
 }
 
@@ -211,7 +212,7 @@ installs() {
 }
 
 removes() {
-  PATH=$PATH:/usr/sbin:/sbin dpkg --root="$room/root" -r snapjudge && is_empty "$room/root"
+  [ -x "$room/root/usr/bin/snapjudge" ] && PATH=$PATH:/usr/sbin:/sbin dpkg --root="$room/root" -r snapjudge && is_empty "$room/root"
 }
 
 # The two packages have the same files, of the same bytes, but for the folder of what completes in zsh.
@@ -219,10 +220,10 @@ same_files() {
   diff <(sort "$1/$documents/SHA256SUMS") <(sed 's,/zsh/vendor-completions/,/zsh/site-functions/,' "$2/$documents/SHA256SUMS" | sort)
 }
 
-# refuses STATUS WORD ..: package ends with this status, and leaves nothing
+# refuses STATUS REASON WORD ..: package ends with this status, says why, and leaves nothing
 refuses() {
-  ./package "${@:2}" "$room/none"
-  [ $? = "$1" ] && ! [ -e "$room/none" ]
+  ./package "${@:3}" "$room/none" 2>"$room/err"
+  [ $? = "$1" ] && grep -qF -- "$2" "$room/err" && ! [ -e "$room/none" ]
 }
 
 # try_prefix NAME PREFIX: what was installed there
@@ -241,8 +242,9 @@ done
 
 printf '#!/bin/sh\nexit 127\n' >"$room/later"
 chmod +x "$room/later"
-try "a program for later processors" refuses 1 --program "$room/later"
-try "a word that is none" refuses 5 --words
+try "a program for later processors" refuses 1 "does not run on every x86-64" "${words[@]}" --program "$room/later"
+try "a word that is none" refuses 5 "usage: package" "${words[@]}" --words
+try "two folders" refuses 5 "usage: package" "${words[@]}" "$room/other"
 
 mkdir "$room/first" "$room/second"
 if [ -z "$dist" ]; then
