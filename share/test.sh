@@ -264,15 +264,52 @@ awk -v room="$room/documents" '
     printf "%s", script > (room "/" number ".sh")
     printf "%s", expected > (room "/" number ".out")
   }
-  inside && /^\$ / { if (script == "") ours = /^\$ (\.\/snapjudge|cat) /; script = script substr($0, 3) "\n"; next }
+  inside && /^\$ / { if (script == "") ours = /^\$ (\.\/snapjudge|cat|printf|head|awk) /; script = script substr($0, 3) "\n"; next }
   inside { expected = expected $0 "\n" }
-' "$top/README.md" "$top/docs/GUIDE.md"
+' "$top/README.md" "$top/docs/GUIDE.md" "$top/docs/FORMAT.md"
 cd documents || exit 1
 for script in *.sh; do
   expect "$(cat "$script")" 0 "$(cat "${script%.sh}.out")
 " sh -c 'sh "$1" 2>&1 || :' sh "$script"
 done
 cd ..
+
+# The reader that was written from docs/FORMAT.md counts each example as the judge does, and names the same fault of a broken
+# text. The texts are the page's own: those of its commands, a fault of each name among them.
+reads_as_judged() {
+  judged=$("$top/snapjudge" check <"$2" | head -n 1)
+  status=0
+  case $judged in refused*) status=3 ;; esac
+  expect "a second reader of $1" "$status" "$judged
+" sh -c 'python3 "$1" <"$2"' sh "$examples/reader.py" "$2"
+}
+if has python3; then
+  for history in "$examples"/*.csv; do
+    reads_as_judged "${history##*/}" "$history"
+  done
+  sed -n 's/^\$ \(.*\) | \.\/snapjudge [a-z]*$/\1/p' "$top/docs/FORMAT.md" >texts
+  while IFS= read -r text; do
+    sh -c "$text" >text
+    reads_as_judged "$text" text
+    cat out >>named
+  done <texts
+  for word in header fields toomany at event process op data repeated busy idle otherop writer number toolong; do
+    expect "a text whose fault is $word" 0 "" grep -q ": $word\$" named
+  done
+  plain='event,process,op,data\n' stamped='at,event,process,op,data\n'
+  for text in '' '\n\n' '\357\273\277\357\273\277'"$plain" '\357\273\277'"$plain" "$plain"'"begin","0",view,""' "$plain"'begin,0,view' \
+    "$plain"'begin,0,"vi"ew,' "$plain"'be"gin,0,view,' "$plain"'"be""gin",0,view,' "$plain"'begin,0,view,"' "$plain\n \n" \
+    "$plain"'begin,00,view,' "$plain"'begin,+1,view,' "$plain"'begin,,view,' "$plain"'begin,0,update,' "$plain"'begin,0,update,0:0:1' \
+    "$plain"'begin,0,update,256:1:1' "$plain"'begin,0,update,255:1:4294967295' "$plain"'begin,0,update,0:1:4294967296' \
+    "$plain"'begin,0,update,0:1:1 1:1:1' "$plain"'begin,0,update,0:1:1:1' "$plain"'begin,0,view,\rend,0,view,0:1:1  1:1:1\r' \
+    "$plain"'begin,0,view,\rend,0,view,1:1:1 1:1:1\r' "$plain"'begin,0,view,\r\nend,0,view,0:1:1 7:2:0\r\n' "$plain"'end,0,update,\nx' \
+    "$plain"'begin,0,update,0:1:1\nend,0,update,\nbegin,0,update,0:1:1' "$stamped"'18446744073709551615,begin,0,view,' \
+    "$stamped"'18446744073709551616,begin,0,view,' "$stamped"'5,begin,0,view,\n1,begin,0,view,\n5,end,0,view' \
+    "$stamped"'5,begin,0,view,\n1,begin,0,view,\n3,begin,0,view,' "$stamped"'2,end,0,view,\n1,end,1,view,\n0,begin,0,update,0:2:0'; do
+    printf "$text" >text
+    reads_as_judged "$text" text
+  done
+fi
 
 on_path="
 To find it by name, put $room/pre fix/bin on your PATH.
