@@ -274,7 +274,7 @@ for script in *.sh; do
 done
 cd ..
 
-# The reader that was written from docs/FORMAT.md counts each example as the judge does, and names the same fault of a broken
+# The reader that follows docs/FORMAT.md counts each example as the judge does, and names the same fault of a broken
 # text. The texts are the page's own: those of its commands, a fault of each name among them.
 reads_as_judged() {
   judged=$("$top/snapjudge" check <"$2" | head -n 1)
