@@ -8,7 +8,7 @@ trap 'rm -rf "$room"' EXIT
 passed=0
 failed=0
 
-mkdir -p "$room"/{bin,tree/{share,ffi/record,sweep,examples}}
+mkdir -p "$room"/{bin,tree/{share,ffi/record,sweep,examples/systems}}
 cp "$top/test" "$room/tree"
 echo "regular yes" >"$room/tree/examples/one.report"
 touch "$room/tree/examples/one.csv"
@@ -39,10 +39,12 @@ stub gate share/test-gate.sh 'echo "3 passed, 0 failed"'
 stub proofs ../bin/rt 'echo "3 passed, 0 failed"'
 stub build build 'exit 0'
 stub examples snapjudge 'cat examples/one.report'
+stub pages share/test-pages.py 'echo "3 passed, 0 failed"'
 stub launcher share/test.sh 'echo "3 passed, 0 failed"'
 stub library ffi/test.sh 'echo "3 passed, 0 failed"'
 stub package share/test-package.sh 'echo "3 passed, 0 failed"'
 stub recorders ffi/record/test.sh 'echo "3 passed, 0 failed"'
+stub systems examples/systems/test.sh 'echo "3 passed, 0 failed"'
 stub scans sweep/scans.sh 'echo "3 passed, 0 failed"'
 stub sweep sweep/test.sh 'echo "3 passed, 0 failed"'
 
@@ -62,8 +64,8 @@ expect() {
   fi
 }
 
-parts="gate proofs build examples launcher library package recorders scans sweep"
-expect "all parts pass" 0 "26 passed, 0 failed"
+parts="gate proofs build examples pages launcher library package recorders systems scans sweep"
+expect "all parts pass" 0 "32 passed, 0 failed"
 for part in $parts; do
   for way in fails dies "ends early" "denies its failure" "denies its status"; do
     case "$part $way" in
@@ -76,12 +78,12 @@ for part in $parts; do
   rm "$room/$part"
 done
 echo fails >"$room/build"
-expect "parts that need the program are named" 1 "6 passed, 8 failed" "launcher was not reached: there is no program"
+expect "parts that need the program are named" 1 "6 passed, 10 failed" "launcher was not reached: there is no program"
 rm "$room/build"
 echo skips >"$room/recorders"
-expect "what is skipped is said" 0 "25 passed, 0 failed, 1 skipped" "recorders: java: skipped, there is no javac"
+expect "what is skipped is said" 0 "31 passed, 0 failed, 1 skipped" "recorders: java: skipped, there is no javac"
 rm "$room/recorders"
-for file in share/test.sh ffi/test.sh share/test-package.sh ffi/record/test.sh sweep/scans.sh sweep/test.sh build; do
+for file in share/test-pages.py share/test.sh ffi/test.sh share/test-package.sh ffi/record/test.sh examples/systems/test.sh sweep/scans.sh sweep/test.sh build; do
   mv "$room/tree/$file" "$room/kept"
   expect "$file is not there" 1 '[0-9]+ passed, [1-9][0-9]* failed'
   mv "$room/kept" "$room/tree/$file"
