@@ -80,16 +80,17 @@ objects() {
   try "$language: a program that dies" unjudged "$@"
 }
 
-# worked COMMAND ..: the tests of misuse pass, and the text of the worked run is as it is to be
+# worked COMMAND ..: the tests of misuse pass, and the texts of both worked runs are as they are to be
 worked() {
-  rm -f worked.csv
-  timeout 60 "$@" worked.csv && cmp worked.csv "$here/worked.csv"
+  rm -f worked.csv failed.csv
+  timeout 60 "$@" worked.csv failed.csv && cmp worked.csv "$here/worked.csv" && cmp failed.csv "$here/failed.csv"
 }
 
-# the judge finds what is wrong in the worked run
+# the judge finds what is wrong in the worked run, and nothing in that of failed calls
 judged() {
   "$program" check <"$here/worked.csv" >report
-  [ $? = 2 ] && [ "$(tail -n 1 report)" = "integrity 1 first view 5 entry 0:2:99" ]
+  [ $? = 2 ] && [ "$(tail -n 1 report)" = "integrity 1 first view 5 entry 0:2:99" ] &&
+    "$program" check --quiet --views 4 <"$here/failed.csv"
 }
 
 # each listing of the guide stands in the file of its language
