@@ -49,9 +49,16 @@ run() {
   timeout 300 "$@" "$program" "$object" $runs >objects && cat objects
 }
 
+# all VERDICT OBJECT COMMAND ..: each run of the object has this verdict
+all() {
+  local verdict=$1 object=$2 expected="$2: atomic 0, regular 0, neither 0, refused 0"
+  shift 2
+  run "$object" "$@" && [ "$(cat objects)" = "${expected/$verdict 0/$verdict $runs}" ]
+}
+
 # atomic COMMAND ..: each run of the double collect is atomic
 atomic() {
-  run double "$@" && [ "$(cat objects)" = "double: atomic $runs, regular 0, neither 0, refused 0" ]
+  all atomic double "$@"
 }
 
 # caught COMMAND ..: each run of the naive collect is regular, and some are not atomic
@@ -159,6 +166,30 @@ try_python() {
   try "listings of the guide" listings
 }
 
+# Several processes, failed calls, and the page on both.
+page=$here/../../docs/RECORDING.md
+
+# the commands of the page print what stands below them
+commands() {
+  mkdir -p page/ffi
+  ln -sfn "$here" page/ffi/record
+  ln -sfn "$program" page/snapjudge
+  python3 -B "$here/commands.py" "$page" page
+}
+
+try_processes() {
+  local way processes=(python3 -B "$here/python/processes.py") failing=(python3 -B "$here/python/failing.py")
+  try "processes: logs and what is wrong with them" python3 -B -W error "$here/python/misuse_logs.py" "$program"
+  try "processes: board under a lock" all atomic lock "${processes[@]}"
+  try "processes: naive collect is caught" caught "${processes[@]}"
+  for way in drop again unknown; do
+    try "failed updates: $way" all atomic "$way" "${failing[@]}"
+  done
+  try "failed updates: one that is ended as done" all neither end "${failing[@]}"
+  try "processes: commands of the page" commands
+  try "processes: listings of the page" python3 -B "$here/listings.py" "$page" "$here" python
+}
+
 if [ -x "$program" ]; then
   try "worked run" judged
   has cc C && try_c
@@ -166,6 +197,7 @@ if [ -x "$program" ]; then
   has rustc Rust && try_rust
   has javac Java && has java Java && try_java
   has python3 Python && try_python
+  has python3 "processes and failed updates" && try_processes
 else
   echo "record: there is no program $program"
   failed=$((failed + 1))
