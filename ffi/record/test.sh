@@ -49,16 +49,9 @@ run() {
   timeout 300 "$@" "$program" "$object" $runs >objects && cat objects
 }
 
-# all VERDICT OBJECT COMMAND ..: each run of the object has this verdict
-all() {
-  local verdict=$1 object=$2 expected="$2: atomic 0, regular 0, neither 0, refused 0"
-  shift 2
-  run "$object" "$@" && [ "$(cat objects)" = "${expected/$verdict 0/$verdict $runs}" ]
-}
-
 # atomic COMMAND ..: each run of the double collect is atomic
 atomic() {
-  all atomic double "$@"
+  run double "$@" && [ "$(cat objects)" = "double: atomic $runs, regular 0, neither 0, refused 0" ]
 }
 
 # caught COMMAND ..: each run of the naive collect is regular, and some are not atomic
@@ -166,8 +159,23 @@ try_python() {
   try "listings of the guide" listings
 }
 
-# Several processes, failed calls, and the page on both.
+# ---- several processes, failed calls, and the page on both
+
 page=$here/../../docs/RECORDING.md
+
+# prints LINE COMMAND ..: the command prints this line, and no other
+prints() {
+  local line=$1
+  shift
+  timeout 300 "$@" >printed && cat printed && [ "$(cat printed)" = "$line" ]
+}
+
+# each run of a naive collect by processes is regular, and some are not atomic
+naive_processes() {
+  timeout 300 python3 -B "$here/python/processes.py" "$program" naive 20 >printed && cat printed &&
+    [[ $(cat printed) =~ ^naive:\ atomic\ ([0-9]+),\ regular\ ([0-9]+),\ neither\ 0,\ refused\ 0$ ]] &&
+    [ $((BASH_REMATCH[1] + BASH_REMATCH[2])) = 20 ] && [ "${BASH_REMATCH[2]}" -gt 0 ]
+}
 
 # the commands of the page print what stands below them
 commands() {
@@ -178,14 +186,14 @@ commands() {
 }
 
 try_processes() {
-  local way processes=(python3 -B "$here/python/processes.py") failing=(python3 -B "$here/python/failing.py")
+  local way all="atomic 20, regular 0, neither 0, refused 0" none="atomic 0, regular 0, neither 20, refused 0"
   try "processes: logs and what is wrong with them" python3 -B -W error "$here/python/misuse_logs.py" "$program"
-  try "processes: board under a lock" all atomic lock "${processes[@]}"
-  try "processes: naive collect is caught" caught "${processes[@]}"
+  try "processes: board under a lock" prints "lock: $all" python3 -B "$here/python/processes.py" "$program" lock 20
+  try "processes: naive collect is caught" naive_processes
   for way in drop again unknown; do
-    try "failed updates: $way" all atomic "$way" "${failing[@]}"
+    try "failed updates: $way" prints "$way: $all" python3 -B "$here/python/failing.py" "$program" "$way" 20
   done
-  try "failed updates: one that is ended as done" all neither end "${failing[@]}"
+  try "failed updates: one that is ended as done" prints "end: $none" python3 -B "$here/python/failing.py" "$program" end 20
   try "processes: commands of the page" commands
   try "processes: listings of the page" python3 -B "$here/listings.py" "$page" "$here" python
 }

@@ -136,6 +136,14 @@ int main(int count, char **words) {
     snaprecord_drop_update(snaprecord_log_of(&r, 0));
     expect("a view dropped as an update", fault_of(&r) == SNAPRECORD_NOT_OPEN);
 
+    snaprecord_open(&r, 1, 1, 1);
+    for (uint32_t i = 0; i < 100; i++) {
+        expect("a dropped update leaves its room", snaprecord_begin_update(snaprecord_log_of(&r, 0), 0, 1) == 1);
+        snaprecord_drop_update(snaprecord_log_of(&r, 0));
+    }
+    expect("a dropped update leaves its entry", snaprecord_log_of(&r, 0)->entry_count == 0);
+    snaprecord_close(&r);
+
     snaprecord_open(&r, 1, 2, 4);
     expect("a component that is too high is refused", !snaprecord_begin_update(snaprecord_log_of(&r, 0), 2, 1));
     expect("a component that is too high", fault_of(&r) == SNAPRECORD_COMPONENT);

@@ -1,5 +1,6 @@
 // The recorder's texts of two worked runs, written to the files that are named, and the fault of each misuse.
 // usage: misuse FILE FILE
+#define _GLIBCXX_ASSERTIONS // the indexes of vectors are tested
 #include "snaprecord.hpp"
 #include <fstream>
 #include <iostream>
@@ -127,6 +128,13 @@ int main(int count, char **words) {
         Recorder r(1, 1, 4);
         if (r.log(0).begin_view()) r.log(0).drop_update();
         expect("a view dropped as an update", fault_of(r) == Fault::not_open);
+    }
+    {
+        Recorder r(1, 1, 1);
+        for (int i = 0; i < 100; i++) {
+            expect("a dropped update leaves its room", r.log(0).begin_update(0, 1) == 1);
+            r.log(0).drop_update();
+        }
     }
     {
         Recorder r(1, 2, 4);

@@ -98,9 +98,17 @@ public final class Misuse {
         expect("the table of values", recorder.table().equals(List.of(-1L, List.of("a", 1), "b")));
 
         SnapRecorder numbers = new SnapRecorder(1, 1, 4);
+        for (int i = 0; i < 100; i++) {
+            expect("a dropped update leaves its room", numbers.log(0).beginUpdate(0, "dropped") == 1);
+            numbers.log(0).dropUpdate();
+        }
         update(numbers.log(0), 0, (1L << 32) - 1);
         viewAny(numbers.log(0), (1L << 32) - 1);
-        expect("numbers of 32 bits", numbers.text().endsWith("\n3,end,0,view,0:1:4294967295\n") && numbers.table().isEmpty());
+        expect("numbers of 32 bits", numbers.text().endsWith(",end,0,view,0:1:4294967295\n") && numbers.table().isEmpty());
+
+        SnapRecorder wide = new SnapRecorder(1, 1, 4);
+        update(wide.log(0), 0, 1L << 32);
+        expect("a number of 33 bits", wide.text().contains(",begin,0,update,0:1:0\n") && wide.table().equals(List.of(1L << 32)));
 
         for (Object value : new Object[] {null, new byte[] {1}, new Object[] {1}}) {
             SnapRecorder written = new SnapRecorder(1, 1, 4);

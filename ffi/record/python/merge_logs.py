@@ -213,7 +213,7 @@ def chosen(calls, part):
             call.require(call.op == "update" or call.ended is None or components == set(call.shown), "part")
         return calls
     updates = [call for call in calls if call.op == "update" and part.issuperset(call.shown)]
-    views = [call for call in calls if call.op == "view" and call.ended is not None and part.issubset(call.shown)]
+    views = [call for call in calls if call.op == "view" and part.issubset(call.shown)]  # a pending one shows nothing
     for view in views:
         view.shown = {component: value for component, value in view.shown.items() if component in part}
     return updates + views

@@ -1,5 +1,6 @@
 """The histories of worked logs, what the judge says of them, and what is wrong with logs. usage: misuse_logs.py PROGRAM"""
 import os
+import random
 import subprocess
 import sys
 import tempfile
@@ -30,6 +31,32 @@ def judge(history, *words):
     """The status of the program and the lines of its report."""
     done = subprocess.run([PROGRAM, "check", *words], input=history.encode(), stdout=subprocess.PIPE, timeout=60)
     return done.returncode, done.stdout.decode().splitlines()
+
+
+def right_logs(draw, skew, step, pause):
+    """Logs of three processes and a right object: each call takes effect at a moment from its begin to its end. The clock of a process
+    is off by at most skew, and its readings are multiples of step. More than pause lies between two calls.
+    """
+    calls = []
+    for process in range(3):
+        now, off = draw.randrange(100), draw.randint(0, 2 * skew)
+        for i in range(8):
+            begun = now + pause + 1 + draw.randrange(20)
+            done = begun + draw.randrange(30)
+            now = done + draw.randrange(30)
+            calls.append((done, process, i, [(time + off) // step * step for time in (begun, now)]))
+    board, logs = [0, 0, 0], [[], [], []]
+    for _, process, i, readings in sorted(calls):
+        if i % 2:
+            logs[process] += view(process, *readings, " ".join(f"{k}:{value}" for k, value in enumerate(board)))
+        else:
+            board[process] = i + 1
+            logs[process] += update(process, *readings, f"{process}:{i + 1}")
+    return [log_of(*lines) for lines in logs]
+
+
+def merged_calls(logs, error):
+    return merge([call for log in logs for call in read_log("", log.decode(), error)[0]])[0]
 
 
 class Logs(unittest.TestCase):
@@ -98,6 +125,18 @@ class Logs(unittest.TestCase):
         history = self.merged(logs, "--error", "10")
         self.assertEqual(history, f"{STAMPED}\n0,begin,0,update,0:1:7\n49,begin,1,view,\n102,end,0,update,\n143,end,1,view,\n")
         self.assertEqual(judge(history, "--quiet")[0], 0)
+
+    def test_right_runs(self):
+        """A right run is never called wrong, whatever the clocks are, where the error is that of the clocks and their step."""
+        draw = random.Random(1)
+        for skew, step in ((0, 1), (0, 25), (40, 1), (40, 25)):
+            error = skew + step if skew else 0
+            for _ in range(25):
+                logs = right_logs(draw, skew, step, 2 * error + step)
+                self.assertEqual(judge(merged_calls(logs, error), "--quiet")[0], 0)
+        trusted = [judge(merged_calls(right_logs(draw, 40, 1, 0), 0), "--quiet")[0] for _ in range(25)]
+        self.assertEqual(set(trusted) - {0, 1, 2}, set())
+        self.assertGreater(sum(status > 0 for status in trusted), 10)
 
     def test_error_at_the_start_of_the_clock(self):
         history = self.merged([log_of(*update(0, 0, 1, "0:7"))], "--error", "3")
@@ -181,7 +220,7 @@ class Logs(unittest.TestCase):
             self.assertRefusedLine("fields", *view(0, 0, 1, ""), line)
 
     def test_numbers(self):
-        for reading in ("", "-1", "+1", "01", "1.5", "1e9", " 1", "\u0661", str(1 << 64), "9" * 30):
+        for reading in ("", "-1", "+1", "01", "1.5", "1e9", " 1", "1\u0661", str(1 << 64), "9" * 30):
             self.assertRefusedLine("ns", f"{reading},begin,0,view,")
         for process in ("", "-1", "00", "65536"):
             self.assertRefusedLine("process", f"1,begin,{process},view,")
@@ -246,7 +285,8 @@ class Logs(unittest.TestCase):
 
     def test_readings_that_lie_too_far_apart(self):
         self.merged([log_of(*view(0, 0, (1 << 63) - 1, ""))])
-        self.assertRefused("", "span", [log_of(*view(0, 0, 1 << 63, ""))])
+        self.merged([log_of(*view(0, 0, 1, ""), f"{(1 << 63) - 1},begin,0,view,")])
+        self.assertRefused("", "span", [log_of(*view(0, 0, 1, ""), f"{1 << 63},begin,0,view,")])
 
     def test_words_of_the_command(self):
         for words in (["--error", "-1"], ["--part", "256"], ["--part", ""], ["--initial", "x"], ["--unknown"]):
