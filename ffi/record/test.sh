@@ -177,6 +177,19 @@ naive_processes() {
     [ $((BASH_REMATCH[1] + BASH_REMATCH[2])) = 20 ] && [ "${BASH_REMATCH[2]}" -gt 0 ]
 }
 
+# c_processes OBJECT STATUS ..: of 20 runs of processes in C each has one of these statuses, and some run has the first
+c_processes() {
+  local object=$1 i statuses=
+  shift
+  for ((i = 0; i < 20; i++)); do
+    timeout 60 ./processes_c "$object" && python3 -B "$here/python/merge_logs.py" 0.log 1.log 2.log >history.csv || return 1
+    "$program" check --quiet --views 300 <history.csv >/dev/null
+    statuses+="$?"
+  done
+  echo "$object: $statuses"
+  [[ $statuses != *[!"$*"]* && $statuses == *$1* ]]
+}
+
 # the commands of the page print what stands below them
 commands() {
   mkdir -p page/ffi
@@ -190,12 +203,17 @@ try_processes() {
   try "processes: logs and what is wrong with them" python3 -B -W error "$here/python/misuse_logs.py" "$program"
   try "processes: board under a lock" prints "lock: $all" python3 -B "$here/python/processes.py" "$program" lock 20
   try "processes: naive collect is caught" naive_processes
+  if has cc "processes in C"; then
+    try "processes: C builds" cc -std=gnu11 -Wall -Wextra -pedantic -Werror -O2 -o processes_c "$here/c/processes.c" -pthread
+    try "processes: C, board under a lock" c_processes lock 0
+    try "processes: C, naive collect is caught" c_processes naive 1 0
+  fi
   for way in drop again unknown; do
     try "failed updates: $way" prints "$way: $all" python3 -B "$here/python/failing.py" "$program" "$way" 20
   done
   try "failed updates: one that is ended as done" prints "end: $none" python3 -B "$here/python/failing.py" "$program" end 20
   try "processes: commands of the page" commands
-  try "processes: listings of the page" python3 -B "$here/listings.py" "$page" "$here" python
+  try "processes: listings of the page" python3 -B "$here/listings.py" "$page" "$here" python c
 }
 
 if [ -x "$program" ]; then
