@@ -10,7 +10,7 @@ import sys
 
 TOP = os.path.dirname(os.path.dirname(os.path.abspath(__file__)))
 # What the gate tries beside the crates, and the files at the top that belong to it.
-FOLDERS = {"examples": [], "share": ["examples", "build", "install", "package", "snapjudge", "test", "README.md", "docs"], "ffi": ["docs/OWN-OBJECT.md"], "sweep": []}
+FOLDERS = {"examples": [], "share": ["examples", "build", "install", "package", "snapjudge", "test", "README.md", "docs"], "ffi": ["docs/OWN-OBJECT.md", "docs/RECORDING.md"], "sweep": []}
 
 # The folders that builds leave.
 BUILT = {"out", "build", "target", "__pycache__"}

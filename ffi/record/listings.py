@@ -1,4 +1,5 @@
-"""Tells each listing of a guide that does not stand, line for line, in a file of its language. usage: listings.py GUIDE FOLDER"""
+"""Tells each listing of a guide that does not stand, line for line, in a file of its language. usage: listings.py GUIDE FOLDER
+[LANGUAGE ..], where there has to be one of each of these languages, or of all"""
 import pathlib
 import re
 import sys
@@ -16,4 +17,4 @@ lost = [
 for language, text in lost:
     print(f"no file of {language} has this listing:\n{text}")
 print(f"{len(known) - len(lost)} of {len(known)} listings stand in their files")
-sys.exit(bool(lost) or {language for language, _ in known} != set(FOLDERS))
+sys.exit(bool(lost) or {language for language, _ in known} != (set(sys.argv[3:]) or set(FOLDERS)))

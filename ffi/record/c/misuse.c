@@ -1,4 +1,5 @@
-/* The recorder's text of a worked run, written to the file that is named, and the fault of each misuse. usage: misuse FILE */
+/* The recorder's texts of two worked runs, written to the files that are named, and the fault of each misuse.
+ * usage: misuse FILE FILE */
 #include "snaprecord.h"
 
 static int passed, failed;
@@ -25,9 +26,19 @@ static void update(snaprecord *recorder, uint32_t thread, uint32_t component, ui
     if (snaprecord_begin_update(log, component, value)) snaprecord_end_update(log);
 }
 
-static void view(snaprecord *recorder, const uint32_t *values) {
-    snaprecord_log *log = snaprecord_log_of(recorder, 0);
+static void view(snaprecord *recorder, uint32_t thread, const uint32_t *values) {
+    snaprecord_log *log = snaprecord_log_of(recorder, thread);
     if (snaprecord_begin_view(log)) snaprecord_end_view_values(log, values);
+}
+
+static bool is_written(snaprecord *recorder, const char *name) {
+    size_t length;
+    char *text = snaprecord_text(recorder, &length);
+    FILE *file = fopen(name, "wb");
+    bool written = text && file && fwrite(text, 1, length, file) == length && fclose(file) == 0;
+    free(text);
+    snaprecord_close(recorder);
+    return written;
 }
 
 static bool worked(snaprecord *recorder, const char *name) {
@@ -43,20 +54,47 @@ static bool worked(snaprecord *recorder, const char *name) {
     snaprecord_drop_view(viewer);
     begun = begun && snaprecord_begin_view(viewer);
     snaprecord_end_view_values(viewer, (const uint32_t[]){99, 0}); /* nobody wrote 99 */
+    return begun && is_written(recorder, name);
+}
+
+/* An update had no effect and is made again, of another it is not known, and a spare log goes on. */
+static bool failed_calls(snaprecord *recorder, const char *name) {
+    snaprecord_log *writer = snaprecord_log_of(recorder, 0);
+    recorder->initials = (const uint32_t[]){5, 6};
+    bool begun = snaprecord_begin_update(writer, 0, 7) == 1;
+    snaprecord_drop_update(writer);
+    begun = begun && snaprecord_begin_update(writer, 0, 7) == 1;
+    view(recorder, 1, (const uint32_t[]){5, 6});
+    snaprecord_end_update(writer);
+    view(recorder, 1, (const uint32_t[]){7, 6});
+    begun = begun && snaprecord_begin_update(writer, 1, 8) == 1;
+    view(recorder, 1, (const uint32_t[]){7, 8});
+    view(recorder, 2, (const uint32_t[]){7, 8});
+    return begun && is_written(recorder, name);
+}
+
+/* A view shows what a dropped update wrote. */
+static bool is_dirty(snaprecord *recorder) {
     size_t length;
+    bool begun = snaprecord_begin_update(snaprecord_log_of(recorder, 0), 0, 9) == 1;
+    view(recorder, 1, (const uint32_t[]){9});
+    snaprecord_drop_update(snaprecord_log_of(recorder, 0));
     char *text = snaprecord_text(recorder, &length);
-    FILE *file = fopen(name, "wb");
-    bool written = text && file && fwrite(text, 1, length, file) == length && fclose(file) == 0;
+    bool is_told = begun && text && !strcmp(text, "at,event,process,op,data\n1,begin,1,view,\n2,end,1,view,0:1:9\n");
     free(text);
     snaprecord_close(recorder);
-    return begun && written;
+    return is_told;
 }
 
 int main(int count, char **words) {
     static snaprecord r;
-    if (count < 2) return 2;
+    if (count < 3) return 2;
     snaprecord_open(&r, 2, 2, 6);
     expect("worked run", worked(&r, words[1]));
+    snaprecord_open(&r, 3, 2, 6);
+    expect("failed calls", failed_calls(&r, words[2]));
+    snaprecord_open(&r, 2, 1, 2);
+    expect("a dropped update that was seen", is_dirty(&r));
 
     expect("limits of threads", !snaprecord_open(&r, 0, 1, 1) && r.fault == SNAPRECORD_LIMITS && !snaprecord_open(&r, 65537, 1, 1));
     expect("limits of components", !snaprecord_open(&r, 1, 257, 1) && r.fault == SNAPRECORD_LIMITS);
@@ -89,6 +127,23 @@ int main(int count, char **words) {
     snaprecord_end_update(snaprecord_log_of(&r, 0));
     expect("an end of another kind", fault_of(&r) == SNAPRECORD_NOT_OPEN);
 
+    snaprecord_open(&r, 1, 1, 4);
+    snaprecord_drop_update(snaprecord_log_of(&r, 0));
+    expect("an update dropped without a begin", fault_of(&r) == SNAPRECORD_NOT_OPEN);
+
+    snaprecord_open(&r, 1, 1, 4);
+    expect("a view", snaprecord_begin_view(snaprecord_log_of(&r, 0)));
+    snaprecord_drop_update(snaprecord_log_of(&r, 0));
+    expect("a view dropped as an update", fault_of(&r) == SNAPRECORD_NOT_OPEN);
+
+    snaprecord_open(&r, 1, 1, 1);
+    for (uint32_t i = 0; i < 100; i++) {
+        expect("a dropped update leaves its room", snaprecord_begin_update(snaprecord_log_of(&r, 0), 0, 1) == 1);
+        snaprecord_drop_update(snaprecord_log_of(&r, 0));
+    }
+    expect("a dropped update leaves its entry", snaprecord_log_of(&r, 0)->entry_count == 0);
+    snaprecord_close(&r);
+
     snaprecord_open(&r, 1, 2, 4);
     expect("a component that is too high is refused", !snaprecord_begin_update(snaprecord_log_of(&r, 0), 2, 1));
     expect("a component that is too high", fault_of(&r) == SNAPRECORD_COMPONENT);
@@ -107,15 +162,23 @@ int main(int count, char **words) {
         snaprecord_open(&r, 1, 2, 4);
         update(&r, 0, 1, 5);
         update(&r, 0, 1, 5);
-        if (views) view(&r, (const uint32_t[]){0, 5});
+        if (views) view(&r, 0, (const uint32_t[]){0, 5});
         expect("one value twice", fault_of(&r) == (views ? SNAPRECORD_SAME_VALUE : SNAPRECORD_FINE));
     }
 
     snaprecord_open(&r, 1, 1, 4);
     r.initial = 5;
     update(&r, 0, 0, 5);
-    view(&r, (const uint32_t[]){5});
+    view(&r, 0, (const uint32_t[]){5});
     expect("the initial value", fault_of(&r) == SNAPRECORD_SAME_VALUE);
+
+    for (uint32_t component = 0; component < 2; component++) {
+        snaprecord_open(&r, 1, 2, 4);
+        r.initials = (const uint32_t[]){4, 5};
+        update(&r, 0, component, 5);
+        view(&r, 0, (const uint32_t[]){5, 5});
+        expect("the initial value of a component", fault_of(&r) == (component ? SNAPRECORD_SAME_VALUE : SNAPRECORD_FINE));
+    }
 
     printf("%d passed, %d failed\n", passed, failed);
     return failed != 0;

@@ -11,6 +11,7 @@
  *     if (!snaprecord_begin_view(log)) return;
  *     board_view(values);
  *     snaprecord_end_view_values(log, values);                        // or snaprecord_end_view, of numbers
+ *                                                                     // a call that failed: snaprecord_drop_view, _drop_update
  *
  *     char *text = snaprecord_text(&recorder, &length);               // after the threads were joined
  *     if (!text) die(recorder.message);
@@ -94,7 +95,8 @@ typedef struct snaprecord {
     _Atomic uint32_t misuse;           /* the first one: fault, and process times 16 */
     alignas(128) uint32_t threads;
     uint32_t components, calls;
-    uint32_t initial; /* the value that each component has at first, 0 unless you set it before the threads start */
+    uint32_t initial;         /* the value that each component has at first, 0 unless you set it before the threads start */
+    const uint32_t *initials; /* or the first value of each component, where you set it: yours until snaprecord_text is done */
     snaprecord_log *logs;
     snaprecord_fault fault; /* why snaprecord_open or snaprecord_text failed, in a word and in a sentence */
     char message[200];
@@ -123,6 +125,7 @@ static inline bool snaprecord_open(snaprecord *recorder, uint32_t threads, uint3
     atomic_init(&recorder->stopped, false);
     atomic_init(&recorder->misuse, 0);
     recorder->initial = 0;
+    recorder->initials = NULL;
     recorder->logs = NULL;
     recorder->fault = SNAPRECORD_FINE;
     recorder->message[0] = 0;
@@ -241,7 +244,7 @@ static inline void snaprecord_end_view(snaprecord_log *log, const snaprecord_ent
 }
 
 /* The end of a view that shows these values, one for each component. snaprecord_text finds the number of each by its value,
- * so the updates of a component have to write values that differ from each other and from `initial`. */
+ * so the updates of a component have to write values that differ from each other and from the one that it has at first. */
 static inline void snaprecord_end_view_values(snaprecord_log *log, const uint32_t *values) {
     uint64_t stamp = snaprecord_tick(log);
     if (!snaprecord_may_end(log, SNAPRECORD_VIEWING)) return;
@@ -250,11 +253,20 @@ static inline void snaprecord_end_view_values(snaprecord_log *log, const uint32_
     snaprecord_end(log, stamp, SNAPRECORD_END_VIEW_VALUES, count);
 }
 
-/* In place of the end of a view that gave no answer, because it gave up: it is left out of the history. */
-static inline void snaprecord_drop_view(snaprecord_log *log) {
-    if (!snaprecord_may_end(log, SNAPRECORD_VIEWING)) return;
+static inline bool snaprecord_dropped(snaprecord_log *log, snaprecord_state state) {
+    if (!snaprecord_may_end(log, state)) return false;
     log->length--;
     log->state = SNAPRECORD_IDLE;
+    return true;
+}
+
+/* In place of the end of a view that gave no answer, because it gave up: it is left out of the history. */
+static inline void snaprecord_drop_view(snaprecord_log *log) { snaprecord_dropped(log, SNAPRECORD_VIEWING); }
+
+/* In place of the end of an update that had no effect, and can have none any more: it is left out of the history, and the next
+ * update of its component gets its number. Where that is not known, end nothing, and use this log no more. */
+static inline void snaprecord_drop_update(snaprecord_log *log) {
+    if (snaprecord_dropped(log, SNAPRECORD_UPDATING)) log->begun[log->entries[--log->entry_count].component]--;
 }
 
 /* ---- after the threads were joined */
@@ -276,9 +288,14 @@ typedef struct {
     uint64_t *begun;             /* by component and number: the stamp of the begin */
     snaprecord_written *written; /* by component and value */
     bool by_values;              /* some view tells values */
-    uint32_t initial;
+    const snaprecord *recorder;
     size_t room;                 /* how long the text is at most */
 } snaprecord_table;
+
+/* The value that a component has at first. */
+static inline uint32_t snaprecord_initial(const snaprecord *recorder, uint32_t component) {
+    return recorder->initials ? recorder->initials[component] : recorder->initial;
+}
 
 static inline bool snaprecord_tabulate(snaprecord *recorder, snaprecord_table *table) {
     uint32_t counts[SNAPRECORD_COMPONENTS] = {0}, total = 0;
@@ -321,7 +338,7 @@ static inline bool snaprecord_tabulate(snaprecord *recorder, snaprecord_table *t
     for (uint32_t i = 0; i < total; i++) {
         const snaprecord_written *one = &table->written[i];
         bool is_twice = i && one[-1].component == one->component && one[-1].value == one->value;
-        if (!is_twice && one->value != recorder->initial) continue;
+        if (!is_twice && one->value != snaprecord_initial(recorder, one->component)) continue;
         recorder->fault = SNAPRECORD_SAME_VALUE;
         snprintf(recorder->message, sizeof recorder->message,
                  "component %" PRIu32 " got the value %" PRIu32 " %s, so a view's value has no one number: make the values "
@@ -335,7 +352,7 @@ static inline bool snaprecord_tabulate(snaprecord *recorder, snaprecord_table *t
 /* The number of the value that a view shows. One that nobody wrote gets the last number that had begun when the view ended:
  * the judge then says `integrity`, and no more of this entry by itself. */
 static inline uint32_t snaprecord_number(const snaprecord_table *table, const snaprecord_entry *entry, uint64_t ended) {
-    if (entry->value == table->initial) return 0;
+    if (entry->value == snaprecord_initial(table->recorder, entry->component)) return 0;
     uint32_t first = table->first[entry->component], end = table->first[entry->component + 1];
     uint32_t low = first, high = end;
     while (low < high) {
@@ -380,7 +397,7 @@ static inline char *snaprecord_text(snaprecord *recorder, size_t *length) {
         [SNAPRECORD_COMPONENT] = "named a component that is too high, or entries that do not rise",
     };
     uint32_t misuse = atomic_load(&recorder->misuse);
-    snaprecord_table table = {.initial = recorder->initial};
+    snaprecord_table table = {.recorder = recorder};
     char *text = NULL;
     *length = 0;
     if (misuse) {

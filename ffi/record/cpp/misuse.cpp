@@ -1,4 +1,6 @@
-// The recorder's text of a worked run, written to the file that is named, and the fault of each misuse. usage: misuse FILE
+// The recorder's texts of two worked runs, written to the files that are named, and the fault of each misuse.
+// usage: misuse FILE FILE
+#define _GLIBCXX_ASSERTIONS // the indexes of vectors are tested
 #include "snaprecord.hpp"
 #include <fstream>
 #include <iostream>
@@ -55,9 +57,37 @@ static std::string worked() {
     return recorder.text();
 }
 
+// An update had no effect and is made again, of another it is not known, and a spare log goes on.
+static std::string failed_calls() {
+    Recorder recorder(3, 2, 6);
+    recorder.initials = {5, 6};
+    Log &writer = recorder.log(0), &viewer = recorder.log(1), &spare = recorder.log(2);
+    expect("an update begins", writer.begin_update(0, 7) == 1);
+    writer.drop_update();
+    expect("a dropped update's number is used again", writer.begin_update(0, 7) == 1);
+    view(viewer, {5, 6});
+    writer.end_update();
+    view(viewer, {7, 6});
+    expect("an update that stays pending", writer.begin_update(1, 8) == 1);
+    view(viewer, {7, 8});
+    view(spare, {7, 8});
+    return recorder.text();
+}
+
+// A view shows what a dropped update wrote.
+static std::string dirty() {
+    Recorder recorder(2, 1, 2);
+    if (!recorder.log(0).begin_update(0, 9)) return "";
+    view(recorder.log(1), {9});
+    recorder.log(0).drop_update();
+    return recorder.text();
+}
+
 int main(int count, char **words) {
-    if (count < 2) return 2;
+    if (count < 3) return 2;
     std::ofstream(words[1]) << worked();
+    std::ofstream(words[2]) << failed_calls();
+    expect("a dropped update that was seen", dirty() == "at,event,process,op,data\n1,begin,1,view,\n2,end,1,view,0:1:9\n");
 
     expect("limits of threads", limits(0, 1, 1) == Fault::limits && limits(65537, 1, 1) == Fault::limits);
     expect("limits of components", limits(1, 257, 1) == Fault::limits);
@@ -90,6 +120,23 @@ int main(int count, char **words) {
         expect("an end of another kind", fault_of(r) == Fault::not_open);
     }
     {
+        Recorder r(1, 1, 4);
+        r.log(0).drop_update();
+        expect("an update dropped without a begin", fault_of(r) == Fault::not_open);
+    }
+    {
+        Recorder r(1, 1, 4);
+        if (r.log(0).begin_view()) r.log(0).drop_update();
+        expect("a view dropped as an update", fault_of(r) == Fault::not_open);
+    }
+    {
+        Recorder r(1, 1, 1);
+        for (int i = 0; i < 100; i++) {
+            expect("a dropped update leaves its room", r.log(0).begin_update(0, 1) == 1);
+            r.log(0).drop_update();
+        }
+    }
+    {
         Recorder r(1, 2, 4);
         expect("a component that is too high is refused", r.log(0).begin_update(2, 1) == 0);
         expect("a component that is too high", fault_of(r) == Fault::component);
@@ -103,6 +150,23 @@ int main(int count, char **words) {
         Recorder r(1, 2, 4);
         view(r.log(0), {0, 0, 0});
         expect("more values than components", fault_of(r) == Fault::component);
+    }
+    {
+        Recorder r(1, 2, 4);
+        view(r.log(0), {0});
+        expect("fewer values than components", fault_of(r) == Fault::part);
+    }
+    {
+        Recorder r(1, 2, 4);
+        r.initials = {4};
+        expect("fewer initial values than components", fault_of(r) == Fault::initials);
+    }
+    for (std::uint32_t component = 0; component < 2; component++) {
+        Recorder r(1, 2, 4);
+        r.initials = {4, 5};
+        update(r.log(0), component, 5);
+        view(r.log(0), {5, 5});
+        expect("the initial value of a component", fault_of(r) == (component ? Fault::same_value : Fault::none));
     }
     {
         Recorder r(2, 2, 4);

@@ -9,7 +9,7 @@
 //     log.end_update();
 //     if (!log.begin_view()) return;
 //     board.view(values);
-//     log.end_view_values(values);                             // or end_view, of numbers
+//     log.end_view_values(values);                             // or end_view, of numbers; of a call that failed drop_..
 //
 //     std::string text = recorder.text();                      // after the threads were joined; throws snaprecord::Error
 //
@@ -55,7 +55,9 @@ enum class Fault : std::uint32_t {
     after_full,  // a call was made although its begin was refused
     component,   // a component is too high, or the entries of a view do not rise
     two_writers, // two threads updated one component
-    same_value   // views tell values, and a component got one value twice, or its initial one
+    same_value,  // views tell values, and a component got one value twice, or its initial one
+    part,        // a view tells the values of fewer components than there are
+    initials     // there are initial values, and not as many as components
 };
 
 class Error : public std::runtime_error {
@@ -86,12 +88,16 @@ class alignas(128) Log {
     void end_view(const std::vector<Entry> &shown) { end_view(shown.data(), shown.size()); }
 
     // The end of a view that shows these values, of component 0 and so on. Recorder::text finds the number of each by its
-    // value, so the updates of a component have to write values that differ from each other and from Recorder::initial.
+    // value, so the updates of a component have to write values that differ from each other and from the one that it has at first.
     void end_view_values(const std::uint32_t *values, std::size_t count);
     void end_view_values(const std::vector<std::uint32_t> &values) { end_view_values(values.data(), values.size()); }
 
     // In place of the end of a view that gave no answer, because it gave up: it is left out of the history.
     void drop_view();
+
+    // In place of the end of an update that had no effect, and can have none any more: it is left out of the history, and the
+    // next update of its component gets its number. Where that is not known, end nothing, and use this log no more.
+    void drop_update();
 
   private:
     friend class Recorder;
@@ -107,6 +113,7 @@ class alignas(128) Log {
     bool misused(Fault fault);
     bool may_begin();
     bool may_end(State expected);
+    bool dropped(State expected);
     void begin(State next, Kind kind, std::uint32_t count);
     void end(std::uint64_t stamp, Kind kind, std::uint32_t count);
 
@@ -143,12 +150,17 @@ class Recorder {
 
     // The value that each component has at first; set it before the threads start.
     std::uint32_t initial = 0;
+    // Or the first value of each component.
+    std::vector<std::uint32_t> initials;
 
     // The history that all logs hold, after the threads were joined. The logs stand one after the other: the judge puts the
-    // events in the order of their stamps. Throws Error of the first misuse, of two_writers or of same_value.
+    // events in the order of their stamps. Throws Error of the first misuse, of initials, two_writers or same_value.
     std::string text() const {
         const std::uint32_t first = misuse.load();
         if (first != 0) throw Error(Fault(first % 16), "thread " + std::to_string(first / 16) + sentence(Fault(first % 16)));
+        if (!initials.empty() && initials.size() != component_count)
+            throw Error(Fault::initials, "there are " + std::to_string(initials.size()) + " initial values for " +
+                                             std::to_string(component_count) + " components");
         const Table table = tabulate();
         std::string text = "at,event,process,op,data\n";
         for (const Log &log : logs)
@@ -169,6 +181,7 @@ class Recorder {
         case Fault::nested: return " began a call before its last one had ended";
         case Fault::not_open: return " ended a call that it had not begun";
         case Fault::after_full: return " made a call although begin had refused it: a log was full";
+        case Fault::part: return " told the values of fewer components than there are: record each part by a recorder of its own";
         default: return " named a component that is too high, or entries that do not rise";
         }
     }
@@ -191,7 +204,7 @@ class Recorder {
                 table.begun[component].push_back(event.stamp);
                 if (!by_values) continue;
                 const bool is_new = table.numbers.emplace(std::pair(component, value), number).second;
-                if (!is_new || value == initial)
+                if (!is_new || value == initial_of(component))
                     throw Error(Fault::same_value, "component " + std::to_string(component) + " got the value " +
                                                        std::to_string(value) + (is_new ? " that it has at first" : " twice") +
                                                        ", so a view's value has no one number: make the values differ, or end "
@@ -200,10 +213,12 @@ class Recorder {
         return table;
     }
 
+    std::uint32_t initial_of(std::uint32_t component) const { return initials.empty() ? initial : initials[component]; }
+
     // The number of the value that a view shows. One that nobody wrote gets the last number that had begun when the view ended:
     // the judge then says `integrity`, and no more of this entry by itself.
     std::uint32_t number(const Table &table, const Entry &entry, std::uint64_t ended) const {
-        if (entry.value == initial) return 0;
+        if (entry.value == initial_of(entry.component)) return 0;
         const auto found = table.numbers.find({entry.component, entry.value});
         if (found != table.numbers.end()) return found->second;
         const auto &begun = table.begun[entry.component];
@@ -313,8 +328,8 @@ inline void Log::end_view(const Entry *shown, std::size_t count) {
 inline void Log::end_view_values(const std::uint32_t *values, std::size_t count) {
     const std::uint64_t stamp = tick();
     if (!may_end(State::viewing)) return;
-    if (count > recorder->component_count) {
-        misused(Fault::component);
+    if (count != recorder->component_count) {
+        misused(count > recorder->component_count ? Fault::component : Fault::part);
         return;
     }
     const auto shown = static_cast<std::uint32_t>(count);
@@ -322,10 +337,17 @@ inline void Log::end_view_values(const std::uint32_t *values, std::size_t count)
     end(stamp, Kind::end_view_values, shown);
 }
 
-inline void Log::drop_view() {
-    if (!may_end(State::viewing)) return;
+inline bool Log::dropped(State expected) {
+    if (!may_end(expected)) return false;
     length--;
     state = State::idle;
+    return true;
+}
+
+inline void Log::drop_view() { dropped(State::viewing); }
+
+inline void Log::drop_update() {
+    if (dropped(State::updating)) begun[entries[--entry_count].component]--;
 }
 
 } // namespace snaprecord

@@ -1,9 +1,11 @@
 import java.io.IOException;
 import java.nio.file.Files;
 import java.nio.file.Path;
+import java.util.Arrays;
+import java.util.List;
 import java.util.function.Supplier;
 
-/** The recorder's text of a worked run, written to the file that is named, and the fault of each misuse. usage: Misuse FILE */
+/** The recorder's texts of two worked runs, written to the files that are named, and the fault of each misuse. usage: Misuse FILE FILE */
 public final class Misuse {
     static int passed, failed;
 
@@ -34,6 +36,10 @@ public final class Misuse {
         if (log.beginView()) log.endViewValues(values);
     }
 
+    static void viewAny(SnapRecorder.Log log, Object... values) {
+        if (log.beginView()) log.endViewValues(values);
+    }
+
     static String worked() {
         SnapRecorder recorder = new SnapRecorder(2, 2, 6);
         SnapRecorder.Log writer = recorder.log(0), viewer = recorder.log(1);
@@ -48,8 +54,86 @@ public final class Misuse {
         return recorder.text();
     }
 
+    /** An update had no effect and is made again, of another it is not known, and a spare log goes on. */
+    static String failedCalls() {
+        SnapRecorder recorder = new SnapRecorder(3, 2, 6);
+        recorder.initials = new Object[] {5, 6};
+        SnapRecorder.Log writer = recorder.log(0), viewer = recorder.log(1), spare = recorder.log(2);
+        expect("an update begins", writer.beginUpdate(0, 7) == 1);
+        writer.dropUpdate();
+        expect("a dropped update's number is used again", writer.beginUpdate(0, 7) == 1);
+        view(viewer, 5, 6);
+        writer.endUpdate();
+        view(viewer, 7, 6);
+        expect("an update that stays pending", writer.beginUpdate(1, 8) == 1);
+        view(viewer, 7, 8);
+        view(spare, 7, 8);
+        return recorder.text();
+    }
+
+    /** A view shows what a dropped update wrote. */
+    static String dirty() {
+        SnapRecorder recorder = new SnapRecorder(2, 1, 2);
+        expect("an update begins", recorder.log(0).beginUpdate(0, 9) == 1);
+        view(recorder.log(1), 9);
+        recorder.log(0).dropUpdate();
+        return recorder.text();
+    }
+
+    /** Values of several classes: one is equal to another by equals, whole numbers where they are the same number. */
+    static void values() {
+        SnapRecorder recorder = new SnapRecorder(1, 2, 8);
+        SnapRecorder.Log log = recorder.log(0);
+        recorder.initial = "";
+        update(log, 1, -1);
+        if (log.beginUpdate(0, List.of("a", 1)) == 1) log.endUpdate();
+        viewAny(log, Arrays.asList("a", 1), (short) -1);
+        viewAny(log, null, "");
+        viewAny(log, "b", -1L); // nobody wrote "b"
+        if (log.beginView()) log.endView(new long[] {1, 0}, new Object[] {List.of("a", 1), null});
+        String expected = "at,event,process,op,data\n0,begin,0,update,1:1:0\n1,end,0,update,\n2,begin,0,update,0:1:1\n"
+            + "3,end,0,update,\n4,begin,0,view,\n5,end,0,view,0:1:1 1:1:0\n6,begin,0,view,\n7,end,0,view,\n8,begin,0,view,\n"
+            + "9,end,0,view,0:1:2 1:1:0\n10,begin,0,view,\n11,end,0,view,0:1:1\n";
+        expect("values of several classes", recorder.text().equals(expected));
+        expect("the table of values", recorder.table().equals(List.of(-1L, List.of("a", 1), "b")));
+
+        SnapRecorder numbers = new SnapRecorder(1, 1, 4);
+        for (int i = 0; i < 100; i++) {
+            expect("a dropped update leaves its room", numbers.log(0).beginUpdate(0, "dropped") == 1);
+            numbers.log(0).dropUpdate();
+        }
+        update(numbers.log(0), 0, (1L << 32) - 1);
+        viewAny(numbers.log(0), (1L << 32) - 1);
+        expect("numbers of 32 bits", numbers.text().endsWith(",end,0,view,0:1:4294967295\n") && numbers.table().isEmpty());
+
+        SnapRecorder wide = new SnapRecorder(1, 1, 4);
+        update(wide.log(0), 0, 1L << 32);
+        expect("a number of 33 bits", wide.text().contains(",begin,0,update,0:1:0\n") && wide.table().equals(List.of(1L << 32)));
+
+        for (Object value : new Object[] {null, new byte[] {1}, new Object[] {1}}) {
+            SnapRecorder written = new SnapRecorder(1, 1, 4);
+            expect("a value that has no equal is refused", written.log(0).beginUpdate(0, value) == 0);
+            expect("a value that has no equal", faultOf(written::text) == SnapRecorder.Fault.VALUE);
+            SnapRecorder seen = new SnapRecorder(1, 1, 4);
+            viewAny(seen.log(0), value);
+            expect("a view of one", faultOf(seen::text) == (value == null ? null : SnapRecorder.Fault.VALUE));
+            SnapRecorder numbered = new SnapRecorder(1, 1, 4);
+            if (numbered.log(0).beginView()) numbered.log(0).endView(new long[] {1}, new Object[] {value});
+            expect("a number of one", faultOf(numbered::text) == SnapRecorder.Fault.VALUE);
+        }
+
+        SnapRecorder same = new SnapRecorder(1, 1, 4);
+        update(same.log(0), 0, 5);
+        if (same.log(0).beginUpdate(0, Integer.valueOf(5)) == 2) same.log(0).endUpdate();
+        view(same.log(0), 5);
+        expect("one number of two classes", faultOf(same::text) == SnapRecorder.Fault.SAME_VALUE);
+    }
+
     public static void main(String[] words) throws IOException {
         Files.writeString(Path.of(words[0]), worked());
+        Files.writeString(Path.of(words[1]), failedCalls());
+        expect("a dropped update that was seen", dirty().equals("at,event,process,op,data\n1,begin,1,view,\n2,end,1,view,0:1:9\n"));
+        values();
 
         expect("limits of threads", limits(0, 1, 1) == SnapRecorder.Fault.LIMITS && limits(65537, 1, 1) == SnapRecorder.Fault.LIMITS);
         expect("limits of components", limits(1, 257, 1) == SnapRecorder.Fault.LIMITS);
@@ -83,9 +167,37 @@ public final class Misuse {
         expect("a component that is too high is refused", high.log(0).beginUpdate(2, 1) == 0);
         expect("a component that is too high", faultOf(high::text) == SnapRecorder.Fault.COMPONENT);
 
+        SnapRecorder dropped = new SnapRecorder(1, 1, 4);
+        dropped.log(0).dropUpdate();
+        expect("an update dropped without a begin", faultOf(dropped::text) == SnapRecorder.Fault.NOT_OPEN);
+
+        SnapRecorder viewed = new SnapRecorder(1, 1, 4);
+        if (viewed.log(0).beginView()) viewed.log(0).dropUpdate();
+        expect("a view dropped as an update", faultOf(viewed::text) == SnapRecorder.Fault.NOT_OPEN);
+
         SnapRecorder wide = new SnapRecorder(1, 1, 4);
-        expect("a value of 33 bits is refused", wide.log(0).beginUpdate(0, 1L << 32) == 0);
-        expect("a value of 33 bits", faultOf(wide::text) == SnapRecorder.Fault.VALUE);
+        if (wide.log(0).beginView()) wide.log(0).endView(new long[] {1L << 32}, new long[] {1});
+        expect("a number of 33 bits", faultOf(wide::text) == SnapRecorder.Fault.VALUE);
+
+        SnapRecorder part = new SnapRecorder(1, 2, 4);
+        view(part.log(0), 0);
+        expect("fewer values than components", faultOf(part::text) == SnapRecorder.Fault.PART);
+
+        SnapRecorder more = new SnapRecorder(1, 2, 4);
+        view(more.log(0), 0, 0, 0);
+        expect("more values than components", faultOf(more::text) == SnapRecorder.Fault.COMPONENT);
+
+        SnapRecorder few = new SnapRecorder(1, 2, 4);
+        few.initials = new Object[] {4};
+        expect("fewer initial values than components", faultOf(few::text) == SnapRecorder.Fault.INITIALS);
+
+        for (int component = 0; component < 2; component++) {
+            SnapRecorder first = new SnapRecorder(1, 2, 4);
+            first.initials = new Object[] {4, 5};
+            update(first.log(0), component, 5);
+            view(first.log(0), 5, 5);
+            expect("the initial value of a component", faultOf(first::text) == (component == 0 ? null : SnapRecorder.Fault.SAME_VALUE));
+        }
 
         SnapRecorder writers = new SnapRecorder(2, 2, 4);
         update(writers.log(0), 1, 5);

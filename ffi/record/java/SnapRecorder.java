@@ -11,8 +11,11 @@
 import java.util.ArrayList;
 import java.util.Collections;
 import java.util.HashMap;
+import java.util.LinkedHashSet;
 import java.util.List;
 import java.util.Map;
+import java.util.Objects;
+import java.util.Set;
 import java.util.concurrent.atomic.AtomicBoolean;
 import java.util.concurrent.atomic.AtomicLong;
 import java.util.concurrent.atomic.AtomicReference;
@@ -31,14 +34,17 @@ import java.util.concurrent.atomic.AtomicReference;
  * log.endUpdate();
  * if (!log.beginView()) return;
  * long[] values = board.view();
- * log.endViewValues(values);                              // or endView, of numbers
+ * log.endViewValues(values);                              // or endView, of numbers; of a call that failed drop..
  *
  * String text = recorder.text();                          // after the threads were joined
  * </pre>
  *
+ * <p>Values may be of any class with equals and hashCode, as strings, lists and records are. A Byte, Short, Integer and Long are
+ * equal where they are the same number. null in a view is the value that the component has at first.
+ *
  * <p>What the record says: where call A ended before call B began, A happened before B. Each stamp is one getAndIncrement of
  * one AtomicLong; that of a begin is taken last in begin.., that of an end first in end... A thread writes to its own log
- * alone. Nothing is locked or allocated, and nothing throws, while threads run.
+ * alone. Nothing is locked, and nothing throws, while threads run. Nothing is allocated where values are of class long.
  *
  * <p>What it cannot say: the clock orders more calls than the object may, so a fault that needs two calls without such an
  * order can hide.
@@ -57,9 +63,11 @@ public final class SnapRecorder {
         NOT_OPEN("ended a call that it had not begun"),
         AFTER_FULL("made a call although begin had refused it: a log was full"),
         COMPONENT("named a component that is too high"),
-        VALUE("updated with, or showed, a number or a value that has not 32 bits"),
+        VALUE("gave a number that has not 32 bits, or a value that is null or an array: an array equals itself alone, so give a list"),
         TWO_WRITERS("two threads updated it, and a component has one writer"),
-        SAME_VALUE("twice, or has it at first, so a view's value has no one number: make the values differ, or end views with numbers");
+        SAME_VALUE("twice, or has it at first, so a view's value has no one number: make the values differ, or end views with numbers"),
+        PART("told the values of fewer components than there are: record each part by a recorder of its own"),
+        INITIALS("there are initial values, and not as many as components");
 
         private final String sentence;
 
@@ -90,9 +98,12 @@ public final class SnapRecorder {
     private final int components;
     private final int calls;
     private final Log[] logs;
+    private List<Object> table = List.of();
 
     /** The value that each component has at first; set it before the threads start. */
-    public long initial = 0;
+    public Object initial = 0;
+    /** Or, where it is not null, the first value of each component. */
+    public Object[] initials;
 
     /** For so many threads, components, and calls of each thread, at most EVENT_LIMIT / 2 calls in all. */
     public SnapRecorder(int threads, int components, int calls) {
@@ -120,6 +131,7 @@ public final class SnapRecorder {
         private final int[] shownComponents = new int[calls * Math.max(components, 1)];
         private final long[] shownNumbers = new long[shownComponents.length];
         private final long[] shownValues = new long[shownComponents.length];
+        private Object[] shownObjects; // null where there is none: then the value is in shownValues
         private final int[] begun = new int[COMPONENT_LIMIT];
         private int length;
         private int shown;
@@ -150,11 +162,27 @@ public final class SnapRecorder {
 
         private boolean show(int component, long number, long value) {
             if (component < 0 || component >= components) return misused(Fault.COMPONENT);
-            if (number >>> 32 != 0 || value >>> 32 != 0) return misused(Fault.VALUE);
+            if (number >>> 32 != 0) return misused(Fault.VALUE);
             shownComponents[shown] = component;
             shownNumbers[shown] = number;
+            if (shownObjects != null) shownObjects[shown] = null;
             shownValues[shown++] = value;
             return true;
+        }
+
+        private boolean show(int component, long number, Object given) {
+            Object value = plain(given);
+            if (value == null || value.getClass().isArray()) return misused(Fault.VALUE);
+            if (value instanceof Long) return show(component, number, ((Long) value).longValue());
+            if (!show(component, number, 0)) return false;
+            if (shownObjects == null) shownObjects = new Object[shownComponents.length];
+            shownObjects[shown - 1] = value;
+            return true;
+        }
+
+        private Object value(int entry) {
+            Object value = shownObjects == null ? null : shownObjects[entry];
+            return value == null ? (Object) shownValues[entry] : value;
         }
 
         private void begin(State next, int kind) {
@@ -171,12 +199,17 @@ public final class SnapRecorder {
             state = State.IDLE;
         }
 
-        /**
-         * The number of the update, from 1 in each component; or 0: a log is full, or a call was misused. Then make no further
-         * call. Values have 32 bits without a sign.
-         */
+        /** The number of the update, from 1 in each component; or 0: a log is full, or a call was misused. Then make no further call. */
         public int beginUpdate(int component, long value) {
-            if (!mayBegin() || !show(component, 0, value)) return 0;
+            return mayBegin() && show(component, 0, value) ? begun(component) : 0;
+        }
+
+        /** The same of a value of any class. */
+        public int beginUpdate(int component, Object value) {
+            return mayBegin() && show(component, 0, value) ? begun(component) : 0;
+        }
+
+        private int begun(int component) {
             int number = ++begun[component];
             shownNumbers[shown - 1] = number;
             begin(State.UPDATING, BEGIN_UPDATE);
@@ -203,56 +236,126 @@ public final class SnapRecorder {
             end(stamp, END_VIEW);
         }
 
+        /** The same of values of any class; that of a number 0 may be null. */
+        public void endView(long[] numbers, Object[] values) {
+            long stamp = clock.getAndIncrement();
+            if (!mayEnd(State.VIEWING)) return;
+            for (int k = 0; k < numbers.length; k++) if (!show(k, numbers[k], numbers[k] == 0 ? 0 : values[k])) return;
+            end(stamp, END_VIEW);
+        }
+
         /**
          * The end of a view that shows these values, of component 0 and so on. text() finds the number of each by its value, so
          * the updates of a component have to write values that differ from each other and from the initial one.
          */
         public void endViewValues(long[] values) {
             long stamp = clock.getAndIncrement();
-            if (!mayEnd(State.VIEWING)) return;
+            if (!mayEndViewOf(values.length)) return;
             for (int k = 0; k < values.length; k++) if (!show(k, 0, values[k])) return;
             end(stamp, END_VIEW_VALUES);
         }
 
-        /** In place of the end of a view that gave no answer, because it gave up: it is left out of the history. */
-        public void dropView() {
-            if (!mayEnd(State.VIEWING)) return;
+        /** The same of values of any class. null is the value that the component has at first. */
+        public void endViewValues(Object[] values) {
+            long stamp = clock.getAndIncrement();
+            if (!mayEndViewOf(values.length)) return;
+            for (int k = 0; k < values.length; k++) if (values[k] != null && !show(k, 0, values[k])) return;
+            end(stamp, END_VIEW_VALUES);
+        }
+
+        private boolean mayEndViewOf(int count) {
+            return mayEnd(State.VIEWING) && (count == components || misused(count > components ? Fault.COMPONENT : Fault.PART));
+        }
+
+        private boolean dropped(State expected) {
+            if (!mayEnd(expected)) return false;
             length--;
             state = State.IDLE;
+            return true;
+        }
+
+        /** In place of the end of a view that gave no answer, because it gave up: it is left out of the history. */
+        public void dropView() {
+            dropped(State.VIEWING);
+        }
+
+        /**
+         * In place of the end of an update that had no effect, and can have none any more: it is left out of the history, and the
+         * next update of its component gets its number. Where that is not known, end nothing, and use this log no more.
+         */
+        public void dropUpdate() {
+            if (dropped(State.UPDATING)) begun[shownComponents[--shown]]--;
         }
     }
 
     /**
      * The history that all logs hold, after the threads were joined. The logs stand one after the other: the judge puts the
-     * events in the order of their stamps. Throws RecordException of the first misuse, of TWO_WRITERS or of SAME_VALUE.
+     * events in the order of their stamps. Throws RecordException of the first misuse, of INITIALS, TWO_WRITERS or SAME_VALUE.
      */
     public String text() {
         if (misuse.get() != null) throw misuse.get();
+        if (initials != null && initials.length != components) throw new RecordException(Fault.INITIALS, "");
         Updates updates = new Updates();
+        tabulate(updates);
+        Map<Object, Integer> places = new HashMap<>();
+        for (int place = 0; place < table.size(); place++) places.put(table.get(place), place);
         StringBuilder text = new StringBuilder("at,event,process,op,data\n");
-        for (Log log : logs) for (int i = 0; i < log.length; i++) write(text, updates, log, i);
+        for (Log log : logs) for (int i = 0; i < log.length; i++) write(text, updates, places, log, i);
         return text.toString();
     }
 
-    private void write(StringBuilder text, Updates updates, Log log, int i) {
+    /**
+     * The values by the numbers that stand for them in the last text(), from 0 on. It is empty where all values are whole numbers
+     * of 32 bits without a sign: each then stands for itself.
+     */
+    public List<Object> table() {
+        return table;
+    }
+
+    private void tabulate(Updates updates) {
+        Set<Object> values = new LinkedHashSet<>();
+        for (Log log : logs)
+            for (int i = 0; i < log.length; i++)
+                for (int e = log.firsts[i]; e < log.firsts[i + 1]; e++)
+                    if (number(updates, log, i, e) != 0) values.add(log.value(e));
+        boolean standForThemselves = values.stream().allMatch(value -> value instanceof Long && (Long) value >>> 32 == 0);
+        table = standForThemselves ? List.of() : List.copyOf(values);
+    }
+
+    private static long number(Updates updates, Log log, int i, int e) {
+        boolean isByValue = log.kinds[i] == END_VIEW_VALUES;
+        return isByValue ? updates.number(log.shownComponents[e], log.value(e), log.stamps[i]) : log.shownNumbers[e];
+    }
+
+    private static void write(StringBuilder text, Updates updates, Map<Object, Integer> places, Log log, int i) {
         int kind = log.kinds[i];
         text.append(log.stamps[i]).append(WORDS[kind]).append(log.thread).append(OPS[kind]);
         String space = "";
         for (int e = log.firsts[i]; e < log.firsts[i + 1]; e++) {
-            int component = log.shownComponents[e];
-            long value = log.shownValues[e];
-            long number = kind == END_VIEW_VALUES ? updates.number(component, value, log.stamps[i]) : log.shownNumbers[e];
+            long number = number(updates, log, i, e);
             if (number == 0) continue;
-            text.append(space).append(component).append(':').append(number).append(':').append(value);
+            Integer place = places.get(log.value(e));
+            text.append(space).append(log.shownComponents[e]).append(':').append(number).append(':');
+            text.append(place == null ? log.value(e) : place);
             space = " ";
         }
         text.append('\n');
     }
 
+    /** Whole numbers are equal where they are the same number. */
+    private static Object plain(Object value) {
+        boolean isWhole = value instanceof Integer || value instanceof Short || value instanceof Byte;
+        return isWhole ? (Object) ((Number) value).longValue() : value;
+    }
+
+    private boolean isInitial(int component, Object value) {
+        return Objects.equals(value, plain(initials == null ? initial : initials[component]));
+    }
+
     /** All updates, to look numbers up. */
     private final class Updates {
         private final List<List<Long>> begun = new ArrayList<>(); // by component and number: the stamp of the begin
-        private final List<Map<Long, Integer>> numbers = new ArrayList<>(); // by component and value, where views tell values
+        private final List<Map<Object, Integer>> numbers = new ArrayList<>(); // by component and value, where views tell values
 
         private Updates() {
             boolean byValues = false;
@@ -266,13 +369,13 @@ public final class SnapRecorder {
                 for (int i = 0; i < log.length; i++) {
                     if (log.kinds[i] != BEGIN_UPDATE) continue;
                     int component = log.shownComponents[log.firsts[i]];
-                    long value = log.shownValues[log.firsts[i]];
+                    Object value = log.value(log.firsts[i]);
                     if (writers[component] != null && writers[component] != log)
                         throw new RecordException(Fault.TWO_WRITERS, "component " + component + ": ");
                     writers[component] = log;
                     begun.get(component).add(log.stamps[i]);
                     Integer other = numbers.get(component).put(value, begun.get(component).size());
-                    if (byValues && (other != null || value == initial))
+                    if (byValues && (other != null || isInitial(component, value)))
                         throw new RecordException(Fault.SAME_VALUE, "component " + component + " got the value " + value + " ");
                 }
         }
@@ -281,8 +384,8 @@ public final class SnapRecorder {
          * The number of the value that a view shows. One that nobody wrote gets the last number that had begun when the view
          * ended: the judge then says "integrity", and no more of this entry by itself.
          */
-        private int number(int component, long value, long ended) {
-            if (value == initial) return 0;
+        private int number(int component, Object value, long ended) {
+            if (isInitial(component, value)) return 0;
             Integer number = numbers.get(component).get(value);
             if (number != null) return number;
             // no stamp of a begin is that of an end, so the place is negative

@@ -1,4 +1,4 @@
-"""The recorder's text of a worked run, and the fault of each misuse."""
+"""The recorder's texts of worked runs, and the fault of each misuse."""
 import os
 import unittest
 
@@ -39,6 +39,52 @@ class Misuse(unittest.TestCase):
         with open(os.path.join(HERE, "..", "worked.csv")) as file:
             self.assertEqual(recorder.text(), file.read())
 
+    def test_failed_calls(self):
+        recorder = Recorder(3, 2, 6, initials=(5, 6))
+        writer, viewer, spare = recorder.logs
+        self.assertEqual(writer.begin_update(0, 7), 1)
+        writer.drop_update()
+        self.assertEqual(writer.begin_update(0, 7), 1)
+        view(viewer, 5, None)
+        writer.end_update()
+        view(viewer, 7, 6)
+        self.assertEqual(writer.begin_update(1, 8), 1)  # it is not known whether this one had an effect
+        view(viewer, 7, 8)
+        view(spare, 7, 8)
+        with open(os.path.join(HERE, "..", "failed.csv")) as file:
+            self.assertEqual(recorder.text(), file.read())
+
+    def test_dropped_update_that_was_seen(self):
+        recorder = Recorder(2, 1, 2)
+        self.assertEqual(recorder.log(0).begin_update(0, 9), 1)
+        view(recorder.log(1), 9)
+        recorder.log(0).drop_update()
+        self.assertEqual(recorder.text(), "at,event,process,op,data\n1,begin,1,view,\n2,end,1,view,0:1:9\n")
+
+    def test_values_of_several_types(self):
+        recorder = Recorder(1, 2, 8, initial="")
+        log = recorder.log(0)
+        update(log, 1, -1)
+        update(log, 0, ("a", 1))
+        view(log, ("a", 1.0), -1.0)
+        view(log, None, "")
+        view(log, "b", -1)  # nobody wrote "b"
+        self.assertTrue(log.begin_view())
+        log.end_view([(0, 1, ("a", 1)), (1, 0, None)])
+        events = ["begin,0,update,1:1:0", "end,0,update,", "begin,0,update,0:1:1", "end,0,update,", "begin,0,view,"]
+        events += ["end,0,view,0:1:1 1:1:0", "begin,0,view,", "end,0,view,", "begin,0,view,", "end,0,view,0:1:2 1:1:0"]
+        events += ["begin,0,view,", "end,0,view,0:1:1"]
+        expected = ["at,event,process,op,data", *(f"{at},{event}" for at, event in enumerate(events)), ""]
+        self.assertEqual(recorder.text().split("\n"), expected)
+        self.assertEqual(recorder.table, [-1, ("a", 1), "b"])
+
+    def test_numbers_of_32_bits_stand_for_themselves(self):
+        recorder = Recorder(1, 1, 4, initial="first")
+        update(recorder.log(0), 0, (1 << 32) - 1)
+        view(recorder.log(0), (1 << 32) - 1)
+        self.assertTrue(recorder.text().endswith("\n3,end,0,view,0:1:4294967295\n"))
+        self.assertEqual(recorder.table, [])
+
     def test_limits(self):
         for words in ((0, 1, 1), (65537, 1, 1), (1, 257, 1), (2, 1, EVENT_LIMIT // 4 + 1), (1, 1, 0)):
             with self.assertRaises(RecordError) as raised:
@@ -67,9 +113,13 @@ class Misuse(unittest.TestCase):
         recorder = Recorder(1, 1, 4)
         recorder.log(0).end_update()
         self.assertFault(Fault.NOT_OPEN, recorder)
+        for end in ("end_update", "drop_update"):
+            recorder = Recorder(1, 1, 4)
+            self.assertTrue(recorder.log(0).begin_view())
+            getattr(recorder.log(0), end)()
+            self.assertFault(Fault.NOT_OPEN, recorder)
         recorder = Recorder(1, 1, 4)
-        self.assertTrue(recorder.log(0).begin_view())
-        recorder.log(0).end_update()
+        recorder.log(0).drop_update()
         self.assertFault(Fault.NOT_OPEN, recorder)
 
     def test_component(self):
@@ -91,20 +141,43 @@ class Misuse(unittest.TestCase):
             recorder.log(0).end_view([(component, 1, 1)])
             self.assertFault(Fault.COMPONENT, recorder)
 
+    def assertRefusedEntry(self, entry):
+        recorder = Recorder(1, 1, 4)
+        self.assertTrue(recorder.log(0).begin_view())
+        recorder.log(0).end_view([entry])
+        self.assertFault(Fault.VALUE, recorder)
+
+    def test_number(self):
+        for number in (-1, 1 << 32, 1.5, "1", True, False):
+            self.assertRefusedEntry((0, number, 1))
+
     def test_value(self):
-        for value in (-1, 1 << 32, 1.5, "1", True, False):
+        for value in (None, [1], {}, ("a", [])):
             recorder = Recorder(1, 1, 4)
             self.assertEqual(recorder.log(0).begin_update(0, value), 0)
             self.assertFault(Fault.VALUE, recorder)
-            for entry in ((0, value, 1), (0, 1, value)):
+            self.assertRefusedEntry((0, 1, value))
+            if value is not None:
                 recorder = Recorder(1, 1, 4)
-                self.assertTrue(recorder.log(0).begin_view())
-                recorder.log(0).end_view([entry])
+                view(recorder.log(0), value)
                 self.assertFault(Fault.VALUE, recorder)
-            recorder = Recorder(1, 1, 4)
-            self.assertTrue(recorder.log(0).begin_view())
-            recorder.log(0).end_view_values([value])
-            self.assertFault(Fault.VALUE, recorder)
+
+    def test_view_of_a_part(self):
+        for fault, *values in ((Fault.PART, 0), (Fault.COMPONENT, 0, 0, 0), (Fault.COMPONENT, 0, 0, None)):
+            recorder = Recorder(1, 2, 4)
+            view(recorder.log(0), *values)
+            self.assertFault(fault, recorder)
+
+    def test_initial_values(self):
+        self.assertFault(Fault.INITIALS, Recorder(1, 2, 4, initials=[4]))
+        for component in range(2):
+            recorder = Recorder(1, 2, 4, initials=[4, 5])
+            update(recorder.log(0), component, 5)
+            view(recorder.log(0), 5, 5)
+            if component == 1:
+                self.assertFault(Fault.SAME_VALUE, recorder)
+            else:
+                self.assertTrue(recorder.text().endswith("\n3,end,0,view,0:1:5\n"))
 
     def test_two_writers(self):
         recorder = Recorder(2, 2, 4)

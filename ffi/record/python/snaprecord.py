@@ -12,9 +12,11 @@ One file, Python 3.8 or later, no dependencies: copy it into a harness. docs/OWN
     if not log.begin_view():
         return
     values = board.view()
-    log.end_view_values(values)                     # or end_view, of numbers
+    log.end_view_values(values)                     # or end_view, of numbers; of a call that failed drop_..
 
     text = recorder.text()                          # after the threads were joined; raises RecordError
+
+A value may be all that a dict takes as a key, but None. In a view None is the value that the component has at first.
 
 What the record says: where call A ended before call B began, it was so. Each stamp is one step of one clock; that of a begin is
 taken last in begin_.., that of an end first in end_... A thread appends to its own log alone. There is no lock where the
@@ -49,9 +51,11 @@ class Fault(enum.Enum):
     NOT_OPEN = "a call ended that had not begun"
     AFTER_FULL = "a call was made although begin had refused it: a log was full"
     COMPONENT = "a component is too high, or the entries of a view do not rise"
-    VALUE = "a number or a value is not a whole number of 32 bits without a sign"
+    VALUE = "a number is not a whole number of 32 bits without a sign, or a value is None or can't be a key of a dict"
     TWO_WRITERS = "two threads updated one component"
     SAME_VALUE = "views tell values, and a component got one value twice, or its initial one: make them differ, or end views with numbers"
+    PART = "a view tells the values of fewer components than there are: record each part by a recorder of its own"
+    INITIALS = "there are initial values, and not as many as components"
 
 
 class RecordError(Exception):
@@ -94,6 +98,14 @@ def _is_number_below(limit, number):
 
 def _has_32_bits(number):
     return _is_number_below(1 << 32, number)
+
+
+def _is_value(value):
+    try:
+        hash(value)
+    except TypeError:
+        return False
+    return value is not None
 
 
 class Log:
@@ -142,7 +154,7 @@ class Log:
         """The number of the update, from 1 in each component; or 0: a log is full, or a call was misused. Then make no further call."""
         if not self._may_begin():
             return 0
-        if not self._is_component(component) or not _has_32_bits(value):
+        if not self._is_component(component) or not _is_value(value):
             self._misused(Fault.VALUE if self._is_component(component) else Fault.COMPONENT)
             return 0
         number = self._begun[component] = self._begun.get(component, 0) + 1
@@ -166,13 +178,13 @@ class Log:
         self._end_view(self._tick(), _Kind.END_VIEW, tuple(entries))
 
     def end_view_values(self, values):
-        """The end of a view that shows these values, of component 0 and so on; None is the initial one.
+        """The end of a view that shows these values, of each component from 0 on; None is the one that it has at first.
 
         Recorder.text finds the number of each by its value, so the updates of a component have to write values that differ from
-        each other and from Recorder.initial.
+        each other and from the one that it has at first.
         """
         stamp = self._tick()
-        self._end_view(stamp, _Kind.END_VIEW_VALUES, tuple((k, 0, value) for k, value in enumerate(values) if value is not None))
+        self._end_view(stamp, _Kind.END_VIEW_VALUES, tuple((k, 0, value) for k, value in enumerate(values)))
 
     def _end_view(self, stamp, kind, data):
         if not self._may_end(_State.VIEWING):
@@ -180,29 +192,43 @@ class Log:
         components = [component for component, _, _ in data]
         if not all(map(self._is_component, components)) or any(low >= high for low, high in zip(components, components[1:])):
             self._misused(Fault.COMPONENT)
-        elif not all(_has_32_bits(number) and _has_32_bits(value) for _, number, value in data):
+        elif kind is _Kind.END_VIEW_VALUES and len(data) < self._recorder.components:
+            self._misused(Fault.PART)
+        elif not all(_has_32_bits(number) and (_is_value(value) or number == 0 and value is None) for _, number, value in data):
             self._misused(Fault.VALUE)
         else:
             self._end(stamp, kind, data)
 
     def drop_view(self):
         """In place of the end of a view that gave no answer, because it gave up: it is left out of the history."""
-        if self._may_end(_State.VIEWING):
-            self.events.pop()
-            self._state = _State.IDLE
+        self._drop(_State.VIEWING)
+
+    def drop_update(self):
+        """In place of the end of an update that had no effect, and can have none any more: it is left out of the history, and the
+        next update of its component gets its number. Where that is not known, end nothing, and use this log no more.
+        """
+        for component, _, _ in self._drop(_State.UPDATING):
+            self._begun[component] -= 1
+
+    def _drop(self, expected):
+        """What the call had begun with."""
+        if not self._may_end(expected):
+            return ()
+        self._state = _State.IDLE
+        return self.events.pop()[2]
 
 
 class Recorder:
     """For so many threads, components, and calls of each thread, at most EVENT_LIMIT / 2 calls in all.
 
-    `initial` is the value that each component has at first.
+    `initial` is the value that each component has at first; or `initials` has the first value of each.
     """
 
-    def __init__(self, threads, components, calls, initial=0):
+    def __init__(self, threads, components, calls, initial=0, initials=None):
         fits = 1 <= threads <= PROCESS_LIMIT and 0 <= components <= COMPONENT_LIMIT and calls >= 1
         if not fits or 2 * threads * calls > EVENT_LIMIT:
             raise RecordError(Fault.LIMITS, f"{threads} threads of {calls} calls, {components} components")
-        self.components, self.calls, self.initial = components, calls, initial
+        self.components, self.calls, self.initial, self.initials, self.table = components, calls, initial, initials, []
         self._tick, self._stopped, self._misuse = _clock(), False, None
         self.logs = [Log(self, thread) for thread in range(threads)]
 
@@ -213,28 +239,39 @@ class Recorder:
     def text(self):
         """The history that all logs hold. They stand one after the other: the judge puts the events in the order of their stamps.
 
-        Raises RecordError of the first misuse, of TWO_WRITERS or of SAME_VALUE.
+        Whole numbers of 32 bits stand for themselves where all values are such. Else `table` then has the values, by the numbers
+        that stand for them, from 0 on. Raises RecordError of the first misuse, of INITIALS, TWO_WRITERS or SAME_VALUE.
         """
         if self._misuse is not None:
             raise self._misuse
+        if self.initials is not None and len(self.initials) != self.components:
+            raise RecordError(Fault.INITIALS, f"{len(self.initials)} values, {self.components} components")
         begun, numbers = self._updates()
 
         def number_of(component, value, ended):
-            if value == self.initial:
+            if value is None or value == self._initial_of(component):
                 return 0
             # A value that nobody wrote gets the last number that had begun when the view ended: the judge then says
             # `integrity`, and no more of this entry by itself.
             last = max(1, bisect.bisect_left(begun.get(component, []), ended))
             return numbers.get((component, value), last)
 
-        lines = ["at,event,process,op,data"]
+        records = []
         for log in self.logs:
             for stamp, kind, data in log.events:
                 if kind is _Kind.END_VIEW_VALUES:
                     data = [(component, number_of(component, value, stamp), value) for component, _, value in data]
-                shown = " ".join(f"{component}:{number}:{value}" for component, number, value in data if number)
-                lines.append(f"{stamp},{kind.value[0]},{log.thread},{kind.value[1]},{shown}")
+                records.append((f"{stamp},{kind.value[0]},{log.thread},{kind.value[1]},", [entry for entry in data if entry[1]]))
+        values = [value for _, data in records for _, _, value in data]
+        self.table = [] if all(map(_has_32_bits, values)) else list(dict.fromkeys(values))
+        places = {value: place for place, value in enumerate(self.table)}
+        lines = ["at,event,process,op,data"]
+        for front, data in records:
+            lines.append(front + " ".join(f"{component}:{number}:{places.get(value, value)}" for component, number, value in data))
         return "\n".join(lines) + "\n"
+
+    def _initial_of(self, component):
+        return self.initial if self.initials is None else self.initials[component]
 
     def _updates(self):
         """Of each component the stamps of its updates' begins; and by component and value the numbers, where some view tells values."""
@@ -249,6 +286,6 @@ class Recorder:
                     raise RecordError(Fault.TWO_WRITERS, f"component {component}")
                 begun.setdefault(component, []).append(stamp)
                 is_new = numbers.setdefault((component, value), number) == number
-                if by_values and (not is_new or value == self.initial):
+                if by_values and (not is_new or value == self._initial_of(component)):
                     raise RecordError(Fault.SAME_VALUE, f"component {component}, value {value}")
         return begun, numbers

@@ -1,4 +1,4 @@
-//! The recorder's text of a worked run, and the fault of each misuse.
+//! The recorder's texts of two worked runs, and the fault of each misuse.
 mod snaprecord;
 
 use snaprecord::{Entry, Fault, Log, Recorder, EVENT_LIMIT};
@@ -34,6 +34,32 @@ fn a_worked_run_has_its_text() {
     viewer.drop_view();
     view(viewer, &[99, 0]); // nobody wrote 99
     assert_eq!(r.text().as_deref(), Ok(include_str!("../worked.csv")));
+}
+
+#[test]
+fn failed_calls_have_their_text() {
+    let mut r = recorder(3, 2, 6);
+    r.initials = vec![5, 6];
+    let [writer, viewer, spare] = r.logs.as_mut_slice() else { panic!("three logs") };
+    assert_eq!(writer.begin_update(0, 7), Some(1));
+    writer.drop_update();
+    assert_eq!(writer.begin_update(0, 7), Some(1));
+    view(viewer, &[5, 6]);
+    writer.end_update();
+    view(viewer, &[7, 6]);
+    assert_eq!(writer.begin_update(1, 8), Some(1)); // it is not known whether this one had an effect
+    view(viewer, &[7, 8]);
+    view(spare, &[7, 8]);
+    assert_eq!(r.text().as_deref(), Ok(include_str!("../failed.csv")));
+}
+
+#[test]
+fn a_dropped_update_that_was_seen_is_a_value_nobody_wrote() {
+    let mut r = recorder(2, 1, 2);
+    assert_eq!(r.logs[0].begin_update(0, 9), Some(1));
+    view(&mut r.logs[1], &[9]);
+    r.logs[0].drop_update();
+    assert_eq!(r.text().as_deref(), Ok("at,event,process,op,data\n1,begin,1,view,\n2,end,1,view,0:1:9\n"));
 }
 
 #[test]
@@ -78,6 +104,33 @@ fn an_end_without_its_begin_is_told() {
 }
 
 #[test]
+fn an_update_dropped_without_its_begin_is_told() {
+    for views in [false, true] {
+        let mut r = recorder(1, 1, 4);
+        assert!(!views || r.logs[0].begin_view());
+        r.logs[0].drop_update();
+        assert_eq!(r.text(), Err(Fault::NotOpen { thread: 0 }));
+    }
+}
+
+#[test]
+fn a_view_of_a_part_is_told() {
+    let mut r = recorder(1, 2, 4);
+    view(&mut r.logs[0], &[0]);
+    assert_eq!(r.text(), Err(Fault::Part { thread: 0 }));
+    let mut r = recorder(1, 2, 4);
+    view(&mut r.logs[0], &[0, 0, 0]);
+    assert_eq!(r.text(), Err(Fault::Component { thread: 0 }));
+}
+
+#[test]
+fn initial_values_that_are_too_few_are_told() {
+    let mut r = recorder(1, 2, 4);
+    r.initials = vec![4];
+    assert_eq!(r.text(), Err(Fault::Initials));
+}
+
+#[test]
 fn a_wrong_component_is_told() {
     let mut r = recorder(1, 2, 4);
     assert_eq!(r.logs[0].begin_update(2, 1), None);
@@ -109,6 +162,13 @@ fn a_value_that_has_no_one_number_is_told() {
     update(&mut r.logs[0], 0, 5);
     view(&mut r.logs[0], &[5]);
     assert_eq!(r.text(), Err(Fault::SameValue { component: 0, value: 5 }));
+    for component in 0..2 {
+        let mut r = recorder(1, 2, 4);
+        r.initials = vec![4, 5];
+        update(&mut r.logs[0], component, 5);
+        view(&mut r.logs[0], &[5, 5]);
+        assert_eq!(r.text().err(), (component == 1).then_some(Fault::SameValue { component, value: 5 }));
+    }
 }
 
 #[test]

@@ -11,7 +11,7 @@
 //! log.end_update();
 //! if !log.begin_view() { return }
 //! let values = board.view();
-//! log.end_view_values(&values);                                            // or end_view, of numbers
+//! log.end_view_values(&values);                                            // or end_view, of numbers; of a failed call drop_..
 //!
 //! let text = recorder.text()?;                                             // after the threads were joined
 //! ```
@@ -59,6 +59,10 @@ pub enum Fault {
     TwoWriters { component: u32 },
     /// Views tell values, and a component got one value twice, or its initial one.
     SameValue { component: u32, value: u32 },
+    /// A view tells the values of fewer components than there are.
+    Part { thread: usize },
+    /// There are initial values, and not as many as components.
+    Initials,
     /// `logs` has not each log of this recorder, at its place.
     LogMissing,
 }
@@ -83,6 +87,10 @@ impl fmt::Display for Fault {
                 "component {component} got the value {value} twice, or has it at first, so a view's value has no one number: \
                  make the values differ, or end views with numbers"
             ),
+            Fault::Part { thread } => {
+                write!(f, "thread {thread} told the values of fewer components than there are: record each part by a recorder of its own")
+            }
+            Fault::Initials => f.write_str("there are initial values, and not as many as components"),
             Fault::LogMissing => f.write_str("a log is missing, or is not at its place"),
         }
     }
@@ -253,25 +261,42 @@ impl Log {
     }
 
     /// The end of a view that shows these values, of component 0 and so on. `Recorder::text` finds the number of each by its
-    /// value, so the updates of a component have to write values that differ from each other and from `Recorder::initial`.
+    /// value, so the updates of a component have to write values that differ from each other and from the one that it has at first.
     pub fn end_view_values(&mut self, shown: &[u32]) {
         let stamp = self.tick();
         if !self.may_end(State::Viewing) {
             return;
         }
-        if shown.len() > self.components {
-            return self.misused(Fault::Component { thread: self.thread });
+        if shown.len() != self.components {
+            let thread = self.thread;
+            return self.misused(if shown.len() > self.components { Fault::Component { thread } } else { Fault::Part { thread } });
         }
         let first = self.entries.len();
         self.entries.extend((0..).zip(shown).map(|(component, &value)| Entry { component, number: 0, value }));
         self.end(stamp, Kind::EndViewValues, first);
     }
 
-    /// In place of the end of a view that gave no answer, because it gave up: it is left out of the history.
-    pub fn drop_view(&mut self) {
-        if self.may_end(State::Viewing) {
+    fn dropped(&mut self, expected: State) -> bool {
+        let may = self.may_end(expected);
+        if may {
             self.events.pop();
             self.state = State::Idle;
+        }
+        may
+    }
+
+    /// In place of the end of a view that gave no answer, because it gave up: it is left out of the history.
+    pub fn drop_view(&mut self) {
+        self.dropped(State::Viewing);
+    }
+
+    /// In place of the end of an update that had no effect, and can have none any more: it is left out of the history, and the
+    /// next update of its component gets its number. Where that is not known, end nothing, and use this log no more.
+    pub fn drop_update(&mut self) {
+        if self.dropped(State::Updating) {
+            if let Some(entry) = self.entries.pop() {
+                self.begun[entry.component as usize] -= 1;
+            }
         }
     }
 }
@@ -281,8 +306,11 @@ pub struct Recorder {
     pub logs: Vec<Log>,
     /// The value that each component has at first.
     pub initial: u32,
+    /// Or, where it is not empty, the first value of each component.
+    pub initials: Vec<u32>,
     shared: Arc<Shared>,
     threads: usize,
+    components: usize,
 }
 
 impl Recorder {
@@ -306,11 +334,11 @@ impl Recorder {
                 begun: [0; COMPONENT_LIMIT],
             })
             .collect();
-        Ok(Recorder { logs, initial: 0, shared, threads })
+        Ok(Recorder { logs, initial: 0, initials: Vec::new(), shared, threads, components })
     }
 
     /// The history that all logs hold. The logs stand one after the other: the judge puts the events in the order of their
-    /// stamps. The fault is the first misuse, or one of `TwoWriters`, `SameValue` and `LogMissing`.
+    /// stamps. The fault is the first misuse, or one of `LogMissing`, `Initials`, `TwoWriters` and `SameValue`.
     pub fn text(&self) -> Result<String, Fault> {
         if let Some(&misuse) = self.shared.misuse.get() {
             return Err(misuse);
@@ -318,6 +346,9 @@ impl Recorder {
         let is_own = |(place, log): (usize, &Log)| log.thread == place && Arc::ptr_eq(&log.shared, &self.shared);
         if self.logs.len() != self.threads || !self.logs.iter().enumerate().all(is_own) {
             return Err(Fault::LogMissing);
+        }
+        if !self.initials.is_empty() && self.initials.len() != self.components {
+            return Err(Fault::Initials);
         }
         let updates = Updates::of(self)?;
         let mut text = String::from("at,event,process,op,data\n");
@@ -329,6 +360,10 @@ impl Recorder {
         Ok(text)
     }
 
+    fn initial_of(&self, component: u32) -> u32 {
+        self.initials.get(component as usize).copied().unwrap_or(self.initial)
+    }
+
     fn write(&self, text: &mut String, updates: &Updates, log: &Log, event: &Event) {
         let (word, op) = match event.kind {
             Kind::BeginUpdate => ("begin", "update"),
@@ -338,7 +373,7 @@ impl Recorder {
         };
         let shown = log.entries[event.first..event.first + event.count].iter().filter_map(|entry| {
             let number = match event.kind {
-                Kind::EndViewValues if entry.value == self.initial => 0,
+                Kind::EndViewValues if entry.value == self.initial_of(entry.component) => 0,
                 Kind::EndViewValues => updates.number(entry, event.stamp),
                 _ => entry.number,
             };
@@ -369,7 +404,8 @@ impl Updates {
                     return Err(Fault::TwoWriters { component });
                 }
                 updates.begun[component as usize].push(event.stamp);
-                if by_values && (value == recorder.initial || updates.numbers.insert((component, value), number).is_some()) {
+                let is_initial = value == recorder.initial_of(component);
+                if by_values && (is_initial || updates.numbers.insert((component, value), number).is_some()) {
                     return Err(Fault::SameValue { component, value });
                 }
             }
