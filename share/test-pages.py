@@ -312,6 +312,8 @@ def main(words):
     is_listed = words[:1] == ["--sentences"]
     names = words[is_listed:] or all_pages()
     count = Count()
+    if not all((TOP / name).exists() for name in names):
+        sys.exit(__doc__)
     pages = {name: Page(name) for name in names}
     chosen = list(pages.values())
     for page in chosen:
