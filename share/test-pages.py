@@ -3,15 +3,15 @@
 
 usage: test-pages.py [--sentences] [PAGE ..]      all pages where none is named
 
-A session is a block with the mark `console`: a line `$ COMMAND`, and below it what that command writes. All sessions of a page run
-in one scratch copy of the tree, by `sh`, one after the other. A block with `file=NAME` in its mark is written there first. Behind
-`console` may stand:
+A session is a block with the mark `console`: a line `$ COMMAND`, and below it what that command writes. The sessions of a page run
+one after the other in a scratch copy of the tree, each by a shell of its own at the top. A block with `file=NAME` in its mark is
+written there when its turn comes. Behind `console` may stand:
 
-  any           what the commands write differs from run to run, and is not compared
-  skip          the commands are not run: they take long, change the machine, or belong to other files
+  any           what the commands write differs from run to run, and is not compared; their status is below 4
+  skip          the commands are not run: they take long, change the machine, or want a tree that is built otherwise
   needs=A,B     the commands run where these tools and files are there
 
-What is not run is named, and counted as skipped. --sentences lists the sentences of more than 25 words, which are only counted else.
+What is not run is named, and counted as skipped. Sentences of more than 25 words are counted, and with --sentences listed.
 """
 import contextlib
 import os
@@ -27,7 +27,10 @@ import graph
 TOP = graph.TOP
 # What is no page and goes into no copy.
 BUILT = {".git", "out", "target", "dist", "__pycache__"}
-README_LINES, CRATE_LINES, WORDS, SAME_WORDS = 110, 40, 25, 8
+# How many lines the first page and that of a crate may have.
+README_LINES, CRATE_LINES = 110, 40
+# A sentence should have no more words; and of so many words none stands twice.
+WORDS, SAME_WORDS = 25, 8
 # The pages whose commands are not run here, and the script that tries what they show.
 ELSEWHERE = {"docs/OWN-OBJECT.md": "ffi/record/test.sh", "docs/INSTALL.md": "share/test-package.sh"}
 # The files that repeat the number of VERSION, each with how it stands there.
@@ -41,7 +44,10 @@ VERSIONED = {
     "share/snapjudge.1": '"snapjudge {}"',
 }
 MARK = "=== the next command of a page ==="
+# How long a session may take, in seconds.
 LONGEST = 20
+# The least status that is no verdict, and the least that a shell or a signal gives.
+NO_VERDICT, NOT_RUN = 4, 126
 
 FENCE = re.compile(r"^( *)```(.*)$")
 LINK = re.compile(r"!?\[((?:[^\[\]]|\[[^\]]*\])*)\]\(([^()\s]+)\)")
@@ -112,10 +118,11 @@ class Page:
         for line, text in enumerate(self.text.splitlines(), 1):
             fence = FENCE.match(text)
             if fence:
+                indent = fence.group(1)
                 inside = None if inside else Block(self, line, fence.group(2).split())
                 self.blocks += [inside] if inside else []
             elif inside:
-                inside.lines.append(text)
+                inside.lines.append(text.removeprefix(indent))
             else:
                 self.prose.append((line, text))
         self.is_whole = inside is None
@@ -189,9 +196,8 @@ def try_links(count, page, pages):
         if not (TOP / path).exists():
             count.expect(False, f"{page.name}:{line}: {target} leads nowhere")
         elif anchor:
-            pages.setdefault(path, Page(path) if path.endswith(".md") else None)
-            there = pages[path] is not None and anchor in pages[path].headings()
-            count.expect(there, f"{page.name}:{line}: there is no heading #{anchor} in {path}")
+            there = pages.get(path) or Page(path)
+            count.expect(anchor in there.headings(), f"{page.name}:{line}: there is no heading #{anchor} in {path}")
         else:
             count.expect(True, "")
     for line, path in page.paths():
@@ -211,7 +217,7 @@ def try_graph(count):
     """The page on the architecture shows the graph of crates.txt, and each crate has its page."""
     text = (TOP / "crates.txt").read_text(encoding="utf-8")
     shown = graph.in_page(graph.PAGE.read_text(encoding="utf-8"))
-    count.expect(shown == graph.graph(text), "docs/ARCHITECTURE.md: its graph is not that of crates.txt: run share/graph.py --write")
+    count.expect(shown == graph.graph(text), "docs/ARCHITECTURE.md shows another graph than crates.txt: run share/graph.py --write")
     for crate in graph.below_each(text):
         count.expect((TOP / f"crates/{crate}/README.md").exists(), f"crates/{crate} has no README.md")
 
@@ -253,8 +259,8 @@ def run(block, room):
     """What each command of a session writes, on both outputs, and its status; or none where the session takes too long."""
     script = "".join(f"{command}\nprintf '%s %s\\n' '{MARK}' \"$?\"\n" for _, command, _ in block.commands())
     # what cargo and rustup keep stays where it is
-    kept = {name: os.environ.get(name, os.path.expanduser(place)) for name, place in (("CARGO_HOME", "~/.cargo"), ("RUSTUP_HOME", "~/.rustup"))}
-    env = {**os.environ, **kept, "HOME": f"{room}/home", "LC_ALL": "C.UTF-8"}
+    places = {"CARGO_HOME": os.path.expanduser("~/.cargo"), "RUSTUP_HOME": os.path.expanduser("~/.rustup")}
+    env = {**places, **os.environ, "HOME": f"{room}/home", "LC_ALL": "C.UTF-8"}
     how = {"cwd": f"{room}/tree", "env": env, "stdin": subprocess.DEVNULL, "stdout": subprocess.PIPE, "stderr": subprocess.STDOUT}
     try:
         ran = subprocess.run(["sh", "-c", script], timeout=LONGEST, check=False, **how)
@@ -275,7 +281,7 @@ def try_session(count, block, room):
         text, status = ran[place]
         lines = text.split("\n")
         lines = lines[:-1] if lines[-1] == "" else lines
-        is_right = status < 126 and ("any" in block.words or lines == wanted)
+        is_right = status < NO_VERDICT if "any" in block.words else status < NOT_RUN and lines == wanted
         count.expect(is_right, "\n".join([where, f"  it wrote, with status {status}:", *(f"  {it}" for it in lines)]))
 
 
