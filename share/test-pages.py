@@ -11,9 +11,11 @@ written there when its turn comes. Behind `console` may stand:
   skip          the commands are not run: they take long, change the machine, or want a tree that is built otherwise
   needs=A,B     the commands run where these tools and files are there
 
-What is not run is named, and counted as skipped. Sentences of more than 25 words are counted, and with --sentences listed.
+What is not run is named, and counted as skipped. Sentences of more than 25 words are counted, and with --sentences listed. First
+the tests are tried themselves: each must find what is wrong with a small page.
 """
 import contextlib
+import io
 import os
 import pathlib
 import re
@@ -50,6 +52,22 @@ LONGEST = 20
 NO_VERDICT, NOT_RUN = 4, 126
 
 FENCE = re.compile(r"^( *)```(.*)$")
+# Small pages, each with what is wrong with it.
+WRONG = {
+    "another output": "```console\n$ echo one\ntwo\n```\n",
+    "a line too few": "```console\n$ printf 'one\\ntwo\\n'\none\n```\n",
+    "no such command": "```console\n$ no-such-command 2>/dev/null\n```\n",
+    "a shell that ends": "```console\n$ exit\n```\n",
+    "no verdict": "```console any\n$ sh -c 'exit 4'\n```\n",
+    "a link to no file": "[no file](none.md)\n",
+    "a link to no heading": "[no heading](README.md#none)\n",
+    "a path of no file": "`share/none.py`\n",
+    "a block without an end": "```\n",
+    "commands without a mark": "```\n$ echo one\none\n```\n",
+    "a line too many": "\n" * (README_LINES + 1),
+    "a sentence twice": "This sentence of nine words stands twice on it.\n\n" * 2,
+}
+
 LINK = re.compile(r"!?\[((?:[^\[\]]|\[[^\]]*\])*)\]\(([^()\s]+)\)")
 CODE = re.compile(r"(`+)(.+?)\1")
 PATH = re.compile(r"(?:(?:crates|docs|bench|ffi|sweep|examples)/[\w./-]*\w|share/[\w.-]*\w)")
@@ -110,12 +128,12 @@ class Block:
 class Page:
     """A page: its blocks, and the text beside them."""
 
-    def __init__(self, name):
+    def __init__(self, name, text=None):
         self.name, self.blocks, self.prose = name, [], []
-        self.text = (TOP / name).read_text(encoding="utf-8")
-        self.length = len(self.text.splitlines())
+        lines = ((TOP / name).read_text(encoding="utf-8") if text is None else text).splitlines()
+        self.length = len(lines)
         inside = None
-        for line, text in enumerate(self.text.splitlines(), 1):
+        for line, text in enumerate(lines, 1):
             fence = FENCE.match(text)
             if fence:
                 indent = fence.group(1)
@@ -205,8 +223,13 @@ def try_links(count, page, pages):
         count.expect(is_built or (TOP / path).exists(), f"{page.name}:{line}: there is no {path}")
 
 
-def try_size(count, page):
+def try_form(count, page):
+    """How long a page is, and the marks of its blocks."""
     count.expect(page.is_whole, f"{page.name}: a block has no end")
+    for block in page.blocks:
+        is_bare = block.words == [] and block.lines[:1] != [] and block.lines[0].startswith("$ ")
+        if is_bare and page.name not in ELSEWHERE:
+            count.expect(False, f"{page.name}:{block.line}: a block of commands has no mark `console`")
     crate = re.fullmatch(r"crates/\w+/README.md", page.name)
     most = README_LINES if page.name == "README.md" else CRATE_LINES if crate else None
     if most:
@@ -287,10 +310,6 @@ def try_session(count, block, room):
 
 def try_page(count, page):
     """Runs the sessions of a page in a copy of the tree."""
-    for block in page.blocks:
-        bare = block.words == [] and block.lines[:1] != [] and block.lines[0].startswith("$ ")
-        if bare and page.name not in ELSEWHERE:
-            count.expect(False, f"{page.name}:{block.line}: a block of commands has no mark `console`")
     blocks = [it for it in page.blocks if it.is_session or it.file()]
     if page.name in ELSEWHERE:
         for block in filter(lambda it: it.is_session or it.words == [], blocks):
@@ -314,16 +333,31 @@ def try_page(count, page):
                 file.write_text("".join(f"{it}\n" for it in block.lines), encoding="utf-8")
 
 
+def try_tests(count):
+    """Tries the tests on pages that are wrong."""
+    for what, text in WRONG.items():
+        page, found = Page("README.md", text), Count()
+        with tempfile.TemporaryDirectory() as room, contextlib.redirect_stdout(io.StringIO()):
+            os.mkdir(f"{room}/tree")
+            try_form(found, page)
+            try_links(found, page, {})
+            try_sentences(found, [page], False)
+            for block in filter(lambda it: it.is_session, page.blocks):
+                try_session(found, block, room)
+        count.expect(found.failed == 1, f"a page with {what} has {found.failed} failures")
+
+
 def main(words):
     is_listed = words[:1] == ["--sentences"]
     names = words[is_listed:] or all_pages()
     count = Count()
     if not all((TOP / name).exists() for name in names):
         sys.exit(__doc__)
+    try_tests(count)
     pages = {name: Page(name) for name in names}
     chosen = list(pages.values())
     for page in chosen:
-        try_size(count, page)
+        try_form(count, page)
         try_links(count, page, pages)
     try_graph(count)
     try_version(count)
