@@ -3,8 +3,8 @@
 
 usage: test-pages.py [--sentences] [PAGE ..]      all pages where none is named
 
-A session is a block with the mark `console`: a line `$ COMMAND`, and below it what that command writes. The sessions of a page run
-one after the other in a scratch copy of the tree, each by a shell of its own at the top. A block with `file=NAME` in its mark is
+A session is a block with the mark `console`: a line `$ COMMAND`, and below it what that command writes. All sessions run
+one after the other in one scratch copy of the tree, each by a shell of its own at the top. A block with `file=NAME` in its mark is
 written there when its turn comes. Behind `console` may stand:
 
   any           what the commands write differs from run to run, and is not compared; their status is below 4
@@ -308,29 +308,23 @@ def try_session(count, block, room):
         count.expect(is_right, "\n".join([where, f"  it wrote, with status {status}:", *(f"  {it}" for it in lines)]))
 
 
-def try_page(count, page):
-    """Runs the sessions of a page in a copy of the tree."""
-    blocks = [it for it in page.blocks if it.is_session or it.file()]
+def try_page(count, page, room):
+    """Runs the sessions of a page in the copy of the tree."""
     if page.name in ELSEWHERE:
-        for block in filter(lambda it: it.is_session or it.words == [], blocks):
+        for block in filter(Block.commands, page.blocks):
             count.skip(f"{page.name}:{block.line}: {len(block.commands())} commands; {ELSEWHERE[page.name]} tries what they show")
         return
-    if not any(it.is_session for it in blocks):
-        return
-    with tempfile.TemporaryDirectory() as room:
-        os.mkdir(f"{room}/home")
-        shutil.copytree(TOP, f"{room}/tree", ignore=shutil.ignore_patterns(*BUILT), symlinks=True)
-        for block in blocks:
-            why = "skip" if "skip" in block.words else block.missing()
-            if block.is_session and why:
-                for line, command, _ in block.commands():
-                    count.skip(f"{page.name}:{line}: {command}" + ("" if why == "skip" else f", since {why} is not here"))
-            elif block.is_session:
-                try_session(count, block, room)
-            else:
-                file = pathlib.Path(room, "tree", block.file())
-                file.parent.mkdir(parents=True, exist_ok=True)
-                file.write_text("".join(f"{it}\n" for it in block.lines), encoding="utf-8")
+    for block in filter(lambda it: it.is_session or it.file(), page.blocks):
+        why = "skip" if "skip" in block.words else block.missing()
+        if block.is_session and why:
+            for line, command, _ in block.commands():
+                count.skip(f"{page.name}:{line}: {command}" + ("" if why == "skip" else f", since {why} is not here"))
+        elif block.is_session:
+            try_session(count, block, room)
+        else:
+            file = pathlib.Path(room, "tree", block.file())
+            file.parent.mkdir(parents=True, exist_ok=True)
+            file.write_text("".join(f"{it}\n" for it in block.lines), encoding="utf-8")
 
 
 def try_tests(count):
@@ -363,8 +357,11 @@ def main(words):
     try_version(count)
     try_sentences(count, chosen, is_listed)
     if is_program_fresh():
-        for page in chosen:
-            try_page(count, page)
+        with tempfile.TemporaryDirectory() as room:
+            os.mkdir(f"{room}/home")
+            shutil.copytree(TOP, f"{room}/tree", ignore=shutil.ignore_patterns(*BUILT), symlinks=True)
+            for page in chosen:
+                try_page(count, page, room)
     else:
         count.expect(False, "no command was tried: the program in built/ is not there, or not of these sources; run ./build")
     return count.end()
