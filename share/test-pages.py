@@ -272,9 +272,9 @@ def try_sentences(count, pages, is_listed):
 def is_program_fresh():
     """Whether the program is built of what the sources are now. A launcher that finds it is not would build it."""
     with contextlib.suppress(FileNotFoundError):
-        built = (TOP / "built/sources").read_text(encoding="utf-8").split("\n", 1)[0]
+        noted = (TOP / "built/sources").read_text(encoding="utf-8").split("\n", 1)[0]
         ran = subprocess.run([TOP / "share/sources.sh", "sum"], cwd=TOP, capture_output=True, text=True, check=False)
-        return built == ran.stdout.strip() and (TOP / "built/snapjudge").exists()
+        return ran.returncode == 0 and ran.stdout.strip() in noted and (TOP / "built/snapjudge").exists()
     return False
 
 
