@@ -254,26 +254,6 @@ done
 expect "an explanation of two files" 5 "" ./second explain old.csv "a b.csv"
 expect_said "the reason" "snapjudge: explain takes one file"
 
-# The examples of the documents: what the lines behind `$` print is the other lines of their block, where it has others.
-mkdir documents
-ln -s "$examples" documents/examples
-ln -s "$top/snapjudge" documents/snapjudge
-awk -v room="$room/documents" '
-  /^```/ { inside = !inside; if (inside) { number++; script = expected = ""; ours = 0; next } }
-  /^```/ && ours && expected != "" {
-    printf "%s", script > (room "/" number ".sh")
-    printf "%s", expected > (room "/" number ".out")
-  }
-  inside && /^\$ / { if (script == "") ours = /^\$ (\.\/snapjudge|cat|printf|head|awk) /; script = script substr($0, 3) "\n"; next }
-  inside { expected = expected $0 "\n" }
-' "$top/README.md" "$top/docs/GUIDE.md" "$top/docs/FORMAT.md"
-cd documents || exit 1
-for script in *.sh; do
-  expect "$(cat "$script")" 0 "$(cat "${script%.sh}.out")
-" sh -c 'sh "$1" 2>&1 || :' sh "$script"
-done
-cd ..
-
 # The reader that follows docs/FORMAT.md counts each example as the judge does, and names the same fault of a broken
 # text. The texts are the page's own: those of its commands, a fault of each name among them.
 reads_as_judged() {

@@ -4,13 +4,23 @@ usage: touched.py sums            a sum for each crate and for each other folder
        touched.py since RECORD    the crates and folders whose sum is not the one in RECORD, and the crates that stand on them,
                                   the lowest first
 """
+import glob
 import hashlib
 import os
 import sys
 
 TOP = os.path.dirname(os.path.dirname(os.path.abspath(__file__)))
+# The pages that are not in docs/, and what repeats the version. No crate is proved again for its page.
+PAGES = sorted([*glob.glob("*.md", root_dir=TOP), *glob.glob("crates/*/README.md", root_dir=TOP), "VERSION", "CITATION.cff"])
+
 # What the gate tries beside the crates, and the files at the top that belong to it.
-FOLDERS = {"examples": [], "share": ["examples", "build", "install", "package", "snapjudge", "test", "README.md", "docs"], "ffi": ["docs/OWN-OBJECT.md", "docs/RECORDING.md"], "sweep": []}
+FOLDERS = {
+    "examples": [],
+    "share": ["examples", "build", "install", "package", "snapjudge", "test", "docs/FORMAT.md", "docs/INSTALL.md"],
+    "docs": ["crates.txt", "examples", *PAGES],
+    "ffi": ["docs/OWN-OBJECT.md", "docs/RECORDING.md"],
+    "sweep": [],
+}
 
 # The folders that builds leave.
 BUILT = {"out", "build", "target", "__pycache__"}
@@ -36,7 +46,7 @@ def files_in(path):
     for at, folders, names in os.walk(top):
         folders[:] = sorted(it for it in folders if it not in BUILT)
         found += [os.path.relpath(os.path.join(at, name), TOP) for name in sorted(names)]
-    return found
+    return [it for it in found if it not in PAGES]
 
 
 def sum_of(paths, more=""):

@@ -1,0 +1,371 @@
+#!/usr/bin/env python3
+"""Tries the pages: their sessions, links, paths and sizes. The last line is 'N passed, M failed', with ', K skipped' behind it.
+
+usage: test-pages.py [--sentences] [PAGE ..]      all pages where none is named
+
+A session is a block with the mark `console`: a line `$ COMMAND`, and below it what that command writes. All sessions run
+one after the other in one scratch copy of the tree, each by a shell of its own at the top. A block with `file=NAME` in its mark is
+written there when its turn comes. Behind `console` may stand:
+
+  any           what the commands write differs from run to run, and is not compared; their status is below 4
+  skip          the commands are not run: they take long, change the machine, or want a tree that is built otherwise
+  needs=A,B     the commands run where these tools and files are there
+
+What is not run is named, and counted as skipped. Sentences of more than 25 words are counted, and with --sentences listed. First
+the tests are tried themselves: each must find what is wrong with a small page.
+"""
+import contextlib
+import io
+import os
+import pathlib
+import re
+import shutil
+import subprocess
+import sys
+import tempfile
+
+import graph
+
+TOP = graph.TOP
+# What is no page and goes into no copy.
+BUILT = {".git", "out", "target", "dist", "__pycache__"}
+# How many lines the first page and that of a crate may have.
+README_LINES, CRATE_LINES = 110, 40
+# A sentence should have no more words; and of so many words none stands twice.
+WORDS, SAME_WORDS = 25, 8
+# The pages whose commands are not run here, and the script that tries what they show.
+ELSEWHERE = {"docs/OWN-OBJECT.md": "ffi/record/test.sh", "docs/INSTALL.md": "share/test-package.sh"}
+# The files that repeat the number of VERSION, each with how it stands there.
+VERSIONED = {
+    "CHANGELOG.md": "\n## {}\n",
+    "docs/FORMAT.md": "version {},",
+    "CITATION.cff": "\nversion: {}\n",
+    "ffi/python/pyproject.toml": '\nversion = "{}"\n',
+    "ffi/python/snapjudge_backend.py": 'VERSION = "snapjudge", "{}"\n',
+    "ffi/rust/snapjudge/Cargo.toml": '\nversion = "{}"\n',
+    "share/snapjudge.1": '"snapjudge {}"',
+}
+MARK = "=== the next command of a page ==="
+# How long a session may take, in seconds.
+LONGEST = 60
+# The least status that is no verdict, and the least that a shell or a signal gives.
+NO_VERDICT, NOT_RUN = 4, 126
+
+FENCE = re.compile(r"^( *)```(.*)$")
+# Small pages, each with what is wrong with it.
+WRONG = {
+    "another output": "```console\n$ echo one\ntwo\n```\n",
+    "a line too few": "```console\n$ printf 'one\\ntwo\\n'\none\n```\n",
+    "no such command": "```console\n$ no-such-command 2>/dev/null\n```\n",
+    "a shell that ends": "```console\n$ exit\n```\n",
+    "no verdict": "```console any\n$ sh -c 'exit 4'\n```\n",
+    "a link to no file": "[no file](none.md)\n",
+    "a link to no heading": "[no heading](README.md#none)\n",
+    "a path of no file": "`share/none.py`\n",
+    "a block without an end": "```\n",
+    "commands without a mark": "```\n$ echo one\none\n```\n",
+    "a line too many": "\n" * (README_LINES + 1),
+    "a sentence twice": "This sentence of nine words stands twice on it.\n\n" * 2,
+}
+
+LINK = re.compile(r"!?\[((?:[^\[\]]|\[[^\]]*\])*)\]\(([^()\s]+)\)")
+CODE = re.compile(r"(`+)(.+?)\1")
+PATH = re.compile(r"(?:(?:crates|docs|bench|ffi|sweep|examples)/[\w./-]*\w|share/[\w.-]*\w)")
+
+
+class Count:
+    """What passed, failed and was skipped."""
+
+    def __init__(self):
+        self.passed, self.failed, self.skipped = 0, 0, 0
+
+    def expect(self, is_so, otherwise):
+        self.passed += bool(is_so)
+        self.failed += not is_so
+        if not is_so:
+            print(otherwise)
+
+    def skip(self, what):
+        self.skipped += 1
+        print(f"skipped: {what}")
+
+    def end(self):
+        more = f", {self.skipped} skipped" if self.skipped else ""
+        print(f"{self.passed} passed, {self.failed} failed{more}")
+        return 1 if self.failed else 0
+
+
+class Block:
+    """A fenced block of a page: the words of its mark, and its lines."""
+
+    def __init__(self, page, line, words):
+        self.page, self.line, self.words, self.lines = page, line, words, []
+
+    @property
+    def is_session(self):
+        return self.words[:1] == ["console"]
+
+    def file(self):
+        """The name of the file that it shows, or none."""
+        return next((word.partition("=")[2] for word in self.words if word.startswith("file=")), None)
+
+    def missing(self):
+        """The first tool or file that its commands need and that is not there."""
+        needs = [it for word in self.words if word.startswith("needs=") for it in word.partition("=")[2].split(",")]
+        return next((it for it in needs if not shutil.which(it) and not (TOP / it).exists()), None)
+
+    def commands(self):
+        """Each command with its line and the lines that it shall write."""
+        found = []
+        for line, text in enumerate(self.lines, self.line + 1):
+            if text.startswith("$ "):
+                found.append((line, text[2:], []))
+            elif found:
+                found[-1][2].append(text)
+        return found
+
+
+class Page:
+    """A page: its blocks, and the text beside them."""
+
+    def __init__(self, name, text=None):
+        self.name, self.blocks, self.prose = name, [], []
+        lines = ((TOP / name).read_text(encoding="utf-8") if text is None else text).splitlines()
+        self.length = len(lines)
+        inside = None
+        for line, text in enumerate(lines, 1):
+            fence = FENCE.match(text)
+            if fence:
+                indent = fence.group(1)
+                inside = None if inside else Block(self, line, fence.group(2).split())
+                self.blocks += [inside] if inside else []
+            elif inside:
+                inside.lines.append(text.removeprefix(indent))
+            else:
+                self.prose.append((line, text))
+        self.is_whole = inside is None
+
+    def headings(self):
+        """The anchors of its headings, as they are made from their texts."""
+        found = []
+        for _, text in self.prose:
+            if text.startswith("#"):
+                plain = LINK.sub(r"\1", text.lstrip("#").strip()).replace("`", "").lower()
+                anchor = re.sub(r"[^\w\- ]", "", plain).replace(" ", "-")
+                times = sum(it == anchor or re.fullmatch(re.escape(anchor) + r"-\d+", it) is not None for it in found)
+                found.append(f"{anchor}-{times}" if times else anchor)
+        return found
+
+    def links(self):
+        for line, text in self.prose:
+            for _, target in LINK.findall(CODE.sub(lambda it: "" if "](" in it.group(2) else it.group(), text)):
+                yield line, target
+
+    def paths(self):
+        """The paths of the tree that it names in code."""
+        for line, text in self.prose:
+            for _, code in CODE.findall(text):
+                if PATH.fullmatch(code):
+                    yield line, code
+
+    def sentences(self):
+        """Its sentences, each with a line: the cells of tables and the items of lists by themselves."""
+        paragraph = []
+        for line, text in [*self.prose, (self.length, "")]:
+            starts = re.match(r"\s*(?:[-*] |\d+\. |\||#|<|$)", text)
+            if starts and paragraph:
+                yield from split(paragraph)
+                paragraph = []
+            if text.startswith("|"):
+                for cell in text.strip("|").split("|"):
+                    yield from split([(line, cell)])
+            elif text.strip() and not text.startswith(("#", "<")):
+                paragraph.append((line, re.sub(r"^\s*(?:[-*] |\d+\. )", "", text)))
+
+
+def split(paragraph):
+    """The sentences of a paragraph: code counts as a word."""
+    whole = " ".join(text.strip() for _, text in paragraph)
+    whole = CODE.sub(lambda it: "`" + re.sub(r"[\s.:!?]", "_", it.group(2)) + "`", LINK.sub(r"\1", whole)).replace("**", "")
+    for sentence in re.split(r"(?<=[.!?:])[)*\"]* +(?=[\"(*]*[A-Z0-9_./`])", whole):
+        if sentence.strip():
+            yield paragraph[0][0], sentence.strip()
+
+
+def all_pages():
+    found = []
+    for folder, folders, names in os.walk(TOP):
+        at = pathlib.Path(folder).relative_to(TOP)
+        # no part of a crate has a page, and what is built is no page
+        folders[:] = sorted(it for it in folders if it not in BUILT and not (at / it).as_posix() in ("ffi/build", "built"))
+        if at.parts[:1] == ("crates",) and len(at.parts) == 2:
+            folders[:] = []
+        found += [(at / name).as_posix() for name in sorted(names) if name.endswith(".md")]
+    return sorted(found)
+
+
+def try_links(count, page, pages):
+    """Each link leads to a file, and to a heading of it; each path of the tree is there."""
+    for line, target in page.links():
+        if re.match(r"[a-z]+:", target):
+            continue
+        file, _, anchor = target.partition("#")
+        path = os.path.normpath(os.path.join(os.path.dirname(page.name), file)) if file else page.name
+        if not (TOP / path).exists():
+            count.expect(False, f"{page.name}:{line}: {target} leads nowhere")
+        elif anchor:
+            there = pages.get(path) or Page(path)
+            count.expect(anchor in there.headings(), f"{page.name}:{line}: there is no heading #{anchor} in {path}")
+        else:
+            count.expect(True, "")
+    for line, path in page.paths():
+        is_built = path.startswith("ffi/build") or "/out" in path
+        count.expect(is_built or (TOP / path).exists(), f"{page.name}:{line}: there is no {path}")
+
+
+def try_form(count, page):
+    """How long a page is, and the marks of its blocks."""
+    count.expect(page.is_whole, f"{page.name}: a block has no end")
+    for block in page.blocks:
+        is_bare = block.words == [] and block.lines[:1] != [] and block.lines[0].startswith("$ ")
+        if is_bare and page.name not in ELSEWHERE:
+            count.expect(False, f"{page.name}:{block.line}: a block of commands has no mark `console`")
+    crate = re.fullmatch(r"crates/\w+/README.md", page.name)
+    most = README_LINES if page.name == "README.md" else CRATE_LINES if crate else None
+    if most:
+        count.expect(page.length <= most, f"{page.name} has {page.length} lines, and may have {most}")
+
+
+def try_graph(count):
+    """The page on the architecture shows the graph of crates.txt, and each crate has its page."""
+    text = (TOP / "crates.txt").read_text(encoding="utf-8")
+    shown = graph.in_page(graph.PAGE.read_text(encoding="utf-8"))
+    count.expect(shown == graph.graph(text), "docs/ARCHITECTURE.md shows another graph than crates.txt: run share/graph.py --write")
+    for crate in graph.below_each(text):
+        count.expect((TOP / f"crates/{crate}/README.md").exists(), f"crates/{crate} has no README.md")
+
+
+def try_version(count):
+    version = (TOP / "VERSION").read_text(encoding="utf-8").strip()
+    for name, form in VERSIONED.items():
+        is_there = form.format(version) in (TOP / name).read_text(encoding="utf-8")
+        count.expect(is_there, f"{name} does not name version {version}")
+
+
+def try_sentences(count, pages, is_listed):
+    """Counts the long sentences, and finds those that stand twice in the top page and in docs/."""
+    known, long = {}, 0
+    for page in pages:
+        for line, sentence in page.sentences():
+            words = sentence.split()
+            long += len(words) > WORDS
+            if is_listed and len(words) > WORDS:
+                print(f"{page.name}:{line}: {len(words)} words: {sentence}")
+            if len(words) >= SAME_WORDS and (page.name == "README.md" or page.name.startswith("docs/")):
+                first = known.setdefault(sentence, f"{page.name}:{line}")
+                if first != f"{page.name}:{line}":
+                    count.expect(False, f"{page.name}:{line}: this stands at {first} too: {sentence}")
+    count.expect(True, "")
+    print(f"{long} sentences have more than {WORDS} words")
+
+
+def is_program_fresh():
+    """Whether the program is built of what the sources are now. A launcher that finds it is not would build it."""
+    with contextlib.suppress(FileNotFoundError):
+        noted = (TOP / "built/sources").read_text(encoding="utf-8").split("\n", 1)[0]
+        ran = subprocess.run([TOP / "share/sources.sh", "sum"], cwd=TOP, capture_output=True, text=True, check=False)
+        return ran.returncode == 0 and ran.stdout.strip() in noted and (TOP / "built/snapjudge").exists()
+    return False
+
+
+def run(block, room):
+    """What each command of a session writes, on both outputs, and its status; or none where the session takes too long."""
+    script = "".join(f"{command}\nprintf '%s %s\\n' '{MARK}' \"$?\"\n" for _, command, _ in block.commands())
+    # what cargo and rustup keep stays where it is
+    places = {"CARGO_HOME": os.path.expanduser("~/.cargo"), "RUSTUP_HOME": os.path.expanduser("~/.rustup")}
+    env = {**places, **os.environ, "HOME": f"{room}/home", "LC_ALL": "C.UTF-8"}
+    how = {"cwd": f"{room}/tree", "env": env, "stdin": subprocess.DEVNULL, "stdout": subprocess.PIPE, "stderr": subprocess.STDOUT}
+    try:
+        ran = subprocess.run(["sh", "-c", script], timeout=LONGEST, check=False, **how)
+    except subprocess.TimeoutExpired:
+        return None
+    # a command may write no last line end, and then the mark stands behind its text
+    parts = re.split(rf"{MARK} (\d+)\n", ran.stdout.decode(errors="replace"))
+    return list(zip(parts[::2], map(int, parts[1::2])))
+
+
+def try_session(count, block, room):
+    ran = run(block, room)
+    for place, (line, command, wanted) in enumerate(block.commands()):
+        where = f"{block.page.name}:{line}: {command}"
+        if ran is None or place >= len(ran):
+            count.expect(False, f"{where}\n  it did not end, or a command before it did not")
+            continue
+        text, status = ran[place]
+        lines = text.split("\n")
+        lines = lines[:-1] if lines[-1] == "" else lines
+        is_right = status < NO_VERDICT if "any" in block.words else status < NOT_RUN and lines == wanted
+        count.expect(is_right, "\n".join([where, f"  it wrote, with status {status}:", *(f"  {it}" for it in lines)]))
+
+
+def try_page(count, page, room):
+    """Runs the sessions of a page in the copy of the tree."""
+    if page.name in ELSEWHERE:
+        for block in filter(Block.commands, page.blocks):
+            count.skip(f"{page.name}:{block.line}: {len(block.commands())} commands; {ELSEWHERE[page.name]} tries what they show")
+        return
+    for block in filter(lambda it: it.is_session or it.file(), page.blocks):
+        why = "skip" if "skip" in block.words else block.missing()
+        if block.is_session and why:
+            for line, command, _ in block.commands():
+                count.skip(f"{page.name}:{line}: {command}" + ("" if why == "skip" else f", since {why} is not here"))
+        elif block.is_session:
+            try_session(count, block, room)
+        else:
+            file = pathlib.Path(room, "tree", block.file())
+            file.parent.mkdir(parents=True, exist_ok=True)
+            file.write_text("".join(f"{it}\n" for it in block.lines), encoding="utf-8")
+
+
+def try_tests(count):
+    """Tries the tests on pages that are wrong."""
+    for what, text in WRONG.items():
+        page, found = Page("README.md", text), Count()
+        with tempfile.TemporaryDirectory() as room, contextlib.redirect_stdout(io.StringIO()):
+            os.mkdir(f"{room}/tree")
+            try_form(found, page)
+            try_links(found, page, {})
+            try_sentences(found, [page], False)
+            for block in filter(lambda it: it.is_session, page.blocks):
+                try_session(found, block, room)
+        count.expect(found.failed == 1, f"a page with {what} has {found.failed} failures")
+
+
+def main(words):
+    is_listed = words[:1] == ["--sentences"]
+    names = words[is_listed:] or all_pages()
+    count = Count()
+    if not all((TOP / name).exists() for name in names):
+        sys.exit(__doc__)
+    try_tests(count)
+    pages = {name: Page(name) for name in names}
+    chosen = list(pages.values())
+    for page in chosen:
+        try_form(count, page)
+        try_links(count, page, pages)
+    try_graph(count)
+    try_version(count)
+    try_sentences(count, chosen, is_listed)
+    if is_program_fresh():
+        with tempfile.TemporaryDirectory() as room:
+            os.mkdir(f"{room}/home")
+            shutil.copytree(TOP, f"{room}/tree", ignore=shutil.ignore_patterns(*BUILT), symlinks=True)
+            for page in chosen:
+                try_page(count, page, room)
+    else:
+        count.expect(False, "no command was tried: the program in built/ is not there, or not of these sources; run ./build")
+    return count.end()
+
+
+if __name__ == "__main__":
+    sys.exit(main(sys.argv[1:]))
