@@ -2,18 +2,25 @@
 # Tells the files that the program is made of or promises: crates.txt, VERSION, and the code and the specs of each crate that the
 # program stands on. A changed proof, test or sweep changes none of them.
 #
-# usage: sources.sh list      each file of every crate, its size, and when its text and its entry changed
+# usage: sources.sh note      the sum, the crates and a list of their files, as the launcher reads them
 #        sources.sh sum       one sum over the names and the texts of the program's files
 #        sources.sh crates    the crates that the program stands on, and its own
 #
-# The launcher reads this file at each start, since a shell more would take half a millisecond. Nor is there time to tell the
-# program's crates from others in a list: where only another one's has changed, the sum has not.
+# The launcher reads this file at each start, since a shell more would take half a millisecond. Nor is there time to find the
+# program's crates: a note names them, and is no longer valid where crates.txt has changed.
 
-# Goes to the folder that is named, and lists.
-list_sources() {
+# Goes to the folder that is named, and lists each file of the crates that are named behind it: its size, and when its entry
+# changed, as it does with the text and its time.
+list_files() {
   unset CDPATH
   export LC_ALL=C
-  cd "$1" && exec find -L crates.txt VERSION crates/*/src crates/*/specs -type f -printf '%p %s %T@ %C@\n' 2>/dev/null
+  cd "$1" || return
+  shift
+  for crate; do
+    shift
+    set -- "$@" "crates/$crate/src" "crates/$crate/specs"
+  done
+  exec find -L crates.txt VERSION "$@" -type f -printf '%p %s %C@\n' 2>/dev/null
 }
 
 # From the last line of crates.txt up each crate is met before those below it. Where the lines stand in another order, they are
@@ -67,10 +74,20 @@ sum_sources() {
   sum=$(find_files | sort -z | xargs -0 sha256sum | sha256sum) && [ "${#sum}" -ge 64 ] && echo "${sum%% *}"
 }
 
+# Goes to the folder that is named, and notes what its sources are, in assignments of a shell. The list is taken first: what changes
+# behind it is then known by its times.
+note_sources() {
+  unset CDPATH
+  cd "$1" || return
+  crates=$(find_crates)
+  list=$(list_files . $crates | sed "s/'/'\\\\''/g")
+  sum=$(sum_sources .) && printf "built='%s'\ncrates='%s'\nlist='%s'\n" "$sum" "$crates" "$list"
+}
+
 # What this file does as a command.
 run_verb() {
   case ${1-} in
-    list) list_sources . ;;
+    note) note_sources . ;;
     sum) sum_sources . ;;
     crates) find_crates ;;
     *)

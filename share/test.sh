@@ -451,21 +451,21 @@ echo core >tree/crates/snap_core/src/lib.rt
 builds "a crate below" old
 echo more >>tree/crates/snap_core/src/lib.rt
 builds "an edit of the crate below" old
-rm tree/built/sources
+rm tree/built/sources.sh
 builds "a program of which no source is known" old
-: >tree/built/sources
+: >tree/built/sources.sh
 builds "a program whose sources were not written" old
 
 # what does not
 touch $main tree/VERSION
 runs "a file with another time" old
-before=$(cat tree/built/sources)
+before=$(cat tree/built/sources.sh)
 cp -r tree "a tree"
 runs "a copy" old "a tree"
-expect "a list of its own" 1 "" cmp -s tree/built/sources "a tree/built/sources"
-expect "and no file beside it" 0 "" find "a tree/built" tree/built -name 'sources.*'
+expect "a list of its own" 1 "" cmp -s tree/built/sources.sh "a tree/built/sources.sh"
+expect "and no file beside it" 0 "" find "a tree/built" tree/built -name 'sources.sh.*'
 expect "the list of the first" 0 "$before
-" cat tree/built/sources
+" cat tree/built/sources.sh
 for file in crates/snapjudge/src/tests/jobs.rt crates/snapjudge/src/tests.rt crates/snapjudge/proofs/Main.antt crates/snap_sweep/src/main.rt test; do
   echo more >>tree/$file
   runs "a change of $file" old
