@@ -1,34 +1,47 @@
 #!/usr/bin/env python3
-"""Prints how many recorded runs of a naive and of a double collect are caught, and what recording costs, as two tables.
+"""Prints how many runs of right and of wrong objects the drivers of the recorders catch, by their options, and what recording costs.
 
-usage: recorders.py [RUNS [PROGRAM]]; 60 runs where no number is given, and the costs alone where it is 0
+usage: recorders.py [RUNS [PROGRAM]]; 200 runs where no number is given, and the costs alone where it is 0
 
-The objects are those of ffi/record, the shapes are compiled into the one in C. A language whose compiler is missing is left out.
+The objects are those of recorders/objects.c, and those of ffi/record in each language. A language whose compiler is missing is left out.
 """
 import os
+import re
 import shutil
 import subprocess
 import sys
 import tempfile
+import time
 
 HERE = os.path.dirname(os.path.abspath(__file__))
 RECORD = os.path.join(HERE, "..", "ffi", "record")
 COST = os.path.join(HERE, "recorders")
-LIMIT = 300
+LIMIT = 600
 C, CPP = ["cc", "-std=gnu11", "-O2", "-pthread"], ["c++", "-std=c++17", "-O2", "-pthread"]
-SHAPE = "THREADS = %d, WRITERS = %d, COMPONENTS = %d, CALLS = %d, BARRIER = %d"
-# what is said of a run, threads, writers, components, calls of a thread, barrier, word for the yields
-SHAPES = [
-    ("4 threads, nothing", (4, 4, 4, 200, 0), ["none"]),
-    ("start barrier", (4, 4, 4, 200, 1), ["none"]),
-    ("barrier, 2,000 calls a thread", (4, 4, 4, 2000, 1), ["none"]),
-    ("barrier, 64 components", (4, 4, 64, 200, 1), ["none"]),
-    ("barrier, yield between calls", (4, 4, 4, 200, 1), ["between"]),
-    ("barrier, **yield inside the collect**", (4, 4, 4, 200, 1), []),
-    ("the same with 2,000 calls a thread", (4, 4, 4, 2000, 1), []),
-    ("the same with 3 threads", (3, 3, 3, 200, 1), []),
-    ("the same, 2 threads that own a component each", (2, 2, 2, 200, 1), []),
-    ("the same, one writer of 2 components and one viewer", (2, 1, 2, 200, 1), []),
+# an object, its options, and by how much its runs are more than those of the others
+ROWS = [
+    ("bare", "", 1),
+    ("bare", "--components 64", 1),
+    ("bare", "--calls 2000", 0.2),
+    ("naive", "--calls 2", 10),
+    ("naive", "--calls 10", 10),
+    ("naive", "", 1),
+    ("naive", "--calls 2000", 0.2),
+    ("naive", "--order turn", 1),
+    ("naive", "--threads 2 --components 2", 1),
+    ("naive", "--threads 3 --components 2", 1),
+    ("naive", "--calls 50 --nap 60", 1),
+    ("published", "", 1),
+    ("first-move", "--calls 2", 10),
+    ("first-move", "--calls 10", 10),
+    ("first-move", "", 1),
+    ("first-move", "--calls 10 --nap 60", 1),
+    ("old-view", "--order turn", 1),
+    ("old-view", "", 1),
+    ("old-view", "--calls 50 --order turn", 1),
+    ("old-view", "--calls 50", 1),
+    ("old-view", "--calls 50 --order turn --nap 60", 1),
+    ("old-view", "--calls 50 --nap 60", 1),
 ]
 
 
@@ -36,65 +49,62 @@ def output(command, folder):
     return subprocess.run(command, cwd=folder, stdout=subprocess.PIPE, check=True, timeout=LIMIT, text=True).stdout.strip()
 
 
-def caught(command, program, name, runs, words, folder):
-    """Of so many runs, those that were not atomic."""
-    said = output([*command, program, name, str(runs), *words], folder)
-    return f"{runs - int(said.split()[2].rstrip(','))} of {runs}"
+def print_caught(said, command, name, options, runs, folder):
+    """A row of the table: of so many runs those that were caught, and how long one took."""
+    begun = time.monotonic()
+    words = [*command, name, *options.split(), "--runs", str(runs)]
+    done = subprocess.run(words, cwd=folder, stdout=subprocess.PIPE, stderr=subprocess.DEVNULL, timeout=LIMIT, text=True)
+    found = re.fullmatch(rf"{name}: atomic (\d+), regular (\d+), neither (\d+)\n", done.stdout)
+    if not found or done.returncode > 2:
+        sys.exit(f"{words} ended with status {done.returncode}")
+    milliseconds = (time.monotonic() - begun) * 1000 / runs
+    print(f"| {said} | {f'`{options}`' if options else ''} | {runs - int(found[1])} of {runs} | {milliseconds:.1f} |", flush=True)
 
 
 def built(folder):
     """Of each language the commands that run its object and its measure of cost."""
     languages = []
-    java = os.path.join(folder, "java")
+    java, python = os.path.join(folder, "java"), [sys.executable, "-B"]
+
+    def compiled(compiler, sources):
+        for name, source in sources.items():
+            subprocess.run([*compiler, "-o", os.path.join(folder, name), source], check=True)
+
     if shutil.which("cc"):
-        for name, source in (("own_c", f"{RECORD}/c/own.c"), ("cost_c", f"{COST}/cost.c")):
-            subprocess.run([*C, "-o", os.path.join(folder, name), source], check=True)
+        compiled(C, {"own_c": f"{RECORD}/c/own.c", "cost_c": f"{COST}/cost.c", "objects": f"{COST}/objects.c"})
         languages.append(("C", ["./own_c"], ["./cost_c"]))
     if shutil.which("c++"):
-        for name, source in (("own_cpp", f"{RECORD}/cpp/own.cpp"), ("cost_cpp", f"{COST}/cost.cpp")):
-            subprocess.run([*CPP, "-o", os.path.join(folder, name), source], check=True)
+        compiled(CPP, {"own_cpp": f"{RECORD}/cpp/own.cpp", "cost_cpp": f"{COST}/cost.cpp"})
         languages.append(("C++", ["./own_cpp"], ["./cost_cpp"]))
     if shutil.which("rustc"):
-        for name, source in (("own_rs", f"{RECORD}/rust/own.rs"), ("cost_rs", f"{COST}/cost.rs")):
-            subprocess.run(["rustc", "--edition", "2021", "-O", "-o", os.path.join(folder, name), source], check=True)
+        compiled(["rustc", "--edition", "2021", "-O"], {"own_rs": f"{RECORD}/rust/own.rs", "cost_rs": f"{COST}/cost.rs"})
         languages.append(("Rust", ["./own_rs"], ["./cost_rs"]))
     if shutil.which("javac"):
-        subprocess.run(["javac", "-d", java, f"{RECORD}/java/SnapRecorder.java", f"{RECORD}/java/Own.java", f"{COST}/Cost.java"], check=True)
+        sources = [f"{RECORD}/java/{name}.java" for name in ("SnapRecorder", "SnapDriver", "Own")]
+        subprocess.run(["javac", "-d", java, *sources, f"{COST}/Cost.java"], check=True)
         languages.append(("Java", ["java", "-cp", java, "Own"], ["java", "-cp", java, "Cost"]))
-    languages.append(("Python", [sys.executable, "-B", f"{RECORD}/python/own.py"], [sys.executable, "-B", f"{COST}/cost.py"]))
+    languages.append(("Python", [*python, f"{RECORD}/python/own.py"], [*python, f"{COST}/cost.py"]))
+    if shutil.which("go"):
+        for name, module, package in (("own_go", f"{RECORD}/go", "./own"), ("cost_go", f"{COST}/go", ".")):
+            subprocess.run(["go", "build", "-buildvcs=false", "-o", os.path.join(folder, name), package], cwd=module, check=True)
+        languages.append(("Go", ["./own_go"], ["./cost_go"]))
     return languages
 
 
-def shaped(shape, folder):
-    """The object in C, compiled for a shape."""
-    words = "-DSHAPE=" + SHAPE % shape
-    subprocess.run([*C, words, "-o", os.path.join(folder, "shaped"), f"{RECORD}/c/own.c"], check=True)
-    return ["./shaped"]
-
-
-def print_caught(languages, program, runs, folder):
-    print("| run | naive collect, caught | double collect |\n|---|---|---|")
-    if shutil.which("cc"):
-        for said, shape, words in SHAPES:
-            command = shaped(shape, folder)
-            found = [caught(command, program, name, runs, words, folder) for name in ("naive", "double")]
-            print(f"| C, {said} | {found[0]} | {found[1]} |", flush=True)
-    for language, own, _ in languages:
-        if language == "C":
-            continue
-        for said, words in (("barrier", ["none"]), ("barrier, **yield inside the collect**", [])):
-            found = [caught(own, program, name, runs, words, folder) for name in ("naive", "double")]
-            print(f"| {language}, {said} | {found[0]} | {found[1]} |", flush=True)
-    print()
-
-
 def main():
-    runs = int(sys.argv[1]) if len(sys.argv) > 1 else 60
-    program = os.path.realpath(sys.argv[2] if len(sys.argv) > 2 else os.path.join(HERE, "..", "built", "snapjudge"))
+    runs = int(sys.argv[1]) if len(sys.argv) > 1 else 200
+    program = sys.argv[2] if len(sys.argv) > 2 else os.path.join(HERE, "..", "snapjudge")
+    os.environ["SNAPJUDGE_PROGRAM"] = os.path.realpath(program)
     with tempfile.TemporaryDirectory() as folder:
         languages = built(folder)
         if runs:
-            print_caught(languages, program, runs, folder)
+            print("| object | options | caught | ms a run |\n|---|---|---|---|")
+            for name, options, times in ROWS if shutil.which("cc") else ():
+                print_caught(name, ["./objects"], name, options, max(1, int(runs * times)), folder)
+            for language, own, _ in languages:
+                for name in ("naive", "double"):
+                    print_caught(f"{name}, {language}", own, name, "", runs, folder)
+            print()
         print("| cost of a call, ns | 1 thread | 2 threads | 4 threads |\n|---|---|---|---|")
         for language, _, cost in languages:
             found = [output([*cost, str(threads)], folder) for threads in (1, 2, 4)]

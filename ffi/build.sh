@@ -15,7 +15,7 @@ kit=$(dirname "$(dirname "$(readlink -f "$(command -v rt)")")")
 mkdir -p "$out"
 out=$(cd "$out" && pwd)
 work=$(mktemp -d)
-trap 'rm -rf "$work"' EXIT
+trap 'rm -rf "$work" "$out"/libsnapjudge.*.new' EXIT
 
 # proves snap_c, and below it what is not proved already; how far it is goes to standard error
 if ! python3 -B "$top/share/prove.py" ${begun:+--built "$begun"} snap_c >"$work/log"; then
@@ -28,7 +28,9 @@ ar x "$top/crates/snap_c/out/libsnap_c.a"
 ar x "$kit/c/liblibc_c.a"
 ld -r -o judge.o ./*.o
 objcopy --keep-global-symbol=snapjudge_check --keep-global-symbol=snapjudge_version judge.o
-rm -f "$out/libsnapjudge.a"
-ar rcsD "$out/libsnapjudge.a" judge.o
-cc -shared -Wl,-soname,libsnapjudge.so -Wl,-z,noexecstack -o "$out/libsnapjudge.so" judge.o
+# both are built before one takes its place, so that a full disk leaves what there was
+ar rcsD libsnapjudge.a judge.o
+cc -shared -Wl,-soname,libsnapjudge.so -Wl,-z,noexecstack -o libsnapjudge.so judge.o
+for library in libsnapjudge.a libsnapjudge.so; do cp "$library" "$out/$library.new"; done
+for library in libsnapjudge.a libsnapjudge.so; do mv -f "$out/$library.new" "$out/$library"; done
 echo "built $out/libsnapjudge.a and $out/libsnapjudge.so"

@@ -24,19 +24,8 @@ NAME = "snapjudge"
 VERSION = (TOP / "VERSION").read_text().strip()
 DOCUMENTS = "share/doc/snapjudge"
 # What a recorder's folder may have besides, as a compiler or Python leaves it, is not packed.
-RECORDERS = {".c", ".cpp", ".csv", ".h", ".hpp", ".java", ".py", ".rs", ".sh"}
-OUR_TESTS = {"test.sh", "listings.py"}
-
-PKG_CONFIG = f"""prefix=${{pcfiledir}}/../..
-libdir=${{prefix}}/lib
-includedir=${{prefix}}/include
-
-Name: {NAME}
-Description: The judge of recorded histories of a single-writer board
-Version: {VERSION}
-Libs: -L${{libdir}} -lsnapjudge
-Cflags: -I${{includedir}}
-"""
+RECORDERS = {".c", ".cpp", ".csv", ".go", ".h", ".hpp", ".java", ".mod", ".py", ".rs", ".sh"}
+OUR_TESTS = {"test.sh", "listings.py", "choices.py"}
 
 CONTROL = """Package: snapjudge
 Version: {version}
@@ -69,8 +58,6 @@ def tree_of(prefix, library, proved):
     tree = {str(it.relative_to(prefix)): it.read_bytes() for it in prefix.rglob("*") if it.is_file()}
     for name in ("libsnapjudge.a", "libsnapjudge.so"):
         tree[f"lib/{name}"] = (library / name).read_bytes()
-    tree["lib/pkgconfig/snapjudge.pc"] = PKG_CONFIG.encode()
-    tree["include/snapjudge.h"] = (TOP / "ffi/c/snapjudge.h").read_bytes()
     for it in filter(is_recorder, (TOP / "ffi/record").rglob("*")):
         tree[f"share/snapjudge/record/{it.relative_to(TOP / 'ffi/record')}"] = it.read_bytes()
     for it in (TOP / "README.md", TOP / "LICENSE", *TOP.glob("docs/*.md"), *TOP.glob("examples/*")):

@@ -95,7 +95,7 @@ has_installed() {
 }
 
 has_recorders() {
-  (cd ffi/record && ls calls.sh worked.csv c/*.[ch] cpp/*pp java/*.java python/*.py rust/*.rs) >"$room/list" &&
+  (cd ffi/record && ls calls.sh worked.csv c/*.[ch] cpp/*pp java/*.java python/*.py rust/*.rs go/go.mod go/*.go go/*/*.go) >"$room/list" &&
     has_all ffi/record "$1/share/snapjudge/record"
 }
 
@@ -149,9 +149,9 @@ calls_from_c() {
   )
 }
 
-# own PREFIX COMMAND ..: the right object of the recorders is atomic by the program of the prefix
+# own PREFIX COMMAND ..: the right object of the recorders is atomic by what is under the prefix
 own() {
-  [ "$("${@:2}" "$1/bin/snapjudge" double 5)" = "double: atomic 5, regular 0, neither 0, refused 0" ]
+  [ "$(env -u SNAPJUDGE_LIBRARY SNAPJUDGE_PROGRAM="$1/bin/snapjudge" "${@:2}" double --runs 5)" = "double: atomic 5, regular 0, neither 0" ]
 }
 
 records_in_c() {

@@ -298,7 +298,23 @@ expect "an installation" 0 "snapjudge is installed as $room/pre fix/bin/snapjudg
 expect "the installed program" 2 "$stale" "pre fix/bin/snapjudge" check "$examples/stale-view.csv"
 expect "its version" 0 "$(cat "$top/built/snapjudge.version")
 " "pre fix/bin/snapjudge" --version
-expect "a full disk" 1 "" sh -c 'ulimit -f 8; "$1" "pre fix" 2>/dev/null' sh "$top/install"
+if has pkg-config && has cc; then
+  expect "the library by what pkg-config tells" 0 "" sh -c 'flags=$(PKG_CONFIG_LIBDIR="$1/lib/pkgconfig" pkg-config --cflags --libs snapjudge) &&
+    cp "$2/ffi/c/test_examples.c" . && eval "cc -o caller test_examples.c $flags -pthread" &&
+    LD_LIBRARY_PATH="$1/lib" ./caller "$2"/examples/*.csv >&2' sh "$room/pre fix" "$top"
+  expect "the version that it tells" 0 "$(cat "$top/VERSION")
+" env PKG_CONFIG_LIBDIR="$room/pre fix/lib/pkgconfig" pkg-config --modversion snapjudge
+fi
+mkdir tools
+for tool in rt python3 flock dirname mkdir cp chmod mv cat sh find cmp readlink sed rm head sort xargs sha256sum mktemp awk; do
+  ln -s "$(command -v "$tool")" tools
+done
+expect "an installation without a compiler" 0 "snapjudge is installed as $room/bare/bin/snapjudge
+To find it by name, put $room/bare/bin on your PATH.
+" env PATH="$room/tools" "$top/install" bare
+expect_said "what is left out" "snapjudge: there is no cc, so the library is left out"
+expect "what is there of the library" 0 "" find bare -name 'libsnapjudge*' -o -name 'snapjudge.[hp]*'
+expect "a full disk" 1 "" sh -c 'ulimit -f 500; "$1" "pre fix" 2>/dev/null' sh "$top/install"
 expect "the program that was there" 2 "$stale" "pre fix/bin/snapjudge" check "$examples/stale-view.csv"
 expect "what it left by halves" 0 "" find "pre fix" -name '*.new'
 expect "no output for what it says" 1 "" sh -c '"$1" "pre fix" >/dev/full' sh "$top/install"
@@ -316,8 +332,13 @@ expect "a folder in its place" 1 "" "$top/install" "pre fix"
 expect_said "the reason" "snapjudge: $room/pre fix/bin/snapjudge is a directory; nothing is installed"
 expect "what is there of it" 0 "" find "pre fix" -type f
 expect "a removal of a folder in its place" 1 "" "$top/install" --remove "pre fix"
-expect "a full disk, and nothing there" 1 "" sh -c 'ulimit -f 8; "$1" new 2>/dev/null' sh "$top/install"
+expect "a full disk, and nothing there" 1 "" sh -c 'ulimit -f 500; "$1" new 2>/dev/null' sh "$top/install"
 expect "what is there of it" 0 "" find new -type f
+library=$(cksum <"$top/ffi/build/libsnapjudge.a")
+expect "a disk too full for the library" 1 "" sh -c 'ulimit -f 8; "$1" newer 2>/dev/null' sh "$top/install"
+expect "the library that was there" 0 "$library
+" sh -c 'cksum <"$1"' sh "$top/ffi/build/libsnapjudge.a"
+expect "what it left by halves" 0 "" find "$top/ffi/build" -name '*.new'
 for words in "''" "--remove ''" "a b" "--prefix"; do
   expect "the words $words" 5 "" sh -c "\"\$1\" $words" sh "$top/install"
   expect_said "the usage" "usage: install [--remove] [PREFIX]      PREFIX is ~/.local where none is given"

@@ -4,7 +4,7 @@ import pathlib
 import re
 import sys
 
-FOLDERS = {"c": "c", "cpp": "cpp", "rust": "rust", "java": "java", "python": "python"}
+FOLDERS = {"c": "c", "cpp": "cpp", "rust": "rust", "java": "java", "python": "python", "go": "go"}
 
 guide, folder = pathlib.Path(sys.argv[1]), pathlib.Path(sys.argv[2])
 listings = re.findall(r"^```(\w+)\n(.*?)^```$", guide.read_text(), re.MULTILINE | re.DOTALL)
@@ -12,7 +12,7 @@ known = [(language, text) for language, text in listings if language in FOLDERS]
 lost = [
     (language, text)
     for language, text in known
-    if not any(text in file.read_text() for file in (folder / FOLDERS[language]).iterdir() if file.is_file())
+    if not any(text in file.read_text() for file in (folder / FOLDERS[language]).rglob("*.*") if file.is_file())
 ]
 for language, text in lost:
     print(f"no file of {language} has this listing:\n{text}")

@@ -1,13 +1,13 @@
 #!/usr/bin/env bash
-# Tries the recorders: the text of a worked run, the fault of each misuse, and recorded runs of a double collect, which must all
-# be atomic, and of a naive collect, of which some must be caught. The last line is 'N passed, M failed', with ', K skipped' behind
-# it where a tool is missing; a line before it names the language.
+# Tries the recorders and their drivers: the text of a worked run, the calls that a seed chooses, the answer to each misuse, and
+# runs of a double collect, which must all be atomic, and of a naive collect, of which one must be caught. The last line is
+# 'N passed, M failed', with ', K skipped' behind it where a tool is missing; a line before it names the language.
 # usage: test.sh [PROGRAM], where PROGRAM judges; it may stand in SNAPJUDGE_PROGRAM too
 unset CDPATH
 set -u
 here=$(cd "$(dirname "${BASH_SOURCE[0]}")" && pwd)
 program=$(realpath -m "${1:-${SNAPJUDGE_PROGRAM:-$here/../../built/snapjudge}}")
-runs=20
+library=$(realpath -m "$here/../build/libsnapjudge.so")
 passed=0
 failed=0
 skipped=0
@@ -42,42 +42,153 @@ has() {
   return 1
 }
 
-# run OBJECT COMMAND ..: the verdicts of the object's runs go to the file objects; a run that dies has a status of its own
-run() {
-  local object=$1
-  shift
-  timeout 300 "$@" "$program" "$object" $runs >objects && cat objects
+# ends STATUS OUTPUT COMMAND ..: the command ends so, and writes that. What it tells on standard error is kept in the file told.
+ends() {
+  local status=$1 output=$2 found
+  shift 2
+  timeout 300 "$@" >said 2>told
+  found=$?
+  cat said told
+  [ "$found" = "$status" ] && [ "$(cat said)" = "$output" ]
 }
 
-# atomic COMMAND ..: each run of the double collect is atomic
+# misused START OPTION ..: the driver of `faulty` ends with status 4, writes nothing, and tells a line that begins so
+misused() {
+  local start=$1
+  shift
+  ends 4 "" "${faulty[@]}" "$@" && [[ $'\n'$(cat told) == *$'\n'"$start"* ]]
+}
+
+# The calls that the drivers choose are those that are worked out independently: threads, components, calls, runs, seed, order.
+chosen() {
+  local of
+  for of in "4 4 200 3 1 choice" "3 5 40 2 7 choice" "1 64 100 1 18446744073709551615 choice" "64 1 20 1 0 choice" "3 5 40 1 7 turn"; do
+    read -r -a of <<<"$of"
+    python3 -B "$here/choices.py" "${of[@]}" >wanted || return 1
+    "${own[@]}" naive --choices --threads "${of[0]}" --components "${of[1]}" --calls "${of[2]}" --runs "${of[3]}" --seed "${of[4]}" \
+      --order "${of[5]}" >found || return 1
+    cmp wanted found || return 1
+  done
+}
+
+# atomic [OPTION ..]: each run of the double collect is atomic, and the last line tells so
 atomic() {
-  run double "$@" && [ "$(cat objects)" = "double: atomic $runs, regular 0, neither 0, refused 0" ]
+  ends 0 "double: atomic 20, regular 0, neither 0" "${own[@]}" double --runs 20 "$@" &&
+    [ "$(tail -n 1 told)" = "double: run 20 of 20: atomic 20, regular 0, neither 0" ]
 }
 
-# caught COMMAND ..: each run of the naive collect is regular, and some are not atomic
+# One run of the naive collect is caught, and is kept. More than half of all runs are caught where threads run in the middle of a
+# view; were it one of 40, all 1,000 would be missed once in 10^11 times.
 caught() {
-  run naive "$@" && [[ $(cat objects) =~ ^naive:\ atomic\ ([0-9]+),\ regular\ ([0-9]+),\ neither\ 0,\ refused\ 0$ ]] &&
-    [ $((BASH_REMATCH[1] + BASH_REMATCH[2])) = $runs ] && [ "${BASH_REMATCH[2]}" -gt 0 ]
+  rm -f naive-*
+  timeout 300 "${own[@]}" naive --runs 1000 --stop 1 "$@" >said 2>told
+  [ $? = 1 ] && [[ $(cat said) =~ ^naive:\ atomic\ ([0-9]+),\ regular\ 1,\ neither\ 0$ ]] &&
+    grep -q "^naive: run $((BASH_REMATCH[1] + 1)) is not atomic; ./naive-caught.csv" told && judges_alike naive-caught.csv naive-witness.csv &&
+    "$program" explain <naive-caught.csv | cmp - naive-explained.txt && "$program" shrink <naive-caught.csv | cmp - naive-witness.csv
 }
 
-# unjudged COMMAND ..: where the program dies, nothing is said of the runs
-unjudged() {
-  local status
-  timeout 60 "$@" "$work/dies" double 2 >objects
-  status=$?
-  [ $status != 0 ] && [ $status -lt 124 ] && ! [ -s objects ]
+# each of these histories is regular, and not atomic
+judges_alike() {
+  local history
+  for history; do
+    "$program" check --quiet <"$history" >/dev/null
+    [ $? = 1 ] || return 1
+  done
 }
+
+# What one thread and two components leave of an object that shows nothing new is known to the byte; the words are a setting.
+stale() {
+  rm -f stale-*
+  ends 2 "stale: atomic 0, regular 0, neither 3" env "$@" "${faulty[@]}" stale --threads 1 --components 2 --calls 3 --order turn --runs 3 &&
+    grep -qxF 'stale: run 1 is not atomic; ./stale-caught.csv and the files beside it tell of it' told && cmp stale-caught.csv - <<'TEXT'
+at,event,process,op,data
+0,begin,0,update,0:1:1000000
+1,end,0,update,
+2,begin,0,update,1:1:1000001
+3,end,0,update,
+4,begin,0,view,
+5,end,0,view,
+TEXT
+}
+
+# beside the history stand its witness and its explanation
+explained() {
+  stale "$@" && cmp stale-witness.csv - <<'TEXT' && cmp stale-explained.txt - <<'WORDS'
+event,process,op,data
+begin,0,update,0:1:1000000
+end,0,update,
+begin,0,view,
+end,0,view,
+TEXT
+not regular
+proximity: view 3 shows 0:0, though update 0:1 had ended before the view began
+  call 3 of process 0, records 6 and 7: view
+  call 1 of process 0, records 2 and 3: update 0:1:1000000
+WORDS
+}
+
+# without a program the library judges, and there is no witness; one of an earlier run is gone
+library_alone() {
+  touch stale-witness.csv
+  stale SNAPJUDGE_LIBRARY="$library" SNAPJUDGE_PROGRAM=./none && [ ! -e stale-witness.csv ] && [ ! -e stale-explained.txt ]
+}
+
+# Programs that stand for the judge: one dies; another one is beside a library, as it is installed, and only shrinks and explains.
+# shellcheck disable=SC2016
 printf '#!/bin/sh\nkill -9 $$\n' >dies
-chmod +x dies
+mkdir -p prefix/bin prefix/lib
+# shellcheck disable=SC2016
+printf '#!/bin/sh\n[ "$1" != check ] || kill -9 $$\nexec "%s" "$@"\n' "$program" >prefix/bin/snapjudge
+chmod +x dies prefix/bin/snapjudge
+[ ! -e "$library" ] || cp "$library" prefix/lib
 
-# objects LANGUAGE COMMAND ..: both objects, and a program that dies
-objects() {
-  local language=$1
-  shift
-  try "$language: double collect" atomic "$@"
-  try "$language: naive collect is caught" caught "$@"
-  echo "record: $language: $(cat objects)"
-  try "$language: a program that dies" unjudged "$@"
+# the program and the library that are installed are found
+installed() {
+  explained -u SNAPJUDGE_LIBRARY -u SNAPJUDGE_PROGRAM PATH="$work/prefix/bin:$PATH"
+}
+
+# by_library: a driver that calls the library
+by_library() {
+  if [ -e "$library" ]; then
+    try "$language: the library judges" explained SNAPJUDGE_LIBRARY="$library" SNAPJUDGE_PROGRAM=prefix/bin/snapjudge
+    try "$language: the library alone judges" library_alone
+    try "$language: what is installed is found" installed
+  else
+    skip "$language by the library" "$library"
+  fi
+  SNAPJUDGE_LIBRARY=./none try "$language: a library that is not there" misused "stale: no judge: "
+}
+
+# drivers LANGUAGE: the tests of a driver, over the commands `own` and `faulty`. Where no library is named, the program judges.
+drivers() {
+  language=$1
+  local -x SNAPJUDGE_LIBRARY='' SNAPJUDGE_PROGRAM=$program
+  has python3 "$language: choices" && try "$language: choices" chosen
+  try "$language: double collect" atomic
+  try "$language: double collect in turn of 7 threads and 64 components" atomic --order turn --threads 7 --components 64 --calls 60
+  try "$language: naive collect is caught" caught
+  try "$language: naive collect with naps is caught" caught --nap 60 --calls 50
+  try "$language: a stale object" explained
+  try "$language: a view that gives up" ends 0 "gives-up: atomic 2, regular 0, neither 0" "${faulty[@]}" gives-up --runs 2
+  try "$language: a call that hangs" misused "hangs: hangs: a run took more than 1 s: a call of the object does not end" hangs --limit 1
+  try "$language: too many threads" misused "stale: limits: threads is a number from 1 to 64" stale --threads 65
+  try "$language: no component" misused "stale: limits: components is a number from 1 to 64" stale --components 0
+  try "$language: too many calls" misused "stale: limits: all threads make at most 32768 calls" stale --calls 8193
+  try "$language: another order" misused "stale: usage: order is choice or turn" stale --order both
+  try "$language: another option" misused "stale: usage: " stale --nope 1
+  try "$language: an option without its value" misused "stale: usage: " stale --runs
+  try "$language: a value that is no number" misused "stale: usage: " stale --seed -1
+  try "$language: another object" misused "other: usage: there is no object other" other
+  try "$language: a program that is not there" misused "stale: no judge: there is no program ./none" stale --program ./none
+  try "$language: a program that dies" misused "stale: no verdict: " stale --program ./dies
+  try "$language: a folder that is not there" misused "stale: files: " stale --out ./none
+}
+
+# throws LANGUAGE: the tests of a driver whose objects can show too little, or throw
+throws() {
+  local -x SNAPJUDGE_LIBRARY='' SNAPJUDGE_PROGRAM=$program
+  try "$1: a view that is too short" misused "short: view: a view has 3 values of 4 components" short
+  try "$1: an update that throws" misused "dies: died: a call of thread 0 " dies --threads 1
 }
 
 # worked COMMAND ..: the tests of misuse pass, and the texts of both worked runs are as they are to be
@@ -100,16 +211,23 @@ listings() {
 
 # sanitized COMPILER SOURCE FLAG ..: no race is found
 sanitized() {
-  local compiler=$1 source=$2
+  local compiler=$1 source=$2 object
+  local -x SNAPJUDGE_PROGRAM=$program
   shift 2
-  "$compiler" "$@" -O1 -g -fsanitize=thread -o sanitized "$source" -pthread &&
-    timeout 100 ./sanitized "$program" double 2 && timeout 100 ./sanitized "$program" naive 2
+  "$compiler" "$@" -O1 -g -fsanitize=thread -o sanitized "$source" -pthread || return 1
+  for object in double naive "naive --nap 20 --calls 40"; do
+    read -r -a object <<<"$object"
+    timeout 100 ./sanitized "${object[@]}" --runs 3 >said 2>told
+    [ $? -le 1 ] && ! grep -q ThreadSanitizer told && [ -s said ] || return 1
+  done
 }
 
 # the same threads with logs of a quarter of their calls: what was recorded until the first was full is atomic
 full() {
-  sed 's/COMPONENTS, CALLS)/COMPONENTS, CALLS \/ 4)/' "$here/c/own.c" >full.c && ! cmp -s full.c "$here/c/own.c" &&
-    cc -std=gnu11 -O2 -I"$here/c" -o full full.c -pthread && atomic ./full
+  local own=(./full)
+  local -x SNAPJUDGE_PROGRAM=$program
+  sed 's/(uint32_t)options->calls)/(uint32_t)options->calls \/ 4)/' "$here/c/snapdrive.h" >snapdrive.h &&
+    ! cmp -s snapdrive.h "$here/c/snapdrive.h" && cp "$here/c/own.c" full.c && cc -std=gnu11 -O2 -I. -I"$here/c" -o full full.c -pthread && atomic --seed 2
 }
 
 # whether the compiler has ThreadSanitizer
@@ -121,42 +239,84 @@ sanitizes() {
 }
 
 try_c() {
-  local flags=(-Wall -Wextra -pedantic -Werror -O2)
+  local flags=(-Wall -Wextra -pedantic -Werror -O2) own=(./own_c) faulty=(./faulty_c)
   try "C: builds" cc -std=c11 "${flags[@]}" -o misuse_c "$here/c/misuse.c"
-  try "C: harness builds" cc -std=gnu11 "${flags[@]}" -o own_c "$here/c/own.c" -pthread
+  try "C: harness builds" cc -std=gnu11 "${flags[@]}" -Wno-unused-parameter -o own_c "$here/c/own.c" -pthread
+  try "C: faulty objects build" cc -std=gnu11 "${flags[@]}" -o faulty_c "$here/c/faulty.c" -pthread
   try "C: misuse" worked ./misuse_c
-  objects C ./own_c
+  drivers C
+  by_library
   try "C: logs that get full" full
   sanitizes cc C && try "C: without races" sanitized cc "$here/c/own.c" -std=gnu11
 }
 
 try_cpp() {
-  local flags=(-std=c++17 -Wall -Wextra -pedantic -Werror -O2)
+  local flags=(-std=c++17 -Wall -Wextra -pedantic -Werror -O2) own=(./own_cpp) faulty=(./faulty_cpp)
   try "C++: builds" c++ "${flags[@]}" -o misuse_cpp "$here/cpp/misuse.cpp"
   try "C++: harness builds" c++ "${flags[@]}" -o own_cpp "$here/cpp/own.cpp" -pthread
+  try "C++: faulty objects build" c++ "${flags[@]}" -o faulty_cpp "$here/cpp/faulty.cpp" -pthread
   try "C++: misuse" worked ./misuse_cpp
-  objects C++ ./own_cpp
+  drivers C++
+  by_library
+  throws C++
   sanitizes c++ C++ && try "C++: without races" sanitized c++ "$here/cpp/own.cpp" -std=c++17
 }
 
 try_rust() {
-  local flags=(--edition 2021 -D warnings -O)
+  local flags=(--edition 2021 -D warnings -O) own=(./own_rs) faulty=(./faulty_rs)
   try "Rust: builds" rustc "${flags[@]}" --test -o misuse_rs "$here/rust/misuse.rs"
   try "Rust: harness builds" rustc "${flags[@]}" -o own_rs "$here/rust/own.rs"
+  try "Rust: faulty objects build" rustc "${flags[@]}" -o faulty_rs "$here/rust/faulty.rs"
   try "Rust: misuse" ./misuse_rs -q
-  objects Rust ./own_rs
+  drivers Rust
+  by_library
+  throws Rust
 }
 
 try_java() {
+  local own=(java -cp java Own) faulty=(java -cp java Faulty)
   try "Java: builds" javac -Xlint:all -Werror -d java "$here"/java/*.java
   try "Java: misuse" worked java -cp java Misuse
-  objects Java java -cp java Own
+  drivers Java
+  throws Java
 }
 
 try_python() {
+  local own=(python3 -B "$here/python/own.py") faulty=(python3 -B "$here/python/faulty.py")
   try "Python: misuse" python3 -B -W error "$here/python/misuse.py"
-  objects Python python3 -B "$here/python/own.py"
+  drivers Python
+  by_library
+  throws Python
   try "listings of the guide" listings
+}
+
+# Go finds a module by the folder that it is called in
+go_builds() {
+  (cd "$here/go" && go build -o "$work/$1" "./$2")
+}
+
+go_is_tidy() {
+  (cd "$here/go" && go vet ./... && [ -z "$(gofmt -l .)" ])
+}
+
+# a driver without cgo, which calls no library
+without_cgo() {
+  local faulty=(./faulty_plain)
+  CGO_ENABLED=0 go_builds faulty_plain faulty && SNAPJUDGE_PROGRAM=$program explained SNAPJUDGE_LIBRARY=
+}
+
+try_go() {
+  local own=(./own_go) faulty=(./faulty_go)
+  local -x GOCACHE=$work/go-build GOFLAGS=-buildvcs=false GOPROXY=off
+  try "Go: builds" go_builds misuse_go misuse
+  try "Go: harness builds" go_builds own_go own
+  try "Go: faulty objects build" go_builds faulty_go faulty
+  try "Go: is tidy" go_is_tidy
+  try "Go: misuse" worked ./misuse_go
+  drivers Go
+  by_library
+  throws Go
+  try "Go: without cgo" without_cgo
 }
 
 # ---- several processes, failed calls, and the page on both
@@ -222,6 +382,7 @@ if [ -x "$program" ]; then
   has c++ C++ && try_cpp
   has rustc Rust && try_rust
   has javac Java && has java Java && try_java
+  has go Go && try_go
   has python3 Python && try_python
   has python3 "processes and failed updates" && try_processes
 else

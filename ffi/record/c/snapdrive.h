@@ -1,0 +1,468 @@
+/* Drives a snapshot object of one's own: threads update and view it by a seeded schedule, and the judge judges each run.
+ * Two files, this one and snaprecord.h, gnu11 and POSIX threads: copy both. docs/OWN-OBJECT.md of snapjudge shows how.
+ *
+ *     static void begin(uint32_t components) { .. }                                      // a fresh object, 0 in each component
+ *     static void update(uint32_t thread, uint32_t component, uint32_t value) { .. }
+ *     static bool view(uint32_t thread, uint32_t *values) { .. }                         // false where it gave up
+ *
+ *     static const snapdrive_object objects[] = {{"board", begin, update, view}, {0}};
+ *     int main(int count, char **words) { return snapdrive_main(count, words, objects); }
+ *
+ * Where an object calls snapdrive_pause() between its steps, the other threads run in the middle of its calls. In a test of one's
+ * own, snapdrive_run does the same without a command line.
+ *
+ * SPDX-License-Identifier: 0BSD
+ * Copyright (C) 2026 by the authors of snapjudge
+ * Permission to use, copy, modify, and/or distribute this software for any purpose with or without fee is hereby granted.
+ * THE SOFTWARE IS PROVIDED "AS IS" AND THE AUTHOR DISCLAIMS ALL WARRANTIES WITH REGARD TO THIS SOFTWARE INCLUDING ALL IMPLIED
+ * WARRANTIES OF MERCHANTABILITY AND FITNESS. IN NO EVENT SHALL THE AUTHOR BE LIABLE FOR ANY SPECIAL, DIRECT, INDIRECT, OR
+ * CONSEQUENTIAL DAMAGES OR ANY DAMAGES WHATSOEVER RESULTING FROM LOSS OF USE, DATA OR PROFITS, WHETHER IN AN ACTION OF
+ * CONTRACT, NEGLIGENCE OR OTHER TORTIOUS ACTION, ARISING OUT OF OR IN CONNECTION WITH THE USE OR PERFORMANCE OF THIS SOFTWARE. */
+#ifndef SNAPDRIVE_H
+#define SNAPDRIVE_H
+#include "snaprecord.h"
+#include <dlfcn.h>
+#include <errno.h>
+#include <fcntl.h>
+#include <limits.h>
+#include <pthread.h>
+#include <sched.h>
+#include <signal.h>
+#include <spawn.h>
+#include <stdarg.h>
+#include <stddef.h>
+#include <sys/wait.h>
+#include <time.h>
+#include <unistd.h>
+
+#define SNAPDRIVE_THREADS 64
+#define SNAPDRIVE_COMPONENTS 64
+
+typedef struct {
+    const char *name;
+    void (*begin)(uint32_t components); /* makes a fresh object, with 0 in each component */
+    void (*update)(uint32_t thread, uint32_t component, uint32_t value);
+    bool (*view)(uint32_t thread, uint32_t *values); /* one value for each component; false where it gave up */
+} snapdrive_object;
+
+typedef struct {
+    uint64_t threads, components, calls, runs, seed, nap, stop, limit;
+    const char *order, *out, *program;
+} snapdrive_options;
+
+#define SNAPDRIVE_OPTIONS                                                                                                  \
+    ((snapdrive_options){.threads = 4, .components = 4, .calls = 200, .runs = 20, .seed = 1, .limit = 60, .order = "choice", \
+                         .out = "."})
+
+#define SNAPDRIVE_USAGE                                                                                \
+    "usage: [OBJECT] [OPTION VALUE ..]\n"                                                              \
+    "  --threads 4      how many threads, at most 64\n"                                                \
+    "  --components 4   how many components, at most 64; thread t updates t, t + threads and so on\n"  \
+    "  --calls 200      how many calls each thread makes; all threads make at most 32768\n"            \
+    "  --runs 20        how many runs, each of a fresh object\n"                                       \
+    "  --seed 1         what the choice of the calls begins with\n"                                    \
+    "  --order choice   each call is chosen by the seed; or turn: updates and a view in turn\n"        \
+    "  --nap 0          where not 0, pauses and the gaps between calls last up to so many microseconds\n" \
+    "  --stop 0         where not 0, ends after so many runs that were not atomic\n"                   \
+    "  --limit 60       how many seconds a run may take\n"                                             \
+    "  --out .          the folder for the first run that was not atomic\n"                            \
+    "  --program FILE   the program snapjudge; else SNAPJUDGE_PROGRAM names it, else it is on the PATH\n" \
+    "  --choices        writes the calls that the seed chooses, and runs nothing"
+
+/* How many runs were atomic, only regular, or neither; and which was the first that was not atomic, from 1, or 0. Where there is
+ * no verdict, `fault` is usage, limits, no judge, no verdict, files, or a misuse of the recorder. A call that hangs ends the
+ * process, with status 4. */
+typedef struct {
+    uint64_t found[3], first;
+    const char *fault;
+    char message[1600];
+} snapdrive_outcome;
+
+__attribute__((format(printf, 3, 4))) static inline bool snapdrive_failed(snapdrive_outcome *outcome, const char *fault,
+                                                                          const char *message, ...) {
+    va_list rest;
+    va_start(rest, message);
+    outcome->fault = fault;
+    vsnprintf(outcome->message, sizeof outcome->message, message, rest);
+    va_end(rest);
+    return false;
+}
+
+/* ---- the schedule */
+
+#define SNAPDRIVE_GAMMA UINT64_C(0x9E3779B97F4A7C15)
+#define SNAPDRIVE_VIEW UINT32_MAX
+
+/* The output of splitmix64 in this state. */
+static inline uint64_t snapdrive_mix(uint64_t state) {
+    state = (state ^ state >> 30) * UINT64_C(0xBF58476D1CE4E5B9);
+    state = (state ^ state >> 27) * UINT64_C(0x94D049BB133111EB);
+    return state ^ state >> 31;
+}
+
+static inline uint64_t snapdrive_next(uint64_t *state) { return snapdrive_mix(*state += SNAPDRIVE_GAMMA); }
+
+/* The component that call i of a thread updates, or SNAPDRIVE_VIEW. */
+static inline uint32_t snapdrive_choose(const snapdrive_options *options, uint32_t thread, uint64_t i, uint64_t *random) {
+    uint64_t own = thread < options->components ? (options->components - 1 - thread) / options->threads + 1 : 0;
+    uint64_t place = i % (own + 1);
+    if (strcmp(options->order, "turn")) {
+        uint64_t choice = snapdrive_next(random);
+        place = choice & 1 || !own ? own : (choice >> 1) % own;
+    }
+    return place < own ? (uint32_t)(thread + place * options->threads) : SNAPDRIVE_VIEW;
+}
+
+/* One for all files of a program. */
+__attribute__((weak)) _Atomic uint64_t snapdrive_naps;
+__attribute__((weak)) uint64_t snapdrive_longest_nap;
+
+/* Lets the other threads run, and naps where the options ask for it. */
+static inline void snapdrive_pause(void) {
+    if (!snapdrive_longest_nap) {
+        sched_yield();
+        return;
+    }
+    uint64_t state = atomic_fetch_add_explicit(&snapdrive_naps, SNAPDRIVE_GAMMA, memory_order_relaxed);
+    uint64_t micros = snapdrive_mix(state + SNAPDRIVE_GAMMA) % (snapdrive_longest_nap + 1);
+    nanosleep(&(struct timespec){(time_t)(micros / 1000000), (long)(micros % 1000000 * 1000)}, NULL);
+}
+
+/* ---- one run */
+
+typedef struct {
+    const snapdrive_object *object;
+    const snapdrive_options *options;
+    snaprecord_log *log;
+    pthread_barrier_t *start;
+    uint64_t seed;
+} snapdrive_worker;
+
+static inline void *snapdrive_work(void *argument) {
+    snapdrive_worker worker = *(snapdrive_worker *)argument;
+    uint32_t thread = worker.log->process, values[SNAPDRIVE_COMPONENTS] = {0};
+    pthread_barrier_wait(worker.start);
+    for (uint64_t i = 0; i < worker.options->calls; i++) {
+        uint32_t component = snapdrive_choose(worker.options, thread, i, &worker.seed);
+        if (component == SNAPDRIVE_VIEW) {
+            if (!snaprecord_begin_view(worker.log)) break;
+            if (worker.object->view(thread, values)) snaprecord_end_view_values(worker.log, values);
+            else snaprecord_drop_view(worker.log);
+        } else {
+            uint32_t value = (thread + 1) * 1000000 + (uint32_t)i; /* each value once */
+            if (!snaprecord_begin_update(worker.log, component, value)) break;
+            worker.object->update(thread, component, value);
+            snaprecord_end_update(worker.log);
+        }
+        if (snapdrive_longest_nap) snapdrive_pause();
+    }
+    return NULL;
+}
+
+/* What is said where a run takes too long; a handler of signals can't put it together. */
+static char snapdrive_too_long[200];
+
+static inline void snapdrive_hangs(int signal) {
+    ssize_t written = write(STDERR_FILENO, snapdrive_too_long, strlen(snapdrive_too_long));
+    _exit(written && signal ? 4 : 5);
+}
+
+/* The history of a fresh object, to be given to free(). */
+static inline char *snapdrive_record(const snapdrive_object *object, const snapdrive_options *options, uint64_t *seeds,
+                                     size_t *length, snapdrive_outcome *outcome) {
+    static const char *const faults[] = {
+        [SNAPRECORD_LIMITS] = "limits", [SNAPRECORD_MEMORY] = "memory", [SNAPRECORD_NESTED] = "nested",
+        [SNAPRECORD_NOT_OPEN] = "not open", [SNAPRECORD_AFTER_FULL] = "after full", [SNAPRECORD_COMPONENT] = "component",
+        [SNAPRECORD_TWO_WRITERS] = "two writers", [SNAPRECORD_SAME_VALUE] = "same value"};
+    static snaprecord recorder;
+    pthread_t threads[SNAPDRIVE_THREADS];
+    snapdrive_worker workers[SNAPDRIVE_THREADS];
+    pthread_barrier_t start;
+    uint32_t count = (uint32_t)options->threads;
+    char *text = NULL;
+    if (snaprecord_open(&recorder, count, (uint32_t)options->components, (uint32_t)options->calls)) {
+        object->begin((uint32_t)options->components);
+        pthread_barrier_init(&start, NULL, count);
+        for (uint32_t t = 0; t < count; t++)
+            workers[t] = (snapdrive_worker){object, options, snaprecord_log_of(&recorder, t), &start, snapdrive_next(seeds)};
+        snprintf(snapdrive_too_long, sizeof snapdrive_too_long,
+                 "%s: hangs: a run took more than %" PRIu64 " s: a call of the object does not end\n", object->name, options->limit);
+        signal(SIGALRM, snapdrive_hangs);
+        alarm((unsigned)options->limit);
+        for (uint32_t t = 0; t < count; t++)
+            if (pthread_create(&threads[t], NULL, snapdrive_work, &workers[t])) {
+                fprintf(stderr, "%s: memory: thread %" PRIu32 " can't be started\n", object->name, t);
+                exit(4); /* those before it wait for it */
+            }
+        for (uint32_t t = 0; t < count; t++) pthread_join(threads[t], NULL);
+        alarm(0);
+        pthread_barrier_destroy(&start);
+        text = snaprecord_text(&recorder, length);
+    }
+    if (!text) snapdrive_failed(outcome, faults[recorder.fault], "%s", recorder.message);
+    snaprecord_close(&recorder);
+    return text;
+}
+
+/* ---- the judge: the library where it is there, and else the program */
+
+typedef struct {
+    char program[PATH_MAX]; /* empty where there is none */
+    uint32_t (*check)(const uint8_t *, size_t, uint8_t *, size_t, size_t *);
+} snapdrive_judge;
+
+/* Finds a program on the PATH, as a shell does. */
+static inline void snapdrive_find(const char *named, char *place) {
+    const char *at = strchr(named, '/') ? "" : getenv("PATH");
+    *place = 0;
+    if (strchr(named, '/') && (access(named, X_OK) || !realpath(named, place))) *place = 0;
+    while (at && *at && !*place) {
+        char candidate[PATH_MAX];
+        size_t length = strcspn(at, ":");
+        snprintf(candidate, sizeof candidate, "%.*s/%s", (int)length, at, named);
+        if (access(candidate, X_OK) || !realpath(candidate, place)) *place = 0;
+        at += length + (at[length] == ':');
+    }
+}
+
+static inline bool snapdrive_load(snapdrive_judge *judge, const char *place) {
+    uint32_t (*version)(void) = NULL;
+    void *library = dlopen(place, RTLD_NOW), *found = library ? dlsym(library, "snapjudge_version") : NULL;
+    memcpy(&version, &found, sizeof found);
+    if (!version || version() != 1) return false;
+    found = dlsym(library, "snapjudge_check");
+    memcpy(&judge->check, &found, sizeof found);
+    return judge->check;
+}
+
+/* SNAPJUDGE_LIBRARY names the library; it is empty for none. Else it is sought beside the program. */
+static inline bool snapdrive_find_judge(snapdrive_judge *judge, const char *program, snapdrive_outcome *outcome) {
+    const char *library = getenv("SNAPJUDGE_LIBRARY"), *named = program ? program : getenv("SNAPJUDGE_PROGRAM");
+    char folder[PATH_MAX], place[PATH_MAX + 40];
+    if (!named || !*named) named = "snapjudge";
+    memset(judge, 0, sizeof *judge);
+    snapdrive_find(named, judge->program);
+    snprintf(folder, sizeof folder, "%s", *judge->program ? judge->program : "./");
+    *strrchr(folder, '/') = 0;
+    if (library && *library && !snapdrive_load(judge, library))
+        return snapdrive_failed(outcome, "no judge", "%s is no library of the judge", library);
+    static const char *const places[] = {"../lib", "ffi/build"};
+    for (size_t i = 0; !library && !judge->check && i < 2; i++) {
+        snprintf(place, sizeof place, "%s/%s/libsnapjudge.so", folder, places[i]);
+        snapdrive_load(judge, place);
+    }
+    if (!library && !judge->check) snapdrive_load(judge, "libsnapjudge.so");
+    if (judge->check || *judge->program) return true;
+    return snapdrive_failed(outcome, "no judge", "there is no program %s: install snapjudge, or name it by --program", named);
+}
+
+/* Runs the program from a file to a file; its status, or 4. */
+static inline int snapdrive_call(const snapdrive_judge *judge, char *const *words, const char *from, const char *to) {
+    extern char **environ;
+    posix_spawn_file_actions_t files;
+    pid_t process;
+    int status = 0;
+    posix_spawn_file_actions_init(&files);
+    posix_spawn_file_actions_addopen(&files, STDIN_FILENO, from, O_RDONLY, 0);
+    posix_spawn_file_actions_addopen(&files, STDOUT_FILENO, to, O_WRONLY | O_CREAT | O_TRUNC, 0666);
+    bool is_started = !posix_spawn(&process, judge->program, &files, NULL, words, environ);
+    posix_spawn_file_actions_destroy(&files);
+    return is_started && waitpid(process, &status, 0) == process && WIFEXITED(status) ? WEXITSTATUS(status) : 4;
+}
+
+static inline bool snapdrive_write(const char *name, const char *text, size_t length, snapdrive_outcome *outcome) {
+    FILE *file = fopen(name, "wb");
+    bool is_written = file && fwrite(text, 1, length, file) == length;
+    if ((!file || !fclose(file)) && is_written) return true;
+    return snapdrive_failed(outcome, "files", "%s can't be written: %s", name, strerror(errno));
+}
+
+/* 0 for atomic, 1 for regular, 2 for neither; or -1, and the outcome says why. */
+static inline int snapdrive_status(const snapdrive_judge *judge, const char *text, size_t length, const char *out,
+                                   snapdrive_outcome *outcome) {
+    uint32_t status;
+    if (judge->check) {
+        size_t room = 2 * length + 256, report_length = 0;
+        uint8_t *report = calloc(room, 1);
+        status = report ? judge->check((const uint8_t *)text, length, report, room, &report_length) : 4;
+        free(report);
+    } else {
+        char name[PATH_MAX + 40];
+        snprintf(name, sizeof name, "%s/run-%ld.csv", out, (long)getpid());
+        if (!snapdrive_write(name, text, length, outcome)) return -1;
+        char *const words[] = {"snapjudge", "check", "--quiet", NULL};
+        status = (uint32_t)snapdrive_call(judge, words, name, "/dev/null");
+        remove(name);
+    }
+    if (status < 3) return (int)status;
+    snapdrive_failed(outcome, "no verdict", "the judge ends with status %" PRIu32, status);
+    return -1;
+}
+
+/* Writes a history, its witness and its explanation. */
+static inline bool snapdrive_keep(const snapdrive_judge *judge, const char *text, size_t length, const char *front,
+                                  snapdrive_outcome *outcome) {
+    char caught[PATH_MAX + 40], witness[PATH_MAX + 40], explained[PATH_MAX + 40];
+    snprintf(caught, sizeof caught, "%s-caught.csv", front);
+    snprintf(witness, sizeof witness, "%s-witness.csv", front);
+    snprintf(explained, sizeof explained, "%s-explained.txt", front);
+    if (!snapdrive_write(caught, text, length, outcome)) return false;
+    remove(witness); /* of an earlier run */
+    remove(explained);
+    if (!*judge->program) return true;
+    snapdrive_call(judge, (char *const[]){"snapjudge", "shrink", NULL}, caught, witness);
+    snapdrive_call(judge, (char *const[]){"snapjudge", "explain", NULL}, caught, explained);
+    return true;
+}
+
+/* ---- all runs */
+
+static const struct {
+    const char *name;
+    size_t place;
+    uint64_t least, greatest;
+} snapdrive_ranges[] = {
+    {"threads", offsetof(snapdrive_options, threads), 1, SNAPDRIVE_THREADS},
+    {"components", offsetof(snapdrive_options, components), 1, SNAPDRIVE_COMPONENTS},
+    {"calls", offsetof(snapdrive_options, calls), 1, SNAPRECORD_EVENTS / 2},
+    {"runs", offsetof(snapdrive_options, runs), 1, 1000000000},
+    {"seed", offsetof(snapdrive_options, seed), 0, UINT64_MAX},
+    {"nap", offsetof(snapdrive_options, nap), 0, 1000000},
+    {"stop", offsetof(snapdrive_options, stop), 0, 1000000000},
+    {"limit", offsetof(snapdrive_options, limit), 1, 100000},
+};
+enum { SNAPDRIVE_RANGES = sizeof snapdrive_ranges / sizeof *snapdrive_ranges };
+
+static inline bool snapdrive_fits(const snapdrive_options *options, snapdrive_outcome *outcome) {
+    for (size_t i = 0; i < SNAPDRIVE_RANGES; i++) {
+        uint64_t least = snapdrive_ranges[i].least, greatest = snapdrive_ranges[i].greatest, value;
+        memcpy(&value, (const char *)options + snapdrive_ranges[i].place, sizeof value);
+        if (value < least || value > greatest)
+            return snapdrive_failed(outcome, "limits", "%s is a number from %" PRIu64 " to %" PRIu64, snapdrive_ranges[i].name, least,
+                                    greatest);
+    }
+    if (options->threads * options->calls > SNAPRECORD_EVENTS / 2)
+        return snapdrive_failed(outcome, "limits", "all threads make at most %u calls", SNAPRECORD_EVENTS / 2);
+    if (strcmp(options->order, "choice") && strcmp(options->order, "turn"))
+        return snapdrive_failed(outcome, "usage", "order is choice or turn");
+    return true;
+}
+
+static inline void snapdrive_tell(const snapdrive_outcome *outcome, FILE *to) {
+    fprintf(to, "atomic %" PRIu64 ", regular %" PRIu64 ", neither %" PRIu64 "\n", outcome->found[0], outcome->found[1],
+            outcome->found[2]);
+}
+
+/* Runs fresh objects, and counts the verdicts. Of the first run that is not atomic it keeps NAME-caught.csv, the history,
+ * NAME-witness.csv, the least of it that is not atomic, and NAME-explained.txt. False where there is no verdict. */
+static inline bool snapdrive_run(const snapdrive_object *object, const snapdrive_options *options, snapdrive_outcome *outcome) {
+    snapdrive_judge judge;
+    char front[PATH_MAX];
+    uint64_t seeds = options->seed;
+    struct timespec now, told;
+    *outcome = (snapdrive_outcome){0};
+    if (!snapdrive_fits(options, outcome) || !snapdrive_find_judge(&judge, options->program, outcome)) return false;
+    if (snprintf(front, sizeof front, "%s/%s", options->out, object->name) >= PATH_MAX)
+        return snapdrive_failed(outcome, "files", "the name of the folder is too long");
+    snapdrive_longest_nap = options->nap;
+    atomic_store(&snapdrive_naps, options->seed);
+    clock_gettime(CLOCK_MONOTONIC, &told);
+    for (uint64_t run = 1, has_ended = false; !has_ended; run++) {
+        size_t length = 0;
+        char *text = snapdrive_record(object, options, &seeds, &length, outcome);
+        int status = text ? snapdrive_status(&judge, text, length, options->out, outcome) : -1;
+        if (status >= 0) outcome->found[status]++;
+        if (status > 0 && !outcome->first) {
+            outcome->first = run;
+            if (!snapdrive_keep(&judge, text, length, front, outcome)) status = -1;
+            else
+                fprintf(stderr, "%s: run %" PRIu64 " is not atomic; %s-caught.csv and the files beside it tell of it\n", object->name,
+                        run, front);
+        }
+        free(text);
+        if (status < 0) return false;
+        has_ended = run == options->runs || (options->stop && outcome->found[1] + outcome->found[2] == options->stop);
+        clock_gettime(CLOCK_MONOTONIC, &now);
+        if (has_ended || now.tv_sec > told.tv_sec + (now.tv_nsec < told.tv_nsec)) { /* a second later */
+            told = now;
+            fprintf(stderr, "%s: run %" PRIu64 " of %" PRIu64 ": ", object->name, run, options->runs);
+            snapdrive_tell(outcome, stderr);
+        }
+    }
+    return true;
+}
+
+/* ---- the command line */
+
+static inline bool snapdrive_read_number(snapdrive_options *options, size_t range, const char *value) {
+    char *end = NULL;
+    errno = 0;
+    uint64_t number = strtoull(value, &end, 10);
+    if (*value < '0' || *value > '9' || *end || errno) return false;
+    memcpy((char *)options + snapdrive_ranges[range].place, &number, sizeof number);
+    return true;
+}
+
+static inline bool snapdrive_read_option(snapdrive_options *options, const char *name, const char *value) {
+    for (size_t i = 0; i < SNAPDRIVE_RANGES; i++)
+        if (!strcmp(name, snapdrive_ranges[i].name)) return snapdrive_read_number(options, i, value);
+    const char **text = !strcmp(name, "order")     ? &options->order
+                        : !strcmp(name, "out")     ? &options->out
+                        : !strcmp(name, "program") ? &options->program
+                                                   : NULL;
+    if (text) *text = value;
+    return text;
+}
+
+/* The options of a command line, whose words begin after the object. */
+static inline bool snapdrive_read(char **words, snapdrive_options *options, bool *shows_choices, snapdrive_outcome *outcome) {
+    for (; *words; words++) {
+        if (!strcmp(*words, "--choices")) {
+            *shows_choices = true;
+            continue;
+        }
+        if (strncmp(*words, "--", 2) || !words[1] || !snapdrive_read_option(options, *words + 2, words[1]))
+            return snapdrive_failed(outcome, "usage", "%s is no option with its value\n%s", *words, SNAPDRIVE_USAGE);
+        words++;
+    }
+    return true;
+}
+
+static inline bool snapdrive_show_choices(const snapdrive_options *options, snapdrive_outcome *outcome) {
+    if (!snapdrive_fits(options, outcome)) return false;
+    uint64_t seeds = options->seed;
+    for (uint64_t run = 1; run <= options->runs; run++)
+        for (uint32_t thread = 0; thread < options->threads; thread++) {
+            uint64_t random = snapdrive_next(&seeds);
+            for (uint64_t i = 0; i < options->calls; i++) {
+                uint32_t component = snapdrive_choose(options, thread, i, &random);
+                printf("%" PRIu64 " %" PRIu32, run, thread);
+                if (component == SNAPDRIVE_VIEW) printf(" view\n");
+                else printf(" update %" PRIu32 "\n", component);
+            }
+        }
+    return true;
+}
+
+/* Runs the object that the command line names, or the first one; the last of the objects is {0}. The status is 0 where each run was
+ * atomic, 1 where some were only regular, 2 where some were neither, and 4 where there is no verdict. */
+static inline int snapdrive_main(int count, char **words, const snapdrive_object *objects) {
+    const snapdrive_object *object = objects;
+    snapdrive_options options = SNAPDRIVE_OPTIONS;
+    snapdrive_outcome outcome = {0};
+    bool is_named = count > 1 && strncmp(words[1], "--", 2), shows_choices = false, is_fine;
+    while (is_named && object->name && strcmp(object->name, words[1])) object++;
+    if (!object->name) is_fine = snapdrive_failed(&outcome, "usage", "there is no object %s\n%s", words[1], SNAPDRIVE_USAGE);
+    else is_fine = snapdrive_read(words + 1 + is_named, &options, &shows_choices, &outcome);
+    if (is_fine && shows_choices) is_fine = snapdrive_show_choices(&options, &outcome);
+    else if (is_fine) is_fine = snapdrive_run(object, &options, &outcome);
+    if (!is_fine) {
+        fprintf(stderr, "%s: %s: %s\n", object->name ? object->name : words[1], outcome.fault, outcome.message);
+        return 4;
+    }
+    if (shows_choices) return 0;
+    printf("%s: ", object->name);
+    snapdrive_tell(&outcome, stdout);
+    return outcome.found[2] ? 2 : outcome.found[1] ? 1 : 0;
+}
+#endif

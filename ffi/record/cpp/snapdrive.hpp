@@ -1,0 +1,442 @@
+// Drives a snapshot object of one's own: threads update and view it by a seeded schedule, and the judge judges each run.
+// Two files, this one and snaprecord.hpp, C++17 and POSIX: copy both. docs/OWN-OBJECT.md of snapjudge shows how.
+//
+//     struct Board {                                            // a fresh one for each run, with 0 in each component
+//         explicit Board(std::uint32_t components);
+//         void update(std::uint32_t thread, std::uint32_t component, std::uint32_t value);
+//         std::vector<std::uint32_t> view(std::uint32_t thread);     // or an optional one, which is empty where it gave up
+//     };
+//
+//     int main(int count, char **words) { return snapdrive::main(count, words, {snapdrive::object<Board>("board")}); }
+//
+// Where an object calls snapdrive::pause() between its steps, the other threads run in the middle of its calls. In a test of one's
+// own, snapdrive::run<Board> does the same without a command line; it throws snapdrive::Error and snaprecord::Error.
+//
+// SPDX-License-Identifier: 0BSD
+// Copyright (C) 2026 by the authors of snapjudge
+// Permission to use, copy, modify, and/or distribute this software for any purpose with or without fee is hereby granted.
+// THE SOFTWARE IS PROVIDED "AS IS" AND THE AUTHOR DISCLAIMS ALL WARRANTIES WITH REGARD TO THIS SOFTWARE INCLUDING ALL IMPLIED
+// WARRANTIES OF MERCHANTABILITY AND FITNESS. IN NO EVENT SHALL THE AUTHOR BE LIABLE FOR ANY SPECIAL, DIRECT, INDIRECT, OR
+// CONSEQUENTIAL DAMAGES OR ANY DAMAGES WHATSOEVER RESULTING FROM LOSS OF USE, DATA OR PROFITS, WHETHER IN AN ACTION OF
+// CONTRACT, NEGLIGENCE OR OTHER TORTIOUS ACTION, ARISING OUT OF OR IN CONNECTION WITH THE USE OR PERFORMANCE OF THIS SOFTWARE.
+#ifndef SNAPDRIVE_HPP
+#define SNAPDRIVE_HPP
+#include "snaprecord.hpp"
+#include <chrono>
+#include <condition_variable>
+#include <cstdlib>
+#include <dlfcn.h>
+#include <fcntl.h>
+#include <filesystem>
+#include <fstream>
+#include <functional>
+#include <iostream>
+#include <mutex>
+#include <optional>
+#include <spawn.h>
+#include <sys/wait.h>
+#include <thread>
+#include <unistd.h>
+
+namespace snapdrive {
+
+constexpr const char *usage =
+    "usage: [OBJECT] [OPTION VALUE ..]\n"
+    "  --threads 4      how many threads, at most 64\n"
+    "  --components 4   how many components, at most 64; thread t updates t, t + threads and so on\n"
+    "  --calls 200      how many calls each thread makes; all threads make at most 32768\n"
+    "  --runs 20        how many runs, each of a fresh object\n"
+    "  --seed 1         what the choice of the calls begins with\n"
+    "  --order choice   each call is chosen by the seed; or turn: updates and a view in turn\n"
+    "  --nap 0          where not 0, pauses and the gaps between calls last up to so many microseconds\n"
+    "  --stop 0         where not 0, ends after so many runs that were not atomic\n"
+    "  --limit 60       how many seconds a run may take\n"
+    "  --out .          the folder for the first run that was not atomic\n"
+    "  --program FILE   the program snapjudge; else SNAPJUDGE_PROGRAM names it, else it is on the PATH\n"
+    "  --choices        writes the calls that the seed chooses, and runs nothing";
+
+// Why runs have no verdict; the name is usage, limits, view, died, no judge, no verdict or files.
+class Error : public std::runtime_error {
+  public:
+    Error(const char *word, const std::string &message) : std::runtime_error(message), name(word) {}
+    const char *const name;
+};
+
+struct Options {
+    std::uint64_t threads = 4, components = 4, calls = 200, runs = 20, seed = 1, nap = 0, stop = 0, limit = 60;
+    std::string order = "choice", out = ".", program;
+};
+
+// How many runs were atomic, only regular, or neither; and which was the first that was not atomic, from 1, or 0.
+struct Outcome {
+    std::uint64_t atomic = 0, regular = 0, neither = 0, first = 0;
+
+    std::string text() const {
+        return "atomic " + std::to_string(atomic) + ", regular " + std::to_string(regular) + ", neither " + std::to_string(neither);
+    }
+};
+
+// ---- the schedule
+
+// The generator splitmix64.
+class Random {
+  public:
+    explicit Random(std::uint64_t seed) : state(seed) {}
+    std::uint64_t next() { return mix(state += gamma); }
+
+    static constexpr std::uint64_t gamma = 0x9E3779B97F4A7C15;
+    static std::uint64_t mix(std::uint64_t from) {
+        from = (from ^ from >> 30) * 0xBF58476D1CE4E5B9;
+        from = (from ^ from >> 27) * 0x94D049BB133111EB;
+        return from ^ from >> 31;
+    }
+
+  private:
+    std::uint64_t state;
+};
+
+// The component that call i of a thread updates; nothing is a view.
+inline std::optional<std::uint32_t> choose(const Options &options, std::uint32_t thread, std::uint64_t i, Random &random) {
+    const std::uint64_t own = thread < options.components ? (options.components - 1 - thread) / options.threads + 1 : 0;
+    std::uint64_t place = i % (own + 1);
+    if (options.order == "choice") {
+        const std::uint64_t choice = random.next();
+        place = choice & 1 || own == 0 ? own : (choice >> 1) % own;
+    }
+    if (place == own) return {};
+    return static_cast<std::uint32_t>(thread + place * options.threads);
+}
+
+inline std::atomic<std::uint64_t> naps{0};
+inline std::uint64_t longest_nap = 0;
+
+// Lets the other threads run, and naps where the options ask for it.
+inline void pause() {
+    if (longest_nap == 0) return std::this_thread::yield();
+    const std::uint64_t state = naps.fetch_add(Random::gamma, std::memory_order_relaxed) + Random::gamma;
+    std::this_thread::sleep_for(std::chrono::microseconds(Random::mix(state) % (longest_nap + 1)));
+}
+
+// ---- one run
+
+template <class Board>
+void work(Board &board, snaprecord::Log &log, std::uint32_t thread, const Options &options, Random random) {
+    for (std::uint64_t i = 0; i < options.calls; i++) {
+        const auto component = choose(options, thread, i, random);
+        if (component) {
+            const auto value = static_cast<std::uint32_t>((thread + 1) * 1000000 + i); // each value once
+            if (!log.begin_update(*component, value)) return;
+            board.update(thread, *component, value);
+            log.end_update();
+        } else {
+            if (!log.begin_view()) return;
+            const std::optional<std::vector<std::uint32_t>> values = board.view(thread);
+            if (values) log.end_view_values(*values);
+            else log.drop_view();
+            if (values && values->size() != options.components)
+                throw Error("view", "a view has " + std::to_string(values->size()) + " values of " + std::to_string(options.components) +
+                                        " components");
+        }
+        if (longest_nap > 0) pause();
+    }
+}
+
+// Counts the threads of a run, and keeps the first error of one.
+class Race {
+  public:
+    explicit Race(std::uint64_t threads) : waiting(threads), running(threads) {}
+
+    void start() {
+        waiting--;
+        while (waiting > 0) std::this_thread::yield();
+    }
+
+    void end(std::exception_ptr error) {
+        const std::lock_guard guard(lock);
+        if (!failed) failed = error;
+        if (--running == 0) ended.notify_all();
+    }
+
+    // A call that hangs can't be ended, so the process is.
+    void wait(const std::string &name, std::uint64_t limit) {
+        std::unique_lock guard(lock);
+        if (ended.wait_for(guard, std::chrono::seconds(limit), [this] { return running == 0; })) return;
+        std::cerr << name << ": hangs: a run took more than " << limit << " s: a call of the object does not end" << std::endl;
+        std::_Exit(4);
+    }
+
+    std::exception_ptr failed;
+
+  private:
+    std::atomic<std::uint64_t> waiting;
+    std::uint64_t running;
+    std::mutex lock;
+    std::condition_variable ended;
+};
+
+// The history of a fresh object.
+template <class Board> std::string record(const std::string &name, const Options &options, Random &seeds) {
+    const auto threads = static_cast<std::uint32_t>(options.threads), components = static_cast<std::uint32_t>(options.components);
+    snaprecord::Recorder recorder(threads, components, static_cast<std::uint32_t>(options.calls));
+    Board board(components);
+    Race race(threads);
+    std::vector<std::thread> all;
+    for (std::uint32_t t = 0; t < threads; t++)
+        all.emplace_back([&, t, random = Random(seeds.next())] {
+            std::exception_ptr error;
+            race.start();
+            try {
+                work(board, recorder.log(t), t, options, random);
+            } catch (const Error &) {
+                error = std::current_exception();
+            } catch (const std::exception &thrown) {
+                error = std::make_exception_ptr(Error("died", "a call of thread " + std::to_string(t) + " threw " + thrown.what()));
+            }
+            race.end(error);
+        });
+    race.wait(name, options.limit);
+    for (std::thread &thread : all) thread.join();
+    if (race.failed) std::rethrow_exception(race.failed);
+    return recorder.text();
+}
+
+// ---- the judge
+
+// The library where it is there, and else the program. SNAPJUDGE_LIBRARY names the library; it is empty for none.
+class Judge {
+  public:
+    explicit Judge(const std::string &named) {
+        const char *library = std::getenv("SNAPJUDGE_LIBRARY"), *by_name = std::getenv("SNAPJUDGE_PROGRAM");
+        const std::string wanted = !named.empty() ? named : by_name && *by_name ? by_name : "snapjudge";
+        program = find(wanted);
+        const std::string folder = program.empty() ? "." : std::filesystem::path(program).parent_path().string();
+        std::vector<std::string> places{folder + "/../lib/libsnapjudge.so", folder + "/ffi/build/libsnapjudge.so", "libsnapjudge.so"};
+        if (library) places = {library};
+        for (const std::string &place : places)
+            if (!check && !place.empty()) load(place);
+        const bool is_missing = library && *library ? !check : !check && program.empty();
+        if (is_missing)
+            throw Error("no judge", "there is no " + (library && *library ? std::string("library ") + library : "program " + wanted) +
+                                        ": install snapjudge, or name it by --program");
+    }
+
+    // 0 for atomic, 1 for regular, 2 for neither.
+    int status(const std::string &text, const std::string &out) const {
+        const int status = check ? by_library(text) : by_program(text, out);
+        if (status > 2) throw Error("no verdict", "the judge ends with status " + std::to_string(status));
+        return status;
+    }
+
+    // Writes a history, its witness and its explanation.
+    void keep(const std::string &text, const std::string &front) const {
+        write(front + "-caught.csv", text);
+        for (const char *name : {"-witness.csv", "-explained.txt"}) std::remove((front + name).c_str()); // of an earlier run
+        if (program.empty()) return;
+        call({"shrink"}, front + "-caught.csv", front + "-witness.csv");
+        call({"explain"}, front + "-caught.csv", front + "-explained.txt");
+    }
+
+  private:
+    static std::string find(const std::string &named) {
+        const char *path = named.find('/') == std::string::npos ? std::getenv("PATH") : nullptr;
+        std::string rest = path ? path : "";
+        std::string candidate = path ? "" : named;
+        for (;;) {
+            std::error_code error;
+            if (!candidate.empty() && access(candidate.c_str(), X_OK) == 0) return std::filesystem::canonical(candidate, error).string();
+            if (rest.empty()) return "";
+            const std::size_t end = rest.find(':');
+            candidate = rest.substr(0, end) + "/" + named;
+            rest = end == std::string::npos ? "" : rest.substr(end + 1);
+        }
+    }
+
+    void load(const std::string &place) {
+        void *library = dlopen(place.c_str(), RTLD_NOW);
+        if (!library) return;
+        const auto version = reinterpret_cast<std::uint32_t (*)()>(dlsym(library, "snapjudge_version"));
+        if (version && version() == 1) check = reinterpret_cast<Check *>(dlsym(library, "snapjudge_check"));
+    }
+
+    int by_library(const std::string &text) const {
+        std::vector<std::uint8_t> report(2 * text.size() + 256);
+        std::size_t length = 0;
+        return static_cast<int>(check(reinterpret_cast<const std::uint8_t *>(text.data()), text.size(), report.data(), report.size(), &length));
+    }
+
+    int by_program(const std::string &text, const std::string &out) const {
+        const std::string name = out + "/run-" + std::to_string(getpid()) + ".csv";
+        write(name, text);
+        const int status = call({"check", "--quiet"}, name, "/dev/null");
+        std::remove(name.c_str());
+        return status;
+    }
+
+    static void write(const std::string &name, const std::string &text) {
+        std::ofstream file(name, std::ios::binary);
+        file << text;
+        file.close();
+        if (!file) throw Error("files", name + " can't be written");
+    }
+
+    // Runs the program from a file to a file; its status, or 4.
+    int call(std::vector<std::string> words, const std::string &from, const std::string &to) const {
+        std::vector<char *> given{const_cast<char *>("snapjudge")};
+        for (std::string &word : words) given.push_back(word.data());
+        given.push_back(nullptr);
+        posix_spawn_file_actions_t files;
+        posix_spawn_file_actions_init(&files);
+        posix_spawn_file_actions_addopen(&files, STDIN_FILENO, from.c_str(), O_RDONLY, 0);
+        posix_spawn_file_actions_addopen(&files, STDOUT_FILENO, to.c_str(), O_WRONLY | O_CREAT | O_TRUNC, 0666);
+        pid_t process;
+        int status = 0;
+        const bool is_started = posix_spawn(&process, program.c_str(), &files, nullptr, given.data(), environ) == 0;
+        posix_spawn_file_actions_destroy(&files);
+        return is_started && waitpid(process, &status, 0) == process && WIFEXITED(status) ? WEXITSTATUS(status) : 4;
+    }
+
+    using Check = std::uint32_t(const std::uint8_t *, std::size_t, std::uint8_t *, std::size_t, std::size_t *);
+    std::string program; // empty where there is none
+    Check *check = nullptr;
+};
+
+// ---- all runs
+
+struct Range {
+    const char *name;
+    std::uint64_t Options::*place;
+    std::uint64_t least, greatest;
+};
+inline const Range ranges[] = {
+    {"threads", &Options::threads, 1, 64},
+    {"components", &Options::components, 1, 64},
+    {"calls", &Options::calls, 1, snaprecord::event_limit / 2},
+    {"runs", &Options::runs, 1, 1000000000},
+    {"seed", &Options::seed, 0, UINT64_MAX},
+    {"nap", &Options::nap, 0, 1000000},
+    {"stop", &Options::stop, 0, 1000000000},
+    {"limit", &Options::limit, 1, 100000},
+};
+
+inline void test(const Options &options) {
+    for (const Range &range : ranges)
+        if (options.*range.place < range.least || options.*range.place > range.greatest)
+            throw Error("limits", std::string(range.name) + " is a number from " + std::to_string(range.least) + " to " +
+                                      std::to_string(range.greatest));
+    if (options.threads * options.calls > snaprecord::event_limit / 2)
+        throw Error("limits", "all threads make at most " + std::to_string(snaprecord::event_limit / 2) + " calls");
+    if (options.order != "choice" && options.order != "turn") throw Error("usage", "order is choice or turn");
+}
+
+// Runs fresh objects, and counts the verdicts. Of the first run that is not atomic it keeps NAME-caught.csv, the history,
+// NAME-witness.csv, the least of it that is not atomic, and NAME-explained.txt.
+template <class Board> Outcome run(const std::string &name, const Options &options = {}) {
+    test(options);
+    const Judge judge(options.program);
+    const std::string front = options.out + "/" + name;
+    Random seeds(options.seed);
+    Outcome outcome;
+    auto told = std::chrono::steady_clock::now();
+    longest_nap = options.nap;
+    naps = options.seed;
+    for (std::uint64_t number = 1;; number++) {
+        const std::string text = record<Board>(name, options, seeds);
+        const int status = judge.status(text, options.out);
+        (status == 0 ? outcome.atomic : status == 1 ? outcome.regular : outcome.neither)++;
+        if (status != 0 && outcome.first == 0) {
+            outcome.first = number;
+            judge.keep(text, front);
+            std::cerr << name << ": run " << number << " is not atomic; " << front << "-caught.csv and the files beside it tell of it" << std::endl;
+        }
+        const bool has_ended = number == options.runs || (options.stop > 0 && outcome.regular + outcome.neither == options.stop);
+        const auto now = std::chrono::steady_clock::now();
+        if (has_ended || now >= told + std::chrono::seconds(1)) {
+            told = now;
+            std::cerr << name << ": run " << number << " of " << options.runs << ": " << outcome.text() << std::endl;
+        }
+        if (has_ended) return outcome;
+    }
+}
+
+// ---- the command line
+
+struct Object {
+    std::string name;
+    std::function<Outcome(const Options &)> run;
+};
+
+template <class Board> Object object(const std::string &name) {
+    return {name, [name](const Options &options) { return run<Board>(name, options); }};
+}
+
+inline bool read_option(Options &options, const std::string &name, const std::string &value) {
+    for (const Range &range : ranges)
+        if (name == range.name) {
+            if (value.empty() || value.find_first_not_of("0123456789") != std::string::npos || value.size() > 20) return false;
+            errno = 0;
+            options.*range.place = std::strtoull(value.c_str(), nullptr, 10);
+            return errno == 0;
+        }
+    std::string *text = name == "order" ? &options.order : name == "out" ? &options.out : name == "program" ? &options.program : nullptr;
+    if (text) *text = value;
+    return text;
+}
+
+inline void show_choices(const Options &options) {
+    test(options);
+    Random seeds(options.seed);
+    for (std::uint64_t number = 1; number <= options.runs; number++)
+        for (std::uint32_t thread = 0; thread < options.threads; thread++) {
+            Random random(seeds.next());
+            for (std::uint64_t i = 0; i < options.calls; i++) {
+                const auto component = choose(options, thread, i, random);
+                std::cout << number << ' ' << thread << (component ? " update " + std::to_string(*component) : " view") << '\n';
+            }
+        }
+}
+
+inline const char *name_of(snaprecord::Fault fault) {
+    static constexpr const char *names[] = {"none", "limits", "nested", "not open", "after full", "component", "two writers", "same value"};
+    const auto place = static_cast<std::size_t>(fault);
+    return place < std::size(names) ? names[place] : "recorder";
+}
+
+// Runs the object that the command line names, or the first one. The status is 0 where each run was atomic, 1 where some were only
+// regular, 2 where some were neither, and 4 where there is no verdict.
+inline int main(int count, char **words, const std::vector<Object> &objects) {
+    std::vector<std::string> rest(words + 1, words + count);
+    std::string name = objects.front().name;
+    const auto failed = [&name](const char *fault, const char *message) {
+        std::cerr << name << ": " << fault << ": " << message << std::endl;
+        return 4;
+    };
+    try {
+        if (!rest.empty() && rest[0].rfind("--", 0) != 0) {
+            name = rest[0];
+            rest.erase(rest.begin());
+        }
+        const auto chosen = std::find_if(objects.begin(), objects.end(), [&name](const Object &object) { return object.name == name; });
+        if (chosen == objects.end()) throw Error("usage", "there is no object " + name + "\n" + usage);
+        Options options;
+        const auto choices = std::find(rest.begin(), rest.end(), "--choices");
+        const bool shows_choices = choices != rest.end();
+        if (shows_choices) rest.erase(choices);
+        for (std::size_t at = 0; at < rest.size(); at += 2)
+            if (rest[at].rfind("--", 0) != 0 || at + 1 == rest.size() || !read_option(options, rest[at].substr(2), rest[at + 1]))
+                throw Error("usage", rest[at] + " is no option with its value\n" + usage);
+        if (shows_choices) {
+            show_choices(options);
+            return 0;
+        }
+        const Outcome outcome = chosen->run(options);
+        std::cout << name << ": " << outcome.text() << std::endl;
+        return outcome.neither ? 2 : outcome.regular ? 1 : 0;
+    } catch (const Error &error) {
+        return failed(error.name, error.what());
+    } catch (const snaprecord::Error &error) {
+        return failed(name_of(error.fault), error.what());
+    }
+}
+
+} // namespace snapdrive
+#endif

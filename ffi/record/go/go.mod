@@ -1,0 +1,3 @@
+module snaprecord
+
+go 1.19

@@ -1,0 +1,179 @@
+// The recorder's texts of two worked runs, written to the files that are named, and the fault of each misuse.
+// usage: misuse FILE [FILE]
+package main
+
+import (
+	"errors"
+	"fmt"
+	"os"
+	"reflect"
+	"strings"
+
+	. "snaprecord"
+)
+
+var passed, failures int
+
+func expect(name string, holds bool) {
+	if holds {
+		passed++
+		return
+	}
+	failures++
+	fmt.Fprintf(os.Stderr, "go: %s: failed\n", name)
+}
+
+func recorder(threads, components, calls int) *Recorder[uint32] {
+	made, err := New[uint32](threads, components, calls)
+	expect("a recorder", err == nil)
+	return made
+}
+
+// The recorder has no text, for this reason; or it has one, where there is no reason.
+func expectFault[V comparable](name string, recorder *Recorder[V], fault error) {
+	_, err := recorder.Text()
+	expect(name, errors.Is(err, fault))
+}
+
+func update[V comparable](log *Log[V], component int, value V) {
+	if log.BeginUpdate(component, value) != 0 {
+		log.EndUpdate()
+	}
+}
+
+func show[V comparable](log *Log[V], values ...V) {
+	if log.BeginView() {
+		log.EndViewValues(values)
+	}
+}
+
+func textOf(recorder *Recorder[uint32]) []byte {
+	text, err := recorder.Text()
+	expect("a text", err == nil)
+	return []byte(text)
+}
+
+func worked() []byte {
+	recorder := recorder(2, 2, 6)
+	writer, viewer := recorder.Log(0), recorder.Log(1)
+	expect("the first update has number 1", writer.BeginUpdate(0, 7) == 1)
+	show(viewer, 7, 0)
+	writer.EndUpdate()
+	expect("the second update has number 2", writer.BeginUpdate(0, 8) == 2)
+	writer.EndUpdate()
+	if viewer.BeginView() {
+		viewer.EndView([]Entry[uint32]{{Component: 0, Number: 2, Value: 8}, {Component: 1}})
+	}
+	if viewer.BeginView() {
+		viewer.DropView()
+	}
+	show(viewer, 99, 0) // nobody wrote 99
+	return textOf(recorder)
+}
+
+func failed() []byte {
+	recorder := recorder(3, 2, 6)
+	recorder.Initials = []uint32{5, 6}
+	writer, viewer, spare := recorder.Log(0), recorder.Log(1), recorder.Log(2)
+	expect("an update that is dropped", writer.BeginUpdate(0, 7) == 1)
+	writer.DropUpdate()
+	expect("its number is used again", writer.BeginUpdate(0, 7) == 1)
+	show(viewer, 5, 6)
+	writer.EndUpdate()
+	show(viewer, 7, 6)
+	expect("an update of which it is not known whether it had an effect", writer.BeginUpdate(1, 8) == 1)
+	show(viewer, 7, 8)
+	show(spare, 7, 8)
+	return textOf(recorder)
+}
+
+func main() {
+	for place, text := range [][]byte{worked(), failed()} {
+		if place+1 < len(os.Args) {
+			expect("a file", os.WriteFile(os.Args[place+1], text, 0o666) == nil)
+		}
+	}
+
+	for _, of := range [][3]int{{0, 1, 1}, {65537, 1, 1}, {1, 257, 1}, {2, 1, EventLimit/4 + 1}, {1, 1, 0}} {
+		_, err := New[uint32](of[0], of[1], of[2])
+		expect("limits", errors.Is(err, Limits))
+	}
+	recorder(2, 256, EventLimit/4)
+
+	full := recorder(2, 1, 2)
+	update(full.Log(0), 0, 1)
+	update(full.Log(0), 0, 2)
+	expect("a full log refuses", full.Log(0).BeginUpdate(0, 3) == 0)
+	expect("a full log stops all goroutines", !full.Log(1).BeginView())
+	expectFault("a full log is a history", full, nil)
+	full.Log(0).EndUpdate()
+	expectFault("a call after a full log", full, AfterFull)
+
+	nested := recorder(2, 1, 4)
+	expect("begun", nested.Log(0).BeginUpdate(0, 1) == 1)
+	expect("a nested call is refused", !nested.Log(0).BeginView())
+	expect("a misuse stops all goroutines", !nested.Log(1).BeginView())
+	expectFault("a nested call", nested, Nested)
+
+	alone := recorder(1, 1, 4)
+	alone.Log(0).EndUpdate()
+	expectFault("an end without a begin", alone, NotOpen)
+
+	other := recorder(1, 1, 4)
+	if other.Log(0).BeginView() {
+		other.Log(0).EndUpdate()
+	}
+	expectFault("an end of another kind", other, NotOpen)
+
+	high := recorder(1, 2, 4)
+	expect("a component that is too high is refused", high.Log(0).BeginUpdate(2, 1) == 0)
+	expectFault("a component that is too high", high, Component)
+
+	falling := recorder(1, 2, 4)
+	if falling.Log(0).BeginView() {
+		falling.Log(0).EndView([]Entry[uint32]{{Component: 1}, {Component: 0}})
+	}
+	expectFault("entries that do not rise", falling, Component)
+
+	long, short := recorder(1, 2, 4), recorder(1, 2, 4)
+	show(long.Log(0), 0, 0, 0)
+	expectFault("a view of too many values", long, Component)
+	show(short.Log(0), 0)
+	expectFault("a view of a part", short, Part)
+
+	writers := recorder(2, 2, 4)
+	update(writers.Log(0), 1, 5)
+	update(writers.Log(1), 1, 6)
+	expectFault("two writers", writers, TwoWriters)
+
+	same := recorder(1, 2, 4)
+	update(same.Log(0), 1, 5)
+	update(same.Log(0), 1, 5)
+	expectFault("one value twice, and no view", same, nil)
+	show(same.Log(0), 0, 5)
+	expectFault("one value twice", same, SameValue)
+
+	initial := recorder(1, 1, 4)
+	initial.Initial = 5
+	update(initial.Log(0), 0, 5)
+	show(initial.Log(0), 5)
+	expectFault("the initial value", initial, SameValue)
+
+	initials := recorder(1, 2, 4)
+	initials.Initials = []uint32{1}
+	expectFault("too few first values", initials, Initials)
+
+	named, err := New[string](1, 2, 4)
+	expect("a recorder of texts", err == nil)
+	update(named.Log(0), 1, "b")
+	update(named.Log(0), 0, "a")
+	show(named.Log(0), "a", "b")
+	text, err := named.Text()
+	expect("texts are numbered", err == nil && strings.Contains(text, ",update,1:1:0\n") && strings.HasSuffix(text, ",view,0:1:1 1:1:0\n"))
+	expect("a table of texts", reflect.DeepEqual(named.Table(), []string{"b", "a"}))
+
+	fmt.Printf("%d passed, %d failed\n", passed, failures)
+	if failures > 0 {
+		os.Exit(1)
+	}
+}

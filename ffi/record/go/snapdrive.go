@@ -1,0 +1,451 @@
+// SPDX-License-Identifier: 0BSD
+
+package snaprecord
+
+import (
+	"errors"
+	"fmt"
+	"os"
+	"os/exec"
+	"path/filepath"
+	"runtime"
+	"strconv"
+	"strings"
+	"sync/atomic"
+	"time"
+)
+
+const usage = `usage: [OBJECT] [OPTION VALUE ..]
+  --threads 4      how many threads, at most 64; they are goroutines
+  --components 4   how many components, at most 64; thread t updates t, t + threads and so on
+  --calls 200      how many calls each thread makes; all threads make at most 32768
+  --runs 20        how many runs, each of a fresh object
+  --seed 1         what the choice of the calls begins with
+  --order choice   each call is chosen by the seed; or turn: updates and a view in turn
+  --nap 0          where not 0, pauses and the gaps between calls last up to so many microseconds
+  --stop 0         where not 0, ends after so many runs that were not atomic
+  --limit 60       how many seconds a run may take
+  --out .          the folder for the first run that was not atomic
+  --program FILE   the program snapjudge; else SNAPJUDGE_PROGRAM names it, else it is on the PATH
+  --choices        writes the calls that the seed chooses, and runs nothing`
+
+// A Board is an object under test; each component is 0 at first. A view has one value for each component, and is nil where it gave
+// up. Where an object calls Pause between its steps, the other goroutines run in the middle of its calls.
+type Board interface {
+	Update(thread, component int, value uint32)
+	View(thread int) []uint32
+}
+
+// An Object has a name, and makes a fresh board for each run.
+type Object struct {
+	Name string
+	Make func(components int) Board
+}
+
+type Options struct {
+	Threads, Components, Calls, Runs, Seed, Nap, Stop, Limit uint64
+	Order, Out, Program                                      string
+}
+
+func DefaultOptions() Options {
+	return Options{Threads: 4, Components: 4, Calls: 200, Runs: 20, Seed: 1, Limit: 60, Order: "choice", Out: "."}
+}
+
+// An Outcome tells how many runs were atomic, only regular, or neither; and which was the first that was not atomic, from 1, or 0.
+type Outcome struct{ Atomic, Regular, Neither, First uint64 }
+
+func (outcome Outcome) String() string {
+	return fmt.Sprintf("atomic %d, regular %d, neither %d", outcome.Atomic, outcome.Regular, outcome.Neither)
+}
+
+// A DriveError is why runs have no verdict; its name is usage, limits, view, died, hangs, no judge, no verdict or files.
+type DriveError struct{ Name, Message string }
+
+func (err *DriveError) Error() string { return err.Name + ": " + err.Message }
+
+func failed(name, format string, values ...any) error {
+	return &DriveError{name, fmt.Sprintf(format, values...)}
+}
+
+// ---- the schedule
+
+const gamma = 0x9E3779B97F4A7C15
+
+// The output of splitmix64 in this state.
+func mix(state uint64) uint64 {
+	state = (state ^ state>>30) * 0xBF58476D1CE4E5B9
+	state = (state ^ state>>27) * 0x94D049BB133111EB
+	return state ^ state>>31
+}
+
+// The generator splitmix64.
+type random uint64
+
+func (state *random) next() uint64 {
+	*state += gamma
+	return mix(uint64(*state))
+}
+
+const view = -1
+
+// The component that each call of a goroutine updates, or view.
+func choose(options Options, thread uint64, generator random) []int {
+	own := uint64(0)
+	if thread < options.Components {
+		own = (options.Components-1-thread)/options.Threads + 1
+	}
+	calls := make([]int, options.Calls)
+	for i := range calls {
+		place := uint64(i) % (own + 1)
+		if options.Order == "choice" {
+			choice := generator.next()
+			if place = own; choice%2 == 0 && own > 0 {
+				place = (choice >> 1) % own
+			}
+		}
+		if calls[i] = view; place < own {
+			calls[i] = int(thread + place*options.Threads)
+		}
+	}
+	return calls
+}
+
+// For each run the calls of each goroutine, as the seed has them.
+func schedules(options Options) func() [][]int {
+	seeds := random(options.Seed)
+	return func() [][]int {
+		schedule := make([][]int, options.Threads)
+		for t := range schedule {
+			schedule[t] = choose(options, uint64(t), random(seeds.next()))
+		}
+		return schedule
+	}
+}
+
+var naps, longestNap atomic.Uint64
+
+// Pause lets the other goroutines run, and naps where the options ask for it.
+func Pause() {
+	if longest := longestNap.Load(); longest > 0 {
+		time.Sleep(time.Duration(mix(naps.Add(gamma))%(longest+1)) * time.Microsecond)
+	} else {
+		runtime.Gosched()
+	}
+}
+
+// ---- one run
+
+func work(board Board, log *Log[uint32], calls []int, options Options) (err error) {
+	defer func() {
+		if reason := recover(); reason != nil {
+			err = failed("died", "a call of thread %d panicked: %v", log.thread, reason)
+		}
+	}()
+	for i, component := range calls {
+		if component == view {
+			if !log.BeginView() {
+				return nil
+			}
+			values := board.View(log.thread)
+			if values == nil {
+				log.DropView()
+				continue
+			}
+			log.EndViewValues(values)
+			if uint64(len(values)) != options.Components {
+				return failed("view", "a view has %d values of %d components", len(values), options.Components)
+			}
+		} else {
+			value := uint32((log.thread+1)*1000000 + i) // each value once
+			if log.BeginUpdate(component, value) == 0 {
+				return nil
+			}
+			board.Update(log.thread, component, value)
+			log.EndUpdate()
+		}
+		if options.Nap > 0 {
+			Pause()
+		}
+	}
+	return nil
+}
+
+// The history of a fresh object under a schedule.
+func record(object Object, options Options, schedule [][]int) (string, error) {
+	recorder, err := New[uint32](int(options.Threads), int(options.Components), int(options.Calls))
+	if err != nil {
+		return "", err
+	}
+	board := object.Make(int(options.Components))
+	ready, start, ended := make(chan bool, len(schedule)), make(chan bool), make(chan error, len(schedule))
+	for t, calls := range schedule {
+		go func(log *Log[uint32], calls []int) {
+			ready <- true
+			<-start
+			ended <- work(board, log, calls, options)
+		}(recorder.Log(t), calls)
+	}
+	for range schedule {
+		<-ready
+	}
+	close(start)
+	late := time.After(time.Duration(options.Limit) * time.Second)
+	for range schedule {
+		select {
+		case err := <-ended:
+			if err != nil {
+				return "", err
+			}
+		case <-late:
+			return "", failed("hangs", "a run took more than %d s: a call of the object does not end", options.Limit)
+		}
+	}
+	return recorder.Text()
+}
+
+// ---- the judge
+
+// The library where it is there, and else the program, which is empty where there is none.
+type judge struct {
+	program string
+	library library
+}
+
+// SNAPJUDGE_LIBRARY names the library; it is empty for none. Else it is sought beside the program.
+func findJudge(named string) (judge, error) {
+	for _, name := range []string{os.Getenv("SNAPJUDGE_PROGRAM"), "snapjudge"} {
+		if named == "" {
+			named = name
+		}
+	}
+	program, err := exec.LookPath(named)
+	if err == nil {
+		program, err = filepath.EvalSymlinks(program)
+	}
+	if err == nil {
+		program, err = filepath.Abs(program)
+	}
+	if err != nil {
+		program = ""
+	}
+	folder := filepath.Dir(program)
+	places := []string{folder + "/../lib/libsnapjudge.so", folder + "/ffi/build/libsnapjudge.so", "libsnapjudge.so"}
+	only, isNamed := os.LookupEnv("SNAPJUDGE_LIBRARY")
+	if isNamed {
+		places = []string{only}
+	}
+	found := judge{program: program}
+	for _, place := range places {
+		if place != "" && !found.library.isThere() {
+			found.library = load(place)
+		}
+	}
+	if only != "" && !found.library.isThere() {
+		return found, failed("no judge", "there is no library %s", only)
+	}
+	if program == "" && !found.library.isThere() {
+		return found, failed("no judge", "there is no program %s: install snapjudge, or name it by --program", named)
+	}
+	return found, nil
+}
+
+// 0 for atomic, 1 for regular, 2 for neither.
+func (judge judge) status(text string) (int, error) {
+	status := 4
+	if judge.library.isThere() {
+		status = judge.library.check(text)
+	} else {
+		command := exec.Command(judge.program, "check", "--quiet")
+		command.Stdin = strings.NewReader(text)
+		if err := command.Run(); err == nil || errors.As(err, new(*exec.ExitError)) {
+			status = command.ProcessState.ExitCode()
+		}
+	}
+	if status < 0 || status > 2 {
+		return 0, failed("no verdict", "the judge ends with status %d", status)
+	}
+	return status, nil
+}
+
+// Writes a history, its witness and its explanation.
+func (judge judge) keep(text, front string) error {
+	if err := os.WriteFile(front+"-caught.csv", []byte(text), 0o666); err != nil {
+		return failed("files", "%v", err)
+	}
+	for verb, name := range map[string]string{"shrink": "-witness.csv", "explain": "-explained.txt"} {
+		os.Remove(front + name) // of an earlier run
+		if judge.program == "" {
+			continue
+		}
+		command := exec.Command(judge.program, verb)
+		command.Stdin = strings.NewReader(text)
+		said, _ := command.Output()
+		if err := os.WriteFile(front+name, said, 0o666); err != nil {
+			return failed("files", "%v", err)
+		}
+	}
+	return nil
+}
+
+// ---- all runs
+
+type number struct {
+	name            string
+	place           *uint64
+	least, greatest uint64
+}
+
+func numbers(options *Options) []number {
+	return []number{
+		{"threads", &options.Threads, 1, 64},
+		{"components", &options.Components, 1, 64},
+		{"calls", &options.Calls, 1, EventLimit / 2},
+		{"runs", &options.Runs, 1, 1000000000},
+		{"seed", &options.Seed, 0, 1<<64 - 1},
+		{"nap", &options.Nap, 0, 1000000},
+		{"stop", &options.Stop, 0, 1000000000},
+		{"limit", &options.Limit, 1, 100000},
+	}
+}
+
+func test(options Options) error {
+	for _, it := range numbers(&options) {
+		if *it.place < it.least || *it.place > it.greatest {
+			return failed("limits", "%s is a number from %d to %d", it.name, it.least, it.greatest)
+		}
+	}
+	if options.Threads*options.Calls > EventLimit/2 {
+		return failed("limits", "all threads make at most %d calls", EventLimit/2)
+	}
+	if options.Order != "choice" && options.Order != "turn" {
+		return failed("usage", "order is choice or turn")
+	}
+	return nil
+}
+
+// Run runs fresh objects, and counts the verdicts. Of the first run that is not atomic it keeps NAME-caught.csv, the history,
+// NAME-witness.csv, the least of it that is not atomic, and NAME-explained.txt.
+func Run(object Object, options Options) (Outcome, error) {
+	var outcome Outcome
+	if err := test(options); err != nil {
+		return outcome, err
+	}
+	judge, err := findJudge(options.Program)
+	if err != nil {
+		return outcome, err
+	}
+	front, told, next := options.Out+"/"+object.Name, time.Now(), schedules(options)
+	longestNap.Store(options.Nap)
+	naps.Store(options.Seed)
+	for run := uint64(1); ; run++ {
+		text, err := record(object, options, next())
+		if err != nil {
+			return outcome, err
+		}
+		status, err := judge.status(text)
+		if err != nil {
+			return outcome, err
+		}
+		*[]*uint64{&outcome.Atomic, &outcome.Regular, &outcome.Neither}[status]++
+		if status > 0 && outcome.First == 0 {
+			outcome.First = run
+			if err := judge.keep(text, front); err != nil {
+				return outcome, err
+			}
+			fmt.Fprintf(os.Stderr, "%s: run %d is not atomic; %s-caught.csv and the files beside it tell of it\n", object.Name, run, front)
+		}
+		hasEnded := run == options.Runs || options.Stop > 0 && outcome.Regular+outcome.Neither == options.Stop
+		if hasEnded || time.Since(told) >= time.Second {
+			told = time.Now()
+			fmt.Fprintf(os.Stderr, "%s: run %d of %d: %v\n", object.Name, run, options.Runs, outcome)
+		}
+		if hasEnded {
+			return outcome, nil
+		}
+	}
+}
+
+// ---- the command line
+
+func readOption(options *Options, name, value string) bool {
+	for _, it := range numbers(options) {
+		if it.name == name {
+			read, err := strconv.ParseUint(value, 10, 64)
+			*it.place = read
+			return err == nil
+		}
+	}
+	texts := map[string]*string{"order": &options.Order, "out": &options.Out, "program": &options.Program}
+	if text := texts[name]; text != nil {
+		*text = value
+	}
+	return texts[name] != nil
+}
+
+// The options of a command line, and whether the choices are to be shown.
+func read(words []string) (Options, bool, error) {
+	options, showsChoices := DefaultOptions(), false
+	for len(words) > 0 {
+		if words[0] == "--choices" {
+			showsChoices, words = true, words[1:]
+			continue
+		}
+		if !strings.HasPrefix(words[0], "--") || len(words) == 1 || !readOption(&options, words[0][2:], words[1]) {
+			return options, false, failed("usage", "%s is no option with its value\n%s", words[0], usage)
+		}
+		words = words[2:]
+	}
+	return options, showsChoices, test(options)
+}
+
+func showChoices(options Options) {
+	next := schedules(options)
+	for run := uint64(1); run <= options.Runs; run++ {
+		for thread, calls := range next() {
+			for _, component := range calls {
+				if component == view {
+					fmt.Println(run, thread, "view")
+				} else {
+					fmt.Println(run, thread, "update", component)
+				}
+			}
+		}
+	}
+}
+
+// Main runs the object that the command line names, or the first one. The status is 0 where each run was atomic, 1 where some were
+// only regular, 2 where some were neither, and 4 where there is no verdict.
+func Main(objects ...Object) {
+	words, name := os.Args[1:], objects[0].Name
+	if len(words) > 0 && !strings.HasPrefix(words[0], "--") {
+		name, words = words[0], words[1:]
+	}
+	options, showsChoices, err := read(words)
+	var outcome Outcome
+	var chosen *Object
+	for i := range objects {
+		if objects[i].Name == name {
+			chosen = &objects[i]
+		}
+	}
+	switch {
+	case chosen == nil:
+		err = failed("usage", "there is no object %s\n%s", name, usage)
+	case err == nil && showsChoices:
+		showChoices(options)
+		return
+	case err == nil:
+		outcome, err = Run(*chosen, options)
+	}
+	if err != nil {
+		fmt.Fprintf(os.Stderr, "%s: %v\n", name, err)
+		os.Exit(4)
+	}
+	fmt.Printf("%s: %v\n", name, outcome)
+	switch {
+	case outcome.Neither > 0:
+		os.Exit(2)
+	case outcome.Regular > 0:
+		os.Exit(1)
+	}
+}

@@ -1,0 +1,322 @@
+"""Drives a snapshot object of one's own: threads update and view it by a seeded schedule, and the judge judges each run.
+
+Two files, this one and snaprecord.py, Python 3.8 or later, no dependencies: copy both. docs/OWN-OBJECT.md of snapjudge shows how.
+
+    class Board:                                        # a fresh one for each run, with 0 in each component
+        def __init__(self, components): ..
+        def update(self, thread, component, value): ..
+        def view(self, thread): ..                      # one value for each component, or None where it gave up
+
+    main({"board": Board})                              # takes options from the command line
+    outcome = run(Board, runs=100, threads=3)           # or this, in a test of one's own; raises DriveError and RecordError
+
+Where an object calls pause() between its steps, the other threads run in the middle of its calls.
+
+SPDX-License-Identifier: 0BSD
+Copyright (C) 2026 by the authors of snapjudge
+Permission to use, copy, modify, and/or distribute this software for any purpose with or without fee is hereby granted.
+THE SOFTWARE IS PROVIDED "AS IS" AND THE AUTHOR DISCLAIMS ALL WARRANTIES WITH REGARD TO THIS SOFTWARE INCLUDING ALL IMPLIED
+WARRANTIES OF MERCHANTABILITY AND FITNESS. IN NO EVENT SHALL THE AUTHOR BE LIABLE FOR ANY SPECIAL, DIRECT, INDIRECT, OR
+CONSEQUENTIAL DAMAGES OR ANY DAMAGES WHATSOEVER RESULTING FROM LOSS OF USE, DATA OR PROFITS, WHETHER IN AN ACTION OF
+CONTRACT, NEGLIGENCE OR OTHER TORTIOUS ACTION, ARISING OUT OF OR IN CONNECTION WITH THE USE OR PERFORMANCE OF THIS SOFTWARE.
+"""
+import ctypes
+import dataclasses
+import os
+import shutil
+import subprocess
+import sys
+import tempfile
+import threading
+import time
+
+from snaprecord import EVENT_LIMIT, RecordError, Recorder
+
+# Of each number among the options the least and the greatest.
+RANGES = {
+    "threads": (1, 64),
+    "components": (1, 64),
+    "calls": (1, EVENT_LIMIT // 2),
+    "runs": (1, 10**9),
+    "seed": (0, 2**64 - 1),
+    "nap": (0, 10**6),
+    "stop": (0, 10**9),
+    "limit": (1, 10**5),
+}
+USAGE = """usage: [OBJECT] [OPTION VALUE ..]
+  --threads 4      how many threads, at most 64
+  --components 4   how many components, at most 64; thread t updates t, t + threads and so on
+  --calls 200      how many calls each thread makes; all threads make at most 32768
+  --runs 20        how many runs, each of a fresh object
+  --seed 1         what the choice of the calls begins with
+  --order choice   each call is chosen by the seed; or turn: updates and a view in turn
+  --nap 0          where not 0, pauses and the gaps between calls last up to so many microseconds
+  --stop 0         where not 0, ends after so many runs that were not atomic
+  --limit 60       how many seconds a run may take
+  --out .          the folder for the first run that was not atomic
+  --program FILE   the program snapjudge; else SNAPJUDGE_PROGRAM names it, else it is on the PATH
+  --choices        writes the calls that the seed chooses, and runs nothing"""
+
+
+@dataclasses.dataclass
+class Options:
+    threads: int = 4
+    components: int = 4
+    calls: int = 200
+    runs: int = 20
+    seed: int = 1
+    nap: int = 0
+    stop: int = 0
+    limit: int = 60
+    order: str = "choice"
+    out: str = "."
+    program: str = ""
+
+    def __post_init__(self):
+        for name, (least, greatest) in RANGES.items():
+            value = getattr(self, name)
+            if type(value) is not int or not least <= value <= greatest:
+                raise DriveError("limits", f"{name} is a number from {least} to {greatest}")
+        if self.threads * self.calls > EVENT_LIMIT // 2:
+            raise DriveError("limits", f"all threads make at most {EVENT_LIMIT // 2} calls")
+        if self.order not in ("choice", "turn"):
+            raise DriveError("usage", "order is choice or turn")
+
+
+@dataclasses.dataclass
+class Outcome:
+    """How many runs were atomic, only regular, or neither; and which was the first that was not atomic, from 1, or 0."""
+
+    atomic: int = 0
+    regular: int = 0
+    neither: int = 0
+    first: int = 0
+
+    def __str__(self):
+        return f"atomic {self.atomic}, regular {self.regular}, neither {self.neither}"
+
+
+class DriveError(Exception):
+    """Why runs have no verdict; `name` is usage, limits, view, died, hangs, no judge, no verdict or files."""
+
+    def __init__(self, name, message):
+        super().__init__(message)
+        self.name = name
+
+
+# ---- the schedule
+
+MASK = 2**64 - 1
+GAMMA = 0x9E3779B97F4A7C15
+
+
+def mix(state):
+    """The output of splitmix64 in this state."""
+    state = (state ^ state >> 30) * 0xBF58476D1CE4E5B9 & MASK
+    state = (state ^ state >> 27) * 0x94D049BB133111EB & MASK
+    return state ^ state >> 31
+
+
+def splitmix64(state):
+    """The generator of this seed."""
+    while True:
+        state = state + GAMMA & MASK
+        yield mix(state)
+
+
+def calls_of(options, thread, seed):
+    """The component that each call of a thread updates; None is a view."""
+    own, random = range(thread, options.components, options.threads), splitmix64(seed)
+    for i in range(options.calls):
+        if options.order == "turn":
+            turn = i % (len(own) + 1)
+            yield own[turn] if turn < len(own) else None
+        else:
+            choice = next(random)
+            yield None if choice & 1 or not own else own[(choice >> 1) % len(own)]
+
+
+def schedules(options):
+    """The calls of each thread, for each run."""
+    seeds = splitmix64(options.seed)
+    for _ in range(options.runs):
+        yield [list(calls_of(options, thread, next(seeds))) for thread in range(options.threads)]
+
+
+class _Naps:
+    longest, random = 0, splitmix64(0)
+
+
+def pause():
+    """Lets the other threads run, and naps where the options ask for it."""
+    time.sleep(next(_Naps.random) % (_Naps.longest + 1) / 1e6 if _Naps.longest else 0)
+
+
+# ---- one run
+
+
+def work(board, log, thread, calls, options):
+    for i, component in enumerate(calls):
+        if component is None:
+            if not log.begin_view():
+                return
+            values = board.view(thread)
+            if values is None:
+                log.drop_view()
+            else:
+                log.end_view_values(values)
+                if len(values) != options.components:
+                    raise DriveError("view", f"a view has {len(values)} values of {options.components} components")
+        else:
+            value = (thread + 1) * 1000000 + i  # each value once
+            if not log.begin_update(component, value):
+                return
+            board.update(thread, component, value)
+            log.end_update()
+        if options.nap:
+            pause()
+
+
+def record(make, options, schedule):
+    """The history of a fresh object under a schedule."""
+    board, recorder = make(options.components), Recorder(options.threads, options.components, options.calls)
+    start, failed = threading.Barrier(options.threads), []
+
+    def run_thread(thread):
+        try:
+            start.wait()
+            work(board, recorder.log(thread), thread, schedule[thread], options)
+        except DriveError as error:
+            failed.append(error)
+        except Exception as error:
+            failed.append(DriveError("died", f"a call of thread {thread} raised {error!r}"))
+
+    threads = [threading.Thread(target=run_thread, args=(thread,), daemon=True) for thread in range(options.threads)]
+    end = time.monotonic() + options.limit
+    for thread in threads:
+        thread.start()
+    for thread in threads:
+        thread.join(max(0, end - time.monotonic()))
+    if failed:
+        raise failed[0]
+    if any(thread.is_alive() for thread in threads):
+        raise DriveError("hangs", f"a run took more than {options.limit} s: a call of the object does not end")
+    return recorder.text()
+
+
+# ---- the judge
+
+
+class Judge:
+    """The library where it is there, and else the program. SNAPJUDGE_LIBRARY names the library; it is empty for none."""
+
+    def __init__(self, named):
+        named = named or os.environ.get("SNAPJUDGE_PROGRAM") or "snapjudge"
+        self.program = shutil.which(named)
+        folder = os.path.dirname(os.path.realpath(self.program)) if self.program else "."
+        library = os.environ.get("SNAPJUDGE_LIBRARY")
+        places = [f"{folder}/../lib/libsnapjudge.so", f"{folder}/ffi/build/libsnapjudge.so", "libsnapjudge.so"]
+        self.library = next(filter(None, map(self._load, places if library is None else filter(None, [library]))), None)
+        if not self.library and (library or not self.program):
+            raise DriveError("no judge", f"there is no {library or 'program ' + named}: install snapjudge, or name it by --program")
+
+    @staticmethod
+    def _load(place):
+        try:
+            library = ctypes.CDLL(place)
+            return library if library.snapjudge_version() == 1 else None
+        except (OSError, AttributeError):
+            return None
+
+    def status(self, text):
+        """0 for atomic, 1 for regular, 2 for neither."""
+        status = self._by_library(text.encode()) if self.library else self._by_program(text)
+        if status not in range(3):
+            raise DriveError("no verdict", f"the judge ends with status {status}")
+        return status
+
+    def _by_library(self, text):
+        room, length = ctypes.create_string_buffer(2 * len(text) + 256), ctypes.c_size_t()
+        sized = ctypes.c_size_t(len(text)), room, ctypes.c_size_t(len(room))
+        return self.library.snapjudge_check(text, *sized, ctypes.byref(length))
+
+    def _by_program(self, text):
+        with tempfile.TemporaryFile("w+") as file:
+            file.write(text)
+            file.seek(0)
+            return subprocess.run([self.program, "check", "--quiet"], stdin=file, stdout=subprocess.DEVNULL).returncode
+
+    def keep(self, text, front):
+        """Writes a history, its witness and its explanation."""
+        history = f"{front}-caught.csv"
+        with open(history, "w", encoding="ascii") as file:
+            file.write(text)
+        for verb, name in (("shrink", f"{front}-witness.csv"), ("explain", f"{front}-explained.txt")):
+            if os.path.exists(name):
+                os.remove(name)  # of an earlier run
+            if self.program:
+                with open(history, encoding="ascii") as file, open(name, "wb") as out:
+                    subprocess.run([self.program, verb], stdin=file, stdout=out)
+
+
+def run(make, name="object", **words):
+    """Runs fresh objects, and counts the verdicts. Of the first run that is not atomic it keeps NAME-caught.csv, the history,
+    NAME-witness.csv, the least of it that is not atomic, and NAME-explained.txt. The words are the options."""
+    options = Options(**words)
+    judge, outcome, told = Judge(options.program), Outcome(), time.monotonic()
+    front = os.path.join(options.out, name)
+    _Naps.longest, _Naps.random = options.nap, splitmix64(options.seed)
+    for number, schedule in enumerate(schedules(options), 1):
+        text = record(make, options, schedule)
+        status = judge.status(text)
+        found = ("atomic", "regular", "neither")[status]
+        setattr(outcome, found, getattr(outcome, found) + 1)
+        if status and not outcome.first:
+            outcome.first = number
+            try:
+                judge.keep(text, front)
+            except OSError as error:
+                raise DriveError("files", f"the first run that was caught can't be written: {error}") from error
+            print(f"{name}: run {number} is not atomic; {front}-caught.csv and the files beside it tell of it", file=sys.stderr)
+        ended = number == options.runs or 0 < options.stop == outcome.regular + outcome.neither
+        if ended or time.monotonic() >= told + 1:
+            told = time.monotonic()
+            print(f"{name}: run {number} of {options.runs}: {outcome}", file=sys.stderr)
+        if ended:
+            return outcome
+
+
+def read(words):
+    """The options of a command line."""
+    found = {}
+    for at in range(0, len(words), 2):
+        name, value = words[at][2:] if words[at].startswith("--") else "", (words[at + 1 :] or [""])[0]
+        is_number = value.isascii() and value.isdigit()
+        if name not in Options.__dataclass_fields__ or not value or name in RANGES and not is_number:
+            raise DriveError("usage", f"{words[at]} is no option with its value\n{USAGE}")
+        found[name] = int(value) if name in RANGES else value
+    return found
+
+
+def main(objects):
+    """Runs the object that the command line names, or the first one. It ends with 0 where each run was atomic, 1 where some were
+    only regular, 2 where some were neither, and 4 where there is no verdict."""
+    words = sys.argv[1:]
+    name = words.pop(0) if words and not words[0].startswith("--") else next(iter(objects))
+    try:
+        if name not in objects:
+            raise DriveError("usage", f"there is no object {name}\n{USAGE}")
+        if "--choices" in words:
+            words.remove("--choices")
+            for number, schedule in enumerate(schedules(Options(**read(words))), 1):
+                for thread, calls in enumerate(schedule):
+                    for component in calls:
+                        print(number, thread, "view" if component is None else f"update {component}")
+            sys.exit()
+        outcome = run(objects[name], name, **read(words))
+    except (DriveError, RecordError) as error:
+        fault = error.name if isinstance(error, DriveError) else error.fault.name.lower().replace("_", " ")
+        print(f"{name}: {fault}: {error}", file=sys.stderr, flush=True)
+        os._exit(4)  # a call that hangs holds up no more
+    print(f"{name}: {outcome}")
+    sys.exit(2 if outcome.neither else 1 if outcome.regular else 0)

@@ -1,0 +1,47 @@
+//! Objects that a driver has to answer for: usage as that of own. `stale` shows nothing but the initial values, `gives-up` never
+//! has a view, a view of `hangs` does not end, one of `short` lacks a component, and an update of `dies` panics.
+mod snapdrive;
+mod snaprecord;
+
+use snapdrive::{run, Board};
+use std::process::ExitCode;
+use std::thread;
+use std::time::Duration;
+
+/// What the objects have in common: how many components, and what a view shows.
+macro_rules! object {
+    ($name:ident, $update:expr, $view:expr) => {
+        struct $name(usize);
+
+        impl Board for $name {
+            fn new(components: usize) -> Self {
+                $name(components)
+            }
+            fn update(&self, _thread: usize, _component: usize, _value: u32) {
+                $update
+            }
+            fn view(&self, _thread: usize) -> Option<Vec<u32>> {
+                let view: fn(usize) -> Option<Vec<u32>> = $view;
+                view(self.0)
+            }
+        }
+    };
+}
+
+object!(Stale, (), |components| Some(vec![0; components]));
+object!(GivesUp, (), |_| None);
+object!(Hangs, (), |_| loop {
+    thread::sleep(Duration::from_secs(1))
+});
+object!(Short, (), |components| Some(vec![0; components - 1]));
+object!(Dies, panic!("no connection"), |components| Some(vec![0; components]));
+
+fn main() -> ExitCode {
+    snapdrive::main(&[
+        ("stale", run::<Stale>),
+        ("gives-up", run::<GivesUp>),
+        ("hangs", run::<Hangs>),
+        ("short", run::<Short>),
+        ("dies", run::<Dies>),
+    ])
+}

@@ -1,0 +1,505 @@
+//! Drives a snapshot object of one's own: threads update and view it by a seeded schedule, and the judge judges each run.
+//!
+//! Two files, this one and `snaprecord.rs`, Unix, no dependencies: copy both. `docs/OWN-OBJECT.md` of snapjudge shows how.
+//!
+//! ```text
+//! mod snapdrive;
+//! mod snaprecord;
+//!
+//! impl snapdrive::Board for Mine {
+//!     fn new(components: usize) -> Self { .. }                            // a fresh one for each run, with 0 in each component
+//!     fn update(&self, thread: usize, component: usize, value: u32) { .. }
+//!     fn view(&self, thread: usize) -> Option<Vec<u32>> { .. }            // nothing where it gave up
+//! }
+//!
+//! fn main() -> ExitCode { snapdrive::main(&[("mine", snapdrive::run::<Mine>)]) }
+//! ```
+//!
+//! Where an object calls `pause()` between its steps, the other threads run in the middle of its calls. In a test of one's own,
+//! `run::<Mine>("mine", &options)` does the same without a command line.
+//!
+//! SPDX-License-Identifier: 0BSD
+//! Copyright (C) 2026 by the authors of snapjudge
+//! Permission to use, copy, modify, and/or distribute this software for any purpose with or without fee is hereby granted.
+//! THE SOFTWARE IS PROVIDED "AS IS" AND THE AUTHOR DISCLAIMS ALL WARRANTIES WITH REGARD TO THIS SOFTWARE INCLUDING ALL IMPLIED
+//! WARRANTIES OF MERCHANTABILITY AND FITNESS. IN NO EVENT SHALL THE AUTHOR BE LIABLE FOR ANY SPECIAL, DIRECT, INDIRECT, OR
+//! CONSEQUENTIAL DAMAGES OR ANY DAMAGES WHATSOEVER RESULTING FROM LOSS OF USE, DATA OR PROFITS, WHETHER IN AN ACTION OF
+//! CONTRACT, NEGLIGENCE OR OTHER TORTIOUS ACTION, ARISING OUT OF OR IN CONNECTION WITH THE USE OR PERFORMANCE OF THIS SOFTWARE.
+#![allow(dead_code)]
+
+use crate::snaprecord::{self, Log, Recorder, EVENT_LIMIT};
+use std::ffi::{c_char, c_int, c_void, CString};
+use std::fmt;
+use std::fs::{self, File};
+use std::io;
+use std::os::unix::fs::PermissionsExt;
+use std::panic::{self, AssertUnwindSafe};
+use std::path::{Path, PathBuf};
+use std::process::{self, Command, ExitCode, Stdio};
+use std::sync::atomic::{AtomicU64, Ordering};
+use std::sync::{mpsc, Barrier};
+use std::time::{Duration, Instant};
+use std::{env, thread};
+
+pub const USAGE: &str = "usage: [OBJECT] [OPTION VALUE ..]
+  --threads 4      how many threads, at most 64
+  --components 4   how many components, at most 64; thread t updates t, t + threads and so on
+  --calls 200      how many calls each thread makes; all threads make at most 32768
+  --runs 20        how many runs, each of a fresh object
+  --seed 1         what the choice of the calls begins with
+  --order choice   each call is chosen by the seed; or turn: updates and a view in turn
+  --nap 0          where not 0, pauses and the gaps between calls last up to so many microseconds
+  --stop 0         where not 0, ends after so many runs that were not atomic
+  --limit 60       how many seconds a run may take
+  --out .          the folder for the first run that was not atomic
+  --program FILE   the program snapjudge; else SNAPJUDGE_PROGRAM names it, else it is on the PATH
+  --choices        writes the calls that the seed chooses, and runs nothing";
+
+/// An object under test; each component is 0 at first.
+pub trait Board: Sync {
+    fn new(components: usize) -> Self;
+    fn update(&self, thread: usize, component: usize, value: u32);
+    /// One value for each component; nothing where it gave up.
+    fn view(&self, thread: usize) -> Option<Vec<u32>>;
+}
+
+#[derive(Clone, Debug)]
+pub struct Options {
+    pub threads: u64,
+    pub components: u64,
+    pub calls: u64,
+    pub runs: u64,
+    pub seed: u64,
+    pub nap: u64,
+    pub stop: u64,
+    pub limit: u64,
+    pub order: String,
+    pub out: String,
+    pub program: Option<String>,
+}
+
+impl Default for Options {
+    fn default() -> Self {
+        Options {
+            threads: 4,
+            components: 4,
+            calls: 200,
+            runs: 20,
+            seed: 1,
+            nap: 0,
+            stop: 0,
+            limit: 60,
+            order: "choice".into(),
+            out: ".".into(),
+            program: None,
+        }
+    }
+}
+
+/// How many runs were atomic, only regular, or neither; and which was the first that was not atomic, from 1.
+#[derive(Clone, Debug, Default, PartialEq, Eq)]
+pub struct Outcome {
+    pub atomic: u64,
+    pub regular: u64,
+    pub neither: u64,
+    pub first: Option<u64>,
+}
+
+impl fmt::Display for Outcome {
+    fn fmt(&self, f: &mut fmt::Formatter<'_>) -> fmt::Result {
+        write!(f, "atomic {}, regular {}, neither {}", self.atomic, self.regular, self.neither)
+    }
+}
+
+/// Why runs have no verdict. A call that hangs is none of these: it ends the process, with status 4.
+#[derive(Debug)]
+pub enum Error {
+    Usage(String),
+    /// A number among the options is out of its range.
+    Limits(String),
+    /// A view has not one value for each component.
+    View(String),
+    /// A call of the object panicked.
+    Died(String),
+    NoJudge(String),
+    NoVerdict(String),
+    /// A file can't be written.
+    Files(String),
+    Recorder(snaprecord::Fault),
+}
+
+impl fmt::Display for Error {
+    fn fmt(&self, f: &mut fmt::Formatter<'_>) -> fmt::Result {
+        match self {
+            Error::Usage(message) => write!(f, "usage: {message}"),
+            Error::Limits(message) => write!(f, "limits: {message}"),
+            Error::View(message) => write!(f, "view: {message}"),
+            Error::Died(message) => write!(f, "died: {message}"),
+            Error::NoJudge(message) => write!(f, "no judge: {message}"),
+            Error::NoVerdict(message) => write!(f, "no verdict: {message}"),
+            Error::Files(message) => write!(f, "files: {message}"),
+            Error::Recorder(fault) => write!(f, "recorder: {fault}"),
+        }
+    }
+}
+
+impl std::error::Error for Error {}
+
+// ---- the schedule
+
+const GAMMA: u64 = 0x9E37_79B9_7F4A_7C15;
+
+/// The output of splitmix64 in this state.
+fn mix(state: u64) -> u64 {
+    let state = (state ^ state >> 30).wrapping_mul(0xBF58_476D_1CE4_E5B9);
+    let state = (state ^ state >> 27).wrapping_mul(0x94D0_49BB_1331_11EB);
+    state ^ state >> 31
+}
+
+/// The generator splitmix64.
+struct Random(u64);
+
+impl Random {
+    fn next(&mut self) -> u64 {
+        self.0 = self.0.wrapping_add(GAMMA);
+        mix(self.0)
+    }
+}
+
+/// The component that call `i` of a thread updates; nothing is a view.
+fn choose(options: &Options, thread: usize, i: u64, random: &mut Random) -> Option<usize> {
+    let mut own = (thread..options.components as usize).step_by(options.threads as usize);
+    let count = own.len() as u64;
+    let place = if options.order == "turn" {
+        i % (count + 1)
+    } else {
+        let choice = random.next();
+        if choice % 2 == 1 || count == 0 { count } else { (choice >> 1) % count }
+    };
+    own.nth(place as usize)
+}
+
+static NAPS: AtomicU64 = AtomicU64::new(0);
+static LONGEST_NAP: AtomicU64 = AtomicU64::new(0);
+
+/// Lets the other threads run, and naps where the options ask for it.
+pub fn pause() {
+    let longest = LONGEST_NAP.load(Ordering::Relaxed);
+    if longest == 0 {
+        thread::yield_now();
+    } else {
+        let state = NAPS.fetch_add(GAMMA, Ordering::Relaxed).wrapping_add(GAMMA);
+        thread::sleep(Duration::from_micros(mix(state) % (longest + 1)));
+    }
+}
+
+// ---- one run
+
+fn work<B: Board>(board: &B, log: &mut Log, thread: usize, options: &Options, mut random: Random) -> Result<(), Error> {
+    for i in 0..options.calls {
+        if let Some(component) = choose(options, thread, i, &mut random) {
+            let value = (thread as u32 + 1) * 1_000_000 + i as u32; // each value once
+            if log.begin_update(component as u32, value).is_none() {
+                break;
+            }
+            board.update(thread, component, value);
+            log.end_update();
+        } else {
+            if !log.begin_view() {
+                break;
+            }
+            let values = board.view(thread);
+            match &values {
+                Some(values) => log.end_view_values(values),
+                None => log.drop_view(),
+            }
+            if let Some(values) = values.filter(|values| values.len() as u64 != options.components) {
+                return Err(Error::View(format!("a view has {} values of {} components", values.len(), options.components)));
+            }
+        }
+        if options.nap > 0 {
+            pause();
+        }
+    }
+    Ok(())
+}
+
+/// Ends the process where nobody sends or hangs up within so many seconds: a call that hangs can't be ended.
+fn watch(ended: &mpsc::Receiver<()>, name: &str, limit: u64) {
+    if ended.recv_timeout(Duration::from_secs(limit)) == Err(mpsc::RecvTimeoutError::Timeout) {
+        eprintln!("{name}: hangs: a run took more than {limit} s: a call of the object does not end");
+        process::exit(4);
+    }
+}
+
+/// The history of a fresh object.
+fn record<B: Board>(name: &str, options: &Options, seeds: &mut Random) -> Result<String, Error> {
+    let mut recorder =
+        Recorder::new(options.threads as usize, options.components as usize, options.calls as usize).map_err(Error::Recorder)?;
+    let board = B::new(options.components as usize);
+    let start = Barrier::new(options.threads as usize);
+    let (running, ended) = mpsc::channel();
+    thread::scope(|scope| {
+        let workers: Vec<_> = recorder.logs.iter_mut().enumerate().map(|(thread, log)| (thread, log, Random(seeds.next()))).collect();
+        let workers = workers.into_iter().map(|(thread, log, random)| {
+            let (board, start, running) = (&board, &start, running.clone());
+            scope.spawn(move || {
+                let _running = running; // dropped at the end, which the watch hears
+                start.wait();
+                panic::catch_unwind(AssertUnwindSafe(|| work(board, log, thread, options, random)))
+                    .unwrap_or_else(|_| Err(Error::Died(format!("a call of thread {thread} panicked"))))
+            })
+        });
+        let workers: Vec<_> = workers.collect();
+        drop(running);
+        watch(&ended, name, options.limit);
+        workers.into_iter().try_for_each(|worker| worker.join().expect("a worker catches what its object panics with"))
+    })?;
+    recorder.text().map_err(Error::Recorder)
+}
+
+// ---- the judge
+
+type Version = unsafe extern "C" fn() -> u32;
+type Check = unsafe extern "C" fn(*const u8, usize, *mut u8, usize, *mut usize) -> u32;
+
+extern "C" {
+    fn dlopen(name: *const c_char, flags: c_int) -> *mut c_void;
+    fn dlsym(library: *mut c_void, name: *const c_char) -> *mut c_void;
+}
+
+const RTLD_NOW: c_int = 2;
+
+/// The library where it is there, and else the program.
+struct Judge {
+    program: Option<PathBuf>,
+    check: Option<Check>,
+}
+
+fn find_program(named: &str) -> Option<PathBuf> {
+    let is_program = |place: &PathBuf| fs::metadata(place).is_ok_and(|it| it.is_file() && it.permissions().mode() & 0o111 != 0);
+    let folders = if named.contains('/') { vec![PathBuf::new()] } else { env::split_paths(&env::var_os("PATH")?).collect() };
+    folders.iter().map(|folder| folder.join(named)).find(is_program)?.canonicalize().ok()
+}
+
+fn load(place: &Path) -> Option<Check> {
+    let name = CString::new(place.to_str()?).ok()?;
+    // SAFETY: the names end with a 0 byte, and the two calls are those that a library of this version has by these names.
+    unsafe {
+        let library = dlopen(name.as_ptr(), RTLD_NOW);
+        let find = |name: &std::ffi::CStr| Some(dlsym(library, name.as_ptr())).filter(|found| !library.is_null() && !found.is_null());
+        let version: Version = std::mem::transmute(find(c"snapjudge_version")?);
+        let check: Check = std::mem::transmute(find(c"snapjudge_check")?);
+        (version() == 1).then_some(check)
+    }
+}
+
+impl Judge {
+    /// `SNAPJUDGE_LIBRARY` names the library; it is empty for none. Else it is sought beside the program.
+    fn find(named: Option<&str>) -> Result<Judge, Error> {
+        let by_name = env::var("SNAPJUDGE_PROGRAM").ok().filter(|name| !name.is_empty());
+        let named = named.or(by_name.as_deref()).unwrap_or("snapjudge");
+        let program = find_program(named);
+        let folder = program.as_deref().and_then(Path::parent).unwrap_or(Path::new("."));
+        let missing = |what: &str| Error::NoJudge(format!("there is no {what}: install snapjudge, or name it by --program"));
+        let check = match env::var("SNAPJUDGE_LIBRARY") {
+            Ok(library) if library.is_empty() => None,
+            Ok(library) => Some(load(Path::new(&library)).ok_or_else(|| missing(&format!("library {library}")))?),
+            Err(_) => ["../lib", "ffi/build"]
+                .iter()
+                .find_map(|place| load(&folder.join(place).join("libsnapjudge.so")))
+                .or_else(|| load(Path::new("libsnapjudge.so"))),
+        };
+        if check.is_none() && program.is_none() {
+            return Err(missing(&format!("program {named}")));
+        }
+        Ok(Judge { program, check })
+    }
+
+    /// 0 for atomic, 1 for regular, 2 for neither.
+    fn status(&self, text: &str, out: &str) -> Result<u32, Error> {
+        let status = match self.check {
+            Some(check) => {
+                let (mut report, mut length) = (vec![0; 2 * text.len() + 256], 0);
+                // SAFETY: the pointers and lengths are those of borrowed places that lie apart and were written.
+                unsafe { check(text.as_ptr(), text.len(), report.as_mut_ptr(), report.len(), &mut length) }
+            }
+            None => self.by_program(text, out)?,
+        };
+        if status > 2 {
+            return Err(Error::NoVerdict(format!("the judge ends with status {status}")));
+        }
+        Ok(status)
+    }
+
+    fn by_program(&self, text: &str, out: &str) -> Result<u32, Error> {
+        let name = format!("{out}/run-{}.csv", process::id());
+        write(&name, text)?;
+        let status = self.call(&["check", "--quiet"], &name, Stdio::null());
+        let _ = fs::remove_file(&name);
+        Ok(status)
+    }
+
+    /// Runs the program over a file; its status, or 4.
+    fn call(&self, words: &[&str], from: &str, to: Stdio) -> u32 {
+        let run = |program: &PathBuf| Command::new(program).args(words).stdin(File::open(from)?).stdout(to).status();
+        let status = self.program.as_ref().ok_or(io::ErrorKind::NotFound.into()).and_then(run);
+        status.ok().and_then(|status| status.code()).and_then(|code| u32::try_from(code).ok()).unwrap_or(4)
+    }
+
+    /// Writes a history, its witness and its explanation.
+    fn keep(&self, text: &str, front: &str) -> Result<(), Error> {
+        let caught = format!("{front}-caught.csv");
+        write(&caught, text)?;
+        for (verb, name) in [("shrink", "witness.csv"), ("explain", "explained.txt")] {
+            let name = format!("{front}-{name}");
+            let _ = fs::remove_file(&name); // of an earlier run
+            if self.program.is_some() {
+                let to = File::create(&name).map_err(|error| Error::Files(format!("{name} can't be written: {error}")))?;
+                self.call(&[verb], &caught, to.into());
+            }
+        }
+        Ok(())
+    }
+}
+
+fn write(name: &str, text: &str) -> Result<(), Error> {
+    fs::write(name, text).map_err(|error| Error::Files(format!("{name} can't be written: {error}")))
+}
+
+// ---- all runs
+
+/// Of each number among the options the least and the greatest.
+fn ranges(options: &mut Options) -> [(&'static str, &mut u64, u64, u64); 8] {
+    [
+        ("threads", &mut options.threads, 1, 64),
+        ("components", &mut options.components, 1, 64),
+        ("calls", &mut options.calls, 1, EVENT_LIMIT as u64 / 2),
+        ("runs", &mut options.runs, 1, 1_000_000_000),
+        ("seed", &mut options.seed, 0, u64::MAX),
+        ("nap", &mut options.nap, 0, 1_000_000),
+        ("stop", &mut options.stop, 0, 1_000_000_000),
+        ("limit", &mut options.limit, 1, 100_000),
+    ]
+}
+
+fn test(options: &Options) -> Result<(), Error> {
+    for (name, value, least, greatest) in ranges(&mut options.clone()) {
+        if !(least..=greatest).contains(value) {
+            return Err(Error::Limits(format!("{name} is a number from {least} to {greatest}")));
+        }
+    }
+    if options.threads * options.calls > EVENT_LIMIT as u64 / 2 {
+        return Err(Error::Limits(format!("all threads make at most {} calls", EVENT_LIMIT / 2)));
+    }
+    match options.order.as_str() {
+        "choice" | "turn" => Ok(()),
+        _ => Err(Error::Usage("order is choice or turn".into())),
+    }
+}
+
+/// Runs fresh objects, and counts the verdicts. Of the first run that is not atomic it keeps NAME-caught.csv, the history,
+/// NAME-witness.csv, the least of it that is not atomic, and NAME-explained.txt.
+pub fn run<B: Board>(name: &str, options: &Options) -> Result<Outcome, Error> {
+    test(options)?;
+    let judge = Judge::find(options.program.as_deref())?;
+    let front = format!("{}/{name}", options.out);
+    let mut seeds = Random(options.seed);
+    let mut outcome = Outcome::default();
+    let mut told = Instant::now();
+    LONGEST_NAP.store(options.nap, Ordering::Relaxed);
+    NAPS.store(options.seed, Ordering::Relaxed);
+    for number in 1..=options.runs {
+        let text = record::<B>(name, options, &mut seeds)?;
+        let status = judge.status(&text, &options.out)?;
+        *[&mut outcome.atomic, &mut outcome.regular, &mut outcome.neither][status as usize] += 1;
+        if status != 0 && outcome.first.is_none() {
+            outcome.first = Some(number);
+            judge.keep(&text, &front)?;
+            eprintln!("{name}: run {number} is not atomic; {front}-caught.csv and the files beside it tell of it");
+        }
+        let has_ended = number == options.runs || options.stop > 0 && outcome.regular + outcome.neither == options.stop;
+        if has_ended || told.elapsed() >= Duration::from_secs(1) {
+            told = Instant::now();
+            eprintln!("{name}: run {number} of {}: {outcome}", options.runs);
+        }
+        if has_ended {
+            break;
+        }
+    }
+    Ok(outcome)
+}
+
+// ---- the command line
+
+fn read_option(options: &mut Options, name: &str, value: &str) -> Option<()> {
+    match name {
+        "order" => options.order = value.into(),
+        "out" => options.out = value.into(),
+        "program" => options.program = Some(value.into()),
+        _ => {
+            let (_, place, ..) = ranges(options).into_iter().find(|range| range.0 == name)?;
+            *place = Some(value).filter(|value| !value.starts_with('+'))?.parse().ok()?;
+        }
+    }
+    Some(())
+}
+
+/// The options of a command line.
+fn read(words: &[String]) -> Result<Options, Error> {
+    let mut options = Options::default();
+    for pair in words.chunks(2) {
+        let name = pair[0].strip_prefix("--");
+        name.zip(pair.get(1))
+            .and_then(|(name, value)| read_option(&mut options, name, value))
+            .ok_or_else(|| Error::Usage(format!("{} is no option with its value\n{USAGE}", pair[0])))?;
+    }
+    Ok(options)
+}
+
+fn show_choices(options: &Options) -> Result<(), Error> {
+    test(options)?;
+    let mut seeds = Random(options.seed);
+    for number in 1..=options.runs {
+        for thread in 0..options.threads as usize {
+            let mut random = Random(seeds.next());
+            for i in 0..options.calls {
+                match choose(options, thread, i, &mut random) {
+                    Some(component) => println!("{number} {thread} update {component}"),
+                    None => println!("{number} {thread} view"),
+                }
+            }
+        }
+    }
+    Ok(())
+}
+
+/// An object of the command line: its name, and `run` of its type.
+pub type Object<'a> = (&'a str, fn(&str, &Options) -> Result<Outcome, Error>);
+
+/// Runs the object that the command line names, or the first one. The status is 0 where each run was atomic, 1 where some were
+/// only regular, 2 where some were neither, and 4 where there is no verdict.
+pub fn main(objects: &[Object]) -> ExitCode {
+    let mut words: Vec<String> = env::args().skip(1).collect();
+    let is_named = words.first().is_some_and(|word| !word.starts_with("--"));
+    let name = if is_named { words.remove(0) } else { objects[0].0.into() };
+    let shows_choices = words.iter().position(|word| word == "--choices").map(|at| words.remove(at)).is_some();
+    let outcome = read(&words).and_then(|options| {
+        let (_, run) = objects
+            .iter()
+            .find(|object| object.0 == name)
+            .ok_or_else(|| Error::Usage(format!("there is no object {name}\n{USAGE}")))?;
+        if shows_choices { show_choices(&options).map(|()| None) } else { run(&name, &options).map(Some) }
+    });
+    match outcome {
+        Err(error) => {
+            eprintln!("{name}: {error}");
+            ExitCode::from(4)
+        }
+        Ok(None) => ExitCode::SUCCESS,
+        Ok(Some(outcome)) => {
+            println!("{name}: {outcome}");
+            ExitCode::from(if outcome.neither > 0 { 2 } else { u8::from(outcome.regular > 0) })
+        }
+    }
+}
