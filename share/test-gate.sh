@@ -39,9 +39,9 @@ stub gate share/test-gate.sh 'echo "3 passed, 0 failed"'
 stub proofs ../bin/rt 'echo "3 passed, 0 failed"'
 stub build build 'exit 0'
 stub examples snapjudge 'cat examples/one.report'
-stub pages share/test-pages.py 'echo "3 passed, 0 failed"'
 stub launcher share/test.sh 'echo "3 passed, 0 failed"'
 stub library ffi/test.sh 'echo "3 passed, 0 failed"'
+stub pages share/test-pages.py 'echo "3 passed, 0 failed"'
 stub package share/test-package.sh 'echo "3 passed, 0 failed"'
 stub recorders ffi/record/test.sh 'echo "3 passed, 0 failed"'
 stub systems examples/systems/test.sh 'echo "3 passed, 0 failed"'
@@ -64,7 +64,7 @@ expect() {
   fi
 }
 
-parts="gate proofs build examples pages launcher library package recorders systems scans sweep"
+parts="gate proofs build examples launcher library pages package recorders systems scans sweep"
 expect "all parts pass" 0 "32 passed, 0 failed"
 for part in $parts; do
   for way in fails dies "ends early" "denies its failure" "denies its status"; do

@@ -34,7 +34,7 @@ README_LINES, CRATE_LINES = 110, 40
 # A sentence should have no more words; and of so many words none stands twice.
 WORDS, SAME_WORDS = 25, 8
 # The pages whose commands are not run here, and the script that tries what they show.
-ELSEWHERE = {"docs/OWN-OBJECT.md": "ffi/record/test.sh", "docs/INSTALL.md": "share/test-package.sh"}
+ELSEWHERE = {"docs/OWN-OBJECT.md": "ffi/record/test.sh", "docs/RECORDING.md": "ffi/record/test.sh", "docs/INSTALL.md": "share/test-package.sh"}
 # The files that repeat the number of VERSION, each with how it stands there.
 VERSIONED = {
     "CHANGELOG.md": "\n## {}\n",

@@ -204,6 +204,65 @@ judged() {
     "$program" check --quiet --views 4 <"$here/failed.csv"
 }
 
+# ---- several processes, failed calls, and the page on both
+
+page=$here/../../docs/RECORDING.md
+
+# prints LINE COMMAND ..: the command prints this line, and no other
+prints() {
+  local line=$1
+  shift
+  timeout 300 "$@" >printed && cat printed && [ "$(cat printed)" = "$line" ]
+}
+
+# each run of a naive collect by processes is regular, and some are not atomic
+naive_processes() {
+  timeout 300 python3 -B "$here/python/processes.py" "$program" naive 20 >printed && cat printed &&
+    [[ $(cat printed) =~ ^naive:\ atomic\ ([0-9]+),\ regular\ ([0-9]+),\ neither\ 0,\ refused\ 0$ ]] &&
+    [ $((BASH_REMATCH[1] + BASH_REMATCH[2])) = 20 ] && [ "${BASH_REMATCH[2]}" -gt 0 ]
+}
+
+# c_processes OBJECT STATUS ..: of 20 runs of processes in C each has one of these statuses, and some run has the first
+c_processes() {
+  local object=$1 i statuses=
+  shift
+  for ((i = 0; i < 20; i++)); do
+    timeout 60 ./processes_c "$object" && python3 -B "$here/python/merge_logs.py" 0.log 1.log 2.log >history.csv || return 1
+    "$program" check --quiet --views 300 <history.csv >/dev/null
+    statuses+="$?"
+  done
+  echo "$object: $statuses"
+  [[ $statuses != *[!"$*"]* && $statuses == *$1* ]]
+}
+
+# the commands of the page print what stands below them
+commands() {
+  mkdir -p page/ffi
+  ln -sfn "$here" page/ffi/record
+  ln -sfn "$program" page/snapjudge
+  python3 -B "$here/commands.py" "$page" page
+}
+
+try_processes() {
+  local way all="atomic 20, regular 0, neither 0, refused 0" none="atomic 0, regular 0, neither 20, refused 0"
+  try "processes: logs and what is wrong with them" python3 -B -W error "$here/python/misuse_logs.py" "$program"
+  try "processes: board under a lock" prints "lock: $all" python3 -B "$here/python/processes.py" "$program" lock 20
+  try "processes: naive collect is caught" naive_processes
+  if has cc "processes in C"; then
+    try "processes: C builds" cc -std=gnu11 -Wall -Wextra -pedantic -Werror -O2 -o processes_c "$here/c/processes.c" -pthread
+    try "processes: C, board under a lock" c_processes lock 0
+    try "processes: C, naive collect is caught" c_processes naive 1 0
+  fi
+  for way in drop again unknown; do
+    try "failed updates: $way" prints "$way: $all" python3 -B "$here/python/failing.py" "$program" "$way" 20
+  done
+  try "failed updates: one that is ended as done" prints "end: $none" python3 -B "$here/python/failing.py" "$program" end 20
+  try "processes: commands of the page" commands
+  try "processes: listings of the page" python3 -B "$here/listings.py" "$page" "$here" python c
+}
+
+# ---- the recorders of each language
+
 # each listing of the guide stands in the file of its language
 listings() {
   python3 -B "$here/listings.py" "$here/../../docs/OWN-OBJECT.md" "$here"
@@ -317,63 +376,6 @@ try_go() {
   by_library
   throws Go
   try "Go: without cgo" without_cgo
-}
-
-# ---- several processes, failed calls, and the page on both
-
-page=$here/../../docs/RECORDING.md
-
-# prints LINE COMMAND ..: the command prints this line, and no other
-prints() {
-  local line=$1
-  shift
-  timeout 300 "$@" >printed && cat printed && [ "$(cat printed)" = "$line" ]
-}
-
-# each run of a naive collect by processes is regular, and some are not atomic
-naive_processes() {
-  timeout 300 python3 -B "$here/python/processes.py" "$program" naive 20 >printed && cat printed &&
-    [[ $(cat printed) =~ ^naive:\ atomic\ ([0-9]+),\ regular\ ([0-9]+),\ neither\ 0,\ refused\ 0$ ]] &&
-    [ $((BASH_REMATCH[1] + BASH_REMATCH[2])) = 20 ] && [ "${BASH_REMATCH[2]}" -gt 0 ]
-}
-
-# c_processes OBJECT STATUS ..: of 20 runs of processes in C each has one of these statuses, and some run has the first
-c_processes() {
-  local object=$1 i statuses=
-  shift
-  for ((i = 0; i < 20; i++)); do
-    timeout 60 ./processes_c "$object" && python3 -B "$here/python/merge_logs.py" 0.log 1.log 2.log >history.csv || return 1
-    "$program" check --quiet --views 300 <history.csv >/dev/null
-    statuses+="$?"
-  done
-  echo "$object: $statuses"
-  [[ $statuses != *[!"$*"]* && $statuses == *$1* ]]
-}
-
-# the commands of the page print what stands below them
-commands() {
-  mkdir -p page/ffi
-  ln -sfn "$here" page/ffi/record
-  ln -sfn "$program" page/snapjudge
-  python3 -B "$here/commands.py" "$page" page
-}
-
-try_processes() {
-  local way all="atomic 20, regular 0, neither 0, refused 0" none="atomic 0, regular 0, neither 20, refused 0"
-  try "processes: logs and what is wrong with them" python3 -B -W error "$here/python/misuse_logs.py" "$program"
-  try "processes: board under a lock" prints "lock: $all" python3 -B "$here/python/processes.py" "$program" lock 20
-  try "processes: naive collect is caught" naive_processes
-  if has cc "processes in C"; then
-    try "processes: C builds" cc -std=gnu11 -Wall -Wextra -pedantic -Werror -O2 -o processes_c "$here/c/processes.c" -pthread
-    try "processes: C, board under a lock" c_processes lock 0
-    try "processes: C, naive collect is caught" c_processes naive 1 0
-  fi
-  for way in drop again unknown; do
-    try "failed updates: $way" prints "$way: $all" python3 -B "$here/python/failing.py" "$program" "$way" 20
-  done
-  try "failed updates: one that is ended as done" prints "end: $none" python3 -B "$here/python/failing.py" "$program" end 20
-  try "processes: commands of the page" commands
-  try "processes: listings of the page" python3 -B "$here/listings.py" "$page" "$here" python c
 }
 
 if [ -x "$program" ]; then

@@ -78,6 +78,15 @@ class Misuse(unittest.TestCase):
         self.assertEqual(recorder.text().split("\n"), expected)
         self.assertEqual(recorder.table, [-1, ("a", 1), "b"])
 
+    def test_a_history_that_goes_on(self):
+        """The values of the last view of one history are the first ones of the next, which may write older ones again."""
+        recorder = Recorder(1, 2, 4, initials=[7, 0])
+        view(recorder.log(0), 7, 0)
+        update(recorder.log(0), 0, 0)
+        view(recorder.log(0), 0, 0)
+        lines = recorder.text().split("\n")
+        self.assertEqual(lines[2:4] + lines[6:], ["1,end,0,view,", "2,begin,0,update,0:1:0", "5,end,0,view,0:1:0", ""])
+
     def test_numbers_of_32_bits_stand_for_themselves(self):
         recorder = Recorder(1, 1, 4, initial="first")
         update(recorder.log(0), 0, (1 << 32) - 1)
