@@ -1,5 +1,6 @@
 /* Drives a snapshot object of one's own: threads update and view it by a seeded schedule, and the judge judges each run.
- * Two files, this one and snaprecord.h, gnu11 and POSIX threads: copy both. docs/OWN-OBJECT.md of snapjudge shows how.
+ * Beside it stand snaprecord.h and snapverdict.h, gnu11 and POSIX threads: copy all three. docs/OWN-OBJECT.md of snapjudge shows
+ * how.
  *
  *     static void begin(uint32_t components) { .. }                                      // a fresh object, 0 in each component
  *     static void update(uint32_t thread, uint32_t component, uint32_t value) { .. }
@@ -21,19 +22,12 @@
 #ifndef SNAPDRIVE_H
 #define SNAPDRIVE_H
 #include "snaprecord.h"
-#include <dlfcn.h>
-#include <errno.h>
-#include <fcntl.h>
-#include <limits.h>
+#include "snapverdict.h"
 #include <pthread.h>
 #include <sched.h>
 #include <signal.h>
-#include <spawn.h>
-#include <stdarg.h>
 #include <stddef.h>
-#include <sys/wait.h>
 #include <time.h>
-#include <unistd.h>
 
 #define SNAPDRIVE_THREADS 64
 #define SNAPDRIVE_COMPONENTS 64
@@ -204,117 +198,6 @@ static inline char *snapdrive_record(const snapdrive_object *object, const snapd
     return text;
 }
 
-/* ---- the judge: the library where it is there, and else the program */
-
-typedef struct {
-    char program[PATH_MAX]; /* empty where there is none */
-    uint32_t (*check)(const uint8_t *, size_t, uint8_t *, size_t, size_t *);
-} snapdrive_judge;
-
-/* Finds a program on the PATH, as a shell does. */
-static inline void snapdrive_find(const char *named, char *place) {
-    const char *at = strchr(named, '/') ? "" : getenv("PATH");
-    *place = 0;
-    if (strchr(named, '/') && (access(named, X_OK) || !realpath(named, place))) *place = 0;
-    while (at && *at && !*place) {
-        char candidate[PATH_MAX];
-        size_t length = strcspn(at, ":");
-        snprintf(candidate, sizeof candidate, "%.*s/%s", (int)length, at, named);
-        if (access(candidate, X_OK) || !realpath(candidate, place)) *place = 0;
-        at += length + (at[length] == ':');
-    }
-}
-
-static inline bool snapdrive_load(snapdrive_judge *judge, const char *place) {
-    uint32_t (*version)(void) = NULL;
-    void *library = dlopen(place, RTLD_NOW), *found = library ? dlsym(library, "snapjudge_version") : NULL;
-    memcpy(&version, &found, sizeof found);
-    if (!version || version() != 1) return false;
-    found = dlsym(library, "snapjudge_check");
-    memcpy(&judge->check, &found, sizeof found);
-    return judge->check;
-}
-
-/* SNAPJUDGE_LIBRARY names the library; it is empty for none. Else it is sought beside the program. */
-static inline bool snapdrive_find_judge(snapdrive_judge *judge, const char *program, snapdrive_outcome *outcome) {
-    const char *library = getenv("SNAPJUDGE_LIBRARY"), *named = program ? program : getenv("SNAPJUDGE_PROGRAM");
-    char folder[PATH_MAX], place[PATH_MAX + 40];
-    if (!named || !*named) named = "snapjudge";
-    memset(judge, 0, sizeof *judge);
-    snapdrive_find(named, judge->program);
-    snprintf(folder, sizeof folder, "%s", *judge->program ? judge->program : "./");
-    *strrchr(folder, '/') = 0;
-    if (library && *library && !snapdrive_load(judge, library))
-        return snapdrive_failed(outcome, "no judge", "%s is no library of the judge", library);
-    static const char *const places[] = {"../lib", "ffi/build"};
-    for (size_t i = 0; !library && !judge->check && i < 2; i++) {
-        snprintf(place, sizeof place, "%s/%s/libsnapjudge.so", folder, places[i]);
-        snapdrive_load(judge, place);
-    }
-    if (!library && !judge->check) snapdrive_load(judge, "libsnapjudge.so");
-    if (judge->check || *judge->program) return true;
-    return snapdrive_failed(outcome, "no judge", "there is no program %s: install snapjudge, or name it by --program", named);
-}
-
-/* Runs the program from a file to a file; its status, or 4. */
-static inline int snapdrive_call(const snapdrive_judge *judge, char *const *words, const char *from, const char *to) {
-    extern char **environ;
-    posix_spawn_file_actions_t files;
-    pid_t process;
-    int status = 0;
-    posix_spawn_file_actions_init(&files);
-    posix_spawn_file_actions_addopen(&files, STDIN_FILENO, from, O_RDONLY, 0);
-    posix_spawn_file_actions_addopen(&files, STDOUT_FILENO, to, O_WRONLY | O_CREAT | O_TRUNC, 0666);
-    bool is_started = !posix_spawn(&process, judge->program, &files, NULL, words, environ);
-    posix_spawn_file_actions_destroy(&files);
-    return is_started && waitpid(process, &status, 0) == process && WIFEXITED(status) ? WEXITSTATUS(status) : 4;
-}
-
-static inline bool snapdrive_write(const char *name, const char *text, size_t length, snapdrive_outcome *outcome) {
-    FILE *file = fopen(name, "wb");
-    bool is_written = file && fwrite(text, 1, length, file) == length;
-    if ((!file || !fclose(file)) && is_written) return true;
-    return snapdrive_failed(outcome, "files", "%s can't be written: %s", name, strerror(errno));
-}
-
-/* 0 for atomic, 1 for regular, 2 for neither; or -1, and the outcome says why. */
-static inline int snapdrive_status(const snapdrive_judge *judge, const char *text, size_t length, const char *out,
-                                   snapdrive_outcome *outcome) {
-    uint32_t status;
-    if (judge->check) {
-        size_t room = 2 * length + 256, report_length = 0;
-        uint8_t *report = calloc(room, 1);
-        status = report ? judge->check((const uint8_t *)text, length, report, room, &report_length) : 4;
-        free(report);
-    } else {
-        char name[PATH_MAX + 40];
-        snprintf(name, sizeof name, "%s/run-%ld.csv", out, (long)getpid());
-        if (!snapdrive_write(name, text, length, outcome)) return -1;
-        char *const words[] = {"snapjudge", "check", "--quiet", NULL};
-        status = (uint32_t)snapdrive_call(judge, words, name, "/dev/null");
-        remove(name);
-    }
-    if (status < 3) return (int)status;
-    snapdrive_failed(outcome, "no verdict", "the judge ends with status %" PRIu32, status);
-    return -1;
-}
-
-/* Writes a history, its witness and its explanation. */
-static inline bool snapdrive_keep(const snapdrive_judge *judge, const char *text, size_t length, const char *front,
-                                  snapdrive_outcome *outcome) {
-    char caught[PATH_MAX + 40], witness[PATH_MAX + 40], explained[PATH_MAX + 40];
-    snprintf(caught, sizeof caught, "%s-caught.csv", front);
-    snprintf(witness, sizeof witness, "%s-witness.csv", front);
-    snprintf(explained, sizeof explained, "%s-explained.txt", front);
-    if (!snapdrive_write(caught, text, length, outcome)) return false;
-    remove(witness); /* of an earlier run */
-    remove(explained);
-    if (!*judge->program) return true;
-    snapdrive_call(judge, (char *const[]){"snapjudge", "shrink", NULL}, caught, witness);
-    snapdrive_call(judge, (char *const[]){"snapjudge", "explain", NULL}, caught, explained);
-    return true;
-}
-
 /* ---- all runs */
 
 static const struct {
@@ -356,12 +239,13 @@ static inline void snapdrive_tell(const snapdrive_outcome *outcome, FILE *to) {
 /* Runs fresh objects, and counts the verdicts. Of the first run that is not atomic it keeps NAME-caught.csv, the history,
  * NAME-witness.csv, the least of it that is not atomic, and NAME-explained.txt. False where there is no verdict. */
 static inline bool snapdrive_run(const snapdrive_object *object, const snapdrive_options *options, snapdrive_outcome *outcome) {
-    snapdrive_judge judge;
+    snapverdict_judge judge;
     char front[PATH_MAX];
     uint64_t seeds = options->seed;
     struct timespec now, told;
     *outcome = (snapdrive_outcome){0};
-    if (!snapdrive_fits(options, outcome) || !snapdrive_find_judge(&judge, options->program, outcome)) return false;
+    if (!snapdrive_fits(options, outcome)) return false;
+    if (!snapverdict_open(&judge, options->program)) return snapdrive_failed(outcome, judge.fault, "%s", judge.message);
     if (snprintf(front, sizeof front, "%s/%s", options->out, object->name) >= PATH_MAX)
         return snapdrive_failed(outcome, "files", "the name of the folder is too long");
     snapdrive_longest_nap = options->nap;
@@ -370,15 +254,16 @@ static inline bool snapdrive_run(const snapdrive_object *object, const snapdrive
     for (uint64_t run = 1, has_ended = false; !has_ended; run++) {
         size_t length = 0;
         char *text = snapdrive_record(object, options, &seeds, &length, outcome);
-        int status = text ? snapdrive_status(&judge, text, length, options->out, outcome) : -1;
+        int status = text ? snapverdict_of(&judge, text, length, options->out) : -1;
         if (status >= 0) outcome->found[status]++;
         if (status > 0 && !outcome->first) {
             outcome->first = run;
-            if (!snapdrive_keep(&judge, text, length, front, outcome)) status = -1;
+            if (!snapverdict_keep(&judge, text, length, front)) status = -1;
             else
                 fprintf(stderr, "%s: run %" PRIu64 " is not atomic; %s-caught.csv and the files beside it tell of it\n", object->name,
                         run, front);
         }
+        if (text && status < 0) snapdrive_failed(outcome, judge.fault, "%s", judge.message);
         free(text);
         if (status < 0) return false;
         has_ended = run == options->runs || (options->stop && outcome->found[1] + outcome->found[2] == options->stop);

@@ -1,5 +1,5 @@
 // Drives a snapshot object of one's own: threads update and view it by a seeded schedule, and the judge judges each run.
-// Two files, this one and snaprecord.hpp, C++17 and POSIX: copy both. docs/OWN-OBJECT.md of snapjudge shows how.
+// Beside it stand snaprecord.hpp and snapverdict.hpp, C++17 and POSIX: copy all three. docs/OWN-OBJECT.md of snapjudge shows how.
 //
 //     struct Board {                                            // a fresh one for each run, with 0 in each component
 //         explicit Board(std::uint32_t components);
@@ -22,21 +22,14 @@
 #ifndef SNAPDRIVE_HPP
 #define SNAPDRIVE_HPP
 #include "snaprecord.hpp"
+#include "snapverdict.hpp"
 #include <chrono>
 #include <condition_variable>
-#include <cstdlib>
-#include <dlfcn.h>
-#include <fcntl.h>
-#include <filesystem>
-#include <fstream>
 #include <functional>
 #include <iostream>
 #include <mutex>
 #include <optional>
-#include <spawn.h>
-#include <sys/wait.h>
 #include <thread>
-#include <unistd.h>
 
 namespace snapdrive {
 
@@ -55,12 +48,8 @@ constexpr const char *usage =
     "  --program FILE   the program snapjudge; else SNAPJUDGE_PROGRAM names it, else it is on the PATH\n"
     "  --choices        writes the calls that the seed chooses, and runs nothing";
 
-// Why runs have no verdict; the name is usage, limits, view, died, no judge, no verdict or files.
-class Error : public std::runtime_error {
-  public:
-    Error(const char *word, const std::string &message) : std::runtime_error(message), name(word) {}
-    const char *const name;
-};
+// Why runs have no verdict; the name is usage, limits, view or died, or as of a judge no judge, no verdict or files.
+using snapverdict::Error;
 
 struct Options {
     std::uint64_t threads = 4, components = 4, calls = 200, runs = 20, seed = 1, nap = 0, stop = 0, limit = 60;
@@ -200,106 +189,6 @@ template <class Board> std::string record(const std::string &name, const Options
     return recorder.text();
 }
 
-// ---- the judge
-
-// The library where it is there, and else the program. SNAPJUDGE_LIBRARY names the library; it is empty for none.
-class Judge {
-  public:
-    explicit Judge(const std::string &named) {
-        const char *library = std::getenv("SNAPJUDGE_LIBRARY"), *by_name = std::getenv("SNAPJUDGE_PROGRAM");
-        const std::string wanted = !named.empty() ? named : by_name && *by_name ? by_name : "snapjudge";
-        program = find(wanted);
-        const std::string folder = program.empty() ? "." : std::filesystem::path(program).parent_path().string();
-        std::vector<std::string> places{folder + "/../lib/libsnapjudge.so", folder + "/ffi/build/libsnapjudge.so", "libsnapjudge.so"};
-        if (library) places = {library};
-        for (const std::string &place : places)
-            if (!check && !place.empty()) load(place);
-        const bool is_missing = library && *library ? !check : !check && program.empty();
-        if (is_missing)
-            throw Error("no judge", "there is no " + (library && *library ? std::string("library ") + library : "program " + wanted) +
-                                        ": install snapjudge, or name it by --program");
-    }
-
-    // 0 for atomic, 1 for regular, 2 for neither.
-    int status(const std::string &text, const std::string &out) const {
-        const int status = check ? by_library(text) : by_program(text, out);
-        if (status > 2) throw Error("no verdict", "the judge ends with status " + std::to_string(status));
-        return status;
-    }
-
-    // Writes a history, its witness and its explanation.
-    void keep(const std::string &text, const std::string &front) const {
-        write(front + "-caught.csv", text);
-        for (const char *name : {"-witness.csv", "-explained.txt"}) std::remove((front + name).c_str()); // of an earlier run
-        if (program.empty()) return;
-        call({"shrink"}, front + "-caught.csv", front + "-witness.csv");
-        call({"explain"}, front + "-caught.csv", front + "-explained.txt");
-    }
-
-  private:
-    static std::string find(const std::string &named) {
-        const char *path = named.find('/') == std::string::npos ? std::getenv("PATH") : nullptr;
-        std::string rest = path ? path : "";
-        std::string candidate = path ? "" : named;
-        for (;;) {
-            std::error_code error;
-            if (!candidate.empty() && access(candidate.c_str(), X_OK) == 0) return std::filesystem::canonical(candidate, error).string();
-            if (rest.empty()) return "";
-            const std::size_t end = rest.find(':');
-            candidate = rest.substr(0, end) + "/" + named;
-            rest = end == std::string::npos ? "" : rest.substr(end + 1);
-        }
-    }
-
-    void load(const std::string &place) {
-        void *library = dlopen(place.c_str(), RTLD_NOW);
-        if (!library) return;
-        const auto version = reinterpret_cast<std::uint32_t (*)()>(dlsym(library, "snapjudge_version"));
-        if (version && version() == 1) check = reinterpret_cast<Check *>(dlsym(library, "snapjudge_check"));
-    }
-
-    int by_library(const std::string &text) const {
-        std::vector<std::uint8_t> report(2 * text.size() + 256);
-        std::size_t length = 0;
-        return static_cast<int>(check(reinterpret_cast<const std::uint8_t *>(text.data()), text.size(), report.data(), report.size(), &length));
-    }
-
-    int by_program(const std::string &text, const std::string &out) const {
-        const std::string name = out + "/run-" + std::to_string(getpid()) + ".csv";
-        write(name, text);
-        const int status = call({"check", "--quiet"}, name, "/dev/null");
-        std::remove(name.c_str());
-        return status;
-    }
-
-    static void write(const std::string &name, const std::string &text) {
-        std::ofstream file(name, std::ios::binary);
-        file << text;
-        file.close();
-        if (!file) throw Error("files", name + " can't be written");
-    }
-
-    // Runs the program from a file to a file; its status, or 4.
-    int call(std::vector<std::string> words, const std::string &from, const std::string &to) const {
-        std::vector<char *> given{const_cast<char *>("snapjudge")};
-        for (std::string &word : words) given.push_back(word.data());
-        given.push_back(nullptr);
-        posix_spawn_file_actions_t files;
-        posix_spawn_file_actions_init(&files);
-        posix_spawn_file_actions_addopen(&files, STDIN_FILENO, from.c_str(), O_RDONLY, 0);
-        posix_spawn_file_actions_addopen(&files, STDOUT_FILENO, to.c_str(), O_WRONLY | O_CREAT | O_TRUNC, 0666);
-        pid_t process;
-        int status = 0;
-        const bool is_started = posix_spawn(&process, program.c_str(), &files, nullptr, given.data(), environ) == 0;
-        posix_spawn_file_actions_destroy(&files);
-        return is_started && waitpid(process, &status, 0) == process && WIFEXITED(status) ? WEXITSTATUS(status) : 4;
-    }
-
-    using Check = std::uint32_t(const std::uint8_t *, std::size_t, std::uint8_t *, std::size_t, std::size_t *);
-    std::string program; // empty where there is none
-    Check *check = nullptr;
-};
-
 // ---- all runs
 
 struct Range {
@@ -332,7 +221,7 @@ inline void test(const Options &options) {
 // NAME-witness.csv, the least of it that is not atomic, and NAME-explained.txt.
 template <class Board> Outcome run(const std::string &name, const Options &options = {}) {
     test(options);
-    const Judge judge(options.program);
+    const snapverdict::Judge judge(options.program);
     const std::string front = options.out + "/" + name;
     Random seeds(options.seed);
     Outcome outcome;
@@ -346,7 +235,8 @@ template <class Board> Outcome run(const std::string &name, const Options &optio
         if (status != 0 && outcome.first == 0) {
             outcome.first = number;
             judge.keep(text, front);
-            std::cerr << name << ": run " << number << " is not atomic; " << front << "-caught.csv and the files beside it tell of it" << std::endl;
+            std::cerr << name << ": run " << number << " is not atomic; " << front << "-caught.csv and the files beside it tell of it"
+                      << std::endl;
         }
         const bool has_ended = number == options.runs || (options.stop > 0 && outcome.regular + outcome.neither == options.stop);
         const auto now = std::chrono::steady_clock::now();

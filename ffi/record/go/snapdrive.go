@@ -3,11 +3,8 @@
 package snaprecord
 
 import (
-	"errors"
 	"fmt"
 	"os"
-	"os/exec"
-	"path/filepath"
 	"runtime"
 	"strconv"
 	"strings"
@@ -201,90 +198,6 @@ func record(object Object, options Options, schedule [][]int) (string, error) {
 		}
 	}
 	return recorder.Text()
-}
-
-// ---- the judge
-
-// The library where it is there, and else the program, which is empty where there is none.
-type judge struct {
-	program string
-	library library
-}
-
-// SNAPJUDGE_LIBRARY names the library; it is empty for none. Else it is sought beside the program.
-func findJudge(named string) (judge, error) {
-	for _, name := range []string{os.Getenv("SNAPJUDGE_PROGRAM"), "snapjudge"} {
-		if named == "" {
-			named = name
-		}
-	}
-	program, err := exec.LookPath(named)
-	if err == nil {
-		program, err = filepath.EvalSymlinks(program)
-	}
-	if err == nil {
-		program, err = filepath.Abs(program)
-	}
-	if err != nil {
-		program = ""
-	}
-	folder := filepath.Dir(program)
-	places := []string{folder + "/../lib/libsnapjudge.so", folder + "/ffi/build/libsnapjudge.so", "libsnapjudge.so"}
-	only, isNamed := os.LookupEnv("SNAPJUDGE_LIBRARY")
-	if isNamed {
-		places = []string{only}
-	}
-	found := judge{program: program}
-	for _, place := range places {
-		if place != "" && !found.library.isThere() {
-			found.library = load(place)
-		}
-	}
-	if only != "" && !found.library.isThere() {
-		return found, failed("no judge", "there is no library %s", only)
-	}
-	if program == "" && !found.library.isThere() {
-		return found, failed("no judge", "there is no program %s: install snapjudge, or name it by --program", named)
-	}
-	return found, nil
-}
-
-// 0 for atomic, 1 for regular, 2 for neither.
-func (judge judge) status(text string) (int, error) {
-	status := 4
-	if judge.library.isThere() {
-		status = judge.library.check(text)
-	} else {
-		command := exec.Command(judge.program, "check", "--quiet")
-		command.Stdin = strings.NewReader(text)
-		if err := command.Run(); err == nil || errors.As(err, new(*exec.ExitError)) {
-			status = command.ProcessState.ExitCode()
-		}
-	}
-	if status < 0 || status > 2 {
-		return 0, failed("no verdict", "the judge ends with status %d", status)
-	}
-	return status, nil
-}
-
-// Writes a history, its witness and its explanation.
-func (judge judge) keep(text, front string) error {
-	if err := os.WriteFile(front+"-caught.csv", []byte(text), 0o666); err != nil {
-		return failed("files", "%v", err)
-	}
-	for verb, name := range map[string]string{"shrink": "-witness.csv", "explain": "-explained.txt"} {
-		os.Remove(front + name) // of an earlier run
-		if judge.program == "" {
-			continue
-		}
-		command := exec.Command(judge.program, verb)
-		command.Stdin = strings.NewReader(text)
-		said, _ := command.Output()
-		if err := os.WriteFile(front+name, said, 0o666); err != nil {
-			return failed("files", "%v", err)
-		}
-	}
-	return nil
 }
 
 // ---- all runs

@@ -207,7 +207,8 @@ public final class SnapDriver {
                 if (values == null) log.dropView();
                 else log.endViewValues(values);
                 if (values != null && values.length != options.get(Number.COMPONENTS))
-                    throw new DriveException("view", "a view has " + values.length + " values of " + options.get(Number.COMPONENTS) + " components");
+                    throw new DriveException(
+                        "view", "a view has " + values.length + " values of " + options.get(Number.COMPONENTS) + " components");
             } else {
                 long value = (thread + 1) * 1000000L + i; // each value once
                 if (log.beginUpdate(calls[i], value) == 0) return;
@@ -246,7 +247,8 @@ public final class SnapDriver {
         for (Thread thread : threads) thread.join(Math.max(1, (end - System.nanoTime()) / 1000000));
         if (failed.get() != null) throw failed.get();
         if (threads.stream().anyMatch(Thread::isAlive))
-            throw new DriveException("hangs", "a run took more than " + options.get(Number.LIMIT) + " s: a call of the object does not end");
+            throw new DriveException(
+                "hangs", "a run took more than " + options.get(Number.LIMIT) + " s: a call of the object does not end");
         return recorder.text();
     }
 
@@ -257,7 +259,8 @@ public final class SnapDriver {
         String name = named != null ? named : set != null && !set.isEmpty() ? set : "snapjudge";
         List<String> folders = name.contains("/") || path == null ? List.of("") : List.of(path.split(":"));
         for (String folder : folders)
-            if (Files.isRegularFile(Path.of(folder, name)) && Files.isExecutable(Path.of(folder, name))) return Path.of(folder, name);
+            if (Files.isRegularFile(Path.of(folder, name)) && Files.isExecutable(Path.of(folder, name)))
+                return Path.of(folder, name);
         throw new DriveException("no judge", "there is no program " + name + ": install snapjudge, or name it by --program");
     }
 
@@ -314,7 +317,8 @@ public final class SnapDriver {
                 if (status != 0 && outcome.first == 0) {
                     outcome.first = run;
                     keep(program, text, front);
-                    System.err.println(name + ": run " + run + " is not atomic; " + front + "-caught.csv and the files beside it tell of it");
+                    System.err.println(
+                        name + ": run " + run + " is not atomic; " + front + "-caught.csv and the files beside it tell of it");
                 }
             } catch (IOException error) {
                 throw new DriveException("files", "a file can't be written, or the program can't be run: " + error);

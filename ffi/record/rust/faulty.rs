@@ -2,6 +2,7 @@
 //! has a view, a view of `hangs` does not end, one of `short` lacks a component, and an update of `dies` panics.
 mod snapdrive;
 mod snaprecord;
+mod snapverdict;
 
 use snapdrive::{run, Board};
 use std::process::ExitCode;

@@ -8,6 +8,7 @@
 //! SPDX-License-Identifier: 0BSD
 mod snapdrive;
 mod snaprecord;
+mod snapverdict;
 
 use snapdrive::{pause, run, Board};
 use std::process::ExitCode;

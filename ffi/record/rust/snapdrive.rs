@@ -1,10 +1,12 @@
 //! Drives a snapshot object of one's own: threads update and view it by a seeded schedule, and the judge judges each run.
 //!
-//! Two files, this one and `snaprecord.rs`, Unix, no dependencies: copy both. `docs/OWN-OBJECT.md` of snapjudge shows how.
+//! Beside it stand `snaprecord.rs` and `snapverdict.rs`, Unix, no dependencies: copy all three. `docs/OWN-OBJECT.md` of
+//! snapjudge shows how.
 //!
 //! ```text
 //! mod snapdrive;
 //! mod snaprecord;
+//! mod snapverdict;
 //!
 //! impl snapdrive::Board for Mine {
 //!     fn new(components: usize) -> Self { .. }                            // a fresh one for each run, with 0 in each component
@@ -28,18 +30,13 @@
 #![allow(dead_code)]
 
 use crate::snaprecord::{self, Log, Recorder, EVENT_LIMIT};
-use std::ffi::{c_char, c_int, c_void, CString};
-use std::fmt;
-use std::fs::{self, File};
-use std::io;
-use std::os::unix::fs::PermissionsExt;
+use crate::snapverdict::{self, Judge};
 use std::panic::{self, AssertUnwindSafe};
-use std::path::{Path, PathBuf};
-use std::process::{self, Command, ExitCode, Stdio};
+use std::process::{self, ExitCode};
 use std::sync::atomic::{AtomicU64, Ordering};
 use std::sync::{mpsc, Barrier};
 use std::time::{Duration, Instant};
-use std::{env, thread};
+use std::{env, fmt, thread};
 
 pub const USAGE: &str = "usage: [OBJECT] [OPTION VALUE ..]
   --threads 4      how many threads, at most 64
@@ -80,19 +77,8 @@ pub struct Options {
 
 impl Default for Options {
     fn default() -> Self {
-        Options {
-            threads: 4,
-            components: 4,
-            calls: 200,
-            runs: 20,
-            seed: 1,
-            nap: 0,
-            stop: 0,
-            limit: 60,
-            order: "choice".into(),
-            out: ".".into(),
-            program: None,
-        }
+        let (order, out) = ("choice".into(), ".".into());
+        Options { threads: 4, components: 4, calls: 200, runs: 20, seed: 1, nap: 0, stop: 0, limit: 60, order, out, program: None }
     }
 }
 
@@ -121,10 +107,7 @@ pub enum Error {
     View(String),
     /// A call of the object panicked.
     Died(String),
-    NoJudge(String),
-    NoVerdict(String),
-    /// A file can't be written.
-    Files(String),
+    Judge(snapverdict::Error),
     Recorder(snaprecord::Fault),
 }
 
@@ -135,15 +118,25 @@ impl fmt::Display for Error {
             Error::Limits(message) => write!(f, "limits: {message}"),
             Error::View(message) => write!(f, "view: {message}"),
             Error::Died(message) => write!(f, "died: {message}"),
-            Error::NoJudge(message) => write!(f, "no judge: {message}"),
-            Error::NoVerdict(message) => write!(f, "no verdict: {message}"),
-            Error::Files(message) => write!(f, "files: {message}"),
+            Error::Judge(error) => error.fmt(f),
             Error::Recorder(fault) => write!(f, "recorder: {fault}"),
         }
     }
 }
 
 impl std::error::Error for Error {}
+
+impl From<snapverdict::Error> for Error {
+    fn from(error: snapverdict::Error) -> Self {
+        Error::Judge(error)
+    }
+}
+
+impl From<snaprecord::Fault> for Error {
+    fn from(fault: snaprecord::Fault) -> Self {
+        Error::Recorder(fault)
+    }
+}
 
 // ---- the schedule
 
@@ -174,7 +167,11 @@ fn choose(options: &Options, thread: usize, i: u64, random: &mut Random) -> Opti
         i % (count + 1)
     } else {
         let choice = random.next();
-        if choice % 2 == 1 || count == 0 { count } else { (choice >> 1) % count }
+        if choice % 2 == 1 || count == 0 {
+            count
+        } else {
+            (choice >> 1) % count
+        }
     };
     own.nth(place as usize)
 }
@@ -234,8 +231,7 @@ fn watch(ended: &mpsc::Receiver<()>, name: &str, limit: u64) {
 
 /// The history of a fresh object.
 fn record<B: Board>(name: &str, options: &Options, seeds: &mut Random) -> Result<String, Error> {
-    let mut recorder =
-        Recorder::new(options.threads as usize, options.components as usize, options.calls as usize).map_err(Error::Recorder)?;
+    let mut recorder = Recorder::new(options.threads as usize, options.components as usize, options.calls as usize)?;
     let board = B::new(options.components as usize);
     let start = Barrier::new(options.threads as usize);
     let (running, ended) = mpsc::channel();
@@ -255,116 +251,7 @@ fn record<B: Board>(name: &str, options: &Options, seeds: &mut Random) -> Result
         watch(&ended, name, options.limit);
         workers.into_iter().try_for_each(|worker| worker.join().expect("a worker catches what its object panics with"))
     })?;
-    recorder.text().map_err(Error::Recorder)
-}
-
-// ---- the judge
-
-type Version = unsafe extern "C" fn() -> u32;
-type Check = unsafe extern "C" fn(*const u8, usize, *mut u8, usize, *mut usize) -> u32;
-
-extern "C" {
-    fn dlopen(name: *const c_char, flags: c_int) -> *mut c_void;
-    fn dlsym(library: *mut c_void, name: *const c_char) -> *mut c_void;
-}
-
-const RTLD_NOW: c_int = 2;
-
-/// The library where it is there, and else the program.
-struct Judge {
-    program: Option<PathBuf>,
-    check: Option<Check>,
-}
-
-fn find_program(named: &str) -> Option<PathBuf> {
-    let is_program = |place: &PathBuf| fs::metadata(place).is_ok_and(|it| it.is_file() && it.permissions().mode() & 0o111 != 0);
-    let folders = if named.contains('/') { vec![PathBuf::new()] } else { env::split_paths(&env::var_os("PATH")?).collect() };
-    folders.iter().map(|folder| folder.join(named)).find(is_program)?.canonicalize().ok()
-}
-
-fn load(place: &Path) -> Option<Check> {
-    let name = CString::new(place.to_str()?).ok()?;
-    // SAFETY: the names end with a 0 byte, and the two calls are those that a library of this version has by these names.
-    unsafe {
-        let library = dlopen(name.as_ptr(), RTLD_NOW);
-        let find = |name: &std::ffi::CStr| Some(dlsym(library, name.as_ptr())).filter(|found| !library.is_null() && !found.is_null());
-        let version: Version = std::mem::transmute(find(c"snapjudge_version")?);
-        let check: Check = std::mem::transmute(find(c"snapjudge_check")?);
-        (version() == 1).then_some(check)
-    }
-}
-
-impl Judge {
-    /// `SNAPJUDGE_LIBRARY` names the library; it is empty for none. Else it is sought beside the program.
-    fn find(named: Option<&str>) -> Result<Judge, Error> {
-        let by_name = env::var("SNAPJUDGE_PROGRAM").ok().filter(|name| !name.is_empty());
-        let named = named.or(by_name.as_deref()).unwrap_or("snapjudge");
-        let program = find_program(named);
-        let folder = program.as_deref().and_then(Path::parent).unwrap_or(Path::new("."));
-        let missing = |what: &str| Error::NoJudge(format!("there is no {what}: install snapjudge, or name it by --program"));
-        let check = match env::var("SNAPJUDGE_LIBRARY") {
-            Ok(library) if library.is_empty() => None,
-            Ok(library) => Some(load(Path::new(&library)).ok_or_else(|| missing(&format!("library {library}")))?),
-            Err(_) => ["../lib", "ffi/build"]
-                .iter()
-                .find_map(|place| load(&folder.join(place).join("libsnapjudge.so")))
-                .or_else(|| load(Path::new("libsnapjudge.so"))),
-        };
-        if check.is_none() && program.is_none() {
-            return Err(missing(&format!("program {named}")));
-        }
-        Ok(Judge { program, check })
-    }
-
-    /// 0 for atomic, 1 for regular, 2 for neither.
-    fn status(&self, text: &str, out: &str) -> Result<u32, Error> {
-        let status = match self.check {
-            Some(check) => {
-                let (mut report, mut length) = (vec![0; 2 * text.len() + 256], 0);
-                // SAFETY: the pointers and lengths are those of borrowed places that lie apart and were written.
-                unsafe { check(text.as_ptr(), text.len(), report.as_mut_ptr(), report.len(), &mut length) }
-            }
-            None => self.by_program(text, out)?,
-        };
-        if status > 2 {
-            return Err(Error::NoVerdict(format!("the judge ends with status {status}")));
-        }
-        Ok(status)
-    }
-
-    fn by_program(&self, text: &str, out: &str) -> Result<u32, Error> {
-        let name = format!("{out}/run-{}.csv", process::id());
-        write(&name, text)?;
-        let status = self.call(&["check", "--quiet"], &name, Stdio::null());
-        let _ = fs::remove_file(&name);
-        Ok(status)
-    }
-
-    /// Runs the program over a file; its status, or 4.
-    fn call(&self, words: &[&str], from: &str, to: Stdio) -> u32 {
-        let run = |program: &PathBuf| Command::new(program).args(words).stdin(File::open(from)?).stdout(to).status();
-        let status = self.program.as_ref().ok_or(io::ErrorKind::NotFound.into()).and_then(run);
-        status.ok().and_then(|status| status.code()).and_then(|code| u32::try_from(code).ok()).unwrap_or(4)
-    }
-
-    /// Writes a history, its witness and its explanation.
-    fn keep(&self, text: &str, front: &str) -> Result<(), Error> {
-        let caught = format!("{front}-caught.csv");
-        write(&caught, text)?;
-        for (verb, name) in [("shrink", "witness.csv"), ("explain", "explained.txt")] {
-            let name = format!("{front}-{name}");
-            let _ = fs::remove_file(&name); // of an earlier run
-            if self.program.is_some() {
-                let to = File::create(&name).map_err(|error| Error::Files(format!("{name} can't be written: {error}")))?;
-                self.call(&[verb], &caught, to.into());
-            }
-        }
-        Ok(())
-    }
-}
-
-fn write(name: &str, text: &str) -> Result<(), Error> {
-    fs::write(name, text).map_err(|error| Error::Files(format!("{name} can't be written: {error}")))
+    Ok(recorder.text()?)
 }
 
 // ---- all runs
@@ -485,11 +372,13 @@ pub fn main(objects: &[Object]) -> ExitCode {
     let name = if is_named { words.remove(0) } else { objects[0].0.into() };
     let shows_choices = words.iter().position(|word| word == "--choices").map(|at| words.remove(at)).is_some();
     let outcome = read(&words).and_then(|options| {
-        let (_, run) = objects
-            .iter()
-            .find(|object| object.0 == name)
-            .ok_or_else(|| Error::Usage(format!("there is no object {name}\n{USAGE}")))?;
-        if shows_choices { show_choices(&options).map(|()| None) } else { run(&name, &options).map(Some) }
+        let (_, run) =
+            objects.iter().find(|object| object.0 == name).ok_or_else(|| Error::Usage(format!("there is no object {name}\n{USAGE}")))?;
+        if shows_choices {
+            show_choices(&options).map(|()| None)
+        } else {
+            run(&name, &options).map(Some)
+        }
     });
     match outcome {
         Err(error) => {

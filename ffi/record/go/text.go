@@ -1,0 +1,129 @@
+// SPDX-License-Identifier: 0BSD
+
+package snaprecord
+
+import (
+	"fmt"
+	"sort"
+	"strings"
+)
+
+// The updates of one component, to look numbers up.
+type updates[V comparable] struct {
+	initial V
+	writer  *Log[V]
+	begun   []uint64 // by number: the stamp of the begin
+	numbers map[V]uint32
+}
+
+// Text is the history that all logs hold. They stand one after the other: the judge puts the events in the order of their stamps.
+// The error is the first misuse, or Initials, TwoWriters or SameValue.
+func (recorder *Recorder[V]) Text() (string, error) {
+	if misuse := recorder.misuse.Load(); misuse != nil {
+		return "", *misuse
+	}
+	updates, err := recorder.tabulate()
+	if err != nil {
+		return "", err
+	}
+	var text strings.Builder
+	places := map[V]int{}
+	recorder.table = nil
+	text.WriteString("at,event,process,op,data\n")
+	for t := range recorder.logs {
+		for _, event := range recorder.logs[t].events {
+			recorder.write(&text, updates, places, &recorder.logs[t], event)
+		}
+	}
+	return text.String(), nil
+}
+
+// Table has the values by the numbers that stand for them in the last Text, from 0 on. It is empty where values are of type uint32.
+func (recorder *Recorder[V]) Table() []V { return recorder.table }
+
+func (recorder *Recorder[V]) tabulate() ([]updates[V], error) {
+	table := make([]updates[V], recorder.components)
+	if recorder.Initials != nil && len(recorder.Initials) != recorder.components {
+		return nil, Initials
+	}
+	for k := range table {
+		table[k] = updates[V]{initial: recorder.Initial, numbers: map[V]uint32{}}
+		if recorder.Initials != nil {
+			table[k].initial = recorder.Initials[k]
+		}
+	}
+	byValues := false
+	for t := range recorder.logs {
+		for _, event := range recorder.logs[t].events {
+			byValues = byValues || event.kind == endViewValues
+		}
+	}
+	for t := range recorder.logs {
+		log := &recorder.logs[t]
+		for _, event := range log.events {
+			if event.kind != beginUpdate {
+				continue
+			}
+			entry := log.entries[event.first]
+			of := &table[entry.Component]
+			if of.writer != nil && of.writer != log {
+				return nil, fmt.Errorf("component %d: %w", entry.Component, TwoWriters)
+			}
+			if byValues && (entry.Value == of.initial || of.numbers[entry.Value] != 0) {
+				return nil, fmt.Errorf("component %d, value %v: %w", entry.Component, entry.Value, SameValue)
+			}
+			of.writer = log
+			of.begun = append(of.begun, event.stamp)
+			of.numbers[entry.Value] = entry.Number
+		}
+	}
+	return table, nil
+}
+
+// The number of the value that a view shows. One that nobody wrote gets the last number that had begun when the view ended: the
+// judge then says `integrity`, and no more of this entry by itself.
+func (of *updates[V]) number(value V, ended uint64) uint32 {
+	if value == of.initial {
+		return 0
+	}
+	if number := of.numbers[value]; number != 0 {
+		return number
+	}
+	last := sort.Search(len(of.begun), func(i int) bool { return of.begun[i] >= ended })
+	if last == 0 {
+		return 1
+	}
+	return uint32(last)
+}
+
+// What stands for a value: itself, or its place in the table.
+func (recorder *Recorder[V]) plain(places map[V]int, value V) any {
+	if itself, is := any(value).(uint32); is {
+		return itself
+	}
+	place, isKnown := places[value]
+	if !isKnown {
+		place = len(recorder.table)
+		places[value] = place
+		recorder.table = append(recorder.table, value)
+	}
+	return place
+}
+
+var words = [...]string{"begin,%d,update,", "end,%d,update,", "begin,%d,view,", "end,%d,view,", "end,%d,view,"}
+
+func (recorder *Recorder[V]) write(text *strings.Builder, updates []updates[V], places map[V]int, log *Log[V], event event) {
+	fmt.Fprintf(text, "%d,"+words[event.kind], event.stamp, log.thread)
+	space := ""
+	for _, entry := range log.entries[event.first : event.first+event.count] {
+		number := entry.Number
+		if event.kind == endViewValues {
+			number = updates[entry.Component].number(entry.Value, event.stamp)
+		}
+		if number != 0 {
+			fmt.Fprintf(text, "%s%d:%d:%v", space, entry.Component, number, recorder.plain(places, entry.Value))
+			space = " "
+		}
+	}
+	text.WriteByte('\n')
+}
