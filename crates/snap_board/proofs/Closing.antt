@@ -14,7 +14,7 @@ use Rattle.snap_account.specs.declared.account.Doing.TheVariants.{Idle, Begun, W
 use Rattle.snap_board.specs.declared.kept.Kept.{Kept}
 use Rattle.snap_core.specs.Sums.{once_below, one_if, times, total}
 use Rattle.snap_account.specs.Calls.{Mem, Write, Look, Mark, mark, op_marks, open_marks, open_writes, marks_in, marks_of, all_stamps, all_stamps_in, writes_in, looks_in, stamps_in, writes_of, looks_of, stamps_of, latest, in_word}
-use Rattle.snap_account.specs.Rule.{tick_limit, Numbered, Own, Rising, Sees, Core, Held, Boarded, clock, code, words_of, of_desk, newcomer, newcomers}
+use Rattle.snap_account.specs.Rule.{Numbered, Own, Rising, Boarded, clock, code, of_desk, newcomer, newcomers}
 use Rattle.snap_account.specs.Marks.{Climbs}
 use Rattle.snap_account.specs.Hands.{Brief, brief, is_idle}
 use Rattle.snap_board.specs.Slots.{ins, slot_brief, brief_of, AllIn}

@@ -9,13 +9,13 @@ use std::sync::Wait;
 use std::test::Fail;
 
 // A relay with its two senders and its taker.
-fn start_two<R: Wait>(rt: &R, alloc: Global) -> Result<(Relay, Sender, Sender, Taker), AllocError>
+fn start_two(alloc: Global) -> Result<(Relay, Sender, Sender, Taker), AllocError>
     ensures relay { IfOk result (λ r. r.0.workers ≡ 2) }
     ensures zero { IfOk result (λ r. IsSenderOf r.0 r.1 × (r.1.place ≡ 0)) }
     ensures one { IfOk result (λ r. IsSenderOf r.0 r.2 × (r.2.place ≡ 1)) }
     ensures taker { IfOk result (λ r. IsTakerOf r.0 r.3) }
 {
-    let (relay, mut senders, taker) = Relay::start(rt, alloc, 2)?;
+    let (relay, mut senders, taker) = Relay::start(alloc, 2)?;
     let Some(one) = senders.pop() else {
         unreachable!()
     };
@@ -100,7 +100,7 @@ fn next<R: Wait>(rt: &R, relay: &Relay, taker: &mut Taker) -> Result<Record, Fai
 #[test]
 fn records_come_with_their_stamps_and_entries(rt: HostRuntime) -> Result<(), Fail> {
     let alloc = rt.alloc();
-    let (relay, mut zero, mut one, mut taker) = start_two(&rt, alloc)?;
+    let (relay, mut zero, mut one, mut taker) = start_two(alloc)?;
     let Some((first, second, third, fourth)) = made_in_turn(alloc)? else {
         panic!(rt; "no records")
     };
@@ -126,7 +126,7 @@ fn records_come_with_their_stamps_and_entries(rt: HostRuntime) -> Result<(), Fai
 #[test]
 fn a_relay_ends_with_no_record_left(rt: HostRuntime) -> Result<(), Fail> {
     let alloc = rt.alloc();
-    let (relay, zero, mut one, taker) = start_two(&rt, alloc)?;
+    let (relay, zero, mut one, taker) = start_two(alloc)?;
     assert!(rt; relay.send(&rt, alloc, &mut one, stored_by(1)).is_ok());
     let both = vec![in alloc; zero, one]?;
     let Err((relay, both, mut taker)) = relay.finish(&rt, both, taker) else {
@@ -141,7 +141,7 @@ fn a_relay_ends_with_no_record_left(rt: HostRuntime) -> Result<(), Fail> {
 #[test]
 fn a_fresh_relay_has_no_record(rt: HostRuntime) -> Result<(), Fail> {
     let alloc = rt.alloc();
-    let (relay, zero, mut one, mut taker) = start_two(&rt, alloc)?;
+    let (relay, zero, mut one, mut taker) = start_two(alloc)?;
     assert!(rt; relay.next(&rt, &mut taker).is_none());
     assert!(rt; relay.send(&rt, alloc, &mut one, stored_by(1)).is_ok());
     assert_eq!(rt; next(&rt, &relay, &mut taker)?.process, 1);
@@ -153,7 +153,7 @@ fn a_fresh_relay_has_no_record(rt: HostRuntime) -> Result<(), Fail> {
 #[test]
 fn a_relay_ends_with_all_its_senders(rt: HostRuntime) -> Result<(), Fail> {
     let alloc = rt.alloc();
-    let (relay, zero, one, taker) = start_two(&rt, alloc)?;
+    let (relay, zero, one, taker) = start_two(alloc)?;
     let mut senders = vec![in alloc; zero, one]?;
     let Some(one) = senders.pop() else {
         panic!(rt; "no sender came back")
@@ -170,7 +170,7 @@ fn a_relay_ends_with_all_its_senders(rt: HostRuntime) -> Result<(), Fail> {
 fn a_relay_has_a_sender_for_each_worker(rt: HostRuntime) -> Result<(), Fail> {
     let alloc = rt.alloc();
     for workers in [1, 8] {
-        let (relay, senders, taker) = Relay::start(&rt, alloc, workers)?;
+        let (relay, senders, taker) = Relay::start(alloc, workers)?;
         assert_eq!(rt; senders.len(), usize::from(workers));
         assert!(rt; relay.finish(&rt, senders, taker).is_ok());
     }

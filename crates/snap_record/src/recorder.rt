@@ -53,8 +53,7 @@ impl From<AllocError> for RecordRefusal {
 
 // A board with pauses and a relay for so many workers, the board's gathered desks, which are none, a worker for each desk,
 // the highest first, and the relay's taker.
-fn start_workers<R: Wait>(
-    rt: &R,
+fn start_workers(
     alloc: Global,
     workers: u8,
 ) -> Result<(Recorder, Gathered, Vec<Worker>, Taker), AllocError>
@@ -69,7 +68,7 @@ fn start_workers<R: Wait>(
     let Ok((board, mut gathered)) = Board::open(alloc, workers) else {
         return Err(AllocError);
     };
-    let (relay, mut senders, taker) = Relay::start(rt, alloc, workers)?;
+    let (relay, mut senders, taker) = Relay::start(alloc, workers)?;
     let recorder = Recorder {
         board: board.with_pauses(),
         relay,
@@ -191,7 +190,7 @@ fn run_plan<R: Threads + Wait + Sync, G: Gate>(
     ensures did { IfOk result (λ r. DidScripts plan.now r.0.items r.1) }
     ensures short { IfOk result (λ r. 2 * length r.0.items ≤ event_limit) }
 {
-    let (recorder, gathered, workers, taker) = start_workers(rt, alloc, plan.workers())?;
+    let (recorder, gathered, workers, taker) = start_workers(alloc, plan.workers())?;
     let (rans, taken) = run_all(rt, alloc, &recorder, plan, workers, taker, gate)?;
     let (relay, senders, interfered) = close_all(alloc, recorder, plan, gathered, rans)?;
     let all = take_all(rt, relay, senders, taken)?;

@@ -50,7 +50,7 @@ fn expect_next<R: Wait>(rt: &R, relay: &Relay, taker: &mut Taker, process: u16) 
 
 /// Records of two senders come in the order in which they were sent.
 pub fn relay<R: Wait>(rt: &R, alloc: Global) -> Result<(), Fault> {
-    let (relay, mut senders, mut taker) = Relay::start(rt, alloc, 2)?;
+    let (relay, mut senders, mut taker) = Relay::start(alloc, 2)?;
     let Some(mut one) = senders.pop() else {
         return Err(Fault::Wrong);
     };

@@ -10,14 +10,14 @@ use Rattle.snap_record.proofs.Running.{unused_push, new_front, none_new, new_des
 use Rattle.snap_record.proofs.recorder.start_workers.Goals as goal
 
 pub unreachable-requires : goal.unreachable-requires
-unreachable-requires g c =
+unreachable-requires c =
     let long : vec_len c.places.senders ≡ vec_len c.pop.new.self + 1 = search rules in
     let next : vec_len c.places.senders ≡ suc (vec_len c.pop.new.self) = omega (arith, long) in
     let none : accounts c.places.gathered ≡ [] = subst (λ (o : Option Desk). IfNone o (accounts c.places.gathered ≡ [])) c.in_default-2.is c.in_ok-desk.ensures.empty in
     none_new (vec_len c.pop.new.self) (sym none ∙ c.places.invariant.rest ∙ ap newcomers next)
 
 pub places-preserved : goal.places-preserved
-places-preserved g c =
+places-preserved c =
     let i = c.places.invariant in let e = c.in_ok-desk.ensures in
     let d = c.in-Some-2.desk in let s = c.in-Some.sender in
     let m = vec_len c.pop.new.self in

@@ -6,7 +6,7 @@ use Rattle.snap_record.specs.Workers.{AreUnused}
 use Rattle.snap_record.proofs.recorder.start_workers.Given as goal
 
 abbrev pub invariant-places : goal.invariant-places
-invariant-places g l = record {
+invariant-places l = record {
   of_board : IsGatheredOf l.recorder.board l.gathered;
   rest : accounts l.gathered ≡ newcomers (vec_len l.senders);
   senders : AreNew l.recorder.relay.queue (vec_len l.senders) (vec_items l.senders);
@@ -15,4 +15,4 @@ invariant-places g l = record {
 }
 
 abbrev pub decreases-places : goal.decreases-places
-decreases-places g l = vec_len l.senders
+decreases-places l = vec_len l.senders
