@@ -60,7 +60,7 @@ def tree_of(prefix, library, proved):
         tree[f"lib/{name}"] = (library / name).read_bytes()
     for it in filter(is_recorder, (TOP / "ffi/record").rglob("*")):
         tree[f"share/snapjudge/record/{it.relative_to(TOP / 'ffi/record')}"] = it.read_bytes()
-    for it in (TOP / "README.md", TOP / "LICENSE", *TOP.glob("docs/*.md"), *TOP.glob("examples/*")):
+    for it in (TOP / "README.md", TOP / "LICENSE", *TOP.glob("docs/*.md"), *filter(pathlib.Path.is_file, TOP.glob("examples/*"))):
         tree[f"{DOCUMENTS}/{it.relative_to(TOP)}"] = it.read_bytes()
     tree[f"{DOCUMENTS}/PROVED"] = proved.encode()
     return tree

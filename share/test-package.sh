@@ -100,7 +100,7 @@ has_recorders() {
 }
 
 has_documents() {
-  ls README.md LICENSE docs/*.md examples/* >"$room/list" && has_all . "$1/$documents"
+  ls README.md LICENSE docs/*.md examples/*.* >"$room/list" && has_all . "$1/$documents"
 }
 
 # Whether the program says what it is, and so does the file of who proved it.
