@@ -37,6 +37,7 @@ STUB
 
 stub gate share/test-gate.sh 'echo "3 passed, 0 failed"'
 stub proofs ../bin/rt 'echo "3 passed, 0 failed"'
+stub must-catch sweep/must_catch.py 'echo "3 passed, 0 failed"'
 stub build build 'exit 0'
 stub examples snapjudge 'cat examples/one.report'
 stub launcher share/test.sh 'echo "3 passed, 0 failed"'
@@ -64,8 +65,8 @@ expect() {
   fi
 }
 
-parts="gate proofs build examples launcher library pages package recorders systems scans sweep"
-expect "all parts pass" 0 "32 passed, 0 failed"
+parts="gate proofs must-catch build examples launcher library pages package recorders systems scans sweep"
+expect "all parts pass" 0 "35 passed, 0 failed"
 for part in $parts; do
   for way in fails dies "ends early" "denies its failure" "denies its status"; do
     case "$part $way" in
@@ -78,12 +79,12 @@ for part in $parts; do
   rm "$room/$part"
 done
 echo fails >"$room/build"
-expect "parts that need the program are named" 1 "6 passed, 10 failed" "launcher was not reached: there is no program"
+expect "parts that need the program are named" 1 "9 passed, 10 failed" "launcher was not reached: there is no program"
 rm "$room/build"
 echo skips >"$room/recorders"
-expect "what is skipped is said" 0 "31 passed, 0 failed, 1 skipped" "recorders: java: skipped, there is no javac"
+expect "what is skipped is said" 0 "34 passed, 0 failed, 1 skipped" "recorders: java: skipped, there is no javac"
 rm "$room/recorders"
-for file in share/test-pages.py share/test.sh ffi/test.sh share/test-package.sh ffi/record/test.sh examples/systems/test.sh sweep/scans.sh sweep/test.sh build; do
+for file in share/test-pages.py share/test.sh ffi/test.sh share/test-package.sh ffi/record/test.sh examples/systems/test.sh sweep/scans.sh sweep/test.sh sweep/must_catch.py build; do
   mv "$room/tree/$file" "$room/kept"
   expect "$file is not there" 1 '[0-9]+ passed, [1-9][0-9]* failed'
   mv "$room/kept" "$room/tree/$file"

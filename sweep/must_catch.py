@@ -1,11 +1,12 @@
 #!/usr/bin/env python3
 """Tries what the tests have to catch, since no contract says it.
 
-usage: must_catch.py [NAME ..]       where each NAME is must-catch/NAME.edit; without one it tries all
+usage: must_catch.py [NAME ..]       where each NAME is must-catch/NAME.edit; without one it tries all but those by hand
 
 An edit has a line 'tests: CRATE', lines 'catches: TEST', and then, as the edits of must-fail, lines 'file: PATH', from the top of
 the repository, and pairs of lines 'old: TEXT' and 'new: TEXT', each old text once in its file. It is applied to a copy of the
-crates, whose tests are built without a proof and run. Each of the named tests has to fail. The last line is 'N passed, M failed'.
+crates, whose tests are built without a proof and run. Each of the named tests has to fail. An edit with a line 'by hand: REASON'
+is tried where it is named, and else only applied. The last line is 'N passed, M failed', with ', K skipped' behind it.
 """
 import os
 import shutil
@@ -18,21 +19,23 @@ TOP = os.path.dirname(HERE)
 
 
 def parsed(lines):
-    """The crate of the tests, the tests that have to fail, and file, old and new text of each change."""
-    crate, tests, changes, file, old = None, [], [], None, None
+    """The crate of the tests, the tests that have to fail, file, old and new text of each change, and why it is tried by hand."""
+    crate, tests, changes, reason, file, old = None, [], [], None, None, None
     for line in lines:
         word, _, text = line.rstrip("\n").partition(": ")
         if word == "tests":
             crate = text
         elif word == "catches":
             tests.append(text)
+        elif word == "by hand":
+            reason = text
         elif word == "file":
             file = text
         elif word == "old":
             old = text
         elif word == "new":
             changes.append((file, old, text))
-    return crate, tests, changes
+    return crate, tests, changes, reason
 
 
 def copied(folder):
@@ -56,33 +59,37 @@ def applied(folder, changes):
     return None
 
 
-def fault(name):
-    """Why an edit is not caught, or nothing where it is."""
+def fault(name, is_named):
+    """Why an edit is not caught, or nothing where it is; and why it was not tried, or nothing where it was."""
     with open(os.path.join(HERE, "must-catch", name + ".edit"), encoding="utf-8") as edit:
-        crate, tests, changes = parsed(edit)
+        crate, tests, changes, reason = parsed(edit)
     with tempfile.TemporaryDirectory() as folder:
         copied(folder)
         hindered = applied(folder, changes)
         if hindered:
-            return hindered
+            return hindered, None
+        if reason and not is_named:
+            return None, reason
         where = os.path.join(folder, "crates", crate)
         run = subprocess.run(["rt", "try", "--test"], cwd=where, capture_output=True, text=True)
     said = (run.stdout + run.stderr).splitlines()
     if not any(line.startswith("test result: ") for line in said):
-        return "the tests did not run:\n" + "\n".join(said[-20:])
+        return "the tests did not run:\n" + "\n".join(said[-20:]), None
     missed = [test for test in tests if f"test {test} ... FAILED" not in said]
-    return f"it passes {', '.join(missed)}" if missed else None
+    return f"it passes {', '.join(missed)}" if missed else None, None
 
 
 def main():
-    names = sys.argv[1:] or sorted(file[:-5] for file in os.listdir(os.path.join(HERE, "must-catch")) if file.endswith(".edit"))
-    passed = 0
+    named = sys.argv[1:]
+    names = named or sorted(file[:-5] for file in os.listdir(os.path.join(HERE, "must-catch")) if file.endswith(".edit"))
+    failed = skipped = 0
     for name in names:
-        why = fault(name)
-        passed += not why
-        print(f"must-catch: {name}: {why or 'caught'}", flush=True)
-    print(f"{passed} passed, {len(names) - passed} failed")
-    return passed != len(names)
+        why, reason = fault(name, bool(named))
+        failed += bool(why)
+        skipped += bool(reason)
+        print(f"must-catch: {name}: {why or (f'skipped, {reason}' if reason else 'caught')}", flush=True)
+    print(f"{len(names) - failed - skipped} passed, {failed} failed" + (f", {skipped} skipped" if skipped else ""))
+    return failed != 0
 
 
 if __name__ == "__main__":
