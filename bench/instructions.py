@@ -6,7 +6,7 @@ usage: instructions.py [PROGRAM]
 Each history is made by generate.py from the number 1. The line of a part has the instructions in its functions and in all that
 these call, in millions, by byte of the text and by event. The tally and the order are what is done with a history once it is
 read; the rest is the text taken in, records, fields, index, report, and what a process needs to start. A part whose functions
-were drawn into their callers counts with these: the sums of the views count with the rest.
+were drawn into their callers counts with these.
 """
 import os
 import re
@@ -19,7 +19,7 @@ PROGRAM = os.path.join(HERE, "..", "built", "snapjudge")
 HISTORIES = [("atomic", 16384, 8), ("overlapping", 16384, 8), ("atomic", 2048, 256), ("writes", 2048, 256), ("atomic", 10, 3)]
 # by part: the outermost functions, which do not call one another
 PARTS = [
-    ("tally", [r"snap_pairs::workers::each_job", r"snap_conditions::whole::faultless_chain"]),
+    ("tally", [r"snap_pairs::whole::tally_and_chain"]),
     ("order", [r"snap_order::printing::build_along"]),
     ("records", [r"snap_csv::rows::next_row", r"memchr::bytes::memchr2"]),
     ("fields", [r"snap_csv::fields::event_of_fields"]),

@@ -21,14 +21,8 @@ pub record AreRanks (numbers distinct ranks : List ℕ) : Type 0 where
   pub count : length ranks ≡ length numbers
   pub each : (i : ℕ) → i < length numbers → IsRank distinct (get_or numbers i 0) (get_or ranks i 0)
 
--- the ranks of the least number and of those that come next
-abbrev pub AreNextRanks : List ℕ → ℕ → List ℕ → Type 0
-AreNextRanks distinct least next = (d : ℕ) → d < length next → IsRank distinct (least + d) (get_or next d 0)
-
 -- what is kept of numbers that are far apart: a mask for each rank, and one for all
-pub record IsRanked (numbers distinct : List ℕ) (least : ℕ) (next under : List ℕ) : Type 0 where
+pub record IsRanked (numbers distinct under : List ℕ) : Type 0 where
   pub order : IsStrictlyIncreasing distinct
-  pub low : (i : ℕ) → i < length distinct → least ≤ get_or distinct i 0
-  pub ranks : AreNextRanks distinct least next
   pub count : length under ≡ length distinct + 1
   pub masked : (x rank : ℕ) → IsRank distinct x rank → get_or under rank 0 ≡ mask_by (λ n. nat_lt n x) numbers

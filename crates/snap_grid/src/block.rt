@@ -250,7 +250,8 @@ impl<'g> Block<'g> {
             let theirs = self.columns[j].bounds(block);
             if is_open(more, less, ours, theirs) {
                 let theirs = self.columns[j].rows(block * WIDTH, block * WIDTH + count);
-                let column = self.masks[j].facing(theirs);
+                let places = self.columns[j].places(block * WIDTH, block * WIDTH + count);
+                let column = self.masks[j].facing(theirs, places);
                 if column.under.is_empty() {
                     far.push(column)?;
                 } else {

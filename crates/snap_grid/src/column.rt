@@ -3,6 +3,7 @@ ghost use Rattle.std.specs.Prelude.{◌≡◌, ◌≤◌, ◌<◌, ◌+◌, ◌*
 use crate::bounds::Bounds;
 use crate::mask::WIDTH;
 use crate::masks::Masks;
+use crate::ranked::{distinct_of, ranks_of};
 use std::alloc::{AllocError, Global};
 use std::marker::Model;
 
@@ -14,6 +15,20 @@ pub struct Column {
     bounds: Vec<Bounds>,
     // up to which number masks of the column have a table
     limit: u32,
+    // the ranks of the numbers, where they are farther apart; a rank only tells where to look
+    ranks: Vec<u32>,
+}
+
+// The ranks of some numbers, where they are farther apart than a limit; else none.
+fn ranks_beyond(alloc: Global, numbers: &[u32], limit: u32) -> Result<Vec<u32>, AllocError>
+    requires { length numbers.now ≤ 65536 }
+{
+    let bounds = Bounds::of(numbers);
+    if bounds.greatest.saturating_sub(bounds.least) <= limit {
+        return Ok(Vec::new(alloc));
+    }
+    let distinct = distinct_of(alloc, numbers)?;
+    ranks_of(alloc, numbers, &distinct)
 }
 
 impl Model for Column {
@@ -42,10 +57,12 @@ impl Column {
             bounds.push(Bounds::of(&numbers[start..end]))?;
             start += WIDTH;
         }
+        let ranks = ranks_beyond(alloc, &numbers, limit)?;
         Ok(Column {
             numbers,
             bounds,
             limit,
+            ranks,
         })
     }
 
@@ -75,6 +92,15 @@ impl Column {
         &self.numbers[from..to]
     }
 
+    // The ranks of some rows' numbers in the column; none where the numbers are near one another.
+    pub(crate) fn places(&self, from: usize, to: usize) -> &[u32] {
+        if from <= to && to <= self.ranks.len() {
+            &self.ranks[from..to]
+        } else {
+            &[]
+        }
+    }
+
     // The masks of some rows.
     pub(crate) fn masks<'c>(
         &'c self,
@@ -87,6 +113,11 @@ impl Column {
         requires within { to ≤ length self.now }
         ensures { IfOk result (λ masks. masks ≡ take (to - from) (drop from self.now)) }
     {
-        Masks::of(alloc, self.rows(from, to), self.limit)
+        Masks::of(
+            alloc,
+            self.rows(from, to),
+            self.limit,
+            self.places(from, to),
+        )
     }
 }

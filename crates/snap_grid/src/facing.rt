@@ -17,6 +17,8 @@ pub(crate) struct Facing<'b, 'g> {
     // our numbers by their ranks, if there is no table
     pub(crate) ranked: &'b Option<Ranked<'g>>,
     pub(crate) theirs: &'g [u32],
+    // the ranks of their numbers in the column, where they are known
+    pub(crate) places: &'g [u32],
     ghost tables: { AreUnder ours.now bounds under.now },
     ghost ranked_else: { AreRankedElse ours.now under.now ranked.now },
 }
@@ -56,6 +58,10 @@ impl<'b, 'g> Facing<'b, 'g> {
         let Some(ranked) = self.ranked else {
             unreachable!()
         };
-        ranked.around(self.theirs[row])
+        let guess = match self.places.get(row) {
+            Some(place) => ranked.guess(*place),
+            None => 0,
+        };
+        ranked.around(self.theirs[row], guess)
     }
 }

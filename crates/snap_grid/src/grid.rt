@@ -232,7 +232,7 @@ impl Grid {
     {
         let all = self.ends.len();
         let ours = Block::of(alloc, &self.columns, from, count)?;
-        let ends = Masks::of(alloc, &self.ends[from..from + count], PLACES)?;
+        let ends = Masks::of(alloc, &self.ends[from..from + count], PLACES, &[])?;
         let mut found = 0;
         let mut drops = 0;
         let mut rows = Mask::none();
@@ -302,7 +302,7 @@ impl Grid {
         ensures { IfOk result (λ first. first ≡ find (clashes self.now row) (rows_of self.now)) }
     {
         let ours = Block::of(alloc, &self.columns, row, 1)?;
-        let ends = Masks::of(alloc, &self.ends[row..row + 1], PLACES)?;
+        let ends = Masks::of(alloc, &self.ends[row..row + 1], PLACES, &[])?;
         let rows = self.ends.len();
         let mut block: usize = 0;
         while block * WIDTH < rows {

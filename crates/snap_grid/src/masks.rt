@@ -64,8 +64,13 @@ impl<'c> Model for Masks<'c> {
 }
 
 impl<'c> Masks<'c> {
-    // The masks of some numbers, with a table where they are at most so far apart.
-    pub(crate) fn of(alloc: Global, numbers: &'c [u32], limit: u32) -> Result<Masks<'c>, AllocError>
+    // The masks of some numbers, with a table where they are at most so far apart. Else it serves to know their ranks in a column.
+    pub(crate) fn of(
+        alloc: Global,
+        numbers: &'c [u32],
+        limit: u32,
+        places: &[u32],
+    ) -> Result<Masks<'c>, AllocError>
         requires numbers { length numbers.now ≤ 512 }
         requires limit { limit ≤ 65536 }
         ensures { IfOk result (λ masks. masks ≡ numbers.now) }
@@ -78,7 +83,7 @@ impl<'c> Masks<'c> {
             under = empty_masks(alloc, spread as usize + 4)?;
             fill(&mut under[1..], numbers, bounds.least);
         } else {
-            ranked = Some(Ranked::of(alloc, numbers, limit + 1)?);
+            ranked = Some(Ranked::of(alloc, numbers, places)?);
         }
         Ok(Masks {
             numbers,
@@ -96,8 +101,8 @@ impl<'c> Masks<'c> {
         self.bounds
     }
 
-    // The masks against numbers of theirs.
-    pub(crate) fn facing<'m>(&'m self, theirs: &'c [u32]) -> Facing<'m, 'c>
+    // The masks against numbers of theirs, whose ranks in their column may be known.
+    pub(crate) fn facing<'m>(&'m self, theirs: &'c [u32], places: &'c [u32]) -> Facing<'m, 'c>
         ensures ours { result.ours.now ≡ self.now }
         ensures theirs { result.theirs.now ≡ theirs.now }
     {
@@ -107,6 +112,7 @@ impl<'c> Masks<'c> {
             under: &self.under,
             ranked: &self.ranked,
             theirs,
+            places,
         }
     }
 
@@ -123,7 +129,7 @@ impl<'c> Masks<'c> {
             let Some(ranked) = &self.ranked else {
                 unreachable!()
             };
-            ranked.around(x).below.copy()
+            ranked.around(x, 0).below.copy()
         } else {
             self.under[(x - self.bounds.least) as usize + 1].copy()
         }

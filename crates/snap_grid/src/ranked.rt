@@ -1,8 +1,9 @@
-ghost use Rattle.std.specs.Prelude.{◌≡◌, ◌≤◌, ◌<◌, ◌+◌, ℕ, length, get_or, nat_lt, IfOk};
-ghost use Rattle.std.specs.List.Sorted.{IsNonDecreasing, IsStrictlyIncreasing};
+ghost use Rattle.std.specs.Prelude.{◌≡◌, ◌≤◌, ◌<◌, ◌+◌, ℕ, length, get_or, nat_lt, IfOk, IsTrue};
+ghost use Rattle.std.specs.List.Sorted.{IsStrictlyIncreasing};
 ghost use Rattle.snap_grid.specs.Masks.{mask_by};
-ghost use Rattle.snap_grid.specs.Ranked.{AreDistinct, AreNextRanks, AreRanks, IsRank};
+ghost use Rattle.snap_grid.specs.Ranked.{AreDistinct, AreRanks, IsRank};
 
+use crate::bounds::Bounds;
 use crate::facing::Around;
 use crate::mask::Mask;
 use crate::masks::{empty_masks, fill};
@@ -10,7 +11,7 @@ use std::alloc::{AllocError, Global};
 use std::marker::Model;
 
 // The different ones of some numbers, from the least on.
-fn distinct_of(alloc: Global, numbers: &[u32]) -> Result<Vec<u32>, AllocError>
+pub(crate) fn distinct_of(alloc: Global, numbers: &[u32]) -> Result<Vec<u32>, AllocError>
     ensures { IfOk result (λ distinct. AreDistinct numbers.now distinct.items) }
 {
     let mut distinct = numbers.to_vec(alloc)?;
@@ -42,8 +43,12 @@ fn rank_behind(distinct: &[u32], x: u32, rank: usize) -> usize
 }
 
 // The rank of each number.
-fn ranks_of(alloc: Global, numbers: &[u32], distinct: &[u32]) -> Result<Vec<u32>, AllocError>
-    requires few { length distinct.now ≤ 512 }
+pub(crate) fn ranks_of(
+    alloc: Global,
+    numbers: &[u32],
+    distinct: &[u32],
+) -> Result<Vec<u32>, AllocError>
+    requires few { length distinct.now ≤ 65536 }
     requires order { IsStrictlyIncreasing distinct.now }
     ensures { IfOk result (λ ranks. AreRanks numbers.now distinct.now ranks.items) }
 {
@@ -67,54 +72,48 @@ fn masks_of(alloc: Global, ranks: &[u32], count: usize) -> Result<Vec<Mask>, All
     Ok(masks)
 }
 
-// The ranks of so many numbers from the least on.
-fn next_ranks(
-    alloc: Global,
-    distinct: &[u32],
-    least: u32,
-    count: u32,
-) -> Result<Vec<u16>, AllocError>
-    requires few { length distinct.now ≤ 512 }
-    requires order { IsNonDecreasing distinct.now }
-    ensures count { IfOk result (λ ranks. length ranks.items ≡ count) }
-    ensures ranks { IfOk result (λ ranks. AreNextRanks distinct.now least ranks.items) }
-{
-    let mut ranks = Vec::with_capacity(alloc, count as usize)?;
-    let mut rank = 0;
-    for d in 0..count {
-        let x = u64::from(least) + u64::from(d);
-        while rank < distinct.len() && u64::from(distinct[rank]) < x {
-            rank += 1;
-        }
-        ranks.push(rank as u16)?;
-    }
-    Ok(ranks)
-}
-
-// A number that none of some distinct ones is below: the least, where there is one.
-fn least_of(distinct: &[u32]) -> u32
-    requires { IsStrictlyIncreasing distinct.now }
-    ensures { (i : ℕ) → i < length distinct.now → result ≤ get_or distinct.now i 0 }
-{
-    if distinct.is_empty() { 0 } else { distinct[0] }
-}
-
-// How many of some distinct numbers are below x, without a search where x is near the least.
+// Whether so many of some distinct numbers are below x.
 #[inline]
-fn rank_near(distinct: &[u32], least: u32, next: &[u16], x: u32) -> usize
-    requires order { IsStrictlyIncreasing distinct.now }
-    requires low { (i : ℕ) → i < length distinct.now → least ≤ get_or distinct.now i 0 }
-    requires ranks { AreNextRanks distinct.now least next.now }
+fn is_rank(distinct: &[u32], x: u32, rank: usize) -> bool
+    requires { IsStrictlyIncreasing distinct.now }
+    ensures { IsTrue result → IsRank distinct.now x rank }
+{
+    if rank > distinct.len() {
+        return false;
+    }
+    if rank > 0 && distinct[rank - 1] >= x {
+        return false;
+    }
+    if rank < distinct.len() && distinct[rank] < x {
+        return false;
+    }
+    true
+}
+
+// How many of some distinct numbers are below x. Where a guess is right no search is needed.
+#[inline]
+fn rank_by(distinct: &[u32], x: u32, guess: usize) -> usize
+    requires { IsStrictlyIncreasing distinct.now }
     ensures { IsRank distinct.now x result }
 {
-    if x <= least {
-        return 0;
+    if is_rank(distinct, x, guess) {
+        guess
+    } else {
+        rank_of(distinct, x)
     }
-    let ahead = (x - least) as usize;
-    if ahead < next.len() {
-        return usize::from(next[ahead]);
+}
+
+// How many different ones of some ranks are below each, up to one more than the greatest.
+fn guesses_of(alloc: Global, ranks: &[u32]) -> Result<Vec<u16>, AllocError> {
+    let greatest = Bounds::of(ranks).greatest;
+    let mut guesses = vec![in alloc; 0u16; greatest as usize + 2]?;
+    for i in 0..ranks.len() {
+        guesses[ranks[i] as usize + 1] = 1;
     }
-    rank_of(distinct, x)
+    for at in 1..guesses.len() {
+        guesses[at] = guesses[at].wrapping_add(guesses[at - 1]);
+    }
+    Ok(guesses)
 }
 
 // Up to 512 numbers, kept so that it is soon known which of them are greater or less than another, however far apart they are.
@@ -123,9 +122,8 @@ pub(crate) struct Ranked<'c> {
     numbers: &'c [u32],
     // the different ones of them, from the least on
     distinct: Vec<u32>,
-    least: u32,
-    // the ranks of the least number and of those that come next
-    next: Vec<u16>,
+    // by the rank of a number in the whole column how many of the distinct ones are below it; each is tested before it is used
+    guesses: Vec<u16>,
     // the masks of the numbers below each rank, and of all
     under: Vec<Mask>,
 }
@@ -138,36 +136,49 @@ impl<'c> Model for Ranked<'c> {
 
     ghost view = { λ r. r.numbers.now };
 
-    ghost invariant = { λ r. IsRanked r.numbers.now r.distinct.items r.least r.next.items r.under.items };
+    ghost invariant = { λ r. IsRanked r.numbers.now r.distinct.items r.under.items };
 }
 
 impl<'c> Ranked<'c> {
-    // Some numbers by their ranks. The ranks of so many from the least on are found without a search.
-    pub(crate) fn of(alloc: Global, numbers: &'c [u32], near: u32) -> Result<Ranked<'c>, AllocError>
+    // Some numbers by their ranks. They are soon compared with numbers whose ranks in the column are known, as `places` has those
+    // of these numbers.
+    pub(crate) fn of(
+        alloc: Global,
+        numbers: &'c [u32],
+        places: &[u32],
+    ) -> Result<Ranked<'c>, AllocError>
         requires { length numbers.now ≤ 512 }
         ensures { IfOk result (λ ranked. ranked ≡ numbers.now) }
     {
         let distinct = distinct_of(alloc, numbers)?;
         let ranks = ranks_of(alloc, numbers, &distinct)?;
         let under = masks_of(alloc, &ranks, distinct.len())?;
-        let least = least_of(&distinct);
-        let next = next_ranks(alloc, &distinct, least, near)?;
+        let guesses = guesses_of(alloc, places)?;
         Ok(Ranked {
             numbers,
             distinct,
-            least,
-            next,
+            guesses,
             under,
         })
     }
 
-    // The masks around x. They stand side by side, or are one where none of the numbers is x.
+    // How many of the distinct numbers may be below one, by its rank in the column.
     #[inline]
-    pub(crate) fn around(&self, x: u32) -> Around<'_>
+    pub(crate) fn guess(&self, place: u32) -> usize {
+        match self.guesses.get(place as usize) {
+            Some(guess) => usize::from(*guess),
+            None => self.distinct.len(),
+        }
+    }
+
+    // The masks around x, which are soon found where a guess tells how many of the distinct numbers are below x. They stand side
+    // by side, or are one where none of the numbers is x.
+    #[inline]
+    pub(crate) fn around(&self, x: u32, guess: usize) -> Around<'_>
         ensures below { result.below.now ≡ mask_by (λ n. nat_lt n x) self.now }
         ensures at_most { result.at_most.now ≡ mask_by (λ n. nat_lt n (x + 1)) self.now }
     {
-        let rank = rank_near(&self.distinct, self.least, &self.next, x);
+        let rank = rank_by(&self.distinct, x, guess);
         let behind = rank_behind(&self.distinct, x, rank);
         Around {
             below: &self.under[rank],

@@ -1,10 +1,9 @@
-use Rattle.std.proofs.Common.{◌≡◌, ◌≤◌, ◌<◌, ℕ, List, length, get_or, sym, ap, subst, arith}
+use Rattle.std.proofs.Common.{◌≡◌, ◌<◌, ℕ, List, length, get_or, sym, ap, subst, arith}
 use Rattle.std.specs.Prelude.{nat_lt}
-use Rattle.std.specs.List.Sorted.{IsNonDecreasing}
 use Rattle.std.proofs.lemmas.List.Elements.{Contains-get_or}
 use Rattle.snap_grid.specs.Masks.{mask_by}
-use Rattle.snap_grid.specs.Ranked.{AreNextRanks, AreRanks}
-use Rattle.snap_grid.proofs.Ranking.{no_falls, rank_small, ranked_mask}
+use Rattle.snap_grid.specs.Ranked.{AreRanks}
+use Rattle.snap_grid.proofs.Ranking.{rank_small, ranked_mask}
 use Rattle.snap_grid.proofs.ranked.Ranked.of.Goals as goal
 
 pub masks_of-requires-clause-within : goal.masks_of-requires-clause-within
@@ -17,21 +16,15 @@ masks_of-requires-clause-within c = λ i l.
     let small = rank_small distinct (get_or numbers i 0) (get_or ranks i 0) (c.in_ok-distinct.ensures.each (get_or numbers i 0) (Contains-get_or numbers i 0 k)) (r.each i k) in
     subst (λ (z : List ℕ). get_or z i 0 < c.len.result) (sym c.deref-2.ensures.value) (omega (arith, small, c.len.ensures))
 
-pub next_ranks-requires-clause-order : goal.next_ranks-requires-clause-order
-next_ranks-requires-clause-order c = subst IsNonDecreasing (sym c.deref-4.ensures.value) (no_falls c.in_ok-distinct.distinct.items c.in_ok-distinct.ensures.order)
-
 pub invariant_of-result : goal.invariant_of-result
 invariant_of-result c =
     let numbers = c.args.numbers.now in
     let distinct = c.in_ok-distinct.distinct.items in
     let ranks = c.in_ok-ranks.ranks.items in
     let under = c.in_ok-under.under.items in
-    let least = c.least_of-least.result in
     let r = subst (λ z. AreRanks numbers z ranks) c.deref.ensures.value c.in_ok-ranks.ensures in
     record {
       order = c.in_ok-distinct.ensures.order;
-      low = subst (λ (z : List ℕ). (i : ℕ) → i < length z → least ≤ get_or z i 0) c.deref-3.ensures.value c.least_of-least.ensures;
-      ranks = subst (λ (z : List ℕ). AreNextRanks z least c.in_ok-next.next.items) c.deref-4.ensures.value c.in_ok-next.ensures.ranks;
       count = omega (arith, c.in_ok-under.ensures.count, c.len.ensures);
       masked = λ x rank s.
           let here = subst (λ (z : List ℕ). get_or under rank 0 ≡ mask_by (λ n. nat_lt n rank) z) c.deref-2.ensures.value (c.in_ok-under.ensures.tabled rank (omega (arith, s.within, c.len.ensures))) in
