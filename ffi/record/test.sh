@@ -87,6 +87,14 @@ caught() {
     "$program" explain <naive-caught.csv | cmp - naive-explained.txt && "$program" shrink <naive-caught.csv | cmp - naive-witness.csv
 }
 
+# The runs make the calls that are chosen: of two runs the second alone is caught, and its threads begin what it has for them.
+made() {
+  rm -f second-*
+  ends 2 "second: atomic 1, regular 0, neither 1" "${faulty[@]}" second --threads 3 --components 5 --calls 40 --runs 2 --seed 7 || return 1
+  python3 -B "$here/choices.py" 3 5 40 2 7 choice | sed -n 's/^2 //p' >wanted
+  awk -F '[,:]' '$2 == "begin" { print $3, $4 ($4 == "update" ? " " $5 : "") }' second-caught.csv | cmp wanted -
+}
+
 # each of these histories is regular, and not atomic
 judges_alike() {
   local history
@@ -164,7 +172,10 @@ drivers() {
   language=$1
   local -x SNAPJUDGE_LIBRARY='' SNAPJUDGE_PROGRAM=$program
   has python3 "$language: choices" && try "$language: choices" chosen
+  has python3 "$language: the calls of a run" && try "$language: the calls of a run" made
   try "$language: double collect" atomic
+  try "$language: one slow component" ends 0 "slow: atomic 5, regular 0, neither 0" "${faulty[@]}" slow --components 1 --nap 40 --calls 60 \
+    --runs 5
   try "$language: double collect in turn of 7 threads and 64 components" atomic --order turn --threads 7 --components 64 --calls 60
   try "$language: naive collect is caught" caught
   try "$language: naive collect with naps is caught" caught --nap 60 --calls 50
