@@ -3,9 +3,9 @@ use Rattle.std.specs.Prelude.{Some, true, codes, pos, [], ◌∷◌}
 use Rattle.clap.specs.Words.{App, Rule, new_app, new_rule, with_rule, with_subcommand}
 use Rattle.clap.specs.declared.builder.action.ArgAction.TheVariants.{SetTrue}
 use Rattle.clap.specs.declared.builder.value_parser.ValueParser.TheVariants.{Signed}
-use Rattle.snap_pairs.specs.declared.cutting.TheConstants.{PIECE_LIMIT, WORKER_LIMIT}
 use Rattle.snap_record.specs.Plans.{round_limit, worker_limit}
 use Rattle.snap_record.specs.declared.plan.TheConstants.{LEAST_WORKERS}
+use Rattle.snap_threads.specs.declared.cutting.TheConstants.{PIECE_LIMIT, WORKER_LIMIT}
 use Rattle.snap_words.specs.declared.command.TheConstants.{VIEW_LIMIT}
 
 -- --pieces P, 8 where it is not given

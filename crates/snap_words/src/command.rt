@@ -9,7 +9,7 @@ use crate::record_command::record_command;
 use crate::shrink_command::shrink_command;
 use clap::{Arg, ArgAction, Command};
 use snap_core::EVENT_LIMIT;
-use snap_pairs::{PIECE_LIMIT, WORKER_LIMIT};
+use snap_threads::{PIECE_LIMIT, WORKER_LIMIT};
 use std::alloc::{AllocError, Global};
 
 /// How many completed views a history has at most, each of two events.
