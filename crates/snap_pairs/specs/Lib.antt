@@ -1,5 +1,4 @@
 pub mod Claiming
-pub mod Cuttings
 pub mod Draws
 pub mod Inside
 pub mod Pieces

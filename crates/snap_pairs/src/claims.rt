@@ -2,8 +2,8 @@ ghost use Rattle.std.specs.Prelude.{◌≡◌, ℕ, ◌+◌, ◌<◌, ◌≤◌,
 ghost use Rattle.snap_pairs.specs.Claiming.{AreDrawnOnce, IsClaimOf, IsFinished, new_claims, pieces_of, with_number};
 
 use crate::counter::{Collect, Deal, Draw, Draws, Hand};
-use crate::cutting::Cutting;
 use atomic_table::{Seat, Table};
+use snap_threads::Cutting;
 use std::alloc::{AllocError, Global};
 use std::marker::Model;
 

@@ -1,6 +1,6 @@
 //! The counter's one word, the numbers that claims drew from it, and the three kinds of step: a draw, a split and a join.
-use crate::cutting::Cutting;
 use atomic_table::{Join, Play, Split, TableRule};
+use snap_threads::Cutting;
 use std::collections::LinkedList;
 
 /// What one seat knows: the numbers that each of its claims drew. No value of it is made.

@@ -6,10 +6,10 @@ ghost use Rattle.snap_pairs.specs.Claiming.{IsClaimOf, IsFinished, pieces_of};
 ghost use Rattle.snap_pairs.specs.Pieces.{AreAnswers, AreTallied, FitSlots, IsFull};
 
 use crate::claims::{Claim, Claims};
-use crate::cutting::Cutting;
 use crate::worker::{Answer, Drawn};
 use snap_conditions::{Tally, merge};
 use snap_index::Index;
+use snap_threads::Cutting;
 use std::alloc::{AllocError, Global};
 
 // Puts each tally into the slot of its piece.

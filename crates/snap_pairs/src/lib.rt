@@ -3,7 +3,6 @@
 
 mod claims;
 mod counter;
-mod cutting;
 mod gather;
 mod pieces;
 mod reads;
@@ -11,5 +10,4 @@ mod whole;
 mod worker;
 
 pub use claims::{Claim, Claims};
-pub use cutting::{Cutting, CuttingRefusal, PIECE_LIMIT, WORKER_LIMIT};
 pub use whole::{tally, tally_and_chain};

@@ -2,7 +2,7 @@
 ghost use Rattle.std.specs.Prelude.{◌≡◌, ◌≤◌};
 ghost use Rattle.snap_pairs.specs.Pieces.{piece_start};
 
-use crate::cutting::Cutting;
+use snap_threads::Cutting;
 
 // The first view of a piece, which is the end of the piece before it.
 pub(crate) fn start_of(cutting: Cutting, piece: u32, views: u32) -> u32

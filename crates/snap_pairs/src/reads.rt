@@ -10,7 +10,6 @@ ghost use Rattle.snap_conditions.specs.Seen.{view_in};
 ghost use Rattle.snap_conditions.specs.Tally.{tally_of, views_between};
 ghost use Rattle.snap_pairs.specs.Reads.{AreParts, IsGridFor, part_start};
 
-use crate::cutting::Cutting;
 use rayon::prelude::*;
 use snap_conditions::{
     Tally, ViewChain, ViewGrid, columns_between, faultless_chain, tally_without_read, view_sum,
@@ -18,7 +17,7 @@ use snap_conditions::{
 use snap_core::COMPONENT_COUNT;
 use snap_grid::Column;
 use snap_index::Index;
-use snap_threads::each_job;
+use snap_threads::{Cutting, each_job};
 use std::alloc::{AllocError, Global};
 use std::thread::Threads;
 

@@ -8,14 +8,13 @@ ghost use Rattle.snap_pairs.specs.Pieces.{IsAnswer};
 ghost use Rattle.snap_pairs.specs.Reads.{IsGridFor};
 
 use crate::claims::{Claim, Claims};
-use crate::cutting::Cutting;
 use crate::gather::{gather, merge_slots};
 use crate::reads::grid_or_chain;
 use crate::worker::{Answer, draw_all};
 use snap_conditions::{Tally, ViewChain, ViewGrid};
 use snap_core::Gate;
 use snap_index::Index;
-use snap_threads::each_job;
+use snap_threads::{Cutting, each_job};
 use std::alloc::{AllocError, Global};
 use std::thread::Threads;
 

@@ -6,12 +6,12 @@ ghost use Rattle.snap_pairs.specs.Pieces.{IsAnswer};
 ghost use Rattle.snap_pairs.specs.Reads.{IsGridFor};
 
 use crate::claims::{Claim, Claims};
-use crate::cutting::Cutting;
 use crate::pieces::start_of;
 use crate::reads::piece_tally;
 use snap_conditions::{Tally, ViewGrid};
 use snap_core::Gate;
 use snap_index::Index;
+use snap_threads::Cutting;
 use std::alloc::{AllocError, Global};
 
 /// A piece that was drawn, and its tally.

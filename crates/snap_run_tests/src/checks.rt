@@ -1,7 +1,7 @@
 //! Checks of texts from memory against what is wanted of them.
 use snap_core::{Counted, Gate, OpenGate};
-use snap_pairs::Cutting;
 use snap_runs::{RunFault, Status, check_run};
+use snap_threads::Cutting;
 use std::alloc::{AllocError, Global};
 use std::fmt::Debug;
 use std::io::{Read, Write};

@@ -1,8 +1,8 @@
 //! Runs over readers and writers that fail, stop, or take little at a time.
 use super::checks::{STALE_REPORT, STALE_VIEW, cutting, history, run, same};
 use snap_core::Counted;
-use snap_pairs::Cutting;
 use snap_testing::{Cup, Drip};
+use snap_threads::Cutting;
 use std::alloc::Global;
 use std::sync::Wait;
 use std::test::Fail;

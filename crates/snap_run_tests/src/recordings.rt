@@ -1,10 +1,10 @@
 //! Histories that a board's run leaves, and their reports.
 use super::checks::{cutting, end_of, same};
 use snap_core::{Counted, Gate, OpenGate};
-use snap_pairs::Cutting;
 use snap_record::{Plan, Step, rounds_plan};
 use snap_runs::{record_run, record_run_stamped};
 use snap_testing::{Cup, Meeting};
+use snap_threads::Cutting;
 use std::alloc::Global;
 use std::sync::Wait;
 use std::test::Fail;

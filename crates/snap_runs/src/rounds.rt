@@ -7,8 +7,8 @@ ghost use Rattle.snap_runs.specs.RecordRuns.{IsRecorded, IsStampedRecording, Wri
 use crate::fault::RunFault;
 use crate::recording::{record_run, record_run_stamped};
 use snap_core::Counted;
-use snap_pairs::Cutting;
 use snap_record::{Pace, Plan, PlanRefusal, rounds_plan};
+use snap_threads::Cutting;
 use snap_verdict::Status;
 use std::alloc::{AllocError, Global};
 use std::io::Write;

@@ -7,9 +7,10 @@ use snap_conditions::{faultless_chain, view_sums};
 use snap_core::{Event, EventRefusal, History, OpenGate, View};
 use snap_index::Index;
 use snap_order::{build, build_along, check_order};
-use snap_pairs::{Claims, Cutting, PIECE_LIMIT, WORKER_LIMIT, tally, tally_and_chain};
+use snap_pairs::{Claims, tally, tally_and_chain};
 use snap_testing::worked::{ATOMIC_RUN, CROSSED_VIEWS, FOUR_WAYS, SEEN_PENDING};
 use snap_testing::{Step, entry, history_of};
+use snap_threads::{Cutting, PIECE_LIMIT, WORKER_LIMIT};
 use std::alloc::Global;
 use std::thread::Threads;
 

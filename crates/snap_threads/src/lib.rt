@@ -1,4 +1,4 @@
-//! Jobs in threads that the calling thread starts.
+//! Jobs in threads that the calling thread starts, and how many workers share how many pieces of some work.
 #![tactic(auto)]
 
 ghost use Rattle.std.specs.Prelude.{IfOk};
@@ -6,6 +6,9 @@ ghost use Rattle.std.specs.Thread.{IsSync, IsSend};
 ghost use Rattle.std.specs.Fork.{AcceptsJobs};
 ghost use Rattle.std.specs.Fork.Halves.{GivesFor};
 
+mod cutting;
+
+pub use cutting::{Cutting, CuttingRefusal, PIECE_LIMIT, WORKER_LIMIT};
 use std::alloc::{AllocError, Global};
 use std::thread::{Threads, join};
 

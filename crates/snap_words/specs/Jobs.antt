@@ -2,8 +2,8 @@
 use Rattle.std.specs.Prelude.{◌≡◌, ◌*◌, ◌≤◌, ℕ, Bool, true, false, List, Some, codes, decimal}
 use Rattle.clap.specs.Words.{Row, one_of}
 use Rattle.snap_core.specs.Events.{event_limit}
-use Rattle.snap_pairs.specs.Cuttings.{IsPieces, IsWorkers}
 use Rattle.snap_record.specs.Plans.{AreWorkers, AreRounds}
+use Rattle.snap_threads.specs.Cuttings.{IsPieces, IsWorkers}
 use Rattle.snap_words.specs.declared.job.Job.{Job}
 use Rattle.snap_words.specs.declared.job.Job.TheVariants.{Check, Shrink, Explain, Record}
 

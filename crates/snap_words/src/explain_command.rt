@@ -4,6 +4,7 @@ ghost use Rattle.clap.specs.Words.{app_of};
 ghost use Rattle.clap.specs.declared.builder.command.Command.TheViews.{out-Command as fields_of};
 ghost use Rattle.snap_words.specs.CommandLine.{explain_app};
 
+use crate::parts::bare_command;
 use clap::Command;
 use std::alloc::Global;
 
@@ -46,7 +47,5 @@ Exit status:
 pub fn explain_command<'a>(alloc: Global) -> Command<'a>
     ensures { (app_of result ≡ explain_app) × ((fields_of result).has_globals ≡ false) }
 {
-    Command::new(alloc, "explain")
-        .about(ABOUT)
-        .after_help(EXAMPLE)
+    bare_command(alloc, "explain", ABOUT, EXAMPLE)
 }

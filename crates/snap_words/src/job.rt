@@ -6,8 +6,8 @@ ghost use Rattle.snap_words.specs.Jobs.{AsksCheck, AsksRecord, Flags, Options, I
 use crate::command::{VIEW_LIMIT, program};
 use clap::error::ErrorKind;
 use clap::{ArgMatches, Error};
-use snap_pairs::Cutting;
 use snap_record::{LEAST_WORKERS, ROUND_LIMIT, WORKER_LIMIT};
+use snap_threads::Cutting;
 use std::alloc::{AllocError, Global};
 
 /// What the program is asked to do.

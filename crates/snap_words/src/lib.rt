@@ -4,6 +4,7 @@
 mod command;
 mod explain_command;
 mod job;
+mod parts;
 mod record_command;
 mod shrink_command;
 

@@ -1,5 +1,5 @@
 ghost use Rattle.std.specs.Prelude.{◌≡◌, IfOk, OnOk, IsErrOf};
-ghost use Rattle.snap_pairs.specs.Cuttings.{IsPieces, IsWorkers};
+ghost use Rattle.snap_threads.specs.Cuttings.{IsPieces, IsWorkers};
 
 /// How many pieces a cutting has at most.
 pub const PIECE_LIMIT: u32 = 1024;
@@ -16,7 +16,7 @@ pub enum CuttingRefusal {
     Workers,
 }
 
-/// Into how many pieces the views are cut, and how many workers share the pieces.
+/// Into how many pieces some work is cut, and how many workers share the pieces.
 #[derive(Clone, Copy, PartialEq, Eq, Debug)]
 pub struct Cutting {
     pieces: u32,
