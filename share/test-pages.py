@@ -272,7 +272,7 @@ def try_sentences(count, pages, is_listed):
 def is_program_fresh():
     """Whether the program is built of what the sources are now. A launcher that finds it is not would build it."""
     with contextlib.suppress(FileNotFoundError):
-        noted = (TOP / "built/sources").read_text(encoding="utf-8").split("\n", 1)[0]
+        noted = (TOP / "built/sources.sh").read_text(encoding="utf-8").split("\n", 1)[0]
         ran = subprocess.run([TOP / "share/sources.sh", "sum"], cwd=TOP, capture_output=True, text=True, check=False)
         return ran.returncode == 0 and ran.stdout.strip() in noted and (TOP / "built/snapjudge").exists()
     return False
