@@ -1,46 +1,89 @@
 //! Clashes of small grids, counted by hand.
-ghost use Rattle.std.specs.Prelude.{◌≡◌, length, IfOk};
+ghost use Rattle.std.specs.Prelude.{◌≡◌, ◌≤◌, length, IfOk};
 
-use snap_grid::{Clashes, Column, Grid};
+use snap_grid::{Column, Grid};
 use std::alloc::{AllocError, Global};
 use std::process::Abort;
 use std::test::Fail;
 
-// Each of these numbers so many times.
-fn runs(alloc: Global, runs: &[(u32, u32)]) -> Result<Vec<u32>, AllocError> {
+/// So many rows of a number, one behind the other.
+type Run = (usize, u32);
+
+/// How many clashes and drops there are, and the first row that clashes.
+type Known = (u64, u64, Option<usize>);
+
+// The numbers of these rows.
+fn numbers_of(alloc: Global, runs: &[Run]) -> Result<Vec<u32>, AllocError> {
     let mut numbers = Vec::new(alloc);
     for &(times, number) in runs {
-        for _time in 0..times {
-            numbers.push(number)?;
-        }
+        numbers.extend_from_slice(&vec![in alloc; number; times]?)?;
     }
     Ok(numbers)
 }
 
-// The grid of two columns, with tables for numbers up to a limit. Each row ends before the next begins, or none does.
+// The grid of two columns, with tables for numbers up to a limit, and its number of rows. Each row ends before the next begins,
+// or none does.
 fn grid_of(
     rt: &impl Abort,
     alloc: Global,
-    first: Vec<u32>,
-    second: Vec<u32>,
+    first: &[Run],
+    second: &[Run],
     limit: u32,
     apart: bool,
-) -> Result<Grid, AllocError>
-    ensures { IfOk result (λ grid. length grid.begins ≡ length first.items) }
+) -> Result<(usize, Grid), AllocError>
+    ensures { IfOk result (λ r. length r.1.begins ≡ r.0) }
 {
-    assert!(rt; limit < 65536 && first.len() <= 65536 && second.len() == first.len());
+    let first = numbers_of(alloc, first)?;
+    let second = numbers_of(alloc, second)?;
+    let rows = first.len();
+    assert!(rt; limit < 65536 && rows <= 65536 && second.len() == rows);
     let mut begins = Vec::new(alloc);
     let mut ends = Vec::new(alloc);
-    for row in 0..first.len() {
+    for row in 0..rows {
         begins.push(row as u32)?;
         ends.push(if apart { row as u32 } else { u32::MAX })?;
     }
-    assert!(rt; begins.len() == first.len() && ends.len() == first.len());
+    assert!(rt; begins.len() == rows && ends.len() == rows);
     let columns = vec![in alloc;
         Column::new(alloc, first, limit)?,
         Column::new(alloc, second, limit)?,
     ]?;
-    Grid::new(alloc, columns, begins, ends)
+    Ok((rows, Grid::new(alloc, columns, begins, ends)?))
+}
+
+// The rows from one to before another have these clashes.
+fn expect_range(
+    rt: &impl Abort,
+    alloc: Global,
+    grid: &Grid,
+    from: usize,
+    to: usize,
+    known: Known,
+) -> Result<(), Fail>
+    requires in_order { from ≤ to }
+    requires within { to ≤ length grid.now.begins }
+{
+    let found = grid.clashes(alloc, from, to)?;
+    let found = (found.count, found.drops, found.first);
+    assert!(rt; found == known, "{from}..{to}");
+    Ok(())
+}
+
+// Each of these ranges of a grid's rows has such clashes, each of which is a drop.
+fn expect_drops(
+    rt: &impl Abort,
+    alloc: Global,
+    grid: &Grid,
+    rows: usize,
+    known: &[(usize, usize, u64, Option<usize>)],
+) -> Result<(), Fail>
+    requires { rows ≡ length grid.now.begins }
+{
+    for &(from, to, count, row) in known {
+        assert!(rt; from <= to && to <= rows);
+        expect_range(rt, alloc, grid, from, to, (count, count, row))?;
+    }
+    Ok(())
 }
 
 // Of a grid whose rows all have the number 0 in the second column, and each end before the next begins: row a clashes with
@@ -48,23 +91,26 @@ fn grid_of(
 fn expect_falls(
     rt: &impl Abort,
     alloc: Global,
-    numbers: &[(u32, u32)],
+    first: &[Run],
     limit: u32,
     known: &[(usize, usize, u64, Option<usize>)],
 ) -> Result<(), Fail> {
-    let first = runs(alloc, numbers)?;
-    let rows = first.len();
-    assert!(rt; rows <= 65536);
-    let second = runs(alloc, &[(rows as u32, 0)])?;
-    let grid = grid_of(rt, alloc, first, second, limit, true)?;
-    for &(from, to, count, row) in known {
-        assert!(rt; from <= to && to <= rows);
-        let found = grid.clashes(alloc, from, to)?;
-        assert_eq!(rt; found.count, count, "{from}..{to}");
-        assert_eq!(rt; found.drops, count, "{from}..{to}");
-        assert_eq!(rt; found.first, row, "{from}..{to}");
-    }
-    Ok(())
+    let second = (numbers_of(alloc, first)?.len(), 0);
+    let (rows, grid) = grid_of(rt, alloc, first, &[second], limit, true)?;
+    expect_drops(rt, alloc, &grid, rows, known)
+}
+
+// All rows of the grid of two columns have these clashes.
+fn expect_whole(
+    rt: &impl Abort,
+    alloc: Global,
+    first: &[Run],
+    second: &[Run],
+    apart: bool,
+    known: Known,
+) -> Result<(), Fail> {
+    let (rows, grid) = grid_of(rt, alloc, first, second, 2, apart)?;
+    expect_range(rt, alloc, &grid, 0, rows, known)
 }
 
 #[test]
@@ -157,7 +203,8 @@ fn one_far_number_is_greater_than_all_others_of_its_block(rt: HostRuntime) -> Re
     )
 }
 
-// Row 0 falls to the four others, row 1 to none but row 4, row 2 to the two behind it, and row 3 to row 4: 4 + 1 + 2 + 1.
+// The first row falls to the four others, the second and the fourth to the last alone, and the third to the two behind it:
+// 4 + 1 + 1 + 2.
 #[test]
 fn numbers_that_are_all_far_apart_are_compared_by_their_ranks(rt: HostRuntime) -> Result<(), Fail> {
     expect_falls(
@@ -211,7 +258,8 @@ fn numbers_near_the_least_and_far_from_it_stand_in_one_block(rt: HostRuntime) ->
     )
 }
 
-// The one row of the second block has a number between the two of the first: row 0 falls to it and to the 511 rows of 0.
+// The one row of the second block has a number between the two of the first: the first row falls to it and to
+// the 511 rows of 0.
 #[test]
 fn a_block_of_far_numbers_faces_one_of_a_single_row(rt: HostRuntime) -> Result<(), Fail> {
     expect_falls(
@@ -250,52 +298,28 @@ fn a_number_behind_all_ranks_of_a_block_is_less_than_none_of_them(
 // Of the first two rows each has the greater number in one column, and the third is less than none of them in any.
 #[test]
 fn rows_that_are_crossed_in_far_numbers_clash_both_ways(rt: HostRuntime) -> Result<(), Fail> {
-    let alloc = rt.alloc();
-    for (apart, drops) in [(false, 0), (true, 1)] {
-        let first = runs(alloc, &[(1, u32::MAX - 1), (1, 0), (1, u32::MAX)])?;
-        let second = runs(alloc, &[(1, 0), (1, u32::MAX - 1), (1, u32::MAX)])?;
-        assert!(rt; first.len() == 3);
-        let grid = grid_of(&rt, alloc, first, second, 2, apart)?;
-        let found = grid.clashes(alloc, 0, 3)?;
-        assert_eq!(rt; found.count, 2);
-        assert_eq!(rt; found.drops, drops);
-        assert_eq!(rt; found.first, Some(0));
-    }
-    Ok(())
+    let first = [(1, u32::MAX - 1), (1, 0), (1, u32::MAX)];
+    let second = [(1, 0), (1, u32::MAX - 1), (1, u32::MAX)];
+    expect_whole(&rt, rt.alloc(), &first, &second, false, (2, 0, Some(0)))?;
+    expect_whole(&rt, rt.alloc(), &first, &second, true, (2, 1, Some(0)))
 }
 
 #[test]
 fn crossed_rows_clash_both_ways_and_drop_only_to_later_ones(rt: HostRuntime) -> Result<(), Fail> {
-    let alloc = rt.alloc();
-    for (apart, drops) in [(false, 0), (true, 1)] {
-        let first = runs(alloc, &[(1, 1), (1, 0), (1, 2)])?;
-        let second = runs(alloc, &[(1, 0), (1, 1), (1, 2)])?;
-        assert!(rt; first.len() == 3);
-        let grid = grid_of(&rt, alloc, first, second, 2, apart)?;
-        let found = grid.clashes(alloc, 0, 3)?;
-        assert_eq!(rt; found.count, 2);
-        assert_eq!(rt; found.drops, drops);
-        assert_eq!(rt; found.first, Some(0));
-    }
-    Ok(())
+    let first = [(1, 1), (1, 0), (1, 2)];
+    let second = [(1, 0), (1, 1), (1, 2)];
+    expect_whole(&rt, rt.alloc(), &first, &second, false, (2, 0, Some(0)))?;
+    expect_whole(&rt, rt.alloc(), &first, &second, true, (2, 1, Some(0)))
 }
 
 #[test]
 fn equal_rows_are_counted_each_where_they_overlap_or_follow_one_another(
     rt: HostRuntime,
 ) -> Result<(), Fail> {
-    let alloc = rt.alloc();
-    for (apart, count, drops, row) in [(false, 12, 0, Some(1)), (true, 17, 11, Some(0))] {
-        let first = runs(alloc, &[(1, 2), (3, 1), (2, 0)])?;
-        let second = runs(alloc, &[(1, 2), (3, 0), (2, 1)])?;
-        assert!(rt; first.len() == 6);
-        let grid = grid_of(&rt, alloc, first, second, 2, apart)?;
-        let found = grid.clashes(alloc, 0, 6)?;
-        assert_eq!(rt; found.count, count);
-        assert_eq!(rt; found.drops, drops);
-        assert_eq!(rt; found.first, row);
-    }
-    Ok(())
+    let first = [(1, 2), (3, 1), (2, 0)];
+    let second = [(1, 2), (3, 0), (2, 1)];
+    expect_whole(&rt, rt.alloc(), &first, &second, false, (12, 0, Some(1)))?;
+    expect_whole(&rt, rt.alloc(), &first, &second, true, (17, 11, Some(0)))
 }
 
 #[test]
@@ -317,16 +341,12 @@ fn equal_rows_of_a_later_block_are_counted_each(rt: HostRuntime) -> Result<(), F
 fn expect_first(
     rt: &impl Abort,
     alloc: Global,
-    first: &[(u32, u32)],
-    second: &[(u32, u32)],
+    first: &[Run],
+    second: &[Run],
     apart: bool,
     known: &[(usize, Option<usize>)],
 ) -> Result<(), Fail> {
-    let first = runs(alloc, first)?;
-    let second = runs(alloc, second)?;
-    let rows = first.len();
-    assert!(rt; rows <= 65536 && second.len() == rows);
-    let grid = grid_of(rt, alloc, first, second, 5, apart)?;
+    let (rows, grid) = grid_of(rt, alloc, first, second, 5, apart)?;
     for &(row, other) in known {
         assert!(rt; row < rows);
         assert_eq!(rt; grid.first_clash(alloc, row)?, other, "{row}");
