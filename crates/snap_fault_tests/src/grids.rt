@@ -122,157 +122,121 @@ fn rows_with_the_same_number_clash_with_none(rt: HostRuntime) -> Result<(), Fail
 fn the_last_row_of_a_lane_falls_to_all_rows_of_the_next_but_its_equal(
     rt: HostRuntime,
 ) -> Result<(), Fail> {
-    expect_falls(
-        &rt,
-        rt.alloc(),
-        &[(63, 5), (1, 6), (63, 5), (1, 6)],
-        6,
-        &[
-            (0, 128, 63, Some(63)),
-            (0, 63, 0, None),
-            (63, 64, 63, Some(63)),
-            (64, 128, 0, None),
-        ],
-    )
+    let rows = [(63, 5), (1, 6), (63, 5), (1, 6)];
+    let known = [
+        (0, 128, 63, Some(63)),
+        (0, 63, 0, None),
+        (63, 64, 63, Some(63)),
+        (64, 128, 0, None),
+    ];
+    expect_falls(&rt, rt.alloc(), &rows, 6, &known)
 }
 
 #[test]
 fn the_last_row_of_a_block_falls_to_all_rows_of_the_next_but_its_equal(
     rt: HostRuntime,
 ) -> Result<(), Fail> {
-    expect_falls(
-        &rt,
-        rt.alloc(),
-        &[(511, 5), (1, 6), (511, 5), (1, 6)],
-        6,
-        &[
-            (0, 1024, 511, Some(511)),
-            (0, 511, 0, None),
-            (511, 512, 511, Some(511)),
-            (512, 1024, 0, None),
-        ],
-    )
+    let rows = [(511, 5), (1, 6), (511, 5), (1, 6)];
+    let known = [
+        (0, 1024, 511, Some(511)),
+        (0, 511, 0, None),
+        (511, 512, 511, Some(511)),
+        (512, 1024, 0, None),
+    ];
+    expect_falls(&rt, rt.alloc(), &rows, 6, &known)
 }
 
 #[test]
 fn blocks_whose_bounds_touch_are_looked_at_row_by_row(rt: HostRuntime) -> Result<(), Fail> {
-    expect_falls(
-        &rt,
-        rt.alloc(),
-        &[(511, 6), (1, 5), (512, 5)],
-        6,
-        &[
-            (0, 1024, 262143, Some(0)),
-            (510, 512, 513, Some(510)),
-            (511, 1024, 0, None),
-        ],
-    )
+    let rows = [(511, 6), (1, 5), (512, 5)];
+    let known = [
+        (0, 1024, 262143, Some(0)),
+        (510, 512, 513, Some(510)),
+        (511, 1024, 0, None),
+    ];
+    expect_falls(&rt, rt.alloc(), &rows, 6, &known)
 }
 
 #[test]
 fn numbers_above_the_limit_are_compared_too(rt: HostRuntime) -> Result<(), Fail> {
-    expect_falls(
-        &rt,
-        rt.alloc(),
-        &[(1, u32::MAX), (1, 0), (1, u32::MAX), (1, 9), (1, 3)],
-        3,
-        &[
-            (0, 5, 6, Some(0)),
-            (1, 3, 2, Some(2)),
-            (3, 4, 1, Some(3)),
-            (4, 5, 0, None),
-        ],
-    )
+    let rows = [(1, u32::MAX), (1, 0), (1, u32::MAX), (1, 9), (1, 3)];
+    let known = [
+        (0, 5, 6, Some(0)),
+        (1, 3, 2, Some(2)),
+        (3, 4, 1, Some(3)),
+        (4, 5, 0, None),
+    ];
+    expect_falls(&rt, rt.alloc(), &rows, 3, &known)
 }
 
 // The first three rows fall to the last (1 > 0), the far one to the four behind it, and the next three to the last (2 > 0):
 // 3 + 4 + 3.
 #[test]
 fn one_far_number_is_greater_than_all_others_of_its_block(rt: HostRuntime) -> Result<(), Fail> {
-    expect_falls(
-        &rt,
-        rt.alloc(),
-        &[(3, 1), (1, u32::MAX), (3, 2), (1, 0)],
-        2,
-        &[
-            (0, 8, 10, Some(0)),
-            (3, 4, 4, Some(3)),
-            (4, 7, 3, Some(4)),
-            (7, 8, 0, None),
-        ],
-    )
+    let rows = [(3, 1), (1, u32::MAX), (3, 2), (1, 0)];
+    let known = [
+        (0, 8, 10, Some(0)),
+        (3, 4, 4, Some(3)),
+        (4, 7, 3, Some(4)),
+        (7, 8, 0, None),
+    ];
+    expect_falls(&rt, rt.alloc(), &rows, 2, &known)
 }
 
 // The first row falls to the four others, the second and the fourth to the last alone, and the third to the two behind it:
 // 4 + 1 + 1 + 2.
 #[test]
 fn numbers_that_are_all_far_apart_are_compared_by_their_ranks(rt: HostRuntime) -> Result<(), Fail> {
-    expect_falls(
-        &rt,
-        rt.alloc(),
-        &[
-            (1, u32::MAX),
-            (1, 1_000_000_000),
-            (1, u32::MAX - 1),
-            (1, 3_000_000_000),
-            (1, 999_999_999),
-        ],
-        0,
-        &[
-            (0, 5, 8, Some(0)),
-            (1, 2, 1, Some(1)),
-            (2, 4, 3, Some(2)),
-            (4, 5, 0, None),
-        ],
-    )
+    let rows = [
+        (1, u32::MAX),
+        (1, 1_000_000_000),
+        (1, u32::MAX - 1),
+        (1, 3_000_000_000),
+        (1, 999_999_999),
+    ];
+    let known = [
+        (0, 5, 8, Some(0)),
+        (1, 2, 1, Some(1)),
+        (2, 4, 3, Some(2)),
+        (4, 5, 0, None),
+    ];
+    expect_falls(&rt, rt.alloc(), &rows, 0, &known)
 }
 
 // Each of the first two rows falls to the four rows with a 9, and each of the other two with the greatest number to the last
 // row: 2 * 4 + 2 * 1. No row falls to one of the same number.
 #[test]
 fn equal_far_numbers_have_the_same_rank(rt: HostRuntime) -> Result<(), Fail> {
-    expect_falls(
-        &rt,
-        rt.alloc(),
-        &[(2, u32::MAX), (3, 9), (2, u32::MAX), (1, 9)],
-        1,
-        &[
-            (0, 8, 10, Some(0)),
-            (2, 5, 0, None),
-            (4, 6, 1, Some(5)),
-            (7, 8, 0, None),
-        ],
-    )
+    let rows = [(2, u32::MAX), (3, 9), (2, u32::MAX), (1, 9)];
+    let known = [
+        (0, 8, 10, Some(0)),
+        (2, 5, 0, None),
+        (4, 6, 1, Some(5)),
+        (7, 8, 0, None),
+    ];
+    expect_falls(&rt, rt.alloc(), &rows, 1, &known)
 }
 
 // The numbers 7 to 10 are near the least, and the last is not: each of the rows with 10, 9 and 8 falls to those of a lesser
 // number behind it, which are 3 + 2 + 1, and the first to the four others.
 #[test]
 fn numbers_near_the_least_and_far_from_it_stand_in_one_block(rt: HostRuntime) -> Result<(), Fail> {
-    expect_falls(
-        &rt,
-        rt.alloc(),
-        &[(1, u32::MAX), (1, 10), (1, 9), (1, 8), (1, 7)],
-        4,
-        &[(0, 5, 10, Some(0)), (1, 4, 6, Some(1)), (3, 5, 1, Some(3))],
-    )
+    let rows = [(1, u32::MAX), (1, 10), (1, 9), (1, 8), (1, 7)];
+    let known = [(0, 5, 10, Some(0)), (1, 4, 6, Some(1)), (3, 5, 1, Some(3))];
+    expect_falls(&rt, rt.alloc(), &rows, 4, &known)
 }
 
 // The one row of the second block has a number between the two of the first: the first row falls to it and to
 // the 511 rows of 0.
 #[test]
 fn a_block_of_far_numbers_faces_one_of_a_single_row(rt: HostRuntime) -> Result<(), Fail> {
-    expect_falls(
-        &rt,
-        rt.alloc(),
-        &[(1, u32::MAX), (511, 0), (1, 1_000_000)],
-        0,
-        &[
-            (0, 513, 512, Some(0)),
-            (1, 513, 0, None),
-            (512, 513, 0, None),
-        ],
-    )
+    let rows = [(1, u32::MAX), (511, 0), (1, 1_000_000)];
+    let known = [
+        (0, 513, 512, Some(0)),
+        (1, 513, 0, None),
+        (512, 513, 0, None),
+    ];
+    expect_falls(&rt, rt.alloc(), &rows, 0, &known)
 }
 
 // The second block begins with a number that is greater than all of the first, to which none falls. It falls to the last row,
@@ -281,18 +245,14 @@ fn a_block_of_far_numbers_faces_one_of_a_single_row(rt: HostRuntime) -> Result<(
 fn a_number_behind_all_ranks_of_a_block_is_less_than_none_of_them(
     rt: HostRuntime,
 ) -> Result<(), Fail> {
-    expect_falls(
-        &rt,
-        rt.alloc(),
-        &[(511, 0), (1, 5_000_000), (1, u32::MAX), (1, 4)],
-        3,
-        &[
-            (0, 514, 2, Some(511)),
-            (0, 511, 0, None),
-            (511, 512, 1, Some(511)),
-            (512, 514, 1, Some(512)),
-        ],
-    )
+    let rows = [(511, 0), (1, 5_000_000), (1, u32::MAX), (1, 4)];
+    let known = [
+        (0, 514, 2, Some(511)),
+        (0, 511, 0, None),
+        (511, 512, 1, Some(511)),
+        (512, 514, 1, Some(512)),
+    ];
+    expect_falls(&rt, rt.alloc(), &rows, 3, &known)
 }
 
 // Of the first two rows each has the greater number in one column, and the third is less than none of them in any.
@@ -324,17 +284,13 @@ fn equal_rows_are_counted_each_where_they_overlap_or_follow_one_another(
 
 #[test]
 fn equal_rows_of_a_later_block_are_counted_each(rt: HostRuntime) -> Result<(), Fail> {
-    expect_falls(
-        &rt,
-        rt.alloc(),
-        &[(512, 7), (500, 3), (12, 9)],
-        9,
-        &[
-            (0, 1024, 256000, Some(0)),
-            (511, 1024, 500, Some(511)),
-            (512, 1024, 0, None),
-        ],
-    )
+    let rows = [(512, 7), (500, 3), (12, 9)];
+    let known = [
+        (0, 1024, 256000, Some(0)),
+        (511, 1024, 500, Some(511)),
+        (512, 1024, 0, None),
+    ];
+    expect_falls(&rt, rt.alloc(), &rows, 9, &known)
 }
 
 // Of a grid whose rows may each end before the next begins, the first row that each of some rows clashes with.
@@ -356,52 +312,40 @@ fn expect_first(
 
 #[test]
 fn the_first_row_that_one_falls_to_may_stand_blocks_behind_it(rt: HostRuntime) -> Result<(), Fail> {
-    expect_first(
-        &rt,
-        rt.alloc(),
-        &[(700, 5), (1, 4), (400, 5), (1, 3)],
-        &[(1102, 0)],
-        true,
-        &[
-            (0, Some(700)),
-            (699, Some(700)),
-            (700, Some(1101)),
-            (701, Some(1101)),
-            (1101, None),
-        ],
-    )
+    let first = [(700, 5), (1, 4), (400, 5), (1, 3)];
+    let second = [(1102, 0)];
+    let known = [
+        (0, Some(700)),
+        (699, Some(700)),
+        (700, Some(1101)),
+        (701, Some(1101)),
+        (1101, None),
+    ];
+    expect_first(&rt, rt.alloc(), &first, &second, true, &known)
 }
 
 #[test]
 fn the_first_row_that_one_of_a_far_number_falls_to_is_found_by_blocks(
     rt: HostRuntime,
 ) -> Result<(), Fail> {
-    expect_first(
-        &rt,
-        rt.alloc(),
-        &[(700, u32::MAX), (1, 1_000_000), (400, u32::MAX), (1, 3)],
-        &[(1102, 0)],
-        true,
-        &[
-            (0, Some(700)),
-            (699, Some(700)),
-            (700, Some(1101)),
-            (1100, Some(1101)),
-            (1101, None),
-        ],
-    )
+    let first = [(700, u32::MAX), (1, 1_000_000), (400, u32::MAX), (1, 3)];
+    let second = [(1102, 0)];
+    let known = [
+        (0, Some(700)),
+        (699, Some(700)),
+        (700, Some(1101)),
+        (1100, Some(1101)),
+        (1101, None),
+    ];
+    expect_first(&rt, rt.alloc(), &first, &second, true, &known)
 }
 
 #[test]
 fn of_rows_that_overlap_each_clashes_first_with_one_that_it_is_crossed_with(
     rt: HostRuntime,
 ) -> Result<(), Fail> {
-    expect_first(
-        &rt,
-        rt.alloc(),
-        &[(1, 1), (1, 0), (1, 2)],
-        &[(1, 0), (1, 1), (1, 2)],
-        false,
-        &[(0, Some(1)), (1, Some(0)), (2, None)],
-    )
+    let first = [(1, 1), (1, 0), (1, 2)];
+    let second = [(1, 0), (1, 1), (1, 2)];
+    let known = [(0, Some(1)), (1, Some(0)), (2, None)];
+    expect_first(&rt, rt.alloc(), &first, &second, false, &known)
 }
