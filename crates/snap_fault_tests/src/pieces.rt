@@ -9,8 +9,22 @@ use snap_testing::worked::{ATOMIC_RUN, CROSSED_VIEWS, FOUR_WAYS, STALE_AND_WRONG
 use snap_testing::{Arrivals, Meeting, Step, entry, history_of};
 use snap_threads::{Cutting, CuttingRefusal};
 use std::alloc::Global;
+use std::process::Abort;
 use std::test::Fail;
 use std::thread::Threads;
+
+// What is tallied of a history by a cutting.
+fn tally_cut<R: Threads + Sync, G: Gate>(
+    rt: &R,
+    alloc: Global,
+    steps: &[Step<'_>],
+    cutting: Cutting,
+    gate: &G,
+) -> Result<Tally, Fail> {
+    let history = history_of(alloc, steps)?;
+    let index = Index::build(alloc, &history)?;
+    Ok(tally(rt, alloc, &index, cutting, gate)?)
+}
 
 // What so many workers tally of a history in so many pieces.
 fn tally_by<R: Threads + Sync, G: Gate>(
@@ -21,10 +35,7 @@ fn tally_by<R: Threads + Sync, G: Gate>(
     workers: u32,
     gate: &G,
 ) -> Result<Tally, Fail> {
-    let history = history_of(alloc, steps)?;
-    let index = Index::build(alloc, &history)?;
-    let cutting = Cutting::new(pieces, workers)?;
-    Ok(tally(rt, alloc, &index, cutting, gate)?)
+    tally_cut(rt, alloc, steps, Cutting::new(pieces, workers)?, gate)
 }
 
 // The tally of a history that every cutting gives.
@@ -130,6 +141,29 @@ fn still_open(counter: Claims, claims: Vec<Claim>) -> Result<(Claims, Vec<Claim>
     }
 }
 
+// A claim draws this piece, or finds none left.
+fn expect_draw(rt: &impl Abort, counter: &Claims, claim: &mut Claim, known: Option<u32>)
+    requires { IsClaimOf counter.now claim.old }
+    ensures { IsClaimOf counter.now claim.new }
+{
+    assert!(rt; counter.draw(claim) == known, "not {known:?}");
+}
+
+// Two claims draw the three pieces of their counter, and the second finds none left.
+fn draw_three(rt: &impl Abort, counter: &Claims, first: &mut Claim, second: &mut Claim)
+    requires first { IsClaimOf counter.now first.old }
+    requires second { IsClaimOf counter.now second.old }
+    ensures first { IsClaimOf counter.now first.new }
+    ensures second { IsClaimOf counter.now second.new }
+{
+    expect_draw(rt, counter, first, Some(0));
+    expect_draw(rt, counter, second, Some(1));
+    expect_draw(rt, counter, first, Some(2));
+    expect_draw(rt, counter, second, None);
+    expect_draw(rt, counter, second, None);
+    assert!(rt; !first.finished() && second.finished());
+}
+
 #[test]
 fn three_pieces_are_drawn_once_and_the_counter_closes_with_all_claims(
     rt: HostRuntime,
@@ -138,12 +172,7 @@ fn three_pieces_are_drawn_once_and_the_counter_closes_with_all_claims(
     let (counter, mut claims) = Claims::start(alloc, Cutting::new(3, 2)?)?;
     let mut second = claims.pop().expect(&rt, "the second claim");
     let mut first = claims.pop().expect(&rt, "the first claim");
-    assert_eq!(rt; counter.draw(&mut first), Some(0));
-    assert_eq!(rt; counter.draw(&mut second), Some(1));
-    assert_eq!(rt; counter.draw(&mut first), Some(2));
-    assert_eq!(rt; counter.draw(&mut second), None);
-    assert_eq!(rt; counter.draw(&mut second), None);
-    assert!(rt; !first.finished() && second.finished());
+    draw_three(&rt, &counter, &mut first, &mut second);
     let (counter, mut claims) = still_open(counter, vec![in alloc; second]?)?;
     claims.push(first)?;
     assert!(rt; counter.close(claims).is_ok());
@@ -163,11 +192,11 @@ fn a_close_that_is_refused_between_two_draws_loses_no_piece(rt: HostRuntime) -> 
     let alloc = rt.alloc();
     let (counter, mut claims) = Claims::start(alloc, Cutting::new(2, 1)?)?;
     let mut claim = claims.pop().expect(&rt, "the claim");
-    assert_eq!(rt; counter.draw(&mut claim), Some(0));
+    expect_draw(&rt, &counter, &mut claim, Some(0));
     let (counter, mut claims) = still_open(counter, vec![in alloc; claim]?)?;
     let mut claim = claims.pop().expect(&rt, "the claim");
-    assert_eq!(rt; counter.draw(&mut claim), Some(1));
-    assert_eq!(rt; counter.draw(&mut claim), None);
+    expect_draw(&rt, &counter, &mut claim, Some(1));
+    expect_draw(&rt, &counter, &mut claim, None);
     assert!(rt; counter.close(vec![in alloc; claim]?).is_ok());
     Ok(())
 }

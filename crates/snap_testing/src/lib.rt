@@ -9,4 +9,4 @@ pub mod worked;
 
 pub use devices::{Cup, Drip, Newlines};
 pub use gates::{Arrivals, Meeting};
-pub use steps::{Refused, Shown, Step, entry, history_of};
+pub use steps::{Refused, Shown, Step, entry, event_of, history_of};

@@ -49,7 +49,8 @@ fn view_of(alloc: Global, shown: &[Shown]) -> Result<View, Refused> {
     View::from_entries(entries).map_err(Refused::View)
 }
 
-fn event_of(alloc: Global, step: Step<'_>) -> Result<Event, Refused> {
+/// The event of a step.
+pub fn event_of(alloc: Global, step: Step<'_>) -> Result<Event, Refused> {
     Ok(match step {
         Step::Update(process, shown) => Event::BeginUpdate {
             process,

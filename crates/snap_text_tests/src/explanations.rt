@@ -1,5 +1,9 @@
 //! The explanations of worked histories, against texts written by hand.
-use snap_conditions::{is_atomic, tally_range};
+ghost use Rattle.std.specs.Prelude.{◌≡◌, length, IfOk};
+ghost use Rattle.snap_core.specs.Calls.{calls_of, views_of};
+ghost use Rattle.snap_conditions.specs.Tally.{tally_of};
+
+use snap_conditions::{Tally, is_atomic, tally_range};
 use snap_core::History;
 use snap_csv::TextFault;
 use snap_explain::{explain, explain_refusal};
@@ -11,23 +15,44 @@ use snap_testing::worked::{
     SHOWN_TOO_EARLY, STALE_AND_WRONG, WRONG_VALUE,
 };
 use snap_testing::{Step, history_of};
-use std::alloc::Global;
+use std::alloc::{AllocError, Global};
 use std::test::Fail;
+
+// The numbers of the records of a history's events, from one on.
+fn records_from(alloc: Global, history: &History, first: u16) -> Result<Vec<u32>, AllocError>
+    ensures { IfOk result (λ records. length records.items ≡ length history.now) }
+{
+    let mut records = Vec::new(alloc);
+    for place in 0..history.len() {
+        records.push(place as u32 + u32::from(first))?;
+    }
+    Ok(records)
+}
+
+// The explanation of an index by the tally of its views and the records of its events.
+fn explained_by(
+    alloc: Global,
+    index: &Index<'_>,
+    tally: &Tally,
+    records: &[u32],
+) -> Result<Vec<u8>, AllocError>
+    requires tally { tally.now ≡ tally_of (calls_of index.now) (views_of (calls_of index.now)) }
+    requires each { length records.now ≡ length index.now }
+{
+    if is_atomic(tally) {
+        let order = build_alone(alloc, index)?;
+        explain(alloc, index, tally, records, Some(&order))
+    } else {
+        explain(alloc, index, tally, records, None)
+    }
+}
 
 // The explanation of a history whose events stand in records from a number on.
 fn explained(alloc: Global, history: &History, first: u16) -> Result<Vec<u8>, Fail> {
     let index = Index::build(alloc, history)?;
     let tally = tally_range(&index, 0, index.view_count());
-    let mut records = Vec::new(alloc);
-    for place in 0..history.len() {
-        records.push(place as u32 + u32::from(first))?;
-    }
-    if is_atomic(&tally) {
-        let order = build_alone(alloc, &index)?;
-        Ok(explain(alloc, &index, &tally, &records, Some(&order))?)
-    } else {
-        Ok(explain(alloc, &index, &tally, &records, None)?)
-    }
+    let records = records_from(alloc, history, first)?;
+    Ok(explained_by(alloc, &index, &tally, &records)?)
 }
 
 // An update that is shown by a view that ends before it, and that never ends.

@@ -127,22 +127,30 @@ fn full_text(alloc: Global) -> Result<Vec<u8>, std::alloc::AllocError> {
     Ok(text)
 }
 
-#[test]
-fn refuses_each_fault_at_its_place_by_its_word(rt: HostRuntime) {
-    for (text, place, word) in EACH_FAULT_ONCE {
-        let (found, fault) = refusal_of(rt.alloc(), *text);
-        assert_eq!(rt; found, *place, "at {word}");
-        assert_eq!(rt; fault, *word);
+// Each text is refused at this record by this word.
+fn expect_refusals(rt: &impl Abort, alloc: Global, known: &[(&[u8], u32, &str)]) {
+    for (text, place, word) in known {
+        assert_eq!(rt; refusal_of(alloc, *text), (*place, *word));
     }
 }
 
 #[test]
+fn refuses_each_fault_at_its_place_by_its_word(rt: HostRuntime) {
+    expect_refusals(&rt, rt.alloc(), EACH_FAULT_ONCE);
+}
+
+const TWO_FAULTS: &[(&[u8], u32, &str)] = &[
+    (b"event,process,op,data\nstart,0,scan,x\n", 2, "event"),
+    (
+        b"event,process,op,data\nbegin,0,scan,\nstart,0,view,\n",
+        2,
+        "op",
+    ),
+];
+
+#[test]
 fn names_the_first_of_two_faults(rt: HostRuntime) {
-    let in_one_record = b"event,process,op,data\nstart,0,scan,x\n".as_slice();
-    assert_eq!(rt; refusal_of(rt.alloc(), in_one_record).1, "event");
-    let in_two_records = b"event,process,op,data\nbegin,0,scan,\nstart,0,view,\n".as_slice();
-    assert_eq!(rt; refusal_of(rt.alloc(), in_two_records).0, 2);
-    assert_eq!(rt; refusal_of(rt.alloc(), in_two_records).1, "op");
+    expect_refusals(&rt, rt.alloc(), TWO_FAULTS);
 }
 
 #[test]
@@ -150,56 +158,79 @@ fn takes_a_history_as_long_as_it_may_be_and_no_event_more(rt: HostRuntime) -> Re
     let mut text = full_text(rt.alloc())?;
     assert_eq!(rt; count_of(rt.alloc(), &text), Some(65536));
     text.extend_from_slice(b"begin,0,view,\n")?;
-    assert_eq!(rt; refusal_of(rt.alloc(), text.as_slice()).0, 65538);
-    assert_eq!(rt; refusal_of(rt.alloc(), text.as_slice()).1, "toomany");
+    assert_eq!(rt; refusal_of(rt.alloc(), text.as_slice()), (65538, "toomany"));
     Ok(())
 }
 
 #[test]
 fn tests_the_length_of_a_text_before_its_records(rt: HostRuntime) {
     let too_long = refusal_of(rt.alloc(), Newlines { left: 67108865 });
-    assert_eq!(rt; too_long.0, 0);
-    assert_eq!(rt; too_long.1, "toolong");
     let longest = refusal_of(rt.alloc(), Newlines { left: 67108864 });
-    assert_eq!(rt; longest.0, 1);
-    assert_eq!(rt; longest.1, "header");
+    assert!(rt; too_long == (0, "toolong") && longest == (1, "header"));
 }
+
+// Each text is of a history of so many events.
+fn expect_counts(rt: &impl Abort, alloc: Global, known: &[(&[u8], usize)]) {
+    for (text, count) in known {
+        assert_eq!(rt; count_of(alloc, text), Some(*count));
+    }
+}
+
+const HEADERS: &[(&[u8], usize)] = &[
+    (b"event,process,op,data\n", 0),
+    (b"event,process,op,data", 0),
+];
 
 #[test]
 fn reads_the_header_alone(rt: HostRuntime) {
-    assert_eq!(rt; count_of(rt.alloc(), b"event,process,op,data\n"), Some(0));
-    assert_eq!(rt; count_of(rt.alloc(), b"event,process,op,data"), Some(0));
+    expect_counts(&rt, rt.alloc(), HEADERS);
 }
+
+// A text of quoted fields, texts with each end of a line, and one that begins with a byte order mark.
+const SPELLINGS: &[(&[u8], usize)] = &[
+    (
+        b"\"event\",\"process\",\"op\",\"data\"\r\n\"begin\",\"0\",\"view\",\"\"\r\n",
+        1,
+    ),
+    (b"event,process,op,data\rbegin,0,view,\r", 1),
+    (
+        b"event,process,op,data\n\n\nbegin,0,view,\n\nend,0,view,",
+        2,
+    ),
+    (b"\xef\xbb\xbfevent,process,op,data\nbegin,0,view,\n", 1),
+];
 
 #[test]
 fn reads_quoted_fields_and_every_end_of_a_line(rt: HostRuntime) {
-    let quoted =
-        b"\"event\",\"process\",\"op\",\"data\"\r\n\"begin\",\"0\",\"view\",\"\"\r\n".as_slice();
-    assert_eq!(rt; count_of(rt.alloc(), quoted), Some(1));
-    let returns = b"event,process,op,data\rbegin,0,view,\r".as_slice();
-    assert_eq!(rt; count_of(rt.alloc(), returns), Some(1));
-    let spaced = b"event,process,op,data\n\n\nbegin,0,view,\n\nend,0,view,".as_slice();
-    assert_eq!(rt; count_of(rt.alloc(), spaced), Some(2));
-    let marked = b"\xef\xbb\xbfevent,process,op,data\nbegin,0,view,\n".as_slice();
-    assert_eq!(rt; count_of(rt.alloc(), marked), Some(1));
+    expect_counts(&rt, rt.alloc(), SPELLINGS);
+}
+
+// How many events are read of a text that comes a byte at a time, and how many failures the reader counts.
+fn dripped(alloc: Global, text: &[u8], fails_at: u64) -> (Result<usize, ReadRefusal>, u64) {
+    let mut reader = Counted::new(Drip::new(text, fails_at));
+    let count = match read_history(alloc, &mut reader) {
+        Ok(history) => Ok(history.len()),
+        Err(refusal) => Err(refusal),
+    };
+    (count, reader.failures())
+}
+
+// A failure at any one read of a text is the answer.
+fn expect_failed_reads(rt: &impl Abort, alloc: Global, text: &[u8]) {
+    for at in 1..text.len() as u64 + 2 {
+        let found = dripped(alloc, text, at);
+        assert!(rt; found == (Err(ReadRefusal::Device), 1), "at {at}");
+    }
 }
 
 #[test]
 fn reads_a_byte_at_a_time(rt: HostRuntime) {
-    let mut reader = Counted::new(Drip::new(STALE_VIEW, 0));
-    let count = read_history(rt.alloc(), &mut reader).ok().map(|h| h.len());
-    assert_eq!(rt; count, Some(4));
-    assert_eq!(rt; reader.failures(), 0);
+    assert!(rt; dripped(rt.alloc(), STALE_VIEW, 0) == (Ok(4), 0));
 }
 
 #[test]
 fn a_failed_read_is_the_answer_wherever_it_comes(rt: HostRuntime) {
-    for at in 1..STALE_VIEW.len() as u64 + 2 {
-        let mut reader = Counted::new(Drip::new(STALE_VIEW, at));
-        let answer = read_history(rt.alloc(), &mut reader).err();
-        assert_eq!(rt; answer, Some(ReadRefusal::Device));
-        assert_eq!(rt; reader.failures(), 1);
-    }
+    expect_failed_reads(&rt, rt.alloc(), STALE_VIEW);
 }
 
 // An event has these four fields.
@@ -254,6 +285,16 @@ fn writes_the_text_that_it_read(rt: HostRuntime) -> Result<(), Fail> {
     Ok(())
 }
 
+// Whether a writer counted one failure, and its cup has as much of a text as it has room for, and was flushed or not.
+fn is_front(writer: Counted<Cup>, text: &[u8], room: usize, is_flushed: bool) -> bool {
+    let failures = writer.failures();
+    let cup = writer.into_inner();
+    failures == 1
+        && text.starts_with(&cup.held)
+        && cup.held.len() == room
+        && cup.flushes == u64::from(is_flushed)
+}
+
 #[test]
 fn a_failed_write_or_flush_is_the_answer(rt: HostRuntime) -> Result<(), Fail> {
     let mut history = History::new(rt.alloc());
@@ -263,10 +304,7 @@ fn a_failed_write_or_flush_is_the_answer(rt: HostRuntime) -> Result<(), Fail> {
         let mut writer = Counted::new(Cup::new(rt.alloc(), room, 3, false, fails_at_flush));
         let answer = write_history(rt.alloc(), &mut writer, &history);
         assert_eq!(rt; answer, Err(WriteRefusal::Device));
-        assert_eq!(rt; writer.failures(), 1);
-        let cup = writer.into_inner();
-        assert_eq!(rt; cup.held.as_slice(), &text[..room]);
-        assert_eq!(rt; cup.flushes, u64::from(fails_at_flush));
+        assert!(rt; is_front(writer, text, room, fails_at_flush), "at {room}");
     }
     Ok(())
 }

@@ -1,12 +1,12 @@
 //! Texts whose records have stamps.
-use super::{VIEW_BESIDE_UPDATE, count_of, refusal_of};
-use snap_core::{Counted, Event, History};
-use snap_csv::{
-    ReadRefusal, WriteRefusal, read_history, read_text, write_history, write_history_stamped,
+use super::{
+    VIEW_BESIDE_UPDATE, dripped, expect_counts, expect_failed_reads, expect_refusals, is_front,
+    refusal_of,
 };
-use snap_testing::{Cup, Drip};
+use snap_core::{Counted, Event, History};
+use snap_csv::{WriteRefusal, read_text, write_history, write_history_stamped};
+use snap_testing::Cup;
 use std::alloc::{AllocError, Global};
-use std::io::Read;
 use std::test::Fail;
 
 const EACH_STAMPED_FAULT: &[(&[u8], u32, &str)] = &[
@@ -57,11 +57,7 @@ const EACH_STAMPED_FAULT: &[(&[u8], u32, &str)] = &[
 
 #[test]
 fn refuses_each_fault_of_a_text_with_stamps(rt: HostRuntime) {
-    for (text, place, word) in EACH_STAMPED_FAULT {
-        let (found, fault) = refusal_of(rt.alloc(), *text);
-        assert_eq!(rt; found, *place, "at {word}");
-        assert_eq!(rt; fault, *word);
-    }
+    expect_refusals(&rt, rt.alloc(), EACH_STAMPED_FAULT);
 }
 
 // What write_history writes of the history of a text with stamps.
@@ -90,14 +86,17 @@ fn compares_stamps_as_numbers(rt: HostRuntime) -> Result<(), Fail> {
     Ok(())
 }
 
+const GREATEST_AND_NONE: &[(&[u8], usize)] = &[
+    (
+        b"at,event,process,op,data\n18446744073709551615,begin,0,view,\n",
+        1,
+    ),
+    (b"at,event,process,op,data\n", 0),
+];
+
 #[test]
 fn takes_the_greatest_stamp_and_the_header_alone(rt: HostRuntime) {
-    let greatest = b"at,event,process,op,data\n18446744073709551615,begin,0,view,\n".as_slice();
-    assert_eq!(rt; count_of(rt.alloc(), greatest), Some(1));
-    assert_eq!(rt;
-        count_of(rt.alloc(), b"at,event,process,op,data\n"),
-        Some(0)
-    );
+    expect_counts(&rt, rt.alloc(), GREATEST_AND_NONE);
 }
 
 // As many views as a history may have, one after the other: their records in the order of their stamps, without stamps, or
@@ -129,8 +128,7 @@ fn takes_as_many_records_in_reverse_order_as_a_history_may_have(
     let plain = views(rt.alloc())?;
     assert_eq!(rt; plain_text_of(rt.alloc(), &text)?, plain);
     text.extend_from_slice(b"x,begin,0,view,\n")?;
-    assert_eq!(rt; refusal_of(rt.alloc(), text.as_slice()).0, 65538);
-    assert_eq!(rt; refusal_of(rt.alloc(), text.as_slice()).1, "toomany");
+    assert_eq!(rt; refusal_of(rt.alloc(), text.as_slice()), (65538, "toomany"));
     Ok(())
 }
 
@@ -139,20 +137,12 @@ pub const STALE_VIEW_STAMPED: &[u8] =
 
 #[test]
 fn reads_stamps_a_byte_at_a_time(rt: HostRuntime) {
-    let mut reader = Counted::new(Drip::new(STALE_VIEW_STAMPED, 0));
-    let count = read_history(rt.alloc(), &mut reader).ok().map(|h| h.len());
-    assert_eq!(rt; count, Some(4));
-    assert_eq!(rt; reader.failures(), 0);
+    assert!(rt; dripped(rt.alloc(), STALE_VIEW_STAMPED, 0) == (Ok(4), 0));
 }
 
 #[test]
 fn a_failed_read_of_stamps_is_the_answer_wherever_it_comes(rt: HostRuntime) {
-    for at in 1..STALE_VIEW_STAMPED.len() as u64 + 2 {
-        let mut reader = Counted::new(Drip::new(STALE_VIEW_STAMPED, at));
-        let answer = read_history(rt.alloc(), &mut reader).err();
-        assert_eq!(rt; answer, Some(ReadRefusal::Device));
-        assert_eq!(rt; reader.failures(), 1);
-    }
+    expect_failed_reads(&rt, rt.alloc(), STALE_VIEW_STAMPED);
 }
 
 #[test]
@@ -179,10 +169,7 @@ fn a_failed_write_of_stamps_is_the_answer(rt: HostRuntime) -> Result<(), Fail> {
         let mut writer = Counted::new(Cup::new(rt.alloc(), room, 3, false, fails_at_flush));
         let answer = write_history_stamped(rt.alloc(), &mut writer, &history, &[7]);
         assert_eq!(rt; answer, Err(WriteRefusal::Device));
-        assert_eq!(rt; writer.failures(), 1);
-        let cup = writer.into_inner();
-        assert_eq!(rt; cup.held.as_slice(), &text[..room]);
-        assert_eq!(rt; cup.flushes, u64::from(fails_at_flush));
+        assert!(rt; is_front(writer, text, room, fails_at_flush), "at {room}");
     }
     Ok(())
 }
