@@ -1,9 +1,46 @@
-use snap_board::{Board, CollectRefusal, OpenRefusal, Record, RecordedOp, StoreRefusal};
+ghost use Rattle.snap_board.specs.Desks.{IsDeskOf, IsGatheredOf};
+ghost use Rattle.std.specs.Prelude.{◌≡◌, IfOk};
+
+use snap_board::{
+    Board, CollectRefusal, Desk, Gathered, OpenRefusal, Record, RecordedOp, StoreRefusal,
+};
 use snap_core::Entry;
 use snap_testing::entry;
+use std::alloc::Global;
+use std::process::Abort;
 use std::test::Fail;
 
 mod scans;
+
+// The highest of the desks that are in.
+fn taken(alloc: Global, board: &Board, gathered: &mut Gathered) -> Result<Desk, Fail>
+    requires { IsGatheredOf board.now gathered.old }
+    ensures gathered { IsGatheredOf board.now gathered.new }
+    ensures desk { IfOk result (λ desk. IsDeskOf board.now desk) }
+{
+    Ok(board.take(alloc, gathered)?.ok_or("no desk is in")?)
+}
+
+// A fresh board of so many desks, what it gathers, and its highest desk.
+fn opened(alloc: Global, desks: u8) -> Result<(Board, Gathered, Desk), Fail>
+    ensures gathered { IfOk result (λ r. IsGatheredOf r.0 r.1) }
+    ensures desk { IfOk result (λ r. IsDeskOf r.0 r.2) }
+{
+    let (board, mut gathered) = Board::open(alloc, desks)?;
+    let desk = taken(alloc, &board, &mut gathered)?;
+    Ok((board, gathered, desk))
+}
+
+// A board that is not closed, since a desk is out.
+fn still_open(board: Board, gathered: Gathered) -> Result<(Board, Gathered), Fail>
+    requires { IsGatheredOf board gathered }
+    ensures { IfOk result (λ r. (r.0 ≡ board) × (r.1 ≡ gathered)) }
+{
+    match board.close(gathered) {
+        Ok(_) => Err(Fail::new("closed with a desk out")),
+        Err(both) => Ok(both),
+    }
+}
 
 /// Whether the record is of a store of this entry.
 fn is_store(record: &Record, want: Entry) -> bool {
@@ -21,70 +58,45 @@ fn is_view(record: &Record, want: Entry) -> bool {
     }
 }
 
+/// Whether the record is of the process and has these stamps.
+fn is_of(record: &Record, process: u16, begun: u64, ended: u64) -> bool {
+    record.process == process && record.begun == begun && record.ended == ended
+}
+
 #[test]
 fn a_desk_stores_and_collects(rt: HostRuntime) -> Result<(), Fail> {
-    let alloc = rt.alloc();
-    let Ok((board, mut gathered)) = Board::open(alloc, 2) else {
-        panic!(rt; "not opened")
-    };
-    let Some(mut one) = board.take(alloc, &mut gathered)? else {
-        panic!(rt; "no desk is in")
-    };
-    assert_eq!(rt; one.process(), 1);
-    let Ok(stored) = board.store(&mut one, 9) else {
-        panic!(rt; "spent")
-    };
-    assert!(rt; stored.process == 1 && stored.begun == 0 && stored.ended == 1);
-    assert!(rt; is_store(&stored, entry(1, 1, 9)));
-    let Ok(viewed) = board.collect(alloc, &mut one) else {
-        panic!(rt; "not collected")
-    };
-    assert!(rt; viewed.process == 1 && viewed.begun == 2 && viewed.ended == 3);
-    assert!(rt; is_view(&viewed, entry(1, 1, 9)));
+    let (board, _gathered, mut one) = opened(rt.alloc(), 2)?;
+    assert!(rt; one.process() == 1);
+    let stored = board.store(&mut one, 9)?;
+    assert!(rt; is_of(&stored, 1, 0, 1) && is_store(&stored, entry(1, 1, 9)));
+    let viewed = board.collect(rt.alloc(), &mut one)?;
+    assert!(rt; is_of(&viewed, 1, 2, 3) && is_view(&viewed, entry(1, 1, 9)));
     Ok(())
 }
 
 #[test]
 fn a_board_is_closed_once_all_its_desks_are_in(rt: HostRuntime) -> Result<(), Fail> {
-    let alloc = rt.alloc();
-    let Ok((board, mut gathered)) = Board::open(alloc, 2) else {
-        panic!(rt; "not opened")
-    };
-    assert_eq!(rt; gathered.held(), 2);
-    let Some(one) = board.take(alloc, &mut gathered)? else {
-        panic!(rt; "no desk is in")
-    };
-    let Err((board, gathered)) = board.close(gathered) else {
-        panic!(rt; "closed with a desk out")
-    };
-    assert_eq!(rt; gathered.held(), 1);
+    let (board, gathered, one) = opened(rt.alloc(), 2)?;
+    let (board, gathered) = still_open(board, gathered)?;
+    assert!(rt; gathered.held() == 1);
     let gathered = board.give_back(gathered, one);
+    assert!(rt; gathered.held() == 2);
     let Ok(closed) = board.close(gathered) else {
         panic!(rt; "not closed")
     };
-    assert_eq!(rt; closed.desks(), 2);
+    assert!(rt; closed.desks() == 2);
     Ok(())
 }
 
 #[test]
 fn a_board_is_closed_once_both_its_desks_came_back(rt: HostRuntime) -> Result<(), Fail> {
-    let alloc = rt.alloc();
-    let Ok((board, mut gathered)) = Board::open(alloc, 2) else {
-        panic!(rt; "not opened")
-    };
-    let Some(mut one) = board.take(alloc, &mut gathered)? else {
-        panic!(rt; "no desk is in")
-    };
-    let Some(mut zero) = board.take(alloc, &mut gathered)? else {
-        panic!(rt; "no desk is in")
-    };
+    let (board, mut gathered, mut one) = opened(rt.alloc(), 2)?;
+    let mut zero = taken(rt.alloc(), &board, &mut gathered)?;
     assert!(rt; board.store(&mut zero, 7).is_ok() && board.store(&mut one, 9).is_ok());
     let gathered = board.give_back(gathered, one);
-    let Err((board, gathered)) = board.close(gathered) else {
-        panic!(rt; "closed with a desk out")
-    };
+    let (board, gathered) = still_open(board, gathered)?;
     let gathered = board.give_back(gathered, zero);
-    assert_eq!(rt; gathered.held(), 2);
+    assert!(rt; gathered.held() == 2);
     let Ok(closed) = board.close(gathered) else {
         panic!(rt; "not closed")
     };
@@ -95,31 +107,18 @@ fn a_board_is_closed_once_both_its_desks_came_back(rt: HostRuntime) -> Result<()
 #[test]
 fn the_highest_desk_goes_out_first(rt: HostRuntime) -> Result<(), Fail> {
     let alloc = rt.alloc();
-    let Ok((board, mut gathered)) = Board::open(alloc, 2) else {
-        panic!(rt; "not opened")
-    };
-    let Some(one) = board.take(alloc, &mut gathered)? else {
-        panic!(rt; "no desk is in")
-    };
-    assert_eq!(rt; one.process(), 1);
-    let Some(zero) = board.take(alloc, &mut gathered)? else {
-        panic!(rt; "no desk is in")
-    };
-    assert_eq!(rt; zero.process(), 0);
-    assert!(rt; board.take(alloc, &mut gathered)?.is_none());
-    assert_eq!(rt; gathered.held(), 0);
+    let (board, mut gathered) = Board::open(alloc, 2)?;
+    assert!(rt; gathered.held() == 2);
+    let one = taken(alloc, &board, &mut gathered)?;
+    let zero = taken(alloc, &board, &mut gathered)?;
+    assert!(rt; one.process() == 1 && zero.process() == 0);
+    assert!(rt; board.take(alloc, &mut gathered)?.is_none() && gathered.held() == 0);
     Ok(())
 }
 
 #[test]
 fn a_closed_board_has_the_last_store_of_each_desk(rt: HostRuntime) -> Result<(), Fail> {
-    let alloc = rt.alloc();
-    let Ok((board, mut gathered)) = Board::open(alloc, 2) else {
-        panic!(rt; "not opened")
-    };
-    let Some(mut one) = board.take(alloc, &mut gathered)? else {
-        panic!(rt; "no desk is in")
-    };
+    let (board, gathered, mut one) = opened(rt.alloc(), 2)?;
     assert!(rt; board.store(&mut one, 8).is_ok() && board.store(&mut one, 9).is_ok());
     let gathered = board.give_back(gathered, one);
     let Ok(closed) = board.close(gathered) else {
@@ -143,34 +142,29 @@ fn boards_have_one_to_eight_desks(rt: HostRuntime) -> Result<(), Fail> {
     Ok(())
 }
 
-#[test]
-fn a_desk_is_spent_after_its_last_tick(rt: HostRuntime) -> Result<(), Fail> {
-    let alloc = rt.alloc();
-    let Ok((board, mut gathered)) = Board::open(alloc, 1) else {
-        panic!(rt; "not opened")
-    };
-    let Some(mut desk) = board.take(alloc, &mut gathered)? else {
-        panic!(rt; "no desk is in")
-    };
+// Stores 0 so often that a desk has no tick left.
+fn spend(rt: &impl Abort, board: &Board, desk: &mut Desk) -> Result<(), Fail>
+    requires { IsDeskOf board.now desk.old }
+    ensures { IsDeskOf board.now desk.new }
+{
     'stores: for before in 0..524_288 {
-        let Ok(stored) = board.store(&mut desk, 0) else {
-            panic!(rt; "spent early")
-        };
+        let stored = board.store(desk, 0)?;
         assert!(rt; is_store(&stored, entry(0, before + 1, 0)));
     }
-    let Err(refusal) = board.store(&mut desk, 0) else {
-        panic!(rt; "not spent")
-    };
-    assert_eq!(rt; refusal, StoreRefusal::Spent);
-    let Err(refusal) = board.collect(alloc, &mut desk) else {
-        panic!(rt; "not spent")
-    };
-    assert_eq!(rt; refusal, CollectRefusal::Spent);
+    Ok(())
+}
+
+#[test]
+fn a_desk_is_spent_after_its_last_tick(rt: HostRuntime) -> Result<(), Fail> {
+    let (board, gathered, mut desk) = opened(rt.alloc(), 1)?;
+    spend(&rt, &board, &mut desk)?;
+    assert!(rt; board.store(&mut desk, 0).err() == Some(StoreRefusal::Spent));
+    let collected = board.collect(rt.alloc(), &mut desk).err();
+    assert!(rt; collected == Some(CollectRefusal::Spent));
     let gathered = board.give_back(gathered, desk);
     let Ok(closed) = board.close(gathered) else {
         panic!(rt; "not closed")
     };
-    let want = entry(0, 524_288, 0);
-    assert!(rt; closed.entry(0) == Some(want));
+    assert!(rt; closed.entry(0) == Some(entry(0, 524_288, 0)));
     Ok(())
 }

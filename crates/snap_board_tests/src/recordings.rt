@@ -40,49 +40,63 @@ fn an_open_gate_holds_nobody_up() {
     }
 }
 
+/// Why lists are no plan, or nothing where they are one.
+fn refusal(lists: Vec<Vec<Step>>) -> Option<PlanRefusal> {
+    Plan::new(lists).err()
+}
+
 #[test]
 fn plans_have_two_to_eight_lists(rt: HostRuntime) -> Result<(), Fail> {
-    let alloc = rt.alloc();
-    assert!(rt; matches!(&Plan::new(lists(alloc, 0)?), Err(PlanRefusal::Workers)));
-    assert!(rt; matches!(&Plan::new(lists(alloc, 1)?), Err(PlanRefusal::Workers)));
-    assert!(rt; Plan::new(lists(alloc, 2)?).is_ok() && Plan::new(lists(alloc, 8)?).is_ok());
-    assert!(rt; matches!(&Plan::new(lists(alloc, 9)?), Err(PlanRefusal::Workers)));
+    let refused = Some(PlanRefusal::Workers);
+    for (count, known) in [
+        (0, refused),
+        (1, refused),
+        (2, None),
+        (8, None),
+        (9, refused),
+    ] {
+        assert!(rt;
+            refusal(lists(rt.alloc(), count)?) == known,
+            "{count} lists"
+        );
+    }
     Ok(())
 }
 
 #[test]
 fn plans_have_steps_within_the_limit(rt: HostRuntime) -> Result<(), Fail> {
     let alloc = rt.alloc();
-    let long = Plan::new(vec![in alloc; stores(alloc, 16384)?, stores(alloc, 16385)?]?);
-    assert!(rt; matches!(&long, Err(PlanRefusal::TooLong)));
-    let full = Plan::new(vec![in alloc; stores(alloc, 16384)?, stores(alloc, 16384)?]?);
-    assert!(rt; full.is_ok());
+    let long = vec![in alloc; stores(alloc, 16384)?, stores(alloc, 16385)?]?;
+    assert!(rt; refusal(long) == Some(PlanRefusal::TooLong));
+    let full = vec![in alloc; stores(alloc, 16384)?, stores(alloc, 16384)?]?;
+    assert!(rt; refusal(full).is_none());
     Ok(())
 }
 
+// The workers and rounds of plans, and why each is none.
+const ROUNDS: &[(u32, u32, Option<PlanRefusal>)] = &[
+    (2, 2048, None),
+    (2, 0, Some(PlanRefusal::TooLong)),
+    (2, 2049, Some(PlanRefusal::TooLong)),
+    (8, 2048, None),
+    (8, 0, Some(PlanRefusal::TooLong)),
+    (1, 0, Some(PlanRefusal::Workers)),
+    (9, 0, Some(PlanRefusal::Workers)),
+];
+
 #[test]
-fn rounds_are_limited(rt: HostRuntime) -> Result<(), Fail> {
-    let alloc = rt.alloc();
-    assert!(rt; rounds_plan(alloc, 2, 2048, false).is_ok());
-    assert!(rt; matches!(&rounds_plan(alloc, 2, 0, false), Err(PlanRefusal::TooLong)));
-    assert!(rt;
-        matches!(
-            &rounds_plan(alloc, 2, 2049, false),
-            Err(PlanRefusal::TooLong)
-        )
-    );
-    assert!(rt; rounds_plan(alloc, 8, 2048, false).is_ok());
-    assert!(rt; matches!(&rounds_plan(alloc, 8, 0, false), Err(PlanRefusal::TooLong)));
-    assert!(rt; matches!(&rounds_plan(alloc, 1, 0, false), Err(PlanRefusal::Workers)));
-    assert!(rt; matches!(&rounds_plan(alloc, 9, 0, false), Err(PlanRefusal::Workers)));
-    Ok(())
+fn rounds_are_limited(rt: HostRuntime) {
+    for &(workers, rounds, known) in ROUNDS {
+        let found = rounds_plan(rt.alloc(), workers, rounds, false).err();
+        assert!(rt; found == known, "{workers} workers in {rounds} rounds");
+    }
 }
 
 /// Worker 0 stores 5 and collects, worker 1 stores 6 and collects.
-fn two_stores(alloc: Global) -> Result<Option<Plan>, Fail> {
+fn two_stores(alloc: Global) -> Result<Plan, Fail> {
     let first = vec![in alloc; Step::Store(5), Step::View]?;
     let second = vec![in alloc; Step::Store(6), Step::View]?;
-    Ok(Plan::new(vec![in alloc; first, second]?).ok())
+    Ok(Plan::new(vec![in alloc; first, second]?)?)
 }
 
 /// Whether some view of the process shows 0:1:5, and some view 1:1:6.
@@ -111,12 +125,8 @@ fn updates(recording: &Recording, of: u16, component: u8, value: u32) -> bool {
 #[test]
 fn each_worker_sees_its_own_store(rt: HostRuntime) -> Result<(), Fail> {
     let alloc = rt.alloc();
-    let Some(plan) = two_stores(alloc)? else {
-        panic!(rt; "no plan")
-    };
-    let Ok(recording) = record_plan(&rt, alloc, &plan, &OpenGate) else {
-        panic!(rt; "no memory")
-    };
+    let plan = two_stores(alloc)?;
+    let recording = record_plan(&rt, alloc, &plan, &OpenGate)?;
     assert!(rt; recording.history.len() == 8 && recording.interfered == 0);
     assert!(rt; recording.stamps.as_slice() == [0, 1, 2, 3, 4, 5, 6, 7].as_slice());
     assert!(rt; updates(&recording, 0, 0, 5) && updates(&recording, 1, 1, 6));
@@ -127,13 +137,9 @@ fn each_worker_sees_its_own_store(rt: HostRuntime) -> Result<(), Fail> {
 #[test]
 fn two_workers_meet_behind_their_stores(rt: HostRuntime) -> Result<(), Fail> {
     let alloc = rt.alloc();
-    let Some(plan) = two_stores(alloc)? else {
-        panic!(rt; "no plan")
-    };
+    let plan = two_stores(alloc)?;
     let gate = Meeting::at_turn(1);
-    let Ok(recording) = record_plan(&rt, alloc, &plan, &gate) else {
-        panic!(rt; "no memory")
-    };
+    let recording = record_plan(&rt, alloc, &plan, &gate)?;
     assert!(rt; gate.was_held());
     for process in 0..2 {
         let seen = shows(&recording, process);
@@ -143,12 +149,12 @@ fn two_workers_meet_behind_their_stores(rt: HostRuntime) -> Result<(), Fail> {
 }
 
 /// Each worker stores its number and collects.
-fn store_numbers(alloc: Global, workers: u32) -> Result<Option<Plan>, Fail> {
+fn store_numbers(alloc: Global, workers: u32) -> Result<Plan, Fail> {
     let mut scripts = Vec::new(alloc);
     for worker in 0..workers {
         scripts.push(vec![in alloc; Step::Store(worker), Step::View]?)?;
     }
-    Ok(Plan::new(scripts).ok())
+    Ok(Plan::new(scripts)?)
 }
 
 /// Whether a view ends here that shows of each component below 8 its first store, of its own number.
@@ -165,13 +171,9 @@ fn shows_eight_numbers(event: &Event) -> bool {
 #[test]
 fn eight_workers_meet_behind_their_stores(rt: HostRuntime) -> Result<(), Fail> {
     let alloc = rt.alloc();
-    let Some(plan) = store_numbers(alloc, 8)? else {
-        panic!(rt; "no plan")
-    };
+    let plan = store_numbers(alloc, 8)?;
     let gate = Meeting::of(8, 1);
-    let Ok(recording) = record_plan(&rt, alloc, &plan, &gate) else {
-        panic!(rt; "no memory")
-    };
+    let recording = record_plan(&rt, alloc, &plan, &gate)?;
     assert!(rt; gate.was_held());
     assert_eq!(rt; recording.history.len(), 32);
     let events = recording.history.events().iter();
@@ -186,9 +188,7 @@ fn eight_workers_meet_behind_their_stores(rt: HostRuntime) -> Result<(), Fail> {
 fn two_workers_in_64_rounds_have_512_events(rt: HostRuntime) -> Result<(), Fail> {
     let alloc = rt.alloc();
     let plan = rounds_plan(alloc, 2, 64, false)?;
-    let Ok(recording) = record_plan(&rt, alloc, &plan, &OpenGate) else {
-        panic!(rt; "no memory")
-    };
+    let recording = record_plan(&rt, alloc, &plan, &OpenGate)?;
     assert_eq!(rt; recording.history.len(), 512);
     assert!(rt;
         recording
@@ -223,12 +223,8 @@ fn begins_of(recording: &Recording, want: Entry) -> usize {
 #[test]
 fn two_lists_of_16384_stores_fill_a_history(rt: HostRuntime) -> Result<(), Fail> {
     let alloc = rt.alloc();
-    let Ok(plan) = Plan::new(vec![in alloc; stores(alloc, 16384)?, stores(alloc, 16384)?]?) else {
-        panic!(rt; "no plan")
-    };
-    let Ok(recording) = record_plan(&rt, alloc, &plan, &OpenGate) else {
-        panic!(rt; "no memory")
-    };
+    let plan = Plan::new(vec![in alloc; stores(alloc, 16384)?, stores(alloc, 16384)?]?)?;
+    let recording = record_plan(&rt, alloc, &plan, &OpenGate)?;
     assert!(rt; recording.history.len() == 65_536 && recording.stamps.len() == 65_536);
     assert!(rt; recording.stamps[0] == 0 && recording.stamps[65_535] == 65_535);
     for component in 0..2 {
@@ -243,9 +239,7 @@ fn two_lists_of_16384_stores_fill_a_history(rt: HostRuntime) -> Result<(), Fail>
 #[test]
 fn the_gate_is_called_before_each_step_and_at_the_end(rt: HostRuntime) -> Result<(), Fail> {
     let alloc = rt.alloc();
-    let Some(plan) = two_stores(alloc)? else {
-        panic!(rt; "no plan")
-    };
+    let plan = two_stores(alloc)?;
     let gate = Count {
         calls: AtomicU64::new(0),
     };

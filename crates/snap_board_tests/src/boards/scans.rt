@@ -1,6 +1,6 @@
 ghost use Rattle.snap_board.specs.Desks.{IsDeskOf};
 
-use super::{is_store, is_view};
+use super::{is_of, is_store, is_view, opened, taken};
 use snap_board::{Board, Desk, ScanRefusal};
 use snap_testing::entry;
 use std::alloc::Global;
@@ -10,55 +10,29 @@ use std::thread::join;
 #[test]
 fn a_scan_ends_behind_its_middle_tick(rt: HostRuntime) -> Result<(), Fail> {
     let alloc = rt.alloc();
-    let Ok((board, mut gathered)) = Board::open(alloc, 2) else {
-        panic!(rt; "not opened")
-    };
-    let Some(mut one) = board.take(alloc, &mut gathered)? else {
-        panic!(rt; "no desk is in")
-    };
-    let Some(mut zero) = board.take(alloc, &mut gathered)? else {
-        panic!(rt; "no desk is in")
-    };
-    let Ok(stored) = board.store(&mut one, 9) else {
-        panic!(rt; "spent")
-    };
-    assert!(rt; stored.begun == 0 && stored.ended == 1 && is_store(&stored, entry(1, 1, 9)));
-    let Ok(scanned) = board.scan(alloc, &mut one, 3) else {
-        panic!(rt; "not scanned")
-    };
-    assert!(rt; scanned.begun == 2 && scanned.ended == 4 && is_view(&scanned, entry(1, 1, 9)));
-    let Ok(scanned) = board.scan(alloc, &mut zero, 1) else {
-        panic!(rt; "not scanned")
-    };
-    assert!(rt; scanned.begun == 5 && scanned.ended == 7 && is_view(&scanned, entry(1, 1, 9)));
+    let (board, mut gathered, mut one) = opened(alloc, 2)?;
+    let mut zero = taken(alloc, &board, &mut gathered)?;
+    let stored = board.store(&mut one, 9)?;
+    assert!(rt; is_of(&stored, 1, 0, 1) && is_store(&stored, entry(1, 1, 9)));
+    let scanned = board.scan(alloc, &mut one, 3)?;
+    assert!(rt; is_of(&scanned, 1, 2, 4) && is_view(&scanned, entry(1, 1, 9)));
+    let scanned = board.scan(alloc, &mut zero, 1)?;
+    assert!(rt; is_of(&scanned, 0, 5, 7) && is_view(&scanned, entry(1, 1, 9)));
     Ok(())
 }
 
 #[test]
 fn a_scan_is_spent_by_its_tries(rt: HostRuntime) -> Result<(), Fail> {
     let alloc = rt.alloc();
-    let Ok((board, mut gathered)) = Board::open(alloc, 1) else {
-        panic!(rt; "not opened")
-    };
-    let Some(mut desk) = board.take(alloc, &mut gathered)? else {
-        panic!(rt; "no desk is in")
-    };
-    let Err(refusal) = board.scan(alloc, &mut desk, 1_048_575) else {
-        panic!(rt; "not spent")
-    };
-    assert_eq!(rt; refusal, ScanRefusal::Spent);
-    let Ok(scanned) = board.scan(alloc, &mut desk, 1_048_574) else {
-        panic!(rt; "spent")
-    };
-    assert!(rt; scanned.begun == 0 && scanned.ended == 2);
-    let Err(refusal) = board.scan(alloc, &mut desk, 1_048_574) else {
-        panic!(rt; "not spent")
-    };
-    assert_eq!(rt; refusal, ScanRefusal::Spent);
-    let Ok(viewed) = board.collect(alloc, &mut desk) else {
-        panic!(rt; "not collected")
-    };
-    assert!(rt; viewed.begun == 3 && viewed.ended == 4);
+    let (board, _gathered, mut desk) = opened(alloc, 1)?;
+    let refused = board.scan(alloc, &mut desk, 1_048_575).err();
+    assert!(rt; refused == Some(ScanRefusal::Spent));
+    let scanned = board.scan(alloc, &mut desk, 1_048_574)?;
+    assert!(rt; is_of(&scanned, 0, 0, 2));
+    let refused = board.scan(alloc, &mut desk, 1_048_574).err();
+    assert!(rt; refused == Some(ScanRefusal::Spent));
+    let viewed = board.collect(alloc, &mut desk)?;
+    assert!(rt; is_of(&viewed, 0, 3, 4));
     Ok(())
 }
 
@@ -90,15 +64,8 @@ fn scan_often(alloc: Global, board: &Board, mut desk: Desk) -> (Desk, bool)
 #[test]
 fn scans_beside_stores_answer_or_are_interfered_with(rt: HostRuntime) -> Result<(), Fail> {
     let alloc = rt.alloc();
-    let Ok((board, mut gathered)) = Board::open(alloc, 2) else {
-        panic!(rt; "not opened")
-    };
-    let Some(one) = board.take(alloc, &mut gathered)? else {
-        panic!(rt; "no desk is in")
-    };
-    let Some(zero) = board.take(alloc, &mut gathered)? else {
-        panic!(rt; "no desk is in")
-    };
+    let (board, mut gathered, one) = opened(alloc, 2)?;
+    let zero = taken(alloc, &board, &mut gathered)?;
     let ((mut one, answered), (mut zero, recorded)) = join(
         &rt,
         || -> (Desk, bool)
@@ -112,13 +79,7 @@ fn scans_beside_stores_answer_or_are_interfered_with(rt: HostRuntime) -> Result<
     );
     assert!(rt; answered && recorded);
     let last = entry(0, 1000, 1000);
-    let Ok(seen) = board.collect(alloc, &mut one) else {
-        panic!(rt; "not collected")
-    };
-    assert!(rt; is_view(&seen, last));
-    let Ok(seen) = board.collect(alloc, &mut zero) else {
-        panic!(rt; "not collected")
-    };
-    assert!(rt; is_view(&seen, last));
+    assert!(rt; is_view(&board.collect(alloc, &mut one)?, last));
+    assert!(rt; is_view(&board.collect(alloc, &mut zero)?, last));
     Ok(())
 }

@@ -11,21 +11,19 @@ fn scans(alloc: Global, steps: usize, tries: u32) -> Result<Vec<Vec<Step>>, Fail
 
 #[test]
 fn scans_of_a_plan_are_limited(rt: HostRuntime) -> Result<(), Fail> {
-    let alloc = rt.alloc();
-    assert!(rt; matches!(&Plan::new(scans(alloc, 1, 0)?), Err(PlanRefusal::TooLong)));
-    assert!(rt;
-        matches!(
-            &Plan::new(scans(alloc, 1, 1025)?),
-            Err(PlanRefusal::TooLong)
-        )
-    );
-    assert!(rt; Plan::new(scans(alloc, 1022, 1024)?).is_ok());
-    assert!(rt;
-        matches!(
-            &Plan::new(scans(alloc, 1023, 1024)?),
-            Err(PlanRefusal::TooLong)
-        )
-    );
+    let refused = Some(PlanRefusal::TooLong);
+    for (steps, tries, known) in [
+        (1, 0, refused),
+        (1, 1025, refused),
+        (1022, 1024, None),
+        (1023, 1024, refused),
+    ] {
+        let lists = scans(rt.alloc(), steps, tries)?;
+        assert!(rt;
+            super::refusal(lists) == known,
+            "{steps} scans of {tries} tries"
+        );
+    }
     Ok(())
 }
 
@@ -34,13 +32,9 @@ fn two_workers_scan_behind_their_stores(rt: HostRuntime) -> Result<(), Fail> {
     let alloc = rt.alloc();
     let first = vec![in alloc; Step::Store(5), Step::Scan(64)]?;
     let second = vec![in alloc; Step::Store(6), Step::Scan(64)]?;
-    let Ok(plan) = Plan::new(vec![in alloc; first, second]?) else {
-        panic!(rt; "no plan")
-    };
+    let plan = Plan::new(vec![in alloc; first, second]?)?;
     let gate = Meeting::at_turn(1);
-    let Ok(recording) = record_plan(&rt, alloc, &plan, &gate) else {
-        panic!(rt; "no memory")
-    };
+    let recording = record_plan(&rt, alloc, &plan, &gate)?;
     assert!(rt; gate.was_held());
     assert!(rt; recording.interfered == 0 && recording.history.len() == 8);
     for process in 0..2 {
@@ -54,12 +48,8 @@ fn two_workers_scan_behind_their_stores(rt: HostRuntime) -> Result<(), Fail> {
 fn the_stamps_of_a_lone_scan_leave_its_middle_tick_out(rt: HostRuntime) -> Result<(), Fail> {
     let alloc = rt.alloc();
     let first = vec![in alloc; Step::Store(9), Step::Scan(3), Step::Store(8)]?;
-    let Ok(plan) = Plan::new(vec![in alloc; first, Vec::new(alloc)]?) else {
-        panic!(rt; "no plan")
-    };
-    let Ok(recording) = record_plan(&rt, alloc, &plan, &OpenGate) else {
-        panic!(rt; "no memory")
-    };
+    let plan = Plan::new(vec![in alloc; first, Vec::new(alloc)]?)?;
+    let recording = record_plan(&rt, alloc, &plan, &OpenGate)?;
     assert!(rt; recording.stamps.as_slice() == [0, 1, 2, 4, 5, 6].as_slice());
     Ok(())
 }

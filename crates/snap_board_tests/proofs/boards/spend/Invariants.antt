@@ -1,5 +1,5 @@
 use Rattle.snap_board.specs.Desks.{IsDeskOf}
-use Rattle.snap_board_tests.proofs.boards.a_desk_is_spent_after_its_last_tick.Given as goal
+use Rattle.snap_board_tests.proofs.boards.spend.Given as goal
 
 abbrev pub invariant-stores : goal.invariant-stores
 invariant-stores g l = IsDeskOf l.board l.desk
