@@ -1,5 +1,5 @@
 -- The command line, as the parser sees it.
-use Rattle.std.specs.Prelude.{ℕ, List, Some, true, codes, pos, [], ◌∷◌}
+use Rattle.std.specs.Prelude.{Some, true, codes, pos, [], ◌∷◌}
 use Rattle.clap.specs.Words.{App, Rule, new_app, new_rule, with_rule, with_subcommand}
 use Rattle.clap.specs.declared.builder.action.ArgAction.TheVariants.{SetTrue}
 use Rattle.clap.specs.declared.builder.value_parser.ValueParser.TheVariants.{Signed}
@@ -8,25 +8,21 @@ use Rattle.snap_record.specs.declared.plan.TheConstants.{LEAST_WORKERS}
 use Rattle.snap_threads.specs.declared.cutting.TheConstants.{PIECE_LIMIT, WORKER_LIMIT}
 use Rattle.snap_words.specs.declared.command.TheConstants.{VIEW_LIMIT}
 
--- --NAME N, a number from one to another, with one where it is not given
-abbrev pub number_rule : List ℕ → ℕ → ℕ → List ℕ → Rule
-number_rule name least most usual = record (new_rule name) { long = Some name; value_names = 1; parser = Some (Signed (pos least) (pos most)); defaults = usual ∷ [] }
-
--- --NAME
-abbrev pub flag_rule : List ℕ → Rule
-flag_rule name = record (new_rule name) { long = Some name; action = Some SetTrue }
-
 -- --pieces P, 8 where it is not given
 abbrev pub pieces_rule : Rule
-pieces_rule = number_rule (codes "pieces") 1 PIECE_LIMIT (codes "8")
+pieces_rule = record (new_rule (codes "pieces")) { long = Some (codes "pieces"); value_names = 1; parser = Some (Signed (pos 1) (pos PIECE_LIMIT)); defaults = codes "8" ∷ [] }
 
 -- --workers W, 2 where it is not given
 abbrev pub workers_rule : Rule
-workers_rule = number_rule (codes "workers") 1 WORKER_LIMIT (codes "2")
+workers_rule = record (new_rule (codes "workers")) { long = Some (codes "workers"); value_names = 1; parser = Some (Signed (pos 1) (pos WORKER_LIMIT)); defaults = codes "2" ∷ [] }
+
+-- --quiet
+abbrev pub quiet_rule : Rule
+quiet_rule = record (new_rule (codes "quiet")) { long = Some (codes "quiet"); action = Some SetTrue }
 
 -- --views N, 0 where it is not given
 abbrev pub views_rule : Rule
-views_rule = number_rule (codes "views") 0 VIEW_LIMIT (codes "0")
+views_rule = record (new_rule (codes "views")) { long = Some (codes "views"); value_names = 1; parser = Some (Signed (pos 0) (pos VIEW_LIMIT)); defaults = codes "0" ∷ [] }
 
 -- check [--pieces P] [--workers W] ..
 abbrev pub cutting_app : App
@@ -34,7 +30,7 @@ cutting_app = with_rule (with_rule (new_app (codes "check")) pieces_rule) worker
 
 -- .. [--quiet] [--views N]
 abbrev pub check_app : App
-check_app = with_rule (with_rule cutting_app (flag_rule (codes "quiet"))) views_rule
+check_app = with_rule (with_rule cutting_app quiet_rule) views_rule
 
 -- shrink
 abbrev pub shrink_app : App
@@ -46,11 +42,23 @@ explain_app = new_app (codes "explain")
 
 -- --workers W, 2 where it is not given
 abbrev pub recorders_rule : Rule
-recorders_rule = number_rule (codes "workers") LEAST_WORKERS worker_limit (codes "2")
+recorders_rule = record (new_rule (codes "workers")) { long = Some (codes "workers"); value_names = 1; parser = Some (Signed (pos LEAST_WORKERS) (pos worker_limit)); defaults = codes "2" ∷ [] }
 
 -- --rounds R, 16 where it is not given
 abbrev pub rounds_rule : Rule
-rounds_rule = number_rule (codes "rounds") 1 round_limit (codes "16")
+rounds_rule = record (new_rule (codes "rounds")) { long = Some (codes "rounds"); value_names = 1; parser = Some (Signed (pos 1) (pos round_limit)); defaults = codes "16" ∷ [] }
+
+-- --judge
+abbrev pub judge_rule : Rule
+judge_rule = record (new_rule (codes "judge")) { long = Some (codes "judge"); action = Some SetTrue }
+
+-- --scan
+abbrev pub scan_rule : Rule
+scan_rule = record (new_rule (codes "scan")) { long = Some (codes "scan"); action = Some SetTrue }
+
+-- --stamped
+abbrev pub stamped_rule : Rule
+stamped_rule = record (new_rule (codes "stamped")) { long = Some (codes "stamped"); action = Some SetTrue }
 
 -- record [--workers W] [--rounds R] ..
 abbrev pub rounds_app : App
@@ -58,7 +66,7 @@ rounds_app = with_rule (with_rule (new_app (codes "record")) recorders_rule) rou
 
 -- .. [--judge] [--scan] [--stamped]
 abbrev pub record_app : App
-record_app = with_rule (with_rule (with_rule rounds_app (flag_rule (codes "judge"))) (flag_rule (codes "scan"))) (flag_rule (codes "stamped"))
+record_app = with_rule (with_rule (with_rule rounds_app judge_rule) scan_rule) stamped_rule
 
 abbrev pub needs_subcommand : App → App
 needs_subcommand app = record app { top = record app.top { subcommand_required = true } }

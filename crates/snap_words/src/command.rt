@@ -1,20 +1,28 @@
 //! The words that the program takes, and its help.
 ghost use Rattle.std.specs.Prelude.{◌≡◌, IfOk, codes, false};
-ghost use Rattle.clap.specs.Words.{app_of, new_app};
+ghost use Rattle.clap.specs.Words.{app_of, new_app, rule_of};
 ghost use Rattle.clap.specs.declared.builder.command.Command.TheViews.{out-Command as fields_of};
-ghost use Rattle.snap_words.specs.CommandLine.{check_app, cutting_app, needs_subcommand, program_app, reading_app};
+ghost use Rattle.snap_words.specs.CommandLine.{check_app, cutting_app, needs_subcommand, pieces_rule, program_app, quiet_rule, reading_app, views_rule, workers_rule};
 
 use crate::explain_command::explain_command;
-use crate::parts::{Numbers, bare_command, flag_argument, number_argument};
 use crate::record_command::record_command;
 use crate::shrink_command::shrink_command;
-use clap::Command;
+use clap::{Arg, ArgAction, Command};
 use snap_core::EVENT_LIMIT;
 use snap_threads::{PIECE_LIMIT, WORKER_LIMIT};
 use std::alloc::{AllocError, Global};
 
 /// How many completed views a history has at most, each of two events.
 pub(crate) const VIEW_LIMIT: u32 = (EVENT_LIMIT / 2) as u32;
+
+// The first number that is past the limit of pieces.
+const PIECE_END: i64 = PIECE_LIMIT as i64 + 1;
+
+// The first number that is past the limit of workers.
+const WORKER_END: i64 = WORKER_LIMIT as i64 + 1;
+
+// The first number that is past the limit of views.
+const VIEW_END: i64 = VIEW_LIMIT as i64 + 1;
 
 const ABOUT: &str =
     "Judges a recorded history of a single-writer board: is it regular, is it atomic, and why not?";
@@ -69,61 +77,79 @@ Exit status:
     4  reading, writing or memory failed
     5  the words of the command line were not taken";
 
+fn pieces_argument<'a>(alloc: Global) -> Arg<'a>
+    ensures rule { rule_of result ≡ pieces_rule }
+    ensures own { result.global ≡ false }
+{
+    Arg::new(alloc, "pieces")
+        .long("pieces")
+        .value_name("P")
+        .help("Into how many pieces the views are cut, from 1 to 1024")
+        .value_parser(clap::value_parser!(u32).range(1..PIECE_END))
+        .default_value("8")
+}
+
+fn workers_argument<'a>(alloc: Global) -> Arg<'a>
+    ensures rule { rule_of result ≡ workers_rule }
+    ensures own { result.global ≡ false }
+{
+    Arg::new(alloc, "workers")
+        .long("workers")
+        .value_name("W")
+        .help("How many threads share the pieces, from 1 to 8")
+        .value_parser(clap::value_parser!(u32).range(1..WORKER_END))
+        .default_value("2")
+}
+
+fn quiet_argument<'a>(alloc: Global) -> Arg<'a>
+    ensures rule { rule_of result ≡ quiet_rule }
+    ensures own { result.global ≡ false }
+{
+    Arg::new(alloc, "quiet")
+        .long("quiet")
+        .help("Write the lines of the verdicts alone")
+        .action(ArgAction::SetTrue)
+}
+
+fn views_argument<'a>(alloc: Global) -> Arg<'a>
+    ensures rule { rule_of result ≡ views_rule }
+    ensures own { result.global ≡ false }
+{
+    Arg::new(alloc, "views")
+        .long("views")
+        .value_name("N")
+        .help("How many completed views the history must have, from 0 to 32768")
+        .value_parser(clap::value_parser!(u32).range(0..VIEW_END))
+        .default_value("0")
+}
+
 // `check` with its help and its two numbers of the cutting.
 fn cutting_command<'a>(alloc: Global) -> Result<Command<'a>, AllocError>
     ensures { IfOk result (λ command. (app_of command ≡ cutting_app) × ((fields_of command).has_globals ≡ false)) }
 {
-    let pieces = number_argument(
-        alloc,
-        "pieces",
-        "P",
-        "Into how many pieces the views are cut, from 1 to 1024",
-        Numbers {
-            least: 1,
-            most: PIECE_LIMIT,
-            usual: "8",
-        },
-    );
-    let workers = number_argument(
-        alloc,
-        "workers",
-        "W",
-        "How many threads share the pieces, from 1 to 8",
-        Numbers {
-            least: 1,
-            most: WORKER_LIMIT,
-            usual: "2",
-        },
-    );
-    bare_command(alloc, "check", CHECK_ABOUT, EXAMPLE)
-        .arg(pieces)?
-        .arg(workers)
+    Command::new(alloc, "check")
+        .about(CHECK_ABOUT)
+        .after_help(EXAMPLE)
+        .arg(pieces_argument(alloc))?
+        .arg(workers_argument(alloc))
 }
 
 fn check_command<'a>(alloc: Global) -> Result<Command<'a>, AllocError>
     ensures { IfOk result (λ command. (app_of command ≡ check_app) × ((fields_of command).has_globals ≡ false)) }
 {
-    let views = number_argument(
-        alloc,
-        "views",
-        "N",
-        "How many completed views the history must have, from 0 to 32768",
-        Numbers {
-            least: 0,
-            most: VIEW_LIMIT,
-            usual: "0",
-        },
-    );
     cutting_command(alloc)?
-        .arg(flag_argument(alloc, "quiet", "Write the lines of the verdicts alone"))?
-        .arg(views)
+        .arg(quiet_argument(alloc))?
+        .arg(views_argument(alloc))
 }
 
 // The program without its commands.
 fn bare_program<'a>(alloc: Global) -> Command<'a>
     ensures { app_of result ≡ needs_subcommand (new_app (codes "snapjudge")) }
 {
-    bare_command(alloc, "snapjudge", ABOUT, EXAMPLES).subcommand_required(true)
+    Command::new(alloc, "snapjudge")
+        .about(ABOUT)
+        .after_help(EXAMPLES)
+        .subcommand_required(true)
 }
 
 // The program with the commands that read a history.

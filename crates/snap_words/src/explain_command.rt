@@ -4,7 +4,6 @@ ghost use Rattle.clap.specs.Words.{app_of};
 ghost use Rattle.clap.specs.declared.builder.command.Command.TheViews.{out-Command as fields_of};
 ghost use Rattle.snap_words.specs.CommandLine.{explain_app};
 
-use crate::parts::bare_command;
 use clap::Command;
 use std::alloc::Global;
 
@@ -47,5 +46,7 @@ Exit status:
 pub fn explain_command<'a>(alloc: Global) -> Command<'a>
     ensures { (app_of result ≡ explain_app) × ((fields_of result).has_globals ≡ false) }
 {
-    bare_command(alloc, "explain", ABOUT, EXAMPLE)
+    Command::new(alloc, "explain")
+        .about(ABOUT)
+        .after_help(EXAMPLE)
 }

@@ -4,7 +4,6 @@
 mod command;
 mod explain_command;
 mod job;
-mod parts;
 mod record_command;
 mod shrink_command;
 

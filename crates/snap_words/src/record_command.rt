@@ -1,13 +1,21 @@
 //! The words of `record`, and its help.
 ghost use Rattle.std.specs.Prelude.{◌≡◌, IfOk, false};
-ghost use Rattle.clap.specs.Words.{app_of};
+ghost use Rattle.clap.specs.Words.{app_of, rule_of};
 ghost use Rattle.clap.specs.declared.builder.command.Command.TheViews.{out-Command as fields_of};
-ghost use Rattle.snap_words.specs.CommandLine.{record_app, rounds_app};
+ghost use Rattle.snap_words.specs.CommandLine.{judge_rule, record_app, recorders_rule, rounds_app, rounds_rule, scan_rule, stamped_rule};
 
-use crate::parts::{Numbers, bare_command, flag_argument, number_argument};
-use clap::Command;
+use clap::{Arg, ArgAction, Command};
 use snap_record::{LEAST_WORKERS, ROUND_LIMIT, WORKER_LIMIT};
 use std::alloc::{AllocError, Global};
+
+// The least number of workers.
+const WORKER_START: i64 = LEAST_WORKERS as i64;
+
+// The first number that is past the limit of workers.
+const WORKER_END: i64 = WORKER_LIMIT as i64 + 1;
+
+// The first number that is past the limit of rounds.
+const ROUND_END: i64 = ROUND_LIMIT as i64 + 1;
 
 const ABOUT: &str =
     "Records the history of a running board and writes it, or its report, to standard output";
@@ -44,35 +52,69 @@ Exit status:
     4  writing or memory failed
     5  the words of the command line were not taken";
 
+fn workers_argument<'a>(alloc: Global) -> Arg<'a>
+    ensures rule { rule_of result ≡ recorders_rule }
+    ensures own { result.global ≡ false }
+{
+    Arg::new(alloc, "workers")
+        .long("workers")
+        .value_name("W")
+        .help("How many threads work on the board, each with a word of its own")
+        .value_parser(clap::value_parser!(u32).range(WORKER_START..WORKER_END))
+        .default_value("2")
+}
+
+fn rounds_argument<'a>(alloc: Global) -> Arg<'a>
+    ensures rule { rule_of result ≡ rounds_rule }
+    ensures own { result.global ≡ false }
+{
+    Arg::new(alloc, "rounds")
+        .long("rounds")
+        .value_name("R")
+        .help("In how many rounds each of them stores and views, from 1 to 2048")
+        .value_parser(clap::value_parser!(u32).range(1..ROUND_END))
+        .default_value("16")
+}
+
+fn judge_argument<'a>(alloc: Global) -> Arg<'a>
+    ensures rule { rule_of result ≡ judge_rule }
+    ensures own { result.global ≡ false }
+{
+    Arg::new(alloc, "judge")
+        .long("judge")
+        .help("Write the report of the history, and not the history")
+        .action(ArgAction::SetTrue)
+}
+
+fn scan_argument<'a>(alloc: Global) -> Arg<'a>
+    ensures rule { rule_of result ≡ scan_rule }
+    ensures own { result.global ≡ false }
+{
+    Arg::new(alloc, "scan")
+        .long("scan")
+        .help("Scan in place of each view")
+        .action(ArgAction::SetTrue)
+}
+
+fn stamped_argument<'a>(alloc: Global) -> Arg<'a>
+    ensures rule { rule_of result ≡ stamped_rule }
+    ensures own { result.global ≡ false }
+{
+    Arg::new(alloc, "stamped")
+        .long("stamped")
+        .help("Write the stamp of each event before it; not with --judge")
+        .action(ArgAction::SetTrue)
+}
+
 // `record` with its help and its two numbers.
 fn rounds_command<'a>(alloc: Global) -> Result<Command<'a>, AllocError>
     ensures { IfOk result (λ command. (app_of command ≡ rounds_app) × ((fields_of command).has_globals ≡ false)) }
 {
-    let workers = number_argument(
-        alloc,
-        "workers",
-        "W",
-        "How many threads work on the board, each with a word of its own",
-        Numbers {
-            least: LEAST_WORKERS,
-            most: WORKER_LIMIT,
-            usual: "2",
-        },
-    );
-    let rounds = number_argument(
-        alloc,
-        "rounds",
-        "R",
-        "In how many rounds each of them stores and views, from 1 to 2048",
-        Numbers {
-            least: 1,
-            most: ROUND_LIMIT,
-            usual: "16",
-        },
-    );
-    bare_command(alloc, "record", ABOUT, EXAMPLE)
-        .arg(workers)?
-        .arg(rounds)
+    Command::new(alloc, "record")
+        .about(ABOUT)
+        .after_help(EXAMPLE)
+        .arg(workers_argument(alloc))?
+        .arg(rounds_argument(alloc))
 }
 
 /// The command `record` with its options.
@@ -80,15 +122,7 @@ pub fn record_command<'a>(alloc: Global) -> Result<Command<'a>, AllocError>
     ensures { IfOk result (λ command. (app_of command ≡ record_app) × ((fields_of command).has_globals ≡ false)) }
 {
     rounds_command(alloc)?
-        .arg(flag_argument(
-            alloc,
-            "judge",
-            "Write the report of the history, and not the history",
-        ))?
-        .arg(flag_argument(alloc, "scan", "Scan in place of each view"))?
-        .arg(flag_argument(
-            alloc,
-            "stamped",
-            "Write the stamp of each event before it; not with --judge",
-        ))
+        .arg(judge_argument(alloc))?
+        .arg(scan_argument(alloc))?
+        .arg(stamped_argument(alloc))
 }

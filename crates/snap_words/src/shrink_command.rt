@@ -4,7 +4,6 @@ ghost use Rattle.clap.specs.Words.{app_of};
 ghost use Rattle.clap.specs.declared.builder.command.Command.TheViews.{out-Command as fields_of};
 ghost use Rattle.snap_words.specs.CommandLine.{shrink_app};
 
-use crate::parts::bare_command;
 use clap::Command;
 use std::alloc::Global;
 
@@ -52,5 +51,7 @@ Exit status, of the history that was read:
 pub fn shrink_command<'a>(alloc: Global) -> Command<'a>
     ensures { (app_of result ≡ shrink_app) × ((fields_of result).has_globals ≡ false) }
 {
-    bare_command(alloc, "shrink", ABOUT, EXAMPLE)
+    Command::new(alloc, "shrink")
+        .about(ABOUT)
+        .after_help(EXAMPLE)
 }
