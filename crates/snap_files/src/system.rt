@@ -26,6 +26,7 @@ impl<F: Read> Read for SystemText<F> {
 }
 
 /// What opens files by their names; `-` is standard input.
+#[derive(Drop)]
 pub struct System<'a, R> {
     /// The files.
     pub files: &'a R,
