@@ -87,6 +87,27 @@ expect "a file among others that is not there" 4 "$named_inversion" ./second che
   expect "two files, by another shell" 2 "$named_inversion$named_stale" bash "$top/snapjudge" check old.csv "a b.csv"
 expect "a file without a name" 4 "" ./second check ""
 expect "a file whose name begins with a hyphen" 2 "$stale" sh -c 'cp "a b.csv" ./-x.csv; ./second check -- -x.csv'
+broken=$(printf 'a\nb\\c.csv')
+cp old.csv "$broken"
+expect "a file whose name has a line end" 2 "$(report_of new-old-inversion 'a\\nb\\\\c.csv: ' | sed '$d')
+$named_stale" ./second check "$broken" "a b.csv"
+rm "$broken"
+expect "standard input among files" 2 "$(report_of stale-view '-: ' | sed '$d')
+$named_inversion" sh -c './second check - old.csv <"a b.csv"'
+expect "standard input twice" 5 "" ./second check - old.csv -
+expect_said "the reason" "error: - is standard input, and can be named once"
+mkfifo pipe
+expect "a pipe among files" 2 "$(report_of stale-view 'pipe: ' | sed '$d')
+$named_inversion" sh -c 'cat "a b.csv" >pipe & ./second check pipe old.csv'
+rm pipe
+expect "a file without an end" 3 "/dev/zero: refused record 0: toolong
+$named_inversion" ./second check /dev/zero old.csv
+expect "a folder among files" 4 "$named_inversion" ./second check "$room" old.csv
+expect_said "its name and the reason" "snapjudge: $room: is a directory"
+expect "a file below a file" 4 "" ./second check old.csv/none.csv
+expect_said "its name and the reason" "snapjudge: old.csv/none.csv: no such file"
+expect "a name that is not UTF-8" 5 "" ./second check "$(printf '\377.csv')"
+expect_said "the reason" "error: the words are not text"
 expect "an option with a blank" 5 "" ./second check --pieces "3 --quiet" old.csv
 
 # no status of a verdict where the report was not written, or the history not read
@@ -107,17 +128,22 @@ for command in check "check -" "shrink -" "explain -"; do
   expect_said "the reason" "snapjudge: read failed"
 done
 expect "a file beside no input" 4 "$named_inversion" sh -c './second check - old.csv <&-'
-expect_said "the reason" "-: snapjudge: read failed"
+expect_said "the reason" "snapjudge: -: read failed"
 expect "two files, and no input" 2 "$named_inversion$named_stale" sh -c './second check old.csv "a b.csv" <&-'
 expect "two files, and no errors" 4 "$named_inversion" sh -c './second check old.csv none.csv 2>&-'
 expect "a pattern, and no file" 4 "" ./second check "*"
-for words in --help -h help "check --help" "explain old.csv --help"; do
-  expect "the words $words" 5 "" ./second $words
+tells() {
+  expect "the words $1" 5 "" ./second $1
   cp err help
-  for line in "snapjudge check [OPTIONS] [FILE ..]" "snapjudge shrink [FILE]" "snapjudge explain [FILE]" "snapjudge --version"; do
-    expect "$words tells $line" 0 "" grep -qF "$line" help
-  done
+  expect "$1 tells $2" 0 "" grep -qF "$2" help
+}
+for words in --help -h help; do
+  tells "$words" "snapjudge check first.csv second.csv"
+  tells "$words" "snapjudge --version"
 done
+tells "check --help" "snapjudge check [OPTIONS] [FILE]..."
+tells "shrink --help" "snapjudge shrink [FILE]"
+tells "explain old.csv --help" "snapjudge explain [FILE]"
 expect "a file without its command" 5 "" ./second old.csv
 expect_said "the tip" "snapjudge: to judge a file, write: snapjudge check old.csv"
 
@@ -176,7 +202,8 @@ expect "a witness of standard input" 3 "refused record 1: header
 " ./second shrink
 expect "a witness of a file that is not there" 4 "" ./second shrink none.csv
 expect "a witness of two files" 5 "" ./second shrink old.csv "a b.csv"
-expect_said "the reason" "snapjudge: shrink takes one file"
+cp err help
+expect "the reason" 0 "" grep -qF "unexpected argument 'a b.csv'" help
 
 # What is said of each example, counted by hand: the records are its lines.
 for history in "$examples"/*.csv; do
@@ -252,7 +279,8 @@ read: view 3 shows more of component 0 than view 4, and less of component 1
   expect "the explanation of $name" "$status" "$said" ./second explain "$history"
 done
 expect "an explanation of two files" 5 "" ./second explain old.csv "a b.csv"
-expect_said "the reason" "snapjudge: explain takes one file"
+cp err help
+expect "the reason" 0 "" grep -qF "unexpected argument 'a b.csv'" help
 
 # The reader that follows docs/FORMAT.md counts each example as the judge does, and names the same fault of a broken
 # text. The texts are the page's own: those of its commands, a fault of each name among them.

@@ -1,6 +1,6 @@
 //! The jobs that words ask for.
 use snap_runs::CheckOptions;
-use snap_words::{Job, JobFault, job_of};
+use snap_words::{Asked, Job, JobFault, job_of};
 use std::alloc::{AllocError, Global};
 use std::test::Fail;
 
@@ -57,16 +57,26 @@ const CHECKS: &[(&str, u32, u32, CheckOptions)] = &[
     ),
 ];
 
+// The job that a line asks for, of which each file is named in the list behind it.
+fn job_on(alloc: Global, line: &str, files: &[&str]) -> Result<Job, Fail> {
+    match job_of(alloc, words(alloc, line)?) {
+        Ok(Asked { job, files: found })
+            if found
+                .iter()
+                .map(|name| name.as_str())
+                .eq(files.iter().copied()) => { Ok(job) }
+        _ => Err(Fail::from(line)),
+    }
+}
+
 // The pieces and workers of the check that a line asks for, and its options.
 fn check_of(alloc: Global, line: &str) -> Result<(u32, u32, CheckOptions), Fail> {
-    match job_of(alloc, words(alloc, line)?) {
-        Ok(
-            Job::Check {
-                cutting,
-                quiet,
-                views,
-            },
-        ) => {
+    match job_on(alloc, line, &[])? {
+        Job::Check {
+            cutting,
+            quiet,
+            views,
+        } => {
             Ok((
                 cutting.pieces(),
                 cutting.workers(),
@@ -86,22 +96,33 @@ fn check_takes_pieces_workers_and_options(rt: HostRuntime) -> Result<(), Fail> {
     Ok(())
 }
 
-#[test]
-fn shrink_takes_no_words(rt: HostRuntime) -> Result<(), Fail> {
-    let alloc = rt.alloc();
-    match job_of(alloc, words(alloc, "snapjudge shrink")?) {
-        Ok(Job::Shrink) => Ok(()),
-        _ => Err(Fail::from("snapjudge shrink")),
-    }
-}
+// Lines that name files, with the files.
+const LINES_WITH_FILES: &[(&str, &[&str])] = &[
+    ("snapjudge check a.csv", &["a.csv"]),
+    (
+        "snapjudge check b.csv --quiet - a.csv",
+        &["b.csv", "-", "a.csv"],
+    ),
+    ("snapjudge check -- --quiet", &["--quiet"]),
+    ("snapjudge shrink a.csv", &["a.csv"]),
+    ("snapjudge shrink", &[]),
+    ("snapjudge explain -", &["-"]),
+    ("snapjudge explain", &[]),
+];
 
 #[test]
-fn explain_takes_no_words(rt: HostRuntime) -> Result<(), Fail> {
-    let alloc = rt.alloc();
-    match job_of(alloc, words(alloc, "snapjudge explain")?) {
-        Ok(Job::Explain) => Ok(()),
-        _ => Err(Fail::from("snapjudge explain")),
+fn files_are_those_of_the_words(rt: HostRuntime) -> Result<(), Fail> {
+    for (line, files) in LINES_WITH_FILES {
+        let job = job_on(rt.alloc(), line, files)?;
+        let is_its_command = match job {
+            Job::Check { .. } => line.contains(" check"),
+            Job::Shrink => line.contains(" shrink"),
+            Job::Explain => line.contains(" explain"),
+            Job::Record { .. } => false,
+        };
+        assert!(rt; is_its_command, "{line}");
     }
+    Ok(())
 }
 
 // Whether a recording is judged, scans, and has stamps.
@@ -155,16 +176,14 @@ const RECORDS: &[(&str, u32, u32, Flags)] = &[
 
 // The workers, the rounds and the flags of the recording that a line asks for.
 fn record_of(alloc: Global, line: &str) -> Result<(u32, u32, Flags), Fail> {
-    match job_of(alloc, words(alloc, line)?) {
-        Ok(
-            Job::Record {
-                workers,
-                rounds,
-                judge,
-                scan,
-                stamped,
-            },
-        ) => Ok((workers, rounds, (judge, scan, stamped))),
+    match job_on(alloc, line, &[])? {
+        Job::Record {
+            workers,
+            rounds,
+            judge,
+            scan,
+            stamped,
+        } => Ok((workers, rounds, (judge, scan, stamped))),
         _ => Err(Fail::from(line)),
     }
 }
@@ -188,11 +207,11 @@ const OTHER_LINES: &[&str] = &[
     "snapjudge check --workers 0",
     "snapjudge check --workers 9",
     "snapjudge check --rounds 3",
-    "snapjudge check more",
     "snapjudge record --workers 1",
     "snapjudge record --workers 9",
     "snapjudge record --rounds 0",
     "snapjudge record --rounds 2049",
+    "snapjudge record a.csv",
     "snapjudge record --pieces 8",
     "snapjudge record --judge=yes",
     "snapjudge record --scan=64",
@@ -205,9 +224,9 @@ const OTHER_LINES: &[&str] = &[
     "snapjudge check --views 32769",
     "snapjudge check --views -1",
     "snapjudge check --quiet=yes",
-    "snapjudge shrink more",
+    "snapjudge shrink a.csv b.csv",
     "snapjudge shrink --quiet",
-    "snapjudge explain more",
+    "snapjudge explain a.csv b.csv",
     "snapjudge explain --quiet",
     "snapjudge record --quiet",
     "snapjudge record --views 3",

@@ -1,4 +1,4 @@
-//! Tests of the runs from a reader to a writer: checks of worked histories, what they are cut down to and explained by,
+//! Tests of the runs from a reader to a writer: checks of worked histories and of several texts, what they are cut down to and explained by,
 //! recordings, and devices that fail.
 #![tactic(auto)]
 
@@ -8,6 +8,8 @@ mod checks;
 mod devices;
 #[cfg(test)]
 mod explaining;
+#[cfg(test)]
+mod files;
 #[cfg(test)]
 mod jobs;
 #[cfg(test)]

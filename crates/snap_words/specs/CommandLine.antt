@@ -1,7 +1,7 @@
 -- The command line, as the parser sees it.
 use Rattle.std.specs.Prelude.{Some, true, codes, pos, [], ◌∷◌}
 use Rattle.clap.specs.Words.{App, Rule, new_app, new_rule, with_rule, with_subcommand}
-use Rattle.clap.specs.declared.builder.action.ArgAction.TheVariants.{SetTrue}
+use Rattle.clap.specs.declared.builder.action.ArgAction.TheVariants.{Append, SetTrue}
 use Rattle.clap.specs.declared.builder.value_parser.ValueParser.TheVariants.{Signed}
 use Rattle.snap_record.specs.Plans.{round_limit, worker_limit}
 use Rattle.snap_record.specs.declared.plan.TheConstants.{LEAST_WORKERS}
@@ -24,21 +24,29 @@ quiet_rule = record (new_rule (codes "quiet")) { long = Some (codes "quiet"); ac
 abbrev pub views_rule : Rule
 views_rule = record (new_rule (codes "views")) { long = Some (codes "views"); value_names = 1; parser = Some (Signed (pos 0) (pos VIEW_LIMIT)); defaults = codes "0" ∷ [] }
 
+-- FILE .., of which there may be none
+abbrev pub files_rule : Rule
+files_rule = record (new_rule (codes "file")) { value_names = 1; action = Some Append }
+
+-- FILE, which may be left out
+abbrev pub file_rule : Rule
+file_rule = record (new_rule (codes "file")) { value_names = 1 }
+
 -- check [--pieces P] [--workers W] ..
 abbrev pub cutting_app : App
 cutting_app = with_rule (with_rule (new_app (codes "check")) pieces_rule) workers_rule
 
--- .. [--quiet] [--views N]
+-- .. [--quiet] [--views N] [FILE ..]
 abbrev pub check_app : App
-check_app = with_rule (with_rule cutting_app quiet_rule) views_rule
+check_app = with_rule (with_rule (with_rule cutting_app quiet_rule) views_rule) files_rule
 
--- shrink
+-- shrink [FILE]
 abbrev pub shrink_app : App
-shrink_app = new_app (codes "shrink")
+shrink_app = with_rule (new_app (codes "shrink")) file_rule
 
--- explain
+-- explain [FILE]
 abbrev pub explain_app : App
-explain_app = new_app (codes "explain")
+explain_app = with_rule (new_app (codes "explain")) file_rule
 
 -- --workers W, 2 where it is not given
 abbrev pub recorders_rule : Rule

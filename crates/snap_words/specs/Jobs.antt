@@ -1,9 +1,10 @@
 -- What the words of a command line ask for.
-use Rattle.std.specs.Prelude.{◌≡◌, ◌*◌, ◌≤◌, ℕ, Bool, true, false, List, Some, codes, decimal}
-use Rattle.clap.specs.Words.{Row, one_of}
+use Rattle.std.specs.Prelude.{◌≡◌, ◌*◌, ◌≤◌, ℕ, Bool, true, false, List, [], Option, Some, None, codes, decimal, map, string_bytes}
+use Rattle.clap.specs.Words.{Row, Text, all_of, one_of}
 use Rattle.snap_core.specs.Events.{event_limit}
 use Rattle.snap_record.specs.Plans.{AreWorkers, AreRounds}
 use Rattle.snap_threads.specs.Cuttings.{IsPieces, IsWorkers}
+use Rattle.snap_words.specs.declared.job.Asked.{Asked}
 use Rattle.snap_words.specs.declared.job.Job.{Job}
 use Rattle.snap_words.specs.declared.job.Job.TheVariants.{Check, Shrink, Explain, Record}
 
@@ -94,3 +95,15 @@ pub record AsksRecord (rows : List Row) (workers rounds : ℕ) (flags : Flags) :
   pub judge_is : one_of (codes "judge") rows ≡ Some (flag_text flags.judge)
   pub scan_is : one_of (codes "scan") rows ≡ Some (flag_text flags.scan)
   pub stamped_is : one_of (codes "stamped") rows ≡ Some (flag_text flags.stamped)
+
+-- the files that are named, none where the word is absent
+abbrev pub given_or_none : Option (List Text) → List Text
+given_or_none None = []
+given_or_none (Some names) = names
+
+abbrev pub files_of : List Row → List Text
+files_of rows = given_or_none (all_of (codes "file") rows)
+
+-- such a job, on just these files
+abbrev pub IsOn : List Text → (Job → Type 0) → Asked → Type 0
+IsOn files Is asked = Is asked.job × (map string_bytes asked.files.items ≡ files)

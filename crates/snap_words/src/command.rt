@@ -5,6 +5,7 @@ ghost use Rattle.clap.specs.declared.builder.command.Command.TheViews.{out-Comma
 ghost use Rattle.snap_words.specs.CommandLine.{check_app, cutting_app, needs_subcommand, pieces_rule, program_app, quiet_rule, reading_app, views_rule, workers_rule};
 
 use crate::explain_command::explain_command;
+use crate::file_argument::files_argument;
 use crate::record_command::record_command;
 use crate::shrink_command::shrink_command;
 use clap::{Arg, ArgAction, Command};
@@ -30,13 +31,16 @@ const ABOUT: &str =
 const EXAMPLES: &str = "\
 Examples:
     snapjudge record --rounds 4 > run.csv             record a run of two threads
-    snapjudge check < run.csv                         judge it
-    snapjudge check --quiet --views 1 < run.csv       the verdicts alone, of at least one view
-    snapjudge shrink < run.csv > witness.csv          cut it down to the calls of its first fault
-    snapjudge explain < run.csv                       say of its faults what happened, call by call";
+    snapjudge check run.csv                           judge it
+    snapjudge check first.csv second.csv              judge each, with the file's name before each line
+    snapjudge check --quiet --views 1 run.csv         the verdicts alone, of at least one view
+    snapjudge shrink run.csv > witness.csv            cut it down to the calls of its first fault
+    snapjudge explain run.csv                         say of its faults what happened, call by call
+
+    snapjudge --version                               names version, processor and prover";
 
 const CHECK_ABOUT: &str =
-    "Reads a history from standard input and writes its report to standard output";
+    "Reads a history from a file or standard input and writes its report to standard output";
 
 const EXAMPLE: &str = "\
 A history is a text of records, one event each, under a header:
@@ -49,7 +53,7 @@ A history is a text of records, one event each, under a header:
 
 Process 0 writes the value 7 into component 0, as its update 1; process 1 then takes a
 view, and sees it. An update begins with COMPONENT:NUMBER:VALUE, a view ends with what it
-shows, entries of the same form with spaces between. `snapjudge check < history.csv` prints:
+shows, entries of the same form with spaces between. `snapjudge check history.csv` prints:
 
     events 4 calls 2 pending 0 views 1
     regular yes
@@ -68,13 +72,17 @@ no history is printed all the same. With --views N a history with fewer than N c
 views has status 3: nothing is printed, and standard error says so. So a script that judges
 runs does not take an empty recording for a good one.
 
+Of several files the reports stand in the order of the names. Each line has the file's name and
+a colon before it, and the status is the greatest. A file that can't be opened or read counts
+as 4: standard error says why, and the others are judged all the same.
+
 Exit status:
     0  the history is atomic
     1  it is regular, and not atomic
     2  it is not regular
     3  the text is no history: the one line of the report names the record and its fault;
        or it has fewer completed views than --views asks for
-    4  reading, writing or memory failed
+    4  reading, writing or memory failed, or a file can't be opened
     5  the words of the command line were not taken";
 
 fn pieces_argument<'a>(alloc: Global) -> Arg<'a>
@@ -139,7 +147,8 @@ fn check_command<'a>(alloc: Global) -> Result<Command<'a>, AllocError>
 {
     cutting_command(alloc)?
         .arg(quiet_argument(alloc))?
-        .arg(views_argument(alloc))
+        .arg(views_argument(alloc))?
+        .arg(files_argument(alloc))
 }
 
 // The program without its commands.
@@ -158,8 +167,8 @@ fn reading_program<'a>(alloc: Global) -> Result<Command<'a>, AllocError>
 {
     bare_program(alloc)
         .subcommand(check_command(alloc)?)?
-        .subcommand(shrink_command(alloc))?
-        .subcommand(explain_command(alloc))
+        .subcommand(shrink_command(alloc)?)?
+        .subcommand(explain_command(alloc)?)
 }
 
 /// The program, with its commands and their options.

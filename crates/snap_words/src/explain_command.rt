@@ -1,14 +1,15 @@
 //! The words of `explain`, and its help.
-ghost use Rattle.std.specs.Prelude.{◌≡◌, false};
+ghost use Rattle.std.specs.Prelude.{◌≡◌, IfOk, false};
 ghost use Rattle.clap.specs.Words.{app_of};
 ghost use Rattle.clap.specs.declared.builder.command.Command.TheViews.{out-Command as fields_of};
 ghost use Rattle.snap_words.specs.CommandLine.{explain_app};
 
+use crate::file_argument::file_argument;
 use clap::Command;
-use std::alloc::Global;
+use std::alloc::{AllocError, Global};
 
 const ABOUT: &str =
-    "Reads a history from standard input and writes to standard output what its faults are, call by call";
+    "Reads a history from a file or standard input and writes to standard output what its faults are, call by call";
 
 const EXAMPLE: &str = "\
 Of a history that is not atomic the first fault of each kind is told in a sentence, and behind
@@ -39,14 +40,15 @@ Exit status:
     1  it is regular, and not atomic
     2  it is not regular
     3  the text is no history: the first line names the record and its fault
-    4  reading, writing or memory failed
+    4  reading, writing or memory failed, or the file can't be opened
     5  the words of the command line were not taken";
 
-/// The command `explain`, which has no options.
-pub fn explain_command<'a>(alloc: Global) -> Command<'a>
-    ensures { (app_of result ≡ explain_app) × ((fields_of result).has_globals ≡ false) }
+/// The command `explain` with its file.
+pub fn explain_command<'a>(alloc: Global) -> Result<Command<'a>, AllocError>
+    ensures { IfOk result (λ command. (app_of command ≡ explain_app) × ((fields_of command).has_globals ≡ false)) }
 {
     Command::new(alloc, "explain")
         .about(ABOUT)
         .after_help(EXAMPLE)
+        .arg(file_argument(alloc))
 }

@@ -1,7 +1,7 @@
 //! What the words of a command line ask for.
 ghost use Rattle.std.specs.Prelude.{◌≡◌, ◌<◌, ◌^◌, ◌∷◌, [], ℕ, Bool, List, Some, None, true, false, codes, decimal, IfOk, IfSome, IsSomeAnd, MatchResult, map, string_bytes};
-ghost use Rattle.clap.specs.Words.{Row, found_of, kind_of, one_of, rows_of, subcommand_rows_of};
-ghost use Rattle.snap_words.specs.Jobs.{AsksCheck, AsksRecord, Flags, Options, IsCheck, IsCheckWith, IsExplain, IsInRange, IsRecord, IsShrink, flag_text, no_flags, no_options};
+ghost use Rattle.clap.specs.Words.{Row, Text, found_of, kind_of, one_of, rows_of, subcommand_rows_of};
+ghost use Rattle.snap_words.specs.Jobs.{AsksCheck, AsksRecord, Flags, Options, IsCheck, IsCheckWith, IsExplain, IsInRange, IsOn, IsRecord, IsShrink, files_of, flag_text, no_flags, no_options};
 
 use crate::command::{VIEW_LIMIT, program};
 use clap::error::ErrorKind;
@@ -13,16 +13,16 @@ use std::alloc::{AllocError, Global};
 /// What the program is asked to do.
 #[derive(Clone, Copy)]
 pub enum Job {
-    /// Judge the history on standard input: of its report only the lines of the verdicts where that is asked for, and of at
+    /// Judge a history: of its report only the lines of the verdicts where that is asked for, and of at
     /// least so many completed views.
     Check {
         cutting: Cutting,
         quiet: bool,
         views: u32,
     },
-    /// Cut the history on standard input down to a witness.
+    /// Cut a history down to a witness.
     Shrink,
-    /// Explain the history on standard input.
+    /// Explain a history.
     Explain,
     /// Record so many workers in so many rounds of a store and a view, or a scan in place of the view, and judge the
     /// history where that is asked for, or write it with the stamps of its events; not both.
@@ -33,6 +33,13 @@ pub enum Job {
         scan: bool,
         stamped: bool,
     },
+}
+
+/// A job, and the files that it is to be done on: standard input, where there is none.
+#[derive(Drop)]
+pub struct Asked {
+    pub job: Job,
+    pub files: Vec<String>,
 }
 
 /// Why the words name no job.
@@ -137,6 +144,37 @@ fn job_in(matches: &ArgMatches<'_>) -> Option<Job>
     }
 }
 
+// A copy of each of some texts.
+fn copies_of(alloc: Global, names: &[&str]) -> Result<Vec<String>, AllocError>
+    ensures { IfOk result (λ copies. map string_bytes copies.items ≡ map (λ name. name.now) names.now) }
+{
+    let mut copies = Vec::new(alloc);
+    for name in names {
+        copies.push(String::from_str(alloc, name)?)?;
+    }
+    Ok(copies)
+}
+
+// The files that a command names.
+fn files_in(alloc: Global, matches: &ArgMatches<'_>) -> Result<Vec<String>, AllocError>
+    ensures { IfOk result (λ files. map string_bytes files.items ≡ files_of (rows_of (found_of matches.now))) }
+{
+    match matches.get_strs("file") {
+        Some(names) => copies_of(alloc, names),
+        None => Ok(Vec::new(alloc)),
+    }
+}
+
+// The files that the command behind the program's name has.
+fn files_named(alloc: Global, matches: &ArgMatches<'_>) -> Result<Vec<String>, AllocError>
+    ensures { (command : Text) (rows : List Row) → subcommand_rows_of matches.now ≡ Some (command, rows) → IfOk result (λ files. map string_bytes files.items ≡ files_of rows) }
+{
+    match matches.subcommand() {
+        Some((_, inner)) => files_in(alloc, inner),
+        None => Ok(Vec::new(alloc)),
+    }
+}
+
 fn fault_of(alloc: Global, error: &Error) -> JobFault
     ensures { kind_of error.now ≡ ErrorKind.OutOfMemory → result ≡ JobFault.Memory }
 {
@@ -149,34 +187,39 @@ fn fault_of(alloc: Global, error: &Error) -> JobFault
     }
 }
 
-/// The job that the words of a command line ask for, the program's name first.
-pub fn job_of(alloc: Global, words: Vec<String>) -> Result<Job, JobFault>
-    ensures job { IfOk result IsInRange }
+/// The job that the words of a command line ask for, and its files; the program's name comes first.
+pub fn job_of(alloc: Global, words: Vec<String>) -> Result<Asked, JobFault>
+    ensures job { IfOk result (λ asked. IsInRange asked.job) }
     ensures check_alone { (name : List ℕ) → map string_bytes words.items ≡ name ∷ codes "check" ∷ []
-        → MatchResult result (IsCheck 8 2) (λ fault. fault ≡ JobFault.Memory) }
+        → MatchResult result (IsOn [] (IsCheck 8 2)) (λ fault. fault ≡ JobFault.Memory) }
     ensures check_quiet { (name : List ℕ) → map string_bytes words.items ≡ name ∷ codes "check" ∷ codes "--quiet" ∷ []
-        → MatchResult result (IsCheckWith 8 2 (record no_options { quiet = true })) (λ fault. fault ≡ JobFault.Memory) }
+        → MatchResult result (IsOn [] (IsCheckWith 8 2 (record no_options { quiet = true }))) (λ fault. fault ≡ JobFault.Memory) }
     ensures check_views { (name : List ℕ) → map string_bytes words.items ≡ name ∷ codes "check" ∷ codes "--views" ∷ codes "5" ∷ []
-        → MatchResult result (IsCheckWith 8 2 (record no_options { views = 5 })) (λ fault. fault ≡ JobFault.Memory) }
+        → MatchResult result (IsOn [] (IsCheckWith 8 2 (record no_options { views = 5 }))) (λ fault. fault ≡ JobFault.Memory) }
+    ensures check_files { (name : List ℕ) → map string_bytes words.items ≡ name ∷ codes "check" ∷ codes "a.csv" ∷ codes "-" ∷ []
+        → MatchResult result (IsOn (codes "a.csv" ∷ codes "-" ∷ []) (IsCheck 8 2)) (λ fault. fault ≡ JobFault.Memory) }
     ensures shrink_alone { (name : List ℕ) → map string_bytes words.items ≡ name ∷ codes "shrink" ∷ []
-        → MatchResult result IsShrink (λ fault. fault ≡ JobFault.Memory) }
+        → MatchResult result (IsOn [] IsShrink) (λ fault. fault ≡ JobFault.Memory) }
     ensures explain_alone { (name : List ℕ) → map string_bytes words.items ≡ name ∷ codes "explain" ∷ []
-        → MatchResult result IsExplain (λ fault. fault ≡ JobFault.Memory) }
+        → MatchResult result (IsOn [] IsExplain) (λ fault. fault ≡ JobFault.Memory) }
     ensures record_alone { (name : List ℕ) → map string_bytes words.items ≡ name ∷ codes "record" ∷ []
-        → MatchResult result (IsRecord 2 16 no_flags) (λ fault. fault ≡ JobFault.Memory) }
+        → MatchResult result (IsOn [] (IsRecord 2 16 no_flags)) (λ fault. fault ≡ JobFault.Memory) }
     ensures record_judged { (name : List ℕ)
         → map string_bytes words.items ≡ name ∷ codes "record" ∷ codes "--rounds" ∷ codes "5" ∷ codes "--judge" ∷ []
-        → MatchResult result (IsRecord 2 5 (record no_flags { judge = true })) (λ fault. fault ≡ JobFault.Memory) }
+        → MatchResult result (IsOn [] (IsRecord 2 5 (record no_flags { judge = true }))) (λ fault. fault ≡ JobFault.Memory) }
     ensures record_scanned { (name : List ℕ) → map string_bytes words.items ≡ name ∷ codes "record" ∷ codes "--scan" ∷ []
-        → MatchResult result (IsRecord 2 16 (record no_flags { scan = true })) (λ fault. fault ≡ JobFault.Memory) }
+        → MatchResult result (IsOn [] (IsRecord 2 16 (record no_flags { scan = true }))) (λ fault. fault ≡ JobFault.Memory) }
     ensures record_stamped { (name : List ℕ) → map string_bytes words.items ≡ name ∷ codes "record" ∷ codes "--stamped" ∷ []
-        → MatchResult result (IsRecord 2 16 (record no_flags { stamped = true })) (λ fault. fault ≡ JobFault.Memory) }
+        → MatchResult result (IsOn [] (IsRecord 2 16 (record no_flags { stamped = true }))) (λ fault. fault ≡ JobFault.Memory) }
 {
     let command = program(alloc)?;
     match command.try_get_matches_from(words.as_slice()) {
         Err(error) => Err(fault_of(alloc, &error)),
         Ok(matches) => match job_in(&matches) {
-            Some(job) => Ok(job),
+            Some(job) => Ok(Asked {
+                job,
+                files: files_named(alloc, &matches)?,
+            }),
             // The parser tests each number by itself, but not two numbers or two flags beside one another.
             None => Err(JobFault::Usage(String::from_str(
                 alloc,

@@ -3,8 +3,9 @@
 
 mod command;
 mod explain_command;
+mod file_argument;
 mod job;
 mod record_command;
 mod shrink_command;
 
-pub use job::{Job, JobFault, job_of};
+pub use job::{Asked, Job, JobFault, job_of};

@@ -1,14 +1,15 @@
 //! The words of `shrink`, and its help.
-ghost use Rattle.std.specs.Prelude.{◌≡◌, false};
+ghost use Rattle.std.specs.Prelude.{◌≡◌, IfOk, false};
 ghost use Rattle.clap.specs.Words.{app_of};
 ghost use Rattle.clap.specs.declared.builder.command.Command.TheViews.{out-Command as fields_of};
 ghost use Rattle.snap_words.specs.CommandLine.{shrink_app};
 
+use crate::file_argument::file_argument;
 use clap::Command;
-use std::alloc::Global;
+use std::alloc::{AllocError, Global};
 
 const ABOUT: &str =
-    "Reads a history from standard input and writes a witness of its first fault to standard output";
+    "Reads a history from a file or standard input and writes a witness of its first fault to standard output";
 
 const EXAMPLE: &str = "\
 A witness is a history of at most four calls of the one that was read, with the same fault.
@@ -44,14 +45,15 @@ Exit status, of the history that was read:
     1  it is regular, and not atomic
     2  it is not regular
     3  the text is no history: the one line that is written names the record and its fault
-    4  reading, writing or memory failed
+    4  reading, writing or memory failed, or the file can't be opened
     5  the words of the command line were not taken";
 
-/// The command `shrink`, which has no options.
-pub fn shrink_command<'a>(alloc: Global) -> Command<'a>
-    ensures { (app_of result ≡ shrink_app) × ((fields_of result).has_globals ≡ false) }
+/// The command `shrink` with its file.
+pub fn shrink_command<'a>(alloc: Global) -> Result<Command<'a>, AllocError>
+    ensures { IfOk result (λ command. (app_of command ≡ shrink_app) × ((fields_of command).has_globals ≡ false)) }
 {
     Command::new(alloc, "shrink")
         .about(ABOUT)
         .after_help(EXAMPLE)
+        .arg(file_argument(alloc))
 }

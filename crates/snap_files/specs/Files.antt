@@ -1,0 +1,104 @@
+-- What a check of several named texts answers, writes and says.
+use Rattle.std.specs.Prelude.{◌≡◌, ◌≤◌, ◌<◌, ◌-◌, ◌^◌, ◌++◌, ◌⊎◌, ℕ, max, List, [], ◌∷◌, length, take, Option, Some, None, Result, Ok, Err, IfSome, codes, decimal, flat_map, String, string_bytes}
+use Rattle.std.specs.Global.{Global}
+use Rattle.std.specs.List.{AllZip}
+use Rattle.std.specs.Io.KnownBytes.{Appends}
+use Rattle.snap_core.specs.Sending.{SendsFront}
+use Rattle.snap_runs.specs.declared.check_with.CheckOptions.{CheckOptions}
+use Rattle.snap_runs.specs.Options.{IsReportWith}
+use Rattle.snap_verdict.specs.declared.status.Status.{Status}
+use Rattle.snap_verdict.specs.Statuses.{code_of}
+use Rattle.snap_files.specs.Names.{named_lines, shown}
+use Rattle.snap_files.specs.declared.opener.Trouble.{Trouble}
+use Rattle.snap_files.specs.declared.opener.Trouble.TheVariants.{Missing, Folder, Unopened, Unread, Memory}
+
+-- what became of a name: its status, none where its history has fewer views than are asked for, or why it has none
+abbrev pub Answer : Type 0
+Answer = Result (Option Status) Trouble
+
+-- the report of a text, each line with the name before it
+abbrev pub IsNamedReport : CheckOptions → List ℕ → List ℕ → Option Status → List ℕ → Type 0
+IsNamedReport options name text status out = (report : List ℕ) × IsReportWith options text status report × (out ≡ named_lines name report)
+
+-- what a name may be opened as: a text, of which the bytes are known or not, or a trouble
+abbrev pub Opens : Type 1
+Opens = List ℕ → Result (Option (List ℕ)) Trouble → Type 0
+
+-- why a name has no status: it was not opened, or it was, and reading or memory failed
+abbrev pub IsTroubled : Opens → List ℕ → Trouble → Type 0
+IsTroubled opens name trouble = opens name (Err trouble) ⊎ ((known : Option (List ℕ)) × opens name (Ok known) × ((trouble ≡ Unread) ⊎ (trouble ≡ Memory)))
+
+-- what is answered and written of a name: the named report of the text that was opened, and nothing where there is a trouble
+abbrev pub IsPage : Opens → CheckOptions → List ℕ → Answer → List ℕ → Type 0
+IsPage opens options name (Ok status) out = (known : Option (List ℕ)) × opens name (Ok known) × IfSome known (λ text. IsNamedReport options name text status out)
+IsPage opens options name (Err trouble) out = IsTroubled opens name trouble × (out ≡ [])
+
+-- the exit status of a name
+abbrev pub answer_code : Answer → ℕ
+answer_code (Ok (Some status)) = code_of status
+answer_code (Ok None) = 3
+answer_code (Err trouble) = 4
+
+-- a trouble in words
+abbrev pub trouble_text : Trouble → List ℕ
+trouble_text Missing = codes "no such file"
+trouble_text Folder = codes "is a directory"
+trouble_text Unopened = codes "can't be opened"
+trouble_text Unread = codes "read failed"
+trouble_text Memory = codes "out of memory"
+
+-- what is said of a name with a trouble, and of one whose history has fewer views than are asked for
+abbrev pub trouble_line_text : List ℕ → Trouble → List ℕ
+trouble_line_text name trouble = codes "snapjudge: " ++ shown name ++ codes ": " ++ trouble_text trouble ++ codes "\n"
+
+abbrev pub refusal_line_text : CheckOptions → List ℕ → List ℕ
+refusal_line_text options name = shown name ++ codes ": refused: fewer than " ++ decimal options.views ++ codes " views\n"
+
+-- what is said of a name on the error output
+abbrev pub told_text : CheckOptions → List ℕ → Answer → List ℕ
+told_text options name (Ok (Some status)) = []
+told_text options name (Ok None) = refusal_line_text options name
+told_text options name (Err trouble) = trouble_line_text name trouble
+
+-- a text went out whole, or the count of failures rose, or stands at its last value
+abbrev pub Told : Option (List ℕ) → Option (List ℕ) → ℕ → ℕ → List ℕ → Type 0
+Told old new failures_old failures_new text =
+    (Appends old new text × (failures_new ≡ failures_old)) ⊎ (failures_old < failures_new) ⊎ (2 ^ 64 - 1 ≤ failures_new)
+
+-- a name with what became of it
+pub record Page : Type 0 where
+  pub name : List ℕ
+  pub answer : Answer
+  pub out : List ℕ
+
+-- the pages of some names, in the order of the names, each name once
+abbrev pub ArePages : Opens → CheckOptions → List (String Global) → List Page → Type 0
+ArePages opens options names pages = AllZip (λ name page. (page.name ≡ string_bytes name) × IsPage opens options page.name page.answer page.out) names pages
+
+-- what is written of some pages, and said of them
+abbrev pub written : List Page → List ℕ
+written pages = flat_map (λ page. page.out) pages
+
+abbrev pub said : CheckOptions → List Page → List ℕ
+said options pages = flat_map (λ page. told_text options page.name page.answer) pages
+
+-- the greatest exit status of some pages
+abbrev pub greatest_code : List Page → ℕ
+greatest_code [] = 0
+greatest_code (page ∷ pages) = max (answer_code page.answer) (greatest_code pages)
+
+-- the names were all checked: the greatest status, what was written, and what was said
+pub record ChecksAll (opens : Opens) (options : CheckOptions) (names : List (String Global)) (old new : Option (List ℕ)) (told_old told_new : Option (List ℕ)) (failures_old failures_new : ℕ) (code : ℕ) : Type 0 where
+  pub pages : List Page
+  pub each : ArePages opens options names pages
+  pub greatest : code ≡ greatest_code pages
+  pub wrote : Appends old new (written pages)
+  pub told : Told told_old told_new failures_old failures_new (said options pages)
+
+-- of some of the names, the first ones, a front went out of what is written of them
+pub record ChecksSome (opens : Opens) (options : CheckOptions) (names : List (String Global)) (old new : Option (List ℕ)) : Type 0 where
+  pub count : ℕ
+  pub within : count ≤ length names
+  pub pages : List Page
+  pub each : ArePages opens options (take count names) pages
+  pub wrote : SendsFront old new (written pages)

@@ -1,0 +1,33 @@
+ghost use Rattle.std.specs.Prelude.{ℕ, List, Option, Result, Ok, Err, MatchResult};
+
+use std::io::Read;
+
+/// Why a name has no status.
+#[derive(Clone, Copy, Debug, PartialEq, Eq)]
+pub enum Trouble {
+    /// There is no such file.
+    Missing,
+    /// It is a directory.
+    Folder,
+    /// It can't be opened, for another reason.
+    Unopened,
+    /// A read failed.
+    Unread,
+    /// Memory ran out.
+    Memory,
+}
+
+/// What opens a text by its name.
+pub trait Opener {
+    ghost use Rattle.snap_files.specs.declared.opener.Trouble.{Trouble};
+
+    /// The text, as a reader.
+    type Text: Read + Drop;
+
+    /// What a name may be opened as: a text, of which the bytes are known or not, or a trouble.
+    ghost opens: { Self → List ℕ → Result (Option (List ℕ)) Trouble → Type 0 };
+
+    /// Opens the text of a name.
+    fn open(&self, name: &str) -> Result<Self::Text, Trouble>
+        ensures { MatchResult result (λ text. opens self.now name.now (Ok (Self.Text.remaining text))) (λ trouble. opens self.now name.now (Err trouble)) };
+}

@@ -1,0 +1,149 @@
+//! What is answered, written and said of one name.
+ghost use Rattle.std.specs.Prelude.{◌≡◌, ◌++◌, ◌⊎◌, IfOk, IfSome, MatchResult, Ok};
+ghost use Rattle.snap_files.specs.Files.{IsNamedReport, IsPage, answer_code, refusal_line_text, told_text, trouble_line_text, trouble_text};
+ghost use Rattle.snap_files.specs.Names.{named_lines};
+ghost use Rattle.snap_files.specs.declared.opener.Trouble.TheVariants as troubles;
+
+use crate::name::{front_lines, put_shown};
+use crate::opener::{Opener, Trouble};
+use snap_core::{Counted, Gate};
+use snap_report::put_number;
+use snap_runs::{CheckOptions, RunFault, check_run_asked};
+use snap_threads::Cutting;
+use snap_verdict::Status;
+use std::alloc::{AllocError, Global};
+use std::io::Read;
+use std::thread::Threads;
+
+/// The status of a name, none where its history has fewer completed views than are asked for, or why it has none.
+pub(crate) type Answer = Result<Option<Status>, Trouble>;
+
+/// The exit status of a name.
+pub(crate) fn code_of(answer: &Answer) -> u8
+    ensures { result ≡ answer_code answer.now }
+{
+    match answer {
+        Ok(Some(status)) => status.code(),
+        Ok(None) => Status::Refused.code(),
+        Err(_) => 4,
+    }
+}
+
+// A text with the name before each of its lines.
+fn name_lines(alloc: Global, name: &str, text: &[u8]) -> Result<Vec<u8>, AllocError>
+    ensures { IfOk result (λ lines. lines.items ≡ named_lines name.now text.now) }
+{
+    let mut front = Vec::new(alloc);
+    put_shown(&mut front, name)?;
+    front.extend_from_slice(b": ")?;
+    front_lines(alloc, &front, text)
+}
+
+// Why a text that was opened has no status.
+fn trouble_of(fault: RunFault) -> Trouble
+    ensures { (result ≡ troubles.Unread) ⊎ (result ≡ troubles.Memory) }
+{
+    match fault {
+        RunFault::Read => Trouble::Unread,
+        // the report is written into memory
+        RunFault::Write | RunFault::Memory => Trouble::Memory,
+    }
+}
+
+// The status and the report of a text, each line with the name before it.
+fn named_report<Rt: Threads + Sync, R: Read + Drop, G: Gate>(
+    rt: &Rt,
+    alloc: Global,
+    name: &str,
+    text: R,
+    cutting: Cutting,
+    gate: &G,
+    options: CheckOptions,
+) -> Result<(Option<Status>, Vec<u8>), RunFault>
+    ensures { IfOk result (λ page. IfSome (R.remaining text) (λ bytes. IsNamedReport options name.now bytes page.0 page.1.items)) }
+{
+    let mut reader = Counted::new(text);
+    let mut writer = Counted::new(Vec::new(alloc));
+    let status = check_run_asked(rt, alloc, &mut reader, &mut writer, cutting, gate, options)?;
+    let report = writer.into_inner();
+    let lines = name_lines(alloc, name, &report)?;
+    Ok((status, lines))
+}
+
+/// What is answered of a name, and what is written of it.
+pub(crate) fn check_name<Rt: Threads + Sync, O: Opener, G: Gate>(
+    rt: &Rt,
+    alloc: Global,
+    opener: &O,
+    name: &str,
+    cutting: Cutting,
+    gate: &G,
+    options: CheckOptions,
+) -> (Answer, Vec<u8>)
+    ensures { IsPage (O.opens opener.now) options name.now result.0 result.1.items }
+{
+    match opener.open(name) {
+        Ok(text) => match named_report(rt, alloc, name, text, cutting, gate, options) {
+            Ok((status, lines)) => (Ok(status), lines),
+            Err(fault) => (Err(trouble_of(fault)), Vec::new(alloc)),
+        },
+        Err(trouble) => (Err(trouble), Vec::new(alloc)),
+    }
+}
+
+// A trouble in words.
+fn text_of(trouble: Trouble) -> &'static [u8]
+    ensures { result.now ≡ trouble_text trouble }
+{
+    match trouble {
+        Trouble::Missing => b"no such file",
+        Trouble::Folder => b"is a directory",
+        Trouble::Unopened => b"can't be opened",
+        Trouble::Unread => b"read failed",
+        Trouble::Memory => b"out of memory",
+    }
+}
+
+/// What is said of a name on the error output where there is a trouble.
+pub fn trouble_line(alloc: Global, name: &str, trouble: Trouble) -> Result<Vec<u8>, AllocError>
+    ensures { IfOk result (λ line. line.items ≡ trouble_line_text name.now trouble) }
+{
+    let mut line = Vec::new(alloc);
+    line.extend_from_slice(b"snapjudge: ")?;
+    put_shown(&mut line, name)?;
+    line.extend_from_slice(b": ")?;
+    line.extend_from_slice(text_of(trouble))?;
+    line.push(b'\n')?;
+    Ok(line)
+}
+
+// What is said of a name whose history has fewer completed views than are asked for.
+fn refusal_line(alloc: Global, name: &str, options: CheckOptions) -> Result<Vec<u8>, AllocError>
+    ensures { IfOk result (λ line. line.items ≡ refusal_line_text options name.now) }
+{
+    let mut line = Vec::new(alloc);
+    put_shown(&mut line, name)?;
+    put_number(
+        &mut line,
+        b": refused: fewer than ",
+        u64::from(options.views),
+    )?;
+    line.extend_from_slice(b" views\n")?;
+    Ok(line)
+}
+
+/// What is said of a name on the error output.
+pub(crate) fn told_of(
+    alloc: Global,
+    name: &str,
+    options: CheckOptions,
+    answer: &Answer,
+) -> Result<Vec<u8>, AllocError>
+    ensures { IfOk result (λ line. line.items ≡ told_text options name.now answer.now) }
+{
+    match answer {
+        Ok(Some(_)) => Ok(Vec::new(alloc)),
+        Ok(None) => refusal_line(alloc, name, options),
+        Err(trouble) => trouble_line(alloc, name, *trouble),
+    }
+}

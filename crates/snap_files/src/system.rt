@@ -1,0 +1,65 @@
+//! The files of the system, and standard input. No contract says what they hold.
+ghost use Rattle.std.specs.Prelude.{⊤};
+
+use crate::opener::{Opener, Trouble};
+use std::fs::{self, OpenFile};
+use std::io;
+use std::io::{ErrorKind, Read};
+use std::rt::{Files, Stdin};
+
+/// A file, or standard input.
+#[derive(Drop)]
+pub enum SystemText<F> {
+    /// A file.
+    File(F),
+    /// Standard input.
+    Input(Stdin),
+}
+
+impl<F: Read> Read for SystemText<F> {
+    fn read(&mut self, buf: &mut [u8]) -> io::Result<usize> {
+        match self {
+            SystemText::File(file) => file.read(buf),
+            SystemText::Input(input) => input.read(buf),
+        }
+    }
+}
+
+/// What opens files by their names; `-` is standard input.
+#[derive(Drop)]
+pub struct System<'a, R> {
+    /// The files.
+    pub files: &'a R,
+    /// Standard input.
+    pub input: Stdin,
+}
+
+// Why a file is not opened.
+fn trouble_of(error: &io::Error) -> Trouble {
+    match error.kind() {
+        ErrorKind::NotFound | ErrorKind::NotADirectory => Trouble::Missing,
+        ErrorKind::IsADirectory => Trouble::Folder,
+        ErrorKind::OutOfMemory => Trouble::Memory,
+        _ => Trouble::Unopened,
+    }
+}
+
+impl<R: Files> Opener for System<'_, R> {
+    type Text = SystemText<R::File>;
+
+    ghost opens = { λ _ _ _. ⊤ };
+
+    fn open(&self, name: &str) -> Result<SystemText<R::File>, Trouble> {
+        if name == "-" {
+            return Ok(SystemText::Input(self.input));
+        }
+        let file = match fs::open(self.files, name) {
+            Ok(file) => file,
+            Err(error) => return Err(trouble_of(&error)),
+        };
+        match file.metadata() {
+            Ok(metadata) if metadata.is_dir() => Err(Trouble::Folder),
+            _ => Ok(SystemText::File(file)),
+        }
+    }
+}

@@ -1,0 +1,150 @@
+//! Checks of several named texts from memory.
+ghost use Rattle.std.specs.Prelude.{⊤};
+
+use super::checks::same;
+use snap_core::{Counted, OpenGate};
+use snap_files::{Opener, Trouble, check_all};
+use snap_runs::{CheckOptions, RunFault};
+use snap_testing::{Cup, Drip};
+use snap_threads::Cutting;
+use std::alloc::{AllocError, Global};
+use std::io::Write;
+use std::test::Fail;
+use std::thread::Threads;
+
+const STALE: &str = "\
+event,process,op,data
+begin,0,update,0:1:7
+end,0,update,
+begin,1,view,
+end,1,view,
+";
+
+const INVERSION: &str = "\
+event,process,op,data
+begin,0,update,0:1:7
+begin,1,view,
+end,1,view,0:1:7
+begin,2,view,
+end,2,view,
+end,0,update,
+";
+
+const BUSY: &str = "event,process,op,data\nbegin,0,view,\nbegin,0,view,\n";
+
+// Opens texts that are kept here: of `broken` the third read fails, and `locked` is not opened.
+struct Shelf;
+
+impl Opener for Shelf {
+    type Text = Drip<'static>;
+
+    ghost opens = { λ _ _ _. ⊤ };
+
+    fn open(&self, name: &str) -> Result<Drip<'static>, Trouble> {
+        match name {
+            "stale" => Ok(Drip::new(STALE.as_bytes(), 0)),
+            "inversion" | "in\nver\\sion" => Ok(Drip::new(INVERSION.as_bytes(), 0)),
+            "busy" => Ok(Drip::new(BUSY.as_bytes(), 0)),
+            "broken" => Ok(Drip::new(STALE.as_bytes(), 3)),
+            "locked" => Err(Trouble::Unopened),
+            "folder" => Err(Trouble::Folder),
+            _ => Err(Trouble::Missing),
+        }
+    }
+}
+
+fn names_of(alloc: Global, list: &[&str]) -> Result<Vec<String>, AllocError> {
+    let mut names = Vec::new(alloc);
+    for name in list {
+        names.push(String::from_str(alloc, name)?)?;
+    }
+    Ok(names)
+}
+
+// How a check of these names ends, and what the error output then has.
+fn check<Rt: Threads + Sync, W: Write>(
+    rt: &Rt,
+    alloc: Global,
+    list: &[&str],
+    writer: &mut Counted<W>,
+    views: u32,
+) -> Result<(Result<u8, RunFault>, Vec<u8>), Fail> {
+    let names = names_of(alloc, list)?;
+    let mut errors = Counted::new(Vec::new(alloc));
+    let options = CheckOptions { quiet: true, views };
+    let answer = check_all(
+        rt,
+        alloc,
+        &Shelf,
+        names.as_slice(),
+        writer,
+        &mut errors,
+        Cutting::usual(),
+        &OpenGate,
+        options,
+    );
+    Ok((answer, errors.into_inner()))
+}
+
+// Some names, how many views are asked for, the status, what is written, and what is said.
+const CHECKS: &[(&[&str], u32, u8, &str, &str)] = &[
+    (&[], 0, 0, "", ""),
+    (
+        &["stale", "inversion"],
+        0,
+        2,
+        "stale: regular no\nstale: monotone yes\nstale: atomic no\n\
+         inversion: regular yes\ninversion: monotone no\ninversion: atomic no\n",
+        "",
+    ),
+    (
+        &["inversion", "none", "busy", "locked", "broken", "folder"],
+        0,
+        4,
+        "inversion: regular yes\ninversion: monotone no\ninversion: atomic no\n\
+         busy: refused record 3: busy\n",
+        "snapjudge: none: no such file\nsnapjudge: locked: can't be opened\n\
+         snapjudge: broken: read failed\nsnapjudge: folder: is a directory\n",
+    ),
+    (
+        &["in\nver\\sion"],
+        0,
+        1,
+        "in\\nver\\\\sion: regular yes\nin\\nver\\\\sion: monotone no\nin\\nver\\\\sion: atomic no\n",
+        "",
+    ),
+    (
+        &["stale", "inversion"],
+        2,
+        3,
+        "inversion: regular yes\ninversion: monotone no\ninversion: atomic no\n",
+        "stale: refused: fewer than 2 views\n",
+    ),
+];
+
+#[test]
+fn reports_stand_in_the_order_of_the_names(rt: HostRuntime) -> Result<(), Fail> {
+    for (list, views, status, written, said) in CHECKS {
+        let mut writer = Counted::new(Vec::new(rt.alloc()));
+        let (answer, told) = check(&rt, rt.alloc(), list, &mut writer, *views)?;
+        same(answer.ok(), Some(*status))?;
+        same(str::from_utf8(&writer.into_inner())?, *written)?;
+        same(str::from_utf8(&told)?, *said)?;
+    }
+    Ok(())
+}
+
+#[test]
+fn a_full_writer_ends_the_check(rt: HostRuntime) -> Result<(), Fail> {
+    let alloc = rt.alloc();
+    let mut writer = Counted::new(Cup::new(alloc, 20, 100, true, false));
+    let (answer, _) = check(&rt, alloc, &["stale", "none"], &mut writer, 0)?;
+    match answer {
+        Err(RunFault::Write) => {}
+        _ => return Err(Fail::from("the check went on")),
+    }
+    same(
+        str::from_utf8(&writer.into_inner().held)?,
+        "stale: regular no\nst",
+    )
+}
