@@ -72,11 +72,11 @@ abbrev pub AnswersWhole : List ℕ → Result (List Event) ReadRefusal → Type 
 AnswersWhole text (Ok h) = IsText text h
 AnswersWhole text (Err e) = RefusesWhole text e
 
--- the failures that an answer may come with: the device where the count rose, and no answer but that and memory then
+-- the count before and after: it rose exactly where the device failed, or stands at its last value
 abbrev pub RefusalCounts : ℕ → ℕ → ReadRefusal → Type 0
 RefusalCounts old new (refusals.Text place f) = new ≡ old
 RefusalCounts old new refusals.Device = Rose old new
-RefusalCounts old new refusals.Memory = Unit {0}
+RefusalCounts old new refusals.Memory = new ≡ old
 
 abbrev pub Counts : {A : Type 0} → ℕ → ℕ → Result A ReadRefusal → Type 0
 Counts old new (Ok x) = new ≡ old

@@ -153,8 +153,8 @@ fn history_of(alloc: Global, text: &[u8], plain: bool) -> Result<History, ReadRe
 /// history of the text exactly where the text has no fault, else the first fault with the place of its record, counted
 /// from 1, or place 0 for a text that is too long. `Device` is the answer at the first read that fails, of whatever
 /// kind: it is not tried again, and the reader's count of failures rose, or stands at `u64::MAX`. `Memory` is answered where
-/// memory ran out, and then no contract tells the count. With a history or a fault of the text the count is as before. After
-/// an error a part of the text is taken from the reader.
+/// memory ran out. With every answer but `Device` the count is as before. After an error a part of the text is taken from the
+/// reader.
 pub fn read_history<R: Read>(alloc: Global, reader: &mut Counted<R>) -> Result<History, ReadRefusal>
     ensures text { IfSome (R.remaining (inner_of reader.old)) (λ text. AnswersText text result) }
     ensures counts { Counts (failures_in reader.old) (failures_in reader.new) result }

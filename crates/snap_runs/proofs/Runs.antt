@@ -54,7 +54,7 @@ not_sent Is known held old new faults.Memory h = keeps_itself held
 pub not_sent_counts : (old new writer : ℕ) (fault : RunFault) → JudgeFaultCounts old new fault → FaultCounts old new writer writer fault
 not_sent_counts old new writer faults.Read h = (h, refl)
 not_sent_counts old new writer faults.Write h = absurd h
-not_sent_counts old new writer faults.Memory h = refl
+not_sent_counts old new writer faults.Memory h = (h, refl)
 
 pub sent : {A : Type 0} (Is : List ℕ → A → List ℕ → Type 0) (known held new : Option (List ℕ)) (answer : A) (out : List ℕ) → IfSome known (λ text. Is text answer out) → Appends held new out → IfSome known (λ text. WroteWhole (Is text) held new answer)
 sent Is None held new answer out h a = tt

@@ -42,7 +42,7 @@ Wrote = WroteBy IsReport
 abbrev pub FaultCounts : ℕ → ℕ → ℕ → ℕ → RunFault → Type 0
 FaultCounts reader_old reader_new writer_old writer_new faults.Read = Rose reader_old reader_new × (writer_new ≡ writer_old)
 FaultCounts reader_old reader_new writer_old writer_new faults.Write = (reader_new ≡ reader_old) × Rose writer_old writer_new
-FaultCounts reader_old reader_new writer_old writer_new faults.Memory = writer_new ≡ writer_old
+FaultCounts reader_old reader_new writer_old writer_new faults.Memory = (reader_new ≡ reader_old) × (writer_new ≡ writer_old)
 
 -- the counts of failures of the reader and the writer before and after a run
 abbrev pub RunCounts : {A : Type 0} → ℕ → ℕ → ℕ → ℕ → Result A RunFault → Type 0
@@ -61,7 +61,7 @@ Judges = JudgesBy IsReport
 abbrev pub JudgeFaultCounts : ℕ → ℕ → RunFault → Type 0
 JudgeFaultCounts old new faults.Read = Rose old new
 JudgeFaultCounts old new faults.Write = ⊥
-JudgeFaultCounts old new faults.Memory = Unit {0}
+JudgeFaultCounts old new faults.Memory = new ≡ old
 
 abbrev pub JudgeCounts : {A : Type 0} → ℕ → ℕ → Result A RunFault → Type 0
 JudgeCounts old new (Ok answer) = new ≡ old
