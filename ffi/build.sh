@@ -10,6 +10,16 @@ if [ "${1-}" = --built ]; then
   begun=$(realpath "$2")
   shift 2
 fi
+case $# in
+  0 | 1) ;;
+  *) set -- - ;;
+esac
+case ${1-} in
+  -*)
+    sed -n 's/^# usage: /usage: /p' "$0" >&2
+    exit 5
+    ;;
+esac
 out=${1:-$top/ffi/build}
 kit=$(dirname "$(dirname "$(readlink -f "$(command -v rt)")")")
 mkdir -p "$out"

@@ -286,11 +286,15 @@ def words_of_command():
         return set(numbers)
 
     parser = Parser(description="Puts the logs of several processes together as one history.")
-    parser.add_argument("--error", metavar="NS", type=count, default=0)
-    parser.add_argument("--initial", metavar="VALUE[,VALUE..]", type=lambda word: word.split(","), default=["0"])
-    parser.add_argument("--part", metavar="K[,K..]", type=components)
-    parser.add_argument("--table", metavar="FILE")
-    parser.add_argument("logs", metavar="LOG", nargs="+")
+    def option(name, form, told, **rest):
+        parser.add_argument(name, metavar=form, help=told, **rest)
+
+    option("--error", "NS", "how far the clock of a host may be from the true time, in nanoseconds", type=count, default=0)
+    told = "the value that each component has at first, else 0; or those of components 0, 1 and so on"
+    option("--initial", "VALUE[,VALUE..]", told, type=lambda word: word.split(","), default=["0"])
+    option("--part", "K[,K..]", "takes these components alone, and the views that list each of them", type=components)
+    option("--table", "FILE", "values may be any words; FILE then has the number for each, in lines NUMBER,WORD")
+    option("logs", "LOG", "the log of one process", nargs="+")
     words = parser.parse_args()
     if words.table is None and not all(number_below(1 << 32, value) is not None for value in words.initial):
         parser.error("a first value has 32 bits, or with --table is a word")
@@ -305,13 +309,16 @@ def main():
         if has_words:
             with open(words.table, "w", encoding="utf-8", errors="surrogateescape") as file:
                 file.writelines(f"{number},{word}\n" for word, number in table.items())
+        if sys.stdout is None:
+            raise OSError("standard output is closed")
         sys.stdout.write(history)
         sys.stdout.flush()
     except LogError as error:
         print(error, file=sys.stderr)
         return 3
     except OSError as error:
-        print(error, file=sys.stderr)
+        what = error.strerror or error
+        print(f"merge_logs.py: {error.filename}: {what}" if error.filename else f"merge_logs.py: {what}", file=sys.stderr)
         return 4
     return 0
 

@@ -291,8 +291,17 @@ class Logs(unittest.TestCase):
     def test_words_of_the_command(self):
         for words in (["--error", "-1"], ["--part", "256"], ["--part", ""], ["--initial", "x"], ["--unknown"]):
             self.assertEqual(self.merge([log_of()], *words)[:2], (5, ""))
-        self.assertEqual(self.merge([], "missing.log")[:2], (4, ""))
         self.assertEqual(self.merge([], "--help")[0], 0)
+
+    def test_files_that_fail(self):
+        missing = (4, "", "merge_logs.py: missing.log: No such file or directory\n")
+        self.assertEqual(self.merge([], "missing.log"), missing)
+        self.merge([log_of()])
+        for output, told in ((">&-", "standard output is closed"), ("> /dev/full", "No space left on device")):
+            command = f'exec "$0" -B "$1" 0.log {output}'
+            words = ["sh", "-c", command, sys.executable, os.path.join(HERE, "merge_logs.py")]
+            done = subprocess.run(words, cwd=self.folder, stderr=subprocess.PIPE, timeout=60)
+            self.assertEqual((done.returncode, done.stderr.decode()), (4, f"merge_logs.py: {told}\n"))
 
 
 unittest.main()
