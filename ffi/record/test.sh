@@ -83,7 +83,7 @@ caught() {
   rm -f naive-*
   timeout 300 "${own[@]}" naive --runs 1000 --stop 1 "$@" >said 2>told
   [ $? = 1 ] && [[ $(cat said) =~ ^naive:\ atomic\ ([0-9]+),\ regular\ 1,\ neither\ 0$ ]] &&
-    grep -q "^naive: run $((BASH_REMATCH[1] + 1)) is not atomic; ./naive-caught.csv" told && judges_alike naive-caught.csv naive-witness.csv &&
+    grep -q "^naive: run $((BASH_REMATCH[1] + 1)) is not atomic: see ./naive-caught.csv" told && judges_alike naive-caught.csv naive-witness.csv &&
     "$program" explain <naive-caught.csv | cmp - naive-explained.txt && "$program" shrink <naive-caught.csv | cmp - naive-witness.csv
 }
 
@@ -108,7 +108,7 @@ judges_alike() {
 stale() {
   rm -f stale-*
   ends 2 "stale: atomic 0, regular 0, neither 3" env "$@" "${faulty[@]}" stale --threads 1 --components 2 --calls 3 --order turn --runs 3 &&
-    grep -qxF 'stale: run 1 is not atomic; ./stale-caught.csv and the files beside it tell of it' told && cmp stale-caught.csv - <<'TEXT'
+    grep -qxF 'stale: run 1 is not atomic: see ./stale-caught.csv and the files beside it' told && cmp stale-caught.csv - <<'TEXT'
 at,event,process,op,data
 0,begin,0,update,0:1:1000000
 1,end,0,update,

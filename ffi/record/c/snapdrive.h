@@ -260,7 +260,7 @@ static inline bool snapdrive_run(const snapdrive_object *object, const snapdrive
             outcome->first = run;
             if (!snapverdict_keep(&judge, text, length, front)) status = -1;
             else
-                fprintf(stderr, "%s: run %" PRIu64 " is not atomic; %s-caught.csv and the files beside it tell of it\n", object->name,
+                fprintf(stderr, "%s: run %" PRIu64 " is not atomic: see %s-caught.csv and the files beside it\n", object->name,
                         run, front);
         }
         if (text && status < 0) snapdrive_failed(outcome, judge.fault, "%s", judge.message);

@@ -235,7 +235,7 @@ template <class Board> Outcome run(const std::string &name, const Options &optio
         if (status != 0 && outcome.first == 0) {
             outcome.first = number;
             judge.keep(text, front);
-            std::cerr << name << ": run " << number << " is not atomic; " << front << "-caught.csv and the files beside it tell of it"
+            std::cerr << name << ": run " << number << " is not atomic: see " << front << "-caught.csv and the files beside it"
                       << std::endl;
         }
         const bool has_ended = number == options.runs || (options.stop > 0 && outcome.regular + outcome.neither == options.stop);

@@ -265,7 +265,7 @@ func Run(object Object, options Options) (Outcome, error) {
 			if err := judge.keep(text, front); err != nil {
 				return outcome, err
 			}
-			fmt.Fprintf(os.Stderr, "%s: run %d is not atomic; %s-caught.csv and the files beside it tell of it\n", object.Name, run, front)
+			fmt.Fprintf(os.Stderr, "%s: run %d is not atomic: see %s-caught.csv and the files beside it\n", object.Name, run, front)
 		}
 		hasEnded := run == options.Runs || options.Stop > 0 && outcome.Regular+outcome.Neither == options.Stop
 		if hasEnded || time.Since(told) >= time.Second {

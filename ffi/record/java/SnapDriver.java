@@ -318,7 +318,7 @@ public final class SnapDriver {
                     outcome.first = run;
                     keep(program, text, front);
                     System.err.println(
-                        name + ": run " + run + " is not atomic; " + front + "-caught.csv and the files beside it tell of it");
+                        name + ": run " + run + " is not atomic: see " + front + "-caught.csv and the files beside it");
                 }
             } catch (IOException error) {
                 throw new DriveException("files", "a file can't be written, or the program can't be run: " + error);

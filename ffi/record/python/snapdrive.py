@@ -277,7 +277,7 @@ def run(make, name="object", **words):
                 judge.keep(text, front)
             except OSError as error:
                 raise DriveError("files", f"the first run that was caught can't be written: {error}") from error
-            print(f"{name}: run {number} is not atomic; {front}-caught.csv and the files beside it tell of it", file=sys.stderr)
+            print(f"{name}: run {number} is not atomic: see {front}-caught.csv and the files beside it", file=sys.stderr)
         ended = number == options.runs or 0 < options.stop == outcome.regular + outcome.neither
         if ended or time.monotonic() >= told + 1:
             told = time.monotonic()

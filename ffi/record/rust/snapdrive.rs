@@ -303,7 +303,7 @@ pub fn run<B: Board>(name: &str, options: &Options) -> Result<Outcome, Error> {
         if status != 0 && outcome.first.is_none() {
             outcome.first = Some(number);
             judge.keep(&text, &front)?;
-            eprintln!("{name}: run {number} is not atomic; {front}-caught.csv and the files beside it tell of it");
+            eprintln!("{name}: run {number} is not atomic: see {front}-caught.csv and the files beside it");
         }
         let has_ended = number == options.runs || options.stop > 0 && outcome.regular + outcome.neither == options.stop;
         if has_ended || told.elapsed() >= Duration::from_secs(1) {
