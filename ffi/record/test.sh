@@ -52,11 +52,18 @@ ends() {
   [ "$found" = "$status" ] && [ "$(cat said)" = "$output" ]
 }
 
-# misused START OPTION ..: the driver of `faulty` ends with status 4, writes nothing, and tells a line that begins so
+# misused START OPTION ..: the driver of `faulty` ends with status 4, writes nothing, and the last line that it tells begins so
 misused() {
   local start=$1
   shift
-  ends 4 "" "${faulty[@]}" "$@" && [[ $'\n'$(cat told) == *$'\n'"$start"* ]]
+  ends 4 "" "${faulty[@]}" "$@" && [[ $(tail -n 1 told) == "$start"* ]]
+}
+
+# unwritten OUTPUT [OPTION ..]: the same of a standard output that can't be written, a redirection
+unwritten() {
+  local faulty=(sh -c "\"\$@\" $1" sh "${faulty[@]}")
+  shift
+  misused "stale: files: standard output can't be written" stale "$@"
 }
 
 # The calls that the drivers choose are those that are worked out independently: threads, components, calls, runs, seed, order.
@@ -193,6 +200,10 @@ drivers() {
   try "$language: a program that is not there" misused "stale: no judge: there is no program ./none" stale --program ./none
   try "$language: a program that dies" misused "stale: no verdict: " stale --program ./dies
   try "$language: a folder that is not there" misused "stale: files: " stale --out ./none
+  try "$language: a full disk" unwritten ">/dev/full" --runs 1
+  try "$language: a full disk for the choices" unwritten ">/dev/full" --choices
+  # Rust, and Go from 1.21 on, open /dev/null in the place of a closed output
+  [[ $language == Rust || $language == Go ]] || try "$language: a closed output" unwritten ">&-" --runs 1
 }
 
 # throws LANGUAGE: the tests of a driver whose objects can show too little, or throw
