@@ -295,6 +295,14 @@ if has python3; then
   for history in "$examples"/*.csv; do
     reads_as_judged "${history##*/}" "$history"
   done
+  expect "a second reader of a file by name" 3 "refused record 4: number
+" python3 "$examples/reader.py" "$examples/skipped-number.csv"
+  expect "a file by name that is not there" 4 "" python3 "$examples/reader.py" none.csv
+  expect_said "its name and the reason" "reader.py: none.csv: No such file or directory"
+  for words in -x --help "old.csv old.csv"; do
+    expect "the reader's words $words" 5 "" python3 "$examples/reader.py" $words
+    expect_said "the usage" "usage: reader.py [FILE]"
+  done
   sed -n 's/^\$ \(.*\) | \.\/snapjudge [a-z]*$/\1/p' "$top/docs/FORMAT.md" >texts
   while IFS= read -r text; do
     sh -c "$text" >text
