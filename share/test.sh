@@ -382,6 +382,16 @@ done
 expect "neither a prefix nor a home" 1 "" env -u HOME "$top/install"
 expect_said "the reason" "snapjudge: HOME is not set: name a PREFIX"
 
+usage="usage: build [--help] [--keep] [--built BEGUN] [--times FILE]
+  --keep    leaves the checked proofs too, which \`rt check\` and \`rt lib\` work over; a first build takes longer so
+  --built   builds anew, and takes the libraries that a gate has proved since the file BEGUN
+  --times   writes the seconds and the memory of each crate that was proved
+"
+expect "the help of the build" 0 "$usage" "$top/build" --help
+expect_said "nothing more" ""
+expect "another option of the build" 70 "" "$top/build" --keep --nope
+expect_said "the usage and the reason" "${usage}snapjudge: the build failed: there is no option --nope"
+
 # Expects these completions of the words, in a shell that is here: each word of the completions stands between blanks.
 completes() {
   wanted=$2
