@@ -354,6 +354,7 @@ expect "a full disk" 1 "" sh -c 'ulimit -f 500; "$1" "pre fix" 2>/dev/null' sh "
 expect "the program that was there" 2 "$stale" "pre fix/bin/snapjudge" check "$examples/stale-view.csv"
 expect "what it left by halves" 0 "" find "pre fix" -name '*.new'
 expect "no output for what it says" 1 "" sh -c '"$1" "pre fix" >/dev/full' sh "$top/install"
+mkdir -p "pre fix/share/fish/mine"
 rm "pre fix/libexec/snapjudge/snapjudge"
 expect "a launcher without its program" 4 "" "pre fix/bin/snapjudge" check old.csv
 expect_said "what is missing" "snapjudge: ./pre fix/bin/../libexec/snapjudge/snapjudge is not there; install it again"
@@ -361,6 +362,10 @@ expect "a removal of what is not all there" 0 "snapjudge is no more under $room/
 " "$top/install" --remove "pre fix"
 expect_said "what is missing" "snapjudge: these were not under $room/pre fix: libexec/snapjudge/snapjudge"
 expect "what is left of it" 0 "" find "pre fix" -type f
+expect "the folders of others that are left" 0 "pre fix/share/fish
+pre fix/share/fish/mine
+" find "pre fix" -mindepth 2
+expect "the folders of the prefix itself" 0 "" sh -c 'ls -d "$1/bin" "$1/libexec" "$1/share" >&2' sh "pre fix"
 expect "a removal of what is not there" 1 "" "$top/install" --remove "pre fix"
 expect_said "the reason" "snapjudge: nothing of it was under $room/pre fix"
 mkdir "pre fix/bin/snapjudge"
