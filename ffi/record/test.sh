@@ -226,6 +226,11 @@ judged() {
     "$program" check --quiet --views 4 <"$here/failed.csv"
 }
 
+# the list of calls is of standard input, and no word is taken
+lists_no_file() {
+  ends 5 "" "$here/calls.sh" -x <"$here/worked.csv" && [ "$(cat told)" = "usage: calls.sh < caught.csv" ]
+}
+
 # ---- several processes, failed calls, and the page on both
 
 page=$here/../../docs/RECORDING.md
@@ -402,6 +407,7 @@ try_go() {
 
 if [ -x "$program" ]; then
   try "worked run" judged
+  try "a list of calls, and a word" lists_no_file
   has cc C && try_c
   has c++ C++ && try_cpp
   has rustc Rust && try_rust
