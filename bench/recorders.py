@@ -1,7 +1,8 @@
 #!/usr/bin/env python3
 """Prints how many runs of right and of wrong objects the drivers of the recorders catch, by their options, and what recording costs.
 
-usage: recorders.py [RUNS [PROGRAM]]; 200 runs where no number is given, and the costs alone where it is 0
+usage: recorders.py [RUNS [PROGRAM [OBJECT ..]]]; 200 runs where no number is given, and the costs alone where it is 0. Where objects
+of recorders/objects.c are named, it prints their rows alone.
 
 The objects are those of recorders/objects.c, and those of ffi/record in each language. A language whose compiler is missing is left out.
 """
@@ -42,6 +43,12 @@ ROWS = [
     ("old-view", "--calls 50", 1),
     ("old-view", "--calls 50 --order turn --nap 60", 1),
     ("old-view", "--calls 50 --nap 60", 1),
+    ("late-version-bare", "", 1),
+    ("late-version-bare", "--threads 8 --components 2", 1),
+    ("late-version", "", 1),
+    ("late-version", "--threads 8 --components 2", 1),
+    ("late-version", "--threads 16 --components 2", 1),
+    ("late-version", "--threads 8 --components 2 --calls 50 --nap 60", 1),
 ]
 
 
@@ -61,17 +68,31 @@ def print_caught(said, command, name, options, runs, folder):
     print(f"| {said} | {f'`{options}`' if options else ''} | {runs - int(found[1])} of {runs} | {milliseconds:.1f} |", flush=True)
 
 
+def print_rows(runs, folder, names):
+    """The head of the table, and the rows of these objects of C."""
+    print("| object | options | caught | ms a run |\n|---|---|---|---|")
+    if shutil.which("cc"):
+        compile_all(C, {"objects": f"{COST}/objects.c"}, folder)
+        for name, options, times in ROWS:
+            if name in names:
+                print_caught(name, ["./objects"], name, options, max(1, int(runs * times)), folder)
+
+
+def compile_all(compiler, sources, folder):
+    for name, source in sources.items():
+        subprocess.run([*compiler, "-o", os.path.join(folder, name), source], check=True)
+
+
 def built(folder):
     """Of each language the commands that run its object and its measure of cost."""
     languages = []
     java, python = os.path.join(folder, "java"), [sys.executable, "-B"]
 
     def compiled(compiler, sources):
-        for name, source in sources.items():
-            subprocess.run([*compiler, "-o", os.path.join(folder, name), source], check=True)
+        compile_all(compiler, sources, folder)
 
     if shutil.which("cc"):
-        compiled(C, {"own_c": f"{RECORD}/c/own.c", "cost_c": f"{COST}/cost.c", "objects": f"{COST}/objects.c"})
+        compiled(C, {"own_c": f"{RECORD}/c/own.c", "cost_c": f"{COST}/cost.c"})
         languages.append(("C", ["./own_c"], ["./cost_c"]))
     if shutil.which("c++"):
         compiled(CPP, {"own_cpp": f"{RECORD}/cpp/own.cpp", "cost_cpp": f"{COST}/cost.cpp"})
@@ -96,11 +117,12 @@ def main():
     program = sys.argv[2] if len(sys.argv) > 2 else os.path.join(HERE, "..", "snapjudge")
     os.environ["SNAPJUDGE_PROGRAM"] = os.path.realpath(program)
     with tempfile.TemporaryDirectory() as folder:
+        if len(sys.argv) > 3:
+            print_rows(runs, folder, sys.argv[3:])
+            return
         languages = built(folder)
         if runs:
-            print("| object | options | caught | ms a run |\n|---|---|---|---|")
-            for name, options, times in ROWS if shutil.which("cc") else ():
-                print_caught(name, ["./objects"], name, options, max(1, int(runs * times)), folder)
+            print_rows(runs, folder, [name for name, _, _ in ROWS])
             for language, own, _ in languages:
                 for name in ("naive", "double"):
                     print_caught(f"{name}, {language}", own, name, "", runs, folder)

@@ -1,4 +1,4 @@
-"""Reads a history as docs/FORMAT.md tells, and writes its counts; or names its first fault. usage: reader.py < HISTORY"""
+"""Reads a history as docs/FORMAT.md tells, and writes its counts; or names its first fault. usage: reader.py [FILE]"""
 import sys
 PLAIN, STAMPED = [b"event", b"process", b"op", b"data"], [b"at", b"event", b"process", b"op", b"data"]
 def require(true, place, word):
@@ -57,4 +57,9 @@ def read(text):
         if event == b"begin": opened[process] = op
         else: ends[opened.pop(process)] += 1
     print(f"events {len(rows)} calls {sum(ends.values()) + len(opened)} pending {len(opened)} views {ends[b'view']}")
-read(sys.stdin.buffer.read())
+words = sys.argv[1:]
+if len(words) > 1 or "".join(words).startswith("-"): sys.exit(print("usage: reader.py [FILE]", file=sys.stderr) or 5)
+try:
+    with open(*words or [0], "rb") as file: text = file.read()
+except OSError as error: sys.exit(print(f"reader.py: {(words or ['standard input'])[0]}: {error.strerror}", file=sys.stderr) or 4)
+read(text)

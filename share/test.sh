@@ -295,6 +295,14 @@ if has python3; then
   for history in "$examples"/*.csv; do
     reads_as_judged "${history##*/}" "$history"
   done
+  expect "a second reader of a file by name" 3 "refused record 4: number
+" python3 "$examples/reader.py" "$examples/skipped-number.csv"
+  expect "a file by name that is not there" 4 "" python3 "$examples/reader.py" none.csv
+  expect_said "its name and the reason" "reader.py: none.csv: No such file or directory"
+  for words in -x --help "old.csv old.csv"; do
+    expect "the reader's words $words" 5 "" python3 "$examples/reader.py" $words
+    expect_said "the usage" "usage: reader.py [FILE]"
+  done
   sed -n 's/^\$ \(.*\) | \.\/snapjudge [a-z]*$/\1/p' "$top/docs/FORMAT.md" >texts
   while IFS= read -r text; do
     sh -c "$text" >text
@@ -346,6 +354,7 @@ expect "a full disk" 1 "" sh -c 'ulimit -f 500; "$1" "pre fix" 2>/dev/null' sh "
 expect "the program that was there" 2 "$stale" "pre fix/bin/snapjudge" check "$examples/stale-view.csv"
 expect "what it left by halves" 0 "" find "pre fix" -name '*.new'
 expect "no output for what it says" 1 "" sh -c '"$1" "pre fix" >/dev/full' sh "$top/install"
+mkdir -p "pre fix/share/fish/mine"
 rm "pre fix/libexec/snapjudge/snapjudge"
 expect "a launcher without its program" 4 "" "pre fix/bin/snapjudge" check old.csv
 expect_said "what is missing" "snapjudge: ./pre fix/bin/../libexec/snapjudge/snapjudge is not there; install it again"
@@ -353,6 +362,10 @@ expect "a removal of what is not all there" 0 "snapjudge is no more under $room/
 " "$top/install" --remove "pre fix"
 expect_said "what is missing" "snapjudge: these were not under $room/pre fix: libexec/snapjudge/snapjudge"
 expect "what is left of it" 0 "" find "pre fix" -type f
+expect "the folders of others that are left" 0 "pre fix/share/fish
+pre fix/share/fish/mine
+" find "pre fix" -mindepth 2
+expect "the folders of the prefix itself" 0 "" sh -c 'ls -d "$1/bin" "$1/libexec" "$1/share" >&2' sh "pre fix"
 expect "a removal of what is not there" 1 "" "$top/install" --remove "pre fix"
 expect_said "the reason" "snapjudge: nothing of it was under $room/pre fix"
 mkdir "pre fix/bin/snapjudge"
@@ -373,6 +386,16 @@ for words in "''" "--remove ''" "a b" "--prefix"; do
 done
 expect "neither a prefix nor a home" 1 "" env -u HOME "$top/install"
 expect_said "the reason" "snapjudge: HOME is not set: name a PREFIX"
+
+usage="usage: build [--help] [--keep] [--built BEGUN] [--times FILE]
+  --keep    leaves the checked proofs too, which \`rt check\` and \`rt lib\` work over; a first build takes longer so
+  --built   builds anew, and takes the libraries that a gate has proved since the file BEGUN
+  --times   writes the seconds and the memory of each crate that was proved
+"
+expect "the help of the build" 0 "$usage" "$top/build" --help
+expect_said "nothing more" ""
+expect "another option of the build" 70 "" "$top/build" --keep --nope
+expect_said "the usage and the reason" "${usage}snapjudge: the build failed: there is no option --nope"
 
 # Expects these completions of the words, in a shell that is here: each word of the completions stands between blanks.
 completes() {

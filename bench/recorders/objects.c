@@ -3,7 +3,9 @@
  * `bare` is one collect, in which nothing lets other threads run; `naive` is one collect with pauses. `published` is the snapshot of
  * Afek, Attiya, Dolev, Gafni, Merritt and Shavit (1993): an update embeds a view, and a view that has seen a component move twice takes
  * the one that is embedded there. `first-move` takes it when the component has moved once. `old-view` embeds the last view that its
- * thread took, in place of a new one. */
+ * thread took, in place of a new one. `late-version` raises a version behind each write, and a view collects until the version stayed
+ * the same: two views can disagree on two writes whose versions are still to be raised. `late-version-bare` does so without a pause in
+ * its updates. */
 #include "../../ffi/record/c/snapdrive.h"
 
 typedef struct {
@@ -11,7 +13,7 @@ typedef struct {
 } cell;
 
 static cell cells[SNAPRECORD_EVENTS / 2 + 1], last[SNAPDRIVE_THREADS]; /* cell 0 is what each component has at first */
-static _Atomic uint32_t used;
+static _Atomic uint32_t used, version;
 static _Atomic(cell *) board[SNAPDRIVE_COMPONENTS];
 static uint32_t components;
 
@@ -111,6 +113,32 @@ static void old_view_update(uint32_t thread, uint32_t component, uint32_t value)
     put(component, value, next);
 }
 
+static bool late_version_view(uint32_t thread, uint32_t *values) {
+    cell *read[SNAPDRIVE_COMPONENTS];
+    uint32_t before;
+    (void)thread;
+    do {
+        before = atomic_load(&version);
+        for (uint32_t k = 0; k < components; k++) {
+            if (k) snapdrive_pause(); /* between two reads alone */
+            read[k] = atomic_load(&board[k]);
+        }
+    } while (atomic_load(&version) != before);
+    tell(read, values);
+    return true;
+}
+
+static void late_version_update(uint32_t thread, uint32_t component, uint32_t value) {
+    plain_update(thread, component, value);
+    snapdrive_pause();
+    atomic_fetch_add(&version, 1);
+}
+
+static void late_version_bare_update(uint32_t thread, uint32_t component, uint32_t value) {
+    plain_update(thread, component, value);
+    atomic_fetch_add(&version, 1);
+}
+
 int main(int count, char **words) {
     static const snapdrive_object objects[] = {
         {"bare", begin, plain_update, bare_view},
@@ -118,6 +146,8 @@ int main(int count, char **words) {
         {"published", begin, published_update, published_view},
         {"first-move", begin, first_move_update, first_move_view},
         {"old-view", begin, old_view_update, published_view},
+        {"late-version", begin, late_version_update, late_version_view},
+        {"late-version-bare", begin, late_version_bare_update, late_version_view},
         {0}};
     return snapdrive_main(count, words, objects);
 }

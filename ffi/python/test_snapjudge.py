@@ -90,6 +90,15 @@ class Judge(unittest.TestCase):
     def test_a_zero_byte_is_no_end(self):
         self.assertEqual(snapjudge.report(HEADER.encode() + b"\0"), ("refused", "refused record 2: fields\n"))
 
+    def test_a_history_is_text_or_bytes(self):
+        for history in (HEADER, HEADER.encode(), bytearray(HEADER.encode()), memoryview(HEADER.encode())):
+            self.assertTrue(snapjudge.check(history).atomic)
+        for history, name in ((7, "int"), ([101, 118], "list"), (None, "NoneType"), (open, "builtin_function_or_method")):
+            for judge in (snapjudge.check, snapjudge.report):
+                with self.assertRaises(TypeError) as refused:
+                    judge(history)
+                self.assertEqual(str(refused.exception), f"a history is text or bytes, and no {name}")
+
     def test_an_order_is_taken_apart(self):
         judged = snapjudge.check(HEADER + "begin,0,update,0:1:3\nbegin,1,view,\nend,1,view,\nend,0,update,\n")
         steps = (snapjudge.Step(2, 1, "view", ()), snapjudge.Step(1, 0, "update", (snapjudge.Entry(0, 1, 3),)))

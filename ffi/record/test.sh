@@ -52,11 +52,18 @@ ends() {
   [ "$found" = "$status" ] && [ "$(cat said)" = "$output" ]
 }
 
-# misused START OPTION ..: the driver of `faulty` ends with status 4, writes nothing, and tells a line that begins so
+# misused START OPTION ..: the driver of `faulty` ends with status 4, writes nothing, and the last line that it tells begins so
 misused() {
   local start=$1
   shift
-  ends 4 "" "${faulty[@]}" "$@" && [[ $'\n'$(cat told) == *$'\n'"$start"* ]]
+  ends 4 "" "${faulty[@]}" "$@" && [[ $(tail -n 1 told) == "$start"* ]]
+}
+
+# unwritten OUTPUT [OPTION ..]: the same of a standard output that can't be written, a redirection
+unwritten() {
+  local faulty=(sh -c "\"\$@\" $1" sh "${faulty[@]}")
+  shift
+  misused "stale: files: standard output can't be written" stale "$@"
 }
 
 # The calls that the drivers choose are those that are worked out independently: threads, components, calls, runs, seed, order.
@@ -83,7 +90,7 @@ caught() {
   rm -f naive-*
   timeout 300 "${own[@]}" naive --runs 1000 --stop 1 "$@" >said 2>told
   [ $? = 1 ] && [[ $(cat said) =~ ^naive:\ atomic\ ([0-9]+),\ regular\ 1,\ neither\ 0$ ]] &&
-    grep -q "^naive: run $((BASH_REMATCH[1] + 1)) is not atomic; ./naive-caught.csv" told && judges_alike naive-caught.csv naive-witness.csv &&
+    grep -q "^naive: run $((BASH_REMATCH[1] + 1)) is not atomic: see ./naive-caught.csv" told && judges_alike naive-caught.csv naive-witness.csv &&
     "$program" explain <naive-caught.csv | cmp - naive-explained.txt && "$program" shrink <naive-caught.csv | cmp - naive-witness.csv
 }
 
@@ -108,7 +115,7 @@ judges_alike() {
 stale() {
   rm -f stale-*
   ends 2 "stale: atomic 0, regular 0, neither 3" env "$@" "${faulty[@]}" stale --threads 1 --components 2 --calls 3 --order turn --runs 3 &&
-    grep -qxF 'stale: run 1 is not atomic; ./stale-caught.csv and the files beside it tell of it' told && cmp stale-caught.csv - <<'TEXT'
+    grep -qxF 'stale: run 1 is not atomic: see ./stale-caught.csv and the files beside it' told && cmp stale-caught.csv - <<'TEXT'
 at,event,process,op,data
 0,begin,0,update,0:1:1000000
 1,end,0,update,
@@ -193,6 +200,10 @@ drivers() {
   try "$language: a program that is not there" misused "stale: no judge: there is no program ./none" stale --program ./none
   try "$language: a program that dies" misused "stale: no verdict: " stale --program ./dies
   try "$language: a folder that is not there" misused "stale: files: " stale --out ./none
+  try "$language: a full disk" unwritten ">/dev/full" --runs 1
+  try "$language: a full disk for the choices" unwritten ">/dev/full" --choices
+  # Rust, and Go from 1.21 on, open /dev/null in the place of a closed output
+  [[ $language == Rust || $language == Go ]] || try "$language: a closed output" unwritten ">&-" --runs 1
 }
 
 # throws LANGUAGE: the tests of a driver whose objects can show too little, or throw
@@ -213,6 +224,11 @@ judged() {
   "$program" check <"$here/worked.csv" >report
   [ $? = 2 ] && [ "$(tail -n 1 report)" = "integrity 1 first view 5 entry 0:2:99" ] &&
     "$program" check --quiet --views 4 <"$here/failed.csv"
+}
+
+# the list of calls is of standard input, and no word is taken
+lists_no_file() {
+  ends 5 "" "$here/calls.sh" -x <"$here/worked.csv" && [ "$(cat told)" = "usage: calls.sh < caught.csv" ]
 }
 
 # ---- several processes, failed calls, and the page on both
@@ -391,6 +407,7 @@ try_go() {
 
 if [ -x "$program" ]; then
   try "worked run" judged
+  try "a list of calls, and a word" lists_no_file
   has cc C && try_c
   has c++ C++ && try_cpp
   has rustc Rust && try_rust

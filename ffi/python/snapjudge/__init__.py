@@ -126,7 +126,10 @@ def report_into(text, room):
 
 def report(text):
     """The status of a text, of STATUSES, and its report, as the program `snapjudge check` gives it."""
-    data = text.encode() if isinstance(text, str) else bytes(text)
+    try:
+        data = text.encode() if isinstance(text, str) else bytes(memoryview(text))
+    except TypeError:
+        raise TypeError(f"a history is text or bytes, and no {type(text).__name__}") from None
     size = len(data) + len(data) // 4 + 256
     while True:
         room = bytearray(size)

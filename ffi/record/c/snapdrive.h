@@ -260,7 +260,7 @@ static inline bool snapdrive_run(const snapdrive_object *object, const snapdrive
             outcome->first = run;
             if (!snapverdict_keep(&judge, text, length, front)) status = -1;
             else
-                fprintf(stderr, "%s: run %" PRIu64 " is not atomic; %s-caught.csv and the files beside it tell of it\n", object->name,
+                fprintf(stderr, "%s: run %" PRIu64 " is not atomic: see %s-caught.csv and the files beside it\n", object->name,
                         run, front);
         }
         if (text && status < 0) snapdrive_failed(outcome, judge.fault, "%s", judge.message);
@@ -307,7 +307,7 @@ static inline bool snapdrive_read(char **words, snapdrive_options *options, bool
             continue;
         }
         if (strncmp(*words, "--", 2) || !words[1] || !snapdrive_read_option(options, *words + 2, words[1]))
-            return snapdrive_failed(outcome, "usage", "%s is no option with its value\n%s", *words, SNAPDRIVE_USAGE);
+            return snapdrive_failed(outcome, "usage", "%s is no option with its value", *words);
         words++;
     }
     return true;
@@ -329,6 +329,12 @@ static inline bool snapdrive_show_choices(const snapdrive_options *options, snap
     return true;
 }
 
+/* Whether all that was printed is written. */
+static inline bool snapdrive_flush(snapdrive_outcome *outcome) {
+    if (!fflush(stdout) && !ferror(stdout)) return true;
+    return snapdrive_failed(outcome, "files", "standard output can't be written: %s", strerror(errno));
+}
+
 /* Runs the object that the command line names, or the first one; the last of the objects is {0}. The status is 0 where each run was
  * atomic, 1 where some were only regular, 2 where some were neither, and 4 where there is no verdict. */
 static inline int snapdrive_main(int count, char **words, const snapdrive_object *objects) {
@@ -337,17 +343,19 @@ static inline int snapdrive_main(int count, char **words, const snapdrive_object
     snapdrive_outcome outcome = {0};
     bool is_named = count > 1 && strncmp(words[1], "--", 2), shows_choices = false, is_fine;
     while (is_named && object->name && strcmp(object->name, words[1])) object++;
-    if (!object->name) is_fine = snapdrive_failed(&outcome, "usage", "there is no object %s\n%s", words[1], SNAPDRIVE_USAGE);
+    if (!object->name) is_fine = snapdrive_failed(&outcome, "usage", "there is no object %s", words[1]);
     else is_fine = snapdrive_read(words + 1 + is_named, &options, &shows_choices, &outcome);
     if (is_fine && shows_choices) is_fine = snapdrive_show_choices(&options, &outcome);
     else if (is_fine) is_fine = snapdrive_run(object, &options, &outcome);
-    if (!is_fine) {
+    if (is_fine && !shows_choices) {
+        printf("%s: ", object->name);
+        snapdrive_tell(&outcome, stdout);
+    }
+    if (!is_fine || !snapdrive_flush(&outcome)) {
+        if (!strcmp(outcome.fault, "usage")) fprintf(stderr, "%s\n", SNAPDRIVE_USAGE);
         fprintf(stderr, "%s: %s: %s\n", object->name ? object->name : words[1], outcome.fault, outcome.message);
         return 4;
     }
-    if (shows_choices) return 0;
-    printf("%s: ", object->name);
-    snapdrive_tell(&outcome, stdout);
     return outcome.found[2] ? 2 : outcome.found[1] ? 1 : 0;
 }
 #endif

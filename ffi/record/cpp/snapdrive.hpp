@@ -235,7 +235,7 @@ template <class Board> Outcome run(const std::string &name, const Options &optio
         if (status != 0 && outcome.first == 0) {
             outcome.first = number;
             judge.keep(text, front);
-            std::cerr << name << ": run " << number << " is not atomic; " << front << "-caught.csv and the files beside it tell of it"
+            std::cerr << name << ": run " << number << " is not atomic: see " << front << "-caught.csv and the files beside it"
                       << std::endl;
         }
         const bool has_ended = number == options.runs || (options.stop > 0 && outcome.regular + outcome.neither == options.stop);
@@ -296,7 +296,8 @@ inline const char *name_of(snaprecord::Fault fault) {
 inline int main(int count, char **words, const std::vector<Object> &objects) {
     std::vector<std::string> rest(words + 1, words + count);
     std::string name = objects.front().name;
-    const auto failed = [&name](const char *fault, const char *message) {
+    const auto failed = [&name](const std::string &fault, const char *message) {
+        if (fault == "usage") std::cerr << usage << std::endl;
         std::cerr << name << ": " << fault << ": " << message << std::endl;
         return 4;
     };
@@ -306,20 +307,22 @@ inline int main(int count, char **words, const std::vector<Object> &objects) {
             rest.erase(rest.begin());
         }
         const auto chosen = std::find_if(objects.begin(), objects.end(), [&name](const Object &object) { return object.name == name; });
-        if (chosen == objects.end()) throw Error("usage", "there is no object " + name + "\n" + usage);
+        if (chosen == objects.end()) throw Error("usage", "there is no object " + name);
         Options options;
         const auto choices = std::find(rest.begin(), rest.end(), "--choices");
         const bool shows_choices = choices != rest.end();
         if (shows_choices) rest.erase(choices);
         for (std::size_t at = 0; at < rest.size(); at += 2)
             if (rest[at].rfind("--", 0) != 0 || at + 1 == rest.size() || !read_option(options, rest[at].substr(2), rest[at + 1]))
-                throw Error("usage", rest[at] + " is no option with its value\n" + usage);
+                throw Error("usage", rest[at] + " is no option with its value");
+        Outcome outcome;
         if (shows_choices) {
             show_choices(options);
-            return 0;
+        } else {
+            outcome = chosen->run(options);
+            std::cout << name << ": " << outcome.text() << '\n';
         }
-        const Outcome outcome = chosen->run(options);
-        std::cout << name << ": " << outcome.text() << std::endl;
+        if (!std::cout.flush()) throw Error("files", "standard output can't be written");
         return outcome.neither ? 2 : outcome.regular ? 1 : 0;
     } catch (const Error &error) {
         return failed(error.name, error.what());

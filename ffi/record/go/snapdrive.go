@@ -3,6 +3,7 @@
 package snaprecord
 
 import (
+	"errors"
 	"fmt"
 	"os"
 	"runtime"
@@ -265,7 +266,7 @@ func Run(object Object, options Options) (Outcome, error) {
 			if err := judge.keep(text, front); err != nil {
 				return outcome, err
 			}
-			fmt.Fprintf(os.Stderr, "%s: run %d is not atomic; %s-caught.csv and the files beside it tell of it\n", object.Name, run, front)
+			fmt.Fprintf(os.Stderr, "%s: run %d is not atomic: see %s-caught.csv and the files beside it\n", object.Name, run, front)
 		}
 		hasEnded := run == options.Runs || options.Stop > 0 && outcome.Regular+outcome.Neither == options.Stop
 		if hasEnded || time.Since(told) >= time.Second {
@@ -304,26 +305,37 @@ func read(words []string) (Options, bool, error) {
 			continue
 		}
 		if !strings.HasPrefix(words[0], "--") || len(words) == 1 || !readOption(&options, words[0][2:], words[1]) {
-			return options, false, failed("usage", "%s is no option with its value\n%s", words[0], usage)
+			return options, false, failed("usage", "%s is no option with its value", words[0])
 		}
 		words = words[2:]
 	}
 	return options, showsChoices, test(options)
 }
 
-func showChoices(options Options) {
+// Writes to standard output.
+func tell(format string, values ...any) error {
+	if _, err := fmt.Printf(format, values...); err != nil {
+		return failed("files", "standard output can't be written: %v", err)
+	}
+	return nil
+}
+
+func showChoices(options Options) error {
 	next := schedules(options)
 	for run := uint64(1); run <= options.Runs; run++ {
 		for thread, calls := range next() {
 			for _, component := range calls {
-				if component == view {
-					fmt.Println(run, thread, "view")
-				} else {
-					fmt.Println(run, thread, "update", component)
+				call := "view"
+				if component != view {
+					call = fmt.Sprint("update ", component)
+				}
+				if err := tell("%d %d %s\n", run, thread, call); err != nil {
+					return err
 				}
 			}
 		}
 	}
+	return nil
 }
 
 // Main runs the object that the command line names, or the first one. The status is 0 where each run was atomic, 1 where some were
@@ -343,18 +355,22 @@ func Main(objects ...Object) {
 	}
 	switch {
 	case chosen == nil:
-		err = failed("usage", "there is no object %s\n%s", name, usage)
+		err = failed("usage", "there is no object %s", name)
 	case err == nil && showsChoices:
-		showChoices(options)
-		return
+		err = showChoices(options)
 	case err == nil:
-		outcome, err = Run(*chosen, options)
+		if outcome, err = Run(*chosen, options); err == nil {
+			err = tell("%s: %v\n", name, outcome)
+		}
 	}
 	if err != nil {
+		var why *DriveError
+		if errors.As(err, &why) && why.Name == "usage" {
+			fmt.Fprintln(os.Stderr, usage)
+		}
 		fmt.Fprintf(os.Stderr, "%s: %v\n", name, err)
 		os.Exit(4)
 	}
-	fmt.Printf("%s: %v\n", name, outcome)
 	switch {
 	case outcome.Neither > 0:
 		os.Exit(2)

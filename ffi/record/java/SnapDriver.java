@@ -122,7 +122,7 @@ public final class SnapDriver {
                     numbers[number.ordinal()] = read.longValue();
                     return;
                 }
-            throw new DriveException("usage", name + " " + value + " is no option with its value\n" + USAGE);
+            throw new DriveException("usage", name + " " + value + " is no option with its value");
         }
 
         private int get(Number number) {
@@ -318,7 +318,7 @@ public final class SnapDriver {
                     outcome.first = run;
                     keep(program, text, front);
                     System.err.println(
-                        name + ": run " + run + " is not atomic; " + front + "-caught.csv and the files beside it tell of it");
+                        name + ": run " + run + " is not atomic: see " + front + "-caught.csv and the files beside it");
                 }
             } catch (IOException error) {
                 throw new DriveException("files", "a file can't be written, or the program can't be run: " + error);
@@ -338,7 +338,7 @@ public final class SnapDriver {
         Options options = new Options();
         for (int at = 0; at < words.size(); at += 2) {
             if (!words.get(at).startsWith("--") || at + 1 == words.size())
-                throw new DriveException("usage", words.get(at) + " is no option with its value\n" + USAGE);
+                throw new DriveException("usage", words.get(at) + " is no option with its value");
             options.with(words.get(at).substring(2), words.get(at + 1));
         }
         return options;
@@ -355,6 +355,10 @@ public final class SnapDriver {
         System.out.print(text);
     }
 
+    private static void flush() {
+        if (System.out.checkError()) throw new DriveException("files", "standard output can't be written");
+    }
+
     /** The same for one object. */
     public static void main(String[] words, String name, IntFunction<? extends Board> make) throws InterruptedException {
         main(words, Map.of(name, make));
@@ -369,16 +373,19 @@ public final class SnapDriver {
         boolean isNamed = !rest.isEmpty() && !rest.get(0).startsWith("--");
         String name = isNamed ? rest.remove(0) : objects.size() == 1 ? objects.keySet().iterator().next() : "";
         try {
-            if (name.isEmpty()) throw new DriveException("usage", "name one of the objects " + objects.keySet() + "\n" + USAGE);
-            if (!objects.containsKey(name)) throw new DriveException("usage", "there is no object " + name + "\n" + USAGE);
+            if (name.isEmpty()) throw new DriveException("usage", "name one of the objects " + objects.keySet());
+            if (!objects.containsKey(name)) throw new DriveException("usage", "there is no object " + name);
             if (rest.remove("--choices")) {
                 showChoices(read(rest));
+                flush();
                 return;
             }
             Outcome outcome = run(name, objects.get(name), read(rest));
             System.out.println(name + ": " + outcome);
+            flush();
             System.exit(outcome.neither > 0 ? 2 : outcome.regular > 0 ? 1 : 0);
         } catch (DriveException error) {
+            if (error.name.equals("usage")) System.err.println(USAGE);
             System.err.println(name + ": " + error.name + ": " + error.getMessage());
         } catch (SnapRecorder.RecordException error) {
             System.err.println(name + ": " + error.fault.name().toLowerCase(Locale.ROOT).replace('_', ' ') + ": " + error.getMessage());

@@ -277,7 +277,7 @@ def run(make, name="object", **words):
                 judge.keep(text, front)
             except OSError as error:
                 raise DriveError("files", f"the first run that was caught can't be written: {error}") from error
-            print(f"{name}: run {number} is not atomic; {front}-caught.csv and the files beside it tell of it", file=sys.stderr)
+            print(f"{name}: run {number} is not atomic: see {front}-caught.csv and the files beside it", file=sys.stderr)
         ended = number == options.runs or 0 < options.stop == outcome.regular + outcome.neither
         if ended or time.monotonic() >= told + 1:
             told = time.monotonic()
@@ -293,9 +293,28 @@ def read(words):
         name, value = words[at][2:] if words[at].startswith("--") else "", (words[at + 1 :] or [""])[0]
         is_number = value.isascii() and value.isdigit()
         if name not in Options.__dataclass_fields__ or not value or name in RANGES and not is_number:
-            raise DriveError("usage", f"{words[at]} is no option with its value\n{USAGE}")
+            raise DriveError("usage", f"{words[at]} is no option with its value")
         found[name] = int(value) if name in RANGES else value
     return found
+
+
+def choices(options):
+    """A line for each call that the seed chooses."""
+    for number, schedule in enumerate(schedules(options), 1):
+        for thread, calls in enumerate(schedule):
+            for component in calls:
+                yield f"{number} {thread} {'view' if component is None else f'update {component}'}"
+
+
+def tell(lines):
+    """Writes lines to standard output."""
+    try:
+        if sys.stdout is None:
+            raise OSError("it is closed")
+        sys.stdout.writelines(f"{line}\n" for line in lines)
+        sys.stdout.flush()
+    except OSError as error:
+        raise DriveError("files", f"standard output can't be written: {error.strerror or error}") from error
 
 
 def main(objects):
@@ -305,18 +324,16 @@ def main(objects):
     name = words.pop(0) if words and not words[0].startswith("--") else next(iter(objects))
     try:
         if name not in objects:
-            raise DriveError("usage", f"there is no object {name}\n{USAGE}")
+            raise DriveError("usage", f"there is no object {name}")
         if "--choices" in words:
             words.remove("--choices")
-            for number, schedule in enumerate(schedules(Options(**read(words))), 1):
-                for thread, calls in enumerate(schedule):
-                    for component in calls:
-                        print(number, thread, "view" if component is None else f"update {component}")
+            tell(choices(Options(**read(words))))
             sys.exit()
         outcome = run(objects[name], name, **read(words))
+        tell([f"{name}: {outcome}"])
     except (DriveError, RecordError) as error:
         fault = error.name if isinstance(error, DriveError) else error.fault.name.lower().replace("_", " ")
-        print(f"{name}: {fault}: {error}", file=sys.stderr, flush=True)
+        usage = f"{USAGE}\n" if fault == "usage" else ""
+        print(f"{usage}{name}: {fault}: {error}", file=sys.stderr, flush=True)
         os._exit(4)  # a call that hangs holds up no more
-    print(f"{name}: {outcome}")
     sys.exit(2 if outcome.neither else 1 if outcome.regular else 0)

@@ -31,6 +31,7 @@
 
 use crate::snaprecord::{self, Log, Recorder, EVENT_LIMIT};
 use crate::snapverdict::{self, Judge};
+use std::io::{self, Write};
 use std::panic::{self, AssertUnwindSafe};
 use std::process::{self, ExitCode};
 use std::sync::atomic::{AtomicU64, Ordering};
@@ -303,7 +304,7 @@ pub fn run<B: Board>(name: &str, options: &Options) -> Result<Outcome, Error> {
         if status != 0 && outcome.first.is_none() {
             outcome.first = Some(number);
             judge.keep(&text, &front)?;
-            eprintln!("{name}: run {number} is not atomic; {front}-caught.csv and the files beside it tell of it");
+            eprintln!("{name}: run {number} is not atomic: see {front}-caught.csv and the files beside it");
         }
         let has_ended = number == options.runs || options.stop > 0 && outcome.regular + outcome.neither == options.stop;
         if has_ended || told.elapsed() >= Duration::from_secs(1) {
@@ -339,9 +340,15 @@ fn read(words: &[String]) -> Result<Options, Error> {
         let name = pair[0].strip_prefix("--");
         name.zip(pair.get(1))
             .and_then(|(name, value)| read_option(&mut options, name, value))
-            .ok_or_else(|| Error::Usage(format!("{} is no option with its value\n{USAGE}", pair[0])))?;
+            .ok_or_else(|| Error::Usage(format!("{} is no option with its value", pair[0])))?;
     }
     Ok(options)
+}
+
+/// Writes to standard output.
+fn print(text: &str) -> Result<(), Error> {
+    let done = io::stdout().write_all(text.as_bytes()).and_then(|()| io::stdout().flush());
+    done.map_err(|error| Error::Judge(snapverdict::Error::Files(format!("standard output can't be written: {error}"))))
 }
 
 fn show_choices(options: &Options) -> Result<(), Error> {
@@ -351,10 +358,8 @@ fn show_choices(options: &Options) -> Result<(), Error> {
         for thread in 0..options.threads as usize {
             let mut random = Random(seeds.next());
             for i in 0..options.calls {
-                match choose(options, thread, i, &mut random) {
-                    Some(component) => println!("{number} {thread} update {component}"),
-                    None => println!("{number} {thread} view"),
-                }
+                let call = choose(options, thread, i, &mut random).map_or("view".into(), |component| format!("update {component}"));
+                print(&format!("{number} {thread} {call}\n"))?;
             }
         }
     }
@@ -372,23 +377,23 @@ pub fn main(objects: &[Object]) -> ExitCode {
     let name = if is_named { words.remove(0) } else { objects[0].0.into() };
     let shows_choices = words.iter().position(|word| word == "--choices").map(|at| words.remove(at)).is_some();
     let outcome = read(&words).and_then(|options| {
-        let (_, run) =
-            objects.iter().find(|object| object.0 == name).ok_or_else(|| Error::Usage(format!("there is no object {name}\n{USAGE}")))?;
+        let chosen = objects.iter().find(|object| object.0 == name);
+        let (_, run) = chosen.ok_or_else(|| Error::Usage(format!("there is no object {name}")))?;
         if shows_choices {
-            show_choices(&options).map(|()| None)
+            show_choices(&options).map(|()| Outcome::default())
         } else {
-            run(&name, &options).map(Some)
+            let outcome = run(&name, &options)?;
+            print(&format!("{name}: {outcome}\n")).map(|()| outcome)
         }
     });
     match outcome {
         Err(error) => {
+            if matches!(error, Error::Usage(_)) {
+                eprintln!("{USAGE}");
+            }
             eprintln!("{name}: {error}");
             ExitCode::from(4)
         }
-        Ok(None) => ExitCode::SUCCESS,
-        Ok(Some(outcome)) => {
-            println!("{name}: {outcome}");
-            ExitCode::from(if outcome.neither > 0 { 2 } else { u8::from(outcome.regular > 0) })
-        }
+        Ok(outcome) => ExitCode::from(if outcome.neither > 0 { 2 } else { u8::from(outcome.regular > 0) }),
     }
 }
