@@ -1,6 +1,6 @@
 //! The jobs that words ask for.
 use snap_runs::CheckOptions;
-use snap_words::{Asked, Job, JobFault, job_of};
+use snap_words::{Job, JobFault, job_of};
 use std::alloc::{AllocError, Global};
 use std::test::Fail;
 
@@ -57,15 +57,25 @@ const CHECKS: &[(&str, u32, u32, CheckOptions)] = &[
     ),
 ];
 
+// Whether the names are just these files.
+fn are_named(names: &[String], files: &[&str]) -> bool {
+    for (name, file) in names.iter().zip(files) {
+        if name.as_str() != *file {
+            return false;
+        }
+    }
+    names.len() == files.len()
+}
+
 // The job that a line asks for, of which each file is named in the list behind it.
 fn job_on(alloc: Global, line: &str, files: &[&str]) -> Result<Job, Fail> {
-    match job_of(alloc, words(alloc, line)?) {
-        Ok(Asked { job, files: found })
-            if found
-                .iter()
-                .map(|name| name.as_str())
-                .eq(files.iter().copied()) => { Ok(job) }
-        _ => Err(Fail::from(line)),
+    let Ok(asked) = job_of(alloc, words(alloc, line)?) else {
+        return Err(Fail::from(line));
+    };
+    if are_named(&asked.files, files) {
+        Ok(asked.job)
+    } else {
+        Err(Fail::from(line))
     }
 }
 
