@@ -47,7 +47,7 @@ VERSIONED = {
 }
 MARK = "=== the next command of a page ==="
 # How long a session may take, in seconds.
-LONGEST = 60
+LONGEST = 300
 # The least status that is no verdict, and the least that a shell or a signal gives.
 NO_VERDICT, NOT_RUN = 4, 126
 
