@@ -3,8 +3,7 @@
 
 usage: edits.py CRATE ..        (after ./build, which leaves the libraries below the crates)
 
-As in the gate, the edits of a crate are tried one after another over one folder of kept work. So the first of them takes besides
-what the proof of the crate takes.
+As in the gate, the crate is proved once, and each of its edits is tried over a copy of what that has kept.
 """
 import importlib.machinery
 import importlib.util
@@ -42,14 +41,18 @@ def main(names):
     rows = []
     for name in names:
         crate = rt.Crate(f"{TOP}/crates/{name}", TOP, {})
-        with tempfile.TemporaryDirectory() as kept:
+        with tempfile.TemporaryDirectory() as room:
+            kept, over = f"{room}/kept", f"{room}/over"
+            os.mkdir(kept)
             before = processor_seconds()
             proved = rt.checked(crate, {}, ["--jobs", "1"], kept).returncode == 0
             rows.append((processor_seconds() - before, name, "the crate", "proved" if proved else "NOT PROVED"))
             for edit in rt.edits_of(crate)[0]:
+                rt.linked(kept, over)
                 before = processor_seconds()
-                refused, said = rt.must_fail(crate, edit, ["--jobs", "1"], kept)
-                rows.append((processor_seconds() - before, name, os.path.basename(edit)[:-5], "refused" if refused else said))
+                kind, said = rt.must_fail(crate, edit, ["--jobs", "1"], over)
+                rows.append((processor_seconds() - before, name, os.path.basename(edit)[:-5], "refused" if kind == rt.REFUSED else said))
+                shutil.rmtree(over)
     print("| seconds | crate | wrong body | |\n|---|---|---|---|")
     for seconds, name, edit, said in sorted(rows, reverse=True):
         print(f"| {seconds:.1f} | {name} | {edit} | {said} |")

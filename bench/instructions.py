@@ -1,13 +1,13 @@
 #!/usr/bin/env python3
 """Counts the instructions of `snapjudge check` with one worker by callgrind, and prints where they go.
 
-usage: instructions.py [PROGRAM]
+usage: instructions.py [--program PROGRAM] [--functions N] [KIND ..]
 
-Each history is made by generate.py from the number 1. The line of a part has the instructions in its functions and in all that
-these call, in millions, by byte of the text and by event. The tally and the order are what is done with a history once it is
-read; the rest is the text taken in, records, fields, index, report, and what a process needs to start. A part whose functions
-were drawn into their callers counts with these.
+Each history is made by generate.py from the number 1; with KINDs only those are counted. The counts do not depend on what else the
+machine does. A part has the instructions in its functions and in all that these call, in millions. A part whose functions were
+drawn into their callers counts with these. With --functions the N functions that take most are printed too.
 """
+import argparse
 import os
 import re
 import subprocess
@@ -15,25 +15,30 @@ import sys
 import tempfile
 
 HERE = os.path.dirname(os.path.abspath(__file__))
-PROGRAM = os.path.join(HERE, "..", "built", "snapjudge")
-HISTORIES = [("atomic", 16384, 8), ("overlapping", 16384, 8), ("atomic", 2048, 256), ("writes", 2048, 256), ("atomic", 10, 3)]
+PROGRAM = os.environ.get("SNAPJUDGE", os.path.join(HERE, "..", "built", "snapjudge"))
+HISTORIES = [
+    ("atomic", 10, 3), ("atomic", 1024, 8), ("atomic", 16384, 8), ("atomic", 2048, 256), ("pending", 4096, 256),
+    ("overlapping", 4096, 4), ("overlapping", 16384, 8), ("toggling", 4096, 4), ("late", 4096, 32), ("stale", 4096, 8),
+    ("writes", 4096, 8), ("writes", 2048, 256), ("random", 4096, 256),
+]
 # by part: the outermost functions, which do not call one another
 PARTS = [
     ("tally", [r"snap_pairs::whole::tally_and_chain"]),
     ("order", [r"snap_order::printing::build_along"]),
-    ("records", [r"snap_csv::rows::next_row", r"memchr::bytes::memchr2"]),
-    ("fields", [r"snap_csv::fields::event_of_fields"]),
-    ("events", [r"snap_csv::read::push_event"]),
-    ("report", [r"snap_verdict::judge::verdict_of"]),
+    ("report", [r"snap_report::text::report_in"]),
 ]
 
 
-def instructions(program, history, room):
-    """The inclusive cost of each function, and of the whole."""
+def run(program, history, room):
+    """What callgrind wrote of one run."""
     out = os.path.join(room, "callgrind.out")
-    with open(history, "rb") as text:
-        words = ["valgrind", "--tool=callgrind", f"--callgrind-out-file={out}", program, "check", "--workers", "1"]
-        subprocess.run(words, stdin=text, stdout=subprocess.DEVNULL, stderr=subprocess.DEVNULL)
+    words = ["valgrind", "--tool=callgrind", f"--callgrind-out-file={out}", program, "check", "--workers", "1", history]
+    subprocess.run(words, stdout=subprocess.DEVNULL, stderr=subprocess.DEVNULL, check=False)
+    return out
+
+
+def costs_in(out):
+    """The inclusive cost of each function, and of the whole."""
     words = ["callgrind_annotate", "--inclusive=yes", "--threshold=100", out]
     said = subprocess.run(words, stdout=subprocess.PIPE, check=True, text=True).stdout
     costs = {}
@@ -58,23 +63,39 @@ def part(costs, patterns):
     return total
 
 
+def dearest(out, count):
+    """The lines of the functions that take most themselves."""
+    told = subprocess.run(["callgrind_annotate", out], stdout=subprocess.PIPE, text=True, check=True).stdout
+    return [line for line in told.splitlines() if "(" in line and "%" in line][: count + 1]
+
+
 def main():
-    program = sys.argv[1] if len(sys.argv) > 1 else PROGRAM
-    print("| history | part | instructions, millions | a byte | an event |")
-    print("|---|---|---|---|---|")
+    words = argparse.ArgumentParser(description="instructions of `snapjudge check`")
+    words.add_argument("--program", default=PROGRAM)
+    words.add_argument("--functions", type=int, default=0, metavar="N")
+    words.add_argument("kinds", nargs="*", metavar="KIND")
+    asked = words.parse_args()
+    names = [name for name, _ in PARTS]
+    print(f"| history | all | text, records and index | {' | '.join(names)} | beside tally and order, a byte | an event |")
+    print(f"|{'---|' * (len(names) + 5)}")
     with tempfile.TemporaryDirectory() as room:
         for kind, events, components in HISTORIES:
+            if asked.kinds and kind not in asked.kinds:
+                continue
             history = os.path.join(room, "history.csv")
             with open(history, "wb") as text:
-                words = [sys.executable, os.path.join(HERE, "generate.py"), kind, str(events), str(components)]
-                subprocess.run(words, stdout=text, check=True)
+                made = [sys.executable, os.path.join(HERE, "generate.py"), kind, str(events), str(components)]
+                subprocess.run(made, stdout=text, check=True)
             size = os.path.getsize(history)
-            costs, whole = instructions(program, history, room)
-            lines = [(name, part(costs, patterns)) for name, patterns in PARTS]
-            spent = dict(lines)
-            lines.append(("beside tally and order", whole - spent["tally"] - spent["order"]))
-            for name, cost in lines:
-                print(f"| {kind} {events} {components} | {name} | {cost / 1e6:.2f} | {cost / size:.2f} | {cost / events:.0f} |", flush=True)
+            out = run(asked.program, history, room)
+            costs, whole = costs_in(out)
+            spent = {name: part(costs, patterns) for name, patterns in PARTS}
+            beside = whole - spent["tally"] - spent["order"]
+            millions = [whole, whole - sum(spent.values()), *spent.values()]
+            row = [f"{kind} {events} {components}", *(f"{cost / 1e6:.2f}" for cost in millions), f"{beside / size:.2f}", f"{beside / events:.0f}"]
+            print(f"| {' | '.join(row)} |", flush=True)
+            if asked.functions:
+                print("\n".join(dearest(out, asked.functions)))
 
 
 main()

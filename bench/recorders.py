@@ -49,6 +49,13 @@ ROWS = [
     ("late-version", "--threads 8 --components 2", 1),
     ("late-version", "--threads 16 --components 2", 1),
     ("late-version", "--threads 8 --components 2 --calls 50 --nap 60", 1),
+    ("one-shot", "--calls 2 --order turn", 50),
+    ("one-shot", "--calls 2", 50),
+    ("one-shot", "--calls 2 --order turn --nap 60", 50),
+    ("one-shot", "--calls 2 --nap 60", 50),
+    ("one-shot", "--calls 4 --nap 60", 50),
+    ("one-shot", "--threads 8 --components 4 --calls 2", 50),
+    ("one-shot", "--threads 8 --components 4 --calls 2 --nap 60", 50),
 ]
 
 

@@ -5,8 +5,8 @@ usage: run.py [--against PROGRAM] [--repeats N] [KIND ..]
 
 Each history is made by generate.py from the number 1. With one worker, with two and, where another judge of the same text and
 report is given, by that one, it is judged in turn, N times (7, if not said), and the least time of each counts. The reports are
-compared byte for byte. PROGRAM is called as `PROGRAM check`, with the history on its standard input. All run in the environment
-that the launcher makes, in which the C library takes memory in large pages.
+compared byte for byte. PROGRAM is called as `PROGRAM check`, with the history on its standard input. All run in an environment in
+which the C library takes memory in large pages, as docs/MANY.md tells how to ask for them.
 
 The first row is of a process that does nothing.
 """
@@ -20,7 +20,7 @@ import time
 
 HERE = os.path.dirname(os.path.abspath(__file__))
 SNAPJUDGE = os.environ.get("SNAPJUDGE", os.path.join(HERE, "..", "built", "snapjudge"))
-# as the launcher starts the program
+# memory in large pages
 ENVIRONMENT = {**os.environ, "GLIBC_TUNABLES": "glibc.malloc.hugetlb=1:glibc.malloc.top_pad=67108864"}
 CASES = [
     ("atomic", 1024, 8), ("atomic", 4096, 8), ("atomic", 16384, 8), ("atomic", 65536, 8), ("atomic", 16384, 256), ("atomic", 65536, 256),

@@ -1,10 +1,11 @@
 #!/usr/bin/env python3
-"""Prints what the start of `snapjudge check` costs, on a history of 10 events, beside an empty C program.
+"""Prints what the start of `snapjudge check` costs, on a history of 10 events, beside an empty C program; and the same by a shell that
+starts the program, and by the launcher of this checkout. What the launcher takes more is the test whether the sources have changed.
 
 usage: start.py [RUNS [PROGRAM]]
 
 All are run in turn, 400 times where nothing else is said. Of the milliseconds by the clock and of processor time the table has
-the least and the median.
+the least and the median. The last line has the load before it.
 """
 import os
 import statistics
@@ -18,6 +19,7 @@ from run import SNAPJUDGE
 from shapes import run
 
 RUNS = int(sys.argv[1]) if len(sys.argv) > 1 else 400
+TOP = os.path.dirname(os.path.dirname(os.path.abspath(__file__)))
 PROGRAM = os.path.abspath(sys.argv[2]) if len(sys.argv) > 2 else SNAPJUDGE
 
 
@@ -29,6 +31,9 @@ def main():
                 file.write(text)
         subprocess.run(["cc", "-O2", "-o", empty, source], check=True)
         cases = {"an empty C program": [empty]} | {f"check, workers: {n}": [PROGRAM, "check", "--workers", str(n)] for n in (1, 2)}
+        cases["by a shell"] = ["/bin/sh", "-c", 'exec "$0" "$@"', PROGRAM, "check", "--workers", "1"]
+        cases["by the launcher"] = [f"{TOP}/snapjudge", "check", "--workers", "1"]
+        load = os.getloadavg()
         taken = {name: [] for name in cases}
         for _ in range(RUNS):
             for name, words in cases.items():
@@ -39,6 +44,7 @@ def main():
     for name, runs in taken.items():
         cells = [f"{of(times):.2f}" for times in zip(*runs) for of in (min, statistics.median)]
         print(f"| {name} | {' | '.join(cells)} |")
+    print("load", *(f"{it:.1f}" for it in load))
 
 
 main()

@@ -129,4 +129,5 @@ def main():
     return differences != 0
 
 
-sys.exit(main())
+if __name__ == "__main__":
+    sys.exit(main())

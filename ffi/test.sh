@@ -81,6 +81,25 @@ python() {
   (cd python && SNAPJUDGE_LIBRARY=$build/libsnapjudge.so python3 -B -m unittest -q test_snapjudge)
 }
 
+# Python with Dask, which Debian has for its own Python alone
+dask() {
+  local python
+  for python in python3 /usr/bin/python3; do
+    "$python" -c 'import distributed' 2>/dev/null && echo "$python" && return 0
+  done
+  return 1
+}
+
+# many recordings, by this Python
+many() {
+  (cd python && SNAPJUDGE_LIBRARY=$build/libsnapjudge.so "$1" -B -m unittest -q test_cluster)
+}
+
+# one long recording, window by window
+windows() {
+  (cd python && SNAPJUDGE_LIBRARY=$build/libsnapjudge.so python3 -B -m unittest -q test_follow)
+}
+
 # what pip makes of the folder, without a network
 installed() {
   rm -rf "$build/installed"
@@ -91,7 +110,9 @@ assert snapjudge.__file__.startswith(sys.argv[1]), snapjudge.__file__
 for name in sys.argv[2:]:
     with open(name, "rb") as text, open(name[:-4] + ".report") as wanted:
         assert snapjudge.report(text.read())[1] == wanted.read(), name
-' "$build/installed" "$build"/../../examples/*.csv)
+' "$build/installed" "$build"/../../examples/*.csv &&
+      env -u SNAPJUDGE_LIBRARY PYTHONPATH="$build/installed" python3 -B -m snapjudge.cluster "$build"/../../examples/atomic-run.csv &&
+      env -u SNAPJUDGE_LIBRARY PYTHONPATH="$build/installed" python3 -B -m snapjudge.follow --once "$build"/../../examples/atomic-run.csv)
 }
 
 for tool in cc ar ld objcopy nm; do
@@ -103,6 +124,16 @@ if [ "$failed" = 0 ]; then
   try "C" compiled cc -std=c11
   has c++ "C++" && try "C++" compiled c++ "-std=c++17 -x c++"
   has cargo "Rust" && try "Rust" rust
-  has python3 "Python" && try "Python" python && has_pip && try "Python by pip" installed
+  if has python3 "Python"; then
+    try "Python" python
+    try "windows in Python" windows
+    has_pip && try "Python by pip" installed
+    if with_dask=$(dask); then
+      try "many recordings in Python" many "$with_dask"
+    else
+      try "many recordings in Python" many python3
+      skip "many recordings by a Dask scheduler" python3-distributed
+    fi
+  fi
 fi
 end

@@ -1,9 +1,9 @@
 """Packs snapjudge for machines without Rattle: an archive, a Debian package and a Python wheel, and a file of their checksums.
 
-usage: package.py PREFIX LIBRARY SUM DATE DIST
+usage: package.py PREFIX LIBRARY PROVED SUM DATE DIST
 
-PREFIX has what is installed, LIBRARY is the folder of libsnapjudge.a and libsnapjudge.so, SUM is that of the program's sources, and
-DATE, in seconds since 1970, becomes the time of each file. The names are sorted, and owners and modes are the same everywhere: what is
+PREFIX has what is installed, LIBRARY is the folder of libsnapjudge.a and libsnapjudge.so, PROVED says which program it is and who
+proved it, SUM is that of the program's sources, and DATE, in seconds since 1970, becomes the time of each file. The names are sorted, and owners and modes are the same everywhere: what is
 packed depends on nothing but these words and the files themselves.
 """
 import gzip
@@ -25,7 +25,9 @@ VERSION = (TOP / "VERSION").read_text().strip()
 DOCUMENTS = "share/doc/snapjudge"
 # What a recorder's folder may have besides, as a compiler or Python leaves it, is not packed.
 RECORDERS = {".c", ".cpp", ".csv", ".go", ".h", ".hpp", ".java", ".mod", ".py", ".rs", ".sh"}
-OUR_TESTS = {"test.sh", "listings.py", "choices.py"}
+OUR_TESTS = {"test.sh", "listings.py", "choices.py", "commands.py", "guide.py"}
+# Where a link of a page leads.
+LINK = re.compile(r"\]\(([^()\s#]+)")
 
 CONTROL = """Package: snapjudge
 Version: {version}
@@ -53,6 +55,20 @@ def is_recorder(path):
     return path.is_file() and path.suffix in RECORDERS and path.name not in OUR_TESTS
 
 
+def linked(page):
+    """The files to which the links of a page lead; of a folder the sources in it, and the pictures."""
+    places = [(page.parent / it).resolve() for it in LINK.findall(page.read_text(encoding="utf-8"))]
+    inside = [file for place in places if place.is_dir() for file in place.rglob("*") if is_recorder(file) or file.suffix == ".svg"]
+    return {*filter(pathlib.Path.is_file, places), *inside}
+
+
+def documents():
+    """The pages of the top and of docs/, the examples, and the files to which these pages lead."""
+    pages = [*TOP.glob("*.md"), *TOP.glob("docs/*.md"), TOP / "examples/README.md"]
+    named = {file for page in pages for file in linked(page)}
+    return {*pages, *named, TOP / "LICENSE", *filter(pathlib.Path.is_file, TOP.glob("examples/*"))}
+
+
 def tree_of(prefix, library, proved):
     """What is packed: the bytes of each file by its place under a prefix, all but the wheel and the checksums."""
     tree = {str(it.relative_to(prefix)): it.read_bytes() for it in prefix.rglob("*") if it.is_file()}
@@ -60,7 +76,7 @@ def tree_of(prefix, library, proved):
         tree[f"lib/{name}"] = (library / name).read_bytes()
     for it in filter(is_recorder, (TOP / "ffi/record").rglob("*")):
         tree[f"share/snapjudge/record/{it.relative_to(TOP / 'ffi/record')}"] = it.read_bytes()
-    for it in (TOP / "README.md", TOP / "LICENSE", *TOP.glob("docs/*.md"), *filter(pathlib.Path.is_file, TOP.glob("examples/*"))):
+    for it in documents():
         tree[f"{DOCUMENTS}/{it.relative_to(TOP)}"] = it.read_bytes()
     tree[f"{DOCUMENTS}/PROVED"] = proved.encode()
     return tree
@@ -76,7 +92,7 @@ def with_sums(tree):
 
 
 def is_executable(name):
-    return name.endswith(".sh") or "bin" in name.split("/") or name.endswith("libexec/snapjudge/snapjudge")
+    return name.endswith(".sh") or "bin" in name.split("/")
 
 
 def tar_of(tree, front, date):
@@ -124,13 +140,11 @@ def wheel_of(library, date):
 
 def main(words):
     prefix, library = map(pathlib.Path, words[:2])
-    total, date, dist = words[2], int(words[3]), pathlib.Path(words[4])
+    proved, total, date, dist = *words[2:4], int(words[4]), pathlib.Path(words[5])
     if snapjudge_backend.VERSION != VERSION:
         sys.exit(f"snapjudge: there is no package: ffi/python is of version {snapjudge_backend.VERSION}, and the program of {VERSION}")
-    program = prefix / "libexec/snapjudge/snapjudge"
-    glibc = glibc_of(program.read_bytes(), (library / "libsnapjudge.so").read_bytes())
-    said = program.with_name("snapjudge.version").read_text()
-    tree = tree_of(prefix, library, f"{said}sources {total}\nglibc {glibc} or later\n")
+    glibc = glibc_of((prefix / "bin/snapjudge").read_bytes(), (library / "libsnapjudge.so").read_bytes())
+    tree = tree_of(prefix, library, f"{proved}\nsources {total}\nglibc {glibc} or later\n")
     name, wheel = wheel_of(library / "libsnapjudge.so", date)
     tree[f"share/snapjudge/{name}"] = wheel
     folder = f"{NAME}-{VERSION}-x86_64"

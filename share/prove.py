@@ -1,6 +1,7 @@
 """Proves a program or a static library and all that it stands on, each crate once those below it are proved, and builds it.
 
-usage: prove.py [--keep] [--built BEGUN] [--times FILE] CRATE [FLAG ..]     (FLAGs are those of `rattle build` for the crate itself)
+usage: prove.py [--keep] [--built BEGUN] [--times FILE] [--beside OTHER] CRATE [FLAG ..]
+                (FLAGs are those of `rattle build` for CRATE itself; with --beside another one is proved and built in the same run)
 
 As many crates are proved side by side as there are processors, where memory allows, and first those with the longest chain of others
 above them. A check of a crate over many libraries loads them in each of its jobs, so a crate has one job, and a further one only
@@ -211,7 +212,7 @@ def jobs_for(crate, idle):
 
 
 def prove(crates, keep, flags, times):
-    """Proves the crates, with the flags where one is no library, and returns what was measured, or why one was not proved."""
+    """Proves the crates, each with its flags, and returns what was measured, or why one was not proved."""
     lanes = rtlib.cores()
     room = 0.85 * rtlib.number_in("/proc/meminfo", r"MemAvailable:\s+(\d+)") / 1024
     waiting, running, measured = order(crates, times), [], {}
@@ -228,7 +229,7 @@ def prove(crates, keep, flags, times):
                     break
                 waiting.remove(crate)
                 jobs = jobs_for(crate, free - (len(ready) - at))
-                running.append(Check(crate, jobs, keep, [] if crate.makes_rlib() else flags, needs))
+                running.append(Check(crate, jobs, keep, flags.get(crate, []), needs))
                 is_news = True
             progress.say(waiting, running, lanes, is_news)
             check, why = next_end(running)
@@ -259,7 +260,7 @@ def next_end(running):
 
 
 def main(words):
-    keep, begun, file = False, None, None
+    keep, begun, file, tops = False, None, None, []
     while words and words[0].startswith("--"):
         word = words.pop(0)
         if word == "--keep":
@@ -268,21 +269,25 @@ def main(words):
             begun = os.stat(words.pop(0)).st_mtime_ns
         elif word == "--times":
             file = words.pop(0)
+        elif word == "--beside":
+            tops.append(words.pop(0))
         else:
             sys.exit(f"there is no option {word}")
     # its first call sets a signal's handler, and starts what ends all checks with this process
     rtlib.guarded()
     for it in (signal.SIGINT, signal.SIGTERM, signal.SIGHUP):
         signal.signal(it, signal.default_int_handler)
-    name, *flags = words
-    top = rtlib.Crate(f"{TOP}/crates/{name}", TOP, {})
-    crates = [*top.below(), top]
+    name, *own = words
+    known = {}
+    tops = [rtlib.Crate(f"{TOP}/crates/{it}", TOP, known) for it in (*tops, name)]
+    crates = list(dict.fromkeys(it for top in tops for it in (*top.below(), top)))
+    flags = {tops[-1]: own}
     held = rtlib.lock(crates)
     for it in crates:
         rtlib.stop_on_links(it.folder)
     left = []
     for it in crates:
-        is_fresh = Built(it, flags if it is top else []).is_fresh(keep, begun)
+        is_fresh = Built(it, flags.get(it, [])).is_fresh(keep, begun)
         if not is_fresh or any(below in left for below in it.below()):
             left.append(it)
     measured, why = prove(left, keep, flags, noted_times()) if left else ({}, None)

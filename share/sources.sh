@@ -2,25 +2,23 @@
 # Tells the files that the program is made of or promises: crates.txt, VERSION, and the code and the specs of each crate that the
 # program stands on. A changed proof, test or sweep changes none of them.
 #
-# usage: sources.sh note      the sum, the crates and a list of their files, as the launcher reads them
+# usage: sources.sh note      the sum, the names and the times of the files, as the launcher reads them
 #        sources.sh sum       one sum over the names and the texts of the program's files
 #        sources.sh crates    the crates that the program stands on, and its own
 #
-# The launcher reads this file at each start, since a shell more would take half a millisecond. Nor is there time to find the
-# program's crates: a note names them, and is no longer valid where crates.txt has changed.
+# The launcher reads this file at each start, since a shell more would take half a millisecond. Nor is there time to look for the
+# files: a note names them and their folders. A folder's time changes with the names in it, and crates.txt is one of the files.
 
-# Goes to the folder that is named, and lists each file of the crates that are named behind it: its size, and when its entry
-# changed, as it does with the text and its time.
-list_files() {
+# Goes to the folder that is named, and lists what the lines behind it name: its size, and when its entry changed, as it does with
+# the text, its time and its name.
+list_times() {
   unset CDPATH
   export LC_ALL=C
   cd "$1" || return
-  shift
-  for crate; do
-    shift
-    set -- "$@" "crates/$crate/src" "crates/$crate/specs"
-  done
-  exec find -L crates.txt VERSION "$@" -type f -printf '%p %s %C@\n' 2>/dev/null
+  set -f
+  IFS='
+'
+  exec stat -L -c '%s %.9Z' -- $2 2>/dev/null
 }
 
 # From the last line of crates.txt up each crate is met before those below it. Where the lines stand in another order, they are
@@ -55,15 +53,24 @@ $upwards"
   echo "$found"
 }
 
-# Writes the names of the program's files, each before a byte 0.
+# Finds the program's files by these words of `find`.
 find_files() {
-  set --
+  folders=
   for crate in $(find_crates); do
     for folder in "crates/$crate/src" "crates/$crate/specs"; do
-      ! [ -d "$folder" ] || set -- "$@" "$folder"
+      ! [ -d "$folder" ] || folders="$folders $folder"
     done
   done
-  find -L crates.txt VERSION "$@" \( -path '*/src/tests' -o -path '*/src/tests.rt' \) -prune -o -type f -print0
+  find -L crates.txt VERSION $folders \( -path '*/src/tests' -o -path '*/src/tests.rt' \) -prune -o "$@"
+}
+
+# Writes the names of the program's files and of their folders, a line each. Where a crate lacks one of its two folders, it is named
+# itself, since that may come.
+find_names() {
+  find_files \( -type f -o -type d \) -print
+  for crate in $(find_crates); do
+    { [ -d "crates/$crate/src" ] && [ -d "crates/$crate/specs" ]; } || echo "crates/$crate"
+  done
 }
 
 # Goes to the folder that is named, and sums up.
@@ -71,17 +78,19 @@ sum_sources() {
   unset CDPATH
   export LC_ALL=C
   cd "$1" || return
-  sum=$(find_files | sort -z | xargs -0 sha256sum | sha256sum) && [ "${#sum}" -ge 64 ] && echo "${sum%% *}"
+  sum=$(find_files -type f -print0 | sort -z | xargs -0 sha256sum | sha256sum) && [ "${#sum}" -ge 64 ] && echo "${sum%% *}"
 }
 
-# Goes to the folder that is named, and notes what its sources are, in assignments of a shell. The list is taken first: what changes
-# behind it is then known by its times.
+# Goes to the folder that is named, and notes what its sources are, in assignments of a shell. The times come before the sum: what
+# changes behind them is known by them. What comes or goes before them is known by the names. There are no times where a name is not
+# one line.
 note_sources() {
   unset CDPATH
   cd "$1" || return
-  crates=$(find_crates)
-  list=$(list_files . $crates | sed "s/'/'\\\\''/g")
-  sum=$(sum_sources .) && printf "built='%s'\ncrates='%s'\nlist='%s'\n" "$sum" "$crates" "$list"
+  names=$(find_names)
+  list=$(list_times . "$names") || list=
+  sum=$(sum_sources .) && [ "$(find_names)" = "$names" ] || return
+  printf "built='%s'\nnames='%s'\nlist='%s'\n" "$sum" "$(echo "$names" | sed "s/'/'\\\\''/g")" "$list"
 }
 
 # What this file does as a command.

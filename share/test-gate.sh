@@ -23,11 +23,14 @@ stub() {
   cat >"$room/tree/$2" <<STUB
 #!/usr/bin/env bash
 case \$(cat "$room/$1" 2>/dev/null) in
-  fails) echo "2 passed, 1 failed"; exit 1 ;;
+  fails) echo "java: FAILED"; echo "2 passed, 1 failed"; exit 1 ;;
+  "fails without a name") echo "no name"; echo "2 passed, 1 failed"; exit 1 ;;
   dies) kill -9 \$\$ ;;
   "ends early") echo "half of it"; exit 0 ;;
   "denies its failure") echo "3 passed, 1 failed"; exit 0 ;;
   "denies its status") echo "3 passed, 0 failed"; exit 1 ;;
+  "has a bad edit") echo "must-fail snap_core/push.edit: BAD EDIT: its old text stands there twice"; echo "3 passed, 0 failed"; exit 0 ;;
+  "names an edit of skipped") echo "must-fail push.renumbers-skipped.edit: refused"; echo "2 passed, 0 failed"; exit 0 ;;
   skips) echo "java: skipped, there is no javac"; echo "2 passed, 0 failed, 1 skipped"; exit 0 ;;
 esac
 $3
@@ -43,6 +46,7 @@ stub examples snapjudge 'cat examples/one.report'
 stub launcher share/test.sh 'echo "3 passed, 0 failed"'
 stub library ffi/test.sh 'echo "3 passed, 0 failed"'
 stub pages share/test-pages.py 'echo "3 passed, 0 failed"'
+stub pictures share/test-draw.py 'echo "3 passed, 0 failed"'
 stub package share/test-package.sh 'echo "3 passed, 0 failed"'
 stub recorders ffi/record/test.sh 'echo "3 passed, 0 failed"'
 stub systems examples/systems/test.sh 'echo "3 passed, 0 failed"'
@@ -60,13 +64,13 @@ expect() {
     passed=$((passed + 1))
   else
     failed=$((failed + 1))
-    echo "gate: $name: status $status, wanted $wanted and the last line $last; it ends"
+    echo "gate: failed: $name: status $status, wanted $wanted and the last line $last; it ends"
     tail -n 16 "$room/out"
   fi
 }
 
-parts="gate proofs must-catch build examples launcher library pages package recorders systems scans sweep"
-expect "all parts pass" 0 "35 passed, 0 failed"
+parts="gate proofs must-catch build examples launcher library pages pictures package recorders systems scans sweep"
+expect "all parts pass" 0 "38 passed, 0 failed"
 for part in $parts; do
   for way in fails dies "ends early" "denies its failure" "denies its status"; do
     case "$part $way" in
@@ -79,12 +83,27 @@ for part in $parts; do
   rm "$room/$part"
 done
 echo fails >"$room/build"
-expect "parts that need the program are named" 1 "9 passed, 10 failed" "launcher was not reached: there is no program"
+expect "parts that need the program are named" 1 "9 passed, 11 failed" "launcher was not reached: there is no program"
 rm "$room/build"
 echo skips >"$room/recorders"
-expect "what is skipped is said" 0 "34 passed, 0 failed, 1 skipped" "recorders: java: skipped, there is no javac"
+expect "what is skipped is said" 0 "37 passed, 0 failed, 1 skipped" "recorders: java: skipped, there is no javac"
+echo fails >"$room/recorders"
+expect "what failed is said at the end" 1 "37 passed, 1 failed" "recorders: java: FAILED"
+echo "fails without a name" >"$room/recorders"
+expect "the last lines stand for a name" 1 "37 passed, 1 failed" "recorders: no name"
+echo "names an edit of skipped" >"$room/recorders"
+expect "a name with the word is not skipped" 0 "37 passed, 0 failed"
+if grep -q "^recorders: must-fail" "$room/out"; then
+  failed=$((failed + 1))
+  echo "gate: FAILED: a wrong body with the word skipped in its name counts as skipped"
+else
+  passed=$((passed + 1))
+fi
 rm "$room/recorders"
-for file in share/test-pages.py share/test.sh ffi/test.sh share/test-package.sh ffi/record/test.sh examples/systems/test.sh sweep/scans.sh sweep/test.sh sweep/must_catch.py build; do
+echo "has a bad edit" >"$room/proofs"
+expect "a wrong body that can't be applied" 1 "38 passed, 1 failed" "proofs: must-fail snap_core/push.edit: BAD EDIT"
+rm "$room/proofs"
+for file in share/test-pages.py share/test-draw.py share/test.sh ffi/test.sh share/test-package.sh ffi/record/test.sh examples/systems/test.sh sweep/scans.sh sweep/test.sh sweep/must_catch.py build; do
   mv "$room/tree/$file" "$room/kept"
   expect "$file is not there" 1 '[0-9]+ passed, [1-9][0-9]* failed'
   mv "$room/kept" "$room/tree/$file"
@@ -112,7 +131,7 @@ if [ "$status" = 1 ] && grep -q "^there is no rt on the path" "$room/out"; then
   passed=$((passed + 1))
 else
   failed=$((failed + 1))
-  echo "gate: no tools: status $status"
+  echo "gate: failed: no tools: status $status"
   cat "$room/out"
 fi
 

@@ -55,7 +55,7 @@ has() {
 
 # A machine with these tools alone, with the home that is named, and nothing of where this runs.
 mkdir "$room/tools"
-for tool in awk cat cmp cut env grep gzip mkdir readlink rm sed sh sha256sum tar xargs; do
+for tool in cut gzip mkdir rm sh sha256sum tar xargs; do
   ln -s "$(type -P "$tool")" "$room/tools/$tool"
 done
 bare() {
@@ -88,10 +88,10 @@ has_all() {
   [ "$found" -gt 0 ]
 }
 
-# What ./install puts under a prefix, but for the program and its line.
+# What ./install puts under a prefix, but for the program.
 has_installed() {
   ./install "$room/installed" &&
-    (cd "$room/installed" && find . -type f ! -path './libexec/*' -printf '%P\n') >"$room/list" && has_all "$room/installed" "$1"
+    (cd "$room/installed" && find . -type f ! -path ./bin/snapjudge -printf '%P\n') >"$room/list" && has_all "$room/installed" "$1"
 }
 
 has_recorders() {
@@ -100,13 +100,26 @@ has_recorders() {
 }
 
 has_documents() {
-  ls README.md LICENSE docs/*.md examples/*.* >"$room/list" && has_all . "$1/$documents"
+  ls ./*.md LICENSE docs/*.md docs/pictures/* examples/*.* >"$room/list" && has_all . "$1/$documents"
 }
+
+# Whether each link of the pages under a prefix leads to what is there too.
+links_lead() (
+  found=0
+  cd "$1/$documents" || exit
+  for page in *.md docs/*.md examples/README.md; do
+    while IFS= read -r target; do
+      [ -e "${page%"${page##*/}"}$target" ] || { echo "$page: $target leads nowhere" && exit 1; }
+      found=$((found + 1))
+    done < <(awk '/^ *```/ { inside = !inside } !inside' "$page" | grep -o '\](\([^()# ]*\)' | cut -c 3- | grep -v '^$\|^[a-z]*:')
+  done
+  [ "$found" -gt 100 ]
+)
 
 # Whether the program says what it is, and so does the file of who proved it.
 says_its_version() {
-  local line="snapjudge $version for x86-64-v2, proved with $(rt version)"
-  [ "$(bare "$room" "$1/bin/snapjudge" --version)" = "$line" ] && [ "$(head -n 1 "$1/$documents/PROVED")" = "$line" ] &&
+  [ "$(bare "$room" "$1/bin/snapjudge" --version)" = "snapjudge $version" ] &&
+    [ "$(head -n 1 "$1/$documents/PROVED")" = "snapjudge $version for x86-64-v2, proved with $(rt version)" ] &&
     [ "$(sed -n 's/^sources //p' "$1/$documents/PROVED")" = "$(share/sources.sh sum)" ]
 }
 
@@ -243,8 +256,11 @@ done
 printf '#!/bin/sh\nexit 127\n' >"$room/later"
 chmod +x "$room/later"
 try "a program for later processors" refuses 1 "does not run on every x86-64" "${words[@]}" --program "$room/later"
+printf '#!/bin/sh\necho snapjudge 9\n' >"$room/other"
+chmod +x "$room/other"
+try "a program of another version" refuses 1 "its program is snapjudge 9, and VERSION has $version" "${words[@]}" --program "$room/other"
 try "a word that is none" refuses 5 "usage: package" "${words[@]}" --words
-try "two folders" refuses 5 "usage: package" "${words[@]}" "$room/other"
+try "two folders" refuses 5 "usage: package" "${words[@]}" "$room/else"
 
 mkdir "$room/first" "$room/second"
 if [ -z "$dist" ]; then
@@ -266,6 +282,7 @@ try_prefix archive "$prefix"
 try "archive: what ./install installs" has_installed "$prefix"
 try "archive: recorders" has_recorders "$prefix"
 try "archive: documents" has_documents "$prefix"
+try "archive: links of its pages" links_lead "$prefix"
 has cc "C" && has pkg-config "C" && try "archive: C" calls_from_c "$prefix"
 has cc "the recorder in C" && try "archive: the recorder in C" records_in_c "$prefix"
 try "archive: the recorder in Python" records_in_python "$prefix"

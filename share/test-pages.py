@@ -1,9 +1,9 @@
 #!/usr/bin/env python3
-"""Tries the pages: their sessions, links, paths and sizes. The last line is 'N passed, M failed', with ', K skipped' behind it.
+"""Tries the pages: their dialogues, links, paths and sizes. The last line is 'N passed, M failed', with ', K skipped' behind it.
 
-usage: test-pages.py [--sentences] [PAGE ..]      all pages where none is named
+usage: test-pages.py [PAGE ..]      all pages where none is named
 
-A session is a block with the mark `console`: a line `$ COMMAND`, and below it what that command writes. All sessions run
+A dialogue is a block with the mark `console`: a line `$ COMMAND`, and below it what that command writes. All dialogues run
 one after the other in one scratch copy of the tree, each by a shell of its own at the top. A block with `file=NAME` in its mark is
 written there when its turn comes. Behind `console` may stand:
 
@@ -11,8 +11,8 @@ written there when its turn comes. Behind `console` may stand:
   skip          the commands are not run: they take long, change the machine, or want a tree that is built otherwise
   needs=A,B     the commands run where these tools and files are there
 
-What is not run is named, and counted as skipped. Sentences of more than 25 words are counted, and with --sentences listed. First
-the tests are tried themselves: each must find what is wrong with a small page.
+What is not run is named, and counted as skipped. A sentence of more than 25 words fails. First the tests are tried themselves: each
+must find what is wrong with a small page.
 """
 import contextlib
 import io
@@ -31,8 +31,8 @@ TOP = graph.TOP
 BUILT = {".git", "out", "target", "dist", "__pycache__"}
 # How many lines the first page and that of a crate may have.
 README_LINES, CRATE_LINES = 110, 40
-# A sentence should have no more words; and of so many words none stands twice.
-WORDS, SAME_WORDS = 25, 8
+# A sentence has no more words; and outside of tables none of so many words stands twice.
+WORDS, SAME_WORDS = 25, 4
 # The pages whose commands are not run here, and the script that tries what they show.
 ELSEWHERE = {"docs/OWN-OBJECT.md": "ffi/record/test.sh", "docs/RECORDING.md": "ffi/record/test.sh", "docs/INSTALL.md": "share/test-package.sh"}
 # The files that repeat the number of VERSION, each with how it stands there.
@@ -40,13 +40,14 @@ VERSIONED = {
     "CHANGELOG.md": "\n## {}\n",
     "docs/FORMAT.md": "version {},",
     "CITATION.cff": "\nversion: {}\n",
+    "crates/snapjudge/src/version.rt": ' VERSION: &str = "{}";\n',
     "ffi/python/pyproject.toml": '\nversion = "{}"\n',
     "ffi/python/snapjudge_backend.py": 'VERSION = "snapjudge", "{}"\n',
     "ffi/rust/snapjudge/Cargo.toml": '\nversion = "{}"\n',
     "share/snapjudge.1": '"snapjudge {}"',
 }
 MARK = "=== the next command of a page ==="
-# How long a session may take, in seconds.
+# How long a dialogue may take, in seconds.
 LONGEST = 300
 # The least status that is no verdict, and the least that a shell or a signal gives.
 NO_VERDICT, NOT_RUN = 4, 126
@@ -65,7 +66,9 @@ WRONG = {
     "a block without an end": "```\n",
     "commands without a mark": "```\n$ echo one\none\n```\n",
     "a line too many": "\n" * (README_LINES + 1),
-    "a sentence twice": "This sentence of nine words stands twice on it.\n\n" * 2,
+    "a sentence too long": "Word" + " word" * WORDS + ".\n",
+    "a sentence too long around a colon": "Word" + " word" * 12 + ": 7" + " words" * 12 + ".\n",
+    "a sentence twice": "This stands twice: 2.\n\n" * 2,
 }
 
 LINK = re.compile(r"!?\[((?:[^\[\]]|\[[^\]]*\])*)\]\(([^()\s]+)\)")
@@ -83,7 +86,7 @@ class Count:
         self.passed += bool(is_so)
         self.failed += not is_so
         if not is_so:
-            print(otherwise)
+            print(f"failed: {otherwise}")
 
     def skip(self, what):
         self.skipped += 1
@@ -102,7 +105,7 @@ class Block:
         self.page, self.line, self.words, self.lines = page, line, words, []
 
     @property
-    def is_session(self):
+    def is_dialogue(self):
         return self.words[:1] == ["console"]
 
     def file(self):
@@ -168,7 +171,7 @@ class Page:
                 if PATH.fullmatch(code):
                     yield line, code
 
-    def sentences(self):
+    def sentences(self, with_tables=True):
         """Its sentences, each with a line: the cells of tables and the items of lists by themselves."""
         paragraph = []
         for line, text in [*self.prose, (self.length, "")]:
@@ -177,17 +180,17 @@ class Page:
                 yield from split(paragraph)
                 paragraph = []
             if text.startswith("|"):
-                for cell in text.strip("|").split("|"):
+                for cell in text.strip("|").split("|") if with_tables else ():
                     yield from split([(line, cell)])
             elif text.strip() and not text.startswith(("#", "<")):
                 paragraph.append((line, re.sub(r"^\s*(?:[-*] |\d+\. )", "", text)))
 
 
 def split(paragraph):
-    """The sentences of a paragraph: code counts as a word."""
+    """The sentences of a paragraph: code counts as a word, and a colon ends none."""
     whole = " ".join(text.strip() for _, text in paragraph)
     whole = CODE.sub(lambda it: "`" + re.sub(r"[\s.:!?]", "_", it.group(2)) + "`", LINK.sub(r"\1", whole)).replace("**", "")
-    for sentence in re.split(r"(?<=[.!?:])[)*\"]* +(?=[\"(*]*[A-Z0-9_./`])", whole):
+    for sentence in re.split(r"(?<=[.!?])[)*\"]* +(?=[\"(*]*[A-Z0-9_./`])", whole):
         if sentence.strip():
             yield paragraph[0][0], sentence.strip()
 
@@ -252,21 +255,21 @@ def try_version(count):
         count.expect(is_there, f"{name} does not name version {version}")
 
 
-def try_sentences(count, pages, is_listed):
-    """Counts the long sentences, and finds those that stand twice in the top page and in docs/."""
-    known, long = {}, 0
+def try_sentences(count, pages):
+    """No sentence is too long, and outside of tables none stands twice in the top page and in docs/."""
+    known = {}
     for page in pages:
         for line, sentence in page.sentences():
-            words = sentence.split()
-            long += len(words) > WORDS
-            if is_listed and len(words) > WORDS:
-                print(f"{page.name}:{line}: {len(words)} words: {sentence}")
-            if len(words) >= SAME_WORDS and (page.name == "README.md" or page.name.startswith("docs/")):
-                first = known.setdefault(sentence, f"{page.name}:{line}")
-                if first != f"{page.name}:{line}":
-                    count.expect(False, f"{page.name}:{line}: this stands at {first} too: {sentence}")
+            words = len(sentence.split())
+            if words > WORDS:
+                count.expect(False, f"{page.name}:{line}: {words} words, and {WORDS} are the limit: {sentence}")
+        if page.name != "README.md" and not page.name.startswith("docs/"):
+            continue
+        for line, sentence in page.sentences(with_tables=False):
+            if len(sentence.split()) >= SAME_WORDS and sentence in known:
+                count.expect(False, f"{page.name}:{line}: this stands at {known[sentence]} too: {sentence}")
+            known.setdefault(sentence, f"{page.name}:{line}")
     count.expect(True, "")
-    print(f"{long} sentences have more than {WORDS} words")
 
 
 def is_program_fresh():
@@ -279,7 +282,7 @@ def is_program_fresh():
 
 
 def run(block, room):
-    """What each command of a session writes, on both outputs, and its status; or none where the session takes too long."""
+    """What each command of a dialogue writes, on both outputs, and its status; or none where the dialogue takes too long."""
     script = "".join(f"{command}\nprintf '%s %s\\n' '{MARK}' \"$?\"\n" for _, command, _ in block.commands())
     # what cargo and rustup keep stays where it is
     places = {"CARGO_HOME": os.path.expanduser("~/.cargo"), "RUSTUP_HOME": os.path.expanduser("~/.rustup")}
@@ -294,7 +297,7 @@ def run(block, room):
     return list(zip(parts[::2], map(int, parts[1::2])))
 
 
-def try_session(count, block, room):
+def try_dialogue(count, block, room):
     ran = run(block, room)
     for place, (line, command, wanted) in enumerate(block.commands()):
         where = f"{block.page.name}:{line}: {command}"
@@ -309,18 +312,18 @@ def try_session(count, block, room):
 
 
 def try_page(count, page, room):
-    """Runs the sessions of a page in the copy of the tree."""
+    """Runs the dialogues of a page in the copy of the tree."""
     if page.name in ELSEWHERE:
         for block in filter(Block.commands, page.blocks):
             count.skip(f"{page.name}:{block.line}: {len(block.commands())} commands; {ELSEWHERE[page.name]} tries what they show")
         return
-    for block in filter(lambda it: it.is_session or it.file(), page.blocks):
+    for block in filter(lambda it: it.is_dialogue or it.file(), page.blocks):
         why = "skip" if "skip" in block.words else block.missing()
-        if block.is_session and why:
+        if block.is_dialogue and why:
             for line, command, _ in block.commands():
                 count.skip(f"{page.name}:{line}: {command}" + ("" if why == "skip" else f", since {why} is not here"))
-        elif block.is_session:
-            try_session(count, block, room)
+        elif block.is_dialogue:
+            try_dialogue(count, block, room)
         else:
             file = pathlib.Path(room, "tree", block.file())
             file.parent.mkdir(parents=True, exist_ok=True)
@@ -335,15 +338,14 @@ def try_tests(count):
             os.mkdir(f"{room}/tree")
             try_form(found, page)
             try_links(found, page, {})
-            try_sentences(found, [page], False)
-            for block in filter(lambda it: it.is_session, page.blocks):
-                try_session(found, block, room)
+            try_sentences(found, [page])
+            for block in filter(lambda it: it.is_dialogue, page.blocks):
+                try_dialogue(found, block, room)
         count.expect(found.failed == 1, f"a page with {what} has {found.failed} failures")
 
 
 def main(words):
-    is_listed = words[:1] == ["--sentences"]
-    names = words[is_listed:] or all_pages()
+    names = words or all_pages()
     count = Count()
     if not all((TOP / name).exists() for name in names):
         sys.exit(__doc__)
@@ -355,7 +357,7 @@ def main(words):
         try_links(count, page, pages)
     try_graph(count)
     try_version(count)
-    try_sentences(count, chosen, is_listed)
+    try_sentences(count, chosen)
     if is_program_fresh():
         with tempfile.TemporaryDirectory() as room:
             os.mkdir(f"{room}/home")

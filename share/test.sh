@@ -29,7 +29,7 @@ expect() {
     passed=$((passed + 1))
   else
     failed=$((failed + 1))
-    echo "$name: status $found, wanted $status; it wrote"
+    echo "failed: $name: status $found, wanted $status; it wrote"
     cat "$room/out" "$room/err"
   fi
 }
@@ -40,7 +40,7 @@ expect_said() {
     passed=$((passed + 1))
   else
     failed=$((failed + 1))
-    echo "$1: standard error has"
+    echo "failed: $1: standard error has"
     cat "$room/err"
   fi
 }
@@ -62,15 +62,6 @@ named_stale=${named_stale%.}
 ln -s "$top/snapjudge" "$room/first"
 ln -s first "$room/second"
 cd "$room" || exit 1
-mkdir -p stand/bin stand/libexec/snapjudge
-cp "$top/snapjudge" stand/bin/snapjudge
-printf '#!/bin/sh\necho "$GLIBC_TUNABLES $*"\n' >stand/libexec/snapjudge/snapjudge
-chmod +x stand/libexec/snapjudge/snapjudge
-large=glibc.malloc.hugetlb=1:glibc.malloc.top_pad=67108864
-expect "memory in large pages" 0 "$large record
-" env -u GLIBC_TUNABLES stand/bin/snapjudge record
-expect "what the caller has set for the C library stays" 0 "$large:glibc.malloc.arena_max=1 record
-" env GLIBC_TUNABLES=glibc.malloc.arena_max=1 stand/bin/snapjudge record
 expect "a file" 2 "$stale" "$top/snapjudge" check "$examples/stale-view.csv"
 expect "a file through two symbolic links" 1 "$inversion" ./second check "$examples/new-old-inversion.csv"
 expect "a file between options" 1 "$inversion" ./second check --pieces 3 "$examples/new-old-inversion.csv" --workers=4
@@ -78,6 +69,39 @@ expect "a file after two hyphens" 1 "$inversion" ./second check -- "$examples/ne
 cp "$examples/new-old-inversion.csv" old.csv
 cp "$examples/stale-view.csv" "a b.csv"
 expect "two files, the greatest status" 2 "$named_inversion$named_stale" ./second check old.csv "a b.csv"
+mkdir many
+wanted=
+names=
+for number in 1 2 3 4 5 6 7 8 9; do
+  case $number in
+    [27]) example=stale-view ;;
+    *) example=new-old-inversion ;;
+  esac
+  cp "$examples/$example.csv" "many/$number.csv"
+  names="$names many/$number.csv"
+  front=$(report_of $example "many\/$number.csv: ")
+  wanted=$wanted${front%.}
+done
+for workers in 1 2 3 4 8; do
+  expect "nine files and $workers workers, in the order of their names" 2 "$wanted" ./second check --workers $workers $names
+done
+./second record --rounds 500 >long.csv 2>/dev/null
+expect "a long file before short ones" 0 "long.csv
+many/1.csv
+many/3.csv
+" sh -c './second check --workers 4 long.csv many/1.csv many/3.csv | sed "s/: .*//" | uniq'
+wanted=
+for number in $(seq 150); do
+  wanted=$wanted${front%.}
+done
+for workers in 1 2 8; do
+  expect "150 names and $workers workers, in rounds" 1 "$wanted" ./second check --workers $workers $(yes many/9.csv | head -n 150)
+done
+expect "reasons in the order of the names" 4 "$named_inversion" ./second check --workers 4 no.csv none.csv old.csv "$room" nil.csv
+expect_said "each name and its reason" "snapjudge: no.csv: no such file
+snapjudge: none.csv: no such file
+snapjudge: $room: is a directory
+snapjudge: nil.csv: no such file"
 expect "a file that is not there" 4 "" ./second check none.csv
 expect_said "its name and the reason" "snapjudge: none.csv: no such file"
 expect "a folder" 4 "" ./second check "$room"
@@ -99,7 +123,11 @@ expect_said "the reason" "error: - is standard input, and can be named once"
 mkfifo pipe
 expect "a pipe among files" 2 "$(report_of stale-view 'pipe: ' | sed '$d')
 $named_inversion" sh -c 'cat "a b.csv" >pipe & ./second check pipe old.csv'
+expect "a pipe whose writer comes late" 2 "$(report_of stale-view 'pipe: ' | sed '$d')
+$named_inversion" timeout 60 sh -c '{ sleep 0.5; cat "a b.csv" >pipe; } & ./second check pipe old.csv'
 rm pipe
+! command -v bash >/dev/null ||
+  expect "a text that a command writes" 1 "$inversion" bash -c './second check <(cat old.csv)'
 expect "a file without an end" 3 "/dev/zero: refused record 0: toolong
 $named_inversion" ./second check /dev/zero old.csv
 expect "a folder among files" 4 "$named_inversion" ./second check "$room" old.csv
@@ -110,6 +138,8 @@ expect "a name that is not UTF-8" 5 "" ./second check "$(printf '\377.csv')"
 expect_said "the reason" "error: the words are not text"
 expect "an option with a blank" 5 "" ./second check --pieces "3 --quiet" old.csv
 
+. "$top/share/test-names.sh"
+
 # no status of a verdict where the report was not written, or the history not read
 for files in old.csv 'old.csv old.csv'; do
   for command in "check $files" "check --quiet $files"; do
@@ -119,11 +149,11 @@ for files in old.csv 'old.csv old.csv'; do
       exit \$(cat gone)"
   done
 done
-for command in "shrink old.csv" "explain old.csv" "record --rounds 2" --version; do
+for command in "shrink old.csv" "shrink --draw old.csv" "explain old.csv" "explain --draw old.csv" "draw old.csv" "draw --text old.csv" "record --rounds 2" --version; do
   expect "$command, and a full disk" 4 "" sh -c "./second $command >/dev/full"
   expect "$command, and no output" 4 "" sh -c "./second $command >&-"
 done
-for command in check "check -" "shrink -" "explain -"; do
+for command in check "check -" "shrink -" "shrink --draw -" "explain -" "explain --draw -" "draw -" "draw --text -"; do
   expect "$command, and no input" 4 "" sh -c "./second $command <&-"
   expect_said "the reason" "snapjudge: read failed"
 done
@@ -132,6 +162,23 @@ expect_said "the reason" "snapjudge: -: read failed"
 expect "two files, and no input" 2 "$named_inversion$named_stale" sh -c './second check old.csv "a b.csv" <&-'
 expect "two files, and no errors" 4 "$named_inversion" sh -c './second check old.csv none.csv 2>&-'
 expect "a pattern, and no file" 4 "" ./second check "*"
+
+# Under each limit on memory, from too little to ample, a check says that it ran out, and writes nothing, or its report is whole. Both
+# come. Where the program can't be loaded there is nothing to see.
+under_limits() {
+  refused=0 whole=0
+  for limit in $(seq 2000 8 6000); do
+    (ulimit -v "$limit" && exec "$top/built/snapjudge" check "$examples/atomic-run.csv") >report 2>reason
+    case "$?: $(cat reason)" in
+      "0: ") cmp report "$examples/atomic-run.report" && whole=$((whole + 1)) || return ;;
+      "4: snapjudge: out of memory") [ ! -s report ] && refused=$((refused + 1)) || return ;;
+      127:*) ;;
+      *) cat report reason && return 1 ;;
+    esac
+  done
+  [ "$refused" -gt 0 ] && [ "$whole" -gt 0 ]
+}
+expect "limits on memory" 0 "" under_limits
 tells() {
   expect "the words $1" 5 "" ./second $1
   cp err help
@@ -142,15 +189,19 @@ for words in --help -h help; do
   tells "$words" "snapjudge --version"
 done
 tells "check --help" "snapjudge check [OPTIONS] [FILE]..."
-tells "shrink --help" "snapjudge shrink [FILE]"
-tells "explain old.csv --help" "snapjudge explain [FILE]"
-expect "a file without its command" 5 "" ./second old.csv
-expect_said "the tip" "snapjudge: to judge a file, write: snapjudge check old.csv"
-
-expect "a file that is not there, without its command" 5 "" ./second none.csv
-expect_said "the tip" "snapjudge: to judge a file, write: snapjudge check none.csv"
+tells "shrink --help" "snapjudge shrink [OPTIONS] [FILE]"
+tells "explain old.csv --help" "snapjudge explain [OPTIONS] [FILE]"
+tells "draw --svg --help" "snapjudge draw [OPTIONS] [FILE]"
+for file in old.csv none.csv; do
+  expect "$file without a command" 5 "" ./second $file
+  expect_said "the tip" "error: to judge a file, write: snapjudge check $file"
+done
 expect "a file to record" 5 "" ./second record --rounds 3 old.csv
-expect_said "the tip" "snapjudge: to judge a file, write: snapjudge check old.csv"
+cp err help
+expect "the reason" 0 "" grep -qF "unexpected argument 'old.csv'" help
+version=$(cat "$top/VERSION")
+expect "the version" 0 "snapjudge $version
+" ./second --version
 
 expect "the verdicts alone" 1 "regular yes
 monotone no
@@ -278,9 +329,48 @@ read: view 3 shows more of component 0 than view 4, and less of component 1
   esac
   expect "the explanation of $name" "$status" "$said" ./second explain "$history"
 done
+expect "a picture of standard input" 3 "refused record 1: header
+" ./second draw
+for command in "draw --text" "shrink --draw"; do
+  expect "a refused text, and $command" 3 "refused record 1: header
+" ./second $command
+done
+expect "a picture in two forms" 5 "" ./second draw --svg --text old.csv
+expect_said "the reason" "error: the argument '--svg' cannot be used with '--text'"
+expect "a picture of a file that is not there" 4 "" ./second draw --svg none.csv
+expect "a picture of two files" 5 "" ./second draw old.csv "a b.csv"
+cp err help
+expect "the reason" 0 "" grep -qF "unexpected argument 'a b.csv'" help
 expect "an explanation of two files" 5 "" ./second explain old.csv "a b.csv"
 cp err help
 expect "the reason" 0 "" grep -qF "unexpected argument 'a b.csv'" help
+
+. "$top/share/test-sums.sh"
+! has python3 || expect "what a terminal shows" 0 "" python3 "$top/share/test-screen.py" ./second "$examples"
+expect "other colours" 5 "" ./second check --color blue old.csv
+cp err help
+expect "the reason" 0 "" grep -qF "[possible values: auto, always, never]" help
+
+# Objects: those of the examples hold what their reports and explanations say.
+! has python3 || expect "the objects of the examples" 0 "" python3 "$top/share/compare-json.py" ./second "$examples"/*.csv
+expect "the object of a file that is not there" 4 '{"name":"none.csv","status":4,"trouble":"no such file"}
+' ./second check --format json none.csv
+expect_said "its name and the reason" "snapjudge: none.csv: no such file"
+expect "the object of standard input" 3 '{"name":"-","status":3,"refused":{"record":1,"fault":"header"}}
+' sh -c 'echo x | ./second check --format json'
+expect "an object, and a full disk" 4 "" sh -c "./second check --format json old.csv >/dev/full"
+expect "an object of the verdicts alone" 5 "" ./second check --format json --quiet old.csv
+expect_said "the reason" "error: the argument '--quiet' cannot be used with '--format json'"
+expect "another format" 5 "" ./second check --format xml old.csv
+cp err help
+expect "the reason" 0 "" grep -qF "[possible values: plain, json]" help
+if has jq; then
+  cp old.csv "$broken"
+  expect "jq reads each object" 0 "$broken 1 3
+a b.csv 2 4
+" sh -c './second check --format json "$@" | jq -r '"'"'"\(.name) \(.status) \((.proximity // .read).view.begin)"'"'" sh "$broken" "a b.csv"
+  rm "$broken"
+fi
 
 # The reader that follows docs/FORMAT.md counts each example as the judge does, and names the same fault of a broken
 # text. The texts are the page's own: those of its commands, a fault of each name among them.
@@ -295,6 +385,7 @@ if has python3; then
   for history in "$examples"/*.csv; do
     reads_as_judged "${history##*/}" "$history"
   done
+  expect "the second reader has at most 60 lines" 0 "" test "$(wc -l <"$examples/reader.py")" -le 60
   expect "a second reader of a file by name" 3 "refused record 4: number
 " python3 "$examples/reader.py" "$examples/skipped-number.csv"
   expect "a file by name that is not there" 4 "" python3 "$examples/reader.py" none.csv
@@ -332,17 +423,18 @@ To find it by name, put $room/pre fix/bin on your PATH.
 "
 expect "an installation" 0 "snapjudge is installed as $room/pre fix/bin/snapjudge$on_path" "$top/install" "pre fix"
 expect "the installed program" 2 "$stale" "pre fix/bin/snapjudge" check "$examples/stale-view.csv"
-expect "its version" 0 "$(cat "$top/built/snapjudge.version")
+expect "it needs no other file" 2 "$stale" env -i PATH=/nowhere "pre fix/bin/snapjudge" check "$examples/stale-view.csv"
+expect "its version" 0 "snapjudge $version
 " "pre fix/bin/snapjudge" --version
 if has pkg-config && has cc; then
   expect "the library by what pkg-config tells" 0 "" sh -c 'flags=$(PKG_CONFIG_LIBDIR="$1/lib/pkgconfig" pkg-config --cflags --libs snapjudge) &&
     cp "$2/ffi/c/test_examples.c" . && eval "cc -o caller test_examples.c $flags -pthread" &&
     LD_LIBRARY_PATH="$1/lib" ./caller "$2"/examples/*.csv >&2' sh "$room/pre fix" "$top"
-  expect "the version that it tells" 0 "$(cat "$top/VERSION")
+  expect "the version that it tells" 0 "$version
 " env PKG_CONFIG_LIBDIR="$room/pre fix/lib/pkgconfig" pkg-config --modversion snapjudge
 fi
 mkdir tools
-for tool in rt python3 flock dirname mkdir cp chmod mv cat sh find cmp readlink sed rm head sort xargs sha256sum mktemp awk; do
+for tool in rt python3 flock dirname mkdir cp chmod mv cat sh find stat cmp readlink sed rm head sort xargs sha256sum mktemp awk; do
   ln -s "$(command -v "$tool")" tools
 done
 expect "an installation without a compiler" 0 "snapjudge is installed as $room/bare/bin/snapjudge
@@ -355,17 +447,15 @@ expect "the program that was there" 2 "$stale" "pre fix/bin/snapjudge" check "$e
 expect "what it left by halves" 0 "" find "pre fix" -name '*.new'
 expect "no output for what it says" 1 "" sh -c '"$1" "pre fix" >/dev/full' sh "$top/install"
 mkdir -p "pre fix/share/fish/mine"
-rm "pre fix/libexec/snapjudge/snapjudge"
-expect "a launcher without its program" 4 "" "pre fix/bin/snapjudge" check old.csv
-expect_said "what is missing" "snapjudge: ./pre fix/bin/../libexec/snapjudge/snapjudge is not there; install it again"
+rm "pre fix/share/man/man1/snapjudge.1"
 expect "a removal of what is not all there" 0 "snapjudge is no more under $room/pre fix
 " "$top/install" --remove "pre fix"
-expect_said "what is missing" "snapjudge: these were not under $room/pre fix: libexec/snapjudge/snapjudge"
+expect_said "what is missing" "snapjudge: these were not under $room/pre fix: share/man/man1/snapjudge.1"
 expect "what is left of it" 0 "" find "pre fix" -type f
 expect "the folders of others that are left" 0 "pre fix/share/fish
 pre fix/share/fish/mine
 " find "pre fix" -mindepth 2
-expect "the folders of the prefix itself" 0 "" sh -c 'ls -d "$1/bin" "$1/libexec" "$1/share" >&2' sh "pre fix"
+expect "the folders of the prefix itself" 0 "" sh -c 'ls -d "$1/bin" "$1/share" >&2' sh "pre fix"
 expect "a removal of what is not there" 1 "" "$top/install" --remove "pre fix"
 expect_said "the reason" "snapjudge: nothing of it was under $room/pre fix"
 mkdir "pre fix/bin/snapjudge"
@@ -420,11 +510,17 @@ for shell in bash zsh fish; do
   has "$shell" || continue
   completes "snapjudge sh" shrink
   completes "snapjudge --v" --version
-  completes "snapjudge check --" "--help --pieces --quiet --views --workers"
+  completes "snapjudge check --" "--color --files-from --format --help --no-progress --null --pieces --quiet --recursive --summary --views --workers"
+  completes "snapjudge check --format " "json plain"
+  completes "snapjudge check --color " "always auto never"
+  completes "snapjudge check --files-from t" two.csv
   completes "snapjudge check --quiet --pi" --pieces
   completes "snapjudge record --" "--help --judge --rounds --scan --stamped --workers"
   completes "snapjudge record --scan --r" --rounds
-  for command in check shrink explain; do
+  completes "snapjudge draw --" "--help --svg --text"
+  completes "snapjudge shrink --" "--draw --help"
+  completes "snapjudge explain --d" --draw
+  for command in check shrink explain draw; do
     completes "snapjudge $command " "one.csv two.csv"
     completes "snapjudge $command t" two.csv
   done
@@ -440,27 +536,40 @@ fi
 # A tree of one crate, with a prover that does what the file `answer` says, and tells when it is at work.
 mkdir -p tree/share tree/crates/snapjudge/src/tests tree/crates/snapjudge/specs tree/crates/snapjudge/proofs tree/crates/snap_sweep/src bin
 cp "$top/snapjudge" "$top/build" tree
-cp "$top/share/sources.sh" tree/share
+cp "$top/share/sources.sh" "$top/share/library.sh" tree/share
+mkdir -p tree/ffi
+cat >tree/ffi/build.sh <<'SH'
+#!/bin/sh
+[ "$(cat "$ANSWER")" != "proved, and not linked" ] || { echo "ld: no room"; exit 1; }
+echo >>linked
+SH
+chmod +x tree/ffi/build.sh
 printf 'snapjudge:\nsnap_sweep: snapjudge\n' >tree/crates.txt
 echo 0 >tree/VERSION
 main=tree/crates/snapjudge/src/main.rt
 echo old >$main
 printf '#!/bin/sh\necho a prover\n' >bin/rt
 cat >tree/share/prove.py <<'PY'
-import os, sys
+import os, sys, time
 
 with open(os.environ["ANSWER"]) as file:
     answer = file.read().strip()
 print("at work", file=sys.stderr, flush=True)
+while os.path.exists(os.environ["ANSWER"] + ".wait"):
+    time.sleep(0.02)
 if answer == "refused":
     print("not proved: main")
     sys.exit(1)
 with open("crates/snapjudge/src/main.rt") as file:
     text = file.read().strip()
-help_status = 127 if answer == "proved, on an older processor" and "--cpu=x86-64-v3" in sys.argv else 5
+with open("beside", "w") as beside:
+    beside.write(" ".join(sys.argv[1:-1]) + "\n")
+with open("VERSION") as file:
+    version = file.read().strip() if answer != "proved, with another version" else "9"
+status = 127 if answer == "proved, on an older processor" and "--cpu=x86-64-v3" in sys.argv else 0
 os.makedirs("crates/snapjudge/out", exist_ok=True)
 with open("crates/snapjudge/out/snapjudge", "w") as program:
-    program.write(f'#!/bin/sh\n[ "$1" != --help ] || exit {help_status}\necho {text}\n')
+    program.write(f'#!/bin/sh\n[ "$1" != --version ] || {{ echo snapjudge {version}; exit {status}; }}\necho {text}\n')
 os.chmod("crates/snapjudge/out/snapjudge", 0o755)
 PY
 chmod +x bin/rt
@@ -481,8 +590,12 @@ runs() {
 }
 builds "a first call" old
 runs "a second call" old
+expect "the library is proved in the same run" 0 "--beside snap_c snapjudge
+" cat tree/beside
+expect "and is linked once" 0 "
+" cat tree/linked
 expect "the processors that it is for" 0 "snapjudge 0 for x86-64-v3, proved with a prover
-" tree/snapjudge --version
+" cat tree/built/snapjudge.version
 
 # what changes the program, whatever its times say
 cp -a tree/crates saved
@@ -503,18 +616,42 @@ echo new >$main
 builds "an edit" new
 tar xf saved.tar -C tree
 builds "sources of before, out of an archive" old
+touch -r $main time
 echo new >$main
-touch -r saved/snapjudge/src/main.rt $main
+touch -r time $main
 builds "an edit of the same size and time" new
+if has rsync; then
+  rsync -a saved/ tree/crates
+  runs "rsync that finds the same size and time" new
+  echo newer >$main
+  builds "another edit" newer
+  rsync -a saved/ tree/crates
+  builds "sources of before, by rsync" old
+  echo new >$main
+  builds "an edit" new
+fi
 echo old >$main
 touch -d 2001-01-01 $main
 builds "an edit by a clock that went back" old
-for file in src/more.rt specs/More.antt; do
-  touch tree/crates/snapjudge/$file
+for file in src/more.rt specs/More.antt "src/a b's.rt" src/below/more.rt "src/a
+b.rt"; do
+  mkdir -p "tree/crates/snapjudge/${file%/*}"
+  touch "tree/crates/snapjudge/$file"
   builds "one file more, $file" old
-  rm tree/crates/snapjudge/$file
+  runs "and once more, $file" old
+  echo more >"tree/crates/snapjudge/$file"
+  builds "an edit of it, $file" old
+  rm "tree/crates/snapjudge/$file"
   builds "one file less, $file" old
 done
+mkdir elsewhere
+echo linked >elsewhere/linked.rt
+ln -s ../../../../elsewhere/linked.rt tree/crates/snapjudge/src/linked.rt
+builds "a link to a file" old
+echo more >elsewhere/linked.rt
+builds "an edit behind a link" old
+rm tree/crates/snapjudge/src/linked.rt
+builds "the link is gone" old
 echo 1 >tree/VERSION
 builds "another version" old
 printf 'snapjudge: snap_core\nsnap_core:\n' >tree/crates.txt
@@ -523,10 +660,18 @@ echo core >tree/crates/snap_core/src/lib.rt
 builds "a crate below" old
 echo more >>tree/crates/snap_core/src/lib.rt
 builds "an edit of the crate below" old
+mkdir tree/crates/snap_core/specs
+echo first >tree/crates/snap_core/specs/Lib.antt
+builds "the first definition of the crate below" old
+mv tree/crates/snap_core/specs/Lib.antt tree/crates/snap_core/specs/Core.antt
+builds "another name of it" old
 rm tree/built/sources.sh
 builds "a program of which no source is known" old
 : >tree/built/sources.sh
 builds "a program whose sources were not written" old
+sed -i 2,\$d tree/built/sources.sh
+runs "a program of which the sum alone is known" old
+expect "the list is noted anew" 0 "" grep -q "^list='" tree/built/sources.sh
 
 # what does not
 touch $main tree/VERSION
@@ -551,17 +696,119 @@ echo new >$main
 builds "an edit beside it" new
 unset CDPATH
 
+echo old >$main
+echo "proved, and not linked" >answer
+expect "a library that is not linked" 0 "old
+" tree/snapjudge check
+expect_said "the reason" "at work
+snapjudge: the library was not built: ld: no room"
+runs "the program beside it" old
+echo proved >answer
+echo new >$main
+rm tree/linked
+ln -sf "$room/bin/rt" "$(command -v tail)" tools
+ln -sf "$(python3 -c 'import os, sys; print(os.path.realpath(sys.executable))')" tools/python3
+expect "a build without a compiler" 0 "new
+" env PATH="$room/tools" tree/snapjudge check
+expect_said "what is left out" "snapjudge: there is no cc, so the library is left out
+at work"
+expect "the program alone is proved" 0 "snapjudge
+" cat tree/beside
+expect "and nothing is linked" 1 "" test -e tree/linked
+
 mv tree/share/sources.sh saved.sh
 expect "a checkout without share/sources.sh" 70 "" tree/snapjudge check
 mv saved.sh tree/share/sources.sh
 
 echo old >$main
 echo "proved, on an older processor" >answer
-expect "an older processor" 0 "snapjudge 1 for x86-64-v2, proved with a prover
-" tree/snapjudge --version
+expect "an older processor" 0 "old
+" tree/snapjudge check
+expect_said "both kinds are proved" "at work
+at work"
+expect "the processors that it is for" 0 "snapjudge 1 for x86-64-v2, proved with a prover
+" cat tree/built/snapjudge.version
+echo "proved, with another version" >answer
+echo new >$main
+expect "a program of another version" 70 "" tree/snapjudge check
+expect_said "the reason" "at work
+snapjudge: the build failed: the program is built as snapjudge 9, and VERSION has 1"
+echo proved >answer
+
+# Waits until a file has a line, for at most ten seconds.
+await() {
+  for turn in $(seq 200); do
+    ! grep -q "$1" "$2" 2>/dev/null || return 0
+    sleep 0.05
+  done
+}
+# Builds twice at once: the first prover ends when the second build has said that it waits. The second takes what the first left,
+# or proves by the answer that is named.
+build_twice() {
+  touch answer.wait
+  tree/snapjudge check >one 2>one.err &
+  one=$!
+  await "at work" one.err
+  echo "${1-refused}" >answer
+  tree/snapjudge check >two 2>two.err &
+  two=$!
+  await waiting two.err
+  rm answer.wait
+  wait "$one"
+  one=$?
+  wait "$two"
+  codes="$one $?"
+  echo proved >answer
+}
+waits="snapjudge: another build is under way; waiting for it"
+build_twice
+expect "two builds at once" 0 "0 0
+new
+new
+at work
+$waits
+" sh -c 'echo "$1"; cat one two one.err two.err' sh "$codes"
+echo old >$main
+echo refused >answer
+build_twice proved
+expect "two builds at once, and the first fails" 0 "70 0
+old
+at work
+snapjudge: the build failed: not proved: main
+$waits
+at work
+" sh -c 'echo "$1"; cat one two one.err two.err' sh "$codes"
+echo new >$main
+touch answer.wait
+tree/build >one 2>one.err &
+one=$!
+await "at work" one.err
+kill "$one"
+wait "$one"
+codes=$?
+rm answer.wait
+expect "a build that is ended" 0 "70
+at work
+snapjudge: the build failed: it was interrupted
+" sh -c 'echo "$1"; cat one one.err' sh "$codes"
+builds "a build after it" new
+for closed in '<&-' '2>&-' '<&- 2>&-'; do
+  echo "${#closed}" >$main
+  expect "a build, and $closed" 0 "${#closed}
+" sh -c "tree/snapjudge check $closed"
+  runs "the program" "${#closed}"
+done
+echo old >$main
+expect "a build, and no output" 0 "" sh -c 'tree/snapjudge check >&- || :'
+runs "the program" old
+
 echo new >$main
 rm bin/rt
 expect "an edit, with no prover on the path" 70 "" env PATH=/usr/bin:/bin tree/snapjudge check
+echo old >$main
+rm tree/built/snapjudge
+mkdir tree/built/snapjudge
+expect "a folder in the program's place" 4 "" env ended=0 tree/snapjudge check
 
 more=
 [ "$skipped" = 0 ] || more=", $skipped skipped"

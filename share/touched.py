@@ -18,7 +18,7 @@ FOLDERS = {
     "examples": [],
     "share": ["examples", "build", "install", "package", "snapjudge", "test", "docs/FORMAT.md", "docs/INSTALL.md"],
     "docs": ["crates.txt", "examples", *PAGES],
-    "ffi": ["docs/OWN-OBJECT.md", "docs/RECORDING.md"],
+    "ffi": ["bench/generate.py", "bench/histories.py", "bench/recordings.py", "docs/OWN-OBJECT.md", "docs/RECORDING.md"],
     "sweep": [],
 }
 

@@ -1,6 +1,7 @@
 #!/usr/bin/env bash
-# Records runs of three and more workers, and judges each: with scans every run is atomic, and without them every run is regular
-# and some run is not atomic. The last line is 'N passed, M failed'.
+# Records runs of three and more workers, and judges each. With scans every run is atomic. Without them every run is regular, and
+# some run is not atomic: it is looked for until it comes, since on a machine with few processors many runs may be atomic by chance.
+# The last line is 'N passed, M failed'.
 # usage: scans.sh [PROGRAM]; it is built/snapjudge where it is not named
 set -u
 here=$(cd "$(dirname "${BASH_SOURCE[0]}")" && pwd)
@@ -10,50 +11,55 @@ failed=0
 report=$(mktemp)
 trap 'rm -f "$report"' EXIT
 
-# judged WORKERS ROUNDS RUNS [--scan]: how many of the runs were atomic, how many regular and not atomic, and how many neither
-judged() {
-  local workers=$1 rounds=$2 runs=$3 atomic=0 regular=0 neither=0 status
-  shift 3
-  for _ in $(seq "$runs"); do
-    "$program" record --judge --workers "$workers" --rounds "$rounds" "$@" >"$report" 2>&1
-    status=$?
-    case "$status $(sed -n '2,4p' "$report" | tr '\n' ' ')" in
-      "0 regular yes monotone yes atomic yes ") atomic=$((atomic + 1)) ;;
-      "1 regular yes monotone yes atomic no ") regular=$((regular + 1)) ;;
-      *)
-        neither=$((neither + 1))
-        echo "scans: a run ended with $status:"
-        head -n 4 "$report"
-        ;;
-    esac
-  done
-  said="$atomic atomic, $regular regular and not atomic, $neither neither"
-  [ "$neither" = 0 ] || return 1
-  if [ "$#" = 0 ]; then
-    [ "$regular" -gt 0 ]
-  else
-    [ "$atomic" = "$runs" ]
-  fi
+# How many runs with scans there are, and how many there are at most without.
+runs=20
+most=1000
+
+# run WORKERS [--scan]: records and judges one run, and says what it was: atomic, regular, or neither of them.
+run() {
+  local status
+  "$program" record --judge --rounds 1024 --workers "$@" >"$report" 2>&1
+  status=$?
+  case "$status $(sed -n '2,4p' "$report" | tr '\n' ' ')" in
+    "0 regular yes monotone yes atomic yes ") said=atomic ;;
+    "1 regular yes monotone yes atomic no ") said=regular ;;
+    *) said="neither: it ended with $status, and its report begins with $(head -n 4 "$report" | tr '\n' ';')" ;;
+  esac
 }
 
-# try NAME WORKERS ROUNDS RUNS [--scan]: one test
+# Whether each run of so many workers that scan is atomic.
+scans() {
+  for count in $(seq "$runs"); do
+    run "$1" --scan
+    [ "$said" = atomic ] || return
+  done
+}
+
+# Whether some run of so many workers that do not scan is regular and not atomic, and each one before it is atomic.
+races() {
+  for count in $(seq "$most"); do
+    run "$1"
+    [ "$said" = atomic ] || break
+  done
+  [ "$said" = regular ]
+}
+
+# try KIND WORKERS: one test, by its name
 try() {
-  local name=$1
-  shift
-  if judged "$@"; then
+  if "$1" "$2"; then
     passed=$((passed + 1))
-    echo "scans: $name: passed, $said"
+    echo "scans: $2 workers, $1: passed, run $count was $said"
   else
     failed=$((failed + 1))
-    echo "scans: $name: failed, $said"
+    echo "scans: $2 workers, $1: failed, run $count was $said"
   fi
 }
 
-try "3 workers that scan" 3 1024 20 --scan
-try "4 workers that scan" 4 1024 20 --scan
-try "8 workers that scan" 8 1024 20 --scan
-try "4 workers that do not" 4 1024 20
-try "8 workers that do not" 8 1024 20
+try scans 3
+try scans 4
+try scans 8
+try races 4
+try races 8
 
 echo "$passed passed, $failed failed"
 [ "$failed" = 0 ]

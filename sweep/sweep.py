@@ -14,6 +14,8 @@ import ctypes
 import errno
 import faulthandler
 import glob
+import itertools
+import json
 import mmap
 import multiprocessing
 import os
@@ -29,6 +31,8 @@ LIMIT = 60
 ALL = 2**64 - 1
 # the verdicts of a report, in the order of their lines
 VERDICTS = ("regular", "monotone", "atomic")
+# green and red, behind which the terminal's own colour follows
+COLORS = {b"yes": b"\x1b[32m", b"no": b"\x1b[31m"}
 HEADER, STAMPED = b"event,process,op,data\n", b"at,event,process,op,data\n"
 # what a program says that was refused memory, or whose device failed
 OUT_OF_MEMORY, READ_FAILED, WRITE_FAILED = (b"snapjudge: %s\n" % why for why in (b"out of memory", b"read failed", b"write failed"))
@@ -76,11 +80,17 @@ class Shim:
         return run.returncode, run.stdout, run.stderr
 
 
-class Case:
-    """A command, the text that it reads, and what its whole answer is."""
+def is_out_of_memory(run):
+    """Whether a run wrote nothing, and says that memory ran out."""
+    return run == (4, b"", OUT_OF_MEMORY)
 
-    def __init__(self, name, words, text, is_whole, report=None):
-        self.name, self.command, self.text, self.is_whole, self.report = name, [PROGRAM] + words, text, is_whole, report
+
+class Case:
+    """A command, the text that it reads, what its whole answer is, and what it may answer where it was refused memory."""
+
+    def __init__(self, name, words, text, is_whole, report=None, is_refused=is_out_of_memory):
+        self.name, self.command, self.text = name, [PROGRAM] + words, text
+        self.is_whole, self.report, self.is_refused = is_whole, report, is_refused
 
 
 def status_of(report):
@@ -105,6 +115,22 @@ def quiet(name, text, report):
     return Case(f"check --quiet {name}", ["check", "--quiet"], text, lambda run: run == whole, said)
 
 
+def painted(report):
+    """A report with its verdicts in colours, alone or behind names."""
+    lines = []
+    for line in report.splitlines(keepends=True):
+        verdict, _, answer = line.rstrip(b"\n").split(b": ")[-1].partition(b" ")
+        is_verdict = verdict in map(str.encode, VERDICTS) and answer in COLORS
+        lines.append(COLORS[answer] + line + b"\x1b[0m" if is_verdict else line)
+    return b"".join(lines)
+
+
+def colored(name, text, report):
+    """A check with colours."""
+    whole = status_of(report), painted(report), b""
+    return Case(f"check --color always {name}", ["check", "--color", "always"], text, lambda run: run == whole, painted(report))
+
+
 def shrink(name, text, report):
     """A history no call of which can be left out, cut down."""
     left = report if status_of(report) == 3 else text
@@ -117,6 +143,85 @@ def explain(name, text, report):
     run = subprocess.run([PROGRAM, "explain"], input=text, capture_output=True, timeout=LIMIT)
     whole = status_of(report), run.stdout, b""
     return Case(f"explain {name}", ["explain"], text, lambda run: run == whole, run.stdout)
+
+
+def draw(name, text, report):
+    """A picture on a page, as the program draws it where nothing fails."""
+    run = subprocess.run([PROGRAM, "draw"], input=text, capture_output=True, timeout=LIMIT)
+    whole = status_of(report), run.stdout, b""
+    return Case(f"draw {name}", ["draw"], text, lambda run: run == whole, run.stdout)
+
+
+def picture(words, name, text, report):
+    """A picture by lines, or as SVG, as the program gives it where nothing fails."""
+    run = subprocess.run([PROGRAM, *words], input=text, capture_output=True, timeout=LIMIT)
+    whole = status_of(report), run.stdout, b""
+    return Case(" ".join([*words, name]), words, text, lambda run: run == whole, run.stdout)
+
+
+# what the sums count, by the status of a file
+KINDS = b"atomic", b"only-regular", b"not-regular", b"refused", b"failed"
+
+
+def sums_of(files):
+    """The sums of some files, each with its report and its status."""
+    lines = [b"files %d\n" % len(files)]
+    for kind, status in zip(KINDS, range(5)):
+        names = [name for name, _, found in files if found == status]
+        lines.append(kind + b" %d" % len(names) + b"".join(b" first " + name for name in names[:1]) + b"\n")
+    return b"".join(lines)
+
+
+def reports_of(files):
+    """The reports of some files, each line behind its file's name. Of a file that failed there is none."""
+    return b"".join(name + b": " + line for name, report, status in files if status < 4 for line in report.splitlines(keepends=True))
+
+
+def answers(files, told):
+    """What a run over files may answer, where each of them may fail for want of memory; first the whole answer. `told` makes
+    standard output of names, reports and statuses."""
+    for lost in itertools.product((False, True), repeat=len(files)):
+        ended = [(name, report, 4 if is_lost else status_of(report)) for (name, report), is_lost in zip(files, lost)]
+        said = b"".join(b"snapjudge: " + name + b": out of memory\n" for name, _, status in ended if status == 4)
+        yield max(status for *_, status in ended), told(ended), said
+
+
+def several(words, files, told, sources=()):
+    """A run over files, of which each may be refused memory by itself. So may what names them."""
+    whole, *others = answers(files, told)
+    unlisted = [(4, b"", b"snapjudge: " + os.fsencode(source) + b": out of memory\n") for source in sources]
+    name = " ".join(os.path.relpath(word, HERE) if os.path.isabs(word) else word for word in words)
+    return Case(name, words, b"", lambda run: run == whole, whole[1], lambda run: is_out_of_memory(run) or run in others + unlisted)
+
+
+def object_of(name, text, report):
+    """The object of a history of a file's name, as the program writes it where nothing fails. It has the status of its report.
+    A run that is refused memory writes an object that says so, or none."""
+    run = subprocess.run([PROGRAM, "check", "--format", "json"], input=text, capture_output=True, timeout=LIMIT)
+    found = json.loads(run.stdout)
+    whole = status_of(report), run.stdout, b""
+    lost = b'{"name":"-","status":4,"trouble":"out of memory"}\n'
+    refused = [(4, out, b"snapjudge: -: out of memory\n") for out in (lost, b"")]
+    return Case(f"check --format json {name}", ["check", "--format", "json"], text, lambda run: run == whole and found["status"] == whole[0], run.stdout, lambda run: is_out_of_memory(run) or run in refused)
+
+
+def files_of(folder, given):
+    """Runs over several files, by their names, by a list and below a folder."""
+    files = []
+    for name, text, report in given:
+        path = os.path.join(folder, f"{name}.csv")
+        with open(path, "wb") as file:
+            file.write(text)
+        files.append((os.fsencode(path), report))
+    names = [os.fsdecode(name) for name, _ in files]
+    listed = os.path.join(folder, "names")
+    with open(listed, "w", encoding="utf-8") as file:
+        file.write("".join(f"{name}\n" for name in names))
+    yield several(["check", *names], files, reports_of)
+    yield several(["check", "--summary", *names], files, sums_of)
+    yield several(["check", "--files-from", listed], files, reports_of, [listed])
+    yield several(["check", "-r", folder], files, reports_of, [folder])
+    yield several(["check", "--color", "always", *names], files, lambda ended: painted(reports_of(ended)))
 
 
 def is_history(text, is_stamped, has_scans):
@@ -209,7 +314,7 @@ class Tests:
             run = self.shim.run(case.command, case.text, allocation=number, all_after=all_after, thread=thread)
             is_met = self.shim.page.allocations >= number
             self.allocations += is_met
-            if not case.is_whole(run) and not (is_met and run == (4, b"", OUT_OF_MEMORY)):
+            if not case.is_whole(run) and not (is_met and case.is_refused(run)):
                 yield f"allocation {number}: {run}"
             if not is_met:
                 return
@@ -412,7 +517,7 @@ def run_one(number):
     return TESTS.run_one(number)
 
 
-def main():
+def main(folder):
     faulthandler.enable()
     signal.signal(signal.SIGALRM, give_up)
     given, small, recorded = list(examples()), list(small_texts()), list(recordings())
@@ -421,9 +526,16 @@ def main():
     longer = ("value-nobody-wrote", "recorded-1", "recorded-2", "recorded-3")
     others = [quiet(*each) for each in given] + [shrink(*each) for each in given if each[0] not in longer]
     others += [explain(*each) for each in given if each[0] not in longer]
-    checks += others
+    # a page has some 13,000 bytes, and a device that fails at each of them is tried with shorter texts
+    checks += others + [draw(*each) for each in given if each[0] not in longer]
     worked = [check(*each) for each in given + small] + others
-    jobless = [usage(), usage("judge"), usage("check", "--pieces", "0"), usage("record", "--help"), usage("shrink", "--help"), usage("explain", "--help")]
+    chosen = [each for each in given if each[0] in ("atomic-run", "new-old-inversion")]
+    several_files = list(files_of(folder, chosen))
+    pictures = [picture(words, *each) for words in (["draw", "--text"], ["explain", "--draw"], ["shrink", "--draw"]) for each in chosen]
+    colors = [colored(*each) for each in chosen]
+    checks += [object_of(*each) for each in chosen] + several_files + pictures + colors
+    worked += several_files[:2] + colors
+    jobless = [usage(), usage("judge"), usage("check", "--pieces", "0"), usage("record", "--help"), usage("shrink", "--help"), usage("explain", "--help"), usage("draw", "--help")]
     for case in checks + recorded + jobless:
         TESTS.add(f"{case.name}: each allocation", TESTS.refused_memory(case))
     for case in worked + recorded + jobless:
@@ -464,4 +576,5 @@ def main():
 
 PROGRAM = os.path.abspath(sys.argv[2])
 TESTS = Tests()
-sys.exit(main())
+with tempfile.TemporaryDirectory() as FOLDER:
+    sys.exit(main(FOLDER))

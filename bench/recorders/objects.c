@@ -5,7 +5,7 @@
  * the one that is embedded there. `first-move` takes it when the component has moved once. `old-view` embeds the last view that its
  * thread took, in place of a new one. `late-version` raises a version behind each write, and a view collects until the version stayed
  * the same: two views can disagree on two writes whose versions are still to be raised. `late-version-bare` does so without a pause in
- * its updates. */
+ * its updates. `one-shot` writes each component once, and a view of it takes the second of two collects, equal or not. */
 #include "../../ffi/record/c/snapdrive.h"
 
 typedef struct {
@@ -139,6 +139,21 @@ static void late_version_bare_update(uint32_t thread, uint32_t component, uint32
     atomic_fetch_add(&version, 1);
 }
 
+/* One that comes later has no effect. */
+static void one_shot_update(uint32_t thread, uint32_t component, uint32_t value) {
+    if (atomic_load(&board[component]) == &cells[0]) plain_update(thread, component, value);
+    else snapdrive_no_effect();
+}
+
+static bool one_shot_view(uint32_t thread, uint32_t *values) {
+    cell *read[SNAPDRIVE_COMPONENTS];
+    (void)thread;
+    collect(read, true);
+    collect(read, true);
+    tell(read, values);
+    return true;
+}
+
 int main(int count, char **words) {
     static const snapdrive_object objects[] = {
         {"bare", begin, plain_update, bare_view},
@@ -148,6 +163,7 @@ int main(int count, char **words) {
         {"old-view", begin, old_view_update, published_view},
         {"late-version", begin, late_version_update, late_version_view},
         {"late-version-bare", begin, late_version_bare_update, late_version_view},
+        {"one-shot", begin, one_shot_update, one_shot_view},
         {0}};
     return snapdrive_main(count, words, objects);
 }

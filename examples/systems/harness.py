@@ -25,6 +25,7 @@ sys.path.insert(0, str(RECORDERS / "python"))
 from snaprecord import Recorder
 
 WORKERS, CALLS = 4, 200  # how many calls each worker makes
+RUNS = 20  # how many runs each way has, where nothing else is asked for
 VERDICTS = ["atomic", "only regular", "neither"]  # by the status of the judge
 SKIPPED = 77
 
@@ -88,9 +89,10 @@ def tabulate(version, ways, history):
     """Writes a row for each way, and a witness for each that was caught; history(way, seed) answers that of a run."""
     if len(sys.argv) not in (3, 4):
         sys.exit(f"usage: {sys.argv[0]} PROGRAM FOLDER [RUNS]")
-    program, folder, runs = sys.argv[1], pathlib.Path(sys.argv[2]), int((sys.argv + ["20"])[3])
+    program, folder, runs = sys.argv[1], pathlib.Path(sys.argv[2]), int((sys.argv + [RUNS])[3])
     folder.mkdir(parents=True, exist_ok=True)
-    print(f"{version.strip()}. Runs of each way: {runs}, with {WORKERS} workers of {CALLS} calls. Date: {datetime.date.today()}.\n")
+    other = "" if runs == RUNS else f" Runs of each way: {runs}."
+    print(f"{version.strip()}, on {datetime.date.today()}.{other}\n")
     print(f"| How it was read | {' | '.join(VERDICTS)} |\n|---|---:|---:|---:|", flush=True)
     caught = {}
     for way in ways:

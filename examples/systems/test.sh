@@ -74,15 +74,27 @@ missing() {
   [ $status = 77 ] && [ "$(cat said)" = "skipped: $2 is not here" ]
 }
 
+# short: the harnesses of the page have at most 60 lines each, as it says
+short() {
+  python3 -B - "$here" <<'PYTHON'
+import pathlib, re, sys
+folder = pathlib.Path(sys.argv[1])
+names = re.findall(r'"(\w+)"', re.search(r"HARNESSES = \[(.*)\]", (folder / "all.py").read_text()).group(1))
+lines = {name: len((folder / name).read_text().splitlines()) for name in [f"{name}.py" for name in names] + ["Copies.java"]}
+print(lines)
+sys.exit(len(names) != 6 or max(lines.values()) > 60)
+PYTHON
+}
+
 # is_over PID: whether this process has ended; the system may still keep its number
 is_over() {
   ! [ -e "/proc/$1" ] || grep -q '^State:.Z' "/proc/$1/status"
 }
 
-# wait_until COMMAND ..: whether the command succeeds within ten seconds
+# wait_until COMMAND ..: whether the command succeeds within two minutes
 wait_until() {
   local tenths
-  for ((tenths = 0; tenths < 100; tenths++)); do
+  for ((tenths = 0; tenths < 1200; tenths++)); do
     "$@" && return 0
     sleep 0.1
   done
@@ -96,15 +108,16 @@ served() {
   cat >serves.py <<'PYTHON'
 import os, pathlib, signal, time
 signal.signal(signal.SIGINT, signal.SIG_DFL)
-pathlib.Path("serves").write_text(str(os.getpid()))
-time.sleep(60)
+pathlib.Path("starts").write_text(str(os.getpid()))
+os.rename("starts", "serves")  # it is there with all that it says
+time.sleep(600)
 PYTHON
   cat >harnessed.py <<'PYTHON'
 import pathlib, sys, time
 from harness import scratch, server
 with scratch() as folder, server([sys.executable, "serves.py"], pathlib.Path("serves").read_text):
     pathlib.Path("ready").write_text(folder)
-    time.sleep(60)
+    time.sleep(600)
 PYTHON
   PYTHONPATH=$here python3 -B harnessed.py &
   harness=$!
@@ -175,6 +188,7 @@ if [ -x "$program" ]; then
   has findmnt files && try_files
   has javac Java && has java Java && has_records && try_java
   try "a missing server" missing redis redis-server
+  try "lines of the harnesses" short
   if has setpriv "ends of servers"; then
     try "the server of a harness that is ended" served TERM
     try "the server of a harness that is killed" served KILL

@@ -9,6 +9,7 @@ import zipfile
 HERE = os.path.dirname(os.path.abspath(__file__))
 LIBRARY = os.environ.get("SNAPJUDGE_LIBRARY") or os.path.join(HERE, "..", "build", "libsnapjudge.so")
 NAME, VERSION = "snapjudge", "1.0.0"
+MODULES = ("__init__.py", "bags.py", "cluster.py", "follow.py", "windows.py")
 INFO = f"{NAME}-{VERSION}.dist-info"
 
 METADATA = f"""Metadata-Version: 2.1
@@ -36,7 +37,7 @@ def write_wheel(folder, library, platform, date):
     """Writes the wheel with this library into a folder, and returns its name. The same words and files give the same bytes."""
     tag = f"py3-none-{platform}"
     files = {
-        f"{NAME}/__init__.py": read(os.path.join(HERE, NAME, "__init__.py")),
+        **{f"{NAME}/{module}": read(os.path.join(HERE, NAME, module)) for module in MODULES},
         f"{NAME}/libsnapjudge.so": read(library),
         f"{INFO}/LICENSE": read(os.path.join(HERE, "..", "..", "LICENSE")),
         f"{INFO}/METADATA": METADATA.encode(),

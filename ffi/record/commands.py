@@ -11,7 +11,7 @@ wrong = 0
 for block in blocks:
     lines = block.splitlines()
     script = "\n".join(line[2:] for line in lines if line.startswith("$ "))
-    done = subprocess.run(["sh", "-c", script], cwd=folder, stdout=subprocess.PIPE, stderr=subprocess.STDOUT, timeout=60)
+    done = subprocess.run(["sh", "-c", script], cwd=folder, stdout=subprocess.PIPE, stderr=subprocess.STDOUT, timeout=900)
     expected, printed = [line for line in lines if not line.startswith("$ ")], done.stdout.decode().splitlines()
     if expected != printed:
         wrong += 1

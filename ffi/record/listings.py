@@ -1,5 +1,6 @@
 """Tells each listing of a guide that does not stand, line for line, in a file of its language. usage: listings.py GUIDE FOLDER
-[LANGUAGE ..], where there has to be one of each of these languages, or of all"""
+[LANGUAGE ..], where there has to be one of each of these languages, or of all. Where none is named, each listing has at most 15 lines
+beside imports and lone brackets."""
 import pathlib
 import re
 import sys
@@ -14,7 +15,16 @@ lost = [
     for language, text in known
     if not any(text in file.read_text() for file in (folder / FOLDERS[language]).rglob("*.*") if file.is_file())
 ]
+
+
+def own_lines(text):
+    return [line for line in text.splitlines() if not re.fullmatch(r"[\s)}\]>;,]*|(use|mod|from|import) .*", line)]
+
+
+long = [] if sys.argv[3:] else [(language, text) for language, text in known if len(own_lines(text)) > 15]
+for language, text in long:
+    print(f"{len(own_lines(text))} lines of {language} are more than 15:\n{text}")
 for language, text in lost:
     print(f"no file of {language} has this listing:\n{text}")
 print(f"{len(known) - len(lost)} of {len(known)} listings stand in their files")
-sys.exit(bool(lost) or {language for language, _ in known} != (set(sys.argv[3:]) or set(FOLDERS)))
+sys.exit(bool(lost or long) or {language for language, _ in known} != (set(sys.argv[3:]) or set(FOLDERS)))

@@ -46,7 +46,7 @@ has() {
 ends() {
   local status=$1 output=$2 found
   shift 2
-  timeout 300 "$@" >said 2>told
+  timeout 900 "$@" >said 2>told
   found=$?
   cat said told
   [ "$found" = "$status" ] && [ "$(cat said)" = "$output" ]
@@ -88,7 +88,7 @@ atomic() {
 # view; were it one of 40, all 1,000 would be missed once in 10^11 times.
 caught() {
   rm -f naive-*
-  timeout 300 "${own[@]}" naive --runs 1000 --stop 1 "$@" >said 2>told
+  timeout 900 "${own[@]}" naive --runs 1000 --stop 1 "$@" >said 2>told
   [ $? = 1 ] && [[ $(cat said) =~ ^naive:\ atomic\ ([0-9]+),\ regular\ 1,\ neither\ 0$ ]] &&
     grep -q "^naive: run $((BASH_REMATCH[1] + 1)) is not atomic: see ./naive-caught.csv" told && judges_alike naive-caught.csv naive-witness.csv &&
     "$program" explain <naive-caught.csv | cmp - naive-explained.txt && "$program" shrink <naive-caught.csv | cmp - naive-witness.csv
@@ -111,11 +111,9 @@ judges_alike() {
   done
 }
 
-# What one thread and two components leave of an object that shows nothing new is known to the byte; the words are a setting.
-stale() {
-  rm -f stale-*
-  ends 2 "stale: atomic 0, regular 0, neither 3" env "$@" "${faulty[@]}" stale --threads 1 --components 2 --calls 3 --order turn --runs 3 &&
-    grep -qxF 'stale: run 1 is not atomic: see ./stale-caught.csv and the files beside it' told && cmp stale-caught.csv - <<'TEXT'
+# What one thread and two components leave of an object that shows nothing new.
+small_run=(stale --threads 1 --components 2 --calls 3 --order turn --runs 3)
+cat >small-run.csv <<'TEXT'
 at,event,process,op,data
 0,begin,0,update,0:1:1000000
 1,end,0,update,
@@ -124,6 +122,33 @@ at,event,process,op,data
 4,begin,0,view,
 5,end,0,view,
 TEXT
+
+# such runs are caught, and the first is kept to the byte; the words are a setting
+stale() {
+  rm -f stale-*
+  ends 2 "stale: atomic 0, regular 0, neither 3" env "$@" "${faulty[@]}" "${small_run[@]}" &&
+    grep -qxF 'stale: run 1 is not atomic: see ./stale-caught.csv and the files beside it' told && cmp stale-caught.csv small-run.csv
+}
+
+# without_witness [OPTION ..]: a run is kept also where its witness can't be written, and then the driver names that
+without_witness() {
+  misused "stale: files: " "${small_run[@]}" "$@" && cmp stale-caught.csv small-run.csv
+}
+
+# a program that judges, and fails as on a full disk where it shrinks
+shrinks_not() {
+  rm -f stale-*
+  without_witness --program ./shrinks-not && ! grep -q 'see ./stale-caught.csv and the files beside it' told
+}
+
+# a folder with a file in it stands where the witness is to be
+no_room_for_witness() {
+  rm -f stale-*
+  mkdir -p stale-witness.csv/full
+  without_witness
+  local status=$?
+  rm -r stale-witness.csv
+  return $status
 }
 
 # beside the history stand its witness and its explanation
@@ -142,6 +167,23 @@ proximity: view 3 shows 0:0, though update 0:1 had ended before the view began
 WORDS
 }
 
+# Of the updates of one thread the first had no effect, the second is done, and of the third it is not known: the first is left out,
+# the third has no end, and the thread makes no call behind it. The dropped update has the stamp 0, which is no event's.
+fails() {
+  rm -f fails-*
+  ends 2 "fails: atomic 0, regular 0, neither 1" "${faulty[@]}" fails --threads 1 --components 1 --calls 9 --order turn --runs 1 &&
+    cmp fails-caught.csv - <<'TEXT'
+at,event,process,op,data
+1,begin,0,view,
+2,end,0,view,
+3,begin,0,update,0:1:1000002
+4,end,0,update,
+5,begin,0,view,
+6,end,0,view,
+7,begin,0,update,0:2:1000004
+TEXT
+}
+
 # without a program the library judges, and there is no witness; one of an earlier run is gone
 library_alone() {
   touch stale-witness.csv
@@ -154,7 +196,9 @@ printf '#!/bin/sh\nkill -9 $$\n' >dies
 mkdir -p prefix/bin prefix/lib
 # shellcheck disable=SC2016
 printf '#!/bin/sh\n[ "$1" != check ] || kill -9 $$\nexec "%s" "$@"\n' "$program" >prefix/bin/snapjudge
-chmod +x dies prefix/bin/snapjudge
+# shellcheck disable=SC2016
+printf '#!/bin/sh\n[ "$1" != shrink ] || exit 4\nexec "%s" "$@"\n' "$program" >shrinks-not
+chmod +x dies shrinks-not prefix/bin/snapjudge
 [ ! -e "$library" ] || cp "$library" prefix/lib
 
 # the program and the library that are installed are found
@@ -168,6 +212,8 @@ by_library() {
     try "$language: the library judges" explained SNAPJUDGE_LIBRARY="$library" SNAPJUDGE_PROGRAM=prefix/bin/snapjudge
     try "$language: the library alone judges" library_alone
     try "$language: what is installed is found" installed
+    SNAPJUDGE_LIBRARY=$library try "$language: a folder that is not there, before a run is caught" \
+      misused "gives-up: files: " gives-up --out ./none
   else
     skip "$language by the library" "$library"
   fi
@@ -187,10 +233,16 @@ drivers() {
   try "$language: naive collect is caught" caught
   try "$language: naive collect with naps is caught" caught --nap 60 --calls 50
   try "$language: a stale object" explained
+  try "$language: updates that fail" fails
+  try "$language: updates that are tried again" ends 0 "retries: atomic 5, regular 0, neither 0" "${faulty[@]}" retries --components 1 \
+    --nap 40 --calls 60 --runs 5
   try "$language: a view that gives up" ends 0 "gives-up: atomic 2, regular 0, neither 0" "${faulty[@]}" gives-up --runs 2
   try "$language: a call that hangs" misused "hangs: hangs: a run took more than 1 s: a call of the object does not end" hangs --limit 1
-  try "$language: too many threads" misused "stale: limits: threads is a number from 1 to 64" stale --threads 65
-  try "$language: no component" misused "stale: limits: components is a number from 1 to 64" stale --components 0
+  for word in "threads 64" "components 64" "calls 32768" "runs 1000000000" "limit 100000"; do
+    read -r name most <<<"$word"
+    try "$language: no $name" misused "stale: limits: $name is a number from 1 to $most" stale "--$name" 0
+    try "$language: too many $name" misused "stale: limits: $name is a number from 1 to $most" stale "--$name" $((most + 1))
+  done
   try "$language: too many calls" misused "stale: limits: all threads make at most 32768 calls" stale --calls 8193
   try "$language: another order" misused "stale: usage: order is choice or turn" stale --order both
   try "$language: another option" misused "stale: usage: " stale --nope 1
@@ -200,6 +252,9 @@ drivers() {
   try "$language: a program that is not there" misused "stale: no judge: there is no program ./none" stale --program ./none
   try "$language: a program that dies" misused "stale: no verdict: " stale --program ./dies
   try "$language: a folder that is not there" misused "stale: files: " stale --out ./none
+  try "$language: a file in place of the folder" misused "stale: files: " stale --out ./dies
+  try "$language: a witness that fails" shrinks_not
+  try "$language: a folder in place of the witness" no_room_for_witness
   try "$language: a full disk" unwritten ">/dev/full" --runs 1
   try "$language: a full disk for the choices" unwritten ">/dev/full" --choices
   # Rust, and Go from 1.21 on, open /dev/null in the place of a closed output
@@ -211,12 +266,22 @@ throws() {
   local -x SNAPJUDGE_LIBRARY='' SNAPJUDGE_PROGRAM=$program
   try "$1: a view that is too short" misused "short: view: a view has 3 values of 4 components" short
   try "$1: an update that throws" misused "dies: died: a call of thread 0 " dies --threads 1
+  try "$1: an object that can't be made" misused "unmade: died: the object can't be made" unmade
+  case $1 in
+    C++ | Java | Python) try "$1: an update that throws otherwise" misused "odd: died: a call of thread 0 " odd --threads 1 ;;
+  esac
+}
+
+# few_threads KILOBYTES: in so much memory of addresses 64 threads with wide stacks can't be started
+few_threads() {
+  local -x SNAPJUDGE_LIBRARY='' SNAPJUDGE_PROGRAM=$program RUST_MIN_STACK=8388608
+  (ulimit -v "$1" && misused "stale: memory: thread " stale --threads 64)
 }
 
 # worked COMMAND ..: the tests of misuse pass, and the texts of both worked runs are as they are to be
 worked() {
   rm -f worked.csv failed.csv
-  timeout 60 "$@" worked.csv failed.csv && cmp worked.csv "$here/worked.csv" && cmp failed.csv "$here/failed.csv"
+  timeout 900 "$@" worked.csv failed.csv && cmp worked.csv "$here/worked.csv" && cmp failed.csv "$here/failed.csv"
 }
 
 # the judge finds what is wrong in the worked run, and nothing in that of failed calls
@@ -239,27 +304,41 @@ page=$here/../../docs/RECORDING.md
 prints() {
   local line=$1
   shift
-  timeout 300 "$@" >printed && cat printed && [ "$(cat printed)" = "$line" ]
+  timeout 900 "$@" >printed && cat printed && [ "$(cat printed)" = "$line" ]
 }
 
-# each run of a naive collect by processes is regular, and some are not atomic
+# Of 1,000 runs of a naive collect by processes the first ones are atomic, and then one is regular. Nearly all are regular.
 naive_processes() {
-  timeout 300 python3 -B "$here/python/processes.py" "$program" naive 20 >printed && cat printed &&
-    [[ $(cat printed) =~ ^naive:\ atomic\ ([0-9]+),\ regular\ ([0-9]+),\ neither\ 0,\ refused\ 0$ ]] &&
-    [ $((BASH_REMATCH[1] + BASH_REMATCH[2])) = 20 ] && [ "${BASH_REMATCH[2]}" -gt 0 ]
+  local i
+  for ((i = 0; i < 1000; i++)); do
+    timeout 900 python3 -B "$here/python/processes.py" "$program" naive 1 >printed || return 1
+    cat printed
+    [ "$(cat printed)" != "naive: atomic 1, regular 0, neither 0, refused 0" ] && break
+  done
+  [ "$(cat printed)" = "naive: atomic 0, regular 1, neither 0, refused 0" ]
 }
 
-# c_processes OBJECT STATUS ..: of 20 runs of processes in C each has one of these statuses, and some run has the first
-c_processes() {
-  local object=$1 i statuses=
-  shift
-  for ((i = 0; i < 20; i++)); do
-    timeout 60 ./processes_c "$object" && python3 -B "$here/python/merge_logs.py" 0.log 1.log 2.log >history.csv || return 1
-    "$program" check --quiet --views 300 <history.csv >/dev/null
-    statuses+="$?"
+# judge_c_processes OBJECT: the status of the judge on one run of processes in C
+judge_c_processes() {
+  timeout 900 ./processes_c "$1" && python3 -B "$here/python/merge_logs.py" 0.log 1.log 2.log >history.csv || return 4
+  "$program" check --quiet --views 300 <history.csv >/dev/null
+}
+
+# each of 20 runs is atomic
+c_lock() {
+  local i
+  for ((i = 0; i < 20; i++)); do judge_c_processes lock || return 1; done
+}
+
+# Of 1,000 runs the first ones are atomic, and then one is regular. Of ten runs more than five are.
+c_naive() {
+  local i status=0
+  for ((i = 0; i < 1000 && status == 0; i++)); do
+    judge_c_processes naive
+    status=$?
+    echo "status $status"
   done
-  echo "$object: $statuses"
-  [[ $statuses != *[!"$*"]* && $statuses == *$1* ]]
+  [ $status = 1 ]
 }
 
 # the commands of the page print what stands below them
@@ -277,8 +356,8 @@ try_processes() {
   try "processes: naive collect is caught" naive_processes
   if has cc "processes in C"; then
     try "processes: C builds" cc -std=gnu11 -Wall -Wextra -pedantic -Werror -O2 -o processes_c "$here/c/processes.c" -pthread
-    try "processes: C, board under a lock" c_processes lock 0
-    try "processes: C, naive collect is caught" c_processes naive 1 0
+    try "processes: C, board under a lock" c_lock
+    try "processes: C, naive collect is caught" c_naive
   fi
   for way in drop again unknown; do
     try "failed updates: $way" prints "$way: $all" python3 -B "$here/python/failing.py" "$program" "$way" 20
@@ -290,21 +369,42 @@ try_processes() {
 
 # ---- the recorders of each language
 
+guide=$here/../../docs/OWN-OBJECT.md
+
 # each listing of the guide stands in the file of its language
 listings() {
-  python3 -B "$here/listings.py" "$here/../../docs/OWN-OBJECT.md" "$here"
+  python3 -B "$here/listings.py" "$guide" "$here"
 }
 
-# sanitized COMPILER SOURCE FLAG ..: no race is found
-sanitized() {
-  local compiler=$1 source=$2 object
+# The command of the guide that begins so ends with 1 in a copy of the recorders, and tells a run that was caught. It makes 20 runs, of
+# which most are caught, and on one core some. It is called once, or up to 50 times until one is.
+first_verdict() {
+  local command i status=0
   local -x SNAPJUDGE_PROGRAM=$program
-  shift 2
-  "$compiler" "$@" -O1 -g -fsanitize=thread -o sanitized "$source" -pthread || return 1
-  for object in double naive "naive --nap 20 --calls 40"; do
+  command=$(sed -n "s|^\$ \($1.*\)|\1|p" "$guide")
+  [ -e guided ] || cp -r "$here" guided
+  for ((i = 0; i < 50 && status == 0; i++)); do
+    (cd guided/python && timeout 900 sh -c "$command" >"$work/said")
+    status=$?
+  done
+  cat said
+  [ $status = 1 ] && [[ $(tail -n 1 said) =~ ^naive:\ atomic\ [0-9]+,\ regular\ [1-9][0-9]*,\ neither\ 0$ ]]
+}
+
+# sanitized COMPILER FLAG FOLDER ENDING: no race is found between threads that call both boards, nor where updates fail
+sanitized() {
+  local name object
+  local -x SNAPJUDGE_PROGRAM=$program
+  for name in own faulty; do
+    "$1" "$2" -O1 -g -fsanitize=thread -o "sanitized_$name" "$here/$3/$name.$4" -pthread || return 1
+  done
+  for object in "own double" "own naive" "own naive --nap 20 --calls 40" "faulty retries --components 1 --nap 20 --calls 40"; do
     read -r -a object <<<"$object"
-    timeout 100 ./sanitized "${object[@]}" --runs 3 >said 2>told
-    [ $? -le 1 ] && ! grep -q ThreadSanitizer told && [ -s said ] || return 1
+    timeout 900 "./sanitized_${object[0]}" "${object[@]:1}" --runs 3 >said 2>told
+    if [ $? -gt 1 ] || grep -q ThreadSanitizer told || ! [ -s said ]; then
+      cat said told
+      return 1
+    fi
   done
 }
 
@@ -332,8 +432,10 @@ try_c() {
   try "C: misuse" worked ./misuse_c
   drivers C
   by_library
+  try "C: threads that can't be started" few_threads 150000
+  try "C: the command of the guide" first_verdict "cd ../c &&"
   try "C: logs that get full" full
-  sanitizes cc C && try "C: without races" sanitized cc "$here/c/own.c" -std=gnu11
+  sanitizes cc C && try "C: without races" sanitized cc -std=gnu11 c c
 }
 
 try_cpp() {
@@ -345,7 +447,9 @@ try_cpp() {
   drivers C++
   by_library
   throws C++
-  sanitizes c++ C++ && try "C++: without races" sanitized c++ "$here/cpp/own.cpp" -std=c++17
+  try "C++: threads that can't be started" few_threads 150000
+  try "C++: the command of the guide" first_verdict "cd ../cpp &&"
+  sanitizes c++ C++ && try "C++: without races" sanitized c++ -std=c++17 cpp cpp
 }
 
 try_rust() {
@@ -357,6 +461,19 @@ try_rust() {
   drivers Rust
   by_library
   throws Rust
+  try "Rust: threads that can't be started" few_threads 150000
+  try "Rust: the command of the guide" first_verdict "cd ../rust &&"
+}
+
+# Threads with stacks of 100 MB, in a Java that has so little memory itself that it starts under the limit.
+few_java_threads() {
+  local little=(-Xlog:disable -Xss100m -Xmx64m -XX:+UseSerialGC -XX:TieredStopAtLevel=1 -XX:CompressedClassSpaceSize=16m -XX:ReservedCodeCacheSize=32m)
+  local faulty=(java "${little[@]}" -cp java Faulty)
+  if (ulimit -v 4000000 && "${faulty[@]}" stale --choices) >/dev/null 2>&1; then
+    try "Java: threads that can't be started" few_threads 4000000
+  else
+    skip "Java: threads that can't be started" "a Java that starts in 4 GB of addresses"
+  fi
 }
 
 try_java() {
@@ -365,6 +482,8 @@ try_java() {
   try "Java: misuse" worked java -cp java Misuse
   drivers Java
   throws Java
+  few_java_threads
+  try "Java: the command of the guide" first_verdict "cd ../java &&"
 }
 
 try_python() {
@@ -373,6 +492,8 @@ try_python() {
   drivers Python
   by_library
   throws Python
+  try "Python: threads that can't be started" few_threads 250000
+  try "Python: the command of the guide" first_verdict "python3 own.py naive"
   try "listings of the guide" listings
 }
 
@@ -403,11 +524,13 @@ try_go() {
   by_library
   throws Go
   try "Go: without cgo" without_cgo
+  try "Go: the command of the guide" first_verdict "cd ../go &&"
 }
 
 if [ -x "$program" ]; then
   try "worked run" judged
   try "a list of calls, and a word" lists_no_file
+  has python3 "the first five minutes" && try "the first five minutes of the guide" python3 -B "$here/guide.py" "$here/../../docs/OWN-OBJECT.md" "$here" "$program" guide
   has cc C && try_c
   has c++ C++ && try_cpp
   has rustc Rust && try_rust

@@ -7,7 +7,7 @@ use Rattle.snap_account.specs.declared.account.Answer.TheVariants.{Stored, Viewe
 use Rattle.snap_account.specs.declared.account.Doing.{Doing}
 use Rattle.snap_account.specs.declared.account.Doing.TheVariants.{Idle, Begun, Written, Viewing, Scanning}
 use Rattle.snap_account.specs.declared.account.Scan.{Scan}
-use Rattle.snap_account.specs.Calls.{Mem, Write, Look, Mark, write, look, op_marks, marks_in, marks_of, middles_of, all_stamps, op_writes, op_looks, writes_in, looks_in, stamps_in, open_writes, open_looks, open_stamps, writes_of, looks_of, stamps_of, op_entry, latest, open_entry, in_word}
+use Rattle.snap_account.specs.Calls.{Mem, Write, ViewRecord, Mark, write, view_record, op_marks, marks_in, marks_of, middles_of, all_stamps, op_writes, op_view_records, writes_in, view_records_in, stamps_in, open_writes, open_view_records, open_stamps, writes_of, view_records_of, stamps_of, op_entry, latest, open_entry, in_word}
 use Rattle.snap_account.specs.Rule.{Own}
 use Rattle.snap_account.proofs.Lists.{mem_split, mem_left, mem_right, mem_one, numbered_mem}
 
@@ -29,9 +29,9 @@ pub writes_in-append : (rs qs : List Answered) → writes_in (rs ++ qs) ≡ writ
 writes_in-append [] qs = refl
 writes_in-append (r ∷ rs) qs = ap (λ ws. op_writes r.begun r.ended r.op ++ ws) (writes_in-append rs qs) ∙ sym (append_assoc (op_writes r.begun r.ended r.op) (writes_in rs) (writes_in qs))
 
-pub looks_in-append : (rs qs : List Answered) → looks_in (rs ++ qs) ≡ looks_in rs ++ looks_in qs
-looks_in-append [] qs = refl
-looks_in-append (r ∷ rs) qs = ap (λ ws. op_looks r.begun r.ended r.op ++ ws) (looks_in-append rs qs) ∙ sym (append_assoc (op_looks r.begun r.ended r.op) (looks_in rs) (looks_in qs))
+pub view_records_in-append : (rs qs : List Answered) → view_records_in (rs ++ qs) ≡ view_records_in rs ++ view_records_in qs
+view_records_in-append [] qs = refl
+view_records_in-append (r ∷ rs) qs = ap (λ ws. op_view_records r.begun r.ended r.op ++ ws) (view_records_in-append rs qs) ∙ sym (append_assoc (op_view_records r.begun r.ended r.op) (view_records_in rs) (view_records_in qs))
 
 pub stamps_in-append : (rs qs : List Answered) → stamps_in (rs ++ qs) ≡ stamps_in rs ++ stamps_in qs
 stamps_in-append [] qs = refl
@@ -76,28 +76,28 @@ word_there a = by a.calls a.doing
     by rs (Scanning s) = old rs []
 
 -- the begin of a call is a stamp
-pub look_stamp : (a : Account) (v : Look) → Mem v (looks_of a) → Mem v.begun (stamps_of a)
-look_stamp a v m = ⊎_elim (λ q. mem_left (stamps_in a.calls) (open_stamps a.doing) v.begun (done a.calls v q)) (λ q. mem_right (stamps_in a.calls) (open_stamps a.doing) v.begun (now a.doing v q)) (mem_split (looks_in a.calls) (open_looks a.doing) v m)
+pub look_stamp : (a : Account) (v : ViewRecord) → Mem v (view_records_of a) → Mem v.begun (stamps_of a)
+look_stamp a v m = ⊎_elim (λ q. mem_left (stamps_in a.calls) (open_stamps a.doing) v.begun (done a.calls v q)) (λ q. mem_right (stamps_in a.calls) (open_stamps a.doing) v.begun (now a.doing v q)) (mem_split (view_records_in a.calls) (open_view_records a.doing) v m)
   where
-    now : (o : Doing) (u : Look) → Mem u (open_looks o) → Mem u.begun (open_stamps o)
+    now : (o : Doing) (u : ViewRecord) → Mem u (open_view_records o) → Mem u.begun (open_stamps o)
     now Idle u q = absurd q
     now (Begun b) u q = absurd q
     now (Written b n x) u q = absurd q
-    now (Viewing b xs) u q = inl (ap (λ (z : Look). z.begun) (mem_one u (look b 0 false xs) q))
+    now (Viewing b xs) u q = inl (ap (λ (z : ViewRecord). z.begun) (mem_one u (view_record b 0 false xs) q))
     now (Scanning s) u q = inl (⊎_elim
-        (λ e. ap (λ (z : Look). z.begun) e)
-        (λ r. ⊎_elim (λ e. ap (λ (z : Look). z.begun) e) (λ x. ap (λ (z : Look). z.begun) (mem_one u (look s.begun 0 false s.since) x)) r)
+        (λ e. ap (λ (z : ViewRecord). z.begun) e)
+        (λ r. ⊎_elim (λ e. ap (λ (z : ViewRecord). z.begun) e) (λ x. ap (λ (z : ViewRecord). z.begun) (mem_one u (view_record s.begun 0 false s.since) x)) r)
         q)
 
-    one : (b e : ℕ) (o : Answer) (u : Look) → Mem u (op_looks b e o) → b ≡ u.begun
+    one : (b e : ℕ) (o : Answer) (u : ViewRecord) → Mem u (op_view_records b e o) → b ≡ u.begun
     one b e (Stored n x) u q = absurd q
-    one b e (Viewed xs) u q = ap (λ (z : Look). z.begun) (mem_one u (look b e true xs) q)
-    one b e (Scanned t xs) u q = ap (λ (z : Look). z.begun) (mem_one u (look b e true xs) q)
-    one b e (Interfered n xs ys) u q = ⊎_elim (λ r. ap (λ (z : Look). z.begun) r) (λ r. ap (λ (z : Look). z.begun) (mem_one u (look b e true ys) r)) q
+    one b e (Viewed xs) u q = ap (λ (z : ViewRecord). z.begun) (mem_one u (view_record b e true xs) q)
+    one b e (Scanned t xs) u q = ap (λ (z : ViewRecord). z.begun) (mem_one u (view_record b e true xs) q)
+    one b e (Interfered n xs ys) u q = ⊎_elim (λ r. ap (λ (z : ViewRecord). z.begun) r) (λ r. ap (λ (z : ViewRecord). z.begun) (mem_one u (view_record b e true ys) r)) q
 
-    done : (rs : List Answered) (u : Look) → Mem u (looks_in rs) → Mem u.begun (stamps_in rs)
+    done : (rs : List Answered) (u : ViewRecord) → Mem u (view_records_in rs) → Mem u.begun (stamps_in rs)
     done [] u q = absurd q
-    done (r ∷ rs) u q = ⊎_elim (λ x. inl (one r.begun r.ended r.op u x)) (λ x. inr (inr (done rs u x))) (mem_split (op_looks r.begun r.ended r.op) (looks_in rs) u q)
+    done (r ∷ rs) u q = ⊎_elim (λ x. inl (one r.begun r.ended r.op u x)) (λ x. inr (inr (done rs u x))) (mem_split (op_view_records r.begun r.ended r.op) (view_records_in rs) u q)
 
 pub write_stamp : (a : Account) (w : Write) → Mem w (writes_of a) → Mem w.begun (stamps_of a)
 write_stamp a v m = ⊎_elim (λ q. mem_left (stamps_in a.calls) (open_stamps a.doing) v.begun (done a.calls v q)) (λ q. mem_right (stamps_in a.calls) (open_stamps a.doing) v.begun (now a.doing v q)) (mem_split (writes_in a.calls) (open_writes a.doing) v m)
@@ -119,8 +119,8 @@ write_stamp a v m = ⊎_elim (λ q. mem_left (stamps_in a.calls) (open_stamps a.
     done [] u q = absurd q
     done (r ∷ rs) u q = ⊎_elim (λ x. inl (one r.begun r.ended r.op u x)) (λ x. inr (inr (done rs u x))) (mem_split (op_writes r.begun r.ended r.op) (writes_in rs) u q)
 
--- the begin of a look, and of a store, is among all stamps
-pub look_in_all : (a : Account) (v : Look) → Mem v (looks_of a) → Mem v.begun (all_stamps a)
+-- the begin of a view's record, and of a store, is among all stamps
+pub look_in_all : (a : Account) (v : ViewRecord) → Mem v (view_records_of a) → Mem v.begun (all_stamps a)
 look_in_all a v m = mem_left (stamps_of a) (middles_of a) v.begun (look_stamp a v m)
 
 pub write_in_all : (a : Account) (w : Write) → Mem w (writes_of a) → Mem w.begun (all_stamps a)

@@ -7,10 +7,10 @@ use Rattle.snap_account.specs.declared.account.Doing.{Doing}
 use Rattle.snap_account.specs.declared.account.Doing.TheVariants.{Begun, Written, Viewing, Scanning}
 use Rattle.snap_account.specs.declared.account.Scan.{Scan}
 use Rattle.snap_account.proofs.Lists.{mem_left, mem_right}
-use Rattle.snap_account.specs.Calls.{Mem, Look, look, looks_in, stamps_in, begun_store, begun_view, wrote, ended, middled, middle_open, gave_up}
+use Rattle.snap_account.specs.Calls.{Mem, ViewRecord, view_record, view_records_in, stamps_in, begun_store, begun_view, wrote, ended, middled, middle_open, gave_up}
 use Rattle.snap_account.specs.Rule.{code, first_step}
 use Rattle.snap_account.specs.Plays.{Seated, entry_of, Above, ReadAll}
-use Rattle.snap_account.specs.Hands.{idle, answered_of, showing, has_read}
+use Rattle.snap_account.specs.Seats.{idle, answered_of, showing, has_read}
 use Rattle.snap_account.proofs.Accounts.{acct, rec, rec_scan}
 use Rattle.snap_account.proofs.Moves.{code_number}
 use Rattle.snap_account.proofs.Reading.{looks_over}
@@ -86,7 +86,7 @@ pub record CollectDone (d : ℕ) (rs : List Answered) (t begun ended : ℕ) (xs 
   pub me : last ≡ at_desk (idle d (rs ++ rec begun ended (Viewed xs) ∷ []) (t + 2))
   pub in_turn : begun < ended
   pub above : (x : ℕ) → Mem x (stamps_in rs) → x < begun
-  pub whole : (v : Look) → Mem v (looks_in rs) → length v.shown ≡ length xs
+  pub whole : (v : ViewRecord) → Mem v (view_records_in rs) → length v.shown ≡ length xs
 
 pub collect_done : (me0 me1 me2 me3 : Seated) (d : ℕ) (rs : List Answered) (t b e : ℕ) (xs : List (ℕ × ℕ)) → me0 ≡ at_desk (idle d rs t)
     → (me1 ≡ (first_step (begun_view b) me0.0, me0.1)) × Above b me0 → me2 ≡ has_read me1 xs → (me3 ≡ (first_step (ended e) me2.0, me2.1)) × Above e me2 × ReadAll me2
@@ -99,5 +99,5 @@ collect_done me0 me1 me2 me3 d rs t b e xs is first second third =
       me = viewed_after me2 me3 d rs (t + 1) b e xs at2 third.0 ∙ ap (λ z. at_desk (idle d (rs ++ rec b e (Viewed xs) ∷ []) z)) two;
       in_turn = above_view me2 d rs (t + 1) b e xs at2 third.1;
       above = above_old me0 d rs t b is first.1;
-      whole = λ v m. third.2 (acct d rs (Viewing b xs) (t + 1)) (ap (λ (z : Seated). z.0) at2) xs refl v (mem_left (looks_in rs) (look b 0 false xs ∷ []) v m) (looks_over rs v m);
+      whole = λ v m. third.2 (acct d rs (Viewing b xs) (t + 1)) (ap (λ (z : Seated). z.0) at2) xs refl v (mem_left (view_records_in rs) (view_record b 0 false xs ∷ []) v m) (looks_over rs v m);
     }

@@ -6,13 +6,13 @@ use Rattle.atomic_table.proofs.Lists.{at_set}
 use Rattle.snap_account.specs.declared.account.Account.{Account}
 use Rattle.snap_core.specs.Sums.{one_if, times, total}
 use Rattle.snap_core.proofs.Sums.{total-set}
-use Rattle.snap_account.specs.Calls.{Mem, Write, Look, writes_of, looks_of, all_stamps, in_word}
+use Rattle.snap_account.specs.Calls.{Mem, Write, ViewRecord, writes_of, view_records_of, all_stamps, in_word}
 use Rattle.snap_account.specs.Rule.{Own, Sees, After, Core, clock}
 use Rattle.snap_account.proofs.Lists.{mem_split, mem_one, total-none, one_same, one_least, times_none, times-push}
 use Rattle.snap_account.proofs.Accounts.{look_in_all}
 
 -- the view sees what it saw, where the stores and the word are the same
-pub sees_same : (v : Look) (p : ℕ × ℕ) (a c : Account) → writes_of a ≡ writes_of c → in_word a ≡ in_word c → Sees v p a → Sees v p c
+pub sees_same : (v : ViewRecord) (p : ℕ × ℕ) (a c : Account) → writes_of a ≡ writes_of c → in_word a ≡ in_word c → Sees v p a → Sees v p c
 sees_same v p a c same word s = record {
   old = let e = ap (λ (q : ℕ × ℕ). q.0) word in let o = s.old in omega arith;
   fresh = λ w m lt over. s.fresh w (subst (λ (ws : List Write). Mem w ws) (sym same) m) lt over;
@@ -77,18 +77,18 @@ module _ (n : ℕ) (b : List Account) (h : Core n b) (k : ℕ) (a : Account) (at
 
   -- as a viewer, against all accounts as they were
   abbrev pub Views : Type 0
-  Views = (v : Look) → Mem v (looks_of a') → (j : ℕ) (c : Account) → get_elem? b j ≡ some c → (p : ℕ × ℕ) → get_elem? v.shown j ≡ some p → Sees v p c
+  Views = (v : ViewRecord) → Mem v (view_records_of a') → (j : ℕ) (c : Account) → get_elem? b j ≡ some c → (p : ℕ × ℕ) → get_elem? v.shown j ≡ some p → Sees v p c
 
   -- as a storer, against a view that has begun
   abbrev pub Stores : Type 0
-  Stores = (v : Look) (p : ℕ × ℕ) → v.begun < clock b' → Sees v p a → Sees v p a'
+  Stores = (v : ViewRecord) (p : ℕ × ℕ) → v.begun < clock b' → Sees v p a → Sees v p a'
 
   -- its views, against all views as they were, and against each other
   abbrev pub Follows : Type 0
-  Follows = (v : Look) → Mem v (looks_of a') → (j : ℕ) (c : Account) → get_elem? b j ≡ some c → (r : Look) → Mem r (looks_of c) → After r v × After v r
+  Follows = (v : ViewRecord) → Mem v (view_records_of a') → (j : ℕ) (c : Account) → get_elem? b j ≡ some c → (r : ViewRecord) → Mem r (view_records_of c) → After r v × After v r
 
   abbrev pub Inner : Type 0
-  Inner = (r s : Look) → Mem r (looks_of a') → Mem s (looks_of a') → After r s
+  Inner = (r s : ViewRecord) → Mem r (view_records_of a') → Mem s (view_records_of a') → After r s
 
   pub changes : Own n k a' → ((i : ℕ) (c : Account) → get_elem? b' i ≡ some c → (x : ℕ) → Mem x (all_stamps c) → x < clock b') → ((x : ℕ) → total (λ c. times x (all_stamps c)) b' ≤ 1)
       → Views → Stores → Follows → Inner → Core n b'
@@ -101,34 +101,34 @@ module _ (n : ℕ) (b : List Account) (h : Core n b) (k : ℕ) (a : Account) (at
     after = λ i x e r mr j c e' s ms. order i x e r mr j c e' s ms;
   }
     where
-      viewer : (i : ℕ) (x : Account) → get_elem? b' i ≡ some x → (v : Look) → Mem v (looks_of x) → (j : ℕ) (c : Account) → get_elem? b j ≡ some c → (p : ℕ × ℕ) → get_elem? v.shown j ≡ some p → Sees v p c
+      viewer : (i : ℕ) (x : Account) → get_elem? b' i ≡ some x → (v : ViewRecord) → Mem v (view_records_of x) → (j : ℕ) (c : Account) → get_elem? b j ≡ some c → (p : ℕ × ℕ) → get_elem? v.shown j ≡ some p → Sees v p c
       viewer i x e v m j c e' p at_p = ⊎_elim
-          (λ (q : (i ≡ k) × (a' ≡ x)). views v (subst (λ (z : Account). Mem v (looks_of z)) (sym q.1) m) j c e' p at_p)
+          (λ (q : (i ≡ k) × (a' ≡ x)). views v (subst (λ (z : Account). Mem v (view_records_of z)) (sym q.1) m) j c e' p at_p)
           (λ (q : (i ≢ k) × (get_elem? b i ≡ some x)). h.sees i x q.1 v m j c e' p at_p)
           (at_set b k i a' x e)
 
-      storer : (j : ℕ) (c : Account) → get_elem? b' j ≡ some c → (v : Look) (p : ℕ × ℕ) → v.begun < clock b' → ((d : Account) → get_elem? b j ≡ some d → Sees v p d) → Sees v p c
+      storer : (j : ℕ) (c : Account) → get_elem? b' j ≡ some c → (v : ViewRecord) (p : ℕ × ℕ) → v.begun < clock b' → ((d : Account) → get_elem? b j ≡ some d → Sees v p d) → Sees v p c
       storer j c e v p lt before = ⊎_elim
           (λ (q : (j ≡ k) × (a' ≡ c)). subst (λ (z : Account). Sees v p z) q.1 (stores v p lt (before a (ap (λ i. get_elem? b i) q.0 ∙ at))))
           (λ (q : (j ≢ k) × (get_elem? b j ≡ some c)). before c q.1)
           (at_set b k j a' c e)
 
-      order : (i : ℕ) (x : Account) → get_elem? b' i ≡ some x → (r : Look) → Mem r (looks_of x) → (j : ℕ) (c : Account) → get_elem? b' j ≡ some c → (s : Look) → Mem s (looks_of c) → After r s
+      order : (i : ℕ) (x : Account) → get_elem? b' i ≡ some x → (r : ViewRecord) → Mem r (view_records_of x) → (j : ℕ) (c : Account) → get_elem? b' j ≡ some c → (s : ViewRecord) → Mem s (view_records_of c) → After r s
       order i x e r mr j c e' s ms = ⊎_elim
-          (λ (q : (i ≡ k) × (a' ≡ x)). let mr' = subst (λ (z : Account). Mem r (looks_of z)) (sym q.1) mr in ⊎_elim
-          (λ (q' : (j ≡ k) × (a' ≡ c)). inner r s mr' (subst (λ (z : Account). Mem s (looks_of z)) (sym q'.1) ms))
+          (λ (q : (i ≡ k) × (a' ≡ x)). let mr' = subst (λ (z : Account). Mem r (view_records_of z)) (sym q.1) mr in ⊎_elim
+          (λ (q' : (j ≡ k) × (a' ≡ c)). inner r s mr' (subst (λ (z : Account). Mem s (view_records_of z)) (sym q'.1) ms))
           (λ (q' : (j ≢ k) × (get_elem? b j ≡ some c)). (follows r mr' j c q'.1 s ms).1)
           (at_set b k j a' c e'))
           (λ (q : (i ≢ k) × (get_elem? b i ≡ some x)). ⊎_elim
-          (λ (q' : (j ≡ k) × (a' ≡ c)). (follows s (subst (λ (z : Account). Mem s (looks_of z)) (sym q'.1) ms) i x q.1 r mr).0)
+          (λ (q' : (j ≡ k) × (a' ≡ c)). (follows s (subst (λ (z : Account). Mem s (view_records_of z)) (sym q'.1) ms) i x q.1 r mr).0)
           (λ (q' : (j ≢ k) × (get_elem? b j ≡ some c)). h.after i x q.1 r mr j c q'.1 s ms)
           (at_set b k j a' c e'))
           (at_set b k i a' x e)
 
   -- a step of a store leaves the views
-  pub same_views : looks_of a' ≡ looks_of a → Views × Follows × Inner
+  pub same_views : view_records_of a' ≡ view_records_of a → Views × Follows × Inner
   same_views same =
-      let old : (v : Look) → Mem v (looks_of a') → Mem v (looks_of a) = λ v m. subst (λ (vs : List Look). Mem v vs) same m in (
+      let old : (v : ViewRecord) → Mem v (view_records_of a') → Mem v (view_records_of a) = λ v m. subst (λ (vs : List ViewRecord). Mem v vs) same m in (
         (λ v m j c e p at_p. h.sees k a at v (old v m) j c e p at_p),
         (λ v m j c e r mr. (h.after j c e r mr k a at v (old v m), h.after k a at v (old v m) j c e r mr)),
         (λ r s mr ms. h.after k a at r (old r mr) k a at s (old s ms)),

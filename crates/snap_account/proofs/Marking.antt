@@ -9,7 +9,7 @@ use Rattle.snap_account.specs.declared.account.Answered.{Answered}
 use Rattle.snap_account.specs.declared.account.Answer.TheVariants.{Stored, Viewed, Scanned, Interfered}
 use Rattle.snap_account.specs.declared.account.Doing.TheVariants.{Idle, Begun, Written, Viewing, Scanning}
 use Rattle.snap_account.specs.declared.account.Scan.{Scan}
-use Rattle.snap_account.specs.Calls.{Mem, Write, Look, Mark, write, look, mark, writes_in, looks_in, marks_in, open_marks, open_looks, writes_of, looks_of, marks_of, latest, in_word}
+use Rattle.snap_account.specs.Calls.{Mem, Write, ViewRecord, Mark, write, view_record, mark, writes_in, view_records_in, marks_in, open_marks, open_view_records, writes_of, view_records_of, marks_of, latest, in_word}
 use Rattle.snap_account.specs.Rule.{Core, Numbered, clock}
 use Rattle.snap_account.specs.Marks.{Spans, InTurn, Inside, HasClimbed, Climbs, Marked, sum}
 use Rattle.snap_account.proofs.Lists.{mem_split, mem_left, mem_right, mem_one, at_push, at_below}
@@ -156,10 +156,10 @@ module _ (n : ℕ) (b : List Account) (h : Core n b) (g : Marked n b) (k : ℕ) 
   }
 
   -- a new mark at the clock, with a collect that was read
-  abbrev pub Fresh : ℕ → Look → Mark → Type 0
+  abbrev pub Fresh : ℕ → ViewRecord → Mark → Type 0
   Fresh b0 v m = m ≡ mark b0 (clock b) 0 false v.shown []
 
-  pub fresh_marks : (b0 : ℕ) (v : Look) → Mem v (looks_of a) → v.begun ≡ b0 → length v.shown ≡ n → ((m : Mark) → Mem m (marks_of a') → Mem m (marks_of a) ⊎ Fresh b0 v m) → Marks
+  pub fresh_marks : (b0 : ℕ) (v : ViewRecord) → Mem v (view_records_of a) → v.begun ≡ b0 → length v.shown ≡ n → ((m : Mark) → Mem m (marks_of a') → Mem m (marks_of a) ⊎ Fresh b0 v m) → Marks
   fresh_marks b0 v mv is whole cases = grown (Fresh b0 v) cases
       (λ m x. subst (Inside n) (sym x) (record { begins = (let l = h.below k a at v.begun (look_in_all a v mv) in omega arith); ends = λ over. absurd (off over); whole = whole }))
       (λ m x j c e. subst (λ (z : Mark). Spans z j c) (sym x) (record {
@@ -195,14 +195,14 @@ module _ (n : ℕ) (b : List Account) (h : Core n b) (g : Marked n b) (k d : ℕ
     where
       one : (i : ℕ) (p q : ℕ × ℕ) → get_elem? s.before i ≡ some p → get_elem? s.since i ≡ some q → ((c : Account) × (get_elem? b i ≡ some c)) → (p.0 ≤ q.0) × (p.0 ≡ q.0 → p ≡ q)
       one i p q at_p at_q c =
-          let v1 : Look = look s.begun 0 false s.before in let v2 : Look = look s.begun 0 false s.since in
-          let m1 : Mem v1 (looks_of a) = mem_right (looks_in rs) (open_looks (Scanning s)) v1 (inr (inl refl)) in
-          let m2 : Mem v2 (looks_of a) = mem_right (looks_in rs) (open_looks (Scanning s)) v2 (inr (inr (inl refl))) in
+          let v1 : ViewRecord = view_record s.begun 0 false s.before in let v2 : ViewRecord = view_record s.begun 0 false s.since in
+          let m1 : Mem v1 (view_records_of a) = mem_right (view_records_in rs) (open_view_records (Scanning s)) v1 (inr (inl refl)) in
+          let m2 : Mem v2 (view_records_of a) = mem_right (view_records_in rs) (open_view_records (Scanning s)) v2 (inr (inr (inl refl))) in
           let s1 = h.sees k a at v1 m1 i c.0 c.1 p at_p in
           let s2 = h.sees k a at v2 m2 i c.0 c.1 q at_q in
           ((g.spans k a at open_mark open_there i c.0 c.1).later p q at_p at_q, λ same. value same (ℕ_discrete p.0 0) s1 s2)
         where
-          value : p.0 ≡ q.0 → Dec (p.0 ≡ 0) → Rattle.snap_account.specs.Rule.Sees (look s.begun 0 false s.before) p c.0 → Rattle.snap_account.specs.Rule.Sees (look s.begun 0 false s.since) q c.0 → p ≡ q
+          value : p.0 ≡ q.0 → Dec (p.0 ≡ 0) → Rattle.snap_account.specs.Rule.Sees (view_record s.begun 0 false s.before) p c.0 → Rattle.snap_account.specs.Rule.Sees (view_record s.begun 0 false s.since) q c.0 → p ≡ q
           value same (yes none) s1 s2 = let x = s1.blank none in let y = s2.blank (omega arith) in let z : p.1 ≡ q.1 = omega arith in λ i. (same i, z i)
           value same (no some_there) s1 s2 =
               let w = s1.real (omega arith) in let u = s2.real (omega arith) in
@@ -285,8 +285,8 @@ module _ (n : ℕ) (b : List Account) (h : Core n b) (g : Marked n b) (k d : ℕ
   middles_first b0 xs at all h' up =
       let a = acct d rs (Viewing b0 xs) t in
       let a' = acct d rs (Scanning (scan b0 xs (clock b ∷ []) (clock b) xs [])) (t + 1) in
-      let v0 : Look = look b0 0 false xs in
-      let there : Mem v0 (looks_of a) = mem_right (looks_in rs) (v0 ∷ []) v0 (inl refl) in
+      let v0 : ViewRecord = view_record b0 0 false xs in
+      let there : Mem v0 (view_records_of a) = mem_right (view_records_in rs) (v0 ∷ []) v0 (inl refl) in
       changes n b h g k a at a' h' up
       (fresh_marks n b h g k a at a' b0 v0 there refl all (λ m q. ⊎_elim
       (λ x. inl (mem_left (marks_in rs) [] m x))
@@ -301,8 +301,8 @@ module _ (n : ℕ) (b : List Account) (h : Core n b) (g : Marked n b) (k d : ℕ
   middles s at all ne h' up =
       let a = acct d rs (Scanning s) t in
       let a' = acct d rs (Scanning (scan s.begun s.first (s.middles ++ clock b ∷ []) (clock b) s.since [])) (t + 1) in
-      let v0 : Look = look s.begun 0 false s.since in
-      let there : Mem v0 (looks_of a) = mem_right (looks_in rs) (open_looks (Scanning s)) v0 (inr (inr (inl refl))) in
+      let v0 : ViewRecord = view_record s.begun 0 false s.since in
+      let there : Mem v0 (view_records_of a) = mem_right (view_records_in rs) (open_view_records (Scanning s)) v0 (inr (inr (inl refl))) in
       changes n b h g k a at a' h' up
       (fresh_marks n b h g k a at a' s.begun v0 there refl all (λ m q. ⊎_elim
       (λ x. inl (mem_left (marks_in rs) (open_marks (Scanning s)) m x))

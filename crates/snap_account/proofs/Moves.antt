@@ -10,7 +10,7 @@ use Rattle.snap_account.specs.declared.account.Answer.TheVariants.{Stored, Viewe
 use Rattle.snap_account.specs.declared.account.Doing.{Doing}
 use Rattle.snap_account.specs.declared.account.Doing.TheVariants.{Idle, Begun, Written, Viewing, Scanning}
 use Rattle.snap_account.specs.declared.account.Scan.{Scan}
-use Rattle.snap_account.specs.Calls.{Mem, latest, in_word, writes_of, looks_of, stamps_of, begun_store, middles_of, begun_view, wrote, read, ended, middled, gave_up}
+use Rattle.snap_account.specs.Calls.{Mem, latest, in_word, writes_of, view_records_of, stamps_of, begun_store, middles_of, begun_view, wrote, read, ended, middled, gave_up}
 use Rattle.snap_core.proofs.Sums.{total-set}
 use Rattle.snap_account.specs.Marks.{Marked}
 use Rattle.snap_account.specs.Rule.{tick_limit, Core, Ticked, Boarded, clock, code, words_of, first_step}
@@ -67,7 +67,7 @@ not_reading b m v o ys e r = subst (λ (z : Doing). HasRead z ys) (sym e) r
 all_read : (n : ℕ) (b : List Account) → Core n b → (a : Account) → get_elem? b a.desk ≡ some a → ((xs : List (ℕ × ℕ)) → HasRead a.doing xs → length xs ≡ n) → (me : Seated) → me.0 ≡ a ∷ [] → ReadAll me
 all_read n b h a at all me is x is_x ys e r m over =
     let same = first_same a x (sym is ∙ is_x) in
-    (h.own a.desk a at).whole r (subst (λ (z : Account). Mem r (looks_of z)) (sym same) m) over ∙ sym (all ys (subst (λ (z : Account). HasRead z.doing ys) (sym same) e))
+    (h.own a.desk a at).whole r (subst (λ (z : Account). Mem r (view_records_of z)) (sym same) m) over ∙ sym (all ys (subst (λ (z : Account). HasRead z.doing ys) (sym same) e))
 
 some_account : (l : List Account) (i : ℕ) → i < length l → (x : Account) × (get_elem? l i ≡ some x)
 some_account [] i lt = absurd (omega arith)

@@ -8,22 +8,22 @@ use Rattle.snap_account.specs.declared.account.Answer.TheVariants.{Stored, Viewe
 use Rattle.std.proofs.lemmas.List.{map-append, length-map}
 use Rattle.snap_account.specs.declared.account.Doing.{Doing}
 use Rattle.snap_account.specs.declared.account.Doing.TheVariants.{Idle, Begun, Written, Viewing, Scanning}
-use Rattle.snap_account.specs.Calls.{Mem, Look, look, reading, writes_in, looks_in, open_writes, open_looks, open_entry, latest, op_looks, read, read_open}
+use Rattle.snap_account.specs.Calls.{Mem, ViewRecord, view_record, reading, writes_in, view_records_in, open_writes, open_view_records, open_entry, latest, op_view_records, read, read_open}
 use Rattle.snap_account.specs.Rule.{first_step}
 use Rattle.snap_account.specs.Plays.{Seated, entry_of, HasRead, Learns}
-use Rattle.snap_account.specs.Hands.{showing, has_read, pairs, doing_of, desk_of, answered_of, ticks_of, Told}
+use Rattle.snap_account.specs.Seats.{showing, has_read, pairs, doing_of, desk_of, answered_of, ticks_of, IsUpToDate}
 use Rattle.snap_account.proofs.Lists.{mem_split, mem_left, mem_one, at_push}
 use Rattle.snap_account.proofs.Accounts.{acct}
 
-pub looks_over : (rs : List Answered) (r : Look) → Mem r (looks_in rs) → r.over ≡ true
+pub looks_over : (rs : List Answered) (r : ViewRecord) → Mem r (view_records_in rs) → r.over ≡ true
 looks_over [] r m = absurd m
-looks_over (q ∷ rs) r m = ⊎_elim (λ x. one q.begun q.ended q.op x) (λ x. looks_over rs r x) (mem_split (op_looks q.begun q.ended q.op) (looks_in rs) r m)
+looks_over (q ∷ rs) r m = ⊎_elim (λ x. one q.begun q.ended q.op x) (λ x. looks_over rs r x) (mem_split (op_view_records q.begun q.ended q.op) (view_records_in rs) r m)
   where
-    one : (b e : ℕ) (o : Answer) → Mem r (op_looks b e o) → r.over ≡ true
+    one : (b e : ℕ) (o : Answer) → Mem r (op_view_records b e o) → r.over ≡ true
     one b e (Stored n v) x = absurd x
-    one b e (Viewed xs) x = ap (λ (z : Look). z.over) (sym (mem_one r (look b e true xs) x))
-    one b e (Scanned t xs) x = ap (λ (z : Look). z.over) (sym (mem_one r (look b e true xs) x))
-    one b e (Interfered n xs ys) x = ⊎_elim (λ q. ap (λ (z : Look). z.over) (sym q)) (λ q. ap (λ (z : Look). z.over) (sym (mem_one r (look b e true ys) q))) x
+    one b e (Viewed xs) x = ap (λ (z : ViewRecord). z.over) (sym (mem_one r (view_record b e true xs) x))
+    one b e (Scanned t xs) x = ap (λ (z : ViewRecord). z.over) (sym (mem_one r (view_record b e true xs) x))
+    one b e (Interfered n xs ys) x = ⊎_elim (λ q. ap (λ (z : ViewRecord). z.over) (sym q)) (λ q. ap (λ (z : ViewRecord). z.over) (sym (mem_one r (view_record b e true ys) q))) x
 
 -- what a collect has read
 pub has_showing : (o : Doing) (ys xs : List (ℕ × ℕ)) → HasRead o ys → HasRead (showing xs o) xs
@@ -73,7 +73,7 @@ has_read_more me0 me now ws w is has told =
 
 pub told_more : (me0 me : Seated) (ws : List ℕ) (w n : ℕ) → me ≡ has_read me0 (pairs ws) → HasRead (doing_of me0.0) [] → w ≡ suc (length ws)
     → ((k : ℕ) (a : Account) → w ≡ suc k → me.0 ≡ a ∷ [] → Learns k a (entry_of n))
-    → Told (desk_of me0.0) (answered_of me0.0) (pairs ws) → Told (desk_of me0.0) (answered_of me0.0) (pairs (ws ++ n ∷ []))
+    → IsUpToDate (desk_of me0.0) (answered_of me0.0) (pairs ws) → IsUpToDate (desk_of me0.0) (answered_of me0.0) (pairs (ws ++ n ∷ []))
 told_more me0 me ws w n is has at learns told k p e =
     let xs = pairs ws in
     let size : length xs ≡ length ws = length-map ws entry_of in
@@ -84,7 +84,7 @@ told_more me0 me ws w n is has at learns told k p e =
     (λ old. told k p old)
     (λ (new : (k ≡ length xs) × (entry_of n ≡ p)). (
       (λ same. let q = l.0 (sym size ∙ sym new.0 ∙ same) in (sym new.1 ∙ q.0 ∙ reading_entry o xs (latest (0, 0) rs) (has_showing (doing_of me0.0) [] xs has), λ v m. q.1 v (mem_left (writes_in rs) (open_writes o) v m))),
-      λ r m q at_q. let le = l.1 r (mem_left (looks_in rs) (open_looks o) r m) (looks_over rs r m) q (ap (λ z. get_elem? r.shown z) (sym size ∙ sym new.0) ∙ at_q) in
+      λ r m q at_q. let le = l.1 r (mem_left (view_records_in rs) (open_view_records o) r m) (looks_over rs r m) q (ap (λ z. get_elem? r.shown z) (sym size ∙ sym new.0) ∙ at_q) in
           let is_p = ap (λ (z : ℕ × ℕ). z.0) new.1 in omega arith,
     ))
     (at_push xs (entry_of n) p k (ap (λ l. get_elem? l k) (sym (pairs-push ws n)) ∙ e))

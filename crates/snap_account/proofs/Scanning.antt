@@ -6,10 +6,10 @@ use Rattle.snap_account.specs.declared.account.Answer.TheVariants.{Scanned, Inte
 use Rattle.snap_account.specs.declared.account.Doing.{Doing}
 use Rattle.snap_account.specs.declared.account.Doing.TheVariants.{Idle, Begun, Written, Viewing, Scanning}
 use Rattle.snap_account.specs.declared.account.Scan.{Scan}
-use Rattle.snap_account.specs.Calls.{Mem, Look, looks_in, open_looks, stamps_in, begun_view, ended, gave_up}
+use Rattle.snap_account.specs.Calls.{Mem, ViewRecord, view_records_in, open_view_records, stamps_in, begun_view, ended, gave_up}
 use Rattle.snap_account.specs.Rule.{first_step}
 use Rattle.snap_account.specs.Plays.{Seated, Above, ReadAll}
-use Rattle.snap_account.specs.Hands.{idle, has_read, one_desk, doing_of, desk_of, answered_of, ticks_of, begun_of, begun_in}
+use Rattle.snap_account.specs.Seats.{idle, has_read, one_desk, doing_of, desk_of, answered_of, ticks_of, begun_of, begun_in}
 use Rattle.snap_account.specs.Tries.{IsRead, IsTrying, HasAgreed, middles_made, made_in, made_of, middle_in}
 use Rattle.snap_account.proofs.Lists.{mem_left, mem_right}
 use Rattle.snap_account.proofs.Accounts.{acct, rec_with}
@@ -70,7 +70,7 @@ pub record ScanDone (d : ℕ) (rs : List Answered) (t b e m middle : ℕ) (ms : 
   pub me : last ≡ at_desk (idle d (rs ++ rec_with b ms e (Scanned middle ys) ∷ []) (t + m + 2))
   pub in_turn : b < e
   pub above : (x : ℕ) → Mem x (stamps_in rs) → x < b
-  pub whole : (v : Look) → Mem v (looks_in rs) → length v.shown ≡ length ys
+  pub whole : (v : ViewRecord) → Mem v (view_records_in rs) → length v.shown ≡ length ys
 
 pub scan_done : (me0 me1 me2 me3 me4 : Seated) (d : ℕ) (rs : List Answered) (t b e m : ℕ) (xs ys : List (ℕ × ℕ)) → me0 ≡ at_desk (idle d rs t) → (me1 ≡ (first_step (begun_view b) me0.0, me0.1)) × Above b me0 → me2 ≡ has_read me1 xs
     → me3 ≡ one_desk me3 → (desk_of me3.0 ≡ desk_of me2.0) × (answered_of me3.0 ≡ answered_of me2.0) × (begun_of me3.0 ≡ begun_of me2.0) → ticks_of me3.0 ≡ ticks_of me2.0 + m → HasAgreed ys (doing_of me3.0)
@@ -88,7 +88,7 @@ scan_done me0 me1 me2 me3 me4 d rs t b e m xs ys is first second one same ticks 
       me = scanned_after me3 me4 d rs (t + 1 + m) e s.0 a.0 last.0 ∙ (λ i. at_desk (idle d (rs ++ rec_with (a.1 i) (made i) e (Scanned (mid i) (s.3 i)) ∷ []) (two i)));
       in_turn = last.1 (acct d rs o (t + 1 + m)) (ap (λ (z : Seated). z.0) a.0) b there;
       above = above_old me0 d rs t b is first.1;
-      whole = λ v q. last.2 (acct d rs o (t + 1 + m)) (ap (λ (z : Seated). z.0) a.0) ys s.3 v (mem_left (looks_in rs) (open_looks o) v q) (looks_over rs v q);
+      whole = λ v q. last.2 (acct d rs o (t + 1 + m)) (ap (λ (z : Seated). z.0) a.0) ys s.3 v (mem_left (view_records_in rs) (open_view_records o) v q) (looks_over rs v q);
     }
 
 -- what a scan without a record leaves

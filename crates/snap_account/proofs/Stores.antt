@@ -6,10 +6,10 @@ use Rattle.snap_account.specs.declared.account.Account.{Account}
 use Rattle.snap_account.specs.declared.account.Answered.{Answered}
 use Rattle.snap_account.specs.declared.account.Answer.TheVariants.{Stored}
 use Rattle.snap_account.specs.declared.account.Doing.TheVariants.{Idle, Begun, Written}
-use Rattle.snap_account.specs.Calls.{Mem, Write, Look, Mark, write, writes_in, looks_in, stamps_in, marks_in, writes_of, looks_of, marks_of, middles_of, latest, in_word}
+use Rattle.snap_account.specs.Calls.{Mem, Write, ViewRecord, Mark, write, writes_in, view_records_in, stamps_in, marks_in, writes_of, view_records_of, marks_of, middles_of, latest, in_word}
 use Rattle.snap_account.specs.Rule.{tick_limit, Core, clock, Numbered}
 use Rattle.snap_account.proofs.Lists.{mem_split, mem_left, mem_right, mem_one, numbered_push}
-use Rattle.snap_account.proofs.Accounts.{acct, rec, writes_in-append, looks_in-append, stamps_in-append, marks_in-append, latest-push}
+use Rattle.snap_account.proofs.Accounts.{acct, rec, writes_in-append, view_records_in-append, stamps_in-append, marks_in-append, latest-push}
 use Rattle.snap_account.proofs.Core.{clock_ticked, below_ticked, below_quiet, apart_ticked, apart_quiet, changes, same_views, same_stores}
 use Rattle.snap_account.proofs.Ticks.{ends_tick}
 
@@ -97,7 +97,7 @@ module _ (n : ℕ) (b : List Account) (h : Core n b) (k d : ℕ) (rs : List Answ
       let w : Write = write m v b0 0 false in
       let w' : Write = write m v b0 (clock b) true in
       let writes' : writes_of a' ≡ writes_in rs ++ w' ∷ [] = append-nil (writes_in (rs ++ last ∷ [])) ∙ writes_in-append rs (last ∷ []) in
-      let looks' : looks_of a' ≡ looks_of a = append-nil (looks_in (rs ++ last ∷ [])) ∙ looks_in-append rs (last ∷ []) in
+      let looks' : view_records_of a' ≡ view_records_of a = append-nil (view_records_in (rs ++ last ∷ [])) ∙ view_records_in-append rs (last ∷ []) in
       let word' : in_word a' ≡ (m, v) = latest-push (0, 0) rs last in
       let marks' : marks_of a' ≡ marks_of a = ap (λ (ms : List Mark). ms ++ []) (marks_in-append rs (last ∷ []) ∙ append-nil (marks_in rs)) in
       let ticks = ends_tick n b h k a at a' (middles_of a) [] (append-nil (stamps_in (rs ++ last ∷ [])) ∙ stamps_in-append rs (last ∷ []) ∙ sym (append_assoc (stamps_in rs) (b0 ∷ []) (clock b ∷ [])))
@@ -114,8 +114,8 @@ module _ (n : ℕ) (b : List Account) (h : Core n b) (k d : ℕ) (rs : List Answ
         numbered = subst (Numbered 1) (sym writes') (numbered_swap 1 (writes_in rs) w w' refl own.numbered);
         count = let l = ap length writes' in let l1 = length-append (writes_in rs) (w' ∷ []) in let l2 = length-append (writes_in rs) (w ∷ []) in let c = own.count in let e = ap (λ (q : ℕ × ℕ). q.0) word' in omega arith;
         small = let e = ap (λ (q : ℕ × ℕ). q.1) word' in let s = own.small in omega arith;
-        whole = λ x mx. own.whole x (subst (λ (l : List Look). Mem x l) looks' mx);
-        ends = λ x mx. own.ends x (subst (λ (l : List Look). Mem x l) looks' mx);
+        whole = λ x mx. own.whole x (subst (λ (l : List ViewRecord). Mem x l) looks' mx);
+        ends = λ x mx. own.ends x (subst (λ (l : List ViewRecord). Mem x l) looks' mx);
       })
       (below_ticked n b h k a at a' tick)
       (apart_ticked n b h k a at a' tick)

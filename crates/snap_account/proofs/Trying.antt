@@ -9,7 +9,7 @@ use Rattle.snap_account.specs.declared.account.Doing.TheVariants.{Idle, Begun, W
 use Rattle.snap_account.specs.Calls.{middle_open, middled}
 use Rattle.snap_account.specs.Rule.{tick_limit, Boarded, first_step}
 use Rattle.snap_account.specs.Plays.{Seated, entry_of, HasRead, Middles}
-use Rattle.snap_account.specs.Hands.{showing, has_read, one_desk, pairs, doing_of, desk_of, answered_of, ticks_of, begun_of, begun_in}
+use Rattle.snap_account.specs.Seats.{showing, has_read, one_desk, pairs, doing_of, desk_of, answered_of, ticks_of, begun_of, begun_in}
 use Rattle.snap_account.specs.Tries.{IsRead, IsTrying, HasAgreed, made_in, made_of}
 use Rattle.snap_account.proofs.Accounts.{acct}
 use Rattle.snap_account.proofs.Moves.{middles_first_as, middles_as}

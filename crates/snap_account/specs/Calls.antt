@@ -22,7 +22,7 @@ pub record Write : Type 0 where
   pub over : Bool
 
 -- a collect of a view or of a scan, completed (`over`) or open, and the entries read, of component 0 first
-pub record Look : Type 0 where
+pub record ViewRecord : Type 0 where
   pub begun : ℕ
   pub ended : ℕ
   pub over : Bool
@@ -35,8 +35,8 @@ write n v b e o = record { number = n; value = v; begun = b; ended = e; over = o
 abbrev pub AllNumbered : List Write → Type 0
 AllNumbered ws = (w : Write) → Mem w ws → 0 < w.number
 
-abbrev pub look : ℕ → ℕ → Bool → List (ℕ × ℕ) → Look
-look b e o xs = record { begun = b; ended = e; over = o; shown = xs }
+abbrev pub view_record : ℕ → ℕ → Bool → List (ℕ × ℕ) → ViewRecord
+view_record b e o xs = record { begun = b; ended = e; over = o; shown = xs }
 
 abbrev pub op_writes : ℕ → ℕ → Answer → List Write
 op_writes b e (Stored n v) = write n v b e true ∷ []
@@ -44,19 +44,19 @@ op_writes b e (Viewed xs) = []
 op_writes b e (Scanned t xs) = []
 op_writes b e (Interfered n xs ys) = []
 
-abbrev pub op_looks : ℕ → ℕ → Answer → List Look
-op_looks b e (Stored n v) = []
-op_looks b e (Viewed xs) = look b e true xs ∷ []
-op_looks b e (Scanned t xs) = look b e true xs ∷ []
-op_looks b e (Interfered n xs ys) = look b e true xs ∷ look b e true ys ∷ []
+abbrev pub op_view_records : ℕ → ℕ → Answer → List ViewRecord
+op_view_records b e (Stored n v) = []
+op_view_records b e (Viewed xs) = view_record b e true xs ∷ []
+op_view_records b e (Scanned t xs) = view_record b e true xs ∷ []
+op_view_records b e (Interfered n xs ys) = view_record b e true xs ∷ view_record b e true ys ∷ []
 
 abbrev pub writes_in : List Answered → List Write
 writes_in [] = []
 writes_in (r ∷ rs) = op_writes r.begun r.ended r.op ++ writes_in rs
 
-abbrev pub looks_in : List Answered → List Look
-looks_in [] = []
-looks_in (r ∷ rs) = op_looks r.begun r.ended r.op ++ looks_in rs
+abbrev pub view_records_in : List Answered → List ViewRecord
+view_records_in [] = []
+view_records_in (r ∷ rs) = op_view_records r.begun r.ended r.op ++ view_records_in rs
 
 abbrev pub open_writes : Doing → List Write
 open_writes Idle = []
@@ -65,12 +65,12 @@ open_writes (Written b n v) = write n v b 0 false ∷ []
 open_writes (Viewing b xs) = []
 open_writes (Scanning s) = []
 
-abbrev pub open_looks : Doing → List Look
-open_looks Idle = []
-open_looks (Begun b) = []
-open_looks (Written b n v) = []
-open_looks (Viewing b xs) = look b 0 false xs ∷ []
-open_looks (Scanning s) = look s.begun 0 false s.first ∷ look s.begun 0 false s.before ∷ look s.begun 0 false s.since ∷ []
+abbrev pub open_view_records : Doing → List ViewRecord
+open_view_records Idle = []
+open_view_records (Begun b) = []
+open_view_records (Written b n v) = []
+open_view_records (Viewing b xs) = view_record b 0 false xs ∷ []
+open_view_records (Scanning s) = view_record s.begun 0 false s.first ∷ view_record s.begun 0 false s.before ∷ view_record s.begun 0 false s.since ∷ []
 
 abbrev pub open_stamps : Doing → List ℕ
 open_stamps Idle = []
@@ -87,8 +87,8 @@ stamps_in (r ∷ rs) = r.begun ∷ r.ended ∷ stamps_in rs
 abbrev pub writes_of : Account → List Write
 writes_of a = writes_in a.calls ++ open_writes a.doing
 
-abbrev pub looks_of : Account → List Look
-looks_of a = looks_in a.calls ++ open_looks a.doing
+abbrev pub view_records_of : Account → List ViewRecord
+view_records_of a = view_records_in a.calls ++ open_view_records a.doing
 
 -- the stamps of an account's begins and ends, in the order of its calls
 abbrev pub stamps_of : Account → List ℕ

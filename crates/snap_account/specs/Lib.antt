@@ -3,5 +3,5 @@ pub mod Drawn
 pub mod Marks
 pub mod Rule
 pub mod Plays
-pub mod Hands
+pub mod Seats
 pub mod Tries

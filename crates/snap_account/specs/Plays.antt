@@ -4,7 +4,7 @@ use mathlib.Core.Option.{some}
 use lib.ListN.{get_elem?}
 use Rattle.atomic_table.specs.Table.{Me, Step}
 use Rattle.snap_account.specs.declared.account.Account.{Account}
-use Rattle.snap_account.specs.Calls.{Mem, Look, AllNumbered, writes_of, looks_of, stamps_of, in_word, begun_store, begun_view, wrote, read, ended, middled, gave_up}
+use Rattle.snap_account.specs.Calls.{Mem, ViewRecord, AllNumbered, writes_of, view_records_of, stamps_of, in_word, begun_store, begun_view, wrote, read, ended, middled, gave_up}
 use Rattle.snap_account.specs.declared.account.Doing.{Doing}
 use Rattle.snap_account.specs.declared.account.Doing.TheVariants.{Idle, Begun, Written, Viewing, Scanning}
 use Rattle.snap_account.specs.Rule.{first_step, of_desk}
@@ -39,7 +39,7 @@ HasRead (Scanning s) xs = s.since ≡ xs
 
 -- where a collect has read all components, so have the desk's earlier ones
 abbrev pub ReadAll : Seated → Type 0
-ReadAll me = (a : Account) → me.0 ≡ a ∷ [] → (xs : List (ℕ × ℕ)) → HasRead a.doing xs → (r : Look) → Mem r (looks_of a) → r.over ≡ true → length r.shown ≡ length xs
+ReadAll me = (a : Account) → me.0 ≡ a ∷ [] → (xs : List (ℕ × ℕ)) → HasRead a.doing xs → (r : ViewRecord) → Mem r (view_records_of a) → r.over ≡ true → length r.shown ≡ length xs
 
 abbrev pub Ends : Step (Unit {0}) → Seated → ℕ → Seated → Type 0
 Ends st me n now = (now ≡ (first_step (ended n) me.0, me.1)) × Above n me × ReadAll me
@@ -52,7 +52,7 @@ GivesUp st me n now = (now ≡ (first_step (gave_up n) me.0, me.1)) × Above n m
 
 -- of its own component a desk reads its last store, and of each component nothing older than its earlier views
 abbrev pub Learns : ℕ → Account → ℕ × ℕ → Type 0
-Learns k a p = (k ≡ a.desk → (p ≡ in_word a) × AllNumbered (writes_of a)) × ((r : Look) → Mem r (looks_of a) → r.over ≡ true → (q : ℕ × ℕ) → get_elem? r.shown k ≡ some q → q.0 ≤ p.0)
+Learns k a p = (k ≡ a.desk → (p ≡ in_word a) × AllNumbered (writes_of a)) × ((r : ViewRecord) → Mem r (view_records_of a) → r.over ≡ true → (q : ℕ × ℕ) → get_elem? r.shown k ≡ some q → q.0 ≤ p.0)
 
 abbrev pub Reads : Step (Unit {0}) → Seated → ℕ → Seated → Type 0
 Reads st me n now = (now ≡ (first_step (read (entry_of n)) me.0, me.1))

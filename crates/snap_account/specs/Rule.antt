@@ -9,7 +9,7 @@ use Rattle.snap_account.specs.declared.rule.TheConstants.{TICK_LIMIT}
 use Rattle.snap_core.specs.Sums.{total, one_if, times, once_below}
 use Rattle.snap_account.specs.Marks.{Marked}
 use Rattle.snap_account.specs.Drawn.{drawn}
-use Rattle.snap_account.specs.Calls.{Mem, Write, Look, writes_of, looks_of, stamps_of, all_stamps, in_word}
+use Rattle.snap_account.specs.Calls.{Mem, Write, ViewRecord, writes_of, view_records_of, stamps_of, all_stamps, in_word}
 
 -- how many ticks a desk may draw
 abbrev pub tick_limit : ℕ
@@ -35,11 +35,11 @@ pub record Own (n k : ℕ) (a : Account) : Type 0 where
   pub numbered : Numbered 1 (writes_of a)
   pub count : length (writes_of a) ≡ (in_word a).0
   pub small : (in_word a).1 < 4294967296
-  pub whole : (v : Look) → Mem v (looks_of a) → v.over ≡ true → length v.shown ≡ n
-  pub ends : (v : Look) → Mem v (looks_of a) → v.over ≡ true → v.begun < v.ended
+  pub whole : (v : ViewRecord) → Mem v (view_records_of a) → v.over ≡ true → length v.shown ≡ n
+  pub ends : (v : ViewRecord) → Mem v (view_records_of a) → v.over ≡ true → v.begun < v.ended
 
 -- the view v read p of the component of the account c
-pub record Sees (v : Look) (p : ℕ × ℕ) (c : Account) : Type 0 where
+pub record Sees (v : ViewRecord) (p : ℕ × ℕ) (c : Account) : Type 0 where
   -- it is no newer than the word
   pub old : p.0 ≤ (in_word c).0
   -- no later store ended before the view began
@@ -50,7 +50,7 @@ pub record Sees (v : Look) (p : ℕ × ℕ) (c : Account) : Type 0 where
   pub real : 0 < p.0 → (w : Write) × Mem w (writes_of c) × (w.number ≡ p.0) × (w.value ≡ p.1) × (v.over ≡ true → w.begun < v.ended)
 
 -- where r ended before s began, s shows nothing older
-abbrev pub After : Look → Look → Type 0
+abbrev pub After : ViewRecord → ViewRecord → Type 0
 After r s = r.over ≡ true → r.ended < s.begun → (k : ℕ) (p q : ℕ × ℕ) → get_elem? r.shown k ≡ some p → get_elem? s.shown k ≡ some q → p.0 ≤ q.0
 
 abbrev pub clock : List Account → ℕ
@@ -67,10 +67,10 @@ pub record Core (n : ℕ) (b : List Account) : Type 0 where
   pub own : (k : ℕ) (a : Account) → get_elem? b k ≡ some a → Own n k a
   pub below : (k : ℕ) (a : Account) → get_elem? b k ≡ some a → (x : ℕ) → Mem x (all_stamps a) → x < clock b
   pub apart : (x : ℕ) → total (λ a. times x (all_stamps a)) b ≤ 1
-  pub sees : (i : ℕ) (a : Account) → get_elem? b i ≡ some a → (v : Look) → Mem v (looks_of a)
+  pub sees : (i : ℕ) (a : Account) → get_elem? b i ≡ some a → (v : ViewRecord) → Mem v (view_records_of a)
       → (k : ℕ) (c : Account) → get_elem? b k ≡ some c → (p : ℕ × ℕ) → get_elem? v.shown k ≡ some p → Sees v p c
-  pub after : (i : ℕ) (a : Account) → get_elem? b i ≡ some a → (r : Look) → Mem r (looks_of a)
-      → (j : ℕ) (c : Account) → get_elem? b j ≡ some c → (s : Look) → Mem s (looks_of c) → After r s
+  pub after : (i : ℕ) (a : Account) → get_elem? b i ≡ some a → (r : ViewRecord) → Mem r (view_records_of a)
+      → (j : ℕ) (c : Account) → get_elem? b j ≡ some c → (s : ViewRecord) → Mem s (view_records_of c) → After r s
 
 -- a component's word
 abbrev pub code : ℕ × ℕ → ℕ

@@ -5,11 +5,11 @@ use Rattle.snap_account.specs.declared.account.Answered.{Answered}
 use Rattle.snap_account.specs.declared.account.Doing.{Doing}
 use Rattle.snap_account.specs.Plays.{Seated}
 use Rattle.snap_account.specs.declared.account.Doing.TheVariants.{Idle, Begun, Written, Viewing, Scanning}
-use Rattle.snap_account.specs.Hands.{Told, desk_of, answered_of, begun_of, doing_of, pairs}
+use Rattle.snap_account.specs.Seats.{IsUpToDate, desk_of, answered_of, begun_of, doing_of, pairs}
 
 -- desk d of n desks has read every component, with these records
 abbrev pub IsRead : ℕ → ℕ → List Answered → List (ℕ × ℕ) → Type 0
-IsRead n d rs xs = (length xs ≡ n) × Told d rs xs
+IsRead n d rs xs = (length xs ≡ n) × IsUpToDate d rs xs
 
 -- a scan whose last collect read xs, which are not what the collect before it read
 abbrev pub IsTrying : ℕ → ℕ → List Answered → List (ℕ × ℕ) → Doing → Type 0

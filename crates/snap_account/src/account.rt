@@ -57,4 +57,4 @@ pub struct Account {
 }
 
 /// The accounts that a seat holds, each by itself.
-pub type Hand = LinkedList<Account>;
+pub type Accounts = LinkedList<Account>;

@@ -5,7 +5,7 @@
 mod account;
 mod rule;
 
-pub use account::{Account, Answer, Answered, Doing, Hand, Scan};
+pub use account::{Account, Accounts, Answer, Answered, Doing, Scan};
 pub use rule::{
     BeginStore, BeginView, BoardRule, ComeIn, EndCall, GiveUp, GoOut, LookOver, MiddleTick,
     ReadWord, Size, TICK_LIMIT, WriteWord,

@@ -1,5 +1,5 @@
 // The rule of the board's table, and the kinds of step on its words.
-use crate::account::Hand;
+use crate::account::Accounts;
 use atomic_table::{Join, Play, Split, TableRule};
 
 /// How many ticks a desk may draw.
@@ -14,7 +14,7 @@ pub struct Size {
 /// What holds between any two steps on the board's words.
 pub struct BoardRule;
 
-impl TableRule<(), Hand, Size> for BoardRule {
+impl TableRule<(), Accounts, Size> for BoardRule {
     ghost use Rattle.snap_account.specs.Rule.{Boarded, newcomers};
 
     ghost holds = { λ k s. Boarded k.desks s };
@@ -25,7 +25,7 @@ impl TableRule<(), Hand, Size> for BoardRule {
 /// The begin tick of a store.
 pub struct BeginStore;
 
-impl Play<(), Hand> for BeginStore {
+impl Play<(), Accounts> for BeginStore {
     ghost use Rattle.snap_account.specs.Plays.{BeginsStore};
 
     ghost then = { BeginsStore };
@@ -34,7 +34,7 @@ impl Play<(), Hand> for BeginStore {
 /// The begin tick of a collect or a scan.
 pub struct BeginView;
 
-impl Play<(), Hand> for BeginView {
+impl Play<(), Accounts> for BeginView {
     ghost use Rattle.snap_account.specs.Plays.{BeginsView};
 
     ghost then = { BeginsView };
@@ -43,7 +43,7 @@ impl Play<(), Hand> for BeginView {
 /// The store of a component's word.
 pub struct WriteWord;
 
-impl Play<(), Hand> for WriteWord {
+impl Play<(), Accounts> for WriteWord {
     ghost use Rattle.snap_account.specs.Plays.{Writes};
 
     ghost then = { Writes };
@@ -52,7 +52,7 @@ impl Play<(), Hand> for WriteWord {
 /// The load of a component's word, by a collect or a scan.
 pub struct ReadWord;
 
-impl Play<(), Hand> for ReadWord {
+impl Play<(), Accounts> for ReadWord {
     ghost use Rattle.snap_account.specs.Plays.{Reads};
 
     ghost then = { Reads };
@@ -61,7 +61,7 @@ impl Play<(), Hand> for ReadWord {
 /// The end tick of a call that has a record.
 pub struct EndCall;
 
-impl Play<(), Hand> for EndCall {
+impl Play<(), Accounts> for EndCall {
     ghost use Rattle.snap_account.specs.Plays.{Ends};
 
     ghost then = { Ends };
@@ -70,7 +70,7 @@ impl Play<(), Hand> for EndCall {
 /// The middle tick of a scan, between two of its collects.
 pub struct MiddleTick;
 
-impl Play<(), Hand> for MiddleTick {
+impl Play<(), Accounts> for MiddleTick {
     ghost use Rattle.snap_account.specs.Plays.{Middles};
 
     ghost then = { Middles };
@@ -79,7 +79,7 @@ impl Play<(), Hand> for MiddleTick {
 /// The closing tick of a scan that has no record.
 pub struct GiveUp;
 
-impl Play<(), Hand> for GiveUp {
+impl Play<(), Accounts> for GiveUp {
     ghost use Rattle.snap_account.specs.Plays.{GivesUp};
 
     ghost then = { GivesUp };
@@ -88,7 +88,7 @@ impl Play<(), Hand> for GiveUp {
 /// A load of the clock by a seat of several desks, which tells that no two of its accounts are of one desk.
 pub struct LookOver;
 
-impl Play<(), Hand> for LookOver {
+impl Play<(), Accounts> for LookOver {
     ghost use Rattle.snap_account.specs.Plays.{HasEachOnce};
 
     ghost then = { HasEachOnce };
@@ -97,7 +97,7 @@ impl Play<(), Hand> for LookOver {
 /// The first account goes out to a seat of its own.
 pub struct GoOut;
 
-impl Split<Hand> for GoOut {
+impl Split<Accounts> for GoOut {
     ghost use Rattle.snap_account.specs.Plays.{but_first, only_first};
 
     ghost left = { but_first };
@@ -108,7 +108,7 @@ impl Split<Hand> for GoOut {
 /// The accounts of two seats become those of one.
 pub struct ComeIn;
 
-impl Join<Hand> for ComeIn {
+impl Join<Accounts> for ComeIn {
     ghost use Rattle.snap_account.specs.Plays.{merge};
     ghost use Rattle.std.specs.Prelude.{[]};
 

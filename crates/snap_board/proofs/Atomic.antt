@@ -17,9 +17,9 @@ use Rattle.snap_core.proofs.Facts.{AreCalls, Precedes, precedes_to}
 use Rattle.snap_core.proofs.Begun.{operation_at}
 use Rattle.snap_core.proofs.Histories.{are_calls}
 use Rattle.snap_account.specs.declared.account.Account.{Account}
-use Rattle.snap_account.specs.Calls.{Mem, Look, Write, Mark, look, write, looks_in, writes_in, marks_in}
+use Rattle.snap_account.specs.Calls.{Mem, ViewRecord, Write, Mark, view_record, write, view_records_in, writes_in, marks_in}
 use Rattle.snap_account.specs.Rule.{clock}
-use Rattle.snap_board.specs.Regular.{Settled, ScansSettled}
+use Rattle.snap_board.specs.Settled.{Settled, ScansSettled}
 use Rattle.snap_board.specs.Desks.{listed}
 use Rattle.snap_board.specs.Placed.{At, IsSpan}
 use Rattle.snap_board.specs.History.{events_in, in_order, stamped_events, all_records}
@@ -29,18 +29,18 @@ use Rattle.snap_board.proofs.Ordering.{merged, in_order_of}
 use Rattle.snap_account.proofs.Lists.{numbered_positive}
 use Rattle.snap_account.proofs.Marking.{numbered_one}
 use Rattle.snap_board.proofs.Listing.{shown_at, shown_some, shown_low, entry_at, listed_entry}
-use Rattle.snap_board.proofs.Hand.{hand_one, hand_there}
+use Rattle.snap_board.proofs.Accounts.{hand_one, hand_there}
 use Rattle.snap_board.proofs.Stamps.{Stamp, stamped_at, mem_place, at_event}
 use Rattle.snap_board.proofs.Placed.{Spans, spans, update_at}
 use Rattle.snap_board.proofs.DeskEvents.{entry, write_event}
 use Rattle.snap_board.proofs.Merging.{InOrder, the_view, the_update, history, completed}
 use Rattle.snap_board.proofs.ByKey as keys
-use Rattle.snap_board.proofs.ByKey.{In-map, In-from_map, pairs_map, pairs_from_map}
+use Rattle.snap_core.proofs.Members.{In-map, In-from_map, Pairs-map, Pairs-from_map}
 use Rattle.snap_board.proofs.ScanOrder.{Key, Less, ScanAt, StoreAt, Given, scan_key, store_key, scan_at, store_at, scans_of, stores_of, scan_there, store_there, scan_scan, store_scan, scan_store, store_store, by_number, shown_before, before_shown, mark_whole, given}
 
 -- each view of the accounts is a scan
 abbrev pub AllScans : List Account → Type 0
-AllScans hand = (a : Account) → Mem a hand → (v : Look) → Mem v (looks_in a.calls) → (m : Mark) × Mem m (marks_in a.calls) × (m.begun ≡ v.begun) × (m.ended ≡ v.ended) × (m.before ≡ v.shown)
+AllScans hand = (a : Account) → Mem a hand → (v : ViewRecord) → Mem v (view_records_in a.calls) → (m : Mark) × Mem m (marks_in a.calls) × (m.begun ≡ v.begun) × (m.ended ≡ v.ended) × (m.before ≡ v.shown)
 
 completed_some : (c : Call) → is_completed c ≡ true → (place : ℕ) × (c.ended ≡ Some place)
 unfolding is_completed
@@ -114,7 +114,7 @@ module _ (n : ℕ) (hand : List Account) (es : List Stamp) (h : Settled n hand) 
           let same : q ≡ p = sym (ap process_of j) ∙ s.process ∙ ap process_of i in
           let end_is : s.end ≡ EndView p xs = j ∙ ap (λ z. EndView z xs) same in
           let v = the_view n hand es h m c.begun place p xs (subst (At (events_in es) c.begun) i s.begins) (subst (At (events_in es) place) end_is s.ends) (subst (λ z. IsSpan (events_in es) z c.begun place) (ap process_of i) s.span) in
-          let k = plain v.account v.there (look v.begun v.ended true v.read) v.look_there in
+          let k = plain v.account v.there (view_record v.begun v.ended true v.read) v.look_there in
           inr (record {
             account = v.account;
             there = v.there;
@@ -199,7 +199,7 @@ module _ (n : ℕ) (hand : List Account) (es : List Stamp) (h : Settled n hand) 
   order = map (λ (x : Item). x.call) (sort items)
 
   item_of : (c : Call) → In c calls → (x : Item) × In x (sort items) × (x.call ≡ c)
-  item_of c i = let r = In-from_map (λ (z : Item). z.call) items c (subst (λ (l : List Call). In c l) (sym items_calls) i) in (r.0, keys.in_sort Item key items r.0 r.1, r.2)
+  item_of c i = let r = In-from_map (λ (z : Item). z.call) items c (subst (λ (l : List Call). In c l) (sym items_calls) i) in (r.it, keys.in_sort Item key items r.it r.there, r.is)
 
   -- where a list of calls is cut
   record Cut (xs : List Item) (before after : List Call) (r : Call) : Type 0 where
@@ -343,7 +343,7 @@ module _ (n : ℕ) (hand : List Account) (es : List Stamp) (h : Settled n hand) 
           let len = shown_low s.scan.before k (omega arith) in
           let whole = mark_whole n hand h g s.account s.there s.scan s.scan_in in
           let c = hand_there n hand h.desks k (omega arith) in
-          let shows = h.regular s.account s.there (look s.scan.begun s.scan.ended true s.scan.before) (Rattle.snap_board.proofs.ScanOrder.mark_look s.account.calls s.scan s.scan_in) c.0 c.1 (shown_at s.scan.before k) (ap (λ z. get_elem? s.scan.before z) c.2 ∙ shown_some s.scan.before k len) in
+          let shows = h.regular s.account s.there (view_record s.scan.begun s.scan.ended true s.scan.before) (Rattle.snap_board.proofs.ScanOrder.mark_look s.account.calls s.scan s.scan_in) c.0 c.1 (shown_at s.scan.before k) (ap (λ z. get_elem? s.scan.before z) c.2 ∙ shown_some s.scan.before k len) in
           let w = shows.real (omega arith) in
           found_in (subst (λ (z : ℕ × (ℕ × ℕ)). Found z.0 z.1) (λ i. (c.2 i, (w.2 i, w.3 i))) (find_store c.0 c.1 w.0 w.1))
 
@@ -360,12 +360,12 @@ module _ (n : ℕ) (hand : List Account) (es : List Stamp) (h : Settled n hand) 
   legal : IsLegalOrder calls order
   unfolding order
   legal = record {
-    only = λ k d lt. (let i = In-from_map (λ (z : Item). z.call) (sort items) (get_or order k d) (In-get_or order k d lt) in subst (λ (c : Call). Contains calls c × ((is_completed c ≡ true) ⊎ (is_update c ≡ true))) i.2
-        (Contains-from_In calls i.0.call i.0.there, inl (completed n hand es h m i.0.call (Contains-from_In calls i.0.call i.0.there))));
-    distinct = AllPairs-from_Pairs (λ a b. a ≢ b) order (pairs_map (λ a b. a ≢ b) (λ (z : Item). z.call) (sort items) (keys.pairs_sort Item key (λ x y. x.call ≢ y.call) (λ x y other same. other (sym same)) items (pairs_from_map (λ a b. a ≢ b) (λ (z : Item). z.call) items (subst (Pairs (λ a b. a ≢ b)) (sym items_calls)
+    only = λ k d lt. (let i = In-from_map (λ (z : Item). z.call) (sort items) (get_or order k d) (In-get_or order k d lt) in subst (λ (c : Call). Contains calls c × ((is_completed c ≡ true) ⊎ (is_update c ≡ true))) i.is
+        (Contains-from_In calls i.it.call i.it.there, inl (completed n hand es h m i.it.call (Contains-from_In calls i.it.call i.it.there))));
+    distinct = AllPairs-from_Pairs (λ a b. a ≢ b) order (Pairs-map (λ a b. a ≢ b) (λ (z : Item). z.call) (sort items) (keys.pairs_sort Item key (λ x y. x.call ≢ y.call) (λ x y other same. other (sym same)) items (Pairs-from_map (λ a b. a ≢ b) (λ (z : Item). z.call) items (subst (Pairs (λ a b. a ≢ b)) (sym items_calls)
         (Pairs-weaker (λ a b. a.number < b.number) (λ a b. a ≢ b) calls (λ a b _ _ lt same. let e = ap (λ (z : Call). z.number) same in absurd (omega arith)) are.numbered)))));
     completed = λ c i _. (let x = item_of c (In-from_Contains calls c i) in Contains-from_In order c (subst (λ (z : Call). In z order) x.2 (In-map (λ (z : Item). z.call) (sort items) x.0 x.1)));
-    precedence = AllPairs-from_Pairs (λ a b. precedes b a ≡ false) order (pairs_map (λ a b. precedes b a ≡ false) (λ (z : Item). z.call) (sort items)
+    precedence = AllPairs-from_Pairs (λ a b. precedes b a ≡ false) order (Pairs-map (λ a b. precedes b a ≡ false) (λ (z : Item). z.call) (sort items)
         (Pairs-weaker NotAfter (λ x y. precedes y.call x.call ≡ false) (sort items) (λ x y _ _ not_after. false_from_ne_true (precedes y.call x.call) (λ t. not_after (before_less y x t))) (keys.sorted Item key items)));
     latest = latest_part;
   }
@@ -377,7 +377,7 @@ module _ (n : ℕ) (hand : List Account) (es : List Stamp) (h : Settled n hand) 
 pub all_scans : (hand : List Account) → AllScans (map without_collects hand)
 all_scans [] a ma v q = absurd ma
 all_scans (x ∷ hand) a ma v q = ⊎_elim
-    (λ e. subst (λ (z : Account). (m : Mark) × Mem m (marks_in z.calls) × (m.begun ≡ v.begun) × (m.ended ≡ v.ended) × (m.before ≡ v.shown)) e (look_mark x.calls v (subst (λ (z : Account). Mem v (looks_in z.calls)) (sym e) q)))
+    (λ e. subst (λ (z : Account). (m : Mark) × Mem m (marks_in z.calls) × (m.begun ≡ v.begun) × (m.ended ≡ v.ended) × (m.before ≡ v.shown)) e (look_mark x.calls v (subst (λ (z : Account). Mem v (view_records_in z.calls)) (sym e) q)))
     (λ r. all_scans hand a r v q)
     ma
 

@@ -1,5 +1,5 @@
 -- Items in the order of their keys.
-use Rattle.std.proofs.Common.{◌≡◌, suc, ◌<◌, ◌≤◌, ◌⊎◌, List, [], ◌∷◌, map, refl, sym, ap, ◌∙◌, subst, inl, inr, ⊎_elim, arith}
+use Rattle.std.proofs.Common.{◌≡◌, suc, ◌<◌, ◌≤◌, ◌⊎◌, List, [], ◌∷◌, refl, sym, ◌∙◌, subst, inl, inr, ⊎_elim, arith}
 use native.Mathlib.Decide.{dec_le, ℕ_discrete}
 use Rattle.snap_core.proofs.Lists.{In, Pairs}
 use Rattle.snap_board.proofs.ScanOrder.{Key, Less}
@@ -18,23 +18,6 @@ less_trans a b c x y = ⊎_elim
     (λ l. ⊎_elim (λ l'. inl (omega arith)) (λ (t : (b.0 ≡ c.0) × (b.1 < c.1)). let e = t.0 in inl (omega arith)) y)
     (λ (t : (a.0 ≡ b.0) × (a.1 < b.1)). ⊎_elim (λ l'. let e = t.0 in inl (omega arith)) (λ (t' : (b.0 ≡ c.0) × (b.1 < c.1)). let e = t.1 in let f = t'.1 in inr (t.0 ∙ t'.0, omega arith)) y)
     x
-
--- members and pairs of what a function makes of a list
-pub In-map : {X Y : Type 0} (f : X → Y) (xs : List X) (x : X) → In x xs → In (f x) (map f xs)
-In-map f [] x i = i
-In-map f (y ∷ xs) x i = ⊎_elim (λ e. inl (ap f e)) (λ q. inr (In-map f xs x q)) i
-
-pub In-from_map : {X Y : Type 0} (f : X → Y) (xs : List X) (y : Y) → In y (map f xs) → (x : X) × In x xs × (f x ≡ y)
-In-from_map f [] y i = absurd i
-In-from_map f (x ∷ xs) y i = ⊎_elim (λ e. (x, inl refl, e)) (λ q. let r = In-from_map f xs y q in (r.0, inr r.1, r.2)) i
-
-pub pairs_map : {X Y : Type 0} (R : Y → Y → Type 0) (f : X → Y) (xs : List X) → Pairs (λ a b. R (f a) (f b)) xs → Pairs R (map f xs)
-pairs_map R f [] p = tt
-pairs_map R f (x ∷ xs) p = ((λ y i. let r = In-from_map f xs y i in subst (R (f x)) r.2 (p.0 r.0 r.1)), pairs_map R f xs p.1)
-
-pub pairs_from_map : {X Y : Type 0} (R : Y → Y → Type 0) (f : X → Y) (xs : List X) → Pairs R (map f xs) → Pairs (λ a b. R (f a) (f b)) xs
-pairs_from_map R f [] p = tt
-pairs_from_map R f (x ∷ xs) p = ((λ y i. p.0 (f y) (In-map f xs y i)), pairs_from_map R f xs p.1)
 
 module _ (Item : Type 0) (key : Item → Key) where
   choose : {P : Type 0} → Dec P → List Item → List Item → List Item

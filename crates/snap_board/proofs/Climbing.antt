@@ -8,14 +8,14 @@ use Rattle.snap_account.specs.declared.account.Account.{Account}
 use Rattle.snap_account.specs.declared.account.Answered.{Answered}
 use Rattle.snap_account.specs.declared.account.Answer.{Answer}
 use Rattle.snap_account.specs.declared.account.Answer.TheVariants.{Stored, Viewed, Scanned, Interfered}
-use Rattle.snap_account.specs.Calls.{Mem, Look, Write, look, write, op_looks, op_writes, looks_in, writes_in, stamps_in}
+use Rattle.snap_account.specs.Calls.{Mem, ViewRecord, Write, view_record, write, op_view_records, op_writes, view_records_in, writes_in, stamps_in}
 use Rattle.snap_account.specs.Rule.{Rising, Numbered}
 use Rattle.snap_account.specs.Marks.{sum, HasClimbed}
 use Rattle.snap_board.specs.Desks.{op_lost, lost_in}
-use Rattle.snap_board.specs.Regular.{falling, Settled, ScansSettled, beside, stores_beside, op_tries, WereInterfered}
+use Rattle.snap_board.specs.Settled.{falling, Settled, ScansSettled, beside, stores_beside, op_tries, WereInterfered}
 use Rattle.snap_account.proofs.Lists.{mem_split, mem_left, mem_right, mem_one, numbered_mem}
 use Rattle.snap_board.proofs.DeskEvents.{rising_head, rising_tail}
-use Rattle.snap_board.proofs.Hand.{hand_low}
+use Rattle.snap_board.proofs.Accounts.{hand_low}
 use Rattle.snap_board.proofs.Listing.{shown_at, shown_some, shown_low}
 use Rattle.snap_board.proofs.ScanOrder.{write_stamps, write_turns, write_lasts}
 use Rattle.snap_account.proofs.Marking.{numbered_low}
@@ -116,15 +116,15 @@ write_apart (q ∷ rs) r w n fs ls up mr op mw =
     begin_there [] x = absurd x
     begin_there (y ∷ l) x = ⊎_elim (λ e. inl (ap (λ (z : Answered). z.begun) e)) (λ z. inr (inr (begin_there l z))) x
 
-look_in : (rs : List Answered) (v : Look) → Mem v (looks_in rs) → Mem v.begun (stamps_in rs)
+look_in : (rs : List Answered) (v : ViewRecord) → Mem v (view_records_in rs) → Mem v.begun (stamps_in rs)
 look_in [] v m = absurd m
-look_in (r ∷ rs) v m = ⊎_elim (λ x. inl (one r.op x)) (λ x. inr (inr (look_in rs v x))) (mem_split (op_looks r.begun r.ended r.op) (looks_in rs) v m)
+look_in (r ∷ rs) v m = ⊎_elim (λ x. inl (one r.op x)) (λ x. inr (inr (look_in rs v x))) (mem_split (op_view_records r.begun r.ended r.op) (view_records_in rs) v m)
   where
-    one : (o : Answer) → Mem v (op_looks r.begun r.ended o) → r.begun ≡ v.begun
+    one : (o : Answer) → Mem v (op_view_records r.begun r.ended o) → r.begun ≡ v.begun
     one (Stored n x) q = absurd q
-    one (Viewed xs) q = ap (λ (z : Look). z.begun) (mem_one v (look r.begun r.ended true xs) q)
-    one (Scanned t xs) q = ap (λ (z : Look). z.begun) (mem_one v (look r.begun r.ended true xs) q)
-    one (Interfered n xs ys) q = ⊎_elim (λ e. ap (λ (z : Look). z.begun) e) (λ e. ap (λ (z : Look). z.begun) (mem_one v (look r.begun r.ended true ys) e)) q
+    one (Viewed xs) q = ap (λ (z : ViewRecord). z.begun) (mem_one v (view_record r.begun r.ended true xs) q)
+    one (Scanned t xs) q = ap (λ (z : ViewRecord). z.begun) (mem_one v (view_record r.begun r.ended true xs) q)
+    one (Interfered n xs ys) q = ⊎_elim (λ e. ap (λ (z : ViewRecord). z.begun) e) (λ e. ap (λ (z : ViewRecord). z.begun) (mem_one v (view_record r.begun r.ended true ys) e)) q
 
 -- the stores numbered behind f up to l are counted
 count_between : (p : Write → ℕ) (k : ℕ) (ws : List Write) (f l : ℕ) → Numbered k ws → k ≤ suc f → l < k + length ws → ((w : Write) → Mem w ws → f < w.number → w.number ≤ l → 1 ≤ p w) → l ≤ f + total p ws
@@ -163,7 +163,7 @@ module _ (n : ℕ) (hand : List Account) (h : Settled n hand) (g : ScansSettled 
       let t = ap sum (take_all n xs (omega arith)) in omega arith
 
   -- what a collect shows was stored
-  stored : (v : Look) → Mem v (looks_in a.calls) → (c : Account) → Mem c hand → (shown_at v.shown c.desk).0 ≤ length (writes_in c.calls)
+  stored : (v : ViewRecord) → Mem v (view_records_in a.calls) → (c : Account) → Mem c hand → (shown_at v.shown c.desk).0 ≤ length (writes_in c.calls)
   stored v mv c mc = at (dec_le 1 (shown_at v.shown c.desk).0)
     where
       at : Dec (1 ≤ (shown_at v.shown c.desk).0) → (shown_at v.shown c.desk).0 ≤ length (writes_in c.calls)
@@ -173,7 +173,7 @@ module _ (n : ℕ) (hand : List Account) (h : Settled n hand) (g : ScansSettled 
           let s = (h.regular a ma v mv c mc (shown_at v.shown c.desk) (shown_some v.shown c.desk len)).real (omega arith) in
           let l = numbered_mem 1 (writes_in c.calls) s.0 (h.numbered c mc) s.1 in let e = s.2 in omega arith
 
-  below_stores : (v : Look) → Mem v (looks_in a.calls) → W v.shown ≤ N
+  below_stores : (v : ViewRecord) → Mem v (view_records_in a.calls) → W v.shown ≤ N
   below_stores v mv = total_le (λ (c : Account). but a.desk (λ k. (shown_at v.shown k).0) c.desk) (λ (c : Account). cond (c.desk == a.desk) 0 (length (writes_in c.calls))) hand (λ c mc. by (c.desk == a.desk) c (stored v mv c mc))
     where
       by : (t : Bool) (c : Account) → (shown_at v.shown c.desk).0 ≤ length (writes_in c.calls) → cond t 0 (shown_at v.shown c.desk).0 ≤ cond t 0 (length (writes_in c.calls))
@@ -188,10 +188,10 @@ module _ (n : ℕ) (hand : List Account) (h : Settled n hand) (g : ScansSettled 
       by false c le = le
 
   -- an unrecorded scan
-  one_scan : (r : Answered) (m : ℕ) (fs ls : List (ℕ × ℕ)) → Mem r a.calls → r.op ≡ Interfered m fs ls → Mem (look r.begun r.ended true fs) (looks_in a.calls) → Mem (look r.begun r.ended true ls) (looks_in a.calls) → W fs + m ≤ W ls
+  one_scan : (r : Answered) (m : ℕ) (fs ls : List (ℕ × ℕ)) → Mem r a.calls → r.op ≡ Interfered m fs ls → Mem (view_record r.begun r.ended true fs) (view_records_in a.calls) → Mem (view_record r.begun r.ended true ls) (view_records_in a.calls) → W fs + m ≤ W ls
   one_scan r m fs ls mr op mf ml =
-      let sf = whole_sum fs (h.whole a ma (look r.begun r.ended true fs) mf) in
-      let sl = whole_sum ls (h.whole a ma (look r.begun r.ended true ls) ml) in
+      let sf = whole_sum fs (h.whole a ma (view_record r.begun r.ended true fs) mf) in
+      let sl = whole_sum ls (h.whole a ma (view_record r.begun r.ended true ls) ml) in
       let c = subst HasClimbed op (g.climbed a ma r mr) in
       let o = own (dec_le (suc (shown_at fs a.desk).0) (shown_at ls a.desk).0) in omega arith
     where
@@ -199,14 +199,14 @@ module _ (n : ℕ) (hand : List Account) (h : Settled n hand) (g : ScansSettled 
       own (no nle) = omega arith
       own (yes lt) =
           let low = hand_low n hand h.desks a ma in
-          let wf = h.whole a ma (look r.begun r.ended true fs) mf in let wl = h.whole a ma (look r.begun r.ended true ls) ml in
-          let s = (h.regular a ma (look r.begun r.ended true ls) ml a ma (shown_at ls a.desk) (shown_some ls a.desk (omega arith))).real (omega arith) in
+          let wf = h.whole a ma (view_record r.begun r.ended true fs) mf in let wl = h.whole a ma (view_record r.begun r.ended true ls) ml in
+          let s = (h.regular a ma (view_record r.begun r.ended true ls) ml a ma (shown_at ls a.desk) (shown_some ls a.desk (omega arith))).real (omega arith) in
           let num = s.2 in let beg = s.4 in
-          let f = (h.regular a ma (look r.begun r.ended true fs) mf a ma (shown_at fs a.desk) (shown_some fs a.desk (omega arith))).fresh s.0 s.1 (omega arith) in
+          let f = (h.regular a ma (view_record r.begun r.ended true fs) mf a ma (shown_at fs a.desk) (shown_some fs a.desk (omega arith))).fresh s.0 s.1 (omega arith) in
           ⊎_elim (λ x. absurd (omega arith)) (λ x. absurd (omega arith)) (write_apart a.calls r s.0 m fs ls (h.rising a ma) mr op s.1)
 
   -- and what stood beside it
-  one_beside : (r : Answered) (m : ℕ) (fs ls : List (ℕ × ℕ)) → Mem r a.calls → r.op ≡ Interfered m fs ls → Mem (look r.begun r.ended true fs) (looks_in a.calls) → Mem (look r.begun r.ended true ls) (looks_in a.calls) → m ≤ stores_beside hand a r
+  one_beside : (r : Answered) (m : ℕ) (fs ls : List (ℕ × ℕ)) → Mem r a.calls → r.op ≡ Interfered m fs ls → Mem (view_record r.begun r.ended true fs) (view_records_in a.calls) → Mem (view_record r.begun r.ended true ls) (view_records_in a.calls) → m ≤ stores_beside hand a r
   one_beside r m fs ls mr op mf ml =
       let climb = one_scan r m fs ls mr op mf ml in
       let t = total_le_sum (λ (c : Account). but a.desk (λ k. (shown_at ls k).0) c.desk) (λ (c : Account). but a.desk (λ k. (shown_at fs k).0) c.desk) (λ (c : Account). cond (c.desk == a.desk) 0 (total (beside r) (writes_in c.calls))) hand
@@ -218,7 +218,7 @@ module _ (n : ℕ) (hand : List Account) (h : Settled n hand) (g : ScansSettled 
 
       each : (c : Account) → Mem c hand → (shown_at ls c.desk).0 ≤ (shown_at fs c.desk).0 + total (beside r) (writes_in c.calls)
       each c mc =
-          let most = stored (look r.begun r.ended true ls) ml c mc in
+          let most = stored (view_record r.begun r.ended true ls) ml c mc in
           count_between (beside r) 1 (writes_in c.calls) (shown_at fs c.desk).0 (shown_at ls c.desk).0 (h.numbered c mc) (omega arith) (omega arith) counted
         where
           low : c.desk < n
@@ -226,9 +226,9 @@ module _ (n : ℕ) (hand : List Account) (h : Settled n hand) (g : ScansSettled 
 
           counted : (w : Write) → Mem w (writes_in c.calls) → (shown_at fs c.desk).0 < w.number → w.number ≤ (shown_at ls c.desk).0 → 1 ≤ beside r w
           counted w mw above up_to =
-              let wf = h.whole a ma (look r.begun r.ended true fs) mf in let wl = h.whole a ma (look r.begun r.ended true ls) ml in let lo = low in
-              let late = (h.regular a ma (look r.begun r.ended true fs) mf c mc (shown_at fs c.desk) (shown_some fs c.desk (omega arith))).fresh w mw above in
-              let s = (h.regular a ma (look r.begun r.ended true ls) ml c mc (shown_at ls c.desk) (shown_some ls c.desk (omega arith))).real (omega arith) in
+              let wf = h.whole a ma (view_record r.begun r.ended true fs) mf in let wl = h.whole a ma (view_record r.begun r.ended true ls) ml in let lo = low in
+              let late = (h.regular a ma (view_record r.begun r.ended true fs) mf c mc (shown_at fs c.desk) (shown_some fs c.desk (omega arith))).fresh w mw above in
+              let s = (h.regular a ma (view_record r.begun r.ended true ls) ml c mc (shown_at ls c.desk) (shown_some ls c.desk (omega arith))).real (omega arith) in
               is_beside r w late (begins s (dec_le s.0.number w.number))
             where
               begins : (s : (v : Write) × Mem v (writes_in c.calls) × (v.number ≡ (shown_at ls c.desk).0) × (v.value ≡ (shown_at ls c.desk).1) × (v.begun < r.ended)) → Dec (s.0.number ≤ w.number) → w.begun < r.ended
@@ -239,35 +239,35 @@ module _ (n : ℕ) (hand : List Account) (h : Settled n hand) (g : ScansSettled 
                   let e : w.number ≡ s.0.number = (let k = s.2 in omega arith) in
                   let same = numbered_begun 1 (writes_in c.calls) w s.0 (h.numbered c mc) mw s.1 e in let b = s.4 in omega arith
 
-  from_on : (rs : List Answered) → ((r : Answered) → Mem r rs → Mem r a.calls) → ((v : Look) → Mem v (looks_in rs) → Mem v (looks_in a.calls)) → Rising (stamps_in rs) → (xs : List (ℕ × ℕ)) → W xs ≤ N
-      → ((v : Look) → Mem v (looks_in rs) → (c : Account) → Mem c hand → (shown_at xs c.desk).0 ≤ (shown_at v.shown c.desk).0) → total (λ x. x) (lost_in rs) + W xs ≤ N
+  from_on : (rs : List Answered) → ((r : Answered) → Mem r rs → Mem r a.calls) → ((v : ViewRecord) → Mem v (view_records_in rs) → Mem v (view_records_in a.calls)) → Rising (stamps_in rs) → (xs : List (ℕ × ℕ)) → W xs ≤ N
+      → ((v : ViewRecord) → Mem v (view_records_in rs) → (c : Account) → Mem c hand → (shown_at xs c.desk).0 ≤ (shown_at v.shown c.desk).0) → total (λ x. x) (lost_in rs) + W xs ≤ N
   from_on [] sub looks up xs most le = omega arith
   from_on (r ∷ rs) sub looks up xs most le =
       let tail = rising_tail r.begun (r.ended ∷ stamps_in rs) up in
-      one r.op refl (λ q m. sub q (inr m)) (λ v m. looks v (mem_right (op_looks r.begun r.ended r.op) (looks_in rs) v m)) tail
-      (λ ys big below. from_on rs (λ q m. sub q (inr m)) (λ v m. looks v (mem_right (op_looks r.begun r.ended r.op) (looks_in rs) v m)) (rising_tail r.ended (stamps_in rs) tail) ys big below)
+      one r.op refl (λ q m. sub q (inr m)) (λ v m. looks v (mem_right (op_view_records r.begun r.ended r.op) (view_records_in rs) v m)) tail
+      (λ ys big below. from_on rs (λ q m. sub q (inr m)) (λ v m. looks v (mem_right (op_view_records r.begun r.ended r.op) (view_records_in rs) v m)) (rising_tail r.ended (stamps_in rs) tail) ys big below)
     where
-      one : (o : Answer) → r.op ≡ o → ((q : Answered) → Mem q rs → Mem q a.calls) → ((v : Look) → Mem v (looks_in rs) → Mem v (looks_in a.calls)) → Rising (r.ended ∷ stamps_in rs)
-          → ((ys : List (ℕ × ℕ)) → W ys ≤ N → ((v : Look) → Mem v (looks_in rs) → (c : Account) → Mem c hand → (shown_at ys c.desk).0 ≤ (shown_at v.shown c.desk).0) → total (λ x. x) (lost_in rs) + W ys ≤ N)
+      one : (o : Answer) → r.op ≡ o → ((q : Answered) → Mem q rs → Mem q a.calls) → ((v : ViewRecord) → Mem v (view_records_in rs) → Mem v (view_records_in a.calls)) → Rising (r.ended ∷ stamps_in rs)
+          → ((ys : List (ℕ × ℕ)) → W ys ≤ N → ((v : ViewRecord) → Mem v (view_records_in rs) → (c : Account) → Mem c hand → (shown_at ys c.desk).0 ≤ (shown_at v.shown c.desk).0) → total (λ x. x) (lost_in rs) + W ys ≤ N)
           → total (λ x. x) (op_lost o ++ lost_in rs) + W xs ≤ N
-      one (Stored k v) e s l t rest = rest xs most (λ v m. le v (mem_right (op_looks r.begun r.ended r.op) (looks_in rs) v m))
-      one (Viewed ys) e s l t rest = rest xs most (λ v m. le v (mem_right (op_looks r.begun r.ended r.op) (looks_in rs) v m))
-      one (Scanned k ys) e s l t rest = rest xs most (λ v m. le v (mem_right (op_looks r.begun r.ended r.op) (looks_in rs) v m))
+      one (Stored k v) e s l t rest = rest xs most (λ v m. le v (mem_right (op_view_records r.begun r.ended r.op) (view_records_in rs) v m))
+      one (Viewed ys) e s l t rest = rest xs most (λ v m. le v (mem_right (op_view_records r.begun r.ended r.op) (view_records_in rs) v m))
+      one (Scanned k ys) e s l t rest = rest xs most (λ v m. le v (mem_right (op_view_records r.begun r.ended r.op) (view_records_in rs) v m))
       one (Interfered k fs ls) e s l t rest =
-          let first : Mem (look r.begun r.ended true fs) (op_looks r.begun r.ended r.op) = subst (λ (z : Answer). Mem (look r.begun r.ended true fs) (op_looks r.begun r.ended z)) (sym e) (inl refl) in
-          let last : Mem (look r.begun r.ended true ls) (op_looks r.begun r.ended r.op) = subst (λ (z : Answer). Mem (look r.begun r.ended true ls) (op_looks r.begun r.ended z)) (sym e) (inr (inl refl)) in
-          let first' = mem_left (op_looks r.begun r.ended r.op) (looks_in rs) (look r.begun r.ended true fs) first in
-          let last' = mem_left (op_looks r.begun r.ended r.op) (looks_in rs) (look r.begun r.ended true ls) last in
-          let f = less xs fs (λ c mc. le (look r.begun r.ended true fs) first' c mc) in
-          let step = one_scan r k fs ls (sub r (inl refl)) e (looks (look r.begun r.ended true fs) first') (looks (look r.begun r.ended true ls) last') in
-          let b = below_stores (look r.begun r.ended true ls) (looks (look r.begun r.ended true ls) last') in
-          let r = rest ls b (λ v m c mc. later v c mc (looks (look r.begun r.ended true ls) last') (l v m) (rising_head r.ended (stamps_in rs) t v.begun (look_in rs v m))) in omega arith
+          let first : Mem (view_record r.begun r.ended true fs) (op_view_records r.begun r.ended r.op) = subst (λ (z : Answer). Mem (view_record r.begun r.ended true fs) (op_view_records r.begun r.ended z)) (sym e) (inl refl) in
+          let last : Mem (view_record r.begun r.ended true ls) (op_view_records r.begun r.ended r.op) = subst (λ (z : Answer). Mem (view_record r.begun r.ended true ls) (op_view_records r.begun r.ended z)) (sym e) (inr (inl refl)) in
+          let first' = mem_left (op_view_records r.begun r.ended r.op) (view_records_in rs) (view_record r.begun r.ended true fs) first in
+          let last' = mem_left (op_view_records r.begun r.ended r.op) (view_records_in rs) (view_record r.begun r.ended true ls) last in
+          let f = less xs fs (λ c mc. le (view_record r.begun r.ended true fs) first' c mc) in
+          let step = one_scan r k fs ls (sub r (inl refl)) e (looks (view_record r.begun r.ended true fs) first') (looks (view_record r.begun r.ended true ls) last') in
+          let b = below_stores (view_record r.begun r.ended true ls) (looks (view_record r.begun r.ended true ls) last') in
+          let r = rest ls b (λ v m c mc. later v c mc (looks (view_record r.begun r.ended true ls) last') (l v m) (rising_head r.ended (stamps_in rs) t v.begun (look_in rs v m))) in omega arith
         where
-          later : (v : Look) (c : Account) → Mem c hand → Mem (look r.begun r.ended true ls) (looks_in a.calls) → Mem v (looks_in a.calls) → r.ended < v.begun → (shown_at ls c.desk).0 ≤ (shown_at v.shown c.desk).0
+          later : (v : ViewRecord) (c : Account) → Mem c hand → Mem (view_record r.begun r.ended true ls) (view_records_in a.calls) → Mem v (view_records_in a.calls) → r.ended < v.begun → (shown_at ls c.desk).0 ≤ (shown_at v.shown c.desk).0
           later v c mc ml mv lt =
               let low = hand_low n hand h.desks c mc in
-              let wl = h.whole a ma (look r.begun r.ended true ls) ml in let wv = h.whole a ma v mv in
-              h.monotone a a ma ma (look r.begun r.ended true ls) v ml mv lt c.desk (shown_at ls c.desk) (shown_at v.shown c.desk) (shown_some ls c.desk (omega arith)) (shown_some v.shown c.desk (omega arith))
+              let wl = h.whole a ma (view_record r.begun r.ended true ls) ml in let wv = h.whole a ma v mv in
+              h.monotone a a ma ma (view_record r.begun r.ended true ls) v ml mv lt c.desk (shown_at ls c.desk) (shown_at v.shown c.desk) (shown_some ls c.desk (omega arith)) (shown_some v.shown c.desk (omega arith))
 
   pub few_tries : total (λ x. x) (lost_in a.calls) ≤ N
   few_tries =
@@ -286,14 +286,14 @@ module _ (n : ℕ) (hand : List Account) (h : Settled n hand) (g : ScansSettled 
 pub were_interfered : (n : ℕ) (hand : List Account) → Settled n hand → ScansSettled hand → WereInterfered hand
 were_interfered n hand h g a ma r mr = one r.op refl
   where
-    there : (v : Look) → Mem v (op_looks r.begun r.ended r.op) → Mem v (looks_in a.calls)
+    there : (v : ViewRecord) → Mem v (op_view_records r.begun r.ended r.op) → Mem v (view_records_in a.calls)
     there v m = within a.calls mr
       where
-        within : (rs : List Answered) → Mem r rs → Mem v (looks_in rs)
+        within : (rs : List Answered) → Mem r rs → Mem v (view_records_in rs)
         within [] x = absurd x
         within (y ∷ rs) x = ⊎_elim
-            (λ e. mem_left (op_looks y.begun y.ended y.op) (looks_in rs) v (subst (λ (z : Answered). Mem v (op_looks z.begun z.ended z.op)) (sym e) m))
-            (λ q. mem_right (op_looks y.begun y.ended y.op) (looks_in rs) v (within rs q))
+            (λ e. mem_left (op_view_records y.begun y.ended y.op) (view_records_in rs) v (subst (λ (z : Answered). Mem v (op_view_records z.begun z.ended z.op)) (sym e) m))
+            (λ q. mem_right (op_view_records y.begun y.ended y.op) (view_records_in rs) v (within rs q))
             x
 
     one : (o : Answer) → r.op ≡ o → op_tries o ≤ stores_beside hand a r
@@ -302,5 +302,5 @@ were_interfered n hand h g a ma r mr = one r.op refl
     one (Scanned t xs) e = omega arith
     one (Interfered k fs ls) e =
         one_beside n hand h g a ma r k fs ls mr e
-        (there (look r.begun r.ended true fs) (subst (λ (z : Answer). Mem (look r.begun r.ended true fs) (op_looks r.begun r.ended z)) (sym e) (inl refl)))
-        (there (look r.begun r.ended true ls) (subst (λ (z : Answer). Mem (look r.begun r.ended true ls) (op_looks r.begun r.ended z)) (sym e) (inr (inl refl))))
+        (there (view_record r.begun r.ended true fs) (subst (λ (z : Answer). Mem (view_record r.begun r.ended true fs) (op_view_records r.begun r.ended z)) (sym e) (inl refl)))
+        (there (view_record r.begun r.ended true ls) (subst (λ (z : Answer). Mem (view_record r.begun r.ended true ls) (op_view_records r.begun r.ended z)) (sym e) (inr (inl refl))))

@@ -11,15 +11,15 @@ use Rattle.snap_account.specs.declared.account.Answer.{Answer}
 use Rattle.snap_account.specs.declared.account.Answer.TheVariants.{Stored, Viewed, Scanned, Interfered}
 use Rattle.snap_account.specs.declared.account.Doing.{Doing}
 use Rattle.snap_account.specs.declared.account.Doing.TheVariants.{Idle, Begun, Written, Viewing, Scanning}
-use Rattle.snap_board.specs.declared.kept.Kept.{Kept}
+use Rattle.snap_board.specs.declared.desk_state.DeskState.{DeskState}
 use Rattle.snap_core.specs.Sums.{once_below, one_if, times, total}
-use Rattle.snap_account.specs.Calls.{Mem, Write, Look, Mark, mark, op_marks, open_marks, open_writes, marks_in, marks_of, all_stamps, all_stamps_in, writes_in, looks_in, stamps_in, writes_of, looks_of, stamps_of, latest, in_word}
+use Rattle.snap_account.specs.Calls.{Mem, Write, ViewRecord, Mark, mark, op_marks, open_marks, open_writes, marks_in, marks_of, all_stamps, all_stamps_in, writes_in, view_records_in, stamps_in, writes_of, view_records_of, stamps_of, latest, in_word}
 use Rattle.snap_account.specs.Rule.{Numbered, Own, Rising, Boarded, clock, code, of_desk, newcomer, newcomers}
 use Rattle.snap_account.specs.Marks.{Climbs}
-use Rattle.snap_account.specs.Hands.{Brief, brief, is_idle}
-use Rattle.snap_board.specs.Slots.{ins, slot_brief, brief_of, AllIn}
+use Rattle.snap_account.specs.Seats.{Brief, brief, is_idle}
+use Rattle.snap_board.specs.Slots.{desks_in, slot_brief, brief_of, AllIn}
 use Rattle.snap_account.specs.Drawn.{drawn, drawn_in, drawn_open}
-use Rattle.snap_board.specs.Regular.{falling, Settled, ScansSettled, TicksSettled}
+use Rattle.snap_board.specs.Settled.{falling, Settled, ScansSettled, TicksSettled}
 use Rattle.snap_account.proofs.Lists.{mem_split, mem_left, mem_one}
 use Rattle.snap_account.proofs.Reading.{looks_over}
 
@@ -35,19 +35,19 @@ pub mem_map : {B : Type 0} (f : Account → B) (l : List Account) (a : Account) 
 mem_map f [] a m = m
 mem_map f (x ∷ l) a m = ⊎_elim (λ e. inl (ap f e)) (λ q. inr (mem_map f l a q)) m
 
-pub ins_idle : (n : ℕ) (slots : List (Option Kept)) (x : Brief) → Mem x (ins n slots) → x.idle ≡ true
+pub ins_idle : (n : ℕ) (slots : List (Option DeskState)) (x : Brief) → Mem x (desks_in n slots) → x.idle ≡ true
 ins_idle zero slots x m = absurd m
-ins_idle (suc n) slots x m = ⊎_elim (λ q. one (slice_index_or slots n None) q) (λ q. ins_idle n slots x q) (mem_split (slot_brief n (slice_index_or slots n None)) (ins n slots) x m)
+ins_idle (suc n) slots x m = ⊎_elim (λ q. one (slice_index_or slots n None) q) (λ q. ins_idle n slots x q) (mem_split (slot_brief n (slice_index_or slots n None)) (desks_in n slots) x m)
   where
-    one : (o : Option Kept) → Mem x (slot_brief n o) → x.idle ≡ true
+    one : (o : Option DeskState) → Mem x (slot_brief n o) → x.idle ≡ true
     one None q = absurd q
     one (Some k) q = ap (λ (z : Brief). z.idle) (sym (mem_one x (brief_of n k) q))
 
-pub ins_all : (n : ℕ) (slots : List (Option Kept)) → AllIn n slots → map (λ (b : Brief). b.desk) (ins n slots) ≡ falling n
+pub ins_all : (n : ℕ) (slots : List (Option DeskState)) → AllIn n slots → map (λ (b : Brief). b.desk) (desks_in n slots) ≡ falling n
 ins_all zero slots all = refl
 ins_all (suc n) slots all = one (slice_index_or slots n None) (all n (omega arith)) (ins_all n slots (λ d lt. all d (omega arith)))
   where
-    one : (o : Option Kept) → IsSome o → map (λ (b : Brief). b.desk) (ins n slots) ≡ falling n → map (λ (b : Brief). b.desk) (slot_brief n o ++ ins n slots) ≡ n ∷ falling n
+    one : (o : Option DeskState) → IsSome o → map (λ (b : Brief). b.desk) (desks_in n slots) ≡ falling n → map (λ (b : Brief). b.desk) (slot_brief n o ++ desks_in n slots) ≡ n ∷ falling n
     one None some_in rest = absurd (true≢false (sym some_in))
     one (Some k) some_in rest = ap (λ l. n ∷ l) rest
 
@@ -85,7 +85,7 @@ same_total : (f g : Account → ℕ) (l : List Account) → ((c : Account) → M
 same_total f g [] e = refl
 same_total f g (x ∷ l) e = let a = e x (inl refl) in let t = same_total f g l (λ c m. e c (inr m)) in omega arith
 
-pub settles : (n id : ℕ) (hand : List Account) (slots : List (Option Kept)) (s : State (Unit {0}) (List Account)) → Boarded n s → get_elem? s.views id ≡ some hand → map brief hand ≡ ins n slots → AllIn n slots → Settled n hand
+pub settles : (n id : ℕ) (hand : List Account) (slots : List (Option DeskState)) (s : State (Unit {0}) (List Account)) → Boarded n s → get_elem? s.views id ≡ some hand → map brief hand ≡ desks_in n slots → AllIn n slots → Settled n hand
 settles n id hand slots s r at matches all =
     let b = r.accounts in let h = r.core in
     let fits : (a : Account) → Mem a hand → get_elem? b a.desk ≡ some a = λ a m. r.held.fits id hand at a m in
@@ -97,7 +97,7 @@ settles n id hand slots s r at matches all =
     let writes : (a : Account) → Mem a hand → writes_of a ≡ writes_in a.calls = λ a m. ap (λ o. writes_in a.calls ++ Rattle.snap_account.specs.Calls.open_writes o) (idle a m) ∙ append-nil (writes_in a.calls) in
     let marks : (a : Account) → Mem a hand → marks_of a ≡ marks_in a.calls = λ a m. ap (λ o. marks_in a.calls ++ Rattle.snap_account.specs.Calls.open_marks o) (idle a m) ∙ append-nil (marks_in a.calls) in
     let every : (a : Account) → Mem a hand → all_stamps a ≡ all_stamps_in a.calls = λ a m i. stamps a m i ++ map (λ (z : Mark). z.middle) (marks a m i) in
-    let look_there : (a : Account) (v : Look) → Mem v (looks_in a.calls) → Mem v (looks_of a) = λ a v m. mem_left (looks_in a.calls) (Rattle.snap_account.specs.Calls.open_looks a.doing) v m in
+    let look_there : (a : Account) (v : ViewRecord) → Mem v (view_records_in a.calls) → Mem v (view_records_of a) = λ a v m. mem_left (view_records_in a.calls) (Rattle.snap_account.specs.Calls.open_view_records a.doing) v m in
     let all_over : (a : Account) → Mem a hand → (w : Write) → Mem w (writes_in a.calls) → Mem w (writes_of a) = λ a m w q. mem_left (writes_in a.calls) (Rattle.snap_account.specs.Calls.open_writes a.doing) w q in
     record {
       desks = desks;
@@ -117,7 +117,7 @@ settles n id hand slots s r at matches all =
     }
 
 -- the ticks of a board whose desks are all in
-pub settles_ticks : (n id : ℕ) (hand : List Account) (slots : List (Option Kept)) (s : State (Unit {0}) (List Account)) → Boarded n s → get_elem? s.views id ≡ some hand → map brief hand ≡ ins n slots → AllIn n slots → TicksSettled hand
+pub settles_ticks : (n id : ℕ) (hand : List Account) (slots : List (Option DeskState)) (s : State (Unit {0}) (List Account)) → Boarded n s → get_elem? s.views id ≡ some hand → map brief hand ≡ desks_in n slots → AllIn n slots → TicksSettled hand
 settles_ticks n id hand slots s r at matches all =
     let b = r.accounts in
     let fits : (a : Account) → Mem a hand → get_elem? b a.desk ≡ some a = λ a m. r.held.fits id hand at a m in
@@ -229,8 +229,8 @@ begins n words is =
         own = λ k a e. subst (Own n k) (sym (new k a e)) (new_own n k);
         below = λ k a e x m. absurd (subst (λ (c : Account). Mem x (all_stamps c)) (new k a e) m);
         apart = λ x. let t = rows_stamps x 0 n in omega arith;
-        sees = λ i a e v m k c e' p at_p. absurd (subst (λ (z : Account). Mem v (looks_of z)) (new i a e) m);
-        after = λ i a e v m k c e' u mu. absurd (subst (λ (z : Account). Mem v (looks_of z)) (new i a e) m);
+        sees = λ i a e v m k c e' p at_p. absurd (subst (λ (z : Account). Mem v (view_records_of z)) (new i a e) m);
+        after = λ i a e v m k c e' u mu. absurd (subst (λ (z : Account). Mem v (view_records_of z)) (new i a e) m);
       };
       scans = record {
         inside = λ i a e m q. absurd (subst (λ (z : Account). Mem m (marks_of z)) (new i a e) q);

@@ -9,7 +9,7 @@ use Rattle.snap_core.proofs.Lists.{count-cons}
 use Rattle.snap_account.specs.declared.account.Answered.{Answered}
 use Rattle.snap_account.specs.declared.account.Answer.{Answer}
 use Rattle.snap_account.specs.declared.account.Answer.TheVariants.{Stored, Viewed, Scanned, Interfered}
-use Rattle.snap_account.specs.Calls.{Mem, Write, write, look, op_writes, op_looks, writes_in, looks_in, stamps_in}
+use Rattle.snap_account.specs.Calls.{Mem, Write, write, view_record, op_writes, op_view_records, writes_in, view_records_in, stamps_in}
 use Rattle.snap_account.specs.Rule.{Rising, Numbered}
 use Rattle.snap_board.specs.Desks.{listed, op_records, records_at}
 use Rattle.snap_board.specs.History.{Stamped, events_in, stamped_events}
@@ -122,7 +122,7 @@ kind_same x y e = ap (λ (z : Stamp). kind_of z.1) e
 pub record ViewEnded (d t : ℕ) (es : List Entry) (rs : List Answered) : Type 0 where
   pub begun : ℕ
   pub read : List (ℕ × ℕ)
-  pub there : Mem (look begun t true read) (looks_in rs)
+  pub there : Mem (view_record begun t true read) (view_records_in rs)
   pub lists : listed 0 read ≡ es
   pub begins : Mem (begun, BeginView d) (desk_events d rs)
   pub order : begun < t
@@ -139,7 +139,7 @@ view_of d (q ∷ rs) r t p es m = ⊎_elim
     older o = record {
       begun = o.begun;
       read = o.read;
-      there = mem_right (op_looks q.begun q.ended q.op) (looks_in rs) (look o.begun t true o.read) o.there;
+      there = mem_right (op_view_records q.begun q.ended q.op) (view_records_in rs) (view_record o.begun t true o.read) o.there;
       lists = o.lists;
       begins = mem_right (op_events d q.begun q.ended q.op) (desk_events d rs) (o.begun, BeginView d) o.begins;
       order = o.order;
@@ -156,7 +156,7 @@ view_of d (q ∷ rs) r t p es m = ⊎_elim
         record {
           begun = q.begun;
           read = ys;
-          there = inl (λ i. look q.begun (at i) true ys);
+          there = inl (λ i. view_record q.begun (at i) true ys);
           lists = ap (λ (y : Stamp). entries_in_event y.1) e;
           begins = inl refl;
           order = (let l = rising_head q.begun (q.ended ∷ stamps_in rs) r q.ended (inl refl) in omega arith);
@@ -169,7 +169,7 @@ view_of d (q ∷ rs) r t p es m = ⊎_elim
         record {
           begun = q.begun;
           read = ys;
-          there = inl (λ i. look q.begun (at i) true ys);
+          there = inl (λ i. view_record q.begun (at i) true ys);
           lists = ap (λ (y : Stamp). entries_in_event y.1) e;
           begins = inl refl;
           order = (let l = rising_head q.begun (q.ended ∷ stamps_in rs) r q.ended (inl refl) in omega arith);

@@ -7,9 +7,9 @@ use Rattle.snap_account.specs.declared.account.Account.{Account}
 use Rattle.snap_account.specs.declared.account.Answered.{Answered}
 use Rattle.snap_account.specs.declared.account.Answer.{Answer}
 use Rattle.snap_account.specs.declared.account.Answer.TheVariants.{Stored, Viewed, Scanned, Interfered}
-use Rattle.snap_account.specs.Calls.{Mem, Look, Write, Mark, op_looks, op_writes, op_marks, looks_in, writes_in, marks_in, stamps_in, all_stamps_in}
+use Rattle.snap_account.specs.Calls.{Mem, ViewRecord, Write, Mark, op_view_records, op_writes, op_marks, view_records_in, writes_in, marks_in, stamps_in, all_stamps_in}
 use Rattle.snap_account.specs.Rule.{Rising, Numbered, clock}
-use Rattle.snap_board.specs.Regular.{Settled, ScansSettled}
+use Rattle.snap_board.specs.Settled.{Settled, ScansSettled}
 use Rattle.snap_board.specs.Desks.{op_records, records_at, op_collects, collects_in}
 use Rattle.snap_board.specs.Scans.{op_kept, kept, without_collects}
 use Rattle.snap_account.proofs.Lists.{mem_split, mem_left, mem_right, mem_one}
@@ -45,27 +45,27 @@ mem_kept (r ∷ rs) q m = ⊎_elim (λ x. one r.op x) (λ x. inr (mem_kept rs q 
     one (Scanned t xs) x = inl (mem_one q r x)
     one (Interfered n xs ys) x = absurd x
 
-looks_kept : (rs : List Answered) (v : Look) → Mem v (looks_in (kept rs)) → Mem v (looks_in rs)
+looks_kept : (rs : List Answered) (v : ViewRecord) → Mem v (view_records_in (kept rs)) → Mem v (view_records_in rs)
 looks_kept [] v m = m
 looks_kept (r ∷ rs) v m = one r.op m (λ x. looks_kept rs v x)
   where
-    one : (o : Answer) → Mem v (looks_in (op_kept o (record { begun = r.begun; middles = r.middles; ended = r.ended; op = o }) ++ kept rs)) → (Mem v (looks_in (kept rs)) → Mem v (looks_in rs)) → Mem v (op_looks r.begun r.ended o ++ looks_in rs)
+    one : (o : Answer) → Mem v (view_records_in (op_kept o (record { begun = r.begun; middles = r.middles; ended = r.ended; op = o }) ++ kept rs)) → (Mem v (view_records_in (kept rs)) → Mem v (view_records_in rs)) → Mem v (op_view_records r.begun r.ended o ++ view_records_in rs)
     one (Stored n w) x rest = rest x
     one (Viewed xs) x rest = inr (rest x)
     one (Scanned t xs) x rest = ⊎_elim (λ e. inl e) (λ y. inr (rest y)) x
     one (Interfered n xs ys) x rest = inr (inr (rest x))
 
 -- each view that is left is a scan's
-pub look_mark : (rs : List Answered) (v : Look) → Mem v (looks_in (kept rs)) → (m : Mark) × Mem m (marks_in (kept rs)) × (m.begun ≡ v.begun) × (m.ended ≡ v.ended) × (m.before ≡ v.shown)
+pub look_mark : (rs : List Answered) (v : ViewRecord) → Mem v (view_records_in (kept rs)) → (m : Mark) × Mem m (marks_in (kept rs)) × (m.begun ≡ v.begun) × (m.ended ≡ v.ended) × (m.before ≡ v.shown)
 look_mark [] v m = absurd m
 look_mark (r ∷ rs) v m = one r.op m (λ x. look_mark rs v x)
   where
-    one : (o : Answer) → Mem v (looks_in (op_kept o (record { begun = r.begun; middles = r.middles; ended = r.ended; op = o }) ++ kept rs)) → (Mem v (looks_in (kept rs)) → (m : Mark) × Mem m (marks_in (kept rs)) × (m.begun ≡ v.begun) × (m.ended ≡ v.ended) × (m.before ≡ v.shown))
+    one : (o : Answer) → Mem v (view_records_in (op_kept o (record { begun = r.begun; middles = r.middles; ended = r.ended; op = o }) ++ kept rs)) → (Mem v (view_records_in (kept rs)) → (m : Mark) × Mem m (marks_in (kept rs)) × (m.begun ≡ v.begun) × (m.ended ≡ v.ended) × (m.before ≡ v.shown))
         → (m : Mark) × Mem m (marks_in (op_kept o (record { begun = r.begun; middles = r.middles; ended = r.ended; op = o }) ++ kept rs)) × (m.begun ≡ v.begun) × (m.ended ≡ v.ended) × (m.before ≡ v.shown)
     one (Stored n w) x rest = rest x
     one (Viewed xs) x rest = rest x
     one (Scanned t xs) x rest = ⊎_elim
-        (λ e. (record { begun = r.begun; middle = t; ended = r.ended; over = Rattle.std.proofs.Common.true; before = xs; since = xs }, inl refl, ap (λ (z : Look). z.begun) e, ap (λ (z : Look). z.ended) e, ap (λ (z : Look). z.shown) e))
+        (λ e. (record { begun = r.begun; middle = t; ended = r.ended; over = Rattle.std.proofs.Common.true; before = xs; since = xs }, inl refl, ap (λ (z : ViewRecord). z.begun) e, ap (λ (z : ViewRecord). z.ended) e, ap (λ (z : ViewRecord). z.shown) e))
         (λ y. let q = rest y in (q.0, inr q.1, q.2, q.3, q.4))
         x
     one (Interfered n xs ys) x rest = rest x
@@ -147,16 +147,16 @@ settled_kept n hand h = record {
       let l = h.below a.0 a.1 x (all_kept a.0.calls x (subst (λ (z : Account). Mem x (all_stamps_in z.calls)) (sym a.2) q)) in omega arith;
   apart = λ x. let t = total_kept hand x in let f = h.apart x in omega arith;
   numbered = λ c m. let a = from_map hand c m in subst (λ (z : Account). Numbered 1 (writes_in z.calls)) a.2 (subst (Numbered 1) (sym (writes_kept a.0.calls)) (h.numbered a.0 a.1));
-  whole = λ c m v q. let a = from_map hand c m in h.whole a.0 a.1 v (looks_kept a.0.calls v (subst (λ (z : Account). Mem v (looks_in z.calls)) (sym a.2) q));
+  whole = λ c m v q. let a = from_map hand c m in h.whole a.0 a.1 v (looks_kept a.0.calls v (subst (λ (z : Account). Mem v (view_records_in z.calls)) (sym a.2) q));
   regular = λ c m v q d md p at_p. let a = from_map hand c m in let e = from_map hand d md in
-      let s = h.regular a.0 a.1 v (looks_kept a.0.calls v (subst (λ (z : Account). Mem v (looks_in z.calls)) (sym a.2) q)) e.0 e.1 p (ap (λ (z : Account). get_elem? v.shown z.desk) e.2 ∙ at_p) in
+      let s = h.regular a.0 a.1 v (looks_kept a.0.calls v (subst (λ (z : Account). Mem v (view_records_in z.calls)) (sym a.2) q)) e.0 e.1 p (ap (λ (z : Account). get_elem? v.shown z.desk) e.2 ∙ at_p) in
       let ws = ap (λ (z : Account). writes_in z.calls) (sym e.2) ∙ writes_kept e.0.calls in
       record {
         fresh = λ w mw lt. s.fresh w (subst (λ (l : List Write). Mem w l) ws mw) lt;
         real = λ pos. let r = s.real pos in (r.0, subst (λ (l : List Write). Mem r.0 l) (sym ws) r.1, r.2, r.3, r.4);
       };
   monotone = λ c d mc md r s mr ms lt k p q at_p at_q. let a = from_map hand c mc in let e = from_map hand d md in
-      h.monotone a.0 e.0 a.1 e.1 r s (looks_kept a.0.calls r (subst (λ (z : Account). Mem r (looks_in z.calls)) (sym a.2) mr)) (looks_kept e.0.calls s (subst (λ (z : Account). Mem s (looks_in z.calls)) (sym e.2) ms)) lt k p q at_p at_q;
+      h.monotone a.0 e.0 a.1 e.1 r s (looks_kept a.0.calls r (subst (λ (z : Account). Mem r (view_records_in z.calls)) (sym a.2) mr)) (looks_kept e.0.calls s (subst (λ (z : Account). Mem s (view_records_in z.calls)) (sym e.2) ms)) lt k p q at_p at_q;
 }
 
 pub scans_kept : (hand : List Account) → ScansSettled hand → ScansSettled (map without_collects hand)

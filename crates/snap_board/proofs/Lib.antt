@@ -4,7 +4,7 @@ pub mod Listing
 pub mod Slotting
 pub mod Placed
 pub mod Stamps
-pub mod Hand
+pub mod Accounts
 pub mod DeskEvents
 pub mod Merging
 pub mod Ordering

@@ -12,8 +12,8 @@ use Rattle.snap_account.specs.declared.account.Answered.{Answered}
 use Rattle.snap_account.specs.declared.account.Answer.{Answer}
 use Rattle.snap_account.specs.declared.account.Answer.TheVariants.{Stored, Viewed, Scanned, Interfered}
 use Rattle.snap_board.specs.declared.record.Record.{Record}
-use Rattle.snap_account.specs.Calls.{Mem, Look, write, look, AllNumbered, op_looks, writes_in, looks_in, stamps_in, op_entry, latest}
-use Rattle.snap_account.specs.Hands.{Told}
+use Rattle.snap_account.specs.Calls.{Mem, ViewRecord, write, view_record, AllNumbered, op_view_records, writes_in, view_records_in, stamps_in, op_entry, latest}
+use Rattle.snap_account.specs.Seats.{IsUpToDate}
 use Rattle.snap_board.specs.Desks.{listed, shown_entry, op_records, records_at, IsLater, last_stored, number_shown, op_lost, lost_in, op_collects, collects_in}
 use Rattle.snap_core.proofs.Sums.{total-append}
 use Rattle.snap_account.proofs.Lists.{mem_split, mem_left, mem_right, mem_one}
@@ -170,7 +170,7 @@ last_entry d p (r ∷ rs) pos = go (λ q x. last_entry d q rs x) r.op pos
     go rest (Interfered n xs ys) q = rest p q
 
 -- a view shows of its desk's component the last store
-pub own_entry : (d : ℕ) (rs : List Answered) (xs : List (ℕ × ℕ)) → Told d rs xs → d < length xs → entry_of d (listed 0 xs) ≡ last_stored None (records_at d rs)
+pub own_entry : (d : ℕ) (rs : List Answered) (xs : List (ℕ × ℕ)) → IsUpToDate d rs xs → d < length xs → entry_of d (listed 0 xs) ≡ last_stored None (records_at d rs)
 own_entry d rs xs told lt =
     let t = (told d (shown_at xs d) (shown_some xs d lt)).0 refl in
     listed_entry d xs ∙ ap (entry_at d) t.0 ∙ last_entry d (0, 0) rs t.1
@@ -201,32 +201,32 @@ pub later : (d b : ℕ) (rs : List Answered) (r : Record) → r.begun ≡ b → 
 later d b rs r is above q m = let s = record_stamps d rs q (mem_contains _ q m) in let x = above q.begun s.0 in let y = above q.ended s.1 in (omega arith, omega arith)
 
 -- no component is older than in an earlier view
-pub no_older : (d : ℕ) (rs : List Answered) (xs : List (ℕ × ℕ)) → Told d rs xs → ((v : Look) → Mem v (looks_in rs) → length v.shown ≡ length xs)
+pub no_older : (d : ℕ) (rs : List Answered) (xs : List (ℕ × ℕ)) → IsUpToDate d rs xs → ((v : ViewRecord) → Mem v (view_records_in rs) → length v.shown ≡ length xs)
     → (q : Record) → Contains (records_at d rs) q → (k : ℕ) → number_shown q k ≤ number_in (entry_of k (listed 0 xs))
 no_older d rs xs told whole q m k = go rs q (mem_contains _ q m) (λ v mv. mv)
   where
-    viewed : (b e : ℕ) (ys : List (ℕ × ℕ)) → Mem (look b e true ys) (looks_in rs) → number_in (entry_of k (listed 0 ys)) ≤ number_in (entry_of k (listed 0 xs))
+    viewed : (b e : ℕ) (ys : List (ℕ × ℕ)) → Mem (view_record b e true ys) (view_records_in rs) → number_in (entry_of k (listed 0 ys)) ≤ number_in (entry_of k (listed 0 xs))
     viewed b e ys there =
-        let size = whole (look b e true ys) there in
+        let size = whole (view_record b e true ys) there in
         let mine = ap number_in (listed_entry k ys) ∙ number_at k (shown_at ys k) in
         let new = ap number_in (listed_entry k xs) ∙ number_at k (shown_at xs k) in
         at (dec_le (suc k) (length xs)) size mine new
       where
         at : Dec (suc k ≤ length xs) → length ys ≡ length xs → number_in (entry_of k (listed 0 ys)) ≡ (shown_at ys k).0 → number_in (entry_of k (listed 0 xs)) ≡ (shown_at xs k).0 → number_in (entry_of k (listed 0 ys)) ≤ number_in (entry_of k (listed 0 xs))
-        at (yes le) size mine new = let t = (told k (shown_at xs k) (shown_some xs k (omega arith))).1 (look b e true ys) there (shown_at ys k) (shown_some ys k (omega arith)) in omega arith
+        at (yes le) size mine new = let t = (told k (shown_at xs k) (shown_some xs k (omega arith))).1 (view_record b e true ys) there (shown_at ys k) (shown_some ys k (omega arith)) in omega arith
         at (no nle) size mine new = let z = ap (λ (p : ℕ × ℕ). p.0) (shown_high ys k (omega arith)) in omega arith
 
-    here : (b e : ℕ) (o : Answer) → ((v : Look) → Mem v (op_looks b e o) → Mem v (looks_in rs)) → (z : Record) → Mem z (op_records d b e o) → number_shown z k ≤ number_in (entry_of k (listed 0 xs))
+    here : (b e : ℕ) (o : Answer) → ((v : ViewRecord) → Mem v (op_view_records b e o) → Mem v (view_records_in rs)) → (z : Record) → Mem z (op_records d b e o) → number_shown z k ≤ number_in (entry_of k (listed 0 xs))
     here b e (Stored n v) sub z mz = subst (λ (y : Record). number_shown y k ≤ number_in (entry_of k (listed 0 xs))) (mem_one z _ mz) (omega arith)
-    here b e (Viewed ys) sub z mz = subst (λ (y : Record). number_shown y k ≤ number_in (entry_of k (listed 0 xs))) (mem_one z _ mz) (viewed b e ys (sub (look b e true ys) (inl refl)))
-    here b e (Scanned t ys) sub z mz = subst (λ (y : Record). number_shown y k ≤ number_in (entry_of k (listed 0 xs))) (mem_one z _ mz) (viewed b e ys (sub (look b e true ys) (inl refl)))
+    here b e (Viewed ys) sub z mz = subst (λ (y : Record). number_shown y k ≤ number_in (entry_of k (listed 0 xs))) (mem_one z _ mz) (viewed b e ys (sub (view_record b e true ys) (inl refl)))
+    here b e (Scanned t ys) sub z mz = subst (λ (y : Record). number_shown y k ≤ number_in (entry_of k (listed 0 xs))) (mem_one z _ mz) (viewed b e ys (sub (view_record b e true ys) (inl refl)))
     here b e (Interfered n ys zs) sub z mz = absurd mz
 
-    go : (qs : List Answered) (z : Record) → Mem z (records_at d qs) → ((v : Look) → Mem v (looks_in qs) → Mem v (looks_in rs)) → number_shown z k ≤ number_in (entry_of k (listed 0 xs))
+    go : (qs : List Answered) (z : Record) → Mem z (records_at d qs) → ((v : ViewRecord) → Mem v (view_records_in qs) → Mem v (view_records_in rs)) → number_shown z k ≤ number_in (entry_of k (listed 0 xs))
     go [] z mz sub = absurd mz
     go (r ∷ qs) z mz sub = ⊎_elim
-        (λ x. here r.begun r.ended r.op (λ v mv. sub v (mem_left (op_looks r.begun r.ended r.op) (looks_in qs) v mv)) z x)
-        (λ x. go qs z x (λ v mv. sub v (mem_right (op_looks r.begun r.ended r.op) (looks_in qs) v mv)))
+        (λ x. here r.begun r.ended r.op (λ v mv. sub v (mem_left (op_view_records r.begun r.ended r.op) (view_records_in qs) v mv)) z x)
+        (λ x. go qs z x (λ v mv. sub v (mem_right (op_view_records r.begun r.ended r.op) (view_records_in qs) v mv)))
         (mem_split (op_records d r.begun r.ended r.op) (records_at d qs) z mz)
 
 -- one more record

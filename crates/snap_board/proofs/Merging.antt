@@ -21,15 +21,15 @@ use Rattle.snap_account.specs.declared.account.Account.{Account}
 use Rattle.snap_account.specs.declared.account.Answered.{Answered}
 use Rattle.snap_account.specs.declared.account.Answer.{Answer}
 use Rattle.snap_account.specs.declared.account.Answer.TheVariants.{Stored, Viewed, Scanned, Interfered}
-use Rattle.snap_account.specs.Calls.{Mem, Write, write, look, writes_in, looks_in, stamps_in}
-use Rattle.snap_board.specs.Regular.{Settled}
+use Rattle.snap_account.specs.Calls.{Mem, Write, write, view_record, writes_in, view_records_in, stamps_in}
+use Rattle.snap_board.specs.Settled.{Settled}
 use Rattle.snap_board.specs.Desks.{listed}
 use Rattle.snap_board.specs.Placed.{At, IsSpan, IsRegularByPlaces}
 use Rattle.snap_board.specs.History.{Stamped, events_in, AllCompleted}
 use Rattle.snap_account.proofs.Lists.{mem_at, mem_left, mem_right}
 use Rattle.snap_board.proofs.Placed.{regular_by_places}
 use Rattle.snap_board.proofs.Listing.{shown_at, shown_some, shown_low, entry_at, number_at, listed_entry, mem_contains}
-use Rattle.snap_board.proofs.Hand.{hand_low, hand_one, hand_there}
+use Rattle.snap_board.proofs.Accounts.{hand_low, hand_one, hand_there}
 use Rattle.snap_board.proofs.Stamps.{Stamp, stamped_at, place_lt, mem_place, event_at, at_event, unique, pick, pick_mem, mem_pick, stamped_pick, pick_history}
 use Rattle.snap_board.proofs.DeskEvents.{entry, op_events, desk_events, event_stamp, desk_stamped, Quiet, entry_in_event, view_of, update_of, write_event, own_update, desk_numbered, no_open_end}
 
@@ -88,7 +88,7 @@ module _ (n : ℕ) (hand : List Account) (es : List Stamp) (h : Settled n hand) 
     pub begun : ℕ
     pub ended : ℕ
     pub read : List (ℕ × ℕ)
-    pub look_there : Mem (look begun ended true read) (looks_in account.calls)
+    pub look_there : Mem (view_record begun ended true read) (view_records_in account.calls)
     pub lists : listed 0 read ≡ shown
     pub at_begin : get_elem? es i ≡ some (begun, BeginView p)
     pub at_end : get_elem? es j ≡ some (ended, EndView p shown)
@@ -144,9 +144,9 @@ module _ (n : ℕ) (hand : List Account) (es : List Stamp) (h : Settled n hand) 
         let r = the_view i j p shown at_i at_j call in
         let u = the_update f t q e at_f at_t span in
         let low = hand_low n hand h.desks u.account u.there in
-        let all = h.whole r.account r.there (look r.begun r.ended true r.read) r.look_there in
+        let all = h.whole r.account r.there (view_record r.begun r.ended true r.read) r.look_there in
         let is = shown_some r.read u.account.desk (omega arith) in
-        let sh = h.regular r.account r.there (look r.begun r.ended true r.read) r.look_there u.account u.there (shown_at r.read u.account.desk) is in
+        let sh = h.regular r.account r.there (view_record r.begun r.ended true r.read) r.look_there u.account u.there (shown_at r.read u.account.desk) is in
         let number : number_in (entry_of e.component shown) ≡ (shown_at r.read e.component).0 = ap (λ es. number_in (entry_of e.component es)) (sym r.lists) ∙ ap number_in (listed_entry e.component r.read) ∙ number_at e.component (shown_at r.read e.component) in
         let num : (shown_at r.read u.account.desk).0 < e.number = subst (λ (z : ℕ). (shown_at r.read z).0 < e.number) (sym u.component) (omega arith) in
         let late = sh.fresh (write e.number e.value u.begun u.ended true) u.write_there num in
@@ -155,10 +155,10 @@ module _ (n : ℕ) (hand : List Account) (es : List Stamp) (h : Settled n hand) 
         let r = the_view i j p shown at_i at_j call in
         let x = entry_at_some k (shown_at r.read k) e (sym (listed_entry k r.read) ∙ ap (entry_of k) r.lists ∙ is_shown) in
         let low = shown_low r.read k x.0 in
-        let all = h.whole r.account r.there (look r.begun r.ended true r.read) r.look_there in
+        let all = h.whole r.account r.there (view_record r.begun r.ended true r.read) r.look_there in
         let c = hand_there n hand h.desks k (omega arith) in
         let is : get_elem? r.read c.0.desk ≡ some (shown_at r.read k) = ap (λ z. get_elem? r.read z) c.2 ∙ shown_some r.read k low in
-        let sh = h.regular r.account r.there (look r.begun r.ended true r.read) r.look_there c.0 c.1 (shown_at r.read k) is in
+        let sh = h.regular r.account r.there (view_record r.begun r.ended true r.read) r.look_there c.0 c.1 (shown_at r.read k) is in
         let w = sh.real x.0 in
         let ev : Event = BeginUpdate c.0.desk (entry c.0.desk w.0.number w.0.value) in
         let place = mem_place es (w.0.begun, ev) (m.all c.0 c.1 (w.0.begun, ev) (write_event c.0.desk c.0.calls w.0 w.1)) in

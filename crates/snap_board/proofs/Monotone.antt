@@ -9,9 +9,9 @@ use Rattle.snap_core.specs.Regular.{IsViewOf}
 use Rattle.snap_core.proofs.Facts.{precedes_to}
 use Rattle.snap_core.proofs.Histories.{are_calls}
 use Rattle.snap_account.specs.declared.account.Account.{Account}
-use Rattle.snap_account.specs.Calls.{look}
+use Rattle.snap_account.specs.Calls.{view_record}
 use Rattle.snap_board.specs.History.{events_in, all_records, history_of, stamped_events, in_order}
-use Rattle.snap_board.specs.Regular.{Settled}
+use Rattle.snap_board.specs.Settled.{Settled}
 use Rattle.snap_board.proofs.Listing.{listed_entry, number_at, shown_at, shown_low, shown_some}
 use Rattle.snap_board.proofs.Merging.{InOrder, ViewThere, history, the_view}
 use Rattle.snap_board.proofs.Ordering.{in_order_of, merged}
@@ -49,9 +49,9 @@ module _ (n : ℕ) (hand : List Account) (es : List Stamp) (h : Settled n hand) 
       elim (cases_lt 0 (shown_at a.read k).0) [
         | inl some_shown ↦
             let low = shown_low a.read k some_shown in
-            let all = h.whole a.account a.there (look a.begun a.ended true a.read) a.look_there in
-            let whole = h.whole b.account b.there (look b.begun b.ended true b.read) b.look_there in
-            let older = h.monotone a.account b.account a.there b.there (look a.begun a.ended true a.read) (look b.begun b.ended true b.read) a.look_there b.look_there apart
+            let all = h.whole a.account a.there (view_record a.begun a.ended true a.read) a.look_there in
+            let whole = h.whole b.account b.there (view_record b.begun b.ended true b.read) b.look_there in
+            let older = h.monotone a.account b.account a.there b.there (view_record a.begun a.ended true a.read) (view_record b.begun b.ended true b.read) a.look_there b.look_there apart
             k (shown_at a.read k) (shown_at b.read k) (shown_some a.read k low) (shown_some b.read k (omega (arith, low, all, whole))) in
             omega (arith, mine, theirs, older)
         | inr none_shown ↦ omega (arith, mine, none_shown)

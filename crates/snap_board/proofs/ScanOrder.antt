@@ -10,14 +10,14 @@ use Rattle.snap_account.specs.declared.account.Account.{Account}
 use Rattle.snap_account.specs.declared.account.Answered.{Answered}
 use Rattle.snap_account.specs.declared.account.Answer.{Answer}
 use Rattle.snap_account.specs.declared.account.Answer.TheVariants.{Stored, Viewed, Scanned, Interfered}
-use Rattle.snap_account.specs.Calls.{Mem, Write, Mark, look, write, mark, op_looks, op_writes, op_marks, looks_in, writes_in, marks_in, stamps_in, all_stamps_in}
+use Rattle.snap_account.specs.Calls.{Mem, Write, Mark, view_record, write, mark, op_view_records, op_writes, op_marks, view_records_in, writes_in, marks_in, stamps_in, all_stamps_in}
 use Rattle.snap_account.specs.Rule.{Rising, Numbered, clock}
-use Rattle.snap_board.specs.Regular.{Settled, ScansSettled}
+use Rattle.snap_board.specs.Settled.{Settled, ScansSettled}
 use Rattle.snap_account.proofs.Lists.{mem_split, mem_left, mem_right, mem_one, one_here}
 use Rattle.snap_account.proofs.Accounts.{mem_middle}
 use Rattle.snap_account.proofs.Marking.{numbered_low}
 use Rattle.snap_board.proofs.DeskEvents.{rising_head, rising_tail}
-use Rattle.snap_board.proofs.Hand.{hand_low, hand_one}
+use Rattle.snap_board.proofs.Accounts.{hand_low, hand_one}
 use Rattle.snap_board.proofs.Listing.{shown_at, shown_some, shown_high}
 
 pub record ScanAt : Type 0 where
@@ -207,14 +207,14 @@ there_store [] u q = absurd q
 there_store (x ∷ hand) u q = ⊎_elim (λ y. (x, inl refl, map_mem (store_at x.desk) (writes_in x.calls) u y)) (λ y. let r = there_store hand u y in (r.0, inr r.1, r.2)) (mem_split (map (store_at x.desk) (writes_in x.calls)) (stores_of hand) u q)
 
 -- a scan is a view
-pub mark_look : (rs : List Answered) (m : Mark) → Mem m (marks_in rs) → Mem (look m.begun m.ended true m.before) (looks_in rs)
+pub mark_look : (rs : List Answered) (m : Mark) → Mem m (marks_in rs) → Mem (view_record m.begun m.ended true m.before) (view_records_in rs)
 mark_look [] m q = absurd q
-mark_look (r ∷ rs) m q = ⊎_elim (λ x. mem_left (op_looks r.begun r.ended r.op) (looks_in rs) (look m.begun m.ended true m.before) (one r.op x)) (λ x. mem_right (op_looks r.begun r.ended r.op) (looks_in rs) (look m.begun m.ended true m.before) (mark_look rs m x)) (mem_split (op_marks r.begun r.ended r.op) (marks_in rs) m q)
+mark_look (r ∷ rs) m q = ⊎_elim (λ x. mem_left (op_view_records r.begun r.ended r.op) (view_records_in rs) (view_record m.begun m.ended true m.before) (one r.op x)) (λ x. mem_right (op_view_records r.begun r.ended r.op) (view_records_in rs) (view_record m.begun m.ended true m.before) (mark_look rs m x)) (mem_split (op_marks r.begun r.ended r.op) (marks_in rs) m q)
   where
-    one : (o : Answer) → Mem m (op_marks r.begun r.ended o) → Mem (look m.begun m.ended true m.before) (op_looks r.begun r.ended o)
+    one : (o : Answer) → Mem m (op_marks r.begun r.ended o) → Mem (view_record m.begun m.ended true m.before) (op_view_records r.begun r.ended o)
     one (Stored n v) x = absurd x
     one (Viewed xs) x = absurd x
-    one (Scanned t xs) x = let e = mem_one m (mark r.begun t r.ended true xs xs) x in inl (λ i. look (e i).begun (e i).ended true (e i).before)
+    one (Scanned t xs) x = let e = mem_one m (mark r.begun t r.ended true xs xs) x in inl (λ i. view_record (e i).begun (e i).ended true (e i).before)
     one (Interfered n xs ys) x = absurd x
 
 -- the stamps of a store
@@ -323,7 +323,7 @@ module _ (n : ℕ) (hand : List Account) (h : Settled n hand) (g : ScansSettled 
           let y : 1 ≤ times r.middle (map (λ (z : Mark). z.middle) (marks_in c.calls)) = subst (λ (z : ℕ). 1 ≤ times z (map (λ (z : Mark). z.middle) (marks_in c.calls))) (sym same) (middle_times s (marks_in c.calls) ns) in absurd (omega arith)
 
   pub mark_whole : (a : Account) → Mem a hand → (m : Mark) → Mem m (marks_in a.calls) → length m.before ≡ n
-  mark_whole a ma m q = h.whole a ma (look m.begun m.ended true m.before) (mark_look a.calls m q)
+  mark_whole a ma m q = h.whole a ma (view_record m.begun m.ended true m.before) (mark_look a.calls m q)
 
   pub mark_low : (a : Account) → Mem a hand → (m : Mark) → Mem m (marks_in a.calls) → m.middle < clock hand
   mark_low a ma m q = h.below a ma m.middle (mem_right (stamps_in a.calls) (map (λ (z : Mark). z.middle) (marks_in a.calls)) m.middle (mem_middle (marks_in a.calls) m q))
@@ -356,10 +356,10 @@ module _ (n : ℕ) (hand : List Account) (h : Settled n hand) (g : ScansSettled 
       at_there : get_elem? m.before c.desk ≡ some (shown_at m.before c.desk)
       at_there = let wm = mark_whole a ma m q in let low = hand_low n hand h.desks c mc in shown_some m.before c.desk (omega arith)
 
-      see : Rattle.snap_board.specs.Regular.Shows (look m.begun m.ended true m.before) (shown_at m.before c.desk) c
-      see = h.regular a ma (look m.begun m.ended true m.before) (mark_look a.calls m q) c mc (shown_at m.before c.desk) at_there
+      see : Rattle.snap_board.specs.Settled.Shows (view_record m.begun m.ended true m.before) (shown_at m.before c.desk) c
+      see = h.regular a ma (view_record m.begun m.ended true m.before) (mark_look a.calls m q) c mc (shown_at m.before c.desk) at_there
 
-      shows : Rattle.snap_board.specs.Regular.ShowsAt m (shown_at m.before c.desk) c
+      shows : Rattle.snap_board.specs.Settled.ShowsAt m (shown_at m.before c.desk) c
       shows = g.shows a ma m q c mc (shown_at m.before c.desk) at_there
 
   pub given : Given (clock hand) (scans_of hand) (stores_of hand)

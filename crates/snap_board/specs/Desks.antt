@@ -10,7 +10,7 @@ use Rattle.snap_account.specs.declared.account.Answer.TheVariants.{Stored, Viewe
 use Rattle.snap_board.specs.declared.record.Record.{Record}
 use Rattle.snap_board.specs.declared.record.RecordedOp.{RecordedOp}
 use Rattle.snap_board.specs.declared.record.RecordedOp.TheVariants as Kind
-use Rattle.snap_account.specs.Hands.{idle}
+use Rattle.snap_account.specs.Seats.{idle}
 use Rattle.snap_board.specs.Boards.{BoardView, DeskView, GatheredView}
 
 -- a desk of the board

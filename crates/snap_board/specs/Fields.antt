@@ -2,10 +2,10 @@
 use Rattle.std.specs.Prelude.{◌≡◌, ◌+◌, ◌<◌, ◌≤◌, [], ◌∷◌, map, length}
 use Rattle.snap_account.specs.Calls.{latest}
 use Rattle.snap_account.specs.Rule.{tick_limit}
-use Rattle.snap_account.specs.Hands.{idle, answered_of, brief}
+use Rattle.snap_account.specs.Seats.{idle, answered_of, brief}
 use Rattle.snap_board.specs.Refusals.{desk_limit}
 use Rattle.snap_board.specs.Boards.{BoardView, DeskView, GatheredView, ClosedView}
-use Rattle.snap_board.specs.Slots.{ins, Smalls}
+use Rattle.snap_board.specs.Slots.{desks_in, AreSmall}
 use Rattle.snap_board.specs.declared.board.Board.TheInside as board
 use Rattle.snap_board.specs.declared.board.Desk.TheInside as desk
 use Rattle.snap_board.specs.declared.board.Gathered.TheInside as gathered
@@ -37,8 +37,8 @@ gathered_view g = record { board = g.seat.table_id; desks = g.desks; accounts = 
 pub record IsGathered (g : gathered.Inside) : Type 0 where
   pub bare : g.seat.me.1 ≡ []
   pub few : (g.desks ≤ desk_limit) × (length g.slots ≡ desk_limit)
-  pub matches : map brief g.seat.me.0 ≡ ins g.desks g.slots
-  pub small : Smalls g.slots
+  pub matches : map brief g.seat.me.0 ≡ desks_in g.desks g.slots
+  pub small : AreSmall g.slots
 
 abbrev pub closed_view : closed.Inside → ClosedView
 closed_view c = record { desks = c.desks; last = c.last }

@@ -5,7 +5,7 @@ pub mod Desks
 pub mod LastCall
 pub mod Slots
 pub mod Fields
-pub mod Regular
+pub mod Settled
 pub mod History
 pub mod Refusals
 pub mod Scans

@@ -1,3 +1,4 @@
+//! Boards, the desks that are in and out, and what a closed board has left.
 ghost use Rattle.std.specs.Prelude.{◌≡◌, ◌+◌, ◌<◌, ◌≤◌, ◌↔◌, [], ◌∷◌, IfOk, IfErr, OnOk, OnErr, IsOk, IfNone, IfSome, length};
 ghost use Rattle.snap_core.specs.Events.{IsHistory};
 ghost use Rattle.snap_core.specs.Calls.{calls_of};
@@ -9,14 +10,14 @@ ghost use Rattle.snap_account.specs.Plays.{but_first, only_first, insert};
 ghost use Rattle.snap_board.specs.Desks.{account, accounts, IsDeskOf, IsGatheredOf};
 ghost use Rattle.snap_board.specs.History.{board_history, AllCompleted};
 ghost use Rattle.snap_board.specs.Refusals.{IsNotOpened, desk_limit};
-ghost use Rattle.snap_board.specs.Regular.{AreUpTo, Settled, ScansSettled, TicksSettled, WereInterfered, LastStores, entry_in};
+ghost use Rattle.snap_board.specs.Settled.{AreUpTo, Settled, ScansSettled, TicksSettled, WereInterfered, LastStores, entry_in};
 ghost use Rattle.snap_board.specs.Scans.{scan_history};
 
-use crate::kept::Kept;
+use crate::desk_state::DeskState;
 use crate::refusals::OpenRefusal;
 use crate::slots::{all_in, fresh, highest, last_stores};
 use atomic_table::{Seat, Table};
-use snap_account::{BoardRule, ComeIn, GoOut, Hand, LookOver, Size};
+use snap_account::{Accounts, BoardRule, ComeIn, GoOut, LookOver, Size};
 use snap_core::Entry;
 use std::alloc::{AllocError, Global};
 use std::marker::Model;
@@ -31,7 +32,7 @@ const WORD_LIMIT: usize = DESK_LIMIT + 1;
 /// A board of atomic words: a clock, and one word for each desk's component.
 #[derive(Drop)]
 pub struct Board {
-    pub(crate) table: Table<(), Hand, Size, BoardRule, Global>,
+    pub(crate) table: Table<(), Accounts, Size, BoardRule, Global>,
     pub(crate) desks: u8,
     // whether a desk gives up its turn before the last load of a collect
     pauses: bool,
@@ -180,9 +181,9 @@ impl Board {
 /// The right to call on a board as one process, which writes the component of its own number.
 #[derive(Drop)]
 pub struct Desk {
-    pub(crate) seat: Seat<(), Hand>,
+    pub(crate) seat: Seat<(), Accounts>,
     pub(crate) desk: u8,
-    pub(crate) kept: Kept,
+    pub(crate) kept: DeskState,
 }
 
 impl Model for Desk {
@@ -209,9 +210,9 @@ impl Desk {
 /// The desks that are in.
 #[derive(Drop)]
 pub struct Gathered {
-    seat: Seat<(), Hand>,
+    seat: Seat<(), Accounts>,
     desks: u8,
-    slots: [Option<Kept>; DESK_LIMIT],
+    slots: [Option<DeskState>; DESK_LIMIT],
 }
 
 impl Model for Gathered {

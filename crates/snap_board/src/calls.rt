@@ -1,18 +1,19 @@
+//! The calls that make one pass over the words: store and collect.
 ghost use Rattle.std.specs.Prelude.{◌≡◌, ◌+◌, ◌<◌, ◌≤◌, [], ◌∷◌, ◌++◌, None, length, vec_capacity, IfOk, IfErr, OnOk, OnErr};
 ghost use Rattle.snap_core.specs.Entries.{view_refusal, number_in};
 ghost use Rattle.snap_account.specs.Rule.{tick_limit};
 ghost use Rattle.snap_board.specs.Refusals.{IsNotCollected, desk_limit};
 ghost use Rattle.snap_board.specs.LastCall.{HasCalled, IsStore, IsCollect};
 ghost use Rattle.snap_board.specs.Desks.{records, ticks, collects, lost, IsDeskOf, listed, IsLater, last_stored, shown_by, IsNoOlder, ShowsOwnLast};
-ghost use Rattle.snap_account.specs.Hands.{has_read, doing_of, desk_of, answered_of, pairs, Told};
+ghost use Rattle.snap_account.specs.Seats.{has_read, doing_of, desk_of, answered_of, pairs, IsUpToDate};
 ghost use Rattle.snap_account.specs.Plays.{HasRead};
 
 use crate::board::{Board, Desk};
-use crate::kept::Kept;
+use crate::desk_state::DeskState;
 use crate::record::{Record, RecordedOp};
 use crate::refusals::{CollectRefusal, StoreRefusal};
 use atomic_table::Seat;
-use snap_account::{BeginStore, BeginView, EndCall, Hand, ReadWord, TICK_LIMIT, WriteWord};
+use snap_account::{Accounts, BeginStore, BeginView, EndCall, ReadWord, TICK_LIMIT, WriteWord};
 use snap_core::{Entry, View};
 use std::alloc::Global;
 
@@ -81,7 +82,7 @@ impl Board {
         let word = u64::from(number) * NUMBER_UNIT + u64::from(value);
         shared.store::<WriteWord>(&mut desk.seat, usize::from(desk.desk) + 1, word);
         let ended = shared.fetch_add::<EndCall>(&mut desk.seat, 0, 1);
-        desk.kept = Kept {
+        desk.kept = DeskState {
             ticks: desk.kept.ticks + 2,
             stores: number,
             value,
@@ -100,14 +101,14 @@ impl Board {
     }
 
     // Loads the word of each component, from 0 on.
-    pub(crate) fn load_words(&self, seat: &mut Seat<(), Hand>, words: &mut Vec<u64>)
+    pub(crate) fn load_words(&self, seat: &mut Seat<(), Accounts>, words: &mut Vec<u64>)
         requires seat { seat.old.table_id ≡ self.now.board }
         requires ready { (seat.old.me ≡ has_read seat.old.me []) × HasRead (doing_of seat.old.me.0) [] }
         requires room { (words.old.items ≡ []) × (self.now.desks ≤ vec_capacity words.old) }
         ensures seat { seat.new.table_id ≡ seat.old.table_id }
         ensures read { seat.new.me ≡ has_read seat.old.me (pairs words.new.items) }
         ensures all { length words.new.items ≡ self.now.desks }
-        ensures told { Told (desk_of seat.old.me.0) (answered_of seat.old.me.0) (pairs words.new.items) }
+        ensures told { IsUpToDate (desk_of seat.old.me.0) (answered_of seat.old.me.0) (pairs words.new.items) }
         ensures room { self.now.desks ≤ vec_capacity words.new }
     {
         'words: for k in 0..self.desks {

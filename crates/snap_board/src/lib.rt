@@ -3,7 +3,7 @@
 
 mod board;
 mod calls;
-mod kept;
+mod desk_state;
 mod record;
 mod refusals;
 mod scan;

@@ -1,3 +1,4 @@
+//! Records of calls.
 use snap_core::{Entry, View};
 
 /// What a call did.

@@ -1,3 +1,4 @@
+//! Why a board was not opened, and why a call has no record.
 /// Why no board was opened, in the order in which the reasons are tested.
 #[derive(Clone, Copy, PartialEq, Eq, Debug)]
 pub enum OpenRefusal {

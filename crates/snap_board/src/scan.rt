@@ -1,9 +1,10 @@
+//! Scans: collects that are tried again until two in a row read the same.
 ghost use Rattle.std.specs.Prelude.{◌≡◌, ◌≢◌, ◌↔◌, ◌+◌, ◌<◌, ◌≤◌, [], ◌∷◌, ◌++◌, length, vec_capacity, IfOk, IfErr, OnOk, OnErr, IsTrue, MatchOption, true, false};
 ghost use Rattle.snap_account.specs.Rule.{tick_limit};
 ghost use Rattle.snap_board.specs.Refusals.{IsNotScanned, IsLeft, IsNotInterfered};
 ghost use Rattle.snap_board.specs.LastCall.{HasCalled, IsRecordedScan};
 ghost use Rattle.snap_board.specs.Desks.{records, ticks, collects, lost, IsDeskOf, IsLater, shown_by, IsNoOlder, ShowsOwnLast};
-ghost use Rattle.snap_account.specs.Hands.{one_desk, ticks_of};
+ghost use Rattle.snap_account.specs.Seats.{one_desk, ticks_of};
 ghost use Rattle.snap_account.specs.Tries.{HasReadAll, StillTries, AgreesOn, IsSameCall, made_of};
 
 use crate::board::{Board, Desk};
@@ -11,7 +12,7 @@ use crate::calls::view_of;
 use crate::record::{Record, RecordedOp};
 use crate::refusals::ScanRefusal;
 use atomic_table::Seat;
-use snap_account::{BeginView, EndCall, GiveUp, Hand, MiddleTick, TICK_LIMIT};
+use snap_account::{Accounts, BeginView, EndCall, GiveUp, MiddleTick, TICK_LIMIT};
 use std::alloc::Global;
 
 // Whether two collects read the same.
@@ -23,7 +24,12 @@ fn are_equal(before: &Vec<u64>, since: &Vec<u64>) -> bool
 
 impl Board {
     // Makes a middle tick, and a collect after it. Tells whether that read what the collect before it did.
-    fn try_once(&self, seat: &mut Seat<(), Hand>, before: &Vec<u64>, since: &mut Vec<u64>) -> bool
+    fn try_once(
+        &self,
+        seat: &mut Seat<(), Accounts>,
+        before: &Vec<u64>,
+        since: &mut Vec<u64>,
+    ) -> bool
         requires seat { (seat.old.table_id ≡ self.now.board) × (seat.old.me ≡ one_desk seat.old.me) }
         requires trying { StillTries self.now.desks seat.old.me before.now.items seat.old.me }
         requires read { HasReadAll self.now.desks seat.old.me before.now.items }
@@ -47,7 +53,7 @@ impl Board {
     // none did within the tries.
     fn try_until(
         &self,
-        seat: &mut Seat<(), Hand>,
+        seat: &mut Seat<(), Accounts>,
         before: &mut Vec<u64>,
         since: &mut Vec<u64>,
         tries: u32,

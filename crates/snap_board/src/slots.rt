@@ -1,19 +1,20 @@
+//! What is kept of the desks that are in, by their numbers.
 ghost use Rattle.std.specs.Prelude.{◌≡◌, ◌+◌, ◌<◌, ◌≤◌, ◌↔◌, Some, None, MatchOption, IsTrue, slice_index_or, length};
 ghost use Rattle.snap_board.specs.Refusals.{desk_limit};
 ghost use Rattle.snap_board.specs.Slots.{AllIn, Fresh, NoneFrom, HasLast, kept_entry};
 
 use crate::board::DESK_LIMIT;
-use crate::kept::Kept;
+use crate::desk_state::DeskState;
 use snap_core::Entry;
 
 /// What is kept of each desk below `desks` that has done nothing.
-pub(crate) fn fresh(desks: u8) -> [Option<Kept>; DESK_LIMIT]
+pub(crate) fn fresh(desks: u8) -> [Option<DeskState>; DESK_LIMIT]
     requires { desks ≤ desk_limit }
     ensures { Fresh desks result × (length result ≡ desk_limit) }
 {
     let mut slots = [None; DESK_LIMIT];
     'rows: for d in 0..desks {
-        slots[usize::from(d)] = Some(Kept {
+        slots[usize::from(d)] = Some(DeskState {
             ticks: 0,
             stores: 0,
             value: 0,
@@ -23,9 +24,9 @@ pub(crate) fn fresh(desks: u8) -> [Option<Kept>; DESK_LIMIT]
 }
 
 /// The highest desk that is in.
-pub(crate) fn highest(desks: u8, slots: &[Option<Kept>; DESK_LIMIT]) -> Option<u8>
+pub(crate) fn highest(desks: u8, slots: &[Option<DeskState>; DESK_LIMIT]) -> Option<u8>
     requires { desks ≤ desk_limit }
-    ensures { MatchOption result (NoneFrom 0 desks slots.now) (λ d. (d < desks) × ((k : Kept) × (slice_index_or slots.now d None ≡ Some k)) × NoneFrom (d + 1) desks slots.now) }
+    ensures { MatchOption result (NoneFrom 0 desks slots.now) (λ d. (d < desks) × ((k : DeskState) × (slice_index_or slots.now d None ≡ Some k)) × NoneFrom (d + 1) desks slots.now) }
 {
     let mut d = desks;
     'down: while d > 0 {
@@ -38,7 +39,7 @@ pub(crate) fn highest(desks: u8, slots: &[Option<Kept>; DESK_LIMIT]) -> Option<u
 }
 
 // The last store of a desk, by what is kept of it.
-fn last_store(desk: u8, slot: Option<Kept>) -> Option<Entry>
+fn last_store(desk: u8, slot: Option<DeskState>) -> Option<Entry>
     ensures { result ≡ kept_entry desk slot }
 {
     let kept = slot?;
@@ -55,7 +56,7 @@ fn last_store(desk: u8, slot: Option<Kept>) -> Option<Entry>
 /// The last store of each desk below `desks`.
 pub(crate) fn last_stores(
     desks: u8,
-    slots: &[Option<Kept>; DESK_LIMIT],
+    slots: &[Option<DeskState>; DESK_LIMIT],
 ) -> [Option<Entry>; DESK_LIMIT]
     requires { desks ≤ desk_limit }
     ensures { HasLast desks slots.now result × (length result ≡ desk_limit) }
@@ -68,7 +69,7 @@ pub(crate) fn last_stores(
 }
 
 /// Whether all desks are in.
-pub(crate) fn all_in(desks: u8, slots: &[Option<Kept>; DESK_LIMIT]) -> bool
+pub(crate) fn all_in(desks: u8, slots: &[Option<DeskState>; DESK_LIMIT]) -> bool
     requires { desks ≤ desk_limit }
     ensures { IsTrue result ↔ AllIn desks slots.now }
 {

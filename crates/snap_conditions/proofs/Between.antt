@@ -9,7 +9,7 @@ use Rattle.snap_core.specs.Entries.{entry_of, rises}
 use Rattle.snap_core.proofs.Rising.{rises_from, rises_at}
 use Rattle.snap_conditions.specs.Rows.{number_among}
 use Rattle.snap_core.specs.Entries.{number_in}
-use Rattle.snap_conditions.proofs.Entries.{listed_behind, nothing}
+use Rattle.snap_theory.proofs.Entries.{listed_behind, nothing}
 
 -- entries that do not list a component, in front of others or behind them, change nothing of what is found of it
 

@@ -9,20 +9,21 @@ use Rattle.std.proofs.lemmas.List.FromFn.{get_or-range_with_len, length-range_wi
 use Rattle.std.proofs.lemmas.List.Sorted.{All-permutation, Contains-permutation, IsPermutation-map}
 use Rattle.std.proofs.lemmas.Map.Keys.{IsDistinct-from_apart}
 use Rattle.snap_core.specs.declared.event.Event.{Event}
-use Rattle.snap_core.specs.Events.{IsKept}
+use Rattle.snap_core.specs.Events.{IsBoundedHistory}
 use Rattle.snap_core.specs.Calls.{Call, calls_of, views_of, shown_number, nobody}
 use Rattle.snap_core.specs.Regular.{IsViewOf}
 use Rattle.snap_core.proofs.Fits.{bytes_of_events}
 use Rattle.snap_core.proofs.Lists.{In-get_or, Contains-from_In}
-use Rattle.snap_conditions.specs.Faults.{exceeds}
+use Rattle.snap_theory.specs.Faults.{exceeds}
 use Rattle.snap_conditions.specs.Quick.{shown_sum, AreComparable}
-use Rattle.snap_conditions.specs.Chains.{AreViewSums, KeyLess, summed_at, summed_views, IsSummed, Climbs, IsChain}
+use Rattle.snap_conditions.specs.Chains.{AreViewSums, summed_at, summed_views, IsSummed, Climbs, IsChain}
+use Rattle.snap_theory.specs.KeyOrder.{KeyLess}
 use Rattle.snap_conditions.specs.Seen.{view_in}
-use Rattle.snap_conditions.proofs.Exceeding.{exceeds_not, not_exceeds}
+use Rattle.snap_theory.proofs.Exceeding.{exceeds_not, not_exceeds}
 use Rattle.snap_conditions.proofs.Quick.{smaller}
-use Rattle.snap_conditions.proofs.Reports.{byte_views}
+use Rattle.snap_theory.proofs.Components.{byte_views}
 use Rattle.snap_conditions.proofs.SortedKeys.{key_cmp, seconds, keys_rise}
-use Rattle.snap_conditions.proofs.Tallies.{from_views, in_views}
+use Rattle.snap_theory.proofs.FaultLists.{from_views, in_views}
 
 pub sum_in : (calls : List Call) (sums : List ℕ) (place : ℕ) (d : ℕ) → AreViewSums calls sums → place < length (views_of calls) → get_or sums place d ≡ shown_sum (view_in calls place)
 sum_in calls sums place d h l = ap (λ z. get_or z place d) h ∙ get_or-map shown_sum (views_of calls) place nobody d l
@@ -87,7 +88,7 @@ comparable_from calls keys p c r s v w x = order (stands_at calls keys p r v) (s
     ]
 
 -- of views of which this is so none shows a component above that of one with no smaller sum
-pub no_more_by_sum : (es : List Event) → IsKept es → AreComparable (calls_of es) → (r s : Call) → IsViewOf (calls_of es) r → IsViewOf (calls_of es) s → shown_sum r ≤ shown_sum s → exceeds r s ≡ false
+pub no_more_by_sum : (es : List Event) → IsBoundedHistory es → AreComparable (calls_of es) → (r s : Call) → IsViewOf (calls_of es) r → IsViewOf (calls_of es) s → shown_sum r ≤ shown_sum s → exceeds r s ≡ false
 no_more_by_sum es kept c r s v w l = false_from_ne_true (exceeds r s) (λ x.
     let less = smaller s r (byte_views es (bytes_of_events es kept.fit) r v.there) (c r s v w x) x in
     absurd (omega (arith, less, l)))
@@ -96,7 +97,7 @@ pub view_is : (calls : List Call) (place : ℕ) → place < length (views_of cal
 view_is calls place l = from_views calls (view_in calls place) (In-get_or (views_of calls) place nobody l)
 
 -- so that sorted views climb
-pub climbs_from : (es : List Event) → IsKept es → AreComparable (calls_of es) → (keys : List (ℕ × ℕ)) → All (IsSummed (calls_of es)) keys → AllPairs KeyLess keys → Climbs (calls_of es) keys (length keys)
+pub climbs_from : (es : List Event) → IsBoundedHistory es → AreComparable (calls_of es) → (keys : List (ℕ × ℕ)) → All (IsSummed (calls_of es)) keys → AllPairs KeyLess keys → Climbs (calls_of es) keys (length keys)
 climbs_from es kept c keys all sorted = record {
   each = λ i d l.
       let a = all i d (omega (arith, l)) in

@@ -9,21 +9,21 @@ use Rattle.std.proofs.lemmas.List.Sums.{sum_by-cons}
 use Rattle.snap_core.specs.declared.entry.Entry.{Entry}
 use Rattle.snap_core.specs.declared.event.Event.{Event}
 use Rattle.snap_core.specs.Entries.{AreEntries, number_in}
-use Rattle.snap_core.specs.Events.{IsKept}
+use Rattle.snap_core.specs.Events.{IsBoundedHistory}
 use Rattle.snap_core.specs.Calls.{Call, calls_of, entries_of, shown_number}
 use Rattle.snap_conditions.specs.Chains.{IsSummed, Climbs}
 use Rattle.snap_conditions.specs.Quick.{shown_sum}
 use Rattle.snap_conditions.specs.Seen.{view_in}
 use Rattle.snap_conditions.specs.Rows.{number_among, row_number, sum_below, AreNumbersOf}
 use Rattle.snap_conditions.proofs.Compared.{IsCompared, lesser_at, not_compared, compared_next, AreWhole, are_whole, less_there}
-use Rattle.snap_conditions.proofs.Entries.{nothing, sorted}
+use Rattle.snap_theory.proofs.Entries.{nothing, sorted}
 use Rattle.snap_conditions.proofs.Rows.{entry_at}
 use Rattle.snap_conditions.proofs.Sums.{sum_none, sum_more, sum_skip, sum_le, sum_less}
 use Rattle.snap_conditions.proofs.Chains.{view_is}
-use Rattle.snap_conditions.proofs.Exceeding.{exceeds_not, not_exceeds}
+use Rattle.snap_theory.proofs.Exceeding.{exceeds_not, not_exceeds}
 use Rattle.snap_conditions.proofs.Finds.{small}
 use Rattle.snap_conditions.proofs.Grids.{seen_number}
-use Rattle.snap_conditions.proofs.Reports.{fit_views}
+use Rattle.snap_theory.proofs.Components.{fit_views}
 
 -- a row of which the numbers of the entries before place i were taken in
 pub record IsTaken (old numbers : List ℕ) (ds : List Entry) (i lesser : ℕ) : Type 0 where
@@ -163,7 +163,7 @@ pub sum_taken : (r : Call) (numbers : List ℕ) (ds : List Entry) → ds ≡ ent
 sum_taken r numbers ds e h = shown_sum_of_row r numbers (λ k l. h k l ∙ seen_number r ds k e)
 
 -- where the row is below the next view, one more view climbs
-pub one_climbs : (es : List Event) → IsKept es → (keys : List (ℕ × ℕ)) → All (IsSummed (calls_of es)) keys → (n : ℕ) (numbers : List ℕ) (ds : List Entry) → n < length keys → IsRowOfLast (calls_of es) keys n numbers →
+pub one_climbs : (es : List Event) → IsBoundedHistory es → (keys : List (ℕ × ℕ)) → All (IsSummed (calls_of es)) keys → (n : ℕ) (numbers : List ℕ) (ds : List Entry) → n < length keys → IsRowOfLast (calls_of es) keys n numbers →
     ds ≡ entries_of (view_in (calls_of es) (get_or keys n (0, 0)).1).operation → ((k : ℕ) → k < 256 → row_number numbers k ≤ number_among ds k) → Climbs (calls_of es) keys n → Climbs (calls_of es) keys (n + 1)
 one_climbs es kept keys all n numbers ds l row e below c = record {
   each = λ i d m. elim (cases_eq (suc i) n) [

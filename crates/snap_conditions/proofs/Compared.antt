@@ -7,9 +7,9 @@ use Rattle.std.proofs.lemmas.List.Elements.{All-contains}
 use Rattle.snap_core.specs.declared.entry.Entry.{Entry}
 use Rattle.snap_core.specs.Entries.{entry_of, number_in, EntryFits, AreEntries}
 use Rattle.snap_core.proofs.Lists.{Contains-from_In, In-get_or}
-use Rattle.snap_index.proofs.BareCalls.{find_there}
+use Rattle.snap_core.proofs.Members.{In-find}
 use Rattle.snap_conditions.specs.Rows.{number_among, row_number, sum_below, IsLessSomewhere, AreSums}
-use Rattle.snap_conditions.proofs.Entries.{nothing, AreSorted, sorted, sorted_tail, unlisted_below, listed_behind, above}
+use Rattle.snap_theory.proofs.Entries.{nothing, AreSorted, sorted, sorted_tail, unlisted_below, listed_behind, above}
 use Rattle.snap_conditions.proofs.Rows.{entry_at}
 use Rattle.snap_conditions.proofs.Sums.{sum_none, sum_more, sum_skip, sum_le, sum_less, sum_some, sum_small}
 
@@ -30,7 +30,7 @@ is_listed ds h j l = go (entry_of j ds) refl l
     go : (o : Option Entry) → entry_of j ds ≡ o → 0 < number_in o → IsListed ds j
     go None e m = absurd (omega arith)
     go (Some d) e m =
-        let i = find_there (λ x. x.component == j) ds d e in
+        let i = In-find (λ x. x.component == j) ds d e in
         record { entry = d; fits = All-contains EntryFits ds d h.fit (Contains-from_In ds d i.0); component = eqb-true d.component j i.1; number = ap number_in e }
 
 pub number_small : (ds : List Entry) → AreEntries ds → (j : ℕ) → number_among ds j < 4294967296

@@ -8,7 +8,7 @@ use Rattle.std.proofs.lemmas.List.Sums.{sum_by-cons, length-filter}
 use Rattle.snap_core.specs.declared.event.Event.{Event}
 use Rattle.snap_core.specs.Calls.{Call, calls_of, views_of, nobody}
 use Rattle.snap_grid.specs.Columns.{GridValue, clashes, clash_count, has_clash, rows_of, drops, drop_count}
-use Rattle.snap_conditions.specs.Faults.{read_fault, read_faults, first_of, is_stale, stale_count}
+use Rattle.snap_theory.specs.Faults.{read_fault, read_faults, first_of, is_stale, stale_count}
 use Rattle.snap_conditions.specs.Seen.{view_in}
 use Rattle.snap_conditions.specs.Tally.{views_between}
 use Rattle.snap_conditions.specs.Grids.{IsGridOf, faults_at}

@@ -9,9 +9,9 @@ use Rattle.snap_core.specs.declared.entry.Entry.{Entry}
 use Rattle.snap_core.specs.Entries.{EntryFits, AreEntries, entry_of, number_in}
 use Rattle.snap_core.specs.Calls.{Call, entries_of, shown, shown_number}
 use Rattle.snap_core.proofs.Lists.{In, Contains-from_In}
-use Rattle.snap_conditions.specs.Faults.{components}
+use Rattle.snap_theory.specs.Faults.{components}
 use Rattle.snap_conditions.specs.Quick.{shown_sum, entry_sum}
-use Rattle.snap_conditions.proofs.Entries.{AreSorted, sorted, sorted_tail, above, unlisted}
+use Rattle.snap_theory.proofs.Entries.{AreSorted, sorted, sorted_tail, above, unlisted}
 
 sum_add : (f g : ℕ → ℕ) (xs : List ℕ) → sum_by (λ x. f x + g x) xs ≡ sum_by f xs + sum_by g xs
 sum_add f g [] = refl

@@ -8,7 +8,7 @@ use Rattle.snap_core.proofs.Lists.{In}
 use Rattle.snap_core.specs.declared.entry.Entry.{Entry}
 use Rattle.snap_core.specs.declared.event.Event.{Event}
 use Rattle.snap_core.specs.Entries.{AreEntries, value_in}
-use Rattle.snap_core.specs.Events.{IsKept}
+use Rattle.snap_core.specs.Events.{IsBoundedHistory}
 use Rattle.snap_core.specs.Calls.{Call, calls_of, entries_of, is_before, precedes, shown, shown_number}
 use Rattle.snap_core.proofs.Facts.{shown_number_at}
 use Rattle.snap_core.proofs.Histories.{are_calls}
@@ -17,17 +17,18 @@ use Rattle.snap_conditions.specs.declared.fault.ProximityFault.{ProximityFault}
 use Rattle.snap_conditions.specs.declared.fault.Side.{Side}
 use Rattle.snap_conditions.specs.declared.fault.Side.TheVariants.{Old, Early}
 use Rattle.snap_conditions.specs.Rows.{IsLessSomewhere, first_less}
-use Rattle.snap_conditions.specs.Faults.{integrity_fault, old_fault, early_fault, read_fault, write_fault, listed, missed_at, exceeds, least_exceeding}
+use Rattle.snap_theory.specs.Faults.{integrity_fault, old_fault, early_fault, read_fault, write_fault, listed, missed_at, exceeds, least_exceeding}
 use Rattle.snap_conditions.specs.Parts.{no_part, part_of, found_at}
-use Rattle.snap_conditions.specs.Places.{update_of, end_of, begin_of, begins_behind, begin_of_shown, is_written, IsNoLater}
+use Rattle.snap_conditions.specs.Places.{end_of, begin_of, begins_behind, begin_of_shown, is_written, IsNoLater}
+use Rattle.snap_theory.specs.Updates.{update_of}
 use Rattle.snap_conditions.specs.Tally.{reported_integrity, reported_proximity, reported_write}
-use Rattle.snap_conditions.proofs.Entries.{sorted, nothing}
+use Rattle.snap_theory.proofs.Entries.{sorted, nothing}
 use Rattle.snap_conditions.proofs.Compared.{is_listed}
-use Rattle.snap_conditions.proofs.Exceeding.{exceeds_from, exceeds_to}
+use Rattle.snap_theory.proofs.Exceeding.{exceeds_from, exceeds_to}
 use Rattle.snap_conditions.proofs.Leasts.{find_same}
 use Rattle.snap_conditions.proofs.Places.{integrity_by_update, old_by_place, early_by_place, write_by_place, behind_none}
 use Rattle.snap_conditions.proofs.OneView.{missed_part}
-use Rattle.snap_conditions.proofs.Tallies.{filter_none}
+use Rattle.snap_theory.proofs.FaultLists.{filter_none}
 use Rattle.snap_conditions.proofs.Rows.{entry_at, among_is_shown}
 
 -- what a view shows of a component that it lists
@@ -35,7 +36,7 @@ pub shown_at : (r : Call) (i : ℕ) (x : Entry) → AreEntries (entries_of r.ope
 unfolding shown
 shown_at r i x h l = entry_at (entries_of r.operation) i x (sorted (entries_of r.operation) h) l
 
-pub integrity_found : (es : List Event) → IsKept es → (r : Call) (e : Entry) → shown r e.component ≡ Some e →
+pub integrity_found : (es : List Event) → IsBoundedHistory es → (r : Call) (e : Entry) → shown r e.component ≡ Some e →
     found_at (λ k. reported_integrity (r, k)) (integrity_fault (calls_of es) r) e.component ≡ then_some (not (is_written (update_of (calls_of es) e.component e.number) e)) (record { view = r.number; entry = e })
 integrity_found es kept r e s =
     let E : ℕ → ℕ → Entry = λ n v. record { component = e.component; number = n; value = v } in
@@ -63,13 +64,13 @@ found_neither calls r k f g = ap (λ b. then_some (b || early_fault calls r k) (
 
 -- the tests by places of a view of which n is shown
 
-pub old_here : (es : List Event) → IsKept es → (r : Call) (k n : ℕ) → n ≡ shown_number r k → old_fault (calls_of es) r k ≡ is_before (end_of (update_of (calls_of es) k (suc n))) r.begun
+pub old_here : (es : List Event) → IsBoundedHistory es → (r : Call) (k n : ℕ) → n ≡ shown_number r k → old_fault (calls_of es) r k ≡ is_before (end_of (update_of (calls_of es) k (suc n))) r.begun
 old_here es kept r k n s = old_by_place (calls_of es) (are_calls es kept.history) r k ∙ ap (λ m. is_before (end_of (update_of (calls_of es) k (suc m))) r.begun) (sym s)
 
-pub early_here : (es : List Event) → IsKept es → (r : Call) (k n : ℕ) → n ≡ shown_number r k → early_fault (calls_of es) r k ≡ begins_behind r.ended (begin_of (update_of (calls_of es) k n))
+pub early_here : (es : List Event) → IsBoundedHistory es → (r : Call) (k n : ℕ) → n ≡ shown_number r k → early_fault (calls_of es) r k ≡ begins_behind r.ended (begin_of (update_of (calls_of es) k n))
 early_here es kept r k n s = early_by_place (calls_of es) (are_calls es kept.history) r k ∙ ap (λ m. begins_behind r.ended (begin_of (update_of (calls_of es) k m))) (sym s)
 
-pub neither_found : (es : List Event) → IsKept es → (r : Call) (k n : ℕ) → n ≡ shown_number r k → is_before (end_of (update_of (calls_of es) k (suc n))) r.begun ≡ false →
+pub neither_found : (es : List Event) → IsBoundedHistory es → (r : Call) (k n : ℕ) → n ≡ shown_number r k → is_before (end_of (update_of (calls_of es) k (suc n))) r.begun ≡ false →
     begins_behind r.ended (begin_of (update_of (calls_of es) k n)) ≡ false → proximity_at (calls_of es) r k ≡ None
 neither_found es kept r k n s f g = found_neither (calls_of es) r k (old_here es kept r k n s ∙ f) (early_here es kept r k n s ∙ g)
 
@@ -103,7 +104,7 @@ pub never : (o : Option ℕ) → begins_behind None o ≡ false
 never None = refl
 never (Some b) = refl
 
-pub none_missed : (es : List Event) → IsKept es → (r : Call) (j : ℕ) → end_of (update_of (calls_of es) j (suc (shown_number r j))) ≡ None → part_of reported_write (missed_at (calls_of es) r j) ≡ no_part
+pub none_missed : (es : List Event) → IsBoundedHistory es → (r : Call) (j : ℕ) → end_of (update_of (calls_of es) j (suc (shown_number r j))) ≡ None → part_of reported_write (missed_at (calls_of es) r j) ≡ no_part
 none_missed es kept r j none =
     let calls = calls_of es in
     let shown_begin : ℕ → Option ℕ = λ k. begin_of (update_of calls k (shown_number r k)) in
@@ -116,7 +117,7 @@ in_place (y ∷ ys) x d (inl e) = (0, omega arith, e)
 in_place (y ∷ ys) x d (inr h) = let r = in_place ys x d h in (suc r.0, omega (arith, r.1), r.2)
 
 -- where no update that the view shows begins behind the end of the update that it misses
-pub none_behind : (es : List Event) → IsKept es → (r : Call) (j : ℕ) (latest : Option ℕ) → AreEntries (entries_of r.operation) →
+pub none_behind : (es : List Event) → IsBoundedHistory es → (r : Call) (j : ℕ) (latest : Option ℕ) → AreEntries (entries_of r.operation) →
     ((i : ℕ) → i < length (entries_of r.operation) → IsNoLater (begin_of_shown (calls_of es) (entries_of r.operation) i) latest) →
     begins_behind (end_of (update_of (calls_of es) j (suc (shown_number r j)))) latest ≡ false → part_of reported_write (missed_at (calls_of es) r j) ≡ no_part
 none_behind es kept r j latest shape no_later none = missed_part calls r j ∙ ap (part_of (λ k. reported_write (r, j, k))) (filter_none (write_fault calls r j) (listed r) not)

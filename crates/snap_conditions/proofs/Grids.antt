@@ -6,21 +6,21 @@ use Rattle.std.proofs.lemmas.List.{length-append, get_or_append_left, get_or-app
 use Rattle.std.proofs.Math.Seq.{get_or-append_seam}
 use Rattle.snap_core.specs.declared.entry.Entry.{Entry}
 use Rattle.snap_core.specs.declared.event.Event.{Event}
-use Rattle.snap_core.specs.Events.{IsKept}
+use Rattle.snap_core.specs.Events.{IsBoundedHistory}
 use Rattle.snap_core.specs.Calls.{Call, calls_of, views_of, entries_of, shown_number, precedes}
-use Rattle.snap_grid.specs.Columns.{GridValue, number, clashes, any_passes, passes, drops}
+use Rattle.snap_grid.specs.Columns.{AreOrderedAs, GridValue, number, clashes, any_passes, passes, drops}
 use Rattle.snap_grid.proofs.Passing.{any_at}
-use Rattle.snap_conditions.specs.Faults.{exceeds, is_stale, read_fault}
+use Rattle.snap_theory.specs.Faults.{exceeds, is_stale, read_fault}
 use Rattle.snap_conditions.specs.Rows.{number_among}
 use Rattle.snap_conditions.specs.Seen.{view_in}
 use Rattle.snap_conditions.specs.Grids.{IsColumnOf, AreColumnsOf, ShowAll, ArePlaced, ArePlacesOf, IsGridOf}
 use Rattle.snap_conditions.specs.Places.{end_or_never}
 use Rattle.snap_core.proofs.Histories.{are_calls}
-use Rattle.snap_index.proofs.BareCalls.{precedes_at}
+use Rattle.snap_index.proofs.IndexedCalls.{precedes_at}
 use Rattle.snap_conditions.proofs.Viewed.{view_there}
-use Rattle.snap_conditions.proofs.Tallies.{from_views}
-use Rattle.snap_conditions.proofs.Reports.{fit_views}
-use Rattle.snap_conditions.proofs.Exceeding.{exceeds_to, exceeds_from}
+use Rattle.snap_theory.proofs.FaultLists.{from_views}
+use Rattle.snap_theory.proofs.Components.{fit_views}
+use Rattle.snap_theory.proofs.Exceeding.{exceeds_to, exceeds_from}
 use Rattle.snap_conditions.proofs.Finds.{small}
 use Rattle.std.specs.List.{list_any}
 use Rattle.snap_conditions.proofs.Rows.{among_is_shown}
@@ -31,7 +31,7 @@ seen_number r es k e = ap (λ z. number_among z k) e ∙ among_is_shown r k
 
 -- places where views begin and end
 
-pub placed : (es : List Event) → IsKept es → (n : ℕ) (begins ends : List ℕ) → length (views_of (calls_of es)) ≡ n → ArePlaced (calls_of es) n begins ends → ArePlacesOf (calls_of es) n begins ends
+pub placed : (es : List Event) → IsBoundedHistory es → (n : ℕ) (begins ends : List ℕ) → length (views_of (calls_of es)) ≡ n → ArePlaced (calls_of es) n begins ends → ArePlacesOf (calls_of es) n begins ends
 placed es kept n begins ends size h = record {
   begun = h.begun;
   ended = h.ended;
@@ -109,7 +109,7 @@ any_index p (x ∷ xs) h = at (p x) refl (any_index p xs)
     at true t rest = (0, omega arith, t)
     at false t rest = let r = rest (sym (ap (λ b. b || list_any p xs) t) ∙ h) in (suc r.0, omega (arith, r.1), r.2)
 
-pub show_all : (es : List Event) → IsKept es → (columns : List (List ℕ)) → AreColumnsOf (calls_of es) 0 256 columns → ShowAll (calls_of es) columns
+pub show_all : (es : List Event) → IsBoundedHistory es → (columns : List (List ℕ)) → AreColumnsOf (calls_of es) 0 256 columns → ShowAll (calls_of es) columns
 unfolding any_passes
 show_all es kept columns c = record {
   count = λ j m. (c.each j m).3.count;
@@ -134,13 +134,36 @@ show_all es kept columns c = record {
         let k = c.each j.0 j.1 in
         exceeds_from (view_in calls a) (view_in calls b) k.0 (omega (arith, ltb-true _ _ j.2, k.3.each a m, k.3.each b n))
 
+-- columns in which rows compare as they do in these show the same
+same_passes : (columns keys : List (List ℕ)) (n a b : ℕ) → ((j : ℕ) → j < length columns → length (get_or columns j []) ≡ n) → AreOrderedAs columns keys → a < n → b < n → any_passes true columns a b ≡ any_passes true keys a b
+unfolding any_passes
+same_passes columns keys n a b rows h l m = bool_same (any_passes true columns a b) (any_passes true keys a b) to from
+  where
+    to : any_passes true columns a b ≡ true → any_passes true keys a b ≡ true
+    to p =
+        let j = any_index (λ column. passes true (number column a) (number column b)) columns p in
+        let t = h.all j.0 j.1 in
+        any_at true keys t.0 a b t.1 (t.2.order b a (omega (arith, m, rows j.0 j.1)) (omega (arith, l, rows j.0 j.1)) ∙ j.2)
+
+    from : any_passes true keys a b ≡ true → any_passes true columns a b ≡ true
+    from p =
+        let t = any_index (λ column. passes true (number column a) (number column b)) keys p in
+        let j = h.each t.0 t.1 in
+        any_at true columns j.0 a b j.1 (sym (j.2.order b a (omega (arith, m, rows j.0 j.1)) (omega (arith, l, rows j.0 j.1))) ∙ t.2)
+
+pub show_keys : (calls : List Call) (columns keys : List (List ℕ)) → ShowAll calls columns → AreOrderedAs columns keys → ShowAll calls keys
+show_keys calls columns keys shown h = record {
+  count = λ t m. let j = h.each t m in j.2.count ∙ shown.count j.0 j.1;
+  exceed = λ a b l m. shown.exceed a b l m ∙ same_passes columns keys (length (views_of calls)) a b shown.count h l m;
+}
+
 -- the grid of columns and places
 
 pub any_less : (columns : List (List ℕ)) (a b : ℕ) → any_passes false columns a b ≡ any_passes true columns b a
 unfolding any_passes
 any_less columns a b = refl
 
-pub is_grid : (es : List Event) → IsKept es → (g : GridValue) (columns : List (List ℕ)) (begins ends : List ℕ) → g ≡ record { columns = columns; begins = begins; ends = ends } → ShowAll (calls_of es) columns →
+pub is_grid : (es : List Event) → IsBoundedHistory es → (g : GridValue) (columns : List (List ℕ)) (begins ends : List ℕ) → g ≡ record { columns = columns; begins = begins; ends = ends } → ShowAll (calls_of es) columns →
     ArePlacesOf (calls_of es) (length (views_of (calls_of es))) begins ends → IsGridOf es g
 unfolding clashes drops is_stale read_fault
 is_grid es kept g columns begins ends e shown places = subst (IsGridOf es) (sym e) (record {

@@ -1,13 +1,7 @@
-pub mod Exceeding
-pub mod Entries
 pub mod Leasts
 pub mod Finds
 pub mod SeenPairs
-pub mod Local
-pub mod Tallies
 pub mod Viewed
-pub mod Reports
-pub mod Laws
 pub mod Parts
 pub mod OneView
 pub mod Rows
@@ -30,7 +24,6 @@ pub mod Climbing
 pub mod Ordering
 mod Worked
 mod Surrounded
-pub mod Rising
 mod Between
 pub mod NumberTables
 pub mod Faultless

@@ -12,20 +12,20 @@ use Rattle.std.proofs.lemmas.List.FromFn.{get_or-range_with_len}
 use Rattle.snap_core.specs.declared.entry.Entry.{Entry}
 use Rattle.snap_core.specs.declared.event.Event.{Event}
 use Rattle.snap_core.specs.Entries.{AreEntries, EntryFits}
-use Rattle.snap_core.specs.Events.{IsKept}
+use Rattle.snap_core.specs.Events.{IsBoundedHistory}
 use Rattle.snap_core.specs.Calls.{Call, calls_of, views_of, entries_of, shown}
 use Rattle.snap_core.proofs.Facts.{ShowsEntry, shown_in}
 use Rattle.snap_core.proofs.Histories.{are_calls}
 use Rattle.snap_core.proofs.Lists.{In, Contains-from_In}
-use Rattle.snap_conditions.specs.Faults.{integrity_fault, write_fault, integrity_faults, missed_at, components, listed}
+use Rattle.snap_theory.specs.Faults.{integrity_fault, write_fault, integrity_faults, missed_at, components, listed}
 use Rattle.snap_conditions.specs.Parts.{part_of, merged_part, noted, found_at}
 use Rattle.snap_conditions.specs.PartValue.{PartValue}
 use Rattle.snap_conditions.specs.Tally.{reported_integrity, reported_write}
-use Rattle.snap_conditions.proofs.Entries.{AreSorted, sorted, sorted_tail, above}
+use Rattle.snap_theory.proofs.Entries.{AreSorted, sorted, sorted_tail, above}
 use Rattle.snap_conditions.proofs.OneView.{integrity_alone, missed_part}
 use Rattle.snap_conditions.proofs.Parts.{next_noted, merge_step}
-use Rattle.snap_conditions.proofs.Reports.{fit_views}
-use Rattle.snap_conditions.proofs.Tallies.{from_views, nothing_unwritten, write_shows}
+use Rattle.snap_theory.proofs.Components.{fit_views}
+use Rattle.snap_theory.proofs.FaultLists.{from_views, nothing_unwritten, write_shows}
 
 -- the components are the numbers below 256
 component_at : (k : ℕ) → k < 256 → get_or components k 0 ≡ k
@@ -119,14 +119,14 @@ integrity_shows calls r k t = go (shown r k) refl
     go (Some e) s = record { entry = e; is = s }
 
 -- the parts of one view, by all components
-pub integrity_by_components : (es : List Event) → IsKept es → (r : Call) → In r (views_of (calls_of es)) →
+pub integrity_by_components : (es : List Event) → IsBoundedHistory es → (r : Call) → In r (views_of (calls_of es)) →
     part_of reported_integrity (integrity_faults (calls_of es) (r ∷ [])) ≡ part_of (λ k. reported_integrity (r, k)) (filter (integrity_fault (calls_of es) r) components)
 integrity_by_components es kept r i =
     let calls = calls_of es in
     let shape = fit_views es kept.fit r (from_views calls r i).there in
     integrity_alone calls r ∙ ap (part_of (λ k. reported_integrity (r, k))) (listed_all r (integrity_fault calls r) shape (integrity_shows calls r))
 
-pub missed_by_components : (es : List Event) → IsKept es → (r : Call) → In r (views_of (calls_of es)) → (j : ℕ) →
+pub missed_by_components : (es : List Event) → IsBoundedHistory es → (r : Call) → In r (views_of (calls_of es)) → (j : ℕ) →
     part_of reported_write (missed_at (calls_of es) r j) ≡ part_of (λ k. reported_write (r, j, k)) (filter (write_fault (calls_of es) r j) components)
 missed_by_components es kept r i j =
     let calls = calls_of es in

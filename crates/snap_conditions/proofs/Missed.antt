@@ -7,24 +7,25 @@ use Rattle.std.proofs.lemmas.List.Sums.{sum_by-cons}
 use Rattle.snap_core.specs.declared.entry.Entry.{Entry}
 use Rattle.snap_core.specs.declared.event.Event.{Event}
 use Rattle.snap_core.specs.Entries.{AreEntries}
-use Rattle.snap_core.specs.Events.{IsKept}
+use Rattle.snap_core.specs.Events.{IsBoundedHistory}
 use Rattle.snap_core.specs.Calls.{Call, calls_of, entries_of, shown_number}
 use Rattle.snap_core.proofs.Facts.{shown_number_at}
 use Rattle.snap_core.proofs.Histories.{are_calls}
 use Rattle.snap_conditions.specs.declared.fault.WriteFault.{WriteFault}
-use Rattle.snap_conditions.specs.Faults.{write_fault, listed, first_of, missed_at}
+use Rattle.snap_theory.specs.Faults.{write_fault, listed, first_of, missed_at}
 use Rattle.snap_conditions.specs.Parts.{part_of, no_part}
 use Rattle.snap_conditions.specs.PartValue.{PartValue}
 use Rattle.snap_conditions.proofs.OneView.{missed_part}
 use Rattle.snap_conditions.proofs.Parts.{part_is}
-use Rattle.snap_conditions.specs.Places.{update_of, end_of, begin_of, begins_behind, begin_of_shown, begin_or_0}
+use Rattle.snap_conditions.specs.Places.{end_of, begin_of, begins_behind, begin_of_shown, begin_or_0}
+use Rattle.snap_theory.specs.Updates.{update_of}
 use Rattle.snap_conditions.specs.Tally.{reported_write}
-use Rattle.snap_conditions.proofs.Entries.{nothing}
+use Rattle.snap_theory.proofs.Entries.{nothing}
 use Rattle.snap_conditions.proofs.Finds.{shown_at}
 use Rattle.snap_conditions.proofs.Places.{write_by_place, behind_begin}
 
 -- the test of one entry
-pub test_at : (es : List Event) → IsKept es → (r : Call) (j ended : ℕ) (begins : List ℕ) → AreEntries (entries_of r.operation) → end_of (update_of (calls_of es) j (suc (shown_number r j))) ≡ Some ended →
+pub test_at : (es : List Event) → IsBoundedHistory es → (r : Call) (j ended : ℕ) (begins : List ℕ) → AreEntries (entries_of r.operation) → end_of (update_of (calls_of es) j (suc (shown_number r j))) ≡ Some ended →
     (i : ℕ) → i < length (entries_of r.operation) → get_or begins i 0 ≡ begin_or_0 (begin_of_shown (calls_of es) (entries_of r.operation) i) → write_fault (calls_of es) r j (get_or (listed r) i 0) ≡ nat_lt ended (get_or begins i 0)
 test_at es kept r j ended begins shape e i l b =
     let calls = calls_of es in
@@ -85,7 +86,7 @@ pub record AreTested (calls : List Call) (r : Call) (j ended : ℕ) (begins : Li
   pub size : length (listed r) ≡ length begins
   pub test : (i : ℕ) → i < length (listed r) → write_fault calls r j (get_or (listed r) i 0) ≡ nat_lt ended (get_or begins i 0)
 
-pub are_tested : (es : List Event) → IsKept es → (r : Call) (j ended : ℕ) (entries : List Entry) (begins : List ℕ) → entries ≡ entries_of r.operation → AreEntries (entries_of r.operation) → end_of (update_of (calls_of es) j (suc (shown_number r j))) ≡ Some ended →
+pub are_tested : (es : List Event) → IsBoundedHistory es → (r : Call) (j ended : ℕ) (entries : List Entry) (begins : List ℕ) → entries ≡ entries_of r.operation → AreEntries (entries_of r.operation) → end_of (update_of (calls_of es) j (suc (shown_number r j))) ≡ Some ended →
     length begins ≡ length entries → ((i : ℕ) → i < length entries → get_or begins i 0 ≡ begin_or_0 (begin_of_shown (calls_of es) entries i)) → AreTested (calls_of es) r j ended begins
 are_tested es kept r j ended entries begins same shape e n h = record {
   size = omega (arith, long, n, ap length same);

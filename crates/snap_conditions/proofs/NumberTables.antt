@@ -10,7 +10,7 @@ use Rattle.snap_core.specs.Calls.{Call, views_of, shown_number, entries_of}
 use Rattle.snap_conditions.specs.NumberTables.{opened, HasRows, IsPut, AreFilled, IsRowOf}
 use Rattle.snap_conditions.specs.Seen.{view_in}
 use Rattle.snap_conditions.specs.Rows.{number_among}
-use Rattle.snap_conditions.proofs.Entries.{AreSorted, nothing}
+use Rattle.snap_theory.proofs.Entries.{AreSorted, nothing}
 use Rattle.snap_conditions.proofs.Rows.{among_more, among_is_shown}
 
 pub opened_length : (count : ℕ) (row : List ℕ) → (row ≡ []) ⊎ (length row ≡ count) → length (opened count row) ≡ count

@@ -9,7 +9,7 @@ use Rattle.std.proofs.lemmas.Grind.{flat_map-append}
 use Rattle.snap_core.proofs.Lists.{In}
 use Rattle.snap_conditions.specs.PartValue.{PartValue}
 use Rattle.snap_conditions.specs.Parts.{no_part, part_of, merged_part, noted, found_at}
-use Rattle.snap_conditions.specs.Faults.{first_of}
+use Rattle.snap_theory.specs.Faults.{first_of}
 
 pub part_is : {F : Type 0} (p q : PartValue F) → p.count ≡ q.count → p.first ≡ q.first → p ≡ q
 part_is {F} p q m n =

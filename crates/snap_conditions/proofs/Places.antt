@@ -7,9 +7,10 @@ use Rattle.snap_core.specs.declared.entry.Entry.{Entry}
 use Rattle.snap_core.specs.Calls.{Call, Operation, Updates, Views, is_update_numbered, writes_number, precedes, is_before, shown, shown_number}
 use Rattle.snap_core.proofs.Lists.{In, any_to}
 use Rattle.snap_core.proofs.Facts.{AreCalls}
-use Rattle.snap_conditions.specs.Faults.{writes_entry, is_unwritten, integrity_fault, old_fault, early_fault, write_fault}
-use Rattle.snap_conditions.specs.Places.{update_of, end_of, begin_of, begins_behind, begin_or_0, is_written, IsNoLater}
-use Rattle.snap_conditions.proofs.Local.{numbered_to}
+use Rattle.snap_theory.specs.Faults.{writes_entry, is_unwritten, integrity_fault, old_fault, early_fault, write_fault}
+use Rattle.snap_conditions.specs.Places.{end_of, begin_of, begins_behind, begin_or_0, is_written, IsNoLater}
+use Rattle.snap_theory.specs.Updates.{update_of}
+use Rattle.snap_theory.proofs.Local.{numbered_to}
 
 abbrev holds_of : {X : Type 0} → (X → Bool) → Option X → Bool
 holds_of q None = false

@@ -8,11 +8,11 @@ use Rattle.snap_core.specs.Entries.{HasByteComponent}
 use Rattle.snap_core.specs.Calls.{Call, calls_of, precedes, shown_number, entries_of}
 use Rattle.snap_core.proofs.Lists.{In, Contains-from_In}
 use Rattle.snap_core.proofs.Facts.{shown_in, shows_positive}
-use Rattle.snap_conditions.specs.Faults.{components, exceeds, read_fault}
+use Rattle.snap_theory.specs.Faults.{components, exceeds, read_fault}
 use Rattle.snap_conditions.specs.Quick.{shown_sum, NoReadFaultExactly}
-use Rattle.snap_conditions.proofs.Exceeding.{exceeds_to, exceeds_not}
-use Rattle.snap_conditions.proofs.Reports.{byte_views}
-use Rattle.snap_conditions.proofs.Tallies.{in_range, read_from, read_none}
+use Rattle.snap_theory.proofs.Exceeding.{exceeds_to, exceeds_not}
+use Rattle.snap_theory.proofs.Components.{byte_views}
+use Rattle.snap_theory.proofs.FaultLists.{in_range, read_from, read_none}
 
 sum_lt : (f g : ℕ → ℕ) (xs : List ℕ) → ((x : ℕ) → f x ≤ g x) → (y : ℕ) → In y xs → f y < g y → sum_by f xs < sum_by g xs
 sum_lt f g [] le y i l = absurd i

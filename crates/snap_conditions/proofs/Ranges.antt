@@ -9,21 +9,21 @@ use Rattle.std.proofs.lemmas.Bool.{and_parts, ltb-true}
 use Rattle.snap_core.specs.declared.entry.Entry.{Entry}
 use Rattle.snap_core.specs.declared.event.Event.{Event}
 use Rattle.snap_core.specs.Entries.{HasByteComponent, rises}
-use Rattle.snap_core.specs.Events.{IsKept, event_limit}
+use Rattle.snap_core.specs.Events.{IsBoundedHistory, event_limit}
 use Rattle.snap_core.specs.declared.event.Event.TheVariants.{BeginUpdate, BeginView, EndUpdate, EndView}
 use Rattle.snap_core.specs.Calls.{Call, calls_of, calls_from, is_view, entries_of, views_of, nobody}
 use Rattle.snap_core.proofs.Lists.{In}
 use Rattle.snap_conditions.specs.declared.tally.Tally.{Tally}
 use Rattle.snap_conditions.specs.Parts.{part_of, merged_part}
 use Rattle.snap_conditions.specs.PartValue.{PartValue}
-use Rattle.snap_conditions.specs.Faults.{integrity_fault, old_fault, early_fault, read_fault, write_fault, components, listed, integrity_faults, proximity_faults, read_faults, write_faults, stale_count, missed_at, HasNoLocalFault}
+use Rattle.snap_theory.specs.Faults.{integrity_fault, old_fault, early_fault, read_fault, write_fault, components, listed, integrity_faults, proximity_faults, read_faults, write_faults, stale_count, missed_at, HasNoLocalFault}
 use Rattle.snap_conditions.specs.Tally.{tally_of, reported_integrity, reported_proximity, reported_read, reported_write, merged, no_fault, views_between, SumsFit, CountsNoLocalFault}
 use Rattle.snap_conditions.specs.Laws.{TalliesJoin, TalliesFit, RegularByTally, ConditionsByTally, NoFaultByTally}
-use Rattle.snap_conditions.proofs.Laws.{regular_exactly, conditions_exactly}
+use Rattle.snap_theory.proofs.FaultLaws.{regular_exactly, conditions_exactly}
 use Rattle.snap_conditions.proofs.Parts.{part-append, filter_short, flat_map_short}
-use Rattle.snap_conditions.proofs.Reports.{faults_join, fit_views}
-use Rattle.snap_conditions.proofs.StaleViews.{stale_few}
-use Rattle.snap_conditions.proofs.Tallies.{from_views}
+use Rattle.snap_theory.proofs.Components.{faults_join, fit_views}
+use Rattle.snap_theory.proofs.StaleViews.{stale_few}
+use Rattle.snap_theory.proofs.FaultLists.{from_views}
 
 pub tally_is : (t u : Tally) → t.integrity ≡ u.integrity → t.proximity ≡ u.proximity → t.read ≡ u.read → t.write ≡ u.write → t.stale ≡ u.stale → t ≡ u
 tally_is t u i p r w s =
@@ -108,12 +108,12 @@ pub record IsSmall (n : ℕ) (t : Tally) : Type 0 where
   pub write : t.write.count ≤ n * 65536
   pub stale : t.stale ≤ n * 65536
 
-pub few_listed : (es : List Event) → IsKept es → (r : Call) → In r (views_of (calls_of es)) → length (listed r) ≤ 256
+pub few_listed : (es : List Event) → IsBoundedHistory es → (r : Call) → In r (views_of (calls_of es)) → length (listed r) ≤ 256
 few_listed es k r i =
     let f = fit_views es k.fit r (from_views (calls_of es) r i).there in
     omega (arith, length-map (entries_of r.operation) (λ e. e.component), rising_few (entries_of r.operation) f.rising (λ j d l. (f.fit j d l).0))
 
-pub few_views : (es : List Event) → IsKept es → length (views_of (calls_of es)) ≤ event_limit
+pub few_views : (es : List Event) → IsBoundedHistory es → length (views_of (calls_of es)) ≤ event_limit
 unfolding views_of calls_of
 few_views es k = omega (arith, filter_short is_view (calls_of es), few_calls 0 0 es, k.short)
   where
@@ -124,7 +124,7 @@ few_views es k = omega (arith, filter_short is_view (calls_of es), few_calls 0 0
     few_calls n place (EndUpdate p ∷ es) = omega (arith, few_calls n (suc place) es)
     few_calls n place (EndView p s ∷ es) = omega (arith, few_calls n (suc place) es)
 
-pub tally_small : (es : List Event) → IsKept es → (rs : List Call) → Within rs (views_of (calls_of es)) → IsSmall (length rs) (tally_of (calls_of es) rs)
+pub tally_small : (es : List Event) → IsBoundedHistory es → (rs : List Call) → Within rs (views_of (calls_of es)) → IsSmall (length rs) (tally_of (calls_of es) rs)
 unfolding tally_of integrity_faults proximity_faults read_faults write_faults
 tally_small es k rs w = record {
   integrity = flat_map_short _ 65536 rs (λ r i. omega (arith, length-map {B = Call × ℕ} (filter (integrity_fault calls r) (listed r)) (λ k. (r, k)), filter_short (integrity_fault calls r) (listed r), few_listed es k r (w r i)));
@@ -171,7 +171,7 @@ pub record RangeGrows (more range one : Tally) : Type 0 where
   pub write : Grows more.write range.write one.write
   pub stale : CountGrows more.stale range.stale one.stale
 
-pub range_grows : (es : List Event) → IsKept es → (from place : ℕ) → from ≤ place → place < length (views_of (calls_of es)) →
+pub range_grows : (es : List Event) → IsBoundedHistory es → (from place : ℕ) → from ≤ place → place < length (views_of (calls_of es)) →
     RangeGrows (tally_of (calls_of es) (views_between (calls_of es) from (place + 1))) (tally_of (calls_of es) (views_between (calls_of es) from place)) (tally_of (calls_of es) (get_or (views_of (calls_of es)) place nobody ∷ []))
 range_grows es k from place l m =
     let calls = calls_of es in

@@ -10,7 +10,7 @@ use Rattle.snap_core.specs.Entries.{entry_of, number_in}
 use Rattle.snap_core.specs.Calls.{Call, entries_of, shown, shown_number}
 use Rattle.snap_core.proofs.Lists.{In, In-get_or}
 use Rattle.snap_conditions.specs.Rows.{number_among}
-use Rattle.snap_conditions.proofs.Entries.{AreSorted, sorted_tail, above, unlisted, listed_first, listed_behind}
+use Rattle.snap_theory.proofs.Entries.{AreSorted, sorted_tail, above, unlisted, listed_first, listed_behind}
 
 -- entries in front of one have lower components
 in_front : (es : List Entry) (i : ℕ) (x d : Entry) → AreSorted es → i < length es → In d (take i es) → d.component < (get_or es i x).component

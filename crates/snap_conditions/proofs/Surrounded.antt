@@ -6,27 +6,28 @@ use Rattle.std.proofs.lemmas.Bool.{le-ltb, ltb-false, or_from, cases_lt, eq-eqb,
 use Rattle.snap_core.specs.declared.event.Event.{Event}
 use Rattle.snap_core.specs.declared.entry.Entry.{Entry}
 use Rattle.snap_core.specs.Entries.{AreEntries, EntryFits}
-use Rattle.snap_core.specs.Events.{IsKept}
+use Rattle.snap_core.specs.Events.{IsBoundedHistory}
 use Rattle.snap_core.specs.Calls.{Call, calls_of, entries_of, is_before, shown, shown_number}
 use Rattle.snap_core.proofs.Facts.{shown_number_at}
 use Rattle.snap_core.proofs.Histories.{are_calls}
 use Rattle.snap_core.proofs.Lists.{In}
-use Rattle.snap_index.specs.Bare.{value_written}
+use Rattle.snap_index.specs.IndexedCalls.{value_written}
 use Rattle.snap_index.proofs.Known.{update_found}
-use Rattle.snap_conditions.specs.declared.around.Around.{Around}
-use Rattle.snap_conditions.specs.Around.{AreAround, IsAround, begin_shown, end_next}
-use Rattle.snap_conditions.specs.Faults.{components, old_fault, early_fault, proximity_faults, write_faults, missed_at, writes_entry}
+use Rattle.snap_conditions.specs.declared.shown_and_next.ShownAndNext.{ShownAndNext}
+use Rattle.snap_conditions.specs.ShownAndNext.{IsOfEntries, IsOfView, begin_shown, end_next}
+use Rattle.snap_theory.specs.Faults.{components, old_fault, early_fault, proximity_faults, write_faults, missed_at, writes_entry}
 use Rattle.snap_conditions.specs.Parts.{no_part, part_of}
 use Rattle.snap_conditions.specs.PartValue.{PartValue}
-use Rattle.snap_conditions.specs.Places.{update_of, value_of, end_of, begin_of, begin_of_shown, is_written, value_or_none, begin_or_0, end_or_never, IsNoLater}
+use Rattle.snap_conditions.specs.Places.{value_of, end_of, begin_of, begin_of_shown, is_written, value_or_none, begin_or_0, end_or_never, IsNoLater}
+use Rattle.snap_theory.specs.Updates.{update_of}
 use Rattle.snap_conditions.specs.Rows.{number_among}
 use Rattle.snap_conditions.specs.Tally.{reported_proximity, reported_write}
-use Rattle.snap_conditions.proofs.Entries.{nothing}
+use Rattle.snap_theory.proofs.Entries.{nothing}
 use Rattle.snap_conditions.proofs.Finds.{shown_at, none_behind}
 use Rattle.snap_conditions.proofs.OneView.{proximity_alone, write_alone}
 use Rattle.snap_conditions.proofs.Places.{old_by_place, early_by_place, behind_begin}
 use Rattle.snap_conditions.proofs.Rows.{among_is_shown}
-use Rattle.snap_conditions.proofs.Tallies.{filter_none, flat_map_none}
+use Rattle.snap_theory.proofs.FaultLists.{filter_none, flat_map_none}
 use Rattle.snap_conditions.proofs.Viewed.{no_update_past}
 
 -- an end by the number that stands for it
@@ -40,7 +41,7 @@ some_end None x e l = absurd (omega (arith, e, l))
 some_end (Some p) x e l = ap Some (sym e)
 
 -- an update that ended has a number that fits its type
-pub number_fits : (es : List Event) → IsKept es → (j n ended : ℕ) → end_of (update_of (calls_of es) j n) ≡ Some ended → n < 4294967296
+pub number_fits : (es : List Event) → IsBoundedHistory es → (j n ended : ℕ) → end_of (update_of (calls_of es) j n) ≡ Some ended → n < 4294967296
 number_fits es kept j n ended e = elim (cases_lt n 4294967296) [
   | inl l ↦ l
   | inr l ↦ absurd (let gone : None ≡ Some ended = sym (ap end_of (no_update_past es kept j n (omega (arith, l)))) ∙ e in cc)
@@ -48,8 +49,8 @@ number_fits es kept j n ended e = elim (cases_lt n 4294967296) [
 
 -- where the updates stand around the view that was looked at last
 
-pub around_seen : (calls : List Call) (r : Call) (around : Around) → AreAround calls around → around.entries.now ≡ entries_of r.operation → IsAround calls r around
-around_seen calls r around a same = record {
+pub around_seen : (calls : List Call) (r : Call) (updates : ShownAndNext) → IsOfEntries calls updates → updates.entries.now ≡ entries_of r.operation → IsOfView calls r updates
+around_seen calls r updates a same = record {
   numbers = numbers;
   values = λ k l. a.values k l ∙ ap (λ n. value_or_none (value_of (update_of calls k n))) (numbers k l);
   begins = begins;
@@ -58,23 +59,23 @@ around_seen calls r around a same = record {
   earliest = λ k l. omega (arith, a.earliest k l, ends k l);
 }
   where
-    numbers : (k : ℕ) → k < 256 → get_or around.numbers k 0 ≡ shown_number r k
+    numbers : (k : ℕ) → k < 256 → get_or updates.numbers k 0 ≡ shown_number r k
     numbers k l = a.numbers k l ∙ ap (λ es. number_among es k) same ∙ among_is_shown r k
 
-    begins : (k : ℕ) → k < 256 → get_or around.begins k 0 ≡ begin_shown calls r k
+    begins : (k : ℕ) → k < 256 → get_or updates.begins k 0 ≡ begin_shown calls r k
     begins k l = a.begins k l ∙ ap (λ n. begin_or_0 (begin_of (update_of calls k n))) (numbers k l)
 
-    ends : (k : ℕ) → k < 256 → get_or around.ends k 0 ≡ end_next calls r k
+    ends : (k : ℕ) → k < 256 → get_or updates.ends k 0 ≡ end_next calls r k
     ends k l = a.ends k l ∙ ap (λ n. end_or_never (end_of (update_of calls k (suc n)))) (numbers k l)
 
 -- the tests of a view alone
 
-pub old_around : (es : List Event) → IsKept es → (r : Call) (around : Around) (k : ℕ) → IsAround (calls_of es) r around → k < 256 → r.begun ≤ 4294967295 → old_fault (calls_of es) r k ≡ nat_lt (get_or around.ends k 0) r.begun
-old_around es kept r around k a l fits =
+pub old_around : (es : List Event) → IsBoundedHistory es → (r : Call) (updates : ShownAndNext) (k : ℕ) → IsOfView (calls_of es) r updates → k < 256 → r.begun ≤ 4294967295 → old_fault (calls_of es) r k ≡ nat_lt (get_or updates.ends k 0) r.begun
+old_around es kept r updates k a l fits =
     old_by_place (calls_of es) (are_calls es kept.history) r k ∙ before_end (end_of (update_of (calls_of es) k (suc (shown_number r k)))) r.begun fits ∙ ap (λ z. nat_lt z r.begun) (sym (a.ends k l))
 
-pub early_around : (es : List Event) → IsKept es → (r : Call) (around : Around) (k : ℕ) → IsAround (calls_of es) r around → k < 256 → early_fault (calls_of es) r k ≡ is_before r.ended (get_or around.begins k 0)
-early_around es kept r around k a l =
+pub early_around : (es : List Event) → IsBoundedHistory es → (r : Call) (updates : ShownAndNext) (k : ℕ) → IsOfView (calls_of es) r updates → k < 256 → early_fault (calls_of es) r k ≡ is_before r.ended (get_or updates.begins k 0)
+early_around es kept r updates k a l =
     early_by_place (calls_of es) (are_calls es kept.history) r k ∙ behind_begin r.ended (begin_of (update_of (calls_of es) k (shown_number r k))) ∙ ap (is_before r.ended) (sym (a.begins k l))
 
 below : (n a k : ℕ) → In k (range_with_len a n) → k < a + n
@@ -88,9 +89,9 @@ not_behind None x y l f = refl
 not_behind (Some p) x y l f = le-ltb p x (omega (arith, l, ltb-false p y f))
 
 -- a view that begins before all ends and ends behind all begins
-pub none_near : (es : List Event) → IsKept es → (r : Call) (around : Around) → IsAround (calls_of es) r around → r.begun ≤ 4294967295 → r.begun ≤ around.earliest → is_before r.ended around.latest ≡ false →
+pub none_near : (es : List Event) → IsBoundedHistory es → (r : Call) (updates : ShownAndNext) → IsOfView (calls_of es) r updates → r.begun ≤ 4294967295 → r.begun ≤ updates.earliest → is_before r.ended updates.latest ≡ false →
     part_of (reported_proximity (calls_of es)) (proximity_faults (calls_of es) (r ∷ [])) ≡ no_part
-none_near es kept r around a fits l f = proximity_alone calls r ∙ ap (part_of (λ k. reported_proximity calls (r, k))) (filter_none (λ k. old_fault calls r k || early_fault calls r k) components not)
+none_near es kept r updates a fits l f = proximity_alone calls r ∙ ap (part_of (λ k. reported_proximity calls (r, k))) (filter_none (λ k. old_fault calls r k || early_fault calls r k) components not)
   where
     calls : List Call
     calls = calls_of es
@@ -98,14 +99,14 @@ none_near es kept r around a fits l f = proximity_alone calls r ∙ ap (part_of 
     not : (k : ℕ) → In k components → (old_fault calls r k || early_fault calls r k) ≡ false
     not k i =
         let m : k < 256 = omega (arith, below 256 0 k i) in
-        or_from _ _ (old_around es kept r around k a m fits ∙ le-ltb (get_or around.ends k 0) r.begun (omega (arith, l, a.earliest k m, a.ends k m)))
-        (early_around es kept r around k a m ∙ not_behind r.ended (get_or around.begins k 0) around.latest (omega (arith, a.latest k m, a.begins k m)) f)
+        or_from _ _ (old_around es kept r updates k a m fits ∙ le-ltb (get_or updates.ends k 0) r.begun (omega (arith, l, a.earliest k m, a.ends k m)))
+        (early_around es kept r updates k a m ∙ not_behind r.ended (get_or updates.begins k 0) updates.latest (omega (arith, a.latest k m, a.begins k m)) f)
 
 -- where the updates that a view shows begin, entry by entry
 
-pub begin_at : (calls : List Call) (r : Call) (around : Around) (i : ℕ) → IsAround calls r around → AreEntries (entries_of r.operation) → i < length (entries_of r.operation) → (get_or (entries_of r.operation) i nothing).component < 256 →
-    get_or around.begins (get_or (entries_of r.operation) i nothing).component 0 ≡ begin_or_0 (begin_of_shown calls (entries_of r.operation) i)
-begin_at calls r around i a shape l byte =
+pub begin_at : (calls : List Call) (r : Call) (updates : ShownAndNext) (i : ℕ) → IsOfView calls r updates → AreEntries (entries_of r.operation) → i < length (entries_of r.operation) → (get_or (entries_of r.operation) i nothing).component < 256 →
+    get_or updates.begins (get_or (entries_of r.operation) i nothing).component 0 ≡ begin_or_0 (begin_of_shown calls (entries_of r.operation) i)
+begin_at calls r updates i a shape l byte =
     let e = get_or (entries_of r.operation) i nothing in
     a.begins e.component byte ∙ ap (λ n. begin_or_0 (begin_of (update_of calls e.component n))) (shown_number_at r e.component e (shown_at r i nothing shape l))
 
@@ -114,34 +115,34 @@ no_later None latest h = tt
 no_later (Some begun) latest h = h
 
 -- where an update that a view misses ends behind all begins
-pub none_missed_at : (es : List Event) → IsKept es → (r : Call) (around : Around) (j : ℕ) → IsAround (calls_of es) r around → AreEntries (entries_of r.operation) → around.latest ≤ 4294967295 → around.latest ≤ end_next (calls_of es) r j →
+pub none_missed_at : (es : List Event) → IsBoundedHistory es → (r : Call) (updates : ShownAndNext) (j : ℕ) → IsOfView (calls_of es) r updates → AreEntries (entries_of r.operation) → updates.latest ≤ 4294967295 → updates.latest ≤ end_next (calls_of es) r j →
     part_of reported_write (missed_at (calls_of es) r j) ≡ no_part
-none_missed_at es kept r around j a shape fits l =
-    none_behind es kept r j (Some around.latest) shape (λ i m. no_later _ around.latest (latest i m)) (before_end (end_of (update_of calls j (suc (shown_number r j)))) around.latest fits ∙ le-ltb (end_next calls r j) around.latest l)
+none_missed_at es kept r updates j a shape fits l =
+    none_behind es kept r j (Some updates.latest) shape (λ i m. no_later _ updates.latest (latest i m)) (before_end (end_of (update_of calls j (suc (shown_number r j)))) updates.latest fits ∙ le-ltb (end_next calls r j) updates.latest l)
   where
     calls : List Call
     calls = calls_of es
 
-    latest : (i : ℕ) → i < length (entries_of r.operation) → begin_or_0 (begin_of_shown calls (entries_of r.operation) i) ≤ around.latest
+    latest : (i : ℕ) → i < length (entries_of r.operation) → begin_or_0 (begin_of_shown calls (entries_of r.operation) i) ≤ updates.latest
     latest i m =
         let e = get_or (entries_of r.operation) i nothing in
         let byte = (shape.fit i nothing m).0 in
-        omega (arith, a.latest e.component byte, a.begins e.component byte, begin_at calls r around i a shape m byte)
+        omega (arith, a.latest e.component byte, a.begins e.component byte, begin_at calls r updates i a shape m byte)
 
 empty : {X F : Type 0} (f : X → F) (xs : List X) → part_of f xs ≡ no_part → xs ≡ []
 empty f [] h = refl
 empty {X} {F} f (x ∷ xs) h = absurd (omega (arith, ap (λ (p : PartValue F). p.count) h))
 
-pub none_missed_around : (es : List Event) → IsKept es → (r : Call) (around : Around) → IsAround (calls_of es) r around → AreEntries (entries_of r.operation) → around.latest ≤ 4294967295 → around.latest ≤ around.earliest →
+pub none_missed_around : (es : List Event) → IsBoundedHistory es → (r : Call) (updates : ShownAndNext) → IsOfView (calls_of es) r updates → AreEntries (entries_of r.operation) → updates.latest ≤ 4294967295 → updates.latest ≤ updates.earliest →
     part_of reported_write (write_faults (calls_of es) (r ∷ [])) ≡ no_part
-none_missed_around es kept r around a shape fits l =
+none_missed_around es kept r updates a shape fits l =
     let calls = calls_of es in
     write_alone calls r
-    ∙ ap (part_of reported_write) (flat_map_none (missed_at calls r) components (λ j i. empty reported_write (missed_at calls r j) (none_missed_at es kept r around j a shape fits (omega (arith, l, a.earliest j (omega (arith, below 256 0 j i)))))))
+    ∙ ap (part_of reported_write) (flat_map_none (missed_at calls r) components (λ j i. empty reported_write (missed_at calls r j) (none_missed_at es kept r updates j a shape fits (omega (arith, l, a.earliest j (omega (arith, below 256 0 j i)))))))
 
 -- an entry of a view, by the value of the update that it shows
 
-written_of : (es : List Event) → IsKept es → (e : Entry) → EntryFits e → (o : Option Call) → update_of (calls_of es) e.component e.number ≡ o → is_written o e ≡ (value_or_none (value_of o) == e.value)
+written_of : (es : List Event) → IsBoundedHistory es → (e : Entry) → EntryFits e → (o : Option Call) → update_of (calls_of es) e.component e.number ≡ o → is_written o e ≡ (value_or_none (value_of o) == e.value)
 written_of es kept e fits None is = sym (ne_eqb 4294967296 e.value (λ same. omega (arith, same, fits.2)))
 written_of es kept e fits (Some c) is =
     let u = update_found es e.component e.number c is in
@@ -150,9 +151,9 @@ written_of es kept e fits (Some c) is =
     ∙ ap (λ b. b && (u.entry.value == e.value)) (eq-eqb _ _ u.number)
     ∙ ap (λ v. v == e.value) (sym (ap value_written u.update.writes))
 
-pub written_around : (es : List Event) → IsKept es → (r : Call) (around : Around) (e : Entry) → IsAround (calls_of es) r around → shown r e.component ≡ Some e → EntryFits e →
-    is_written (update_of (calls_of es) e.component e.number) e ≡ (get_or around.values e.component 0 == e.value)
-written_around es kept r around e a is fits =
+pub written_around : (es : List Event) → IsBoundedHistory es → (r : Call) (updates : ShownAndNext) (e : Entry) → IsOfView (calls_of es) r updates → shown r e.component ≡ Some e → EntryFits e →
+    is_written (update_of (calls_of es) e.component e.number) e ≡ (get_or updates.values e.component 0 == e.value)
+written_around es kept r updates e a is fits =
     let calls = calls_of es in
     written_of es kept e fits (update_of calls e.component e.number) refl
     ∙ ap (λ n. value_or_none (value_of (update_of calls e.component n)) == e.value) (sym (shown_number_at r e.component e is))

@@ -9,20 +9,20 @@ use Rattle.snap_core.specs.declared.entry.Entry.{Entry}
 use Rattle.snap_core.specs.declared.event.Event.{Event}
 use Rattle.snap_core.specs.declared.event.Event.TheVariants.{BeginUpdate, BeginView, EndUpdate, EndView}
 use Rattle.snap_core.specs.Entries.{EntryFits}
-use Rattle.snap_core.specs.Events.{EventFits, IsKept}
+use Rattle.snap_core.specs.Events.{EventFits, IsBoundedHistory}
 use Rattle.snap_core.specs.Calls.{Call, Updates, calls_of, views_of, is_update_numbered, nobody}
 use Rattle.snap_core.specs.Regular.{IsUpdateOf}
 use Rattle.snap_core.proofs.Lists.{In, In-get_or}
 use Rattle.snap_core.proofs.Begun.{Begun, operation_at}
 use Rattle.snap_core.proofs.Histories.{begun_of, in_history, numbered_calls}
-use Rattle.snap_conditions.specs.Places.{update_of}
+use Rattle.snap_theory.specs.Updates.{update_of}
 use Rattle.snap_conditions.specs.Seen.{view_in}
 use Rattle.std.specs.Prelude.{count_by}
 use Rattle.std.proofs.lemmas.Bool.{cases_eq}
 use Rattle.snap_index.specs.Updates.{is_update_of}
 use Rattle.snap_index.proofs.Known.{no_update_0, update_beyond}
-use Rattle.snap_conditions.proofs.Local.{numbered_to}
-use Rattle.snap_conditions.proofs.Tallies.{from_views}
+use Rattle.snap_theory.proofs.Local.{numbered_to}
+use Rattle.snap_theory.proofs.FaultLists.{from_views}
 
 -- the place of a call is its number
 pub call_at_number : (es : List Event) (c : Call) → Contains (calls_of es) c → slice_get (calls_of es) c.number ≡ Some c
@@ -59,14 +59,14 @@ find_none p [] h = refl
 find_none p (x ∷ xs) h = ap (λ b. cond b (Some x) (find p xs)) (h x (inl refl)) ∙ find_none p xs (λ y i. h y (inr i))
 
 -- no update has a number past the largest of its type
-pub no_update_past : (es : List Event) → IsKept es → (k n : ℕ) → 4294967296 ≤ n → update_of (calls_of es) k n ≡ None
+pub no_update_past : (es : List Event) → IsBoundedHistory es → (k n : ℕ) → 4294967296 ≤ n → update_of (calls_of es) k n ≡ None
 no_update_past es kept k n l = find_none (is_update_numbered k n) (calls_of es) (λ c i. false_from_ne_true _ (λ t.
     let x = numbered_to (calls_of es) k n c i t in
     let f = update_fits es kept.fit c x.entry x.update in
     omega (arith, f.1, x.number, l)))
 
 -- a component without an update
-pub none_of_none : (es : List Event) → IsKept es → (k n : ℕ) → count_by (is_update_of k) (calls_of es) ≡ 0 → update_of (calls_of es) k n ≡ None
+pub none_of_none : (es : List Event) → IsBoundedHistory es → (k n : ℕ) → count_by (is_update_of k) (calls_of es) ≡ 0 → update_of (calls_of es) k n ≡ None
 none_of_none es kept k n z = elim (cases_eq n 0) [
   | inl same ↦ ap (update_of (calls_of es) k) same ∙ no_update_0 es kept.history k
   | inr other ↦ update_beyond es kept.history k n (omega (arith, z, other))

@@ -2,11 +2,11 @@
 use Rattle.std.specs.Prelude.{ℕ, List, [], ◌∷◌, ◌≡◌, Some, refl, length}
 use Rattle.snap_core.specs.declared.event.Event.{Event}
 use Rattle.snap_core.specs.Calls.{calls_of, precedes, is_view, shown, shown_number, is_update_numbered, views_of}
-use Rattle.snap_conditions.specs.Faults.{exceeds, integrity_fault, old_fault, early_fault, read_fault, write_fault, integrity_faults, proximity_faults, read_faults, write_faults, is_stale, stale_count}
+use Rattle.snap_theory.specs.Faults.{exceeds, integrity_fault, old_fault, early_fault, read_fault, write_fault, integrity_faults, proximity_faults, read_faults, write_faults, is_stale, stale_count}
 use Rattle.snap_conditions.specs.declared.tally.Tally.{Tally}
 use Rattle.snap_conditions.specs.declared.fault.Side.TheVariants.{Old}
 use Rattle.snap_conditions.specs.Tally.{tally_of, no_fault, views_between}
-use Rattle.snap_conditions.specs.Faults.{least_exceeding}
+use Rattle.snap_theory.specs.Faults.{least_exceeding}
 use Rattle.snap_core.proofs.Worked as worked
 
 -- how many integrity, proximity, read and write faults, and how many stale views

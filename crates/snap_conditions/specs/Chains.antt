@@ -1,9 +1,10 @@
 -- The completed views by the sums of what they show.
-use Rattle.std.specs.Prelude.{ℕ, suc, false, List, map, length, get_or, ◌≡◌, ◌<◌, ◌⊎◌, AllPairs}
+use Rattle.std.specs.Prelude.{ℕ, suc, false, List, map, length, get_or, ◌≡◌, ◌<◌, AllPairs}
 use Rattle.std.specs.List.{range_with_len}
 use Rattle.std.specs.List.Sorted.{IsPermutation}
 use Rattle.snap_core.specs.Calls.{Call, views_of}
-use Rattle.snap_conditions.specs.Faults.{exceeds}
+use Rattle.snap_theory.specs.Faults.{exceeds}
+use Rattle.snap_theory.specs.KeyOrder.{KeyLess}
 use Rattle.snap_conditions.specs.Quick.{shown_sum}
 use Rattle.snap_conditions.specs.Seen.{view_in}
 use Rattle.snap_conditions.specs.declared.view_chain.ViewChain.{ViewChain}
@@ -11,10 +12,6 @@ use Rattle.snap_conditions.specs.declared.view_chain.ViewChain.{ViewChain}
 -- the sum of each completed view, by call number
 abbrev pub AreViewSums : List Call → List ℕ → Type 0
 AreViewSums calls sums = sums ≡ map shown_sum (views_of calls)
-
--- by the first numbers, and where they are the same by the second
-abbrev pub KeyLess : ℕ × ℕ → ℕ × ℕ → Type 0
-KeyLess a b = (a.0 < b.0) ⊎ ((a.0 ≡ b.0) × (a.1 < b.1))
 
 -- the sum of the completed view at a place, and the place
 abbrev pub summed_at : List Call → ℕ → ℕ × ℕ

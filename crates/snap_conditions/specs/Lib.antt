@@ -1,6 +1,4 @@
 pub mod Grids
-pub mod Conditions
-pub mod Faults
 pub mod Laws
 pub mod PartValue
 pub mod Parts
@@ -9,9 +7,8 @@ pub mod Quick
 pub mod Rows
 pub mod Seen
 pub mod Tally
-pub mod Around
+pub mod ShownAndNext
 pub mod Limits
 pub mod Chains
 pub mod Sweeps
-pub mod Rising
 pub mod NumberTables

@@ -3,7 +3,7 @@ use Rattle.std.specs.Prelude.{Bool, ◌+◌, List, Option, Some, None, length, o
 use Rattle.std.specs.Bool.{then_some}
 use Rattle.std.specs.Option.{option_or}
 use Rattle.snap_conditions.specs.PartValue.{PartValue}
-use Rattle.snap_conditions.specs.Faults.{first_of}
+use Rattle.snap_theory.specs.Faults.{first_of}
 
 abbrev pub no_part : {F : Type 0} → PartValue F
 no_part = record { count = 0; first = None }

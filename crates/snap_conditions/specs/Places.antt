@@ -1,13 +1,10 @@
 -- Where updates begin and end, and the tests of faults by these places.
-use Rattle.std.specs.Prelude.{ℕ, ◌≤◌, ⊤, Bool, false, List, Option, Some, None, find, get_or, unwrap_or}
+use Rattle.std.specs.Prelude.{ℕ, ◌≤◌, ⊤, Bool, false, List, Option, Some, None, get_or, unwrap_or}
 use Rattle.snap_core.specs.declared.entry.Entry.{Entry}
-use Rattle.snap_core.specs.Calls.{Call, is_update_numbered, is_before}
-use Rattle.snap_index.specs.Bare.{value_written}
-use Rattle.snap_conditions.specs.Faults.{writes_entry}
-
--- update n of component k, if there is one
-abbrev pub update_of : List Call → ℕ → ℕ → Option Call
-update_of calls k n = find (is_update_numbered k n) calls
+use Rattle.snap_core.specs.Calls.{Call, is_before}
+use Rattle.snap_index.specs.IndexedCalls.{value_written}
+use Rattle.snap_theory.specs.Faults.{writes_entry}
+use Rattle.snap_theory.specs.Updates.{update_of}
 
 -- where a call ended, if there is one and it did
 abbrev pub end_of : Option Call → Option ℕ

@@ -6,7 +6,7 @@ use Rattle.snap_core.specs.declared.event.Event.{Event}
 use Rattle.snap_core.specs.Events.{HasByteComponents}
 use Rattle.snap_core.specs.Calls.{Call, calls_of, views_of, precedes, shown_number}
 use Rattle.snap_core.specs.Regular.{IsViewOf}
-use Rattle.snap_conditions.specs.Faults.{components, exceeds, read_faults}
+use Rattle.snap_theory.specs.Faults.{components, exceeds, read_faults}
 
 -- the sum of the numbers that a view shows
 unfoldable pub shown_sum : Call → ℕ

@@ -2,7 +2,7 @@
 use Rattle.std.specs.Prelude.{ℕ, zero, suc, ◌+◌, ◌≡◌, ◌<◌, nat_lt, List, Option, find, get_or}
 use Rattle.snap_core.specs.declared.entry.Entry.{Entry}
 use Rattle.snap_core.specs.Entries.{component_count, entry_of, number_in}
-use Rattle.snap_conditions.specs.Faults.{components}
+use Rattle.snap_theory.specs.Faults.{components}
 
 -- the number that entries show of a component, 0 where they list none
 abbrev pub number_among : List Entry → ℕ → ℕ

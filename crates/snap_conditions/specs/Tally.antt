@@ -11,7 +11,7 @@ use Rattle.snap_conditions.specs.declared.fault.ReadFault.{ReadFault}
 use Rattle.snap_conditions.specs.declared.fault.WriteFault.{WriteFault}
 use Rattle.snap_conditions.specs.declared.fault.Side.TheVariants.{Old, Early}
 use Rattle.snap_conditions.specs.declared.tally.Tally.{Tally}
-use Rattle.snap_conditions.specs.Faults.{integrity_faults, proximity_faults, read_faults, write_faults, stale_count, old_fault, least_exceeding}
+use Rattle.snap_theory.specs.Faults.{integrity_faults, proximity_faults, read_faults, write_faults, stale_count, old_fault, least_exceeding}
 use Rattle.snap_conditions.specs.Parts.{no_part, part_of, merged_part}
 
 -- what a view shows of a component, number and value 0 where it shows nothing

@@ -2,7 +2,7 @@
 ghost use Rattle.std.specs.Prelude.{◌≡◌, ◌<◌, ◌≤◌, ℕ, true, length, All, IfOk};
 ghost use Rattle.snap_core.specs.Calls.{calls_of, views_of};
 ghost use Rattle.snap_core.specs.Entries.{AreEntries, EntryFits, component_count, rises};
-ghost use Rattle.snap_core.specs.Events.{IsKept};
+ghost use Rattle.snap_core.specs.Events.{IsBoundedHistory};
 ghost use Rattle.snap_conditions.specs.Grids.{AreColumnsOf};
 ghost use Rattle.snap_conditions.specs.NumberTables.{AreFilled};
 ghost use Rattle.snap_conditions.specs.Rows.{number_among};
@@ -34,7 +34,7 @@ fn numbers_between(
     from: usize,
     to: usize,
 ) -> Result<NumberTable, AllocError>
-    requires kept { IsKept index.now }
+    requires kept { IsBoundedHistory index.now }
     requires order { from ≤ to }
     ensures { IfOk result (λ table. AreFilled (calls_of index.now) from to (length (views_of (calls_of index.now))) table) }
 {

@@ -1,7 +1,6 @@
-//! The faults of the four conditions, their tally over a range of views, and what they say of regular histories.
+//! The tally of the faults of a history over a range of views, and what it says of the history.
 #![tactic(auto)]
 
-mod around;
 mod columns;
 mod fault;
 mod integrity;
@@ -14,6 +13,7 @@ mod range;
 mod read;
 mod row;
 mod seen;
+mod shown_and_next;
 mod stale;
 mod sweep;
 mod tally;
@@ -25,9 +25,7 @@ mod write;
 pub use columns::columns_between;
 pub use fault::{IntegrityFault, ProximityFault, ReadFault, Side, WriteFault};
 pub use law::{
-    conditions_by_faults, conditions_by_tally, faults_join, faults_rise, monotone_by_tally,
-    monotone_without_read_fault, no_read_fault_by_sums, regular_by_local_faults, regular_by_tally,
-    tallies_join, updates_are_alone,
+    conditions_by_tally, monotone_by_tally, no_read_fault_by_sums, regular_by_tally, tallies_join,
 };
 pub use part::Part;
 pub use quick_test::{entries_sum, view_sum, view_sums};

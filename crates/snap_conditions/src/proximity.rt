@@ -1,37 +1,37 @@
 ghost use Rattle.std.specs.Prelude.{◌≡◌, ◌<◌, ◌∷◌, [], ◌||◌, List, length};
 ghost use Rattle.snap_core.specs.Calls.{Call as SpecCall, calls_of, views_of};
-ghost use Rattle.snap_core.specs.Events.{IsKept};
+ghost use Rattle.snap_core.specs.Events.{IsBoundedHistory};
 ghost use Rattle.snap_core.specs.declared.event.Event.{Event};
-ghost use Rattle.snap_conditions.specs.Around.{IsAround};
-ghost use Rattle.snap_conditions.specs.Faults.{proximity_faults, old_fault, early_fault};
+ghost use Rattle.snap_conditions.specs.ShownAndNext.{IsOfView};
+ghost use Rattle.snap_theory.specs.Faults.{proximity_faults, old_fault, early_fault};
 ghost use Rattle.snap_conditions.specs.Limits.{IsLimit};
 ghost use Rattle.snap_conditions.specs.Parts.{part_of, found_at};
 ghost use Rattle.snap_conditions.specs.Seen.{IsSeen, view_in};
 ghost use Rattle.snap_conditions.specs.Tally.{reported_proximity};
 
-use crate::around::Around;
 use crate::fault::{ProximityFault, Side};
 use crate::part::Part;
 use crate::seen::{SeenView, is_before};
+use crate::shown_and_next::ShownAndNext;
 use snap_index::Index;
 
 // The proximity fault of a view at component k.
-fn proximity_fault(view: &SeenView<'_>, around: &Around<'_>, k: u8) -> Option<ProximityFault>
-    ensures { (es : List Event) (r : SpecCall) → IsKept es → IsSeen r view.now → IsAround (calls_of es) r around.now → result
+fn proximity_fault(view: &SeenView<'_>, updates: &ShownAndNext<'_>, k: u8) -> Option<ProximityFault>
+    ensures { (es : List Event) (r : SpecCall) → IsBoundedHistory es → IsSeen r view.now → IsOfView (calls_of es) r updates.now → result
         ≡ found_at (λ k. reported_proximity (calls_of es) (r, k)) (λ k. old_fault (calls_of es) r k || early_fault (calls_of es) r k) k }
 {
     let place = k as usize;
-    let side = if around.ends[place] < view.call.begun {
+    let side = if updates.ends[place] < view.call.begun {
         Side::Old
-    } else if is_before(view.call.ended, around.begins[place]) {
+    } else if is_before(view.call.ended, updates.begins[place]) {
         Side::Early
     } else {
         return None;
     };
     Some(ProximityFault {
-        view: view.number,
+        view: view.call_number,
         component: k,
-        number: around.numbers[place],
+        number: updates.numbers[place],
         side,
     })
 }
@@ -41,23 +41,23 @@ pub(crate) fn proximity_part(
     index: &Index<'_>,
     place: u32,
     view: &SeenView<'_>,
-    around: &Around<'_>,
+    updates: &ShownAndNext<'_>,
     limit: usize,
 ) -> Part<ProximityFault>
     requires limit { IsLimit (calls_of index.now) limit }
     requires view { IsSeen (view_in (calls_of index.now) place) view.now }
-    requires around { IsAround (calls_of index.now) (view_in (calls_of index.now) place) around.now }
+    requires updates { IsOfView (calls_of index.now) (view_in (calls_of index.now) place) updates.now }
     requires place { place < length (views_of (calls_of index.now)) }
-    requires kept { IsKept index.now }
+    requires kept { IsBoundedHistory index.now }
     ensures { result ≡ part_of (reported_proximity (calls_of index.now)) (proximity_faults (calls_of index.now) (view_in (calls_of index.now) place ∷ [])) }
 {
     let mut part = Part::none();
     // most views have none
-    if view.call.begun <= around.earliest && !is_before(view.call.ended, around.latest) {
+    if view.call.begun <= updates.earliest && !is_before(view.call.ended, updates.latest) {
         return part;
     }
     for k in 0..limit {
-        part = part.note(proximity_fault(view, around, k as u8));
+        part = part.note(proximity_fault(view, updates, k as u8));
     }
     part
 }

@@ -1,17 +1,17 @@
 ghost use Rattle.std.specs.Prelude.{◌≡◌, ◌<◌, ◌≤◌, ◌-◌, ◌∷◌, [], length, take, drop};
 ghost use Rattle.snap_core.specs.Calls.{calls_of, views_of};
-ghost use Rattle.snap_core.specs.Events.{IsKept};
-ghost use Rattle.snap_conditions.specs.Around.{AreAround};
+ghost use Rattle.snap_core.specs.Events.{IsBoundedHistory};
+ghost use Rattle.snap_conditions.specs.ShownAndNext.{IsOfEntries};
 ghost use Rattle.snap_conditions.specs.Limits.{IsLimit};
 ghost use Rattle.snap_conditions.specs.Seen.{view_in};
 ghost use Rattle.snap_conditions.specs.Tally.{tally_of, without_read};
 
-use crate::around::Around;
 use crate::integrity::integrity_part;
 use crate::part::Part;
 use crate::proximity::proximity_part;
 use crate::read::read_part;
 use crate::seen::view_at;
+use crate::shown_and_next::ShownAndNext;
 use crate::stale::stale_beside;
 use crate::tally::{Tally, merge};
 use crate::write::write_part;
@@ -29,36 +29,41 @@ fn view_without_read<'i>(
     index: &'i Index<'_>,
     place: u32,
     limit: usize,
-    around: &mut Around<'i>,
+    updates: &mut ShownAndNext<'i>,
 ) -> Tally
-    requires before { AreAround (calls_of index.now) around.old }
+    requires before { IsOfEntries (calls_of index.now) updates.old }
     requires limit { IsLimit (calls_of index.now) limit }
     requires place { place < length (views_of (calls_of index.now)) }
-    requires kept { IsKept index.now }
-    ensures numbers { AreAround (calls_of index.now) around.new }
+    requires kept { IsBoundedHistory index.now }
+    ensures numbers { IsOfEntries (calls_of index.now) updates.new }
     ensures tally { result ≡ without_read (tally_of (calls_of index.now) (view_in (calls_of index.now) place ∷ [])) }
 {
     let view = view_at(index, place);
-    around.look(index, &view, limit);
+    updates.look(index, &view, limit);
     Tally {
-        integrity: integrity_part(index, place, &view, around),
-        proximity: proximity_part(index, place, &view, around, limit),
+        integrity: integrity_part(index, place, &view, updates),
+        proximity: proximity_part(index, place, &view, updates, limit),
         read: Part::none(),
-        write: write_part(index, place, &view, around, limit),
+        write: write_part(index, place, &view, updates, limit),
         stale: 0,
     }
 }
 
 // The faults of the view at a place, where no component from a limit on has an update.
-fn view_tally<'i>(index: &'i Index<'_>, place: u32, limit: usize, around: &mut Around<'i>) -> Tally
-    requires before { AreAround (calls_of index.now) around.old }
+fn view_tally<'i>(
+    index: &'i Index<'_>,
+    place: u32,
+    limit: usize,
+    updates: &mut ShownAndNext<'i>,
+) -> Tally
+    requires before { IsOfEntries (calls_of index.now) updates.old }
     requires limit { IsLimit (calls_of index.now) limit }
     requires place { place < length (views_of (calls_of index.now)) }
-    requires kept { IsKept index.now }
-    ensures numbers { AreAround (calls_of index.now) around.new }
+    requires kept { IsBoundedHistory index.now }
+    ensures numbers { IsOfEntries (calls_of index.now) updates.new }
     ensures tally { result ≡ tally_of (calls_of index.now) (view_in (calls_of index.now) place ∷ []) }
 {
-    let others = view_without_read(index, place, limit, around);
+    let others = view_without_read(index, place, limit, updates);
     let read = read_part(index, place);
     Tally {
         integrity: others.integrity,
@@ -79,10 +84,10 @@ pub fn tally_range(index: &Index<'_>, from: u32, to: u32) -> Tally
     // what is known of the history that the index is of
     let _events = index.event_count();
     let limit = component_limit(index);
-    let mut around = Around::new(index, limit);
+    let mut updates = ShownAndNext::new(index, limit);
     let mut tally = Tally::none();
     for place in from..to {
-        tally = merge(tally, view_tally(index, place, limit, &mut around));
+        tally = merge(tally, view_tally(index, place, limit, &mut updates));
     }
     tally
 }
@@ -97,10 +102,10 @@ pub fn tally_without_read(index: &Index<'_>, from: u32, to: u32) -> Tally
     // what is known of the history that the index is of
     let _events = index.event_count();
     let limit = component_limit(index);
-    let mut around = Around::new(index, limit);
+    let mut updates = ShownAndNext::new(index, limit);
     let mut tally = Tally::none();
     for place in from..to {
-        tally = merge(tally, view_without_read(index, place, limit, &mut around));
+        tally = merge(tally, view_without_read(index, place, limit, &mut updates));
     }
     tally
 }

@@ -1,9 +1,9 @@
 ghost use Rattle.std.specs.Prelude.{◌≡◌, ◌<◌, ◌∷◌, [], ◌+◌, ◌^◌, Some, IfSome, length, option_map};
 ghost use Rattle.snap_core.specs.Calls.{Call as SpecCall, calls_of, views_of};
 ghost use Rattle.snap_core.specs.Entries.{AreEntries};
-ghost use Rattle.snap_core.specs.Events.{IsKept};
+ghost use Rattle.snap_core.specs.Events.{IsBoundedHistory};
 ghost use Rattle.snap_conditions.specs.Rows.{AreNumbersOf};
-ghost use Rattle.snap_conditions.specs.Faults.{read_faults, read_fault, first_of};
+ghost use Rattle.snap_theory.specs.Faults.{read_faults, read_fault, first_of};
 ghost use Rattle.snap_conditions.specs.Grids.{faults_at};
 ghost use Rattle.snap_conditions.specs.Parts.{noted, part_of};
 ghost use Rattle.snap_conditions.specs.Seen.{IsSeen, view_in};
@@ -42,8 +42,8 @@ fn note_fault(
     let first = match part.first() {
         Some(first) => first,
         None => ReadFault {
-            view: view.number,
-            other: other.number,
+            view: view.call_number,
+            other: other.call_number,
             component: row.first_excess(other.entries).unwrap_or(0),
         },
     };
@@ -53,7 +53,7 @@ fn note_fault(
 // The read faults whose first view is the one at a place.
 pub(crate) fn read_part(index: &Index<'_>, place: u32) -> Part<ReadFault>
     requires place { place < length (views_of (calls_of index.now)) }
-    requires kept { IsKept index.now }
+    requires kept { IsBoundedHistory index.now }
     ensures { result ≡ part_of reported_read (read_faults (calls_of index.now) (view_in (calls_of index.now) place ∷ [])) }
 {
     let view = view_at(index, place);
@@ -77,7 +77,7 @@ pub(crate) fn first_read_fault(
     requires place { place < length (views_of (calls_of index.now)) }
     requires within { IfSome other (λ other. other < length (views_of (calls_of index.now))) }
     requires first { option_map (view_in (calls_of index.now)) other ≡ first_of (faults_at (calls_of index.now) place) }
-    requires kept { IsKept index.now }
+    requires kept { IsBoundedHistory index.now }
     ensures { result ≡ option_map reported_read (first_of (read_faults (calls_of index.now) (view_in (calls_of index.now) place ∷ []))) }
 {
     let other = view_at(index, other? as u32);

@@ -1,7 +1,8 @@
 ghost use Rattle.std.specs.Prelude.{◌<◌, ◌≡◌, suc, length};
-ghost use Rattle.snap_core.specs.Events.{IsKept};
+ghost use Rattle.snap_core.specs.Events.{IsBoundedHistory};
 ghost use Rattle.snap_core.specs.Calls.{calls_of, views_of, is_before as spec_is_before};
-ghost use Rattle.snap_conditions.specs.Places.{update_of, value_of, end_of, begin_of};
+ghost use Rattle.snap_conditions.specs.Places.{value_of, end_of, begin_of};
+ghost use Rattle.snap_theory.specs.Updates.{update_of};
 ghost use Rattle.snap_conditions.specs.Seen.{IsSeen, view_in};
 
 use snap_core::Entry;
@@ -10,7 +11,7 @@ use snap_index::{Call, Index};
 // A completed view of an index.
 #[derive(Clone, Copy)]
 pub(crate) struct SeenView<'i> {
-    pub(crate) number: u32,
+    pub(crate) call_number: u32,
     pub(crate) call: Call,
     pub(crate) entries: &'i [Entry],
 }
@@ -20,17 +21,17 @@ pub(crate) fn view_at<'i>(index: &'i Index<'_>, place: u32) -> SeenView<'i>
     requires { place < length (views_of (calls_of index.now)) }
     ensures { IsSeen (view_in (calls_of index.entry.now) place) result }
 {
-    let Some(number) = index.view_call(place) else {
+    let Some(call_number) = index.view_call(place) else {
         unreachable!()
     };
-    let Some(call) = index.call(number) else {
+    let Some(call) = index.call(call_number) else {
         unreachable!()
     };
-    let Some(view) = index.answer(number) else {
+    let Some(view) = index.answer(call_number) else {
         unreachable!()
     };
     SeenView {
-        number,
+        call_number,
         call: *call,
         entries: view.entries(),
     }
@@ -72,7 +73,7 @@ pub(crate) fn end_of_update(index: &Index<'_>, k: u8, n: u32) -> Option<u32>
 
 // Where the update after number n of component k ended, if there is one and it did.
 pub(crate) fn end_of_next(index: &Index<'_>, k: u8, n: u32) -> Option<u32>
-    requires { IsKept index.now }
+    requires { IsBoundedHistory index.now }
     ensures { result ≡ end_of (update_of (calls_of index.now) k (suc n)) }
 {
     end_of_update(index, k, n.checked_add(1)?)

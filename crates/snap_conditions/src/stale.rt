@@ -1,8 +1,8 @@
 ghost use Rattle.std.specs.Prelude.{◌≡◌, ◌<◌, ◌∷◌, [], length};
 ghost use Rattle.snap_core.specs.Calls.{Call as SpecCall, calls_of, views_of};
 ghost use Rattle.snap_core.specs.Entries.{AreEntries};
-ghost use Rattle.snap_core.specs.Events.{IsKept};
-ghost use Rattle.snap_conditions.specs.Faults.{is_stale as is_stale_view, read_faults, stale_count as stale_views};
+ghost use Rattle.snap_core.specs.Events.{IsBoundedHistory};
+ghost use Rattle.snap_theory.specs.Faults.{is_stale as is_stale_view, read_faults, stale_count as stale_views};
 ghost use Rattle.snap_conditions.specs.Parts.{part_of};
 ghost use Rattle.snap_conditions.specs.Rows.{AreNumbersOf};
 ghost use Rattle.snap_conditions.specs.Seen.{IsSeen, view_in};
@@ -27,7 +27,7 @@ fn is_stale(view: &SeenView<'_>, row: &Row, other: &SeenView<'_>) -> bool
 // How many views are stale to the one at a place.
 fn stale_count(index: &Index<'_>, place: u32) -> u64
     requires place { place < length (views_of (calls_of index.now)) }
-    requires kept { IsKept index.now }
+    requires kept { IsBoundedHistory index.now }
     ensures { result ≡ stale_views (calls_of index.now) (view_in (calls_of index.now) place ∷ []) }
 {
     let view = view_at(index, place);
@@ -43,7 +43,7 @@ fn stale_count(index: &Index<'_>, place: u32) -> u64
 // The same, by the read faults of the view at a place: where it has none, no view is stale to it.
 pub(crate) fn stale_beside(index: &Index<'_>, place: u32, read: &Part<ReadFault>) -> u64
     requires place { place < length (views_of (calls_of index.now)) }
-    requires kept { IsKept index.now }
+    requires kept { IsBoundedHistory index.now }
     requires read { read.now ≡ part_of reported_read (read_faults (calls_of index.now) (view_in (calls_of index.now) place ∷ [])) }
     ensures { result ≡ stale_views (calls_of index.now) (view_in (calls_of index.now) place ∷ []) }
 {

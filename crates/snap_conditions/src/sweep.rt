@@ -1,7 +1,7 @@
 //! Whether the sums of the completed views keep precedence.
 ghost use Rattle.std.specs.Prelude.{◌≡◌, ◌+◌, ◌↔◌, length, IfOk, IsTrue};
 ghost use Rattle.snap_core.specs.Calls.{calls_of, views_of};
-ghost use Rattle.snap_core.specs.Events.{IsKept};
+ghost use Rattle.snap_core.specs.Events.{IsBoundedHistory};
 ghost use Rattle.snap_conditions.specs.Chains.{AreViewSums};
 ghost use Rattle.snap_conditions.specs.Quick.{AreOrdered};
 ghost use Rattle.snap_conditions.specs.Sweeps.{IsSwept};
@@ -30,7 +30,7 @@ pub fn ordered(alloc: Global, index: &Index<'_>, sums: &[u64]) -> Result<bool, A
 
 // The greatest sum of the completed views that ended before each place, 0 where none did.
 fn greatest_before(alloc: Global, index: &Index<'_>, sums: &[u64]) -> Result<Vec<u64>, AllocError>
-    requires kept { IsKept index.now }
+    requires kept { IsBoundedHistory index.now }
     requires sums { AreViewSums (calls_of index.now) sums.now }
     ensures size { IfOk result (λ greatest. length greatest.items ≡ length index.now + 1) }
     ensures greatest { IfOk result (λ greatest. IsSwept (calls_of index.now) (length (views_of (calls_of index.now))) (length greatest.items) greatest.items) }
@@ -44,7 +44,7 @@ fn greatest_before(alloc: Global, index: &Index<'_>, sums: &[u64]) -> Result<Vec
 
 // The sum of each completed view at the place behind its end, 0 at every other place.
 fn sums_behind_ends(alloc: Global, index: &Index<'_>, sums: &[u64]) -> Result<Vec<u64>, AllocError>
-    requires kept { IsKept index.now }
+    requires kept { IsBoundedHistory index.now }
     requires sums { AreViewSums (calls_of index.now) sums.now }
     ensures size { IfOk result (λ behind. length behind.items ≡ length index.now + 1) }
     ensures sums { IfOk result (λ behind. IsSwept (calls_of index.now) (length (views_of (calls_of index.now))) 0 behind.items) }

@@ -3,7 +3,7 @@ ghost use Rattle.std.specs.Prelude.{◌≡◌, ◌<◌, ◌≤◌, ◌↔◌, �
 ghost use Rattle.std.specs.List.Sorted.{IsPermutation};
 ghost use Rattle.snap_core.specs.Calls.{calls_of};
 ghost use Rattle.snap_core.specs.Entries.{AreEntries, component_count};
-ghost use Rattle.snap_core.specs.Events.{IsKept};
+ghost use Rattle.snap_core.specs.Events.{IsBoundedHistory};
 ghost use Rattle.snap_conditions.specs.Chains.{AreViewSums, IsChain, IsSummed, Climbs, summed_views};
 ghost use Rattle.snap_conditions.specs.Quick.{AreComparable};
 ghost use Rattle.snap_conditions.specs.Rows.{AreNumbersOf, number_among, row_number, sum_below};
@@ -65,7 +65,7 @@ fn places(alloc: Global, keys: &[(u64, u32)]) -> Result<Vec<u32>, AllocError>
 
 // Whether each of these views shows no component above the next.
 fn climbs(index: &Index<'_>, keys: &[(u64, u32)]) -> bool
-    requires kept { IsKept index.now }
+    requires kept { IsBoundedHistory index.now }
     requires keys { All (IsSummed (calls_of index.now)) keys.now }
     ensures { IsTrue result ↔ Climbs (calls_of index.now) keys.now (length keys.now) }
 {

@@ -1,9 +1,9 @@
 ghost use Rattle.std.specs.Prelude.{◌≡◌, ◌≤◌, length, IfOk};
 ghost use Rattle.snap_core.specs.Calls.{calls_of, views_of};
-ghost use Rattle.snap_core.specs.Events.{IsKept};
+ghost use Rattle.snap_core.specs.Events.{IsBoundedHistory};
 ghost use Rattle.snap_core.specs.Entries.{component_count};
 ghost use Rattle.snap_conditions.specs.Grids.{AreColumnsOf, ArePlacesOf};
-ghost use Rattle.snap_conditions.specs.Faults.{read_faults, stale_count};
+ghost use Rattle.snap_theory.specs.Faults.{read_faults, stale_count};
 ghost use Rattle.snap_conditions.specs.Parts.{part_of};
 ghost use Rattle.snap_conditions.specs.Tally.{reported_read, tally_of, views_between};
 
@@ -15,7 +15,7 @@ use crate::read::first_read_fault;
 use crate::seen::view_at;
 use crate::tally::Tally;
 use snap_core::COMPONENT_COUNT;
-use snap_grid::{Column, Grid};
+use snap_grid::{Column, Grid, by_ranks};
 use snap_index::Index;
 use std::alloc::{AllocError, Global};
 use std::marker::Model;
@@ -41,7 +41,7 @@ impl<'i, 'h> Model for ViewGrid<'i, 'h> {
 
 // Where each completed view begins and where it ends.
 fn places_of(alloc: Global, index: &Index<'_>) -> Result<(Vec<u32>, Vec<u32>), AllocError>
-    requires { IsKept index.now }
+    requires { IsBoundedHistory index.now }
     ensures { IfOk result (λ places. ArePlacesOf (calls_of index.now) (length (views_of (calls_of index.now))) places.0.items places.1.items) }
 {
     let count = index.view_count() as usize;
@@ -76,10 +76,11 @@ impl<'i, 'h> ViewGrid<'i, 'h> {
     {
         // what is known of the history that the index is of
         let _events = index.event_count();
+        let keys = by_ranks(alloc, columns)?;
         let (begins, ends) = places_of(alloc, index)?;
         Ok(ViewGrid {
             index,
-            grid: Grid::new(alloc, columns, begins, ends)?,
+            grid: Grid::new(alloc, keys, begins, ends)?,
         })
     }
 

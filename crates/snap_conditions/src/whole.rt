@@ -2,7 +2,7 @@
 ghost use Rattle.std.specs.Prelude.{◌≡◌, ◌↔◌, [], IfOk, IfSome, IsSome};
 ghost use Rattle.snap_core.specs.Calls.{calls_of, views_of};
 ghost use Rattle.snap_conditions.specs.Chains.{AreViewSums, IsViewChain};
-ghost use Rattle.snap_conditions.specs.Faults.{read_faults};
+ghost use Rattle.snap_theory.specs.Faults.{read_faults};
 ghost use Rattle.snap_conditions.specs.Tally.{tally_of};
 
 use crate::quick_test::view_sums;

@@ -2,32 +2,33 @@ ghost use Rattle.std.specs.Prelude.{◌≡◌, ◌<◌, ◌∷◌, [], ◌≤◌
 ghost use Rattle.std.specs.List.{position_or_len};
 ghost use Rattle.snap_core.specs.Calls.{calls_of, views_of, shown_number};
 ghost use Rattle.snap_core.specs.Entries.{component_count};
-ghost use Rattle.snap_core.specs.Events.{IsKept};
+ghost use Rattle.snap_core.specs.Events.{IsBoundedHistory};
 ghost use Rattle.snap_core.specs.declared.entry.Entry.{Entry};
-ghost use Rattle.snap_conditions.specs.Around.{IsAround};
-ghost use Rattle.snap_conditions.specs.Faults.{write_faults, missed_at};
+ghost use Rattle.snap_conditions.specs.ShownAndNext.{IsOfView};
+ghost use Rattle.snap_theory.specs.Faults.{write_faults, missed_at};
 ghost use Rattle.snap_conditions.specs.Limits.{IsLimit};
 ghost use Rattle.snap_conditions.specs.Parts.{part_of};
-ghost use Rattle.snap_conditions.specs.Places.{update_of, end_of, begin_of_shown, begin_or_0};
+ghost use Rattle.snap_conditions.specs.Places.{end_of, begin_of_shown, begin_or_0};
+ghost use Rattle.snap_theory.specs.Updates.{update_of};
 ghost use Rattle.snap_conditions.specs.Seen.{IsSeen, view_in};
 ghost use Rattle.snap_conditions.specs.Tally.{reported_write};
 
-use crate::around::Around;
 use crate::fault::WriteFault;
 use crate::part::Part;
 use crate::seen::SeenView;
+use crate::shown_and_next::ShownAndNext;
 use snap_core::{COMPONENT_COUNT, Entry};
 use snap_index::Index;
 
 // Where the updates that entries show begin, entry by entry: at place 0, where there is none, nothing begins behind an end.
-fn begins_of(around: &Around<'_>, entries: &[Entry]) -> [u32; COMPONENT_COUNT]
+fn begins_of(updates: &ShownAndNext<'_>, entries: &[Entry]) -> [u32; COMPONENT_COUNT]
     requires { length entries.now ≤ component_count }
     ensures size { length result ≡ component_count }
-    ensures each { (i : ℕ) (e : Entry) → i < length entries.now → get_or result i 0 ≡ get_or around.now.begins (get_or entries.now i e).component 0 }
+    ensures each { (i : ℕ) (e : Entry) → i < length entries.now → get_or result i 0 ≡ get_or updates.now.begins (get_or entries.now i e).component 0 }
 {
     let mut begins = [0; COMPONENT_COUNT];
     for (i, entry) in entries.iter().enumerate() {
-        begins[i] = around.begins[entry.component as usize];
+        begins[i] = updates.begins[entry.component as usize];
     }
     begins
 }
@@ -68,7 +69,7 @@ fn missed_part(
     ended: u32,
 ) -> Part<WriteFault>
     requires place { place < length (views_of (calls_of index.now)) }
-    requires kept { IsKept index.now }
+    requires kept { IsBoundedHistory index.now }
     requires view { IsSeen (view_in (calls_of index.now) place) view.now }
     requires number { number ≡ shown_number (view_in (calls_of index.now) place) j }
     requires ended { end_of (update_of (calls_of index.now) j (suc number)) ≡ Some ended }
@@ -84,7 +85,7 @@ fn missed_part(
     }
     let entry = view.entries[first];
     let fault = WriteFault {
-        view: view.number,
+        view: view.call_number,
         missed_component: j,
         missed_number: number + 1,
         shown_component: entry.component,
@@ -98,33 +99,33 @@ pub(crate) fn write_part(
     index: &Index<'_>,
     place: u32,
     view: &SeenView<'_>,
-    around: &Around<'_>,
+    updates: &ShownAndNext<'_>,
     limit: usize,
 ) -> Part<WriteFault>
     requires limit { IsLimit (calls_of index.now) limit }
     requires view { IsSeen (view_in (calls_of index.now) place) view.now }
-    requires around { IsAround (calls_of index.now) (view_in (calls_of index.now) place) around.now }
+    requires updates { IsOfView (calls_of index.now) (view_in (calls_of index.now) place) updates.now }
     requires place { place < length (views_of (calls_of index.now)) }
-    requires kept { IsKept index.now }
+    requires kept { IsBoundedHistory index.now }
     ensures { result ≡ part_of reported_write (write_faults (calls_of index.now) (view_in (calls_of index.now) place ∷ [])) }
 {
     let mut part = Part::none();
     // most views have none
-    if around.latest <= around.earliest {
+    if updates.latest <= updates.earliest {
         return part;
     }
-    let begins = begins_of(around, view.entries);
+    let begins = begins_of(updates, view.entries);
     let begins = &begins[..view.entries.len()];
     for j in 0..limit {
-        let ended = around.ends[j];
-        if ended < around.latest {
+        let ended = updates.ends[j];
+        if ended < updates.latest {
             part = part.merge(missed_part(
                 index,
                 place,
                 view,
                 begins,
                 j as u8,
-                around.numbers[j],
+                updates.numbers[j],
                 ended,
             ));
         }

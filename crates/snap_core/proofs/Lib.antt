@@ -16,3 +16,4 @@ pub mod Rising
 pub mod Fits
 pub mod Laws
 mod Sending
+pub mod Members

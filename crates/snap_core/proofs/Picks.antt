@@ -3,7 +3,7 @@ use Rattle.std.proofs.Common.{◌≡◌, ◌<◌, ◌≤◌, Bool, true, false, 
 use Rattle.std.specs.Prelude.{nat_le}
 use Rattle.snap_core.specs.declared.history.EventRefusal.{EventRefusal}
 use Rattle.snap_core.specs.declared.history.EventRefusal.TheVariants.{TooMany, Busy, Idle, OtherOp, Writer, Number}
-use Rattle.snap_core.specs.Events.{Event, EventFits, IsKept, event_limit}
+use Rattle.snap_core.specs.Events.{Event, EventFits, IsBoundedHistory, event_limit}
 use Rattle.snap_core.proofs.Pushes.{history_push}
 use Rattle.snap_core.specs.Refusals.{refusal_of, is_busy, is_idle, is_other, has_other_writer, has_other_number, IsAccepted}
 use Rattle.std.proofs.lemmas.List.Elements.{All-push}
@@ -41,7 +41,7 @@ accepted_none es e h = go (nat_le event_limit (length es)) refl (is_busy es e) r
     go false h1 false h2 false h3 false h4 false h5 true h6 = absurd (let g = sym (picked es e false false false false false true h1 h2 h3 h4 h5 h6) ∙ h in cc)
     go false h1 false h2 false h3 false h4 false h5 false h6 = (record { not_busy = h2; not_idle = h3; not_other = h4; writer = h5; number = h6 }, leb-false event_limit (length es) h1)
 
-pub kept_push : (es : List Event) (e : Event) → IsKept es → refusal_of es e ≡ None → EventFits e → IsKept (es ++ e ∷ [])
+pub kept_push : (es : List Event) (e : Event) → IsBoundedHistory es → refusal_of es e ≡ None → EventFits e → IsBoundedHistory (es ++ e ∷ [])
 kept_push es e k h b =
     let a = accepted_none es e h in
     record {

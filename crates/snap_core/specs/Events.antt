@@ -78,7 +78,7 @@ abbrev pub event_limit : ℕ
 event_limit = EVENT_LIMIT
 
 -- what a `History` keeps: the three properties, its limit, and fields as their types have them
-pub record IsKept (es : List Event) : Type 0 where
+pub record IsBoundedHistory (es : List Event) : Type 0 where
   pub history : IsHistory es
   pub short : length es ≤ event_limit
   pub fit : All EventFits es

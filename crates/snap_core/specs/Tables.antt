@@ -5,7 +5,7 @@ use Rattle.snap_core.specs.declared.event.Begun.{Begun}
 use Rattle.snap_core.specs.declared.event.Begun.TheVariants as begun
 use Rattle.snap_core.specs.declared.tables.Tables.{Tables}
 use Rattle.snap_core.specs.declared.tables.Writer.{Writer}
-use Rattle.snap_core.specs.Events.{Event, BeginUpdate, BeginView, EndUpdate, EndView, begins_update_of, IsKept}
+use Rattle.snap_core.specs.Events.{Event, BeginUpdate, BeginView, EndUpdate, EndView, begins_update_of, IsBoundedHistory}
 use Rattle.snap_core.specs.Refusals.{last_event, is_by_other}
 
 -- what an event begins
@@ -49,7 +49,7 @@ pub record Recalls (t : Tables) (es : List Event) : Type 0 where
 
 -- what a `History` keeps: its events, and tables that recall them
 pub record IsRecalled (t : Tables) (es : List Event) : Type 0 where
-  pub kept : IsKept es
+  pub kept : IsBoundedHistory es
   pub recalls : Recalls t es
 
 abbrev pub WriterHasRoom : Tables → Option Begun → Type 0

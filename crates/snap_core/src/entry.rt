@@ -1,3 +1,4 @@
+//! Entries, which updates write and views show.
 ghost use Rattle.std.specs.Prelude.{◌≡◌, ◌↔◌, IsTrue};
 ghost use Rattle.snap_core.specs.Entries.{EntryFits};
 

@@ -1,3 +1,4 @@
+//! Events: the begins and ends of calls.
 ghost use Rattle.std.specs.Prelude.{◌≡◌};
 ghost use Rattle.snap_core.specs.Events.{process_of};
 ghost use Rattle.snap_core.specs.Refusals.{is_begin as spec_is_begin};

@@ -1,6 +1,7 @@
+//! Histories, and why an event is refused.
 ghost use Rattle.std.specs.Prelude.{◌≡◌, ◌≤◌, ◌⊎◌, [], ◌∷◌, ◌++◌, length, OnOk, OnErr, IfErr, slice_get};
 ghost use Rattle.std.specs.Option.{option_copied};
-ghost use Rattle.snap_core.specs.Events.{EventFits, IsKept, event_limit};
+ghost use Rattle.snap_core.specs.Events.{EventFits, IsBoundedHistory, event_limit};
 ghost use Rattle.snap_core.specs.Refusals.{refusal_of};
 
 use crate::entry::fields_fit;
@@ -97,7 +98,7 @@ impl History {
     /// The events in order.
     pub fn events(&self) -> &[Event]
         ensures events { result.now ≡ self.now }
-        ensures history { IsKept self.now }
+        ensures history { IsBoundedHistory self.now }
     {
         &self.events
     }

@@ -1,3 +1,4 @@
+//! The tables by which a history tests its next event in constant time.
 ghost use Rattle.std.specs.Prelude.{◌≡◌, ◌<◌, ℕ, List, [], OnOk, None, slice_index_or, vec_len, if◌then◌else◌, ◌==◌};
 ghost use Rattle.snap_core.specs.Events.{Event};
 ghost use Rattle.snap_core.specs.Refusals.{is_busy as spec_is_busy, is_idle as spec_is_idle, is_other as spec_is_other, has_other_writer as spec_has_other_writer, has_other_number as spec_has_other_number};

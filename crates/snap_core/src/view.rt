@@ -1,3 +1,4 @@
+//! Views, and why entries are none.
 ghost use Rattle.std.specs.Prelude.{◌≡◌, ◌<◌, All, IfOk, IfErr, OnOk};
 ghost use Rattle.snap_core.specs.Entries.{EntryFits, view_refusal, entry_of, number_in, value_in, AreEntries};
 

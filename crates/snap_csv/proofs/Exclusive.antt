@@ -2,9 +2,10 @@
 use Rattle.std.proofs.Common.{◌≡◌, inl, inr, ℕ, true, List, [], ◌∷◌, length, subst, arith, ◌+◌, ◌∙◌, sym, ap}
 use Rattle.std.specs.Prelude.{slice_index_or}
 use Rattle.snap_core.specs.declared.event.Event.{Event}
-use Rattle.snap_csv.specs.declared.refusal.TextFault.{TextFault}
-use Rattle.snap_csv.specs.Rows.{Fields, rows_of}
-use Rattle.snap_csv.specs.Fields.{is_header_row, is_stamped_header_row}
+use Rattle.snap_text.specs.declared.fault.TextFault.{TextFault}
+use Rattle.snap_text.specs.Fields.{Fields}
+use Rattle.snap_csv.specs.Rows.{rows_of}
+use Rattle.snap_csv.specs.Layout.{is_header_row, is_stamped_header_row}
 use Rattle.snap_csv.specs.Faults.{FirstFault, NoFault, fault_at}
 use Rattle.snap_csv.specs.Stamps.{FirstOf, NoneOf, OrderFault, ShapeFault, StampedFault, StampedRead, events_of, nothing, order_at, shape_at}
 use Rattle.snap_csv.specs.Texts.{HasFault, IsText, RowsFault, RowsRead}

@@ -1,13 +1,7 @@
 pub mod RowFacts
 pub mod PlainFacts
-pub mod NumberFacts
-pub mod FrontFacts
 pub mod FieldFacts
-pub mod PartFacts
 pub mod ReadFacts
-pub mod ByteFacts
-pub mod BackFacts
-pub mod SpellingFacts
 pub mod LineFacts
 pub mod TextFacts
 pub mod StampOnce
@@ -15,9 +9,5 @@ pub mod StampFacts
 pub mod Exclusive
 pub mod StampText
 pub mod LengthFacts
-pub mod GrammarFacts
-pub mod ViewFacts
-pub mod GroupFacts
-pub mod KnownFacts
 pub mod RecordFacts
 pub mod LookupFacts

@@ -14,10 +14,10 @@ use Rattle.csv.specs.Writing.{default_writer, field_text, fields_text, is_blank,
 use Rattle.snap_core.specs.declared.event.Event.{Event}
 use Rattle.snap_core.specs.declared.event.Event.TheVariants.{BeginUpdate, BeginView, EndUpdate, EndView}
 use Rattle.snap_core.specs.Events.{EventFits}
-use Rattle.snap_csv.specs.Fields.{header, stamped_header}
-use Rattle.snap_csv.specs.Spelling.{entries_text, entry_text, history_text, record_text, spelled, stamped_fields, stamped_lines}
-use Rattle.snap_csv.proofs.ByteFacts.{IsDataByte, IsDigit, data_bytes, data_entry, digits}
-use Rattle.snap_csv.proofs.BackFacts.{fit_each}
+use Rattle.snap_csv.specs.Layout.{header, history_text, record_text, stamped_fields, stamped_header, stamped_lines}
+use Rattle.snap_text.specs.Spelling.{entries_text, entry_text, spelled}
+use Rattle.snap_text.proofs.ByteFacts.{IsDataByte, IsDigit, data_bytes, data_entry, digits}
+use Rattle.snap_text.proofs.BackFacts.{fit_each}
 
 Plain : List ℕ → Type 0
 Plain bs = list_any (needs_byte default_writer) bs ≡ false

@@ -8,7 +8,8 @@ use Rattle.std.proofs.lemmas.Option.{get_or_from_slice_get, slice_get-get_or, sl
 use Rattle.std.proofs.Math.Seq.{take-suc}
 use Rattle.csv.specs.Records.{field_at}
 use Rattle.csv.specs.declared.reader.Reader.{Reader}
-use Rattle.snap_csv.specs.Rows.{Fields, Stands}
+use Rattle.snap_text.specs.Fields.{Fields}
+use Rattle.snap_csv.specs.Rows.{Stands}
 use Rattle.snap_csv.specs.Records.{record_at}
 use Rattle.snap_csv.proofs.ReadFacts.{at_drop}
 

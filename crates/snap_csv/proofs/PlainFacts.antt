@@ -11,8 +11,9 @@ use Rattle.csv.specs.declared.parser.State.{State}
 use Rattle.csv.specs.declared.parser.State.TheVariants as st
 use Rattle.csv.specs.declared.parser.Action.TheVariants as act
 use Rattle.snap_csv.specs.Lines.{FieldGoesOn, FieldIsLast, FourThen, HasRows, IsInner, IsPlain, NotFour}
-use Rattle.snap_csv.specs.Fields.{header}
-use Rattle.snap_csv.specs.Rows.{Fields, rows_of}
+use Rattle.snap_csv.specs.Layout.{header}
+use Rattle.snap_text.specs.Fields.{Fields}
+use Rattle.snap_csv.specs.Rows.{rows_of}
 use Rattle.snap_csv.proofs.RowFacts.{records_step, records_stop, some_fuel}
 
 -- ---- one byte

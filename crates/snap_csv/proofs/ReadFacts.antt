@@ -11,12 +11,12 @@ use Rattle.std.proofs.lemmas.List.Elements.{filter_map-append}
 use Rattle.std.proofs.Math.Seq.{drop-cons, take-suc}
 use Rattle.snap_core.specs.declared.event.Event.{Event}
 use Rattle.snap_core.specs.Events.{event_limit}
-use Rattle.snap_csv.specs.declared.refusal.TextFault.TheVariants as faults
+use Rattle.snap_text.specs.declared.fault.TextFault.TheVariants as faults
 use Rattle.snap_csv.specs.declared.refusal.ReadRefusal.{ReadRefusal}
 use Rattle.snap_csv.specs.declared.refusal.ReadRefusal.TheVariants as refusals
-use Rattle.snap_csv.specs.Rows.{Fields}
-use Rattle.snap_csv.specs.Fields.{event_of, is_header_row, is_stamped_header_row}
-use Rattle.snap_csv.specs.Faults.{event_in, events_in, fault_with, fault_at, row_event, row_fault}
+use Rattle.snap_text.specs.Fields.{Fields, event_of, row_event}
+use Rattle.snap_csv.specs.Layout.{is_header_row, is_stamped_header_row}
+use Rattle.snap_csv.specs.Faults.{event_in, events_in, fault_with, fault_at, row_fault}
 use Rattle.snap_csv.specs.Texts.{RowsFault}
 use Rattle.snap_csv.specs.Answers.{AnswersNumbered, AnswersStamps, FailsEvent, RefusesRow, RefusesRows, RefusesStamps, TakesEvent, TakesRow}
 

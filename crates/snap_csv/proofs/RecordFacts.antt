@@ -11,19 +11,20 @@ use Rattle.std.proofs.lemmas.Map.Keys.{IsDistinct-IsPermutation, IsDistinct-from
 use Rattle.std.proofs.lemmas.Option.{get_or_from_slice_get, slice_get-get_or, slice_get-map, slice_get_within}
 use Rattle.snap_core.specs.declared.event.Event.{Event}
 use Rattle.snap_core.specs.Events.{event_limit}
-use Rattle.snap_csv.specs.declared.refusal.TextFault.{TextFault}
-use Rattle.snap_csv.specs.declared.refusal.TextFault.TheVariants as faults
+use Rattle.snap_text.specs.declared.fault.TextFault.{TextFault}
+use Rattle.snap_text.specs.declared.fault.TextFault.TheVariants as faults
 use Rattle.snap_csv.specs.declared.stamped.Stamped.{Stamped}
-use Rattle.snap_csv.specs.Rows.{Fields, rows_of}
-use Rattle.snap_csv.specs.Fields.{◌>>=◌, event_of, number_at, or_fault}
-use Rattle.snap_csv.specs.Faults.{NoFault, events_in, fault_with, row_event, row_fault}
+use Rattle.snap_text.specs.Fields.{◌>>=◌, Fields, event_of, number_at, or_fault, row_event}
+use Rattle.snap_csv.specs.Rows.{rows_of}
+use Rattle.snap_csv.specs.Faults.{NoFault, events_in, fault_with, row_fault}
 use Rattle.snap_csv.specs.Stamps.{InOrder, NoneOf, events_of, nothing, places_of, repeat_fault, shape_at, shape_fault, stamped_from, stamped_in, stamped_row}
-use Rattle.snap_csv.specs.Spelling.{spelled, stamped_fields}
+use Rattle.snap_text.specs.Spelling.{spelled}
+use Rattle.snap_csv.specs.Layout.{stamped_fields}
 use Rattle.snap_csv.specs.Texts.{RowsRead}
 use Rattle.snap_csv.specs.Records.{HaveRecords, RowsNumbered, SpellEvents, Spells, record_at}
 use Rattle.snap_csv.proofs.Exclusive.{one_header}
-use Rattle.snap_csv.proofs.GrammarFacts.{bind_ok, record_is, some_or}
-use Rattle.snap_csv.proofs.NumberFacts.{number_is}
+use Rattle.snap_text.proofs.GrammarFacts.{bind_ok, record_is, some_or}
+use Rattle.snap_text.proofs.NumberFacts.{number_is}
 use Rattle.snap_csv.proofs.StampFacts.{flips}
 use Rattle.snap_csv.proofs.StampOnce.{one_sort}
 

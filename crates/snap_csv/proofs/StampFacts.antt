@@ -19,13 +19,13 @@ use Rattle.std.proofs.Math.Seq.{drop-cons, take-suc}
 use Rattle.csv.specs.declared.reader.Reader.{Reader}
 use Rattle.snap_core.specs.declared.event.Event.{Event}
 use Rattle.snap_core.specs.Events.{event_limit}
-use Rattle.snap_csv.specs.declared.refusal.TextFault.{TextFault}
-use Rattle.snap_csv.specs.declared.refusal.TextFault.TheVariants as faults
+use Rattle.snap_text.specs.declared.fault.TextFault.{TextFault}
+use Rattle.snap_text.specs.declared.fault.TextFault.TheVariants as faults
 use Rattle.snap_csv.specs.declared.refusal.ReadRefusal.{ReadRefusal}
 use Rattle.snap_csv.specs.declared.refusal.ReadRefusal.TheVariants as refusals
 use Rattle.snap_csv.specs.declared.stamped.Stamped.{Stamped}
-use Rattle.snap_csv.specs.Rows.{Fields, Stands}
-use Rattle.snap_csv.specs.Fields.{event_of, number_at}
+use Rattle.snap_text.specs.Fields.{Fields, event_of, number_at}
+use Rattle.snap_csv.specs.Rows.{Stands}
 use Rattle.snap_csv.specs.Stamps.{InOrder, NoneOf, events_of, nothing, order_at, places_of, repeat_fault, shape_at, shape_fault, stamped_from, stamped_in, stamped_row, stamps_of, with_stamped}
 use Rattle.snap_csv.specs.Answers.{AnswersStamps, FailsEvent, HasSeen, RefusesShapes, RefusesStamped, RefusesStamps, RefusesTurns, TakesEvent, TakesStamped, TakesTurns}
 use Rattle.snap_csv.proofs.ReadFacts.{at_drop}

@@ -3,9 +3,9 @@ use Rattle.std.proofs.Common.{◌≡◌, ◌<◌, ◌⊎◌, inl, inr, ℕ, zero
 use Rattle.std.specs.List.{Contains}
 use Rattle.std.specs.List.Sorted.{IsStrictlyIncreasing}
 use Rattle.std.proofs.lemmas.List.Sorted.{Contains-permutation, IsPermutation-sym, IsPermutation-trans}
-use Rattle.snap_csv.specs.declared.refusal.TextFault.{TextFault}
+use Rattle.snap_text.specs.declared.fault.TextFault.{TextFault}
 use Rattle.snap_csv.specs.declared.stamped.Stamped.{Stamped}
-use Rattle.snap_csv.specs.Rows.{Fields}
+use Rattle.snap_text.specs.Fields.{Fields}
 use Rattle.snap_csv.specs.Stamps.{FirstOf, InOrder, NoneOf, stamped_in, stamps_of}
 
 pub none_and_first : (fault : ℕ → Option TextFault) (n i : ℕ) (f : TextFault) → NoneOf fault n → FirstOf fault n i f → ⊥

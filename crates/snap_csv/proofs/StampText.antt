@@ -15,17 +15,17 @@ use Rattle.csv.specs.Reading.{default_config, records, strip_bom}
 use Rattle.csv.specs.Writing.{fields_text, is_blank, read_back}
 use Rattle.snap_core.specs.declared.event.Event.{Event}
 use Rattle.snap_core.specs.declared.event.Event.TheVariants.{BeginUpdate, BeginView, EndUpdate, EndView}
-use Rattle.snap_core.specs.Events.{EventFits, IsHistory, IsKept, event_limit}
-use Rattle.snap_csv.specs.Rows.{Fields, rows_of}
-use Rattle.snap_csv.specs.Fields.{stamped_header}
+use Rattle.snap_core.specs.Events.{EventFits, IsHistory, IsBoundedHistory, event_limit}
+use Rattle.snap_text.specs.Fields.{Fields, row_event}
+use Rattle.snap_csv.specs.Rows.{rows_of}
+use Rattle.snap_csv.specs.Layout.{record_text, stamped_fields, stamped_header, stamped_lines, stamped_text}
 use Rattle.snap_csv.specs.Texts.{IsText, byte_limit}
-use Rattle.snap_csv.specs.Spelling.{record_text, stamped_fields, stamped_lines, stamped_text}
 use Rattle.snap_csv.proofs.LineFacts.{stamped_header_line, stamped_line_of}
 use Rattle.snap_csv.specs.declared.stamped.Stamped.{Stamped}
-use Rattle.snap_csv.specs.Faults.{fault_with, row_event}
+use Rattle.snap_csv.specs.Faults.{fault_with}
 use Rattle.snap_csv.specs.Stamps.{NoneOf, events_of, nothing, order_at, shape_at, shape_fault, stamped_from, stamped_in, stamped_row, stamps_of}
-use Rattle.snap_csv.proofs.BackFacts.{event_back}
-use Rattle.snap_csv.proofs.NumberFacts.{number_some}
+use Rattle.snap_text.proofs.BackFacts.{event_back}
+use Rattle.snap_text.proofs.NumberFacts.{number_some}
 use Rattle.snap_csv.proofs.TextFacts.{Reads, Whole, each_reads, none_then, not_refused, place, row, rows_back, rows_long}
 
 abbrev Stamp : Type 0
@@ -200,7 +200,7 @@ all_fit (n ∷ at) [] a b = tt
 all_fit (n ∷ at) (x ∷ xs) a b =
     ((All-head (λ n. n < 2 ^ 64) n at a, All-head EventFits x xs b), all_fit at xs (All-tail (λ n. n < 2 ^ 64) n at a) (All-tail EventFits x xs b))
 
-pub stamped_reads : (at : List ℕ) (xs : List Event) → IsKept xs → length at ≡ length xs → IsStrictlyIncreasing at → All (λ n. n < 2 ^ 64) at → length (stamped_text at xs) ≤ byte_limit → IsText (stamped_text at xs) xs
+pub stamped_reads : (at : List ℕ) (xs : List Event) → IsBoundedHistory xs → length at ≡ length xs → IsStrictlyIncreasing at → All (λ n. n < 2 ^ 64) at → length (stamped_text at xs) ≤ byte_limit → IsText (stamped_text at xs) xs
 stamped_reads at xs k same up small short =
     let ps = zip at xs in
     let fits = all_fit at xs small k.fit in

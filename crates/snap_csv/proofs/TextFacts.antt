@@ -13,17 +13,18 @@ use Rattle.csv.specs.declared.parser.State.TheVariants as st
 use Rattle.csv.proofs.RoundTrip.{read-write}
 use Rattle.snap_core.specs.declared.event.Event.{Event}
 use Rattle.snap_core.specs.declared.event.Event.TheVariants.{BeginUpdate, BeginView, EndUpdate, EndView}
-use Rattle.snap_core.specs.Events.{EventFits, IsHistory, IsKept, IsNumbered, event_limit}
+use Rattle.snap_core.specs.Events.{EventFits, IsHistory, IsBoundedHistory, IsNumbered, event_limit}
 use Rattle.snap_core.specs.Refusals.{refusal_of}
 use Rattle.snap_core.proofs.Picks.{is_short, picked}
 use Rattle.snap_core.proofs.Pushes.{history_back}
-use Rattle.snap_csv.specs.Rows.{Fields, rows_of}
-use Rattle.snap_csv.specs.Fields.{header}
+use Rattle.snap_text.specs.Fields.{Fields}
+use Rattle.snap_csv.specs.Rows.{rows_of}
+use Rattle.snap_csv.specs.Layout.{header, history_text, record_text}
 use Rattle.snap_csv.specs.Faults.{NoFault, events_in, fault_at, fault_with, row_fault}
-use Rattle.snap_csv.specs.Laws.{HasNumber}
+use Rattle.snap_text.specs.Laws.{HasNumber}
 use Rattle.snap_csv.specs.Texts.{IsText, byte_limit}
-use Rattle.snap_csv.specs.Spelling.{history_text, record_text, spelled}
-use Rattle.snap_csv.proofs.BackFacts.{event_back}
+use Rattle.snap_text.specs.Spelling.{spelled}
+use Rattle.snap_text.proofs.BackFacts.{event_back}
 use Rattle.snap_csv.proofs.LineFacts.{header_line, line_of}
 
 abbrev pub row : Fields → List ℕ
@@ -197,7 +198,7 @@ no_fault xs h short reads = λ i lt.
     (subst (λ (t : List Event). length t ≤ event_limit) p.whole short) (subst (λ (t : List Event). AllByRecursion Reads t) p.whole reads) in
     subst (λ (t : List Event). fault_at (map spelled t) i ≡ None) (sym p.whole) (subst (λ n. fault_at (map spelled (p.before ++ p.here ∷ p.behind)) n ≡ None) p.count here)
 
-pub text_reads : (xs : List Event) → IsKept xs → length (history_text xs) ≤ byte_limit → IsText (history_text xs) xs
+pub text_reads : (xs : List Event) → IsBoundedHistory xs → length (history_text xs) ≤ byte_limit → IsText (history_text xs) xs
 text_reads xs k short =
     let reads = each_reads xs [] xs k.history.numbered refl k.fit in
     (short, rw (text_rows xs k.fit) (inl (refl, no_fault xs k.history k.short reads, sym (events_back xs reads))))

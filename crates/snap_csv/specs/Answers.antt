@@ -6,12 +6,12 @@ use Rattle.std.specs.List.{IsDistinct, list_any, range_with_len}
 use Rattle.std.specs.Ordering.{nat_cmp}
 use Rattle.snap_core.specs.declared.event.Event.{Event}
 use Rattle.snap_core.specs.Counting.{Rose}
-use Rattle.snap_csv.specs.declared.refusal.TextFault.{TextFault}
-use Rattle.snap_csv.specs.declared.refusal.TextFault.TheVariants as faults
+use Rattle.snap_text.specs.declared.fault.TextFault.{TextFault}
+use Rattle.snap_text.specs.declared.fault.TextFault.TheVariants as faults
 use Rattle.snap_csv.specs.declared.refusal.ReadRefusal.{ReadRefusal}
 use Rattle.snap_csv.specs.declared.refusal.ReadRefusal.TheVariants as refusals
-use Rattle.snap_csv.specs.Rows.{Fields}
-use Rattle.snap_csv.specs.Faults.{fault_with, row_event, row_fault}
+use Rattle.snap_text.specs.Fields.{Fields, row_event}
+use Rattle.snap_csv.specs.Faults.{fault_with, row_fault}
 use Rattle.snap_csv.specs.declared.intake.Taken.{Taken}
 use Rattle.snap_csv.specs.declared.stamped.Stamped.{Stamped}
 use Rattle.snap_csv.specs.Stamps.{FirstOf, NoneOf, ShapeFault, StampedFault, StampedRead, events_of, nothing, order_at, places_of, shape_at, shape_fault, stamped_in, stamped_row, stamps_of}

@@ -1,20 +1,14 @@
 -- The faults of a text's records, each record with those before it.
-use Rattle.std.specs.Prelude.{◌≡◌, ◌<◌, ◌==◌, not, nat_le, if◌then◌else◌, slice_index_or, ℕ, List, [], ◌∷◌, length, take, Option, Some, None, option_and_then, Result, Ok, Err}
+use Rattle.std.specs.Prelude.{◌≡◌, ◌<◌, ◌==◌, not, nat_le, if◌then◌else◌, slice_index_or, ℕ, List, [], length, take, Option, Some, None, option_and_then, Result, Ok, Err}
 use Rattle.std.specs.List.{filter_map}
 use Rattle.snap_core.specs.declared.event.Event.{Event}
 use Rattle.snap_core.specs.declared.history.EventRefusal.{EventRefusal}
 use Rattle.snap_core.specs.declared.history.EventRefusal.TheVariants as refusals
 use Rattle.snap_core.specs.Refusals.{refusal_of}
 use Rattle.snap_core.specs.Events.{event_limit}
-use Rattle.snap_csv.specs.declared.refusal.TextFault.{TextFault}
-use Rattle.snap_csv.specs.declared.refusal.TextFault.TheVariants as faults
-use Rattle.snap_csv.specs.Rows.{Fields}
-use Rattle.snap_csv.specs.Fields.{event_of}
-
--- the event of a record, or the first fault in its fields
-unfoldable pub row_event : Fields → Result Event TextFault
-row_event (a ∷ p ∷ o ∷ d ∷ []) = event_of a p o d
-row_event others = Err faults.Fields
+use Rattle.snap_text.specs.declared.fault.TextFault.{TextFault}
+use Rattle.snap_text.specs.declared.fault.TextFault.TheVariants as faults
+use Rattle.snap_text.specs.Fields.{Fields, row_event}
 
 abbrev pub event_in : Result Event TextFault → Option Event
 event_in (Ok x) = Some x

@@ -1,39 +1,19 @@
--- What is proved of all events, histories and texts.
-use Rattle.std.specs.Prelude.{◌≡◌, ◌<◌, ◌^◌, ⊤, All, ◌≤◌, ℕ, List, length, Ok, true}
+-- What is proved of all histories and texts.
+use Rattle.std.specs.Prelude.{◌≡◌, ◌<◌, ◌^◌, ⊤, All, ◌≤◌, ℕ, List, length, true}
 use Rattle.std.specs.List.Sorted.{IsStrictlyIncreasing}
 use Rattle.snap_core.specs.declared.event.Event.{Event}
-use Rattle.snap_core.specs.declared.event.Event.TheVariants.{BeginUpdate, BeginView, EndUpdate, EndView}
-use Rattle.snap_core.specs.Events.{EventFits, IsKept}
-use Rattle.snap_csv.specs.declared.refusal.TextFault.{TextFault}
-use Rattle.snap_csv.specs.Rows.{Fields, rows_of}
-use Rattle.snap_csv.specs.Fields.{is_header_row, is_stamped_header_row}
-use Rattle.snap_csv.specs.Faults.{row_event}
-use Rattle.snap_csv.specs.Spelling.{history_text, spelled, stamped_text}
+use Rattle.snap_core.specs.declared.event.Event.TheVariants.{EndView}
+use Rattle.snap_core.specs.Events.{IsBoundedHistory}
+use Rattle.snap_text.specs.declared.fault.TextFault.{TextFault}
+use Rattle.snap_text.specs.Fields.{Fields}
+use Rattle.snap_csv.specs.Rows.{rows_of}
+use Rattle.snap_csv.specs.Layout.{history_text, is_header_row, is_stamped_header_row, stamped_text}
 use Rattle.snap_csv.specs.Texts.{HasFault, IsText, byte_limit}
 use Rattle.snap_csv.specs.Records.{HaveRecords, SpellEvents}
 
--- a record is read as an event only where it has the event's four fields
-abbrev pub RecordsAreSpelled : Type 0
-RecordsAreSpelled = (record_fields : Fields) (event : Event) → row_event record_fields ≡ Ok event → record_fields ≡ spelled event
-
--- the number of an update is at least 1
-abbrev pub HasNumber : Event → Type 0
-HasNumber (BeginUpdate p e) = 0 < e.number
-HasNumber (BeginView p) = Unit {0}
-HasNumber (EndUpdate p) = Unit {0}
-HasNumber (EndView p es) = Unit {0}
-
--- and every event whose parts fit their types is read from its four fields, also one that stands in no history
-abbrev pub FieldsReadBack : Type 0
-FieldsReadBack = (event : Event) → EventFits event → HasNumber event → row_event (spelled event) ≡ Ok event
-
--- no two events have the same four fields
-abbrev pub FieldsAreOneEvents : Type 0
-FieldsAreOneEvents = (x y : Event) → EventFits x → EventFits y → spelled x ≡ spelled y → x ≡ y
-
 -- the text of every history of at most 16,384 events is within the limit of bytes
 abbrev pub TextsAreShort : Type 0
-TextsAreShort = (events : List Event) → IsKept events → length events ≤ 16384 → length (history_text events) ≤ byte_limit
+TextsAreShort = (events : List Event) → IsBoundedHistory events → length events ≤ 16384 → length (history_text events) ≤ byte_limit
 
 -- the end of a view lists at most so many entries
 abbrev pub ListsAtMost : ℕ → Event → Type 0
@@ -42,11 +22,11 @@ ListsAtMost n _ = ⊤
 
 -- so is that of every history whose views list at most 36 entries each
 abbrev pub NarrowTextsAreShort : Type 0
-NarrowTextsAreShort = (events : List Event) → IsKept events → All (ListsAtMost 36) events → length (history_text events) ≤ byte_limit
+NarrowTextsAreShort = (events : List Event) → IsBoundedHistory events → All (ListsAtMost 36) events → length (history_text events) ≤ byte_limit
 
 -- the text of a history has no fault and is that of this history, where it is within the limit of bytes
 abbrev pub TextsReadBack : Type 0
-TextsReadBack = (events : List Event) → IsKept events → length (history_text events) ≤ byte_limit → IsText (history_text events) events
+TextsReadBack = (events : List Event) → IsBoundedHistory events → length (history_text events) ≤ byte_limit → IsText (history_text events) events
 
 -- a text that is one of a history has no fault
 abbrev pub TextsHaveNoFault : Type 0
@@ -69,7 +49,7 @@ HeadersDiffer = (r : Fields) → is_header_row r ≡ true → is_stamped_header_
 -- the text of a history with strictly rising stamps has no fault and is that of this history, where it is within the limit of bytes
 abbrev pub StampedTextsReadBack : Type 0
 StampedTextsReadBack =
-    (at : List ℕ) (events : List Event) → IsKept events → length at ≡ length events → IsStrictlyIncreasing at → All (λ n. n < 2 ^ 64) at →
+    (at : List ℕ) (events : List Event) → IsBoundedHistory events → length at ≡ length events → IsStrictlyIncreasing at → All (λ n. n < 2 ^ 64) at →
     length (stamped_text at events) ≤ byte_limit → IsText (stamped_text at events) events
 
 -- the record of each event's number spells that event

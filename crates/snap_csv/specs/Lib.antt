@@ -1,13 +1,10 @@
 pub mod Rows
 pub mod Lines
-pub mod Words
-pub mod Fields
+pub mod Layout
 pub mod Faults
 pub mod Stamps
 pub mod Texts
-pub mod Spelling
 pub mod Records
 pub mod Answers
-pub mod Fronts
 pub mod Writing
 pub mod Laws

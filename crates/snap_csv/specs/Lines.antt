@@ -3,7 +3,7 @@ use Rattle.std.specs.Prelude.{◌≡◌, ◌≢◌, ◌<◌, ◌⊎◌, ◌++◌
 use Rattle.std.specs.List.{All}
 use Rattle.csv.specs.Reading.{default_config, records_from}
 use Rattle.csv.specs.declared.parser.State.TheVariants as st
-use Rattle.snap_csv.specs.Rows.{Fields}
+use Rattle.snap_text.specs.Fields.{Fields}
 
 -- no quote (34) and no carriage return (13)
 abbrev pub IsPlain : ℕ → Type 0

@@ -3,10 +3,11 @@ use Rattle.std.specs.Prelude.{◌≡◌, ◌⊎◌, ◌==◌, ℕ, zero, suc, tr
 use Rattle.std.specs.List.{IsDistinct, range_with_len}
 use Rattle.snap_core.specs.declared.event.Event.{Event}
 use Rattle.snap_csv.specs.declared.stamped.Stamped.{Stamped}
-use Rattle.snap_csv.specs.Rows.{Fields, rows_of}
-use Rattle.snap_csv.specs.Fields.{is_header_row, is_stamped_header_row}
+use Rattle.snap_text.specs.Fields.{Fields}
+use Rattle.snap_csv.specs.Rows.{rows_of}
+use Rattle.snap_csv.specs.Layout.{is_header_row, is_stamped_header_row, stamped_fields}
 use Rattle.snap_csv.specs.Stamps.{InOrder, places_of}
-use Rattle.snap_csv.specs.Spelling.{spelled, stamped_fields}
+use Rattle.snap_text.specs.Spelling.{spelled}
 use Rattle.snap_csv.specs.Texts.{IsText}
 
 -- the fields of a record, where the text has one of this number

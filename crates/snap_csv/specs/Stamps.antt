@@ -5,11 +5,10 @@ use Rattle.std.specs.List.Sorted.{IsPermutation, IsStrictlyIncreasing}
 use Rattle.snap_core.specs.declared.event.Event.{Event}
 use Rattle.snap_core.specs.declared.event.Event.TheVariants.{BeginView}
 use Rattle.snap_core.specs.Events.{event_limit}
-use Rattle.snap_csv.specs.declared.refusal.TextFault.{TextFault}
-use Rattle.snap_csv.specs.declared.refusal.TextFault.TheVariants as faults
+use Rattle.snap_text.specs.declared.fault.TextFault.{TextFault}
+use Rattle.snap_text.specs.declared.fault.TextFault.TheVariants as faults
 use Rattle.snap_csv.specs.declared.stamped.Stamped.{Stamped}
-use Rattle.snap_csv.specs.Rows.{Fields}
-use Rattle.snap_csv.specs.Fields.{◌>>=◌, event_of, number_at, or_fault}
+use Rattle.snap_text.specs.Fields.{◌>>=◌, Fields, event_of, number_at, or_fault}
 use Rattle.snap_csv.specs.Faults.{fault_with}
 
 -- the stamp and the event of a record, or the first fault in its fields: the stamp is tested first

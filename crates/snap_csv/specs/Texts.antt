@@ -2,10 +2,11 @@
 use Rattle.std.specs.Prelude.{◌≡◌, ◌≤◌, ◌<◌, ◌+◌, ◌⊎◌, ℕ, true, false, List, [], ◌∷◌, length}
 use Rattle.snap_core.specs.declared.event.Event.{Event}
 use Rattle.snap_csv.specs.declared.intake.TheConstants.{BYTE_LIMIT}
-use Rattle.snap_csv.specs.declared.refusal.TextFault.{TextFault}
-use Rattle.snap_csv.specs.declared.refusal.TextFault.TheVariants as faults
-use Rattle.snap_csv.specs.Rows.{Fields, rows_of}
-use Rattle.snap_csv.specs.Fields.{is_header_row, is_stamped_header_row}
+use Rattle.snap_text.specs.declared.fault.TextFault.{TextFault}
+use Rattle.snap_text.specs.declared.fault.TextFault.TheVariants as faults
+use Rattle.snap_text.specs.Fields.{Fields}
+use Rattle.snap_csv.specs.Rows.{rows_of}
+use Rattle.snap_csv.specs.Layout.{is_header_row, is_stamped_header_row}
 use Rattle.snap_csv.specs.Faults.{events_in, NoFault, FirstFault}
 use Rattle.snap_csv.specs.Stamps.{StampedFault, StampedRead}
 

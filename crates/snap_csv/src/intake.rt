@@ -7,8 +7,9 @@ ghost use Rattle.snap_csv.specs.Lines.{IsPlain};
 ghost use Rattle.snap_csv.specs.Texts.{byte_limit};
 
 use crate::lines::is_plain;
-use crate::refusal::{ReadRefusal, TextFault};
+use crate::refusal::ReadRefusal;
 use snap_core::Counted;
+use snap_text::TextFault;
 use std::alloc::{AllocError, Global};
 use std::io::{self, Read};
 

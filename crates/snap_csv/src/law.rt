@@ -1,9 +1,4 @@
-ghost use Rattle.snap_csv.specs.Laws.{FieldsAreOneEvents, FieldsReadBack, HeadersDiffer, NarrowTextsAreShort, RecordsAreSpelled, RecordsSpellEvents, StampedTextsReadBack, TextsAreShort, TextsHaveNoFault, TextsHaveOneFault, TextsHaveOneReading, TextsReadBack};
-
-/// No two events have the same four fields.
-pub fn fields_are_one_events()
-    ensures { FieldsAreOneEvents }
-{}
+ghost use Rattle.snap_csv.specs.Laws.{HeadersDiffer, NarrowTextsAreShort, RecordsSpellEvents, StampedTextsReadBack, TextsAreShort, TextsHaveNoFault, TextsHaveOneFault, TextsHaveOneReading, TextsReadBack};
 
 /// The text of a history has no fault and is that of this history, within the limit of bytes.
 pub fn texts_read_back()
@@ -23,16 +18,6 @@ pub fn texts_are_short()
 /// The text of every history whose views list at most 36 entries each is within the limit of bytes.
 pub fn narrow_texts_are_short()
     ensures { NarrowTextsAreShort }
-{}
-
-/// A record is read as an event only where it has the event's four fields.
-pub fn records_are_spelled()
-    ensures { RecordsAreSpelled }
-{}
-
-/// Every event whose parts fit their types is read from its four fields.
-pub fn fields_read_back()
-    ensures { FieldsReadBack }
 {}
 
 /// A text is one of at most one history.

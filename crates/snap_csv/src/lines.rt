@@ -2,15 +2,16 @@
 //! text is cut by a search for these two marks. Any other text is read byte by byte, by `csv`.
 ghost use Rattle.std.specs.Prelude.{◌≡◌, ◌≢◌, ◌↔◌, ◌<◌, ◌≤◌, take, drop, ◌∷◌, ◌++◌, [], List, ℕ, All, IsTrue, MatchOption, IfSome, get_or, length};
 ghost use Rattle.snap_csv.specs.Answers.{AnswersNumbered};
-ghost use Rattle.snap_csv.specs.Fields.{header};
+ghost use Rattle.snap_csv.specs.Layout.{header};
 ghost use Rattle.snap_csv.specs.Lines.{EndsField, FieldGoesOn, FieldIsLast, FourThen, HasRows, IsInner, IsPlain, NotFour};
-ghost use Rattle.snap_csv.specs.Rows.{Fields, rows_of};
+ghost use Rattle.snap_text.specs.Fields.{Fields};
+ghost use Rattle.snap_csv.specs.Rows.{rows_of};
 
-use crate::known::Known;
 use crate::read::{ROW_LIMIT, take_fields};
-use crate::refusal::{ReadRefusal, TextFault};
+use crate::refusal::ReadRefusal;
 use memchr::memchr2;
 use snap_core::History;
+use snap_text::{Known, TextFault};
 use std::alloc::Global;
 
 const HEADER: &[u8] = b"event,process,op,data\n";

@@ -6,15 +6,15 @@ ghost use Rattle.snap_csv.specs.Lines.{IsPlain};
 ghost use Rattle.snap_csv.specs.Rows.{rows_of};
 ghost use Rattle.csv.specs.Records.{fields_of};
 
-use crate::fields::{event_of_fields, four_fields, is_header, is_stamped_header};
+use crate::fields::{event_of_record, four_fields, is_header, is_stamped_header};
 use crate::intake::{BYTE_LIMIT, Taken, take_in};
-use crate::known::Known;
 use crate::lines::{is_plain, lines_history, lines_under_header};
-use crate::refusal::{ReadRefusal, TextFault};
+use crate::refusal::ReadRefusal;
 use crate::rows::{next_row, reader_of};
 use crate::stamped::stamped_history;
 use csv::ByteRecord;
 use snap_core::{Counted, EVENT_LIMIT, Event, EventRefusal, History};
+use snap_text::{Known, TextFault};
 use std::alloc::Global;
 use std::io::Read;
 
@@ -72,7 +72,7 @@ pub fn take_fields(
         });
     }
     let (event, process, op, data) = fields;
-    let event = event_of_fields(alloc, known, place, event, process, op, data)?;
+    let event = event_of_record(alloc, known, place, event, process, op, data)?;
     push_event(history, place, event)
 }
 

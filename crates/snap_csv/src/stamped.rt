@@ -3,17 +3,17 @@ ghost use Rattle.std.specs.List.{IsDistinct};
 ghost use Rattle.std.specs.List.Sorted.{IsPermutation, IsStrictlyIncreasing};
 ghost use Rattle.csv.specs.Records.{fields_of};
 ghost use Rattle.snap_csv.specs.Answers.{AnswersStamps, HasSeen, ReadsStamped, TakesStamped, TakesTurns};
-ghost use Rattle.snap_csv.specs.Rows.{Fields, Stands};
+ghost use Rattle.snap_text.specs.Fields.{Fields};
+ghost use Rattle.snap_csv.specs.Rows.{Stands};
 ghost use Rattle.snap_csv.specs.Stamps.{places_of, stamps_of};
 
-use crate::fields::{event_of_fields, five_fields};
-use crate::known::Known;
-use crate::number::stamp_of;
+use crate::fields::{event_of_record, five_fields};
 use crate::read::{ROW_LIMIT, push_event};
-use crate::refusal::{ReadRefusal, TextFault};
+use crate::refusal::ReadRefusal;
 use crate::rows::next_row;
 use csv::{ByteRecord, Reader};
 use snap_core::{EVENT_LIMIT, Event, History};
+use snap_text::{Known, TextFault, stamp_of};
 use std::alloc::{AllocError, Global};
 use std::collections::BTreeSet;
 
@@ -56,7 +56,7 @@ fn take_stamped(
             fault: TextFault::BadAt,
         });
     };
-    let event = event_of_fields(alloc, known, place, event, process, op, entries)?;
+    let event = event_of_record(alloc, known, place, event, process, op, entries)?;
     if !seen.insert(at)? {
         return Err(ReadRefusal::Text {
             place,

@@ -2,14 +2,15 @@ ghost use Rattle.std.specs.Prelude.{◌≡◌, ◌<◌, ◌^◌, ◌++◌, ◌�
 ghost use Rattle.std.specs.List.Sorted.{IsStrictlyIncreasing};
 ghost use Rattle.csv.specs.Writing.{default_writer, row_text};
 ghost use Rattle.snap_core.specs.Counting.{inner_of, failures_in};
-ghost use Rattle.snap_csv.specs.Spelling.{history_text, spelled, stamped_lines, stamped_text};
+ghost use Rattle.snap_csv.specs.Layout.{history_text, stamped_lines, stamped_text};
+ghost use Rattle.snap_text.specs.Spelling.{spelled};
 ghost use Rattle.snap_csv.specs.Writing.{CountsWrite, Holds, Writes};
 
 use crate::refusal::WriteRefusal;
-use crate::spelling::fields_of;
 use csv::{Writer, WriterBuilder};
 use itoa::Buffer;
 use snap_core::{Counted, Event, History};
+use snap_text::fields_of;
 use std::alloc::{AllocError, Global};
 use std::io::Write;
 

@@ -6,7 +6,7 @@ use Rattle.snap_core.specs.declared.event.Event.{Event}
 use Rattle.snap_core.specs.Calls.{calls_of, views_of}
 use Rattle.snap_conditions.specs.declared.tally.Tally.{Tally}
 use Rattle.snap_conditions.specs.Tally.{tally_of}
-use Rattle.snap_order.specs.Levels.{printed_order}
+use Rattle.snap_theory.specs.Levels.{printed_order}
 use Rattle.snap_order.proofs.PrintedNumbers.{calls_of_order}
 use Rattle.snap_report.specs.Orders.{calls_numbered}
 use Rattle.snap_report.specs.Reports.{has_no_fault, has_no_local_fault}

@@ -1,4 +1,2 @@
 pub mod Pieces
-pub mod Calls
-pub mod Named
 pub mod Explanations

@@ -4,7 +4,7 @@ use Rattle.std.specs.List.{flat_map}
 use Rattle.snap_core.specs.Calls.{Call, views_of}
 use Rattle.snap_conditions.specs.declared.tally.Tally.{Tally}
 use Rattle.snap_conditions.specs.Tally.{tally_of}
-use Rattle.snap_order.specs.Levels.{printed_order}
+use Rattle.snap_theory.specs.Levels.{printed_order}
 use Rattle.snap_report.specs.Reports.{has_no_fault, has_no_local_fault}
 use Rattle.snap_explain.specs.Calls.{call_text}
 use Rattle.snap_explain.specs.Faults.{faults_text}

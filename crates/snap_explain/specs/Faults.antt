@@ -9,8 +9,8 @@ use Rattle.snap_conditions.specs.declared.fault.WriteFault.{WriteFault}
 use Rattle.snap_conditions.specs.declared.fault.Side.{Side}
 use Rattle.snap_conditions.specs.declared.fault.Side.TheVariants.{Old, Early}
 use Rattle.snap_conditions.specs.declared.tally.Tally.{Tally}
-use Rattle.snap_conditions.specs.Faults.{least_exceeding}
-use Rattle.snap_conditions.specs.Places.{update_of}
+use Rattle.snap_theory.specs.Faults.{least_exceeding}
+use Rattle.snap_theory.specs.Updates.{update_of}
 use Rattle.snap_report.specs.Lines.{call_word, entry_word, update_word}
 use Rattle.snap_witness.specs.Places.{side_number}
 use Rattle.snap_explain.specs.Calls.{call_text}

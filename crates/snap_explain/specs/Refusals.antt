@@ -2,10 +2,11 @@
 use Rattle.std.specs.Prelude.{◌≡◌, ℕ, List, ◌++◌, codes, decimal, Option, Some, None}
 use Rattle.std.specs.List.{flat_map}
 use Rattle.snap_core.specs.Events.{event_limit}
-use Rattle.snap_csv.specs.declared.refusal.TextFault.{TextFault}
-use Rattle.snap_csv.specs.declared.refusal.TextFault.TheVariants as faults
+use Rattle.snap_text.specs.declared.fault.TextFault.{TextFault}
+use Rattle.snap_text.specs.declared.fault.TextFault.TheVariants as faults
 use Rattle.snap_csv.specs.Records.{record_at}
-use Rattle.snap_csv.specs.Rows.{Fields, rows_of}
+use Rattle.snap_text.specs.Fields.{Fields}
+use Rattle.snap_csv.specs.Rows.{rows_of}
 use Rattle.snap_csv.specs.Texts.{byte_limit}
 use Rattle.snap_report.specs.Lines.{line_text}
 use Rattle.snap_report.specs.Refusals.{refusal_line}

@@ -3,7 +3,7 @@ ghost use Rattle.std.specs.Prelude.{◌≡◌, ◌<◌, ◌++◌, OnOk, codes, l
 ghost use Rattle.std.specs.Option.{ForSome};
 ghost use Rattle.std.specs.List.{flat_map};
 ghost use Rattle.snap_core.specs.Calls.{call_numbered, calls_of, entries_of};
-ghost use Rattle.snap_index.specs.Bare.{bare_op};
+ghost use Rattle.snap_index.specs.IndexedCalls.{indexed_op};
 ghost use Rattle.snap_report.specs.Lines.{entry_word};
 ghost use Rattle.snap_explain.specs.Calls.{call_text, operation_text, records_words};
 ghost use Rattle.snap_explain.specs.Faults.{update_text};
@@ -62,7 +62,7 @@ fn put_operation(
     op: CallOp,
 ) -> Result<(), AllocError>
     requires below { number < length (calls_of index.now) }
-    requires same { op ≡ bare_op (call_numbered (calls_of index.now) number).operation }
+    requires same { op ≡ indexed_op (call_numbered (calls_of index.now) number).operation }
     ensures { OnOk result (out.new.items ≡ out.old.items ++ operation_text (call_numbered (calls_of index.now) number).operation) }
 {
     match op {

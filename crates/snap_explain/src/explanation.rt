@@ -3,7 +3,7 @@ ghost use Rattle.std.specs.List.{flat_map};
 ghost use Rattle.std.specs.Option.{ForSome};
 ghost use Rattle.snap_core.specs.Calls.{calls_of, views_of};
 ghost use Rattle.snap_conditions.specs.Tally.{tally_of};
-ghost use Rattle.snap_order.specs.Levels.{printed_order};
+ghost use Rattle.snap_theory.specs.Levels.{printed_order};
 ghost use Rattle.snap_report.specs.Orders.{HasLine, calls_numbered};
 ghost use Rattle.snap_report.specs.Reports.{has_no_fault, has_no_local_fault};
 ghost use Rattle.snap_explain.specs.Calls.{call_text};

@@ -5,8 +5,9 @@ ghost use Rattle.snap_csv.specs.Records.{record_at};
 ghost use Rattle.snap_csv.specs.Rows.{rows_of};
 ghost use Rattle.snap_explain.specs.Refusals.{IsRefusalExplanation, quoted, record_text, rule_of as spec_rule_of};
 
-use snap_csv::{TextFault, record_of};
+use snap_csv::record_of;
 use snap_report::{put_number, refusal_text};
+use snap_text::TextFault;
 use std::alloc::{AllocError, Global};
 
 // The rule that a fault breaks, with a newline.

@@ -1,14 +1,22 @@
 -- What a check of several named texts answers, writes and says.
 use Rattle.std.specs.Prelude.{◌≡◌, ◌≤◌, ◌<◌, ◌-◌, ◌^◌, ◌++◌, ◌⊎◌, ℕ, max, List, [], ◌∷◌, length, take, Option, Some, None, Result, Ok, Err, IfSome, codes, decimal, flat_map, String, string_bytes}
-use Rattle.std.specs.Global.{Global}
+use Rattle.std.specs.Global.{Global, Vec}
 use Rattle.std.specs.List.{AllZip}
 use Rattle.std.specs.Io.KnownBytes.{Appends}
 use Rattle.snap_core.specs.Sending.{SendsFront}
-use Rattle.snap_runs.specs.declared.check_with.CheckOptions.{CheckOptions}
-use Rattle.snap_runs.specs.Options.{IsReportWith}
+use Rattle.snap_check.specs.declared.options.CheckOptions.{CheckOptions}
+use Rattle.snap_check.specs.declared.fault.RunFault.{RunFault}
+use Rattle.snap_check.specs.declared.fault.RunFault.TheVariants as faults
+use Rattle.snap_check.specs.Options.{IsReportWith}
 use Rattle.snap_verdict.specs.declared.status.Status.{Status}
 use Rattle.snap_verdict.specs.Statuses.{code_of}
-use Rattle.snap_files.specs.Names.{named_lines, shown}
+use Rattle.snap_json.specs.Objects.{trouble_json}
+use Rattle.snap_json.specs.Values.{IsLineOf}
+use Rattle.snap_tell.specs.Telling.{IsTold}
+use Rattle.snap_files.specs.Names.{named_lines, reason_line_text, shown}
+use Rattle.snap_files.specs.declared.format.FileOptions.{FileOptions}
+use Rattle.snap_files.specs.declared.format.Format.{Format}
+use Rattle.snap_files.specs.declared.format.Format.TheVariants.{Plain, Json}
 use Rattle.snap_files.specs.declared.opener.Trouble.{Trouble}
 use Rattle.snap_files.specs.declared.opener.Trouble.TheVariants.{Missing, Folder, Unopened, Unread, Memory}
 
@@ -28,16 +36,27 @@ Opens = List ℕ → Result (Option (List ℕ)) Trouble → Type 0
 abbrev pub IsTroubled : Opens → List ℕ → Trouble → Type 0
 IsTroubled opens name trouble = opens name (Err trouble) ⊎ ((known : Option (List ℕ)) × opens name (Ok known) × ((trouble ≡ Unread) ⊎ (trouble ≡ Memory)))
 
--- what is answered and written of a name: the named report of the text that was opened, and nothing where there is a trouble
-abbrev pub IsPage : Opens → CheckOptions → List ℕ → Answer → List ℕ → Type 0
-IsPage opens options name (Ok status) out = (known : Option (List ℕ)) × opens name (Ok known) × IfSome known (λ text. IsNamedReport options name text status out)
-IsPage opens options name (Err trouble) out = IsTroubled opens name trouble × (out ≡ [])
+-- the object of a text has a status in each case
+abbrev pub IsObject : ℕ → List ℕ → List ℕ → Option Status → List ℕ → Type 0
+IsObject least name text (Some status) out = IsTold name least text status out
+IsObject least name text None out = ⊥
+
+-- what is answered and written of a text that was opened: its named report, or its object alone
+abbrev pub IsTextPage : Format → CheckOptions → List ℕ → List ℕ → Option Status → List ℕ → Type 0
+IsTextPage Plain options name text status out = IsNamedReport options name text status out
+IsTextPage Json options name text status out = IsObject options.views name text status out
 
 -- the exit status of a name
 abbrev pub answer_code : Answer → ℕ
 answer_code (Ok (Some status)) = code_of status
 answer_code (Ok None) = 3
 answer_code (Err trouble) = 4
+
+-- why a text that was opened has no status, by the fault of its check; what fails there as a write is in memory
+abbrev pub trouble_by : RunFault → Trouble
+trouble_by faults.Read = Unread
+trouble_by faults.Write = Memory
+trouble_by faults.Memory = Memory
 
 -- a trouble in words
 abbrev pub trouble_text : Trouble → List ℕ
@@ -47,17 +66,33 @@ trouble_text Unopened = codes "can't be opened"
 trouble_text Unread = codes "read failed"
 trouble_text Memory = codes "out of memory"
 
+-- of a name that met a trouble nothing is written, or its object; where memory did not suffice for that, memory is the trouble
+abbrev pub IsTroublePage : Format → List ℕ → Trouble → Trouble → List ℕ → Type 0
+IsTroublePage Plain name met trouble out = (trouble ≡ met) × (out ≡ [])
+IsTroublePage Json name met trouble out =
+    ((trouble ≡ met) × IsLineOf (trouble_json name (answer_code (Err met)) (trouble_text met)) out) ⊎ ((trouble ≡ Memory) × (out ≡ []))
+
+-- what is answered and written of a name
+abbrev pub IsPage : Opens → FileOptions → List ℕ → Answer → List ℕ → Type 0
+IsPage opens options name (Ok status) out =
+    (known : Option (List ℕ)) × opens name (Ok known) × IfSome known (λ text. IsTextPage options.format options.check name text status out)
+IsPage opens options name (Err trouble) out = (met : Trouble) × IsTroubled opens name met × IsTroublePage options.format name met trouble out
+
+-- what is answered and written of each of some names, in the order of the names
+abbrev pub AreAnswered : Opens → FileOptions → List (String Global) → List (Answer × Vec ℕ) → Type 0
+AreAnswered opens options names pages = AllZip (λ name page. IsPage opens options (string_bytes name) page.0 page.1.items) names pages
+
 -- what is said of a name with a trouble, and of one whose history has fewer views than are asked for
 abbrev pub trouble_line_text : List ℕ → Trouble → List ℕ
-trouble_line_text name trouble = codes "snapjudge: " ++ shown name ++ codes ": " ++ trouble_text trouble ++ codes "\n"
+trouble_line_text name trouble = reason_line_text name (trouble_text trouble)
 
 abbrev pub refusal_line_text : CheckOptions → List ℕ → List ℕ
 refusal_line_text options name = shown name ++ codes ": refused: fewer than " ++ decimal options.views ++ codes " views\n"
 
 -- what is said of a name on the error output
-abbrev pub told_text : CheckOptions → List ℕ → Answer → List ℕ
+abbrev pub told_text : FileOptions → List ℕ → Answer → List ℕ
 told_text options name (Ok (Some status)) = []
-told_text options name (Ok None) = refusal_line_text options name
+told_text options name (Ok None) = refusal_line_text options.check name
 told_text options name (Err trouble) = trouble_line_text name trouble
 
 -- a text went out whole, or the count of failures rose, or stands at its last value
@@ -71,15 +106,21 @@ pub record Page : Type 0 where
   pub answer : Answer
   pub out : List ℕ
 
+-- the names with what is answered and written of each
+abbrev pub paged : List (String Global) → List (Answer × Vec ℕ) → List Page
+paged [] pages = []
+paged (name ∷ names) [] = []
+paged (name ∷ names) (page ∷ pages) = record { name = string_bytes name; answer = page.0; out = page.1.items } ∷ paged names pages
+
 -- the pages of some names, in the order of the names, each name once
-abbrev pub ArePages : Opens → CheckOptions → List (String Global) → List Page → Type 0
+abbrev pub ArePages : Opens → FileOptions → List (String Global) → List Page → Type 0
 ArePages opens options names pages = AllZip (λ name page. (page.name ≡ string_bytes name) × IsPage opens options page.name page.answer page.out) names pages
 
 -- what is written of some pages, and said of them
 abbrev pub written : List Page → List ℕ
 written pages = flat_map (λ page. page.out) pages
 
-abbrev pub said : CheckOptions → List Page → List ℕ
+abbrev pub said : FileOptions → List Page → List ℕ
 said options pages = flat_map (λ page. told_text options page.name page.answer) pages
 
 -- the greatest exit status of some pages
@@ -87,8 +128,14 @@ abbrev pub greatest_code : List Page → ℕ
 greatest_code [] = 0
 greatest_code (page ∷ pages) = max (answer_code page.answer) (greatest_code pages)
 
+-- some pages were written: the greatest status, what was written, and what was said
+pub record WritesAll (options : FileOptions) (pages : List Page) (old new : Option (List ℕ)) (told_old told_new : Option (List ℕ)) (failures_old failures_new : ℕ) (code : ℕ) : Type 0 where
+  pub greatest : code ≡ greatest_code pages
+  pub wrote : Appends old new (written pages)
+  pub told : Told told_old told_new failures_old failures_new (said options pages)
+
 -- the names were all checked: the greatest status, what was written, and what was said
-pub record ChecksAll (opens : Opens) (options : CheckOptions) (names : List (String Global)) (old new : Option (List ℕ)) (told_old told_new : Option (List ℕ)) (failures_old failures_new : ℕ) (code : ℕ) : Type 0 where
+pub record ChecksAll (opens : Opens) (options : FileOptions) (names : List (String Global)) (old new : Option (List ℕ)) (told_old told_new : Option (List ℕ)) (failures_old failures_new : ℕ) (code : ℕ) : Type 0 where
   pub pages : List Page
   pub each : ArePages opens options names pages
   pub greatest : code ≡ greatest_code pages
@@ -96,7 +143,7 @@ pub record ChecksAll (opens : Opens) (options : CheckOptions) (names : List (Str
   pub told : Told told_old told_new failures_old failures_new (said options pages)
 
 -- of some of the names, the first ones, a front went out of what is written of them
-pub record ChecksSome (opens : Opens) (options : CheckOptions) (names : List (String Global)) (old new : Option (List ℕ)) : Type 0 where
+pub record ChecksSome (opens : Opens) (options : FileOptions) (names : List (String Global)) (old new : Option (List ℕ)) : Type 0 where
   pub count : ℕ
   pub within : count ≤ length names
   pub pages : List Page

@@ -1,21 +1,58 @@
-ghost use Rattle.std.specs.Prelude.{IfOk, IfErr};
+//! The check of several texts of which each report or object is written.
+ghost use Rattle.std.specs.Prelude.{◌≡◌, IfOk, IfErr, length};
 ghost use Rattle.snap_core.specs.Counting.{failures_in, inner_of};
-ghost use Rattle.snap_files.specs.Files.{ChecksAll, ChecksSome};
-ghost use Rattle.snap_runs.specs.Runs.{RunCounts};
+ghost use Rattle.snap_core.specs.Sending.{SendsFront};
+ghost use Rattle.snap_files.specs.Files.{ChecksAll, ChecksSome, WritesAll, paged, written};
+ghost use Rattle.snap_check.specs.Runs.{RunCounts};
 
+use crate::format::FileOptions;
 use crate::opener::Opener;
-use crate::page::{check_name, code_of, told_of};
+use crate::page::{Answer, code_of, told_of};
+use crate::round::{pages_of, round_at};
+use snap_check::RunFault;
 use snap_core::{Counted, Gate};
-use snap_runs::{CheckOptions, RunFault};
 use snap_threads::Cutting;
 use std::alloc::Global;
 use std::io::Write;
 use std::thread::Threads;
 
-/// Checks the texts of some names, one after the other, each as `check_run_asked` does. It writes their reports in the order of
-/// the names, each line with the name before it, and answers the greatest exit status. A name of which there is no status, since
+// Writes what there is of the names of a round, and says why some have no status. It answers their greatest exit status.
+fn write_round<W: Write, E: Write>(
+    alloc: Global,
+    names: &[String],
+    pages: &[(Answer, Vec<u8>)],
+    writer: &mut Counted<W>,
+    errors: &mut Counted<E>,
+    options: FileOptions,
+) -> Result<u8, RunFault>
+    requires { length pages.now ≡ length names.now }
+    ensures all { IfOk result (WritesAll options (paged names.now pages.now) (W.contents (inner_of writer.old)) (W.contents (inner_of writer.new))
+        (E.contents (inner_of errors.old)) (E.contents (inner_of errors.new)) (failures_in errors.old) (failures_in errors.new)) }
+    ensures some { IfErr result (λ _. SendsFront (W.contents (inner_of writer.old)) (W.contents (inner_of writer.new)) (written (paged names.now pages.now))) }
+    ensures counts { RunCounts 0 0 (failures_in writer.old) (failures_in writer.new) result }
+{
+    let mut greatest = 0;
+    for place in 0..names.len() {
+        let name = &names[place];
+        let (answer, out) = &pages[place];
+        let told = told_of(alloc, name, options, answer)?;
+        let _ = errors.send(&told);
+        greatest = code_of(answer).max(greatest);
+        if writer.send(out).is_err() {
+            return Err(RunFault::Write);
+        }
+    }
+    Ok(greatest)
+}
+
+/// Checks the texts of some names, each as `check_run_with` does: as many at once as the cutting has workers, each by one of them,
+/// and a text alone by all of them. It writes their reports in the order of the names, each line with the name before it, and
+/// answers the greatest exit status. A name of which there is no status, since
 /// its text can't be opened or read or memory did not suffice for it, has the exit status 4. The reason goes to the error output,
 /// and the other names are checked all the same. A failure of the error output is counted, and ends nothing.
+///
+/// Where objects are asked for, each name has one in place of its report, as `tell_run` writes it, also where it has no status.
+/// Where memory does not suffice for the object of a name without a status, that is its reason, and nothing is written of it.
 ///
 /// A report that can't be written ends the check with `Write`; a reason for which memory does not suffice, with `Memory`.
 pub fn check_all<Rt: Threads + Sync, O: Opener, W: Write, E: Write, G: Gate>(
@@ -27,7 +64,7 @@ pub fn check_all<Rt: Threads + Sync, O: Opener, W: Write, E: Write, G: Gate>(
     errors: &mut Counted<E>,
     cutting: Cutting,
     gate: &G,
-    options: CheckOptions,
+    options: FileOptions,
 ) -> Result<u8, RunFault>
     ensures all { IfOk result (ChecksAll (O.opens opener.now) options names.now (W.contents (inner_of writer.old)) (W.contents (inner_of writer.new))
         (E.contents (inner_of errors.old)) (E.contents (inner_of errors.new)) (failures_in errors.old) (failures_in errors.new)) }
@@ -35,16 +72,13 @@ pub fn check_all<Rt: Threads + Sync, O: Opener, W: Write, E: Write, G: Gate>(
     ensures counts { RunCounts 0 0 (failures_in writer.old) (failures_in writer.new) result }
 {
     let mut greatest = 0;
-    for name in names {
-        let (answer, out) = check_name(rt, alloc, opener, name, cutting, gate, options);
-        let Ok(told) = told_of(alloc, name, options, &answer) else {
-            return Err(RunFault::Memory);
-        };
-        let _ = errors.send(&told);
-        greatest = code_of(&answer).max(greatest);
-        if writer.send(&out).is_err() {
-            return Err(RunFault::Write);
-        }
+    let mut from = 0;
+    while from < names.len() {
+        let round = round_at(names, from, cutting);
+        let pages = pages_of(rt, alloc, opener, round, cutting, gate, options)?;
+        let code = write_round(alloc, round, &pages, writer, errors, options)?;
+        greatest = code.max(greatest);
+        from += round.len();
     }
     Ok(greatest)
 }

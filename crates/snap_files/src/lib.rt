@@ -1,13 +1,21 @@
-//! The check of several named texts, each line of a report with the name before it.
+//! The check of several named texts: each line of a report has the name before it, or a JSON object names its text.
 #![tactic(auto)]
 
 mod files;
+mod format;
 mod name;
 mod opener;
 mod page;
+mod reason;
+mod round;
+mod sum;
+mod sums;
 mod system;
 
 pub use files::check_all;
+pub use format::{FileOptions, Format};
 pub use opener::{Opener, Trouble};
 pub use page::trouble_line;
+pub use reason::reason_line;
+pub use sum::sum_all;
 pub use system::{System, SystemText};

@@ -17,12 +17,12 @@ pub enum Trouble {
     Memory,
 }
 
-/// What opens a text by its name.
-pub trait Opener {
+/// What opens a text by its name. Several threads use it at once.
+pub trait Opener: Sync {
     ghost use Rattle.snap_files.specs.declared.opener.Trouble.{Trouble};
 
     /// The text, as a reader.
-    type Text: Read + Drop;
+    type Text: Read + Drop + Send + Sync;
 
     /// What a name may be opened as: a text, of which the bytes are known or not, or a trouble.
     ghost opens: { Self → List ℕ → Result (Option (List ℕ)) Trouble → Type 0 };

@@ -1,14 +1,17 @@
 //! What is answered, written and said of one name.
 ghost use Rattle.std.specs.Prelude.{◌≡◌, ◌++◌, ◌⊎◌, IfOk, IfSome, MatchResult, Ok};
-ghost use Rattle.snap_files.specs.Files.{IsNamedReport, IsPage, answer_code, refusal_line_text, told_text, trouble_line_text, trouble_text};
+ghost use Rattle.snap_files.specs.Files.{IsNamedReport, IsObject, IsPage, IsTextPage, IsTroublePage, answer_code, refusal_line_text, told_text, trouble_by, trouble_line_text, trouble_text};
 ghost use Rattle.snap_files.specs.Names.{named_lines};
 ghost use Rattle.snap_files.specs.declared.opener.Trouble.TheVariants as troubles;
 
+use crate::format::{FileOptions, Format};
 use crate::name::{front_lines, put_shown};
 use crate::opener::{Opener, Trouble};
+use crate::reason::reason_line;
+use snap_check::{CheckOptions, RunFault, check_run_with};
 use snap_core::{Counted, Gate};
 use snap_report::put_number;
-use snap_runs::{CheckOptions, RunFault, check_run_asked};
+use snap_tell::tell_run;
 use snap_threads::Cutting;
 use snap_verdict::Status;
 use std::alloc::{AllocError, Global};
@@ -41,7 +44,8 @@ fn name_lines(alloc: Global, name: &str, text: &[u8]) -> Result<Vec<u8>, AllocEr
 
 // Why a text that was opened has no status.
 fn trouble_of(fault: RunFault) -> Trouble
-    ensures { (result ≡ troubles.Unread) ⊎ (result ≡ troubles.Memory) }
+    ensures fault { result ≡ trouble_by fault }
+    ensures met { (result ≡ troubles.Unread) ⊎ (result ≡ troubles.Memory) }
 {
     match fault {
         RunFault::Read => Trouble::Unread,
@@ -64,10 +68,83 @@ fn named_report<Rt: Threads + Sync, R: Read + Drop, G: Gate>(
 {
     let mut reader = Counted::new(text);
     let mut writer = Counted::new(Vec::new(alloc));
-    let status = check_run_asked(rt, alloc, &mut reader, &mut writer, cutting, gate, options)?;
+    let status = check_run_with(rt, alloc, &mut reader, &mut writer, cutting, gate, options)?;
     let report = writer.into_inner();
     let lines = name_lines(alloc, name, &report)?;
     Ok((status, lines))
+}
+
+// The status and the object of a text with a name.
+fn object<Rt: Threads + Sync, R: Read + Drop, G: Gate>(
+    rt: &Rt,
+    alloc: Global,
+    name: &str,
+    text: R,
+    cutting: Cutting,
+    gate: &G,
+    least: u32,
+) -> Result<(Option<Status>, Vec<u8>), RunFault>
+    ensures { IfOk result (λ page. IfSome (R.remaining text) (λ bytes. IsObject least name.now bytes page.0 page.1.items)) }
+{
+    let mut reader = Counted::new(text);
+    let mut writer = Counted::new(Vec::new(alloc));
+    let status = tell_run(
+        rt,
+        alloc,
+        name,
+        &mut reader,
+        &mut writer,
+        cutting,
+        gate,
+        least,
+    )?;
+    Ok((Some(status), writer.into_inner()))
+}
+
+// The status of a text and what is written of it, in the format that is asked for.
+fn text_page<Rt: Threads + Sync, R: Read + Drop, G: Gate>(
+    rt: &Rt,
+    alloc: Global,
+    name: &str,
+    text: R,
+    cutting: Cutting,
+    gate: &G,
+    options: FileOptions,
+) -> Result<(Option<Status>, Vec<u8>), RunFault>
+    ensures { IfOk result (λ page. IfSome (R.remaining text) (λ bytes. IsTextPage options.format options.check name.now bytes page.0 page.1.items)) }
+{
+    match options.format {
+        Format::Plain => named_report(rt, alloc, name, text, cutting, gate, options.check),
+        Format::Json => object(rt, alloc, name, text, cutting, gate, options.check.views),
+    }
+}
+
+// A trouble in words.
+fn text_of(trouble: Trouble) -> &'static str
+    ensures { result.now ≡ trouble_text trouble }
+{
+    match trouble {
+        Trouble::Missing => "no such file",
+        Trouble::Folder => "is a directory",
+        Trouble::Unopened => "can't be opened",
+        Trouble::Unread => "read failed",
+        Trouble::Memory => "out of memory",
+    }
+}
+
+// The trouble of a name that met one, and what is written of it.
+fn trouble_page(alloc: Global, name: &str, met: Trouble, format: Format) -> (Trouble, Vec<u8>)
+    ensures { IsTroublePage format name.now met result.0 result.1.items }
+{
+    match format {
+        Format::Plain => (met, Vec::new(alloc)),
+        Format::Json => {
+            match snap_json::trouble_line(alloc, name, code_of(&Err(met)), text_of(met)) {
+                Ok(line) => (met, line),
+                Err(_) => (Trouble::Memory, Vec::new(alloc)),
+            }
+        }
+    }
 }
 
 /// What is answered of a name, and what is written of it.
@@ -78,43 +155,26 @@ pub(crate) fn check_name<Rt: Threads + Sync, O: Opener, G: Gate>(
     name: &str,
     cutting: Cutting,
     gate: &G,
-    options: CheckOptions,
+    options: FileOptions,
 ) -> (Answer, Vec<u8>)
     ensures { IsPage (O.opens opener.now) options name.now result.0 result.1.items }
 {
-    match opener.open(name) {
-        Ok(text) => match named_report(rt, alloc, name, text, cutting, gate, options) {
-            Ok((status, lines)) => (Ok(status), lines),
-            Err(fault) => (Err(trouble_of(fault)), Vec::new(alloc)),
+    let met = match opener.open(name) {
+        Ok(text) => match text_page(rt, alloc, name, text, cutting, gate, options) {
+            Ok((status, out)) => return (Ok(status), out),
+            Err(fault) => trouble_of(fault),
         },
-        Err(trouble) => (Err(trouble), Vec::new(alloc)),
-    }
-}
-
-// A trouble in words.
-fn text_of(trouble: Trouble) -> &'static [u8]
-    ensures { result.now ≡ trouble_text trouble }
-{
-    match trouble {
-        Trouble::Missing => b"no such file",
-        Trouble::Folder => b"is a directory",
-        Trouble::Unopened => b"can't be opened",
-        Trouble::Unread => b"read failed",
-        Trouble::Memory => b"out of memory",
-    }
+        Err(trouble) => trouble,
+    };
+    let (trouble, out) = trouble_page(alloc, name, met, options.format);
+    (Err(trouble), out)
 }
 
 /// What is said of a name on the error output where there is a trouble.
 pub fn trouble_line(alloc: Global, name: &str, trouble: Trouble) -> Result<Vec<u8>, AllocError>
     ensures { IfOk result (λ line. line.items ≡ trouble_line_text name.now trouble) }
 {
-    let mut line = Vec::new(alloc);
-    line.extend_from_slice(b"snapjudge: ")?;
-    put_shown(&mut line, name)?;
-    line.extend_from_slice(b": ")?;
-    line.extend_from_slice(text_of(trouble))?;
-    line.push(b'\n')?;
-    Ok(line)
+    reason_line(alloc, name.as_bytes(), text_of(trouble))
 }
 
 // What is said of a name whose history has fewer completed views than are asked for.
@@ -136,14 +196,14 @@ fn refusal_line(alloc: Global, name: &str, options: CheckOptions) -> Result<Vec<
 pub(crate) fn told_of(
     alloc: Global,
     name: &str,
-    options: CheckOptions,
+    options: FileOptions,
     answer: &Answer,
 ) -> Result<Vec<u8>, AllocError>
     ensures { IfOk result (λ line. line.items ≡ told_text options name.now answer.now) }
 {
     match answer {
         Ok(Some(_)) => Ok(Vec::new(alloc)),
-        Ok(None) => refusal_line(alloc, name, options),
+        Ok(None) => refusal_line(alloc, name, options.check),
         Err(trouble) => trouble_line(alloc, name, *trouble),
     }
 }

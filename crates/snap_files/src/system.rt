@@ -44,7 +44,10 @@ fn trouble_of(error: &io::Error) -> Trouble {
     }
 }
 
-impl<R: Files> Opener for System<'_, R> {
+impl<R: Files + Sync> Opener for System<'_, R>
+where
+    R::File: Send + Sync,
+{
     type Text = SystemText<R::File>;
 
     ghost opens = { λ _ _ _. ⊤ };

@@ -1,9 +1,9 @@
 -- How clashes are counted, and which rows have one.
-use Rattle.std.proofs.Common.{◌≡◌, ℕ, zero, suc, ◌+◌, ◌-◌, ◌*◌, ◌<◌, ◌≤◌, Bool, true, false, cond, ◌&&◌, ◌||◌, List, [], ◌∷◌, ◌++◌, Option, Some, None, take, drop, length, get_or, min, max, refl, sym, ap, ◌∙◌, subst, arith}
+use Rattle.std.proofs.Common.{◌≡◌, ℕ, zero, suc, ◌+◌, ◌-◌, ◌*◌, ◌<◌, ◌≤◌, Bool, true, false, cond, ◌&&◌, ◌||◌, List, [], ◌∷◌, ◌++◌, Option, Some, None, take, drop, length, get_or, min, max, refl, sym, ap, ◌∙◌, subst, inl, inr, arith}
 use Rattle.std.specs.Prelude.{nat_lt, bit_or, bit_and, sum_by, count_by, count_ones, find}
 use Rattle.std.specs.List.{list_any, range_with_len}
 use Rattle.std.specs.Int.{bit_at}
-use Rattle.std.proofs.lemmas.Bool.{false≢true}
+use Rattle.std.proofs.lemmas.Bool.{cases_lt, false≢true, le-ltb}
 use Rattle.std.proofs.lemmas.Nat.Bits.{bit_at_or, bit_at_and, bit_at-zero}
 use Rattle.std.proofs.lemmas.List.{get_or_default}
 use Rattle.std.proofs.lemmas.List.Sums.{sum_by-cons, sum_by-append, count_by-le-length}
@@ -145,6 +145,10 @@ with_nothing g from n first (suc m) h =
 
 -- where no row has a greater number, or none has a lesser one and none ends before one of theirs begins
 
+never : (p : Bool) → (p && false) ≡ false
+never true = refl
+never false = refl
+
 pub apart_by_more : (g : GridValue) (a b : ℕ) → any_passes true g.columns a b ≡ false → (clashes g a b ≡ false) × (drops g a b ≡ false)
 unfolding clashes drops
 apart_by_more g a b h = rw h (refl, refl)
@@ -152,10 +156,24 @@ apart_by_more g a b h = rw h (refl, refl)
 pub apart_by_less : (g : GridValue) (a b : ℕ) → any_passes false g.columns a b ≡ false → nat_lt (number g.ends a) (number g.begins b) ≡ false → (clashes g a b ≡ false) × (drops g a b ≡ false)
 unfolding clashes drops
 apart_by_less g a b h e = rw (h, e) (never (any_passes true g.columns a b), never (any_passes true g.columns a b))
-  where
-    never : (p : Bool) → (p && false) ≡ false
-    never true = refl
-    never false = refl
+
+-- of two numbers not each is greater than the other
+one_greater : (n x : ℕ) → ((nat_lt x n || false) && (nat_lt n x || false)) ≡ false
+one_greater n x = elim (cases_lt n x) [
+  | inl under ↦ let e : nat_lt x n ≡ false = le-ltb x n (omega (arith, under)) in ap (λ z. (z || false) && (nat_lt n x || false)) e
+  | inr above ↦ let e : nat_lt n x ≡ false = le-ltb n x above in ap (λ z. (nat_lt x n || false) && (z || false)) e ∙ never (nat_lt x n || false)
+]
+
+-- in one column no row has both a greater and a lesser number than another
+one_way : (columns : List (List ℕ)) (a b : ℕ) → length columns ≤ 1 → (any_passes true columns a b && any_passes false columns a b) ≡ false
+unfolding any_passes
+one_way [] a b l = refl
+one_way (column ∷ []) a b l = one_greater (number column a) (number column b)
+one_way (column ∷ other ∷ rest) a b l = absurd (omega (arith, l))
+
+pub apart_by_one : (g : GridValue) (a b : ℕ) → length g.columns ≤ 1 → nat_lt (number g.ends a) (number g.begins b) ≡ false → (clashes g a b ≡ false) × (drops g a b ≡ false)
+unfolding clashes drops
+apart_by_one g a b l e = rw e (one_way g.columns a b l, never (any_passes true g.columns a b))
 
 -- few rows pass a test against one
 pub few_ones : (p : ℕ → Bool) (n mask : ℕ) → mask ≡ mask_below p n → count_ones mask ≤ n

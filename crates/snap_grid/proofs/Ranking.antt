@@ -7,6 +7,7 @@ use Rattle.std.proofs.lemmas.Bool.{cases_lt, lt-ltb, le-ltb}
 use Rattle.std.proofs.lemmas.List.{get_or_default}
 use Rattle.std.proofs.lemmas.List.Elements.{Contains-get_or}
 use Rattle.std.proofs.lemmas.List.Kept.{AllPairs-from_increasing}
+use Rattle.snap_grid.specs.Columns.{IsOrderedAs}
 use Rattle.snap_grid.specs.Masks.{mask_by}
 use Rattle.snap_grid.specs.Ranked.{IsRank, AreDistinct, AreRanks}
 use Rattle.snap_grid.proofs.Bits.{mask_places, mask_below_same}
@@ -60,19 +61,26 @@ at_least distinct n x rank_n rank_x at r s l =
       | inr behind ↦ omega (arith, here, s.behind k (omega (arith, l, behind)) at.1)
     ]
 
+-- ranks compare as the numbers do
+same_order : (numbers distinct ranks : List ℕ) (a x rank : ℕ) → AreDistinct numbers distinct → AreRanks numbers distinct ranks → IsRank distinct x rank → a < length numbers → nat_lt (get_or ranks a 0) rank ≡ nat_lt (get_or numbers a 0) x
+same_order numbers distinct ranks a x rank all r s l = elim (cases_lt (get_or ranks a 0) rank) [
+  | inl below ↦
+      let under = s.before (get_or ranks a 0) below in
+      let least = (r.each a l).behind (get_or ranks a 0) (omega arith) (omega (arith, below, s.within)) in
+      lt-ltb _ _ below ∙ sym (lt-ltb (get_or numbers a 0) x (omega (arith, under, least)))
+  | inr above ↦
+      let member = all.each (get_or numbers a 0) (Contains-get_or numbers a 0 l) in
+      le-ltb _ _ above ∙ sym (le-ltb (get_or numbers a 0) x (at_least distinct (get_or numbers a 0) x (get_or ranks a 0) rank member (r.each a l) s above))
+]
+
+pub ordered : (numbers distinct ranks : List ℕ) → AreDistinct numbers distinct → AreRanks numbers distinct ranks → IsOrderedAs numbers ranks
+ordered numbers distinct ranks all r = record {
+  count = r.count;
+  order = λ a b l m. same_order numbers distinct ranks a (get_or numbers b 0) (get_or ranks b 0) all r (r.each b m) l;
+}
+
 pub ranked_mask : (numbers distinct ranks : List ℕ) (mask x rank : ℕ) → AreDistinct numbers distinct → AreRanks numbers distinct ranks → IsRank distinct x rank → mask ≡ mask_by (λ n. nat_lt n rank) ranks → mask ≡ mask_by (λ n. nat_lt n x) numbers
 ranked_mask numbers distinct ranks mask x rank all r s e =
     e ∙ mask_places (λ n. nat_lt n rank) ranks (length numbers) r.count
-    ∙ mask_below_same (λ a. nat_lt (get_or ranks a 0) rank) (λ a. nat_lt (get_or numbers a 0) x) (length numbers) same
+    ∙ mask_below_same (λ a. nat_lt (get_or ranks a 0) rank) (λ a. nat_lt (get_or numbers a 0) x) (length numbers) (λ a l. same_order numbers distinct ranks a x rank all r s l)
     ∙ sym (mask_places (λ n. nat_lt n x) numbers (length numbers) refl)
-  where
-    same : (a : ℕ) → a < length numbers → nat_lt (get_or ranks a 0) rank ≡ nat_lt (get_or numbers a 0) x
-    same a l = elim (cases_lt (get_or ranks a 0) rank) [
-      | inl below ↦
-          let under = s.before (get_or ranks a 0) below in
-          let least = (r.each a l).behind (get_or ranks a 0) (omega arith) (omega (arith, below, s.within)) in
-          lt-ltb _ _ below ∙ sym (lt-ltb (get_or numbers a 0) x (omega (arith, under, least)))
-      | inr above ↦
-          let member = all.each (get_or numbers a 0) (Contains-get_or numbers a 0 l) in
-          le-ltb _ _ above ∙ sym (le-ltb (get_or numbers a 0) x (at_least distinct (get_or numbers a 0) x (get_or ranks a 0) rank member (r.each a l) s above))
-    ]

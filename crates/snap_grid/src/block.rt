@@ -1,3 +1,4 @@
+//! Blocks of rows, and which rows of a block pass or clash with another row.
 ghost use Rattle.std.specs.Prelude.{◌≡◌, ◌≤◌, ◌<◌, ◌+◌, ◌*◌, ◌-◌, ◌&&◌, ◌||◌, true, false, not, [], Bool, ℕ, cond, length, get_or, nat_lt, IsTrue, IfOk};
 ghost use Rattle.snap_grid.specs.Columns.{any_passes};
 ghost use Rattle.snap_grid.specs.Masks.{mask_below};

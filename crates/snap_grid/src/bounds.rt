@@ -1,3 +1,4 @@
+//! The least and the greatest of some numbers.
 ghost use Rattle.std.specs.Prelude.{◌≡◌, ◌≤◌, ◌<◌, ℕ, length, get_or};
 
 /// Bounds of some numbers.

@@ -1,4 +1,6 @@
+//! Columns of numbers, and their ranks.
 ghost use Rattle.std.specs.Prelude.{◌≡◌, ◌≤◌, ◌<◌, ◌+◌, ◌*◌, ◌-◌, ℕ, length, get_or, take, drop, min, IfOk};
+ghost use Rattle.snap_grid.specs.Columns.{AreOrderedAs, IsOrderedAs};
 
 use crate::bounds::Bounds;
 use crate::mask::WIDTH;
@@ -15,20 +17,37 @@ pub struct Column {
     bounds: Vec<Bounds>,
     // up to which number masks of the column have a table
     limit: u32,
-    // the ranks of the numbers, where they are farther apart; a rank only tells where to look
+    // the ranks of the numbers, where they are farther apart
     ranks: Vec<u32>,
 }
 
 // The ranks of some numbers, where they are farther apart than a limit; else none.
 fn ranks_beyond(alloc: Global, numbers: &[u32], limit: u32) -> Result<Vec<u32>, AllocError>
     requires { length numbers.now ≤ 65536 }
+    ensures { IfOk result (λ ranks. 0 < length ranks.items → IsOrderedAs numbers.now ranks.items) }
 {
     let bounds = Bounds::of(numbers);
     if bounds.greatest.saturating_sub(bounds.least) <= limit {
         return Ok(Vec::new(alloc));
     }
     let distinct = distinct_of(alloc, numbers)?;
-    ranks_of(alloc, numbers, &distinct)
+    let ranks = ranks_of(alloc, numbers, &distinct)?;
+    Ok(ranks)
+}
+
+// So many different numbers that are far apart are replaced by their ranks, whose masks have a table then.
+const FEW_RANKS: u32 = 1024;
+
+/// Columns in which rows compare as they do in these. Numbers that are far apart, but few of them different, are replaced by their
+/// ranks: rows are compared sooner then. The error is want of memory.
+pub fn by_ranks(alloc: Global, mut columns: Vec<Column>) -> Result<Vec<Column>, AllocError>
+    ensures { IfOk result (λ keys. AreOrderedAs columns.items keys.items) }
+{
+    let mut keys = Vec::with_capacity(alloc, columns.len())?;
+    while let Some(column) = columns.pop() {
+        keys.push(column.by_rank(alloc)?)?;
+    }
+    Ok(keys)
 }
 
 impl Model for Column {
@@ -39,7 +58,7 @@ impl Model for Column {
 
     ghost view = { λ c. c.numbers.items };
 
-    ghost invariant = { λ c. IsColumn c.numbers.items c.bounds.items c.limit };
+    ghost invariant = { λ c. IsColumn c.numbers.items c.bounds.items c.limit c.ranks.items };
 }
 
 impl Column {
@@ -64,6 +83,17 @@ impl Column {
             limit,
             ranks,
         })
+    }
+
+    // The column of the ranks, where these are known and few of them different; else this column.
+    fn by_rank(self, alloc: Global) -> Result<Column, AllocError>
+        ensures { IfOk result (IsOrderedAs self) }
+    {
+        if self.ranks.is_empty() || Bounds::of(&self.ranks).greatest >= FEW_RANKS {
+            return Ok(self);
+        }
+        let Column { ranks, .. } = self;
+        Column::new(alloc, ranks, FEW_RANKS)
     }
 
     // Between which the numbers of a block of rows are.

@@ -1,3 +1,4 @@
+//! A block's numbers of one column, against those of another block.
 ghost use Rattle.std.specs.Prelude.{◌≡◌, ◌<◌, ◌+◌, length, nat_lt};
 ghost use Rattle.snap_grid.specs.Columns.{number};
 ghost use Rattle.snap_grid.specs.Masks.{mask_by};
@@ -25,7 +26,7 @@ pub(crate) struct Facing<'b, 'g> {
 
 // The masks of our numbers below one of theirs, and of those that are at most that.
 #[derive(Drop)]
-pub(crate) struct Around<'b> {
+pub(crate) struct MasksAround<'b> {
     pub(crate) below: &'b Mask,
     pub(crate) at_most: &'b Mask,
 }
@@ -33,7 +34,7 @@ pub(crate) struct Around<'b> {
 impl<'b, 'g> Facing<'b, 'g> {
     // The masks around a number of theirs, which stand side by side in the table.
     #[inline]
-    pub(crate) fn around(&self, row: usize) -> Around<'b>
+    pub(crate) fn around(&self, row: usize) -> MasksAround<'b>
         requires tabled { 0 < length self.now.under.now }
         requires row { row < length self.now.theirs.now }
         ensures below { result.below.now ≡ mask_by (λ n. nat_lt n (number self.now.theirs.now row)) self.now.ours.now }
@@ -42,14 +43,14 @@ impl<'b, 'g> Facing<'b, 'g> {
         let x = u64::from(self.theirs[row]) + 1;
         let behind = x.saturating_sub(u64::from(self.bounds.least)) as usize;
         let place = behind.min(self.under.len() - 2);
-        Around {
+        MasksAround {
             below: &self.under[place],
             at_most: &self.under[place + 1],
         }
     }
 
     // The masks around a number of theirs, where there is no table.
-    pub(crate) fn around_far(&self, row: usize) -> Around<'b>
+    pub(crate) fn around_far(&self, row: usize) -> MasksAround<'b>
         requires far { length self.now.under.now ≡ 0 }
         requires row { row < length self.now.theirs.now }
         ensures below { result.below.now ≡ mask_by (λ n. nat_lt n (number self.now.theirs.now row)) self.now.ours.now }

@@ -1,3 +1,4 @@
+//! Grids, their clashes and their drops.
 ghost use Rattle.std.specs.Prelude.{◌≡◌, ◌≤◌, ◌<◌, ◌+◌, ◌*◌, ◌-◌, true, false, ℕ, Bool, [], length, get_or, min, nat_lt, take, drop, sum_by, count_by, find, IfOk, IsTrue};
 ghost use Rattle.std.specs.List.{range_with_len, list_any};
 ghost use Rattle.snap_grid.specs.Columns.{GridValue, any_passes, clashes, number, passes as spec_passes, rows_of, clash_count, drop_count, has_clash, HaveSameRows};
@@ -100,7 +101,7 @@ impl Grid {
     }
 
     // Whether bounds alone tell that none of our rows, which end there, clashes with one of a block of rows, or drops to it: none
-    // has a greater number, or none has a lesser one and none ends before one of the block begins.
+    // has a greater number; or none ends before one of the block begins, and none has a lesser number or there is one column alone.
     fn are_apart(&self, ours: &Block<'_>, ends: &Masks<'_>, block: usize, count: usize) -> bool
         requires columns { ours.now.columns.now ≡ self.now.columns }
         requires ends { ends.now ≡ take ours.now.count (drop ours.now.from self.now.ends) }
@@ -114,13 +115,13 @@ impl Grid {
         if ours.none_pass(true, block) {
             return true;
         }
-        if !ours.none_pass(false, block) {
-            return false;
-        }
         if begins.greatest > ends.bounds().least {
             return false;
         }
-        true
+        if self.columns.len() <= 1 {
+            return true;
+        }
+        ours.none_pass(false, block)
     }
 
     // The kinds of a block of rows.

@@ -1,3 +1,4 @@
+//! Rows of a block that stand for all that are alike.
 ghost use Rattle.std.specs.Prelude.{◌<◌};
 
 // A row of a block, counted from its first, and how many of its rows have the same numbers, that row among them.

@@ -1,3 +1,4 @@
+//! The kinds of a block's rows: rows with the same numbers, found by a hash of these.
 ghost use Rattle.std.specs.Prelude.{◌≡◌, ◌≤◌, ◌<◌, ◌+◌, IsTrue, IfOk};
 ghost use Rattle.snap_grid.specs.Kept.{HaveRows};
 ghost use Rattle.snap_grid.specs.Kinds.{AreAlike, AreKinds};
@@ -42,6 +43,7 @@ fn places_of(
     for j in 0..columns.len() {
         mix(&mut places, columns[j].rows(from, from + count));
     }
+    fold(&mut places);
     Ok(places)
 }
 
@@ -51,6 +53,13 @@ fn mix(places: &mut [u32], numbers: &[u32]) {
         places[i] = (places[i] ^ numbers[i])
             .wrapping_mul(0x9E37_79B1)
             .rotate_left(15);
+    }
+}
+
+// Mixes the higher bits of places into their lowest ten, by which they are found. Numbers that differ in high bits alone need it.
+fn fold(places: &mut [u32]) {
+    for i in 0..places.len() {
+        places[i] ^= (places[i] >> 10) ^ (places[i] >> 20);
     }
 }
 

@@ -1,3 +1,4 @@
+//! Masks: sets of up to 512 rows, a bit for each.
 ghost use Rattle.std.specs.Prelude.{◌≡◌, ◌≤◌, ◌<◌, true, ◌^◌, ℕ, bit_or, bit_and, bit_xor, count_ones, IsTrue};
 ghost use Rattle.snap_grid.specs.Masks.{IsFirstBit, mask_below};
 

@@ -1,3 +1,4 @@
+//! The masks of a block's numbers of one column, by a table of what is below each number.
 ghost use Rattle.std.specs.Prelude.{◌≡◌, ◌≤◌, ◌<◌, ◌+◌, ◌-◌, ℕ, length, get_or, nat_lt, IfOk};
 ghost use Rattle.snap_grid.specs.Masks.{mask_by};
 

@@ -1,10 +1,11 @@
+//! The masks of a block's numbers of one column, by their ranks.
 ghost use Rattle.std.specs.Prelude.{◌≡◌, ◌≤◌, ◌<◌, ◌+◌, ℕ, length, get_or, nat_lt, IfOk, IsTrue};
 ghost use Rattle.std.specs.List.Sorted.{IsStrictlyIncreasing};
 ghost use Rattle.snap_grid.specs.Masks.{mask_by};
 ghost use Rattle.snap_grid.specs.Ranked.{AreDistinct, AreRanks, IsRank};
 
 use crate::bounds::Bounds;
-use crate::facing::Around;
+use crate::facing::MasksAround;
 use crate::mask::Mask;
 use crate::masks::{empty_masks, fill};
 use std::alloc::{AllocError, Global};
@@ -174,13 +175,13 @@ impl<'c> Ranked<'c> {
     // The masks around x, which are soon found where a guess tells how many of the distinct numbers are below x. They stand side
     // by side, or are one where none of the numbers is x.
     #[inline]
-    pub(crate) fn around(&self, x: u32, guess: usize) -> Around<'_>
+    pub(crate) fn around(&self, x: u32, guess: usize) -> MasksAround<'_>
         ensures below { result.below.now ≡ mask_by (λ n. nat_lt n x) self.now }
         ensures at_most { result.at_most.now ≡ mask_by (λ n. nat_lt n (x + 1)) self.now }
     {
         let rank = rank_by(&self.distinct, x, guess);
         let behind = rank_behind(&self.distinct, x, rank);
-        Around {
+        MasksAround {
             below: &self.under[rank],
             at_most: &self.under[behind],
         }

@@ -9,16 +9,16 @@ use Rattle.snap_core.specs.Events.{process_of}
 use Rattle.snap_core.specs.Calls.{Views, calls_from, next_place, next_answer}
 use Rattle.snap_index.specs.declared.call.CallOp.TheVariants.{Update, View}
 use Rattle.snap_index.specs.declared.call.Call.{Call}
-use Rattle.snap_index.specs.Bare.{bare, begun_by}
+use Rattle.snap_index.specs.IndexedCalls.{as_indexed, begun_by}
 use Rattle.snap_index.specs.declared.call.CallOp.{CallOp}
 
 -- the number of a call stands in no bare call
-pub bare_numbers : (n m place : ℕ) (es : List Event) → map bare (calls_from n place es) ≡ map bare (calls_from m place es)
-bare_numbers n m place [] = refl
-bare_numbers n m place (BeginUpdate p e ∷ es) = ap (λ z. record { process = p; op = Update e; begun = place; ended = next_place p (suc place) es } ∷ z) (bare_numbers (suc n) (suc m) (suc place) es)
-bare_numbers n m place (BeginView p ∷ es) = ap (λ z. bare record { number = n; process = p; operation = Views (next_answer p es); begun = place; ended = next_place p (suc place) es } ∷ z) (bare_numbers (suc n) (suc m) (suc place) es)
-bare_numbers n m place (EndUpdate p ∷ es) = bare_numbers n m (suc place) es
-bare_numbers n m place (EndView p s ∷ es) = bare_numbers n m (suc place) es
+pub indexed_numbers : (n m place : ℕ) (es : List Event) → map as_indexed (calls_from n place es) ≡ map as_indexed (calls_from m place es)
+indexed_numbers n m place [] = refl
+indexed_numbers n m place (BeginUpdate p e ∷ es) = ap (λ z. record { process = p; op = Update e; begun = place; ended = next_place p (suc place) es } ∷ z) (indexed_numbers (suc n) (suc m) (suc place) es)
+indexed_numbers n m place (BeginView p ∷ es) = ap (λ z. as_indexed record { number = n; process = p; operation = Views (next_answer p es); begun = place; ended = next_place p (suc place) es } ∷ z) (indexed_numbers (suc n) (suc m) (suc place) es)
+indexed_numbers n m place (EndUpdate p ∷ es) = indexed_numbers n m (suc place) es
+indexed_numbers n m place (EndView p s ∷ es) = indexed_numbers n m (suc place) es
 
 pub dropped : (events : List Event) (i : ℕ) (e : Event) → 0 < i → i ≤ length events → e ≡ get_or events (i - 1) e → drop (i - 1) events ≡ e ∷ drop i events
 dropped events i e l m h =
@@ -54,9 +54,9 @@ abbrev pub head_of : ℕ → Option CallOp → ℕ → Option ℕ → List Call
 head_of p None place ended = []
 head_of p (Some op) place ended = record { process = p; op = op; begun = place; ended = ended } ∷ []
 
-headed : (place : ℕ) (e : Event) (es : List Event) → map bare (calls_from 0 place (e ∷ es)) ≡ head_of (process_of e) (begun_by e) place (next_place (process_of e) (suc place) es) ++ map bare (calls_from 0 (suc place) es)
-headed place (BeginUpdate p e) es = ap (λ z. record { process = p; op = Update e; begun = place; ended = next_place p (suc place) es } ∷ z) (bare_numbers 1 0 (suc place) es)
-headed place (BeginView p) es = ap (λ z. record { process = p; op = View; begun = place; ended = next_place p (suc place) es } ∷ z) (bare_numbers 1 0 (suc place) es)
+headed : (place : ℕ) (e : Event) (es : List Event) → map as_indexed (calls_from 0 place (e ∷ es)) ≡ head_of (process_of e) (begun_by e) place (next_place (process_of e) (suc place) es) ++ map as_indexed (calls_from 0 (suc place) es)
+headed place (BeginUpdate p e) es = ap (λ z. record { process = p; op = Update e; begun = place; ended = next_place p (suc place) es } ∷ z) (indexed_numbers 1 0 (suc place) es)
+headed place (BeginView p) es = ap (λ z. record { process = p; op = View; begun = place; ended = next_place p (suc place) es } ∷ z) (indexed_numbers 1 0 (suc place) es)
 headed place (EndUpdate p) es = refl
 headed place (EndView p s) es = refl
 
@@ -66,15 +66,15 @@ reverse_head p (Some op) place ended = refl
 
 -- the calls so far, one event further to the front
 pub so_far_more : (events : List Event) (i : ℕ) (e : Event) (q : ℕ) (op : Option CallOp) (ended : Option ℕ) (old new : List Call) → 0 < i → i ≤ length events → e ≡ get_or events (i - 1) e → q ≡ process_of e → op ≡ begun_by e →
-    ended ≡ next_place q i (drop i events) → new ≡ old ++ head_of q op (i - 1) ended → reverse old ≡ map bare (calls_from 0 i (drop i events)) → reverse new ≡ map bare (calls_from 0 (i - 1) (drop (i - 1) events))
+    ended ≡ next_place q i (drop i events) → new ≡ old ++ head_of q op (i - 1) ended → reverse old ≡ map as_indexed (calls_from 0 i (drop i events)) → reverse new ≡ map as_indexed (calls_from 0 (i - 1) (drop (i - 1) events))
 so_far_more events i e q op ended old new pos within read is begins ends more before =
     let n : suc (i - 1) ≡ i = omega arith in
-    let left : reverse new ≡ head_of q op (i - 1) ended ++ map bare (calls_from 0 i (drop i events)) =
+    let left : reverse new ≡ head_of q op (i - 1) ended ++ map as_indexed (calls_from 0 i (drop i events)) =
     ap reverse more ∙ reverse-append old (head_of q op (i - 1) ended) ∙ ap (λ z. z ++ reverse old) (reverse_head q op (i - 1) ended) ∙ ap (λ z. head_of q op (i - 1) ended ++ z) before in
-    let right : map bare (calls_from 0 (i - 1) (drop (i - 1) events)) ≡ head_of (process_of e) (begun_by e) (i - 1) (next_place (process_of e) i (drop i events)) ++ map bare (calls_from 0 i (drop i events)) =
-    ap (λ z. map bare (calls_from 0 (i - 1) z)) (dropped events i e pos within read) ∙ headed (i - 1) e (drop i events)
-    ∙ ap (λ z. head_of (process_of e) (begun_by e) (i - 1) (next_place (process_of e) z (drop i events)) ++ map bare (calls_from 0 z (drop i events))) n in
+    let right : map as_indexed (calls_from 0 (i - 1) (drop (i - 1) events)) ≡ head_of (process_of e) (begun_by e) (i - 1) (next_place (process_of e) i (drop i events)) ++ map as_indexed (calls_from 0 i (drop i events)) =
+    ap (λ z. map as_indexed (calls_from 0 (i - 1) z)) (dropped events i e pos within read) ∙ headed (i - 1) e (drop i events)
+    ∙ ap (λ z. head_of (process_of e) (begun_by e) (i - 1) (next_place (process_of e) z (drop i events)) ++ map as_indexed (calls_from 0 z (drop i events))) n in
     let head : head_of q op (i - 1) ended ≡ head_of (process_of e) (begun_by e) (i - 1) (next_place (process_of e) i (drop i events)) =
     ap (λ z. head_of q op (i - 1) z) ends ∙ ap (λ z. head_of q z (i - 1) (next_place q i (drop i events))) begins
     ∙ ap (λ z. head_of z (begun_by e) (i - 1) (next_place z i (drop i events))) is in
-    left ∙ ap (λ z. z ++ map bare (calls_from 0 i (drop i events))) head ∙ sym right
+    left ∙ ap (λ z. z ++ map as_indexed (calls_from 0 i (drop i events))) head ∙ sym right

@@ -13,8 +13,9 @@ use Rattle.snap_core.proofs.Lists.{Contains-from_In, In-from_filter}
 use Rattle.snap_core.proofs.Histories.{IsEndOf, call_end, answered_part}
 use Rattle.snap_index.specs.declared.call.CallOp.TheVariants.{View}
 use Rattle.snap_index.specs.declared.call.Call.{Call}
-use Rattle.snap_index.specs.Bare.{bare, bare_op, number_of, entries_shown, answered_by, answer_of}
-use Rattle.snap_index.proofs.BareCalls.{got_there, at_own_number, view_from, mapped_some, mapped_none}
+use Rattle.snap_index.specs.IndexedCalls.{as_indexed, indexed_op, number_of, entries_shown, answered_by, answer_of}
+use Rattle.snap_index.proofs.IndexedCalls.{at_own_number, view_from, mapped_some, mapped_none}
+use Rattle.snap_core.proofs.Members.{In-slice_get}
 
 answer_of_end : (o : Operation) (x : Event) → IsEndOf o x → answered_by o ≡ answer_at x
 answer_of_end (Updates d) (BeginUpdate p e) t = absurd t
@@ -42,7 +43,7 @@ not_ended es c i e = go c.operation refl
     go (Views (Some s)) w = absurd (let x = answered_part es c (record { there = i; completed = ap is_answer w }) in let g : None ≡ Some x.place = sym e ∙ x.ends in cc)
 
 -- a view is completed exactly where it has an end
-pub view_of_view : (es : List Event) (c : SpecCall) → IsHistory es → Contains (calls_of es) c → bare_op c.operation ≡ View → is_view c ≡ is_some c.ended
+pub view_of_view : (es : List Event) (c : SpecCall) → IsHistory es → Contains (calls_of es) c → indexed_op c.operation ≡ View → is_view c ≡ is_some c.ended
 unfolding is_view
 view_of_view es c h i o = go c.ended refl (view_from c.operation o)
   where
@@ -56,15 +57,15 @@ view_of_view es c h i o = go c.ended refl (view_from c.operation o)
 
 -- the answer of the call at a number, by what the index says of it
 
-pub no_call : (calls : List SpecCall) (c : ℕ) → None ≡ option_map bare (slice_get calls c) → None ≡ option_and_then answer_of (slice_get calls c)
-no_call calls c h = sym (ap (option_and_then answer_of) (mapped_none bare (slice_get calls c) (sym h)))
+pub no_call : (calls : List SpecCall) (c : ℕ) → None ≡ option_map as_indexed (slice_get calls c) → None ≡ option_and_then answer_of (slice_get calls c)
+no_call calls c h = sym (ap (option_and_then answer_of) (mapped_none as_indexed (slice_get calls c) (sym h)))
 
 call_there : (es : List Event) (c : ℕ) (r : SpecCall) → slice_get (calls_of es) c ≡ Some r → Contains (calls_of es) r
-call_there es c r h = Contains-from_In (calls_of es) r (got_there (calls_of es) c r h)
+call_there es c r h = Contains-from_In (calls_of es) r (In-slice_get (calls_of es) c r h)
 
-pub no_end : (es : List Event) (c : ℕ) (x : Call) → option_map bare (slice_get (calls_of es) c) ≡ Some x → x.ended ≡ None → None ≡ option_and_then answer_of (slice_get (calls_of es) c)
+pub no_end : (es : List Event) (c : ℕ) (x : Call) → option_map as_indexed (slice_get (calls_of es) c) ≡ Some x → x.ended ≡ None → None ≡ option_and_then answer_of (slice_get (calls_of es) c)
 no_end es c x e n =
-    let m = mapped_some bare (slice_get (calls_of es) c) x e in
+    let m = mapped_some as_indexed (slice_get (calls_of es) c) x e in
     sym (ap (option_and_then answer_of) m.is ∙ not_ended es m.from (call_there es c m.from m.is) (ap (λ (z : Call). z.ended) m.to ∙ n))
 
 -- the event at the end of a call
@@ -73,13 +74,13 @@ record EndEvent (es : List Event) (c end : ℕ) : Type 0 where
   there : slice_get es end ≡ Some event
   answer : answer_at event ≡ option_and_then answer_of (slice_get (calls_of es) c)
 
-end_event : (es : List Event) → IsHistory es → (c : ℕ) (x : Call) (end : ℕ) → option_map bare (slice_get (calls_of es) c) ≡ Some x → x.ended ≡ Some end → EndEvent es c end
+end_event : (es : List Event) → IsHistory es → (c : ℕ) (x : Call) (end : ℕ) → option_map as_indexed (slice_get (calls_of es) c) ≡ Some x → x.ended ≡ Some end → EndEvent es c end
 end_event es h c x end e n =
-    let m = mapped_some bare (slice_get (calls_of es) c) x e in
+    let m = mapped_some as_indexed (slice_get (calls_of es) c) x e in
     let z = call_end es h m.from end (call_there es c m.from m.is) (ap (λ (w : Call). w.ended) m.to ∙ n) in
     record { event = z.event; there = z.there; answer = sym (ap (option_and_then answer_of) m.is ∙ answer_of_end m.from.operation z.event z.ends) }
 
-pub end_answer : (es : List Event) → IsHistory es → (c : ℕ) (x : Call) (end : ℕ) → option_map bare (slice_get (calls_of es) c) ≡ Some x → x.ended ≡ Some end → (y : Event) → slice_get es end ≡ Some y →
+pub end_answer : (es : List Event) → IsHistory es → (c : ℕ) (x : Call) (end : ℕ) → option_map as_indexed (slice_get (calls_of es) c) ≡ Some x → x.ended ≡ Some end → (y : Event) → slice_get es end ≡ Some y →
     answer_at y ≡ option_and_then answer_of (slice_get (calls_of es) c)
 end_answer es h c x end e n y there =
     let z = end_event es h c x end e n in
@@ -87,7 +88,7 @@ end_answer es h c x end e n y there =
     let one : y ≡ z.event = cc in
     ap answer_at one ∙ z.answer
 
-pub end_there : (es : List Event) → IsHistory es → (c : ℕ) (x : Call) (end : ℕ) → option_map bare (slice_get (calls_of es) c) ≡ Some x → x.ended ≡ Some end → slice_get es end ≡ None → ⊥
+pub end_there : (es : List Event) → IsHistory es → (c : ℕ) (x : Call) (end : ℕ) → option_map as_indexed (slice_get (calls_of es) c) ≡ Some x → x.ended ≡ Some end → slice_get es end ≡ None → ⊥
 end_there es h c x end e n gone = let g : Some (end_event es h c x end e n).event ≡ None = sym (end_event es h c x end e n).there ∙ gone in cc
 
 pub no_answer : (x : Event) → ((p : ℕ) (s : List Entry) → x ≡ EndView p s → ⊥) → answer_at x ≡ None
@@ -107,6 +108,6 @@ pub answer_of_view : (es : List Event) (i c : ℕ) → option_map number_of (sli
 unfolding views_of is_view
 answer_of_view es i c h =
     let m = mapped_some number_of (slice_get (views_of (calls_of es)) i) c h in
-    let f = In-from_filter is_view (calls_of es) m.from (got_there (views_of (calls_of es)) i m.from m.is) in
+    let f = In-from_filter is_view (calls_of es) m.from (In-slice_get (views_of (calls_of es)) i m.from m.is) in
     ap (λ n. option_and_then answer_of (slice_get (calls_of es) n)) (sym m.to) ∙ ap (option_and_then answer_of) (at_own_number es m.from f.0) ∙ shown_by m.from.operation f.1
     ∙ sym (ap (option_map entries_shown) m.is)

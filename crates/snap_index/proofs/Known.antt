@@ -10,26 +10,27 @@ use Rattle.snap_core.specs.declared.entry.Entry.{Entry}
 use Rattle.snap_core.specs.declared.event.Event.{Event}
 use Rattle.snap_core.specs.declared.event.Event.TheVariants.{BeginUpdate, BeginView, EndUpdate, EndView}
 use Rattle.snap_core.specs.Entries.{AreEntries}
-use Rattle.snap_core.specs.Events.{IsHistory, IsKept, EventFits, event_limit}
+use Rattle.snap_core.specs.Events.{IsHistory, IsBoundedHistory, EventFits, event_limit}
 use Rattle.snap_core.specs.Calls.{Call, Operation, Updates, Views, calls_of, views_of, nobody, call_numbered, is_view, is_answer, is_update_numbered, writes_number, entries_of}
 use Rattle.snap_core.specs.Regular.{IsUpdateOf}
 use Rattle.snap_core.proofs.Lists.{In, Contains-from_In, In-get_or, In-from_filter}
 use Rattle.snap_core.proofs.Histories.{IsEndOf, call_end, answered_part}
-use Rattle.snap_index.specs.Bare.{bare, answer_of}
+use Rattle.snap_index.specs.IndexedCalls.{as_indexed, answer_of}
 use Rattle.snap_index.specs.Updates.{is_update_of, updates_of}
-use Rattle.snap_index.proofs.BareCalls.{call_count_within, find_there, at_own_number, got_there}
+use Rattle.snap_index.proofs.IndexedCalls.{call_count_within, at_own_number}
+use Rattle.snap_core.proofs.Members.{In-find, In-slice_get}
 use Rattle.snap_index.proofs.Ends.{shown_by}
 use Rattle.snap_index.proofs.Numbers.{nth_update, no_update_zero, update_count_is}
 
 -- a call number fits, and there is a call at each below the count
-pub calls_few : (es : List Event) → IsKept es → length (calls_of es) ≤ event_limit
+pub calls_few : (es : List Event) → IsBoundedHistory es → length (calls_of es) ≤ event_limit
 calls_few es h = omega (arith, call_count_within es, h.short)
 
 pub call_within : (calls : List Call) (c : ℕ) → c < length calls → slice_get calls c ≡ Some (call_numbered calls c)
 call_within calls c l = slice_get-get_or calls c nobody l
 
-pub bare_within : (calls : List Call) (c : ℕ) → c < length calls → option_map bare (slice_get calls c) ≡ Some (bare (call_numbered calls c))
-bare_within calls c l = ap (option_map bare) (call_within calls c l)
+pub indexed_within : (calls : List Call) (c : ℕ) → c < length calls → option_map as_indexed (slice_get calls c) ≡ Some (as_indexed (call_numbered calls c))
+indexed_within calls c l = ap (option_map as_indexed) (call_within calls c l)
 
 -- what a completed view shows is its answer
 pub answer_within : (calls : List Call) (c : ℕ) → c < length calls → is_view (call_numbered calls c) ≡ true → option_and_then answer_of (slice_get calls c) ≡ Some (entries_of (call_numbered calls c).operation)
@@ -73,14 +74,14 @@ view_fits (Views (Some s)) (BeginView p) t i f = absurd i
 view_fits (Views (Some s)) (EndUpdate p) t i f = absurd i
 view_fits (Views (Some s)) (EndView p q) t i f = let same : s ≡ q = cc in subst AreEntries (sym same) f.1
 
-pub view_entries : (es : List Event) → IsKept es → (i : ℕ) (r : Call) → slice_get (views_of (calls_of es)) i ≡ Some r → AreEntries (entries_of r.operation)
+pub view_entries : (es : List Event) → IsBoundedHistory es → (i : ℕ) (r : Call) → slice_get (views_of (calls_of es)) i ≡ Some r → AreEntries (entries_of r.operation)
 unfolding views_of is_view
 view_entries es h i r is =
-    let v = In-from_filter is_view (calls_of es) r (got_there (views_of (calls_of es)) i r is) in
+    let v = In-from_filter is_view (calls_of es) r (In-slice_get (views_of (calls_of es)) i r is) in
     let there = Contains-from_In (calls_of es) r v.0 in
     let e = answered_part es r (record { there = there; completed = v.1 }) in
     let x = call_end es h.history r e.place there e.ends in
-    let fits = All-contains EventFits es x.event h.fit (Contains-from_In es x.event (got_there es e.place x.event x.there)) in
+    let fits = All-contains EventFits es x.event h.fit (Contains-from_In es x.event (In-slice_get es e.place x.event x.there)) in
     view_fits r.operation x.event v.1 x.ends fits
 
 -- the update of a number
@@ -101,7 +102,7 @@ both false b h = absurd (false≢true h)
 pub update_found : (es : List Event) (k n : ℕ) (c : Call) → find (is_update_numbered k n) (calls_of es) ≡ Some c → IsUpdateAt es k n c
 unfolding is_update_numbered
 update_found es k n c h =
-    let f = find_there (is_update_numbered k n) (calls_of es) c h in
+    let f = In-find (is_update_numbered k n) (calls_of es) c h in
     go f.0 c.operation refl f.1
   where
     go : In c (calls_of es) → (o : Operation) → c.operation ≡ o → writes_number c.operation k n ≡ true → IsUpdateAt es k n c

@@ -1,5 +1,5 @@
 pub mod Back
-pub mod BareCalls
+pub mod IndexedCalls
 pub mod Ends
 pub mod Numbers
 pub mod Notes

@@ -6,15 +6,16 @@ use Rattle.std.proofs.lemmas.List.{length-map}
 use Rattle.std.proofs.lemmas.List.Sums.{count_by-le-length}
 use Rattle.std.proofs.lemmas.Option.{slice_get-map}
 use Rattle.snap_core.specs.declared.event.Event.{Event}
-use Rattle.snap_core.specs.Events.{IsHistory, IsKept, event_limit}
+use Rattle.snap_core.specs.Events.{IsHistory, IsBoundedHistory, event_limit}
 use Rattle.snap_core.specs.Calls.{calls_of, views_of, is_update_numbered}
 use Rattle.snap_core.specs.Calls.{Call as SpecCall}
 use Rattle.snap_index.specs.declared.call.Call.{Call}
 use Rattle.snap_index.specs.declared.call.Write.{Write}
-use Rattle.snap_index.specs.Bare.{bare, number_of}
+use Rattle.snap_index.specs.IndexedCalls.{as_indexed, number_of}
 use Rattle.snap_index.specs.Updates.{is_update_of, updates_of}
 use Rattle.snap_index.specs.Tables.{IsIndex}
-use Rattle.snap_index.proofs.BareCalls.{call_count_within, view_count_within, at_own_number, find_there, mapped_some}
+use Rattle.snap_index.proofs.IndexedCalls.{call_count_within, view_count_within, at_own_number, mapped_some}
+use Rattle.snap_core.proofs.Members.{In-find}
 use Rattle.snap_index.proofs.Numbers.{nth_update, no_update_zero, update_count_is}
 
 -- the fields of an index, by the history that a clause sees
@@ -29,7 +30,7 @@ views_few es calls views updates writes pending i =
 pub row_is : (k : ℕ) (calls : List SpecCall) → length (map number_of (updates_of k calls)) ≡ count_by (is_update_of k) calls
 row_is k calls = length-map (updates_of k calls) number_of ∙ update_count_is k calls
 
-pub row_few : (es : List Event) → IsKept es → (k : ℕ) → length (map number_of (updates_of k (calls_of es))) ≤ event_limit
+pub row_few : (es : List Event) → IsBoundedHistory es → (k : ℕ) → length (map number_of (updates_of k (calls_of es))) ≤ event_limit
 row_few es h k = omega (arith, row_is k (calls_of es), count_by-le-length (is_update_of k) (calls_of es), call_count_within es, h.short)
 
 -- what is kept of the n-th of the updates of a component
@@ -40,8 +41,8 @@ pub no_zero : {X : Type 0} (f : SpecCall → X) (es : List Event) → IsHistory 
 no_zero f es h k n e = sym (ap (option_map f) (no_update_zero es h k n e))
 
 -- the call at the number of what was found
-pub call_of_update : (es : List Event) (p : SpecCall → Bool) (c : ℕ) → option_map number_of (find p (calls_of es)) ≡ Some c → option_map bare (slice_get (calls_of es) c) ≡ option_map bare (find p (calls_of es))
+pub call_of_update : (es : List Event) (p : SpecCall → Bool) (c : ℕ) → option_map number_of (find p (calls_of es)) ≡ Some c → option_map as_indexed (slice_get (calls_of es) c) ≡ option_map as_indexed (find p (calls_of es))
 call_of_update es p c h =
     let m = mapped_some number_of (find p (calls_of es)) c h in
-    let f = find_there p (calls_of es) m.from m.is in
-    ap (λ z. option_map bare (slice_get (calls_of es) z)) (sym m.to) ∙ ap (option_map bare) (at_own_number es m.from f.0) ∙ sym (ap (option_map bare) m.is)
+    let f = In-find p (calls_of es) m.from m.is in
+    ap (λ z. option_map as_indexed (slice_get (calls_of es) z)) (sym m.to) ∙ ap (option_map as_indexed) (at_own_number es m.from f.0) ∙ sym (ap (option_map as_indexed) m.is)

@@ -8,7 +8,7 @@ use Rattle.std.proofs.lemmas.List.Elements.{filter-append}
 use Rattle.std.proofs.lemmas.List.Sums.{sum_by-append, count_by-le-length}
 use Rattle.snap_core.specs.declared.entry.Entry.{Entry}
 use Rattle.snap_core.specs.declared.event.Event.{Event}
-use Rattle.snap_core.specs.Events.{IsHistory, IsKept}
+use Rattle.snap_core.specs.Events.{IsHistory, IsBoundedHistory}
 use Rattle.snap_core.specs.Calls.{Operation, Updates, Views, calls_of, views_of, nobody, call_numbered, is_view}
 use Rattle.snap_core.specs.Calls.{Call as SpecCall}
 use Rattle.snap_core.specs.Orders.{is_completed}
@@ -19,10 +19,10 @@ use Rattle.snap_index.specs.declared.call.CallOp.{CallOp}
 use Rattle.snap_index.specs.declared.call.CallOp.TheVariants.{Update, View}
 use Rattle.snap_index.specs.declared.call.Call.{Call}
 use Rattle.snap_index.specs.declared.call.Write.{Write}
-use Rattle.snap_index.specs.Bare.{bare, bare_op, number_of, write_of, value_written}
+use Rattle.snap_index.specs.IndexedCalls.{as_indexed, indexed_op, number_of, write_of, value_written}
 use Rattle.snap_index.specs.Updates.{is_update_of, updates_of, is_pending}
 use Rattle.snap_index.specs.Tables.{AreTables}
-use Rattle.snap_index.proofs.BareCalls.{numbered_there, view_of_update, update_from}
+use Rattle.snap_index.proofs.IndexedCalls.{numbered_there, view_of_update, update_from}
 use Rattle.snap_index.proofs.Ends.{view_of_view}
 
 -- a list with one more at its end where a test holds
@@ -31,18 +31,18 @@ put_where true x xs = xs ++ x ∷ []
 put_where false x xs = xs
 
 -- what is put of a call among the views, and among the updates of component k
-abbrev pub is_bare_view : CallOp → Option ℕ → Bool
-is_bare_view (Update e) ended = false
-is_bare_view View ended = is_some ended
+abbrev pub is_indexed_view : CallOp → Option ℕ → Bool
+is_indexed_view (Update e) ended = false
+is_indexed_view View ended = is_some ended
 
-abbrev pub is_bare_update : CallOp → ℕ → Bool
-is_bare_update (Update e) k = e.component == k
-is_bare_update View k = false
+abbrev pub is_indexed_update : CallOp → ℕ → Bool
+is_indexed_update (Update e) k = e.component == k
+is_indexed_update View k = false
 
 -- what is put of a call behind the updates of its component
 pub record Puts {X : Type 0} (x : Call) (c : X) (updates new_updates : List (List X)) : Type 0 where
   pub size : length new_updates ≡ length updates
-  pub rows : (k : ℕ) → k < 256 → get_or new_updates k [] ≡ put_where (is_bare_update x.op k) c (get_or updates k [])
+  pub rows : (k : ℕ) → k < 256 → get_or new_updates k [] ≡ put_where (is_indexed_update x.op k) c (get_or updates k [])
 
 filter_more : {X : Type 0} (f : SpecCall → X) (x : X) (p : SpecCall → Bool) (calls : List SpecCall) (c : ℕ) → c < length calls → (b : Bool) → p (call_numbered calls c) ≡ b → f (call_numbered calls c) ≡ x →
     map f (filter p (take (c + 1) calls)) ≡ put_where b x (map f (filter p (take c calls)))
@@ -57,43 +57,43 @@ filter_more f x p calls c l b e n =
     put true = ap (λ z. map f (filter p (take c calls)) ++ z ∷ []) n
     put false = append-nil _
 
-bare_update_is : (o : Operation) (k n p b : ℕ) (e : Option ℕ) → is_update_of k (record { number = n; process = p; operation = o; begun = b; ended = e }) ≡ is_bare_update (bare_op o) k
+indexed_update_is : (o : Operation) (k n p b : ℕ) (e : Option ℕ) → is_update_of k (record { number = n; process = p; operation = o; begun = b; ended = e }) ≡ is_indexed_update (indexed_op o) k
 unfolding is_update_of
-bare_update_is (Updates d) k n p b e = refl
-bare_update_is (Views a) k n p b e = refl
+indexed_update_is (Updates d) k n p b e = refl
+indexed_update_is (Views a) k n p b e = refl
 
-view_is : (es : List Event) → IsHistory es → (c : ℕ) → c < length (calls_of es) → (x : Call) → x ≡ bare (call_numbered (calls_of es) c) → is_view (call_numbered (calls_of es) c) ≡ is_bare_view x.op x.ended
-view_is es h c l x e = go (bare_op r.operation) refl ∙ ap (λ (z : Call). is_bare_view z.op z.ended) (sym e)
+view_is : (es : List Event) → IsHistory es → (c : ℕ) → c < length (calls_of es) → (x : Call) → x ≡ as_indexed (call_numbered (calls_of es) c) → is_view (call_numbered (calls_of es) c) ≡ is_indexed_view x.op x.ended
+view_is es h c l x e = go (indexed_op r.operation) refl ∙ ap (λ (z : Call). is_indexed_view z.op z.ended) (sym e)
   where
     r : SpecCall
     r = call_numbered (calls_of es) c
 
-    go : (o : CallOp) → bare_op r.operation ≡ o → is_view r ≡ is_bare_view (bare_op r.operation) r.ended
-    go (Update d) w = view_of_update r d w ∙ sym (ap (λ z. is_bare_view z r.ended) w)
-    go View w = view_of_view es r h (numbered_there (calls_of es) c l) w ∙ sym (ap (λ z. is_bare_view z r.ended) w)
+    go : (o : CallOp) → indexed_op r.operation ≡ o → is_view r ≡ is_indexed_view (indexed_op r.operation) r.ended
+    go (Update d) w = view_of_update r d w ∙ sym (ap (λ z. is_indexed_view z r.ended) w)
+    go View w = view_of_view es r h (numbered_there (calls_of es) c l) w ∙ sym (ap (λ z. is_indexed_view z r.ended) w)
 
 -- what a bare call writes
 
-abbrev bare_value : CallOp → ℕ
-bare_value (Update e) = e.value
-bare_value View = 0
+abbrev indexed_value : CallOp → ℕ
+indexed_value (Update e) = e.value
+indexed_value View = 0
 
-abbrev pub bare_write : Call → Write
-bare_write x = record { value = bare_value x.op; begun = x.begun; ended = x.ended }
+abbrev pub indexed_write : Call → Write
+indexed_write x = record { value = indexed_value x.op; begun = x.begun; ended = x.ended }
 
-pub written : (x : Call) (e : Entry) → x.op ≡ Update e → bare_write x ≡ record { value = e.value; begun = x.begun; ended = x.ended }
-written x e h = ap (λ o. record { value = bare_value o; begun = x.begun; ended = x.ended }) h
+pub written : (x : Call) (e : Entry) → x.op ≡ Update e → indexed_write x ≡ record { value = e.value; begun = x.begun; ended = x.ended }
+written x e h = ap (λ o. record { value = indexed_value o; begun = x.begun; ended = x.ended }) h
 
-write_at : (c : SpecCall) (x : Call) → x ≡ bare c → write_of c ≡ bare_write x
-write_at c x e = ap (λ v. record { value = v; begun = c.begun; ended = c.ended }) (value_at c.operation) ∙ ap bare_write (sym e)
+write_at : (c : SpecCall) (x : Call) → x ≡ as_indexed c → write_of c ≡ indexed_write x
+write_at c x e = ap (λ v. record { value = v; begun = c.begun; ended = c.ended }) (value_at c.operation) ∙ ap indexed_write (sym e)
   where
-    value_at : (o : Operation) → value_written o ≡ bare_value (bare_op o)
+    value_at : (o : Operation) → value_written o ≡ indexed_value (indexed_op o)
     value_at (Updates d) = refl
     value_at (Views a) = refl
 
-pub noted : (es : List Event) → IsHistory es → (c : ℕ) → c < length (calls_of es) → (x : Call) → x ≡ bare (call_numbered (calls_of es) c) →
+pub noted : (es : List Event) → IsHistory es → (c : ℕ) → c < length (calls_of es) → (x : Call) → x ≡ as_indexed (call_numbered (calls_of es) c) →
     (views new_views : List ℕ) (updates new_updates : List (List ℕ)) (writes new_writes : List (List Write)) (pending new_pending : ℕ) →
-    new_views ≡ put_where (is_bare_view x.op x.ended) c views → Puts x c updates new_updates → Puts x (bare_write x) writes new_writes →
+    new_views ≡ put_where (is_indexed_view x.op x.ended) c views → Puts x c updates new_updates → Puts x (indexed_write x) writes new_writes →
     new_pending ≡ pending + cond (is_some x.ended) 0 1 →
     AreTables (take c (calls_of es)) views updates writes pending → AreTables (take (c + 1) (calls_of es)) new_views new_updates new_writes new_pending
 unfolding views_of updates_of is_pending is_completed
@@ -104,11 +104,11 @@ noted es h c l x e views new_views updates new_updates writes new_writes pending
     record {
       size = u.size ∙ t.size;
       write_size = w.size ∙ t.write_size;
-      of_views = v ∙ ap (put_where (is_bare_view x.op x.ended) c) t.of_views ∙ sym (filter_more number_of c is_view calls c l (is_bare_view x.op x.ended) (view_is es h c l x e) number);
-      of_updates = λ k m. u.rows k m ∙ ap (put_where (is_bare_update x.op k) c) (t.of_updates k m) ∙ sym (filter_more number_of c (is_update_of k) calls c l (is_bare_update x.op k) (updates_at k) number);
+      of_views = v ∙ ap (put_where (is_indexed_view x.op x.ended) c) t.of_views ∙ sym (filter_more number_of c is_view calls c l (is_indexed_view x.op x.ended) (view_is es h c l x e) number);
+      of_updates = λ k m. u.rows k m ∙ ap (put_where (is_indexed_update x.op k) c) (t.of_updates k m) ∙ sym (filter_more number_of c (is_update_of k) calls c l (is_indexed_update x.op k) (updates_at k) number);
       of_writes = λ k m.
-          w.rows k m ∙ ap (put_where (is_bare_update x.op k) (bare_write x)) (t.of_writes k m)
-          ∙ sym (filter_more write_of (bare_write x) (is_update_of k) calls c l (is_bare_update x.op k) (updates_at k) (write_at r x e));
+          w.rows k m ∙ ap (put_where (is_indexed_update x.op k) (indexed_write x)) (t.of_writes k m)
+          ∙ sym (filter_more write_of (indexed_write x) (is_update_of k) calls c l (is_indexed_update x.op k) (updates_at k) (write_at r x e));
       of_pending =
           let more = ap (count_by is_pending) (take_more calls c nobody l) ∙ sum_by-append (λ y. cond (is_pending y) 1 0) (take c calls) (r ∷ []) in
           let one = count-cons is_pending r [] in
@@ -116,8 +116,8 @@ noted es h c l x e views new_views updates new_updates writes new_writes pending
           omega (arith, p, t.of_pending, more, one, flip);
     }
   where
-    updates_at : (k : ℕ) → is_update_of k (call_numbered (calls_of es) c) ≡ is_bare_update x.op k
-    updates_at k = let r = call_numbered (calls_of es) c in bare_update_is r.operation k r.number r.process r.begun r.ended ∙ ap (λ (z : Call). is_bare_update z.op k) (sym e)
+    updates_at : (k : ℕ) → is_update_of k (call_numbered (calls_of es) c) ≡ is_indexed_update x.op k
+    updates_at k = let r = call_numbered (calls_of es) c in indexed_update_is r.operation k r.number r.process r.begun r.ended ∙ ap (λ (z : Call). is_indexed_update z.op k) (sym e)
 
     flipped : (b : Bool) → ◌≡◌ {A = ℕ} (cond b 0 1) (cond (not b) 1 0)
     flipped true = refl
@@ -151,27 +151,27 @@ pub pending_few : (calls : List SpecCall) (c : ℕ) (views : List ℕ) (updates 
 pending_few calls c views updates writes pending l t = omega (arith, t.of_pending, count_by-le-length is_pending (take c calls), length-take-le {A = SpecCall})
 
 -- what a call puts among the views, by its kind
-pub views_of_update : (x : Call) (e : Entry) (c : ℕ) (views new_views : List ℕ) → x.op ≡ Update e → new_views ≡ views → new_views ≡ put_where (is_bare_view x.op x.ended) c views
-views_of_update x e c views new_views h v = v ∙ sym (ap (λ o. put_where (is_bare_view o x.ended) c views) h)
+pub views_of_update : (x : Call) (e : Entry) (c : ℕ) (views new_views : List ℕ) → x.op ≡ Update e → new_views ≡ views → new_views ≡ put_where (is_indexed_view x.op x.ended) c views
+views_of_update x e c views new_views h v = v ∙ sym (ap (λ o. put_where (is_indexed_view o x.ended) c views) h)
 
-pub views_of_view : (x : Call) (b : Bool) (c : ℕ) (views new_views : List ℕ) → x.op ≡ View → b ≡ is_some x.ended → new_views ≡ put_where b c views → new_views ≡ put_where (is_bare_view x.op x.ended) c views
-views_of_view x b c views new_views h e v = v ∙ ap (λ z. put_where z c views) e ∙ sym (ap (λ o. put_where (is_bare_view o x.ended) c views) h)
+pub views_of_view : (x : Call) (b : Bool) (c : ℕ) (views new_views : List ℕ) → x.op ≡ View → b ≡ is_some x.ended → new_views ≡ put_where b c views → new_views ≡ put_where (is_indexed_view x.op x.ended) c views
+views_of_view x b c views new_views h e v = v ∙ ap (λ z. put_where z c views) e ∙ sym (ap (λ o. put_where (is_indexed_view o x.ended) c views) h)
 
 -- what a call puts among the updates, by its kind
 pub updates_of_update : {X : Type 0} (x : Call) (e : Entry) (c : X) (updates new_updates : List (List X)) → e.component < length updates → x.op ≡ Update e → new_updates ≡ set updates e.component (get_or updates e.component [] ++ c ∷ []) → Puts x c updates new_updates
 updates_of_update x e c updates new_updates l h u = record {
   size = ap length u ∙ length-set updates e.component (get_or updates e.component [] ++ c ∷ []);
-  rows = λ k m. ap (λ z. get_or z k []) u ∙ row_put updates e.component c k l ∙ sym (ap (λ o. put_where (is_bare_update o k) c (get_or updates k [])) h);
+  rows = λ k m. ap (λ z. get_or z k []) u ∙ row_put updates e.component c k l ∙ sym (ap (λ o. put_where (is_indexed_update o k) c (get_or updates k [])) h);
 }
 
 pub updates_of_view : {X : Type 0} (x : Call) (c : X) (updates new_updates : List (List X)) → x.op ≡ View → new_updates ≡ updates → Puts x c updates new_updates
 updates_of_view x c updates new_updates h u = record {
   size = ap length u;
-  rows = λ k m. ap (λ z. get_or z k []) u ∙ sym (ap (λ o. put_where (is_bare_update o k) c (get_or updates k [])) h);
+  rows = λ k m. ap (λ z. get_or z k []) u ∙ sym (ap (λ o. put_where (is_indexed_update o k) c (get_or updates k [])) h);
 }
 
 -- an update's component is a byte
-pub component_fits : (es : List Event) → IsKept es → (c : ℕ) → c < length (calls_of es) → (x : Call) → x ≡ bare (call_numbered (calls_of es) c) → (e : Entry) → x.op ≡ Update e → e.component < 256
+pub component_fits : (es : List Event) → IsBoundedHistory es → (c : ℕ) → c < length (calls_of es) → (x : Call) → x ≡ as_indexed (call_numbered (calls_of es) c) → (e : Entry) → x.op ≡ Update e → e.component < 256
 component_fits es h c l x is e op =
     byte_components es (bytes_of_events es h.fit) (call_numbered (calls_of es) c) e
     (record { there = numbered_there (calls_of es) c l; writes = update_from _ e (sym (ap (λ (z : Call). z.op) is) ∙ op) })

@@ -1,3 +1,3 @@
-pub mod Bare
+pub mod IndexedCalls
 pub mod Updates
 pub mod Tables

@@ -5,11 +5,11 @@ use Rattle.std.specs.declared.vec.Vec.{Vec}
 use Rattle.snap_core.specs.Calls.{calls_of, views_of}
 use Rattle.snap_core.specs.declared.event.Event.{Event}
 use Rattle.snap_core.specs.Entries.{component_count}
-use Rattle.snap_core.specs.Events.{IsKept}
+use Rattle.snap_core.specs.Events.{IsBoundedHistory}
 use Rattle.snap_core.specs.Calls.{Call as SpecCall}
 use Rattle.snap_index.specs.declared.call.Call.{Call}
 use Rattle.snap_index.specs.declared.call.Write.{Write}
-use Rattle.snap_index.specs.Bare.{bare, number_of, write_of}
+use Rattle.snap_index.specs.IndexedCalls.{as_indexed, number_of, write_of}
 use Rattle.snap_index.specs.Updates.{updates_of, is_pending}
 
 abbrev pub rows : {T : Type 0} → List (Vec T Global) → List (List T)
@@ -29,6 +29,6 @@ pub record AreTables (calls : List SpecCall) (views : List ℕ) (updates : List 
   pub of_pending : pending ≡ count_by is_pending calls
 
 pub record IsIndex (events : List Event) (calls : List Call) (views : List ℕ) (updates : List (List ℕ)) (writes : List (List Write)) (pending : ℕ) : Type 0 where
-  pub kept : IsKept events
-  pub bare_calls : calls ≡ map bare (calls_of events)
+  pub kept : IsBoundedHistory events
+  pub indexed_calls : calls ≡ map as_indexed (calls_of events)
   pub tables : AreTables (calls_of events) views updates writes pending

@@ -1,3 +1,4 @@
+//! Calls as an index keeps them, without what views show.
 use snap_core::Entry;
 
 /// What a call does.

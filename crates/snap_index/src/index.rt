@@ -1,9 +1,10 @@
+//! The index of a history, and its look-ups.
 ghost use Rattle.std.specs.Prelude.{◌≡◌, ◌<◌, ◌≤◌, ◌+◌, ℕ, length, map, count_by, find, IfOk, slice_get};
 ghost use Rattle.std.specs.Option.{option_and_then, option_copied, option_map};
 ghost use Rattle.snap_core.specs.Calls.{calls_of, views_of, is_update_numbered, call_numbered, precedes as spec_precedes};
 ghost use Rattle.snap_core.specs.Entries.{component_count};
-ghost use Rattle.snap_core.specs.Events.{IsKept};
-ghost use Rattle.snap_index.specs.Bare.{bare, number_of, write_of, entries_shown, answer_of};
+ghost use Rattle.snap_core.specs.Events.{IsBoundedHistory};
+ghost use Rattle.snap_index.specs.IndexedCalls.{as_indexed, number_of, write_of, entries_shown, answer_of};
 ghost use Rattle.snap_index.specs.Updates.{is_update_of, updates_of, is_pending};
 
 use crate::call::{Call, CallOp, Write};
@@ -83,7 +84,7 @@ impl<'h> Index<'h> {
     /// The events of the history, in order.
     pub fn events(&self) -> &[Event]
         ensures events { result.now ≡ self.now }
-        ensures kept { IsKept self.now }
+        ensures kept { IsBoundedHistory self.now }
     {
         self.history.events()
     }
@@ -91,7 +92,7 @@ impl<'h> Index<'h> {
     /// How many events the history has.
     pub fn event_count(&self) -> u32
         ensures count { result ≡ length self.now }
-        ensures kept { IsKept self.now }
+        ensures kept { IsBoundedHistory self.now }
     {
         self.events().len() as u32
     }
@@ -119,7 +120,7 @@ impl<'h> Index<'h> {
 
     /// The call of a number, if there is one.
     pub fn call(&self, c: u32) -> Option<&Call>
-        ensures { option_copied result ≡ option_map bare (slice_get (calls_of self.now) c) }
+        ensures { option_copied result ≡ option_map as_indexed (slice_get (calls_of self.now) c) }
     {
         self.calls.get(c as usize)
     }
@@ -161,7 +162,7 @@ impl<'h> Index<'h> {
 
     /// Update `n` of component `k`, pending or not. Updates are numbered from 1.
     pub fn update(&self, k: u8, n: u32) -> Option<&Call>
-        ensures { option_copied result ≡ option_map bare (find (is_update_numbered k n) (calls_of self.now)) }
+        ensures { option_copied result ≡ option_map as_indexed (find (is_update_numbered k n) (calls_of self.now)) }
     {
         let c = self.update_call(k, n)?;
         self.call(c)
@@ -179,7 +180,7 @@ impl<'h> Index<'h> {
     // The updates of component k, in the order of their numbers.
     fn writes(&self, k: u8) -> &[Write]
         ensures writes { result.now ≡ map write_of (updates_of k (calls_of self.now)) }
-        ensures kept { IsKept self.now }
+        ensures kept { IsBoundedHistory self.now }
     {
         self.writes.of(k)
     }
@@ -187,7 +188,7 @@ impl<'h> Index<'h> {
     /// The call numbers of the updates of component `k`: that of update `n` is the `n`-th of them.
     pub fn updates(&self, k: u8) -> &[u32]
         ensures updates { result.now ≡ map number_of (updates_of k (calls_of self.now)) }
-        ensures kept { IsKept self.now }
+        ensures kept { IsBoundedHistory self.now }
     {
         self.updates.of(k)
     }

@@ -1,8 +1,9 @@
+//! The calls of a history, listed by one pass from its end.
 ghost use Rattle.std.specs.Prelude.{◌≡◌, ◌≤◌, ◌<◌, ℕ, length, get_or, map, IfOk};
 ghost use Rattle.snap_core.specs.Calls.{calls_of};
 ghost use Rattle.snap_core.specs.declared.event.Event.{Event};
 ghost use Rattle.snap_core.specs.Events.{event_limit, process_of};
-ghost use Rattle.snap_index.specs.Bare.{bare, begun_by as spec_begun_by};
+ghost use Rattle.snap_index.specs.IndexedCalls.{as_indexed, begun_by as spec_begun_by};
 
 use crate::call::{Call, CallOp};
 use snap_core::Event;
@@ -32,7 +33,7 @@ fn process_limit(events: &[Event]) -> usize
 // The calls in the order of their begins, by one pass from the end.
 pub(crate) fn list_calls(alloc: Global, events: &[Event]) -> Result<Vec<Call>, AllocError>
     requires { length events.now ≤ event_limit }
-    ensures { IfOk result (λ calls. calls.items ≡ map bare (calls_of events.now)) }
+    ensures { IfOk result (λ calls. calls.items ≡ map as_indexed (calls_of events.now)) }
 {
     // the place of each process's next event
     let mut next: Vec<Option<u32>> = vec![in alloc; None; process_limit(events)]?;

@@ -1,3 +1,4 @@
+//! Lists of updates, one for each component.
 ghost use Rattle.std.specs.Prelude.{◌≡◌, ◌≤◌, ◌<◌, ◌+◌, ℕ, [], ◌∷◌, ◌++◌, OnOk, get_or, length, replicate, slice_set};
 ghost use Rattle.snap_core.specs.Entries.{component_count};
 ghost use Rattle.snap_index.specs.Tables.{padded, rows};

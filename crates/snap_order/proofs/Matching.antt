@@ -8,15 +8,12 @@ use Rattle.std.proofs.lemmas.Bool.{false≢true, ltb-true, and_parts, eqb-true, 
 use Rattle.snap_core.specs.declared.entry.Entry.{Entry}
 use Rattle.snap_core.specs.Entries.{HasByteComponent, entry_of, rises}
 use Rattle.snap_core.proofs.Lists.{In, In-get_or, Contains-from_In, count-cons}
+use Rattle.snap_theory.proofs.Renumbered.{rises_tail}
 use Rattle.snap_order.specs.Shown.{IsLast, ShowsLast, AreCounted}
 
 -- each entry is the last of its component
 abbrev pub AreLast : List (Option Entry) → List Entry → Type 0
 AreLast last es = (e : Entry) → In e es → get_or last e.component None ≡ Some e
-
-pub rises_tail : (e : Entry) (es : List Entry) → rises (e ∷ es) ≡ true → rises es ≡ true
-rises_tail e [] h = refl
-rises_tail e (d ∷ es) h = (and_parts _ _ h).1
 
 pub rises_above : (e : Entry) (es : List Entry) → rises (e ∷ es) ≡ true → (d : Entry) → In d es → e.component < d.component
 rises_above e [] h d i = absurd i

@@ -5,13 +5,13 @@ use Rattle.std.proofs.lemmas.List.{map-append, take-append-drop, take_more, get_
 use Rattle.std.proofs.lemmas.List.Elements.{All-contains}
 use Rattle.snap_core.specs.Calls.{Call, precedes}
 use Rattle.snap_core.specs.Orders.{IsLegalOrder, is_completed, is_update}
-use Rattle.snap_order.specs.Starts.{IsLegalStart, MayFollow}
+use Rattle.snap_theory.specs.Starts.{IsLegalStart, MayFollow}
 use Rattle.snap_order.specs.Numbers.{IsLegalList, picked}
 use Rattle.snap_core.specs.Calls.{nobody}
 use Rattle.snap_core.proofs.Lists.{In, In-from_Contains, Contains-from_In, In-append_left, In-get_or, Pairs-left, Pairs-from_AllPairs, AllPairs-from_Pairs}
-use Rattle.snap_order.proofs.Starts.{start_back, start_of_order, order_from_start}
-use Rattle.snap_conditions.proofs.Tallies.{in_map}
-use Rattle.snap_conditions.proofs.Rising.{in_map_from}
+use Rattle.snap_theory.proofs.Starts.{start_back, start_of_order, order_from_start}
+use Rattle.snap_core.proofs.Members.{In-map}
+use Rattle.snap_core.proofs.Members.{In-from_map}
 
 -- a call's place in the list is its number
 abbrev pub AreNumbered : List Call → Type 0
@@ -50,7 +50,7 @@ picked-more calls ns i l = ap (picked calls) (take_more ns i 0 l) ∙ picked-app
 
 pub picks : (calls : List Call) (ns : List ℕ) (n : ℕ) → In n ns → In (get_or calls n nobody) (picked calls ns)
 unfolding picked
-picks calls ns n i = in_map (λ m. get_or calls m nobody) ns n i
+picks calls ns n i = In-map (λ m. get_or calls m nobody) ns n i
 
 -- the front of a start is one
 pub start_front : (calls xs ys : List Call) → IsLegalStart calls (xs ++ ys) → IsLegalStart calls xs
@@ -74,9 +74,9 @@ picked_legal calls ns p h =
 pub legal_number : (calls : List Call) (ns : List ℕ) → AreNumbered calls → IsLegalList calls ns → (n : ℕ) → In n ns → n < length calls
 legal_number calls ns p h n i =
     let s = start_of_order calls h.0 h.2 in
-    let j = in_map_from (λ (c : Call). c.number) h.0 n (subst (In n) (sym h.1) i) in
-    let q = placed_call calls p j.0 (only_calls calls h.0 s j.0 j.1) in
-    omega (arith, q.below, j.2)
+    let j = In-from_map (λ (c : Call). c.number) h.0 n (subst (In n) (sym h.1) i) in
+    let q = placed_call calls p j.it (only_calls calls h.0 s j.it j.there) in
+    omega (arith, q.below, j.is)
 
 -- at each place of a legal list its call may follow those before it
 pub legal_next : (calls : List Call) (ns : List ℕ) → AreNumbered calls → IsLegalList calls ns → (i : ℕ) → i < length ns → MayFollow calls (picked calls (take i ns)) (get_or calls (get_or ns i 0) nobody)
@@ -89,7 +89,7 @@ legal_next calls ns p h i l =
 -- a legal list has the number of each completed call
 pub legal_completed : (calls : List Call) (ns : List ℕ) → AreNumbered calls → IsLegalList calls ns → (c : Call) → Contains calls c → is_completed c ≡ true → In c.number ns
 legal_completed calls ns p h c i t =
-    subst (In c.number) h.1 (in_map (λ (z : Call). z.number) h.0 c (In-from_Contains _ _ (h.2.completed c i t)))
+    subst (In c.number) h.1 (In-map (λ (z : Call). z.number) h.0 c (In-from_Contains _ _ (h.2.completed c i t)))
 
 -- and what suffices
 pub legal_list : (calls : List Call) (ns : List ℕ) → AreNumbered calls → ((n : ℕ) → In n ns → n < length calls) → IsLegalStart calls (picked calls ns) → ((c : Call) → Contains calls c → is_completed c ≡ true → In c.number ns) → IsLegalList calls ns

@@ -9,7 +9,7 @@ use Rattle.std.proofs.lemmas.Option.{slice_get-get_or, slice_get_past}
 use Rattle.snap_core.specs.declared.entry.Entry.{Entry}
 use Rattle.snap_core.specs.Calls.{Call, call_numbered, is_view, views_of, nobody}
 use Rattle.snap_core.proofs.Lists.{count-cons}
-use Rattle.snap_index.specs.Bare.{entries_shown, answer_of}
+use Rattle.snap_index.specs.IndexedCalls.{entries_shown, answer_of}
 use Rattle.snap_index.proofs.Known.{call_within}
 use Rattle.snap_conditions.specs.Seen.{view_in}
 

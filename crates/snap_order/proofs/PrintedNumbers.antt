@@ -8,10 +8,10 @@ use Rattle.snap_core.specs.Orders.{is_update}
 use Rattle.snap_core.proofs.Histories.{numbered_calls}
 use Rattle.snap_core.proofs.Lists.{Contains-from_In, In, In-get_or}
 use Rattle.snap_index.proofs.Known.{number_within, own_number}
-use Rattle.snap_order.specs.Levels.{is_printed, printed_order, stands_by}
+use Rattle.snap_theory.specs.Levels.{is_printed, printed_order, stands_by}
 use Rattle.snap_order.specs.Numbers.{picked}
 use Rattle.snap_order.proofs.Numbers.{order_picked}
-use Rattle.snap_order.proofs.Printed.{in_printed}
+use Rattle.snap_theory.proofs.Printed.{in_printed}
 
 -- the number of an update or a completed view has the property
 abbrev pub HoldsOfLines : List Call → (ℕ → Type 0) → Type 0

@@ -11,12 +11,12 @@ use Rattle.snap_core.specs.Regular.{IsUpdateOf}
 use Rattle.snap_core.specs.Orders.{is_completed, written_by, last_written}
 use Rattle.snap_core.proofs.Lists.{In, In-from_Contains, Contains-from_In, In-append_left, In-append_right, In-append_cases}
 use Rattle.snap_core.proofs.Facts.{precedes_to, precedes_from, shown_in}
-use Rattle.snap_order.specs.Starts.{IsLegalStart, MayFollow}
+use Rattle.snap_theory.specs.Starts.{IsLegalStart, MayFollow}
 use Rattle.snap_order.specs.Numbers.{IsLegalList, picked}
 use Rattle.snap_order.specs.Stands.{MayStand, SeesCompleted}
-use Rattle.snap_order.proofs.Last.{Writes, last_written-append, last_written_none}
-use Rattle.snap_order.proofs.Starts.{start_push, start_nil}
-use Rattle.snap_conditions.proofs.Rising.{in_map_from}
+use Rattle.snap_theory.proofs.LastWritten.{Writes, last_written-append, last_written_none}
+use Rattle.snap_theory.proofs.Starts.{start_push, start_nil}
+use Rattle.snap_core.proofs.Members.{Origin, In-from_map}
 use Rattle.snap_order.proofs.Numbers.{AreNumbered, picks, picked-more, legal_next, legal_number, legal_completed, legal_list, placed_call}
 
 -- the components of all updates and entries are bytes
@@ -35,14 +35,14 @@ pub record IsState (calls : List Call) (ns : List ℕ) (i : ℕ) (seen : List Bo
   pub most : (a : Call) → In a (picked calls (take i ns)) → a.begun ≤ latest
   pub one : (latest ≡ 0) ⊎ ((a : Call) × In a (picked calls (take i ns)) × (a.begun ≡ latest))
 
-in_picked : (calls : List Call) (ns : List ℕ) (a : Call) → In a (picked calls ns) → (n : ℕ) × In n ns × (get_or calls n nobody ≡ a)
+in_picked : (calls : List Call) (ns : List ℕ) (a : Call) → In a (picked calls ns) → Origin (λ n. get_or calls n nobody) ns a
 unfolding picked
-in_picked calls ns a i = in_map_from (λ n. get_or calls n nobody) ns a i
+in_picked calls ns a i = In-from_map (λ n. get_or calls n nobody) ns a i
 
 only_calls : (calls : List Call) (m : List ℕ) → ((n : ℕ) → In n m → n < length calls) → (a : Call) → In a (picked calls m) → Contains calls a
 only_calls calls m below a i =
     let p = in_picked calls m a i in
-    subst (Contains calls) p.2 (Contains-get_or calls p.0 nobody (below p.0 p.1))
+    subst (Contains calls) p.is (Contains-get_or calls p.it nobody (below p.it p.there))
 
 -- an end that is not before a place
 pub not_before_to : (o : Option ℕ) (latest place : ℕ) → is_before o latest ≡ false → o ≡ Some place → latest ≤ place
@@ -62,8 +62,8 @@ may_follow calls ns i n seen last latest p b s l unseen m = record {
   stands = m.stands;
   fresh = λ a j e.
       let q = in_picked calls (take i ns) a (In-from_Contains _ _ j) in
-      let same : q.0 ≡ n = sym (p q.0 nobody (s.below q.0 q.1)) ∙ ap (λ (z : Call). z.number) (q.2 ∙ e) ∙ p n nobody l in
-      false≢true (sym unseen ∙ s.seen_from n (subst (λ z. In z (take i ns)) same q.1));
+      let same : q.it ≡ n = sym (p q.it nobody (s.below q.it q.there)) ∙ ap (λ (z : Call). z.number) (q.is ∙ e) ∙ p n nobody l in
+      false≢true (sym unseen ∙ s.seen_from n (subst (λ z. In z (take i ns)) same q.there));
   precedence = λ a j. false_from_ne_true _ (λ h.
       let t = precedes_to (get_or calls n nobody) a h in
       omega (arith, t.before, not_before_to (get_or calls n nobody).ended latest t.place m.precedes_none t.ends, s.most a (In-from_Contains _ _ j)));

@@ -5,7 +5,7 @@ use Rattle.std.specs.List.{All}
 use Rattle.std.proofs.lemmas.Bool.{lt-ltb, le-ltb}
 use Rattle.snap_core.specs.Entries.{HasByteComponent}
 use Rattle.snap_core.specs.Calls.{Call, entries_of}
-use Rattle.snap_conditions.specs.Faults.{exceeds}
+use Rattle.snap_theory.specs.Faults.{exceeds}
 use Rattle.snap_conditions.specs.Quick.{shown_sum}
 use Rattle.snap_conditions.proofs.Quick.{no_greater, smaller}
 

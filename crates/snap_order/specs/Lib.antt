@@ -1,9 +1,5 @@
-pub mod Levels
 pub mod Near
-pub mod Starts
-pub mod Keys
 pub mod Numbers
 pub mod Shown
 pub mod Stands
 pub mod Chains
-pub mod Laws

@@ -2,7 +2,7 @@ ghost use Rattle.std.specs.Prelude.{◌≡◌, ◌<◌, ◌↔◌, length, IfOk,
 ghost use Rattle.snap_core.specs.Events.{IsHistory};
 ghost use Rattle.snap_core.specs.Calls.{calls_of, call_numbered, is_before};
 ghost use Rattle.snap_core.specs.Orders.{is_completed as spec_is_completed};
-ghost use Rattle.snap_conditions.specs.Faults.{HasNoFault};
+ghost use Rattle.snap_theory.specs.Faults.{HasNoFault};
 ghost use Rattle.snap_order.specs.Numbers.{IsLegalList};
 ghost use Rattle.snap_order.specs.Stands.{MayStand, SeesCompleted};
 

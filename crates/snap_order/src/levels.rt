@@ -3,12 +3,12 @@ ghost use Rattle.std.specs.Prelude.{◌≡◌, ◌<◌, ◌≤◌, ◌↔◌, le
 ghost use Rattle.std.specs.Option.{option_map};
 ghost use Rattle.snap_core.specs.Calls.{calls_of, call_numbered, views_of, shown_number};
 ghost use Rattle.snap_conditions.specs.Chains.{IsViewChain};
-ghost use Rattle.snap_conditions.specs.Faults.{HasNoFault};
+ghost use Rattle.snap_theory.specs.Faults.{HasNoFault};
 ghost use Rattle.snap_conditions.specs.Quick.{entry_sum, shown_sum};
 ghost use Rattle.snap_conditions.specs.Seen.{view_in};
-ghost use Rattle.snap_index.specs.Bare.{answer_of, number_of};
-ghost use Rattle.snap_order.specs.Keys.{printed_keys, rank_of};
-ghost use Rattle.snap_order.specs.Levels.{update_level as spec_update_level};
+ghost use Rattle.snap_index.specs.IndexedCalls.{answer_of, number_of};
+ghost use Rattle.snap_theory.specs.Keys.{printed_keys, rank_of};
+ghost use Rattle.snap_theory.specs.Levels.{update_level as spec_update_level};
 
 use crate::near::partition_near;
 use snap_conditions::{ViewChain, entries_sum};

@@ -1,8 +1,8 @@
 ghost use Rattle.std.specs.Prelude.{◌≡◌, map, IfOk};
 ghost use Rattle.snap_core.specs.Calls.{calls_of};
 ghost use Rattle.snap_conditions.specs.Chains.{IsViewChain};
-ghost use Rattle.snap_conditions.specs.Faults.{HasNoFault};
-ghost use Rattle.snap_order.specs.Levels.{printed_order};
+ghost use Rattle.snap_theory.specs.Faults.{HasNoFault};
+ghost use Rattle.snap_theory.specs.Levels.{printed_order};
 ghost use Rattle.snap_order.specs.Numbers.{IsLegalList};
 
 use crate::levels::Levels;

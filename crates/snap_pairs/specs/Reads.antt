@@ -6,7 +6,7 @@ use Rattle.std.specs.declared.vec.Vec.{Vec}
 use Rattle.snap_core.specs.declared.event.Event.{Event}
 use Rattle.snap_core.specs.Calls.{Call, calls_of, views_of}
 use Rattle.snap_core.specs.Entries.{component_count}
-use Rattle.snap_conditions.specs.Faults.{read_faults}
+use Rattle.snap_theory.specs.Faults.{read_faults}
 use Rattle.snap_conditions.specs.Grids.{AreColumnsOf}
 
 -- the grid is of the events; where there is none, no two views are a read fault

@@ -1,3 +1,4 @@
+//! Claims, by which workers draw each piece once.
 ghost use Rattle.std.specs.Prelude.{◌≡◌, ℕ, ◌+◌, ◌<◌, ◌≤◌, ◌↔◌, ◌++◌, ◌∷◌, [], length, All, Any, IfErr, IfNone, IfOk, IfSome, IsNone, IsOk, IsTrue, OnOk, OnSome, IsSome};
 ghost use Rattle.snap_pairs.specs.Claiming.{AreDrawnOnce, IsClaimOf, IsFinished, new_claims, pieces_of, with_number};
 

@@ -13,7 +13,7 @@ use snap_threads::Cutting;
 use std::alloc::{AllocError, Global};
 
 // Puts each tally into the slot of its piece.
-fn put_pairs(index: &Index<'_>, cutting: Cutting, slots: &mut [Option<Tally>], pairs: &[Drawn])
+fn put_tallies(index: &Index<'_>, cutting: Cutting, slots: &mut [Option<Tally>], pairs: &[Drawn])
     requires slots { FitSlots (calls_of index.now) cutting.pieces slots.old }
     requires pairs { AreTallied (calls_of index.now) cutting.pieces pairs.now }
     ensures fit { FitSlots (calls_of index.now) cutting.pieces slots.new }
@@ -45,7 +45,7 @@ pub(crate) fn gather(
     let mut slots = Vec::from_elem(alloc, None, cutting.pieces() as usize)?;
     while let Some(answer) = answers.pop() {
         let Answer { claim, pairs } = answer?;
-        put_pairs(index, cutting, slots.as_mut_slice(), pairs.as_slice());
+        put_tallies(index, cutting, slots.as_mut_slice(), pairs.as_slice());
         claims.push(claim)?;
     }
     Ok((claims, slots))

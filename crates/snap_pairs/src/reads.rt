@@ -3,7 +3,7 @@ ghost use Rattle.std.specs.Prelude.{◌≡◌, ◌<◌, ◌≤◌, ◌+◌, ◌�
 ghost use Rattle.snap_core.specs.Calls.{calls_of, views_of};
 ghost use Rattle.snap_conditions.specs.Chains.{AreViewSums, IsViewChain};
 ghost use Rattle.snap_core.specs.Entries.{component_count};
-ghost use Rattle.snap_conditions.specs.Faults.{read_faults};
+ghost use Rattle.snap_theory.specs.Faults.{read_faults};
 ghost use Rattle.snap_conditions.specs.Grids.{AreColumnsOf};
 ghost use Rattle.snap_conditions.specs.Quick.{shown_sum};
 ghost use Rattle.snap_conditions.specs.Seen.{view_in};

@@ -1,7 +1,8 @@
+//! The tally of all views, from the workers' start to their end.
 ghost use Rattle.std.specs.Prelude.{◌≡◌, ◌↔◌, [], IfOk, IfSome, IsSome};
 ghost use Rattle.snap_core.specs.Calls.{calls_of, views_of};
 ghost use Rattle.snap_conditions.specs.Chains.{IsViewChain};
-ghost use Rattle.snap_conditions.specs.Faults.{read_faults};
+ghost use Rattle.snap_theory.specs.Faults.{read_faults};
 ghost use Rattle.snap_conditions.specs.Tally.{tally_of};
 ghost use Rattle.snap_pairs.specs.Claiming.{IsClaimOf};
 ghost use Rattle.snap_pairs.specs.Pieces.{IsAnswer};

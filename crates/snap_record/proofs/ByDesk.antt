@@ -6,7 +6,7 @@ use Rattle.snap_core.specs.Sums.{total}
 use Rattle.snap_account.specs.declared.account.Account.{Account}
 use Rattle.snap_account.specs.Calls.{Mem}
 use Rattle.snap_account.specs.Plays.{insert}
-use Rattle.snap_board.specs.Regular.{falling}
+use Rattle.snap_board.specs.Settled.{falling}
 use Rattle.std.proofs.lemmas.Bool.{lt-ltb}
 
 pub first_desk : (n : ℕ) (a : Account) (hand : List Account) → map (λ (c : Account). c.desk) (a ∷ hand) ≡ falling (suc n) → (a.desk ≡ n) × (map (λ (c : Account). c.desk) hand ≡ falling n)

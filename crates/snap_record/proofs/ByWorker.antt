@@ -6,7 +6,7 @@ use Rattle.std.proofs.lemmas.Bool.Decides.{eqb_tells}
 use Rattle.std.proofs.lemmas.List.Sorted.{IsPermutation-refl, IsPermutation-sym, IsPermutation-trans, IsPermutation-cons, IsPermutation-middle, IsPermutation-append_right, length_permutation}
 use Rattle.snap_board.specs.declared.record.Record.{Record}
 use Rattle.snap_core.specs.Sums.{total}
-use Rattle.snap_board.specs.Regular.{falling}
+use Rattle.snap_board.specs.Settled.{falling}
 use Rattle.snap_record.specs.Delivery.{of_worker, AreBelow}
 
 pub of_worker-same : (p : ℕ) (x : Record) (xs : List Record) → x.process ≡ p → of_worker p (x ∷ xs) ≡ x ∷ of_worker p xs

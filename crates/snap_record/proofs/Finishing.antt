@@ -9,7 +9,7 @@ use Rattle.snap_record.specs.declared.delivery.Ended.{Ended}
 use Rattle.snap_record.specs.declared.delivery.Role.{Role}
 use Rattle.snap_record.specs.declared.delivery.Role.TheVariants.{Sends, Takes}
 use Rattle.snap_core.specs.Sums.{total}
-use Rattle.snap_board.specs.Regular.{falling}
+use Rattle.snap_board.specs.Settled.{falling}
 use Rattle.snap_record.specs.Delivery.{of_worker, taken_in, DidSend, AddsUp}
 use Rattle.snap_record.specs.Relays.{SenderView, sender_at, count_in, count_sent, HasPlaces, TookAll}
 use Rattle.snap_record.specs.Ends.{TookIn, taken_of, made_of}

@@ -21,7 +21,7 @@ use Rattle.snap_account.specs.declared.account.Answer.TheVariants.{Stored, Viewe
 use Rattle.snap_account.specs.Calls.{Mem, op_writes, writes_in}
 use Rattle.snap_board.specs.Desks.{op_records, records_at, records_in, lost_in}
 use Rattle.snap_board.proofs.Climbing.{few_tries}
-use Rattle.snap_board.specs.Regular.{falling}
+use Rattle.snap_board.specs.Settled.{falling}
 use Rattle.snap_account.specs.Rule.{tick_limit}
 use Rattle.snap_record.specs.Plans.{steps_in, plan_refusal, worker_limit, are_workers, each_draws, draws_within, last_step, round_script, rounds_scripts, AreWorkers, AreRounds, IsRun, HasScripts}
 use Rattle.snap_record.specs.Scripts.{IsOpOf, DidScript, DidSome}
@@ -29,7 +29,7 @@ use Rattle.snap_board.specs.History.{stamped_events, events_in, begin_of, end_of
 use Rattle.snap_record.specs.Delivery.{of_worker}
 use Rattle.snap_record.specs.Recording.{DidScripts, IsTold}
 use Rattle.snap_record.proofs.ByDesk.{total_desks, total_below, total_first}
-use Rattle.snap_board.proofs.Hand.{hand_low, hand_one, hand_there}
+use Rattle.snap_board.proofs.Accounts.{hand_low, hand_one, hand_there}
 use Rattle.snap_record.proofs.ByWorker.{counted}
 use Rattle.snap_record.proofs.Scripting.{both, draws_more}
 

@@ -14,11 +14,11 @@ use Rattle.snap_account.specs.Calls.{Mem}
 use Rattle.snap_record.specs.Choices.{views_in}
 use Rattle.snap_record.specs.Delivery.{of_worker, AreBelow}
 use Rattle.snap_board.specs.Desks.{account, records, records_in, records_at, ticks, lost, lost_in, collects, collects_in}
-use Rattle.snap_account.specs.Hands.{answered_of, desk_of, ticks_of}
+use Rattle.snap_account.specs.Seats.{answered_of, desk_of, ticks_of}
 use Rattle.snap_record.specs.Plans.{steps_in}
 use Rattle.snap_account.specs.Plays.{only_first}
 use Rattle.snap_record.specs.Recording.{DidScripts}
-use Rattle.snap_board.specs.Regular.{falling}
+use Rattle.snap_board.specs.Settled.{falling}
 use Rattle.snap_record.specs.Relays.{SenderView, AreNew, HasPlaces, TookAll}
 use Rattle.snap_account.specs.Rule.{newcomers}
 use Rattle.snap_record.specs.Scripts.{AreCallsOf, DidSome}
@@ -27,7 +27,7 @@ use Rattle.snap_record.specs.declared.worker.Recorder.{Recorder}
 use Rattle.snap_record.specs.declared.worker.Worker.{Worker}
 use Rattle.snap_record.specs.declared.worker.Ran.{Ran}
 use Rattle.snap_record.proofs.ByDesk.{total_desks, total_more}
-use Rattle.snap_board.proofs.Hand.{hand_low}
+use Rattle.snap_board.proofs.Accounts.{hand_low}
 use Rattle.snap_record.proofs.Planning.{left_short, steps_each}
 
 module _ {X : Type 0} (P : ℕ → X → Type 0) where

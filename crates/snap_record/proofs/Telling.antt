@@ -20,9 +20,9 @@ use Rattle.snap_board.specs.Desks.{records_in, collects_in}
 use Rattle.snap_record.specs.declared.plan.Step.{Step}
 use Rattle.snap_record.specs.Plans.{HasNoViews}
 use Rattle.snap_record.specs.Recording.{AreStamped, DidScripts, IsTold}
-use Rattle.snap_board.specs.Regular.{falling}
+use Rattle.snap_board.specs.Settled.{falling}
 use Rattle.snap_record.proofs.ByDesk.{first_desk}
-use Rattle.snap_board.proofs.Hand.{hand_there}
+use Rattle.snap_board.proofs.Accounts.{hand_there}
 use Rattle.snap_record.proofs.ByWorker.{by_worker, sorted_out}
 use Rattle.snap_board.proofs.Stamps.{Stamp}
 use Rattle.snap_board.proofs.DeskEvents.{events_at}

@@ -8,7 +8,7 @@ use Rattle.snap_record.specs.declared.plan.Step.{Step}
 use Rattle.snap_record.specs.declared.plan.Step.TheVariants.{Store, View, Scan}
 use Rattle.snap_record.specs.Choices.{chosen, left_out, LeavesScans, IsScan, one_scan, scans_in}
 use Rattle.snap_record.specs.Plans.{IsRun, HasScripts, HasWholeScripts, HasNoScans}
-use Rattle.snap_board.specs.Regular.{falling}
+use Rattle.snap_board.specs.Settled.{falling}
 use Rattle.snap_record.proofs.Planning.{all_kept}
 
 no_scan : (s : Step) → IsScan s → one_scan s ≡ 0 → ⊥

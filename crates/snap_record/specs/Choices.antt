@@ -1,7 +1,7 @@
 -- Which steps of a script have a record: scans may be left out.
 use Rattle.std.specs.Prelude.{◌≡◌, ℕ, Bool, false, cond, List, [], ◌∷◌, ◌++◌, ⊤, length, ◌==◌, slice_index_or}
 use Rattle.snap_core.specs.Sums.{total}
-use Rattle.snap_board.specs.Regular.{falling}
+use Rattle.snap_board.specs.Settled.{falling}
 use Rattle.snap_record.specs.declared.plan.Step.{Step}
 use Rattle.snap_record.specs.declared.plan.Step.TheVariants.{Store, View, Scan}
 

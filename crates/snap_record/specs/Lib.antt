@@ -3,7 +3,7 @@ pub use Rattle.snap_account.specs.Rule
 pub use Rattle.snap_account.specs.Plays
 pub use Rattle.snap_board.specs.Boards
 pub use Rattle.snap_board.specs.Desks
-pub use Rattle.snap_board.specs.Regular
+pub use Rattle.snap_board.specs.Settled
 pub use Rattle.snap_board.specs.History
 pub use Rattle.snap_board.specs.Scans
 pub use Rattle.snap_board.specs.Refusals

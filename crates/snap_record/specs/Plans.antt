@@ -5,7 +5,7 @@ use Rattle.snap_core.specs.declared.event.Event.{Event}
 use Rattle.snap_core.specs.declared.event.Event.TheVariants.{BeginUpdate, BeginView, EndUpdate, EndView}
 use Rattle.snap_core.specs.Events.{events_of, event_limit}
 use Rattle.snap_core.specs.Sums.{total}
-use Rattle.snap_board.specs.Regular.{falling}
+use Rattle.snap_board.specs.Settled.{falling}
 use Rattle.snap_account.specs.Rule.{tick_limit}
 use Rattle.snap_record.specs.Choices.{chosen, left_out, LeavesScans, scans_in, stores_but, views_in}
 use Rattle.snap_record.specs.declared.plan.Step.{Step}

@@ -9,7 +9,7 @@ use Rattle.snap_record.specs.declared.plan.Step.{Step}
 use Rattle.snap_board.specs.declared.record.Record.{Record}
 use Rattle.snap_record.specs.Delivery.{of_worker, AreBelow}
 use Rattle.snap_board.specs.Desks.{records_in, lost_in, collects_in}
-use Rattle.snap_board.specs.Regular.{Settled, ScansSettled, TicksSettled}
+use Rattle.snap_board.specs.Settled.{Settled, ScansSettled, TicksSettled}
 use Rattle.snap_record.specs.Choices.{views_in}
 use Rattle.snap_board.specs.History.{all_records, event_stamps, events_in, stamped_events, Merged}
 use Rattle.snap_record.specs.Scripts.{AreCallsOf, DidSome}

@@ -4,7 +4,7 @@ use Rattle.std.specs.declared.alloc.Global.{Global}
 use Rattle.crossbeam_queue.specs.SegTies.{SegId}
 use Rattle.snap_board.specs.declared.record.Record.{Record}
 use Rattle.snap_core.specs.Sums.{total}
-use Rattle.snap_board.specs.Regular.{falling}
+use Rattle.snap_board.specs.Settled.{falling}
 use Rattle.snap_record.specs.Delivery.{of_worker, AreBelow}
 
 pub record RelayView : Type 0 where

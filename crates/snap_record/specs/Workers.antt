@@ -9,7 +9,7 @@ use Rattle.snap_record.specs.declared.worker.Ran.{Ran}
 use Rattle.snap_account.specs.Calls.{Mem}
 use Rattle.snap_board.specs.Desks.{records, records_in, ticks, lost, collects, IsDeskOf}
 use Rattle.snap_record.specs.Recording.{DidTheirs}
-use Rattle.snap_board.specs.Regular.{falling, Settled, ScansSettled, TicksSettled}
+use Rattle.snap_board.specs.Settled.{falling, Settled, ScansSettled, TicksSettled}
 use Rattle.snap_record.specs.Relays.{RelayView, SenderView, IsSenderOf, IsTakerOf}
 use Rattle.snap_record.specs.Scripts.{AreCallsOf, DidSome}
 use Rattle.snap_record.specs.Choices.{views_in}

@@ -1,3 +1,4 @@
+//! Plans: a script of steps for each worker.
 ghost use Rattle.std.specs.Prelude.{◌≡◌, ◌*◌, ◌<◌, ◌≤◌, [], Some, None, IfOk, IfErr, OnOk, IsTrue, ◌↔◌, length, slice_index_or, nat_le, true};
 ghost use Rattle.snap_core.specs.Events.{event_limit};
 ghost use Rattle.snap_record.specs.Plans.{lists_of, steps_in, plan_refusal, worker_limit, round_limit, are_workers, each_draws, draws_within, round_script, rounds_scripts, AreWorkers, AreRounds, IsRoundsRefusal};

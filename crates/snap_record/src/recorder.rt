@@ -1,3 +1,4 @@
+//! A run of a plan on a new board, and the history that it leaves.
 ghost use Rattle.std.specs.Prelude.{◌≡◌, ◌*◌, ◌≤◌, [], IfOk, OnOk, length, true, ◌<◌, All, slice_index_or};
 ghost use Rattle.std.specs.List.Sorted.{IsStrictlyIncreasing};
 ghost use Rattle.snap_core.specs.Events.{event_limit};

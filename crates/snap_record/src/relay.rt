@@ -1,3 +1,4 @@
+//! A queue that carries records from several senders to one taker.
 ghost use Rattle.std.specs.Prelude.{◌≡◌, ℕ, ◌≤◌, ◌↔◌, [], IfErr, IfOk, OnOk, IsOk, IsTrue, MatchOption, MatchResult, option_map, All, length};
 ghost use Rattle.crossbeam_queue.specs.SegTies.{IsSegPassOf};
 ghost use Rattle.snap_record.specs.declared.delivery.Role.TheVariants.{Takes};

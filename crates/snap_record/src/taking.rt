@@ -1,3 +1,4 @@
+//! How the calling thread takes the records of all workers.
 ghost use Rattle.std.specs.Prelude.{◌≡◌, [], IfOk, OnOk, All, length};
 ghost use Rattle.snap_record.specs.Relays.{IsSenderOf, IsTakerOf, HasPlaces, TookAll};
 ghost use Rattle.snap_record.specs.Workers.{IsTakenOf};

@@ -1,3 +1,4 @@
+//! The records of all workers, put in order by their stamps.
 ghost use Rattle.std.specs.Prelude.{◌≡◌, ◌≤◌, IfOk, length};
 ghost use Rattle.snap_core.specs.Events.{IsHistory, event_limit};
 ghost use Rattle.snap_board.specs.History.{begin_of, end_of, stamped_events, events_in, event_stamps, Merged, AreApart};

@@ -1,3 +1,4 @@
+//! What one worker does with its script.
 ghost use Rattle.std.specs.Prelude.{◌≡◌, ◌+◌, ◌*◌, ◌<◌, ◌≤◌, ◌++◌, ◌∷◌, [], IfOk, IfSome, IfNone, OnOk, MatchOption, length, slice_index_or, true};
 ghost use Rattle.snap_core.specs.Events.{event_limit};
 ghost use Rattle.snap_board.specs.Desks.{records, ticks, lost, collects, IsDeskOf};

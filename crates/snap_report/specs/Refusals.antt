@@ -1,7 +1,7 @@
 -- The line of a text that is no history.
 use Rattle.std.specs.Prelude.{ℕ, [], ◌∷◌, ◌++◌, codes, decimal}
-use Rattle.snap_csv.specs.declared.refusal.TextFault.{TextFault}
-use Rattle.snap_csv.specs.Words.{word_of}
+use Rattle.snap_text.specs.declared.fault.TextFault.{TextFault}
+use Rattle.snap_text.specs.Words.{word_of}
 use Rattle.snap_report.specs.Lines.{Line}
 
 -- refused record R: WORD

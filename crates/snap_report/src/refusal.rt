@@ -1,9 +1,10 @@
+//! The report of a text that is no history.
 ghost use Rattle.std.specs.Prelude.{◌≡◌, IfOk};
 ghost use Rattle.snap_report.specs.Lines.{line_text};
 ghost use Rattle.snap_report.specs.Refusals.{refusal_line};
 
 use crate::words::put_number;
-use snap_csv::TextFault;
+use snap_text::TextFault;
 use std::alloc::{AllocError, Global};
 
 /// The one line of the report of a text that is no history: `refused record 3: busy` and a newline. The place counts

@@ -1,3 +1,4 @@
+//! The report of a history.
 ghost use Rattle.std.specs.Prelude.{◌≡◌, ◌++◌, All, IfOk, OnOk, codes, is_some};
 ghost use Rattle.std.specs.Option.{ForSome, option_copied, option_map};
 ghost use Rattle.snap_core.specs.Calls.{calls_of};

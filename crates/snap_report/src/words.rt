@@ -5,7 +5,7 @@ ghost use Rattle.snap_report.specs.Lines.{call_word, entry_word, process_word, u
 
 use itoa::write_digits;
 use snap_core::{Entry, are_same};
-use snap_csv::{ENTRY_SIZE, write_entry, write_number, write_text};
+use snap_text::{ENTRY_SIZE, write_entry, write_number, write_text};
 use std::alloc::{AllocError, Global};
 
 /// Adds a text, and behind it a number.

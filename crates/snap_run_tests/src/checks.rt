@@ -1,6 +1,6 @@
 //! Checks of texts from memory against what is wanted of them.
+use snap_check::{RunFault, Status, check_run};
 use snap_core::{Counted, Gate, OpenGate};
-use snap_runs::{RunFault, Status, check_run};
 use snap_threads::Cutting;
 use std::alloc::{AllocError, Global};
 use std::fmt::Debug;

@@ -2,9 +2,9 @@
 ghost use Rattle.std.specs.Prelude.{⊤};
 
 use super::checks::same;
+use snap_check::{CheckOptions, RunFault};
 use snap_core::{Counted, OpenGate};
-use snap_files::{Opener, Trouble, check_all};
-use snap_runs::{CheckOptions, RunFault};
+use snap_files::{FileOptions, Format, Opener, Trouble, check_all};
 use snap_testing::{Cup, Drip};
 use snap_threads::Cutting;
 use std::alloc::{AllocError, Global};
@@ -67,11 +67,15 @@ fn check<Rt: Threads + Sync, W: Write>(
     alloc: Global,
     list: &[&str],
     writer: &mut Counted<W>,
+    format: Format,
     views: u32,
 ) -> Result<(Result<u8, RunFault>, Vec<u8>), Fail> {
     let names = names_of(alloc, list)?;
     let mut errors = Counted::new(Vec::new(alloc));
-    let options = CheckOptions { quiet: true, views };
+    let options = FileOptions {
+        format,
+        check: CheckOptions { quiet: true, views },
+    };
     let answer = check_all(
         rt,
         alloc,
@@ -126,7 +130,7 @@ const CHECKS: &[(&[&str], u32, u8, &str, &str)] = &[
 fn reports_stand_in_the_order_of_the_names(rt: HostRuntime) -> Result<(), Fail> {
     for (list, views, status, written, said) in CHECKS {
         let mut writer = Counted::new(Vec::new(rt.alloc()));
-        let (answer, told) = check(&rt, rt.alloc(), list, &mut writer, *views)?;
+        let (answer, told) = check(&rt, rt.alloc(), list, &mut writer, Format::Plain, *views)?;
         same(answer.ok(), Some(*status))?;
         same(str::from_utf8(&writer.into_inner())?, *written)?;
         same(str::from_utf8(&told)?, *said)?;
@@ -134,11 +138,56 @@ fn reports_stand_in_the_order_of_the_names(rt: HostRuntime) -> Result<(), Fail> 
     Ok(())
 }
 
+// A text with its object, names that have no status among others, and what is said of them.
+const OBJECTS: &str = "{\"name\":\"none\",\"status\":4,\"trouble\":\"no such file\"}\n\
+    {\"name\":\"busy\",\"status\":3,\"refused\":{\"record\":3,\"fault\":\"busy\"}}\n\
+    {\"name\":\"stale\",\"status\":3,\"too_few_views\":{\"views\":1,\"least\":2}}\n\
+    {\"name\":\"locked\",\"status\":4,\"trouble\":\"can't be opened\"}\n\
+    {\"name\":\"broken\",\"status\":4,\"trouble\":\"read failed\"}\n\
+    {\"name\":\"folder\",\"status\":4,\"trouble\":\"is a directory\"}\n\
+    {\"name\":\"in\\nver\\\\sion\",\"status\":1,\"events\":6,\"calls\":3,\"pending\":0,\"views\":2,\
+    \"regular\":true,\"monotone\":false,\"atomic\":false,\"integrity\":null,\"proximity\":null,\
+    \"read\":{\"count\":1,\
+    \"view\":{\"call\":2,\"process\":1,\"op\":\"view\",\"begin\":3,\"end\":4,\
+    \"entries\":[{\"component\":0,\"number\":1,\"value\":7}]},\
+    \"other\":{\"call\":3,\"process\":2,\"op\":\"view\",\"begin\":5,\"end\":6,\"entries\":[]},\
+    \"component\":0},\"write\":null}\n";
+
+#[test]
+fn each_name_has_its_object(rt: HostRuntime) -> Result<(), Fail> {
+    let alloc = rt.alloc();
+    let list = [
+        "none",
+        "busy",
+        "stale",
+        "locked",
+        "broken",
+        "folder",
+        "in\nver\\sion",
+    ];
+    let mut writer = Counted::new(Vec::new(alloc));
+    let (answer, told) = check(&rt, alloc, &list, &mut writer, Format::Json, 2)?;
+    same(answer.ok(), Some(4))?;
+    same(str::from_utf8(&writer.into_inner())?, OBJECTS)?;
+    same(
+        str::from_utf8(&told)?,
+        "snapjudge: none: no such file\nsnapjudge: locked: can't be opened\n\
+         snapjudge: broken: read failed\nsnapjudge: folder: is a directory\n",
+    )
+}
+
 #[test]
 fn a_full_writer_ends_the_check(rt: HostRuntime) -> Result<(), Fail> {
     let alloc = rt.alloc();
     let mut writer = Counted::new(Cup::new(alloc, 20, 100, true, false));
-    let (answer, _) = check(&rt, alloc, &["stale", "none"], &mut writer, 0)?;
+    let (answer, _) = check(
+        &rt,
+        alloc,
+        &["stale", "none"],
+        &mut writer,
+        Format::Plain,
+        0,
+    )?;
     match answer {
         Err(RunFault::Write) => {}
         _ => return Err(Fail::from("the check went on")),

@@ -1,6 +1,5 @@
 //! The jobs that words ask for.
-use snap_runs::CheckOptions;
-use snap_words::{Job, JobFault, job_of};
+use snap_words::{Color, Form, Job, JobFault, Options, job_of};
 use std::alloc::{AllocError, Global};
 use std::test::Fail;
 
@@ -13,18 +12,17 @@ fn words(alloc: Global, line: &str) -> Result<Vec<String>, AllocError> {
     Ok(words)
 }
 
-const NO_OPTIONS: CheckOptions = CheckOptions {
-    quiet: false,
-    views: 0,
-};
+// Whether a check is quiet, how many views it asks for, and whether it answers with an object.
+type Asked = (bool, u32, bool);
 
-const QUIET: CheckOptions = CheckOptions {
-    quiet: true,
-    views: 0,
-};
+const NO_OPTIONS: Asked = (false, 0, false);
+
+const QUIET: Asked = (true, 0, false);
+
+const OBJECT: Asked = (false, 0, true);
 
 // The pieces and workers of the check that each line asks for, and its options.
-const CHECKS: &[(&str, u32, u32, CheckOptions)] = &[
+const CHECKS: &[(&str, u32, u32, Asked)] = &[
     ("snapjudge check", 8, 2, NO_OPTIONS),
     ("snapjudge check --pieces 3 --workers 4", 3, 4, NO_OPTIONS),
     (
@@ -37,23 +35,20 @@ const CHECKS: &[(&str, u32, u32, CheckOptions)] = &[
     ("snapjudge check --quiet", 8, 2, QUIET),
     ("snapjudge check --workers 3 --quiet", 8, 3, QUIET),
     ("snapjudge check --views 0", 8, 2, NO_OPTIONS),
-    (
-        "snapjudge check --views 5",
-        8,
-        2,
-        CheckOptions {
-            quiet: false,
-            views: 5,
-        },
-    ),
+    ("snapjudge check --views 5", 8, 2, (false, 5, false)),
     (
         "snapjudge check --views=32768 --pieces 7 --quiet",
         7,
         2,
-        CheckOptions {
-            quiet: true,
-            views: 32768,
-        },
+        (true, 32768, false),
+    ),
+    ("snapjudge check --format json", 8, 2, OBJECT),
+    ("snapjudge check --format=plain --quiet", 8, 2, QUIET),
+    (
+        "snapjudge check --views 5 --format=json --pieces 7",
+        7,
+        2,
+        (false, 5, true),
     ),
 ];
 
@@ -80,18 +75,16 @@ fn job_on(alloc: Global, line: &str, files: &[&str]) -> Result<Job, Fail> {
 }
 
 // The pieces and workers of the check that a line asks for, and its options.
-fn check_of(alloc: Global, line: &str) -> Result<(u32, u32, CheckOptions), Fail> {
+fn check_of(alloc: Global, line: &str) -> Result<(u32, u32, Asked), Fail> {
     match job_on(alloc, line, &[])? {
-        Job::Check {
-            cutting,
-            quiet,
-            views,
-        } => {
-            Ok((
-                cutting.pieces(),
-                cutting.workers(),
-                CheckOptions { quiet, views },
-            ))
+        Job::Check { cutting, options } => {
+            let Options {
+                quiet,
+                views,
+                json,
+                ..
+            } = options;
+            Ok((cutting.pieces(), cutting.workers(), (quiet, views, json)))
         }
         _ => Err(Fail::from(line)),
     }
@@ -102,6 +95,55 @@ fn check_takes_pieces_workers_and_options(rt: HostRuntime) -> Result<(), Fail> {
     for (line, pieces, workers, options) in CHECKS {
         let found = check_of(rt.alloc(), line)?;
         assert_eq!(rt; found, (*pieces, *workers, *options), "{line}");
+    }
+    Ok(())
+}
+
+// Whether each line asks for sums and for no line of progress, and when its verdicts have colours.
+const SHOWN: &[(&str, bool, bool, Color)] = &[
+    ("snapjudge check", false, false, Color::Auto),
+    ("snapjudge check --summary", true, false, Color::Auto),
+    (
+        "snapjudge check --color=never --no-progress",
+        false,
+        true,
+        Color::Never,
+    ),
+    (
+        "snapjudge check --color always --summary --views 3",
+        true,
+        false,
+        Color::Always,
+    ),
+    (
+        "snapjudge check --color auto --quiet",
+        false,
+        false,
+        Color::Auto,
+    ),
+];
+
+// What a check that a line asks for shows beside its verdicts.
+fn shown_of(alloc: Global, line: &str) -> Result<(bool, bool, Color), Fail> {
+    match job_on(alloc, line, &[])? {
+        Job::Check { options, .. } => {
+            let Options {
+                summary,
+                no_progress,
+                color,
+                ..
+            } = options;
+            Ok((summary, no_progress, color))
+        }
+        _ => Err(Fail::from(line)),
+    }
+}
+
+#[test]
+fn check_takes_what_is_shown(rt: HostRuntime) -> Result<(), Fail> {
+    for (line, summary, no_progress, color) in SHOWN {
+        let found = shown_of(rt.alloc(), line)?;
+        assert_eq!(rt; found, (*summary, *no_progress, *color), "{line}");
     }
     Ok(())
 }
@@ -118,7 +160,24 @@ const LINES_WITH_FILES: &[(&str, &[&str])] = &[
     ("snapjudge shrink", &[]),
     ("snapjudge explain -", &["-"]),
     ("snapjudge explain", &[]),
+    ("snapjudge draw a.csv", &["a.csv"]),
+    ("snapjudge draw", &[]),
+    ("snapjudge draw --svg -", &["-"]),
+    ("snapjudge draw a.csv --text", &["a.csv"]),
+    ("snapjudge shrink --draw a.csv", &["a.csv"]),
+    ("snapjudge explain - --draw", &["-"]),
 ];
+
+// The form of picture that the flags of a line name.
+fn form_named(line: &str) -> Form {
+    if line.contains(" --svg") {
+        Form::Svg
+    } else if line.contains(" --text") {
+        Form::Lines
+    } else {
+        Form::Page
+    }
+}
 
 #[test]
 fn files_are_those_of_the_words(rt: HostRuntime) -> Result<(), Fail> {
@@ -126,8 +185,13 @@ fn files_are_those_of_the_words(rt: HostRuntime) -> Result<(), Fail> {
         let job = job_on(rt.alloc(), line, files)?;
         let is_its_command = match job {
             Job::Check { .. } => line.contains(" check"),
-            Job::Shrink => line.contains(" shrink"),
-            Job::Explain => line.contains(" explain"),
+            Job::Shrink { drawn } => {
+                line.contains(" shrink") && drawn == line.contains(" --draw")
+            }
+            Job::Explain { drawn } => {
+                line.contains(" explain") && drawn == line.contains(" --draw")
+            }
+            Job::Draw { form } => line.contains(" draw") && form == form_named(line),
             Job::Record { .. } => false,
         };
         assert!(rt; is_its_command, "{line}");
@@ -234,6 +298,13 @@ const OTHER_LINES: &[&str] = &[
     "snapjudge check --views 32769",
     "snapjudge check --views -1",
     "snapjudge check --quiet=yes",
+    "snapjudge check --format",
+    "snapjudge check --format xml",
+    "snapjudge check --format JSON",
+    "snapjudge check --format json --quiet",
+    "snapjudge check --quiet --format=json",
+    "snapjudge check --format json --format plain",
+    "snapjudge explain --format json",
     "snapjudge shrink a.csv b.csv",
     "snapjudge shrink --quiet",
     "snapjudge explain a.csv b.csv",
@@ -245,6 +316,17 @@ const OTHER_LINES: &[&str] = &[
     "snapjudge record --help",
     "snapjudge shrink --help",
     "snapjudge explain --help",
+    "snapjudge draw a.csv b.csv",
+    "snapjudge draw --quiet",
+    "snapjudge draw --svg=yes",
+    "snapjudge draw --text=yes",
+    "snapjudge draw --svg --text",
+    "snapjudge draw --text a.csv --svg",
+    "snapjudge draw --draw",
+    "snapjudge shrink --text",
+    "snapjudge explain --svg",
+    "snapjudge check --draw",
+    "snapjudge draw --help",
 ];
 
 // Whether a line gets a text on the usage.

@@ -15,6 +15,8 @@ mod jobs;
 #[cfg(test)]
 mod limits;
 #[cfg(test)]
+mod names;
+#[cfg(test)]
 mod options;
 #[cfg(test)]
 mod pace;
@@ -23,4 +25,8 @@ mod recordings;
 #[cfg(test)]
 mod reports;
 #[cfg(test)]
+mod rounds;
+#[cfg(test)]
 mod shrinking;
+#[cfg(test)]
+mod telling;

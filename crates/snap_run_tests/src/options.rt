@@ -1,7 +1,7 @@
 //! Checks that are quiet, or that ask for a number of completed views.
 use super::checks::{STALE_REPORT, STALE_VIEW, cutting, end_of, history, same};
+use snap_check::{CheckOptions, RunFault, Status, check_run_with};
 use snap_core::{Counted, OpenGate};
-use snap_runs::{CheckOptions, RunFault, Status, check_run_asked, check_run_with};
 use snap_testing::{Cup, Drip};
 use std::alloc::Global;
 use std::io::{Read, Write};
@@ -111,33 +111,6 @@ fn what_is_asked_for_is_written(rt: HostRuntime) -> Result<(), Fail> {
             run_with(&rt, alloc, &mut reader, &mut writer, options)?,
             *end,
         )?;
-        same(str::from_utf8(&writer.into_inner())?, *report)?;
-    }
-    Ok(())
-}
-
-#[test]
-fn a_check_as_it_is_asked_for_ends_and_writes_the_same(rt: HostRuntime) -> Result<(), Fail> {
-    let alloc = rt.alloc();
-    for (records, quiet, views, end, report) in WORKED {
-        let options = CheckOptions {
-            quiet: *quiet,
-            views: *views,
-        };
-        let text = history(alloc, records)?;
-        let mut reader = Counted::new(text.as_bytes());
-        let mut writer = Counted::new(Vec::new(alloc));
-        let cutting = cutting(8, 2)?;
-        let answer = check_run_asked(
-            &rt,
-            alloc,
-            &mut reader,
-            &mut writer,
-            cutting,
-            &OpenGate,
-            options,
-        );
-        same(end_with(answer), *end)?;
         same(str::from_utf8(&writer.into_inner())?, *report)?;
     }
     Ok(())

@@ -2,7 +2,7 @@
 use Rattle.std.proofs.Common.{◌≡◌, ◌<◌, ◌∙◌, inl, inr, ℕ, zero, suc, List, Option, Some, None, refl, subst, arith}
 use Rattle.std.specs.Prelude.{IfSome}
 use Rattle.snap_core.specs.declared.event.Event.{Event}
-use Rattle.snap_csv.specs.declared.refusal.TextFault.{TextFault}
+use Rattle.snap_text.specs.declared.fault.TextFault.{TextFault}
 use Rattle.snap_csv.specs.declared.refusal.ReadRefusal.{ReadRefusal}
 use Rattle.snap_csv.specs.declared.refusal.ReadRefusal.TheVariants as refusals
 use Rattle.snap_csv.specs.Answers.{RefusalLeaves, RefusesText}

@@ -1,6 +1,4 @@
-pub mod Runs
 pub mod Narrow
 pub mod Recordings
 pub mod Shrinking
 pub mod Explaining
-mod Asked

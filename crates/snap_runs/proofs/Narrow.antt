@@ -5,9 +5,9 @@ use Rattle.std.proofs.lemmas.List.Elements.{All-cons, All-nil}
 use Rattle.snap_core.specs.declared.entry.Entry.{Entry}
 use Rattle.snap_core.specs.declared.event.Event.{Event}
 use Rattle.snap_core.specs.declared.event.Event.TheVariants.{BeginUpdate, BeginView, EndUpdate, EndView}
-use Rattle.snap_core.specs.Events.{IsKept}
+use Rattle.snap_core.specs.Events.{IsBoundedHistory}
 use Rattle.snap_csv.specs.Laws.{ListsAtMost}
-use Rattle.snap_csv.specs.Spelling.{history_text}
+use Rattle.snap_csv.specs.Layout.{history_text}
 use Rattle.snap_csv.specs.Texts.{byte_limit}
 use Rattle.snap_csv.proofs.LengthFacts.{narrow_text_short}
 use Rattle.snap_record.specs.Calls.{Mem}
@@ -26,6 +26,6 @@ all_list n (x ∷ xs) h = All-cons (ListsAtMost n) x xs (one x (λ p es e. h p e
     one (EndView p es) g = g p es refl
 
 -- a board has at most eight desks
-pub recording_short : (scripts : List (List Step)) (events : List Event) (stamps : List ℕ) → IsKept events → length scripts ≤ 8 → AreStamped scripts events stamps → length (history_text events) ≤ byte_limit
+pub recording_short : (scripts : List (List Step)) (events : List Event) (stamps : List ℕ) → IsBoundedHistory events → length scripts ≤ 8 → AreStamped scripts events stamps → length (history_text events) ≤ byte_limit
 recording_short scripts events stamps k few s =
     narrow_text_short events k (all_list 36 events (λ p es m. let l = shows_few scripts events stamps s p es m in omega arith))

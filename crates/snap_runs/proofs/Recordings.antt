@@ -4,15 +4,15 @@ use Rattle.std.specs.Prelude.{IfOk}
 use Rattle.snap_core.specs.declared.event.Event.{Event}
 use Rattle.snap_core.specs.Calls.{calls_of}
 use Rattle.snap_core.specs.Orders.{IsAtomic}
-use Rattle.snap_csv.specs.Spelling.{history_text, stamped_text}
+use Rattle.snap_csv.specs.Layout.{history_text, stamped_text}
 use Rattle.snap_csv.specs.Texts.{byte_limit}
 use Rattle.snap_csv.proofs.TextFacts.{text_reads}
 use Rattle.snap_record.specs.declared.plan.Step.{Step}
-use Rattle.snap_runs.specs.declared.fault.RunFault.{RunFault}
-use Rattle.snap_runs.specs.declared.fault.RunFault.TheVariants as faults
+use Rattle.snap_check.specs.declared.fault.RunFault.{RunFault}
+use Rattle.snap_check.specs.declared.fault.RunFault.TheVariants as faults
 use Rattle.snap_verdict.specs.declared.status.Status.{Status}
 use Rattle.snap_verdict.specs.declared.status.Status.TheVariants.{Atomic, Recorded, Regular}
-use Rattle.snap_runs.specs.RecordRuns.{HasStamps, IsRecorded, IsRecordingOf, IsRecordingReport, IsStampedRecording, WroteAs}
+use Rattle.snap_runs.specs.Recordings.{HasStamps, IsRecorded, IsRecordingOf, IsRecordingReport, IsStampedRecording, WroteAs}
 use Rattle.snap_verdict.specs.Statuses.{status_of}
 use Rattle.snap_verdict.specs.Verdicts.{IsVerdict}
 use Rattle.snap_runs.proofs.Narrow.{recording_short}

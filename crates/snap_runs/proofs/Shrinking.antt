@@ -5,17 +5,17 @@ use Rattle.snap_core.specs.declared.event.Event.{Event}
 use Rattle.snap_core.specs.Calls.{calls_of}
 use Rattle.snap_core.specs.Orders.{IsAtomic}
 use Rattle.snap_core.specs.Regular.{IsRegular}
-use Rattle.snap_csv.specs.Spelling.{history_text}
+use Rattle.snap_csv.specs.Layout.{history_text}
 use Rattle.snap_csv.specs.Texts.{IsText}
 use Rattle.snap_verdict.specs.declared.status.Status.{Status}
 use Rattle.snap_verdict.specs.Verdicts.{HasStatus}
-use Rattle.snap_witness.specs.First.{AreWholeCalls, HasFirstFault}
-use Rattle.snap_runs.specs.declared.fault.RunFault.{RunFault}
-use Rattle.snap_runs.specs.declared.fault.RunFault.TheVariants as faults
-use Rattle.snap_runs.specs.RecordRuns.{WroteAs}
-use Rattle.snap_runs.specs.Runs.{WroteBy}
+use Rattle.snap_theory.specs.First.{AreWholeCalls, HasFirstFault}
+use Rattle.snap_check.specs.declared.fault.RunFault.{RunFault}
+use Rattle.snap_check.specs.declared.fault.RunFault.TheVariants as faults
+use Rattle.snap_runs.specs.Recordings.{WroteAs}
+use Rattle.snap_check.specs.Runs.{WroteBy}
 use Rattle.snap_runs.specs.Shrinking.{IsCutTo, IsFirstWitness, IsShrunk}
-use Rattle.snap_runs.proofs.Runs.{with_text}
+use Rattle.snap_check.proofs.Runs.{with_text}
 
 pub first_witness_is : (es : List Event) (status : Status) (found : Option (List Event)) → HasStatus es status → IsNone found ↔ IsAtomic (calls_of es) →
     IfSome found (λ w. AreWholeCalls es w) → IfSome found (λ w. length (calls_of w) ≤ 4) → IfSome found (λ w. length w ≤ 8) →

@@ -2,7 +2,7 @@
 use Rattle.std.specs.Prelude.{◌≡◌, ◌⊎◌, ℕ, List}
 use Rattle.snap_core.specs.declared.event.Event.{Event}
 use Rattle.snap_core.specs.Calls.{calls_of}
-use Rattle.snap_csv.specs.declared.refusal.TextFault.{TextFault}
+use Rattle.snap_text.specs.declared.fault.TextFault.{TextFault}
 use Rattle.snap_csv.specs.Records.{HaveRecords}
 use Rattle.snap_csv.specs.Texts.{HasFault}
 use Rattle.snap_verdict.specs.declared.status.Status.{Status}

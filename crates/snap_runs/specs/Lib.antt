@@ -1,5 +1,3 @@
-pub mod Options
-pub mod Runs
 pub mod Shrinking
 pub mod Explaining
-pub mod RecordRuns
+pub mod Recordings

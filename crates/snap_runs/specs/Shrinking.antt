@@ -4,12 +4,12 @@ use Rattle.snap_core.specs.declared.event.Event.{Event}
 use Rattle.snap_core.specs.Calls.{calls_of}
 use Rattle.snap_core.specs.Orders.{IsAtomic}
 use Rattle.snap_core.specs.Regular.{IsRegular}
-use Rattle.snap_csv.specs.Spelling.{history_text}
+use Rattle.snap_csv.specs.Layout.{history_text}
 use Rattle.snap_csv.specs.Texts.{IsText}
 use Rattle.snap_verdict.specs.declared.status.Status.{Status}
 use Rattle.snap_verdict.specs.Reports.{IsRefused}
 use Rattle.snap_verdict.specs.Verdicts.{HasStatus}
-use Rattle.snap_witness.specs.First.{AreWholeCalls, HasFirstFault}
+use Rattle.snap_theory.specs.First.{AreWholeCalls, HasFirstFault}
 
 -- some whole calls of a history that have its first fault, and so are not atomic
 pub record IsWitnessOf (events : List Event) (witness : List Event) : Type 0 where

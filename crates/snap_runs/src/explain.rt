@@ -4,9 +4,9 @@ ghost use Rattle.snap_core.specs.Counting.{failures_in, inner_of};
 ghost use Rattle.snap_conditions.specs.Tally.{tally_of};
 ghost use Rattle.snap_explain.specs.Explanations.{IsExplanation};
 ghost use Rattle.snap_runs.specs.Explaining.{ExplainsHistory, IsExplained};
-ghost use Rattle.snap_runs.specs.Runs.{JudgeCounts, JudgesBy, RunCounts, WroteBy};
+ghost use Rattle.snap_check.specs.Runs.{JudgeCounts, JudgesBy, RunCounts, WroteBy};
 
-use crate::fault::RunFault;
+use snap_check::RunFault;
 use snap_conditions::{Tally, is_atomic};
 use snap_core::{Counted, History, OpenGate};
 use snap_csv::{ReadRefusal, read_records};

@@ -1,14 +1,13 @@
 ghost use Rattle.std.specs.Prelude.{◌≡◌, ◌<◌, ◌≤◌, IfOk, OnOk, length, true};
 ghost use Rattle.std.specs.List.Sorted.{IsStrictlyIncreasing};
 ghost use Rattle.snap_core.specs.Counting.{failures_in, inner_of};
-ghost use Rattle.snap_csv.specs.Spelling.{history_text, stamped_text};
+ghost use Rattle.snap_csv.specs.Layout.{history_text, stamped_text};
 ghost use Rattle.snap_record.specs.Plans.{AreWorkers, HasNoViews};
-ghost use Rattle.snap_runs.specs.RecordRuns.{HasStamps, IsRecorded, IsRecordingOf, IsStampedRecording, WriteCounts, WroteAs};
+ghost use Rattle.snap_runs.specs.Recordings.{HasStamps, IsRecorded, IsRecordingOf, IsStampedRecording, WriteCounts, WroteAs};
 ghost use Rattle.snap_verdict.specs.Verdicts.{IsVerdict};
 ghost use Rattle.snap_verdict.specs.declared.status.Status.TheVariants.{Atomic, Recorded};
 
-use crate::check::verdict;
-use crate::fault::RunFault;
+use snap_check::{CheckOptions, RunFault, verdict};
 use snap_core::{Counted, Gate, History, OpenGate};
 use snap_csv::{write_history, write_history_stamped};
 use snap_record::{Plan, Recording, record_plan};
@@ -85,7 +84,13 @@ fn write_report<Rt: Threads + Wait + Sync, W: Write>(
     ensures wrote { WroteAs (IsVerdict history.now) (W.contents (inner_of writer.old)) (W.contents (inner_of writer.new)) result }
     ensures counts { WriteCounts (failures_in writer.old) (failures_in writer.new) result }
 {
-    let (status, text) = verdict(rt, alloc, history, Vec::new(alloc), cutting, &OpenGate)?;
+    let room = Vec::new(alloc);
+    let options = CheckOptions::plain();
+    let (Some(status), text) = verdict(rt, alloc, history, room, cutting, &OpenGate, options)?
+    else {
+        // no number of views is too small
+        unreachable!()
+    };
     match writer.send(&text) {
         Ok(()) => Ok(status),
         Err(_) => Err(RunFault::Write),

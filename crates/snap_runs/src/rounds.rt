@@ -2,10 +2,10 @@
 ghost use Rattle.std.specs.Prelude.{◌≡◌, ◌<◌, ◌≤◌, IfOk};
 ghost use Rattle.snap_core.specs.Counting.{failures_in, inner_of};
 ghost use Rattle.snap_record.specs.Plans.{AreRounds, AreWorkers, rounds_scripts};
-ghost use Rattle.snap_runs.specs.RecordRuns.{IsRecorded, IsStampedRecording, WriteCounts, WroteAs};
+ghost use Rattle.snap_runs.specs.Recordings.{IsRecorded, IsStampedRecording, WriteCounts, WroteAs};
 
-use crate::fault::RunFault;
 use crate::recording::{record_run, record_run_stamped};
+use snap_check::RunFault;
 use snap_core::Counted;
 use snap_record::{Pace, Plan, PlanRefusal, rounds_plan};
 use snap_threads::Cutting;

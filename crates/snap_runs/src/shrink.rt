@@ -1,11 +1,10 @@
 ghost use Rattle.std.specs.Prelude.{IfOk};
 ghost use Rattle.snap_core.specs.Counting.{failures_in, inner_of};
-ghost use Rattle.snap_runs.specs.Runs.{RunCounts, WroteBy};
+ghost use Rattle.snap_check.specs.Runs.{RunCounts, WroteBy};
 ghost use Rattle.snap_runs.specs.Shrinking.{IsCutTo, IsFirstWitness, IsShrunk};
 
-use crate::fault::RunFault;
-use crate::reading::{Reading, read_in};
 use crate::recording::write_text;
+use snap_check::{Reading, RunFault, read_in};
 use snap_core::{Counted, History, OpenGate};
 use snap_index::Index;
 use snap_pairs::tally;
@@ -29,8 +28,8 @@ fn first_witness<Rt: Threads + Sync>(
     Ok((status_of(&index, &tally), witness(alloc, &index, &tally)?))
 }
 
-// The status of a history, and what it is cut down to: the witness of its first fault, or itself where it has none.
-fn cut<Rt: Threads + Sync>(
+/// The status of a history, and what it is cut down to: the witness of its first fault, or itself where it has none.
+pub fn cut<Rt: Threads + Sync>(
     rt: &Rt,
     alloc: Global,
     history: History,

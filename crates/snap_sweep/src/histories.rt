@@ -1,6 +1,6 @@
 //! Histories, their calls, their faults and their orders.
 ghost use Rattle.snap_core.specs.Calls.{calls_of};
-ghost use Rattle.snap_conditions.specs.Faults.{HasNoFault};
+ghost use Rattle.snap_theory.specs.Faults.{HasNoFault};
 
 use crate::fault::{Fault, expect};
 use snap_conditions::{faultless_chain, view_sums};

@@ -3,8 +3,8 @@ use crate::fault::{Fault, expect};
 use snap_conditions::{is_atomic, tally_and_chain_alone, tally_range};
 use snap_core::{Counted, Event, History};
 use snap_csv::{
-    TextFault, WriteRefusal, fields_of, read_history, read_history_in, read_records, read_text,
-    record_of, write_history, write_history_stamped,
+    WriteRefusal, read_history, read_history_in, read_records, read_text, record_of, write_history,
+    write_history_stamped,
 };
 use snap_index::Index;
 use snap_report::{
@@ -12,6 +12,7 @@ use snap_report::{
 };
 use snap_testing::worked::{CROSSED_VIEWS, STALE_AND_WRONG, VIEW_BESIDE_UPDATE};
 use snap_testing::{Cup, entry, history_of};
+use snap_text::{TextFault, fields_of};
 use snap_verdict::{
     Status, brief_verdict_of, judge_text, verdict_alone, verdict_along, verdict_of,
 };

@@ -5,7 +5,6 @@ ghost use Rattle.snap_conditions.specs.Tally.{tally_of};
 
 use snap_conditions::{Tally, is_atomic, tally_range};
 use snap_core::History;
-use snap_csv::TextFault;
 use snap_explain::{explain, explain_refusal};
 use snap_index::Index;
 use snap_order::build_alone;
@@ -15,6 +14,7 @@ use snap_testing::worked::{
     SHOWN_TOO_EARLY, STALE_AND_WRONG, WRONG_VALUE,
 };
 use snap_testing::{Step, history_of};
+use snap_text::TextFault;
 use std::alloc::{AllocError, Global};
 use std::test::Fail;
 

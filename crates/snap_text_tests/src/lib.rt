@@ -1,4 +1,4 @@
-//! Tests of the public calls on views, histories, texts, reports, verdicts and explanations.
+//! Tests of the public calls on views, histories, texts, reports, verdicts, explanations and shapes.
 #![tactic(auto)]
 
 #[cfg(test)]
@@ -9,6 +9,8 @@ mod explanations;
 mod histories;
 #[cfg(test)]
 mod reports;
+#[cfg(test)]
+mod shapes;
 #[cfg(test)]
 mod texts;
 #[cfg(test)]

@@ -1,8 +1,8 @@
 use snap_conditions::{is_atomic, tally_range};
-use snap_csv::TextFault;
 use snap_index::Index;
 use snap_report::{refusal_text, report, verdict_text};
 use snap_testing::{history_of, worked};
+use snap_text::TextFault;
 use std::test::Fail;
 
 #[test]

@@ -1,11 +1,13 @@
 use snap_core::{Counted, Entry, Event, History, View};
-use snap_csv::{ReadRefusal, WriteRefusal, fields_of, read_history, write_history};
+use snap_csv::{ReadRefusal, WriteRefusal, read_history, write_history};
 use snap_testing::{Cup, Drip, Newlines};
+use snap_text::fields_of;
 use std::alloc::Global;
 use std::io::Read;
 use std::process::Abort;
 use std::test::Fail;
 
+mod failing_readers;
 mod record_numbers;
 mod stamps;
 

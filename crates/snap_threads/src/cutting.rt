@@ -1,3 +1,4 @@
+//! Into how many pieces some work is cut, for how many workers.
 ghost use Rattle.std.specs.Prelude.{◌≡◌, IfOk, OnOk, IsErrOf};
 ghost use Rattle.snap_threads.specs.Cuttings.{IsPieces, IsWorkers};
 

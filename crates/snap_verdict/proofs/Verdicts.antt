@@ -6,18 +6,18 @@ use Rattle.std.specs.Option.{ForSome}
 use Rattle.std.proofs.lemmas.Bool.{and_from, and_parts, eq-eqb, eqb-true}
 use Rattle.snap_core.specs.declared.event.Event.{Event}
 use Rattle.snap_core.specs.Calls.{Call, calls_of, views_of}
-use Rattle.snap_core.specs.Events.{HasByteComponents, IsKept}
+use Rattle.snap_core.specs.Events.{HasByteComponents, IsBoundedHistory}
 use Rattle.snap_core.specs.Monotone.{IsMonotone}
 use Rattle.snap_core.specs.Orders.{IsAtomic}
 use Rattle.snap_core.specs.Regular.{IsRegular}
 use Rattle.snap_core.proofs.Fits.{bytes_of_events}
 use Rattle.snap_conditions.specs.declared.tally.Tally.{Tally}
-use Rattle.snap_conditions.specs.Faults.{HasNoFault}
+use Rattle.snap_theory.specs.Faults.{HasNoFault}
 use Rattle.snap_conditions.specs.Tally.{CountsNoFault, CountsNoLocalFault, tally_of}
 use Rattle.snap_conditions.proofs.Ranges.{no_fault_by_tally, regular_by_tally}
 use Rattle.snap_conditions.proofs.StaleViews.{monotone_by_tally}
-use Rattle.snap_order.specs.Levels.{printed_order}
-use Rattle.snap_order.proofs.Laws.{atomic_exactly, prints_legal_order}
+use Rattle.snap_theory.specs.Levels.{printed_order}
+use Rattle.snap_theory.proofs.OrderLaws.{atomic_exactly, prints_legal_order}
 use Rattle.snap_order.proofs.PrintedNumbers.{calls_of_order}
 use Rattle.snap_report.specs.Orders.{calls_numbered}
 use Rattle.snap_report.specs.Reports.{finding_lines, has_no_fault, has_no_local_fault, has_no_stale_view, report_lines, report_text, verdict_lines}
@@ -50,13 +50,13 @@ abbrev pub IsPrintedList : List Event → List ℕ → Type 0
 IsPrintedList es numbers = numbers ≡ map (λ c. c.number) (printed_order (calls_of es))
 
 pub record IsTallied (es : List Event) (t : Tally) : Type 0 where
-  pub kept : IsKept es
+  pub kept : IsBoundedHistory es
   pub whole : t ≡ tally_of (calls_of es) (views_of (calls_of es))
 
 pub no_fault_then : (es : List Event) (t : Tally) → t ≡ tally_of (calls_of es) (views_of (calls_of es)) → CountsNoFault t → HasNoFault (calls_of es)
 no_fault_then es t whole h = (no_fault_by_tally (calls_of es)).0 (subst CountsNoFault whole h)
 
-bytes_in : (es : List Event) → IsKept es → HasByteComponents es
+bytes_in : (es : List Event) → IsBoundedHistory es → HasByteComponents es
 bytes_in es k = bytes_of_events es k.fit
 
 regular_is : (es : List Event) (t : Tally) → IsTallied es t → IsTrue (has_no_local_fault t) ↔ IsRegular (calls_of es)

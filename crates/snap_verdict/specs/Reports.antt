@@ -1,7 +1,7 @@
 -- The status and the report of a text.
 use Rattle.std.specs.Prelude.{ℕ, List, ◌≡◌, ◌⊎◌}
 use Rattle.snap_core.specs.declared.event.Event.{Event}
-use Rattle.snap_csv.specs.declared.refusal.TextFault.{TextFault}
+use Rattle.snap_text.specs.declared.fault.TextFault.{TextFault}
 use Rattle.snap_csv.specs.Texts.{HasFault, IsText}
 use Rattle.snap_report.specs.Lines.{line_text}
 use Rattle.snap_report.specs.Refusals.{refusal_line}

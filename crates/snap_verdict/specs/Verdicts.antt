@@ -6,7 +6,7 @@ use Rattle.snap_core.specs.Monotone.{IsMonotone}
 use Rattle.snap_core.specs.Orders.{IsAtomic, IsLegalOrder}
 use Rattle.snap_core.specs.Regular.{IsRegular}
 use Rattle.snap_conditions.specs.Tally.{tally_of}
-use Rattle.snap_order.specs.Levels.{printed_order}
+use Rattle.snap_theory.specs.Levels.{printed_order}
 use Rattle.snap_report.specs.Faults.{fault_lines}
 use Rattle.snap_report.specs.Lines.{Line, text_of}
 use Rattle.snap_report.specs.Reports.{order_lines, report_lines, verdict_lines}

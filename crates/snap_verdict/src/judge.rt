@@ -2,9 +2,9 @@ ghost use Rattle.std.specs.Prelude.{◌≡◌, [], IfOk, IfSome, IsSome, is_some
 ghost use Rattle.std.specs.Option.{ForSome};
 ghost use Rattle.snap_core.specs.Calls.{calls_of, views_of};
 ghost use Rattle.snap_conditions.specs.Chains.{IsViewChain};
-ghost use Rattle.snap_conditions.specs.Faults.{read_faults};
+ghost use Rattle.snap_theory.specs.Faults.{read_faults};
 ghost use Rattle.snap_conditions.specs.Tally.{tally_of};
-ghost use Rattle.snap_order.specs.Levels.{printed_order};
+ghost use Rattle.snap_theory.specs.Levels.{printed_order};
 ghost use Rattle.snap_report.specs.Reports.{has_no_fault};
 ghost use Rattle.snap_verdict.specs.Verdicts.{HasStatus, IsBriefVerdict, IsVerdict};
 ghost use Rattle.snap_verdict.specs.Reports.{IsReport};

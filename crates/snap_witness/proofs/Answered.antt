@@ -3,19 +3,19 @@ use Rattle.std.proofs.Common.{◌≡◌, ◌≤◌, ◌↔◌, Bool, true, false
 use Rattle.std.specs.Option.{IfSome, IsNone, option_map}
 use Rattle.std.proofs.lemmas.Bool.{false≢true}
 use Rattle.snap_core.specs.declared.event.Event.{Event}
-use Rattle.snap_core.specs.Events.{IsKept}
+use Rattle.snap_core.specs.Events.{IsBoundedHistory}
 use Rattle.snap_core.specs.Calls.{calls_of}
 use Rattle.snap_core.specs.Orders.{IsAtomic}
 use Rattle.snap_core.specs.Regular.{IsRegular}
 use Rattle.snap_core.proofs.Fits.{bytes_of_events}
-use Rattle.snap_conditions.proofs.Laws.{regular_exactly}
-use Rattle.snap_order.proofs.Laws.{atomic_exactly}
-use Rattle.snap_witness.specs.Faults.{Fault, Integrity, Old, Early, Read, Write, is_local, call_limit, fault_calls, fault_updates, fault_witness, IsWitness}
-use Rattle.snap_witness.specs.First.{first_fault, AreWholeCalls, HasFirstFault}
-use Rattle.snap_witness.specs.Kept.{is_place_of, kept_events}
-use Rattle.snap_witness.specs.Witness.{numbers_of, witness_of}
-use Rattle.snap_witness.proofs.Faults.{each_fault_has_witness, not_atomic, not_regular}
-use Rattle.snap_witness.proofs.First.{IsFirst, first_is, none_is}
+use Rattle.snap_theory.proofs.FaultLaws.{regular_exactly}
+use Rattle.snap_theory.proofs.OrderLaws.{atomic_exactly}
+use Rattle.snap_theory.specs.FaultWitnesses.{Fault, Integrity, Old, Early, Read, Write, is_local, call_limit, fault_calls, fault_updates, fault_witness, IsWitness}
+use Rattle.snap_theory.specs.First.{first_fault, AreWholeCalls, HasFirstFault}
+use Rattle.snap_theory.specs.Kept.{is_place_of, kept_events}
+use Rattle.snap_theory.specs.Witness.{numbers_of, witness_of}
+use Rattle.snap_theory.proofs.FaultWitnesses.{each_fault_has_witness, not_atomic, not_regular}
+use Rattle.snap_theory.proofs.First.{IsFirst, first_is, none_is}
 
 -- the first fault, with its witness
 pub record Answered (es w : List Event) : Type 0 where
@@ -25,7 +25,7 @@ pub record Answered (es w : List Event) : Type 0 where
   pub shown : IsWitness es fault
   pub same : w ≡ fault_witness es fault
 
-answered : (es : List Event) → IsKept es → (a : Option (List Event)) → a ≡ option_map (fault_witness es) (first_fault (calls_of es)) → IfSome a (Answered es)
+answered : (es : List Event) → IsBoundedHistory es → (a : Option (List Event)) → a ≡ option_map (fault_witness es) (first_fault (calls_of es)) → IfSome a (Answered es)
 answered es h a e = go (first_fault (calls_of es)) refl a e
   where
     go : (o : Option Fault) → first_fault (calls_of es) ≡ o → (a : Option (List Event)) → a ≡ option_map (fault_witness es) o → IfSome a (Answered es)
@@ -37,7 +37,7 @@ answered es h a e = go (first_fault (calls_of es)) refl a e
         let s : w ≡ fault_witness es f = cc in
         record { fault = f; first = t; is = i; shown = each_fault_has_witness es h f i.fault; same = s }
 
-pub each : (es : List Event) → IsKept es → (P : List Event → Type 0) → ((w : List Event) → Answered es w → P w) → (a : Option (List Event)) → a ≡ option_map (fault_witness es) (first_fault (calls_of es)) → IfSome a P
+pub each : (es : List Event) → IsBoundedHistory es → (P : List Event → Type 0) → ((w : List Event) → Answered es w → P w) → (a : Option (List Event)) → a ≡ option_map (fault_witness es) (first_fault (calls_of es)) → IfSome a P
 each es h P g a e = go a (answered es h a e)
   where
     go : (a : Option (List Event)) → IfSome a (Answered es) → IfSome a P
@@ -67,14 +67,14 @@ has_first es w a = subst (HasFirstFault es) (sym a.same) (record { fault = a.fau
 pub is_not_atomic : (es w : List Event) → Answered es w → IsAtomic (calls_of w) → ⊥
 is_not_atomic es w a = subst (λ z. IsAtomic (calls_of z) → ⊥) (sym a.same) a.shown.not_atomic
 
-pub is_regular : (es : List Event) → IsKept es → (w : List Event) → Answered es w → IsRegular (calls_of w) ↔ IsRegular (calls_of es)
+pub is_regular : (es : List Event) → IsBoundedHistory es → (w : List Event) → Answered es w → IsRegular (calls_of w) ↔ IsRegular (calls_of es)
 is_regular es h w a = subst (λ z. IsRegular (calls_of z) ↔ IsRegular (calls_of es)) (sym a.same) (go (is_local a.fault) refl)
   where
     go : (b : Bool) → is_local a.fault ≡ b → IsRegular (calls_of (fault_witness es a.fault)) ↔ IsRegular (calls_of es)
     go true l = (λ r. absurd (a.shown.not_regular l r), λ r. absurd (not_regular es h.history a.fault l a.is.fault r))
     go false l = (λ _. (regular_exactly es h.history (bytes_of_events es h.fit)).1 (a.is.local l), a.shown.regular l)
 
-pub none_exactly : (es : List Event) → IsKept es → (a : Option (List Event)) → a ≡ option_map (fault_witness es) (first_fault (calls_of es)) → IsNone a ↔ IsAtomic (calls_of es)
+pub none_exactly : (es : List Event) → IsBoundedHistory es → (a : Option (List Event)) → a ≡ option_map (fault_witness es) (first_fault (calls_of es)) → IsNone a ↔ IsAtomic (calls_of es)
 none_exactly es h a e = go (first_fault (calls_of es)) refl a e
   where
     go : (o : Option Fault) → first_fault (calls_of es) ≡ o → (a : Option (List Event)) → a ≡ option_map (fault_witness es) o → IsNone a ↔ IsAtomic (calls_of es)

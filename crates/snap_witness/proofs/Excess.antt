@@ -3,7 +3,7 @@ use Rattle.std.proofs.Common.{◌≡◌, ℕ, List, ap, ◌∙◌}
 use Rattle.snap_core.specs.declared.entry.Entry.{Entry}
 use Rattle.snap_core.specs.Calls.{Call, entries_of, shown, shown_number}
 use Rattle.snap_core.specs.Entries.{entry_of, number_in}
-use Rattle.snap_conditions.specs.Faults.{least_exceeding}
+use Rattle.snap_theory.specs.Faults.{least_exceeding}
 use Rattle.snap_conditions.specs.Rows.{first_less}
 
 pub number_shown : (r : Call) (k : ℕ) (es : List Entry) → es ≡ entries_of r.operation → number_in (entry_of k es) ≡ shown_number r k

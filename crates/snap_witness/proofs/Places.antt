@@ -7,13 +7,13 @@ use Rattle.std.proofs.lemmas.List.{take_more, map-append}
 use Rattle.snap_core.specs.declared.event.Event.{Event}
 use Rattle.snap_core.specs.Calls.{Call, calls_of, call_numbered}
 use Rattle.std.specs.Option.{option_map}
-use Rattle.snap_index.specs.Bare.{bare}
-use Rattle.snap_index.specs.declared.call.Call.{Call as BareCall}
-use Rattle.snap_index.proofs.BareCalls.{mapped_some, mapped_none}
-use Rattle.snap_witness.specs.Kept.{ends_at, is_place_of, is_among, kept_event, kept_events, kept_from}
+use Rattle.snap_index.specs.IndexedCalls.{as_indexed}
+use Rattle.snap_index.specs.declared.call.Call.{Call as IndexedCall}
+use Rattle.snap_index.proofs.IndexedCalls.{mapped_some, mapped_none}
+use Rattle.snap_theory.specs.Kept.{ends_at, is_place_of, is_among, kept_event, kept_events, kept_from}
 use Rattle.snap_witness.specs.Places.{begin_and_end, call_places, places_of, calls_numbered}
-use Rattle.snap_witness.specs.Witness.{numbers_of, found_call, updates_kept, witness_calls, witness_of}
-use Rattle.snap_conditions.specs.Places.{update_of}
+use Rattle.snap_theory.specs.Witness.{numbers_of, found_call, updates_kept, witness_calls, witness_of}
+use Rattle.snap_theory.specs.Updates.{update_of}
 
 among_append : (xs ys : List ℕ) (place : ℕ) → is_among (xs ++ ys) place ≡ (is_among xs place || is_among ys place)
 among_append [] ys place = refl
@@ -72,15 +72,15 @@ updates_more calls ps i d l =
     ∙ flat_map-append call_places (updates_kept calls (take i ps)) (found_call (update_of calls (get_or ps i d).0 (get_or ps i d).1))
 
 -- the places of what was found, by the bare call
-pub found_places : (o : Option Call) (b : BareCall) → option_map bare o ≡ Some b → places_of (found_call o) ≡ begin_and_end b.begun b.ended
+pub found_places : (o : Option Call) (b : IndexedCall) → option_map as_indexed o ≡ Some b → places_of (found_call o) ≡ begin_and_end b.begun b.ended
 unfolding places_of
 found_places o b e =
-    let m = mapped_some bare o b e in
-    ap (λ z. flat_map call_places (found_call z)) m.is ∙ append-nil (call_places m.from) ∙ ap (λ (z : BareCall). begin_and_end z.begun z.ended) m.to
+    let m = mapped_some as_indexed o b e in
+    ap (λ z. flat_map call_places (found_call z)) m.is ∙ append-nil (call_places m.from) ∙ ap (λ (z : IndexedCall). begin_and_end z.begun z.ended) m.to
 
-pub none_places : (o : Option Call) → option_map bare o ≡ None → places_of (found_call o) ≡ []
+pub none_places : (o : Option Call) → option_map as_indexed o ≡ None → places_of (found_call o) ≡ []
 unfolding places_of
-none_places o e = ap (λ z. flat_map call_places (found_call z)) (mapped_none bare o e)
+none_places o e = ap (λ z. flat_map call_places (found_call z)) (mapped_none as_indexed o e)
 
 pub places_join : (calls rs : List Call) (ps : List (ℕ × ℕ)) → places_of rs ++ places_of (updates_kept calls ps) ≡ places_of (witness_calls calls rs ps)
 unfolding places_of witness_calls

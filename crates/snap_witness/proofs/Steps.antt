@@ -1,5 +1,5 @@
 -- What the code keeps, step by step.
-use Rattle.std.proofs.Common.{◌≡◌, ℕ, zero, suc, ◌+◌, ◌<◌, ◌≤◌, Bool, true, false, cond, List, [], ◌∷◌, ◌++◌, length, take, drop, get_or, Some, None, refl, sym, ap, ◌∙◌, subst, inl, inr, arith, append_assoc, append-nil}
+use Rattle.std.proofs.Common.{◌≡◌, ℕ, zero, suc, ◌+◌, ◌<◌, ◌≤◌, Bool, true, false, cond, List, [], ◌∷◌, ◌++◌, length, take, drop, get_or, Some, None, refl, sym, ap, ◌∙◌, subst, inl, inr, arith}
 use Rattle.std.specs.Prelude.{◌==◌, not}
 use Rattle.std.proofs.lemmas.List.{take_more, length-take, take-append-drop}
 use Rattle.std.proofs.lemmas.Bool.{lt-ltb, and_from}
@@ -12,10 +12,11 @@ use Rattle.snap_core.specs.Events.{IsHistory, event_limit}
 use Rattle.snap_core.specs.Refusals.{refusal_of}
 use Rattle.snap_core.proofs.Pushes.{history_back}
 use Rattle.snap_core.proofs.Picks.{picked, is_short}
-use Rattle.snap_witness.proofs.Kept.{from_kept, from_left}
-use Rattle.snap_conditions.proofs.Entries.{AreSorted, sorted, sorted_tail, above}
-use Rattle.snap_witness.specs.Kept.{alone, kept_entries, kept_event, kept_from}
-use Rattle.snap_witness.specs.Witness.{numbers_of}
+use Rattle.snap_theory.proofs.Sides.{history_front}
+use Rattle.snap_theory.proofs.Kept.{from_kept, from_left}
+use Rattle.snap_theory.proofs.Entries.{AreSorted, sorted, sorted_tail, above}
+use Rattle.snap_theory.specs.Kept.{alone, kept_entries, kept_event, kept_from}
+use Rattle.snap_theory.specs.Witness.{numbers_of}
 
 pub numbers_step : (ps : List (ℕ × ℕ)) (i k : ℕ) (d : ℕ × ℕ) → i < length ps → numbers_of (drop i ps) k ≡ cond ((get_or ps i d).0 == k) (get_or ps i d).1 (numbers_of (drop (suc i) ps) k)
 numbers_step [] i k d l = absurd (omega arith)
@@ -98,10 +99,6 @@ pub kept_next : (keeps : ℕ → Bool) (numbers : ℕ → ℕ) (es : List Event)
 kept_next keeps numbers es i d b l t =
     let n = length-take i es in
     ap (kept_from keeps numbers 0) (take_more es i d l) ∙ kept_from_append keeps numbers 0 i (take i es) (get_or es i d ∷ []) (omega (arith, n, l)) ∙ ap (λ q. kept_from keeps numbers 0 (take i es) ++ cond q (kept_event numbers (get_or es i d) ∷ []) []) t
-
-history_front : (xs ys : List Event) → IsHistory (xs ++ ys) → IsHistory xs
-history_front xs [] h = subst IsHistory (append-nil xs) h
-history_front xs (y ∷ ys) h = (history_back xs y (history_front (xs ++ y ∷ []) ys (subst IsHistory (sym (append_assoc xs (y ∷ []) ys)) h))).0
 
 kept_short : (keeps : ℕ → Bool) (numbers : ℕ → ℕ) (place : ℕ) (es : List Event) → length (kept_from keeps numbers place es) ≤ length es
 kept_short keeps numbers place [] = omega arith

@@ -2,11 +2,11 @@
 use Rattle.std.proofs.Common.{◌≡◌, ℕ, List, Option, Some, None, refl, sym, ap, ◌∙◌}
 use Rattle.std.specs.Option.{option_map, option_or}
 use Rattle.snap_core.specs.Calls.{Call, views_of}
-use Rattle.snap_conditions.specs.Faults.{integrity_faults, proximity_faults, read_faults, write_faults, first_of}
+use Rattle.snap_theory.specs.Faults.{integrity_faults, proximity_faults, read_faults, write_faults, first_of}
 use Rattle.snap_conditions.specs.Tally.{tally_of, reported_integrity, reported_proximity, reported_read, reported_write}
 use Rattle.snap_conditions.specs.declared.tally.Tally.{Tally}
-use Rattle.snap_witness.specs.Faults.{Fault, Integrity, Read, Write}
-use Rattle.snap_witness.specs.First.{proximity_of, first_integrity, first_proximity, first_read, first_write}
+use Rattle.snap_theory.specs.FaultWitnesses.{Fault, Integrity, Read, Write}
+use Rattle.snap_theory.specs.First.{proximity_of, first_integrity, first_proximity, first_read, first_write}
 
 -- a kind has no first fault, however it is told
 untold : {X Y Z : Type 0} (f : X → Y) (g : X → Z) (o : Option X) → option_map f o ≡ None → option_map g o ≡ None

@@ -1,14 +1,14 @@
 ghost use Rattle.std.specs.Prelude.{◌≡◌, ◌<◌, ◌≤◌, ◌↔◌, ◌++◌, ℕ, Some, IfOk, OnOk, IfSome, IsNone, length, option_map};
 ghost use Rattle.snap_core.specs.Calls.{calls_of, views_of, call_numbered, entries_of};
 ghost use Rattle.snap_core.specs.Entries.{entry_of, number_in};
-ghost use Rattle.snap_core.specs.Events.{IsKept};
+ghost use Rattle.snap_core.specs.Events.{IsBoundedHistory};
 ghost use Rattle.snap_core.specs.Orders.{IsAtomic};
 ghost use Rattle.snap_core.specs.Regular.{IsRegular};
-ghost use Rattle.snap_conditions.specs.Faults.{first_of, integrity_faults, proximity_faults, read_faults, write_faults};
+ghost use Rattle.snap_theory.specs.Faults.{first_of, integrity_faults, proximity_faults, read_faults, write_faults};
 ghost use Rattle.snap_conditions.specs.Rows.{first_less};
 ghost use Rattle.snap_conditions.specs.Tally.{tally_of, reported_integrity, reported_proximity, reported_read, reported_write};
-ghost use Rattle.snap_witness.specs.Faults.{Read, excess_of, fault_updates, fault_witness};
-ghost use Rattle.snap_witness.specs.First.{first_integrity, first_proximity, first_read, first_write, first_fault, AreWholeCalls, HasFirstFault};
+ghost use Rattle.snap_theory.specs.FaultWitnesses.{Read, excess_of, fault_updates, fault_witness};
+ghost use Rattle.snap_theory.specs.First.{first_integrity, first_proximity, first_read, first_write, first_fault, AreWholeCalls, HasFirstFault};
 ghost use Rattle.snap_witness.specs.Places.{IsViewAt, side_number as spec_side_number};
 
 use crate::calls::keep_calls;
@@ -23,7 +23,7 @@ fn integrity_witness(
     index: &Index<'_>,
     fault: IntegrityFault,
 ) -> Result<History, AllocError>
-    requires kept { IsKept index.now }
+    requires kept { IsBoundedHistory index.now }
     requires first { option_map reported_integrity (first_of (integrity_faults (calls_of index.now) (views_of (calls_of index.now)))) ≡ Some fault }
     ensures { IfOk result (λ witness. option_map (fault_witness index.now) (first_integrity (calls_of index.now)) ≡ Some witness) }
 {
@@ -48,7 +48,7 @@ fn proximity_witness(
     index: &Index<'_>,
     fault: ProximityFault,
 ) -> Result<History, AllocError>
-    requires kept { IsKept index.now }
+    requires kept { IsBoundedHistory index.now }
     requires first { option_map (reported_proximity (calls_of index.now)) (first_of (proximity_faults (calls_of index.now) (views_of (calls_of index.now)))) ≡ Some fault }
     ensures { IfOk result (λ witness. option_map (fault_witness index.now) (first_proximity (calls_of index.now)) ≡ Some witness) }
 {
@@ -119,7 +119,7 @@ fn read_updates(
 
 // The witness of the first read fault.
 fn read_witness(alloc: Global, index: &Index<'_>, fault: ReadFault) -> Result<History, AllocError>
-    requires kept { IsKept index.now }
+    requires kept { IsBoundedHistory index.now }
     requires first { option_map reported_read (first_of (read_faults (calls_of index.now) (views_of (calls_of index.now)))) ≡ Some fault }
     ensures { IfOk result (λ witness. option_map (fault_witness index.now) (first_read (calls_of index.now)) ≡ Some witness) }
 {
@@ -129,7 +129,7 @@ fn read_witness(alloc: Global, index: &Index<'_>, fault: ReadFault) -> Result<Hi
 
 // The witness of the first write fault.
 fn write_witness(alloc: Global, index: &Index<'_>, fault: WriteFault) -> Result<History, AllocError>
-    requires kept { IsKept index.now }
+    requires kept { IsBoundedHistory index.now }
     requires first { option_map reported_write (first_of (write_faults (calls_of index.now) (views_of (calls_of index.now)))) ≡ Some fault }
     ensures { IfOk result (λ witness. option_map (fault_witness index.now) (first_write (calls_of index.now)) ≡ Some witness) }
 {
@@ -144,7 +144,7 @@ fn first_witness(
     index: &Index<'_>,
     tally: &Tally,
 ) -> Result<Option<History>, AllocError>
-    requires kept { IsKept index.now }
+    requires kept { IsBoundedHistory index.now }
     requires tally { tally.now ≡ tally_of (calls_of index.now) (views_of (calls_of index.now)) }
     ensures { IfOk result (λ answer. answer ≡ option_map (fault_witness index.now) (first_fault (calls_of index.now))) }
 {

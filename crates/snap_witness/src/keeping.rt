@@ -1,8 +1,8 @@
 ghost use Rattle.std.specs.Prelude.{◌≡◌, ◌≤◌, ◌++◌, ◌∷◌, [], None, length, IfOk, OnOk};
 ghost use Rattle.snap_core.specs.Events.{IsHistory, event_limit};
 ghost use Rattle.snap_core.specs.Refusals.{refusal_of};
-ghost use Rattle.snap_witness.specs.Kept.{kept_entries as spec_kept_entries, kept_event as spec_kept_event, kept_from, is_among as spec_is_among};
-ghost use Rattle.snap_witness.specs.Witness.{numbers_of};
+ghost use Rattle.snap_theory.specs.Kept.{kept_entries as spec_kept_entries, kept_event as spec_kept_event, kept_from, is_among as spec_is_among};
+ghost use Rattle.snap_theory.specs.Witness.{numbers_of};
 
 use snap_core::{Entry, Event, EventRefusal, History, View};
 use std::alloc::{AllocError, Global};

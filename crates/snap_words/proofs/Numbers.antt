@@ -21,6 +21,12 @@ zero_text = decimal_digit 0 (omega arith)
 pub two_text : decimal 2 ≡ codes "2"
 two_text = decimal_digit 2 (omega arith)
 
+pub three_text : decimal 3 ≡ codes "3"
+three_text = decimal_digit 3 (omega arith)
+
+pub four_text : decimal 4 ≡ codes "4"
+four_text = decimal_digit 4 (omega arith)
+
 pub five_text : decimal 5 ≡ codes "5"
 five_text = decimal_digit 5 (omega arith)
 

@@ -1,12 +1,15 @@
 -- The command line, as the parser sees it.
 use Rattle.std.specs.Prelude.{Some, true, codes, pos, [], ◌∷◌}
-use Rattle.clap.specs.Words.{App, Rule, new_app, new_rule, with_rule, with_subcommand}
+use Rattle.clap.specs.Words.{App, Rule, new_app, new_rule}
 use Rattle.clap.specs.declared.builder.action.ArgAction.TheVariants.{Append, SetTrue}
 use Rattle.clap.specs.declared.builder.value_parser.ValueParser.TheVariants.{Signed}
 use Rattle.snap_record.specs.Plans.{round_limit, worker_limit}
 use Rattle.snap_record.specs.declared.plan.TheConstants.{LEAST_WORKERS}
 use Rattle.snap_threads.specs.declared.cutting.TheConstants.{PIECE_LIMIT, WORKER_LIMIT}
-use Rattle.snap_words.specs.declared.command.TheConstants.{VIEW_LIMIT}
+use Rattle.snap_words.specs.declared.check_command.TheConstants.{VIEW_LIMIT}
+use Rattle.snap_words.specs.declared.command.Kind.{Kind}
+use Rattle.snap_words.specs.declared.command.Kind.TheVariants.{Check, Draw, Explain, Record, Shrink}
+use Rattle.snap_words.specs.Tables.{with_apps, with_rules}
 
 -- --pieces P, 8 where it is not given
 abbrev pub pieces_rule : Rule
@@ -24,6 +27,22 @@ quiet_rule = record (new_rule (codes "quiet")) { long = Some (codes "quiet"); ac
 abbrev pub views_rule : Rule
 views_rule = record (new_rule (codes "views")) { long = Some (codes "views"); value_names = 1; parser = Some (Signed (pos 0) (pos VIEW_LIMIT)); defaults = codes "0" ∷ [] }
 
+-- --format FORMAT, plain where it is not given; any text is taken here
+abbrev pub format_rule : Rule
+format_rule = record (new_rule (codes "format")) { long = Some (codes "format"); value_names = 1; defaults = codes "plain" ∷ [] }
+
+-- --summary
+abbrev pub summary_rule : Rule
+summary_rule = record (new_rule (codes "summary")) { long = Some (codes "summary"); action = Some SetTrue }
+
+-- --no-progress
+abbrev pub no_progress_rule : Rule
+no_progress_rule = record (new_rule (codes "no-progress")) { long = Some (codes "no-progress"); action = Some SetTrue }
+
+-- --color WHEN, auto where it is not given; any text is taken here
+abbrev pub color_rule : Rule
+color_rule = record (new_rule (codes "color")) { long = Some (codes "color"); value_names = 1; defaults = codes "auto" ∷ [] }
+
 -- FILE .., of which there may be none
 abbrev pub files_rule : Rule
 files_rule = record (new_rule (codes "file")) { value_names = 1; action = Some Append }
@@ -32,21 +51,48 @@ files_rule = record (new_rule (codes "file")) { value_names = 1; action = Some A
 abbrev pub file_rule : Rule
 file_rule = record (new_rule (codes "file")) { value_names = 1 }
 
--- check [--pieces P] [--workers W] ..
-abbrev pub cutting_app : App
-cutting_app = with_rule (with_rule (new_app (codes "check")) pieces_rule) workers_rule
+-- --files-from LIST
+abbrev pub list_rule : Rule
+list_rule = record (new_rule (codes "list")) { long = Some (codes "files-from"); value_names = 1 }
 
--- .. [--quiet] [--views N] [FILE ..]
+-- --null, -0
+abbrev pub null_rule : Rule
+null_rule = record (new_rule (codes "null")) { long = Some (codes "null"); short = Some 48; action = Some SetTrue }
+
+-- --recursive FOLDER, -r FOLDER
+abbrev pub folder_rule : Rule
+folder_rule = record (new_rule (codes "folder")) { long = Some (codes "recursive"); short = Some 114; value_names = 1 }
+
+-- check [--pieces P] [--workers W] [--files-from LIST [--null]] [--recursive FOLDER] [--quiet] [--views N] [--format FORMAT]
+-- [--summary] [--no-progress] [--color WHEN] [FILE ..]
 abbrev pub check_app : App
-check_app = with_rule (with_rule (with_rule cutting_app quiet_rule) views_rule) files_rule
+check_app = with_rules (new_app (codes "check"))
+    (pieces_rule ∷ workers_rule ∷ list_rule ∷ null_rule ∷ folder_rule ∷ quiet_rule ∷ views_rule ∷ format_rule ∷ summary_rule
+    ∷ no_progress_rule ∷ color_rule ∷ files_rule ∷ [])
 
--- shrink [FILE]
+-- --draw
+abbrev pub draw_rule : Rule
+draw_rule = record (new_rule (codes "draw")) { long = Some (codes "draw"); action = Some SetTrue }
+
+-- shrink [--draw] [FILE]
 abbrev pub shrink_app : App
-shrink_app = with_rule (new_app (codes "shrink")) file_rule
+shrink_app = with_rules (new_app (codes "shrink")) (draw_rule ∷ file_rule ∷ [])
 
--- explain [FILE]
+-- explain [--draw] [FILE]
 abbrev pub explain_app : App
-explain_app = with_rule (new_app (codes "explain")) file_rule
+explain_app = with_rules (new_app (codes "explain")) (draw_rule ∷ file_rule ∷ [])
+
+-- --svg
+abbrev pub svg_rule : Rule
+svg_rule = record (new_rule (codes "svg")) { long = Some (codes "svg"); action = Some SetTrue }
+
+-- --text
+abbrev pub text_rule : Rule
+text_rule = record (new_rule (codes "text")) { long = Some (codes "text"); action = Some SetTrue }
+
+-- draw [--svg] [--text] [FILE]
+abbrev pub draw_app : App
+draw_app = with_rules (new_app (codes "draw")) (svg_rule ∷ text_rule ∷ file_rule ∷ [])
 
 -- --workers W, 2 where it is not given
 abbrev pub recorders_rule : Rule
@@ -68,20 +114,22 @@ scan_rule = record (new_rule (codes "scan")) { long = Some (codes "scan"); actio
 abbrev pub stamped_rule : Rule
 stamped_rule = record (new_rule (codes "stamped")) { long = Some (codes "stamped"); action = Some SetTrue }
 
--- record [--workers W] [--rounds R] ..
-abbrev pub rounds_app : App
-rounds_app = with_rule (with_rule (new_app (codes "record")) recorders_rule) rounds_rule
-
--- .. [--judge] [--scan] [--stamped]
+-- record [--workers W] [--rounds R] [--judge] [--scan] [--stamped]
 abbrev pub record_app : App
-record_app = with_rule (with_rule (with_rule rounds_app judge_rule) scan_rule) stamped_rule
+record_app = with_rules (new_app (codes "record")) (recorders_rule ∷ rounds_rule ∷ judge_rule ∷ scan_rule ∷ stamped_rule ∷ [])
 
+-- the command of a kind
+abbrev pub app_for : Kind → App
+app_for Check = check_app
+app_for Shrink = shrink_app
+app_for Explain = explain_app
+app_for Draw = draw_app
+app_for Record = record_app
+
+-- one of the commands has to be named
 abbrev pub needs_subcommand : App → App
 needs_subcommand app = record app { top = record app.top { subcommand_required = true } }
 
--- the program with the commands that read a history
-abbrev pub reading_app : App
-reading_app = with_subcommand (with_subcommand (with_subcommand (needs_subcommand (new_app (codes "snapjudge"))) check_app.top) shrink_app.top) explain_app.top
-
+-- the program, with its commands
 abbrev pub program_app : App
-program_app = with_subcommand reading_app record_app.top
+program_app = with_apps (needs_subcommand (new_app (codes "snapjudge"))) (check_app ∷ shrink_app ∷ explain_app ∷ draw_app ∷ record_app ∷ [])

@@ -1,56 +1,72 @@
 -- What the words of a command line ask for.
 use Rattle.std.specs.Prelude.{◌≡◌, ◌*◌, ◌≤◌, ℕ, Bool, true, false, List, [], Option, Some, None, codes, decimal, map, string_bytes}
-use Rattle.clap.specs.Words.{Row, Text, all_of, one_of}
+use Rattle.clap.specs.Words.{Row, Text, all_of, first_of, one_of}
 use Rattle.snap_core.specs.Events.{event_limit}
 use Rattle.snap_record.specs.Plans.{AreWorkers, AreRounds}
 use Rattle.snap_threads.specs.Cuttings.{IsPieces, IsWorkers}
+use Rattle.snap_words.specs.declared.drawing.Form.{Form}
 use Rattle.snap_words.specs.declared.job.Asked.{Asked}
 use Rattle.snap_words.specs.declared.job.Job.{Job}
-use Rattle.snap_words.specs.declared.job.Job.TheVariants.{Check, Shrink, Explain, Record}
+use Rattle.snap_words.specs.declared.job.Job.TheVariants.{Check, Shrink, Explain, Draw, Record}
+use Rattle.snap_words.specs.declared.color.Color.{Color}
+use Rattle.snap_words.specs.declared.color.Color.TheVariants.{Auto, Always, Never}
+use Rattle.snap_words.specs.declared.job.Options.{Options}
 
 -- as many completed views, of two events each, as a history can have
 abbrev pub AreViews : ℕ → Type 0
 AreViews n = 2 * n ≤ event_limit
 
--- the numbers of a job are in their ranges, and no report is asked for with stamps
-abbrev pub IsInRange : Job → Type 0
-IsInRange (Check cutting quiet views) = IsPieces cutting.pieces × IsWorkers cutting.workers × AreViews views
-IsInRange Shrink = Unit {0}
-IsInRange Explain = Unit {0}
-IsInRange (Record workers rounds judge scan stamped) = AreWorkers workers × AreRounds rounds × (judge ≡ true → stamped ≡ false)
+-- one form of answer is asked for: no object of the verdicts' lines alone, and no sums of either
+pub record IsOneForm (options : Options) : Type 0 where
+  pub object : options.json ≡ true → options.quiet ≡ false
+  pub sums : options.summary ≡ true → (options.quiet ≡ false) × (options.json ≡ false)
 
--- what a check is asked for besides: the lines of the verdicts alone, and so many completed views
-pub record Options : Type 0 where
-  pub quiet : Bool
-  pub views : ℕ
+-- the numbers of a job are in their ranges; one form of answer is asked for, and no report with stamps
+abbrev pub IsInRange : Job → Type 0
+IsInRange (Check cutting options) = IsPieces cutting.pieces × IsWorkers cutting.workers × AreViews options.views × IsOneForm options
+IsInRange (Shrink drawn) = Unit {0}
+IsInRange (Explain drawn) = Unit {0}
+IsInRange (Draw form) = Unit {0}
+IsInRange (Record workers rounds judge scan stamped) = AreWorkers workers × AreRounds rounds × (judge ≡ true → stamped ≡ false)
 
 -- a check with so many pieces and workers, and with these options
 abbrev pub IsCheckWith : ℕ → ℕ → Options → Job → Type 0
-IsCheckWith pieces workers options (Check cutting quiet views) = (cutting.pieces ≡ pieces) × (cutting.workers ≡ workers) × (quiet ≡ options.quiet) × (views ≡ options.views)
-IsCheckWith pieces workers options Shrink = ⊥
-IsCheckWith pieces workers options Explain = ⊥
+IsCheckWith pieces workers options (Check cutting asked) = (cutting.pieces ≡ pieces) × (cutting.workers ≡ workers) × (asked ≡ options)
+IsCheckWith pieces workers options (Shrink drawn) = ⊥
+IsCheckWith pieces workers options (Explain drawn) = ⊥
+IsCheckWith pieces workers options (Draw form) = ⊥
 IsCheckWith pieces workers options (Record w rounds judge scan stamped) = ⊥
 
 -- the whole report, of any number of completed views
 abbrev pub no_options : Options
-no_options = record { quiet = false; views = 0 }
+no_options = record { quiet = false; views = 0; json = false; summary = false; no_progress = false; color = Auto }
 
 abbrev pub IsCheck : ℕ → ℕ → Job → Type 0
 IsCheck pieces workers = IsCheckWith pieces workers no_options
 
--- a history that is to be cut down
-abbrev pub IsShrink : Job → Type 0
-IsShrink (Check cutting quiet views) = ⊥
-IsShrink Shrink = Unit {0}
-IsShrink Explain = ⊥
-IsShrink (Record w rounds judge scan stamped) = ⊥
+-- a history that is to be cut down, to a text or to its picture
+abbrev pub IsShrink : Bool → Job → Type 0
+IsShrink drawn (Check cutting options) = ⊥
+IsShrink drawn (Shrink asked) = asked ≡ drawn
+IsShrink drawn (Explain asked) = ⊥
+IsShrink drawn (Draw form) = ⊥
+IsShrink drawn (Record w rounds judge scan stamped) = ⊥
 
--- a history that is to be explained
-abbrev pub IsExplain : Job → Type 0
-IsExplain (Check cutting quiet views) = ⊥
-IsExplain Shrink = ⊥
-IsExplain Explain = Unit {0}
-IsExplain (Record w rounds judge scan stamped) = ⊥
+-- a history that is to be explained, with a picture or without
+abbrev pub IsExplain : Bool → Job → Type 0
+IsExplain drawn (Check cutting options) = ⊥
+IsExplain drawn (Shrink asked) = ⊥
+IsExplain drawn (Explain asked) = asked ≡ drawn
+IsExplain drawn (Draw form) = ⊥
+IsExplain drawn (Record w rounds judge scan stamped) = ⊥
+
+-- a history that is to be drawn in a form
+abbrev pub IsDraw : Form → Job → Type 0
+IsDraw form (Check cutting options) = ⊥
+IsDraw form (Shrink drawn) = ⊥
+IsDraw form (Explain drawn) = ⊥
+IsDraw form (Draw asked) = asked ≡ form
+IsDraw form (Record w rounds judge scan stamped) = ⊥
 
 -- the flags of a recording: its report in place of its history, scans in place of views, and the stamps of its events
 pub record Flags : Type 0 where
@@ -63,9 +79,10 @@ no_flags = record { judge = false; scan = false; stamped = false }
 
 -- a recording of so many workers and rounds with these flags
 abbrev pub IsRecord : ℕ → ℕ → Flags → Job → Type 0
-IsRecord workers rounds flags (Check cutting quiet views) = ⊥
-IsRecord workers rounds flags Shrink = ⊥
-IsRecord workers rounds flags Explain = ⊥
+IsRecord workers rounds flags (Check cutting options) = ⊥
+IsRecord workers rounds flags (Shrink drawn) = ⊥
+IsRecord workers rounds flags (Explain drawn) = ⊥
+IsRecord workers rounds flags (Draw form) = ⊥
 IsRecord workers rounds flags (Record w r judge scan stamped) =
     (w ≡ workers) × (r ≡ rounds) × (judge ≡ flags.judge) × (scan ≡ flags.scan) × (stamped ≡ flags.stamped)
 
@@ -74,15 +91,36 @@ abbrev pub flag_text : Bool → List ℕ
 flag_text true = codes "true"
 flag_text false = codes "false"
 
--- the options of `check` have these numbers, which are in their ranges, and the flag is given or not
+-- whether a picture is asked for, by --draw
+abbrev pub AsksPicture : Bool → List Row → Type 0
+AsksPicture drawn rows = one_of (codes "draw") rows ≡ Some (flag_text drawn)
+
+-- the word of a format
+abbrev pub format_text : Bool → List ℕ
+format_text true = codes "json"
+format_text false = codes "plain"
+
+-- the word that says when verdicts have colours
+abbrev pub color_text : Color → List ℕ
+color_text Auto = codes "auto"
+color_text Always = codes "always"
+color_text Never = codes "never"
+
+-- the options of `check` have these numbers, which are in their ranges, each flag is given or not, and the format and the colours
+-- have their words; one form of answer is asked for
 pub record AsksCheck (rows : List Row) (pieces : ℕ) (workers : ℕ) (options : Options) : Type 0 where
   pub pieces_fit : IsPieces pieces
   pub workers_fit : IsWorkers workers
   pub views_fit : AreViews options.views
+  pub one_form : IsOneForm options
   pub pieces_are : one_of (codes "pieces") rows ≡ Some (decimal pieces)
   pub workers_are : one_of (codes "workers") rows ≡ Some (decimal workers)
   pub views_are : one_of (codes "views") rows ≡ Some (decimal options.views)
   pub quiet_is : one_of (codes "quiet") rows ≡ Some (flag_text options.quiet)
+  pub format_is : first_of (codes "format") rows ≡ Some (format_text options.json)
+  pub summary_is : one_of (codes "summary") rows ≡ Some (flag_text options.summary)
+  pub no_progress_is : one_of (codes "no-progress") rows ≡ Some (flag_text options.no_progress)
+  pub color_is : first_of (codes "color") rows ≡ Some (color_text options.color)
 
 -- the options of `record` have these numbers of workers and rounds, which are in their ranges, and each flag is given or not, but
 -- not a report with stamps

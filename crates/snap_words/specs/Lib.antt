@@ -1,2 +1,6 @@
 pub mod CommandLine
+pub mod Drawing
 pub mod Jobs
+pub mod Lines
+pub mod Sources
+pub mod Tables

@@ -4,7 +4,8 @@ ghost use Rattle.clap.specs.Words.{app_of};
 ghost use Rattle.clap.specs.declared.builder.command.Command.TheViews.{out-Command as fields_of};
 ghost use Rattle.snap_words.specs.CommandLine.{explain_app};
 
-use crate::file_argument::file_argument;
+use crate::command::command_of;
+use crate::word::{FILE, Takes, Word};
 use clap::Command;
 use std::alloc::{AllocError, Global};
 
@@ -35,6 +36,9 @@ it makes
 Of an atomic history the lines of its calls stand in an order that explains each view. Of a
 text that is no history the rule that is broken is told, and the record that breaks it.
 
+With --draw a picture of the calls concerned stands below, and of calls that overlap them, by
+lines of characters as `snapjudge draw --text` writes them.
+
 Exit status:
     0  the history is atomic
     1  it is regular, and not atomic
@@ -43,12 +47,20 @@ Exit status:
     4  reading, writing or memory failed, or the file can't be opened
     5  the words of the command line were not taken";
 
-/// The command `explain` with its file.
-pub fn explain_command<'a>(alloc: Global) -> Result<Command<'a>, AllocError>
+const WORDS: &[Word<'static>] = &[
+    Word {
+        id: "draw",
+        long: Some("draw"),
+        short: None,
+        takes: Takes::Nothing,
+        help: "Write a picture of the calls below",
+    },
+    FILE,
+];
+
+/// The command `explain` with its words.
+pub(crate) fn explain_command<'a>(alloc: Global) -> Result<Command<'a>, AllocError>
     ensures { IfOk result (λ command. (app_of command ≡ explain_app) × ((fields_of command).has_globals ≡ false)) }
 {
-    Command::new(alloc, "explain")
-        .about(ABOUT)
-        .after_help(EXAMPLE)
-        .arg(file_argument(alloc))
+    command_of(alloc, "explain", ABOUT, EXAMPLE, WORDS)
 }

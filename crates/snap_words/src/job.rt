@@ -1,29 +1,59 @@
 //! What the words of a command line ask for.
-ghost use Rattle.std.specs.Prelude.{◌≡◌, ◌<◌, ◌^◌, ◌∷◌, [], ℕ, Bool, List, Some, None, true, false, codes, decimal, IfOk, IfSome, IsSomeAnd, MatchResult, map, string_bytes};
-ghost use Rattle.clap.specs.Words.{Row, Text, found_of, kind_of, one_of, rows_of, subcommand_rows_of};
-ghost use Rattle.snap_words.specs.Jobs.{AsksCheck, AsksRecord, Flags, Options, IsCheck, IsCheckWith, IsExplain, IsInRange, IsOn, IsRecord, IsShrink, files_of, flag_text, no_flags, no_options};
+ghost use Rattle.std.specs.Prelude.{◌≡◌, ◌<◌, ◌^◌, ℕ, Bool, List, Option, Some, None, true, false, codes, decimal, IfOk, IfSome, IsSomeAnd, MatchResult, map, string_bytes};
+ghost use Rattle.clap.specs.Words.{Row, Text, first_of, found_of, kind_of, one_of, rows_of, subcommand_rows_of};
+ghost use Rattle.snap_words.specs.Lines.{Means};
+ghost use Rattle.snap_words.specs.Sources.{AreSources, NamesSources};
+ghost use Rattle.snap_words.specs.Jobs.{AsksCheck, AsksPicture, AsksRecord, Flags, IsCheckWith, IsDraw, IsExplain, IsInRange, IsOn, IsRecord, IsShrink, files_of, flag_text, format_text, IsOneForm, color_text};
+ghost use Rattle.snap_words.specs.Drawing.{AsksDraw};
 
-use crate::command::{VIEW_LIMIT, program};
+use crate::check_command::VIEW_LIMIT;
+use crate::color::Color;
+use crate::command::program;
+use crate::drawing::{Form, form_in};
+use crate::sources::{Sources, sources_named};
 use clap::error::ErrorKind;
 use clap::{ArgMatches, Error};
 use snap_record::{LEAST_WORKERS, ROUND_LIMIT, WORKER_LIMIT};
 use snap_threads::Cutting;
 use std::alloc::{AllocError, Global};
 
+/// What a check is asked for besides its cutting.
+#[derive(Clone, Copy)]
+pub struct Options {
+    /// Of the report only the lines of the verdicts; not with `json`.
+    pub quiet: bool,
+    /// How many completed views a history must have.
+    pub views: u32,
+    /// A JSON object in place of the report.
+    pub json: bool,
+    /// The sums of all files in place of reports; not with `quiet` or `json`.
+    pub summary: bool,
+    /// No line on a terminal that shows how far it is.
+    pub no_progress: bool,
+    /// When the verdicts have colours.
+    pub color: Color,
+}
+
 /// What the program is asked to do.
 #[derive(Clone, Copy)]
 pub enum Job {
-    /// Judge a history: of its report only the lines of the verdicts where that is asked for, and of at
-    /// least so many completed views.
+    /// Judge a history.
     Check {
         cutting: Cutting,
-        quiet: bool,
-        views: u32,
+        options: Options,
     },
-    /// Cut a history down to a witness.
-    Shrink,
-    /// Explain a history.
-    Explain,
+    /// Cut a history down to a witness, or draw that.
+    Shrink {
+        drawn: bool,
+    },
+    /// Explain a history, with a picture or without.
+    Explain {
+        drawn: bool,
+    },
+    /// Draw a history.
+    Draw {
+        form: Form,
+    },
     /// Record so many workers in so many rounds of a store and a view, or a scan in place of the view, and judge the
     /// history where that is asked for, or write it with the stamps of its events; not both.
     Record {
@@ -40,6 +70,8 @@ pub enum Job {
 pub struct Asked {
     pub job: Job,
     pub files: Vec<String>,
+    /// Where further files are named; only a check has any.
+    pub sources: Sources,
 }
 
 /// Why the words name no job.
@@ -69,12 +101,74 @@ fn number_in(matches: &ArgMatches<'_>, id: &str) -> Option<u32>
     matches.get_one::<u32>(id)
 }
 
-// Whether a flag was given.
-fn flag_in(matches: &ArgMatches<'_>, id: &str) -> bool
+/// Whether a flag was given.
+pub(crate) fn flag_in(matches: &ArgMatches<'_>, id: &str) -> bool
     ensures given { (flag : Bool) → one_of id.now (rows_of (found_of matches.now)) ≡ Some (flag_text flag) → result ≡ flag }
     ensures absent { one_of id.now (rows_of (found_of matches.now)) ≡ None → result ≡ false }
 {
     matches.get_flag(id)
+}
+
+// Whether a JSON object is asked for; none where the word is no format.
+fn json_in(matches: &ArgMatches<'_>) -> Option<bool>
+    ensures given { (json : Bool) → first_of (codes "format") (rows_of (found_of matches.now)) ≡ Some (format_text json) → result ≡ Some json }
+{
+    let word = matches.get_str("format")?;
+    if word == "json" {
+        Some(true)
+    } else if word == "plain" {
+        Some(false)
+    } else {
+        None
+    }
+}
+
+// When verdicts are to have colours; none where the word is not known.
+fn color_in(matches: &ArgMatches<'_>) -> Option<Color>
+    ensures given { (color : Color) → first_of (codes "color") (rows_of (found_of matches.now)) ≡ Some (color_text color) → result ≡ Some color }
+{
+    let word = matches.get_str("color")?;
+    if word == "auto" {
+        Some(Color::Auto)
+    } else if word == "always" {
+        Some(Color::Always)
+    } else if word == "never" {
+        Some(Color::Never)
+    } else {
+        None
+    }
+}
+
+// Whether one form of answer is asked for.
+fn is_one_form(options: Options) -> bool
+    ensures one { result ≡ true → IsOneForm options }
+    ensures asked { IsOneForm options → result ≡ true }
+{
+    if options.summary {
+        !options.quiet && !options.json
+    } else {
+        !(options.quiet && options.json)
+    }
+}
+
+// The options of `check` besides its cutting.
+fn options_in(matches: &ArgMatches<'_>) -> Option<Options>
+    ensures { (pieces workers : ℕ) (options : Options) → AsksCheck (rows_of (found_of matches.now)) pieces workers options → result ≡ Some options }
+{
+    let quiet = flag_in(matches, "quiet");
+    let views = number_in(matches, "views")?;
+    let json = json_in(matches)?;
+    let summary = flag_in(matches, "summary");
+    let no_progress = flag_in(matches, "no-progress");
+    let color = color_in(matches)?;
+    Some(Options {
+        quiet,
+        views,
+        json,
+        summary,
+        no_progress,
+        color,
+    })
 }
 
 // The check that the options of `check` ask for.
@@ -84,17 +178,12 @@ fn check_in(matches: &ArgMatches<'_>) -> Option<Job>
 {
     let pieces = number_in(matches, "pieces")?;
     let workers = number_in(matches, "workers")?;
-    let views = number_in(matches, "views")?;
-    let quiet = flag_in(matches, "quiet");
-    if views > VIEW_LIMIT {
+    let options = options_in(matches)?;
+    if options.views > VIEW_LIMIT || !is_one_form(options) {
         return None;
     }
     let cutting = Cutting::new(pieces, workers).ok()?;
-    Some(Job::Check {
-        cutting,
-        quiet,
-        views,
-    })
+    Some(Job::Check { cutting, options })
 }
 
 // The recording that the options of `record` ask for.
@@ -122,13 +211,26 @@ fn record_in(matches: &ArgMatches<'_>) -> Option<Job>
     })
 }
 
+// The drawing that the flags of `draw` ask for.
+fn draw_in(matches: &ArgMatches<'_>) -> Option<Job>
+    ensures job { IfSome result IsInRange }
+    ensures asked { (form : Form) → AsksDraw (rows_of (found_of matches.now)) form → IsSomeAnd result (IsDraw form) }
+{
+    let form = form_in(matches)?;
+    Some(Job::Draw { form })
+}
+
 // The job that the words ask for, where each number is there and in its range.
 fn job_in(matches: &ArgMatches<'_>) -> Option<Job>
     ensures job { IfSome result IsInRange }
     ensures check { (rows : List Row) (pieces workers : ℕ) (options : Options) → subcommand_rows_of matches.now ≡ Some (codes "check", rows)
         → AsksCheck rows pieces workers options → IsSomeAnd result (IsCheckWith pieces workers options) }
-    ensures shrink { (rows : List Row) → subcommand_rows_of matches.now ≡ Some (codes "shrink", rows) → IsSomeAnd result IsShrink }
-    ensures explain { (rows : List Row) → subcommand_rows_of matches.now ≡ Some (codes "explain", rows) → IsSomeAnd result IsExplain }
+    ensures shrink { (rows : List Row) (drawn : Bool) → subcommand_rows_of matches.now ≡ Some (codes "shrink", rows)
+        → AsksPicture drawn rows → IsSomeAnd result (IsShrink drawn) }
+    ensures explain { (rows : List Row) (drawn : Bool) → subcommand_rows_of matches.now ≡ Some (codes "explain", rows)
+        → AsksPicture drawn rows → IsSomeAnd result (IsExplain drawn) }
+    ensures draw { (rows : List Row) (form : Form) → subcommand_rows_of matches.now ≡ Some (codes "draw", rows)
+        → AsksDraw rows form → IsSomeAnd result (IsDraw form) }
     ensures recording { (rows : List Row) (workers rounds : ℕ) (flags : Flags) → subcommand_rows_of matches.now ≡ Some (codes "record", rows)
         → AsksRecord rows workers rounds flags → IsSomeAnd result (IsRecord workers rounds flags) }
 {
@@ -136,9 +238,13 @@ fn job_in(matches: &ArgMatches<'_>) -> Option<Job>
     if name == "check" {
         check_in(inner)
     } else if name == "shrink" {
-        Some(Job::Shrink)
+        let drawn = flag_in(inner, "draw");
+        Some(Job::Shrink { drawn })
     } else if name == "explain" {
-        Some(Job::Explain)
+        let drawn = flag_in(inner, "draw");
+        Some(Job::Explain { drawn })
+    } else if name == "draw" {
+        draw_in(inner)
     } else {
         record_in(inner)
     }
@@ -187,30 +293,51 @@ fn fault_of(alloc: Global, error: &Error) -> JobFault
     }
 }
 
-/// The job that the words of a command line ask for, and its files; the program's name comes first.
+// Why words that the parser takes ask for no job: it tests each number by itself, but no word of a format or of colours, and no two
+// options beside one another.
+fn refusal_of(matches: &ArgMatches<'_>) -> &'static str {
+    if matches.subcommand_matches("draw").is_some() {
+        return "error: the argument '--svg' cannot be used with '--text'\n";
+    }
+    let Some(inner) = matches.subcommand_matches("check") else {
+        return "error: the argument '--judge' cannot be used with '--stamped'\n";
+    };
+    let Some(json) = json_in(inner) else {
+        return "error: invalid value for '--format <FORMAT>'\n  [possible values: plain, json]\n\nFor more information, try '--help'.\n";
+    };
+    if color_in(inner).is_none() {
+        "error: invalid value for '--color <WHEN>'\n  [possible values: auto, always, never]\n\nFor more information, try '--help'.\n"
+    } else if !flag_in(inner, "summary") {
+        "error: the argument '--quiet' cannot be used with '--format json'\n"
+    } else if json {
+        "error: the argument '--summary' cannot be used with '--format json'\n"
+    } else {
+        "error: the argument '--summary' cannot be used with '--quiet'\n"
+    }
+}
+
+/// The job that the words of a command line ask for, and its files; the program's name comes first. What the parser makes of
+/// words is the kit's: `Means` says it of [`program`], and the laws of this crate say it of whole lines.
 pub fn job_of(alloc: Global, words: Vec<String>) -> Result<Asked, JobFault>
     ensures job { IfOk result (λ asked. IsInRange asked.job) }
-    ensures check_alone { (name : List ℕ) → map string_bytes words.items ≡ name ∷ codes "check" ∷ []
-        → MatchResult result (IsOn [] (IsCheck 8 2)) (λ fault. fault ≡ JobFault.Memory) }
-    ensures check_quiet { (name : List ℕ) → map string_bytes words.items ≡ name ∷ codes "check" ∷ codes "--quiet" ∷ []
-        → MatchResult result (IsOn [] (IsCheckWith 8 2 (record no_options { quiet = true }))) (λ fault. fault ≡ JobFault.Memory) }
-    ensures check_views { (name : List ℕ) → map string_bytes words.items ≡ name ∷ codes "check" ∷ codes "--views" ∷ codes "5" ∷ []
-        → MatchResult result (IsOn [] (IsCheckWith 8 2 (record no_options { views = 5 }))) (λ fault. fault ≡ JobFault.Memory) }
-    ensures check_files { (name : List ℕ) → map string_bytes words.items ≡ name ∷ codes "check" ∷ codes "a.csv" ∷ codes "-" ∷ []
-        → MatchResult result (IsOn (codes "a.csv" ∷ codes "-" ∷ []) (IsCheck 8 2)) (λ fault. fault ≡ JobFault.Memory) }
-    ensures shrink_alone { (name : List ℕ) → map string_bytes words.items ≡ name ∷ codes "shrink" ∷ []
-        → MatchResult result (IsOn [] IsShrink) (λ fault. fault ≡ JobFault.Memory) }
-    ensures explain_alone { (name : List ℕ) → map string_bytes words.items ≡ name ∷ codes "explain" ∷ []
-        → MatchResult result (IsOn [] IsExplain) (λ fault. fault ≡ JobFault.Memory) }
-    ensures record_alone { (name : List ℕ) → map string_bytes words.items ≡ name ∷ codes "record" ∷ []
-        → MatchResult result (IsOn [] (IsRecord 2 16 no_flags)) (λ fault. fault ≡ JobFault.Memory) }
-    ensures record_judged { (name : List ℕ)
-        → map string_bytes words.items ≡ name ∷ codes "record" ∷ codes "--rounds" ∷ codes "5" ∷ codes "--judge" ∷ []
-        → MatchResult result (IsOn [] (IsRecord 2 5 (record no_flags { judge = true }))) (λ fault. fault ≡ JobFault.Memory) }
-    ensures record_scanned { (name : List ℕ) → map string_bytes words.items ≡ name ∷ codes "record" ∷ codes "--scan" ∷ []
-        → MatchResult result (IsOn [] (IsRecord 2 16 (record no_flags { scan = true }))) (λ fault. fault ≡ JobFault.Memory) }
-    ensures record_stamped { (name : List ℕ) → map string_bytes words.items ≡ name ∷ codes "record" ∷ codes "--stamped" ∷ []
-        → MatchResult result (IsOn [] (IsRecord 2 16 (record no_flags { stamped = true }))) (λ fault. fault ≡ JobFault.Memory) }
+    ensures check { (pieces workers : ℕ) (options : Options) (files : List Text)
+        → Means (map string_bytes words.items) (codes "check") (λ rows. AsksCheck rows pieces workers options) files
+        → MatchResult result (IsOn files (IsCheckWith pieces workers options)) (λ fault. fault ≡ JobFault.Memory) }
+    ensures sources { (list folder : Option Text) (null : Bool) (files : List Text)
+        → Means (map string_bytes words.items) (codes "check") (λ rows. NamesSources rows list null folder) files
+        → IfOk result (λ asked. AreSources list null folder asked.sources) }
+    ensures shrink { (drawn : Bool) (files : List Text)
+        → Means (map string_bytes words.items) (codes "shrink") (AsksPicture drawn) files
+        → MatchResult result (IsOn files (IsShrink drawn)) (λ fault. fault ≡ JobFault.Memory) }
+    ensures explain { (drawn : Bool) (files : List Text)
+        → Means (map string_bytes words.items) (codes "explain") (AsksPicture drawn) files
+        → MatchResult result (IsOn files (IsExplain drawn)) (λ fault. fault ≡ JobFault.Memory) }
+    ensures draw { (form : Form) (files : List Text)
+        → Means (map string_bytes words.items) (codes "draw") (λ rows. AsksDraw rows form) files
+        → MatchResult result (IsOn files (IsDraw form)) (λ fault. fault ≡ JobFault.Memory) }
+    ensures recording { (workers rounds : ℕ) (flags : Flags) (files : List Text)
+        → Means (map string_bytes words.items) (codes "record") (λ rows. AsksRecord rows workers rounds flags) files
+        → MatchResult result (IsOn files (IsRecord workers rounds flags)) (λ fault. fault ≡ JobFault.Memory) }
 {
     let command = program(alloc)?;
     match command.try_get_matches_from(words.as_slice()) {
@@ -219,12 +346,9 @@ pub fn job_of(alloc: Global, words: Vec<String>) -> Result<Asked, JobFault>
             Some(job) => Ok(Asked {
                 job,
                 files: files_named(alloc, &matches)?,
+                sources: sources_named(alloc, &matches)?,
             }),
-            // The parser tests each number by itself, but not two numbers or two flags beside one another.
-            None => Err(JobFault::Usage(String::from_str(
-                alloc,
-                "error: the argument '--judge' cannot be used with '--stamped'\n",
-            )?)),
+            None => Err(JobFault::Usage(String::from_str(alloc, refusal_of(&matches))?)),
         },
     }
 }

@@ -1,11 +1,21 @@
 //! The words of the command line, and the jobs that they ask for.
 #![tactic(auto)]
 
+mod check_command;
+mod color;
 mod command;
+mod draw_command;
+mod drawing;
 mod explain_command;
-mod file_argument;
 mod job;
+mod lines;
 mod record_command;
 mod shrink_command;
+mod sources;
+mod word;
 
-pub use job::{Asked, Job, JobFault, job_of};
+pub use color::Color;
+pub use drawing::Form;
+pub use job::{Asked, Job, JobFault, Options, job_of};
+pub use lines::{check_lines, picture_lines, record_lines, source_lines};
+pub use sources::Sources;

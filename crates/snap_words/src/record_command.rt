@@ -1,21 +1,14 @@
 //! The words of `record`, and its help.
 ghost use Rattle.std.specs.Prelude.{◌≡◌, IfOk, false};
-ghost use Rattle.clap.specs.Words.{app_of, rule_of};
+ghost use Rattle.clap.specs.Words.{app_of};
 ghost use Rattle.clap.specs.declared.builder.command.Command.TheViews.{out-Command as fields_of};
-ghost use Rattle.snap_words.specs.CommandLine.{judge_rule, record_app, recorders_rule, rounds_app, rounds_rule, scan_rule, stamped_rule};
+ghost use Rattle.snap_words.specs.CommandLine.{record_app};
 
-use clap::{Arg, ArgAction, Command};
+use crate::command::command_of;
+use crate::word::{Takes, Word};
+use clap::Command;
 use snap_record::{LEAST_WORKERS, ROUND_LIMIT, WORKER_LIMIT};
 use std::alloc::{AllocError, Global};
-
-// The least number of workers.
-const WORKER_START: i64 = LEAST_WORKERS as i64;
-
-// The first number that is past the limit of workers.
-const WORKER_END: i64 = WORKER_LIMIT as i64 + 1;
-
-// The first number that is past the limit of rounds.
-const ROUND_END: i64 = ROUND_LIMIT as i64 + 1;
 
 const ABOUT: &str =
     "Records the history of a running board and writes it, or its report, to standard output";
@@ -52,77 +45,57 @@ Exit status:
     4  writing or memory failed
     5  the words of the command line were not taken";
 
-fn workers_argument<'a>(alloc: Global) -> Arg<'a>
-    ensures rule { rule_of result ≡ recorders_rule }
-    ensures own { result.global ≡ false }
-{
-    Arg::new(alloc, "workers")
-        .long("workers")
-        .value_name("W")
-        .help("How many threads work on the board, each with a word of its own")
-        .value_parser(clap::value_parser!(u32).range(WORKER_START..WORKER_END))
-        .default_value("2")
-}
+const WORDS: &[Word<'static>] = &[
+    Word {
+        id: "workers",
+        long: Some("workers"),
+        short: None,
+        takes: Takes::Number {
+            name: "W",
+            least: LEAST_WORKERS as i64,
+            most: WORKER_LIMIT as i64,
+            usual: "2",
+        },
+        help: "How many threads work on the board, each with a word of its own",
+    },
+    Word {
+        id: "rounds",
+        long: Some("rounds"),
+        short: None,
+        takes: Takes::Number {
+            name: "R",
+            least: 1,
+            most: ROUND_LIMIT as i64,
+            usual: "16",
+        },
+        help: "In how many rounds each of them stores and views, from 1 to 2048",
+    },
+    Word {
+        id: "judge",
+        long: Some("judge"),
+        short: None,
+        takes: Takes::Nothing,
+        help: "Write the report of the history, and not the history",
+    },
+    Word {
+        id: "scan",
+        long: Some("scan"),
+        short: None,
+        takes: Takes::Nothing,
+        help: "Scan in place of each view",
+    },
+    Word {
+        id: "stamped",
+        long: Some("stamped"),
+        short: None,
+        takes: Takes::Nothing,
+        help: "Write the stamp of each event before it; not with --judge",
+    },
+];
 
-fn rounds_argument<'a>(alloc: Global) -> Arg<'a>
-    ensures rule { rule_of result ≡ rounds_rule }
-    ensures own { result.global ≡ false }
-{
-    Arg::new(alloc, "rounds")
-        .long("rounds")
-        .value_name("R")
-        .help("In how many rounds each of them stores and views, from 1 to 2048")
-        .value_parser(clap::value_parser!(u32).range(1..ROUND_END))
-        .default_value("16")
-}
-
-fn judge_argument<'a>(alloc: Global) -> Arg<'a>
-    ensures rule { rule_of result ≡ judge_rule }
-    ensures own { result.global ≡ false }
-{
-    Arg::new(alloc, "judge")
-        .long("judge")
-        .help("Write the report of the history, and not the history")
-        .action(ArgAction::SetTrue)
-}
-
-fn scan_argument<'a>(alloc: Global) -> Arg<'a>
-    ensures rule { rule_of result ≡ scan_rule }
-    ensures own { result.global ≡ false }
-{
-    Arg::new(alloc, "scan")
-        .long("scan")
-        .help("Scan in place of each view")
-        .action(ArgAction::SetTrue)
-}
-
-fn stamped_argument<'a>(alloc: Global) -> Arg<'a>
-    ensures rule { rule_of result ≡ stamped_rule }
-    ensures own { result.global ≡ false }
-{
-    Arg::new(alloc, "stamped")
-        .long("stamped")
-        .help("Write the stamp of each event before it; not with --judge")
-        .action(ArgAction::SetTrue)
-}
-
-// `record` with its help and its two numbers.
-fn rounds_command<'a>(alloc: Global) -> Result<Command<'a>, AllocError>
-    ensures { IfOk result (λ command. (app_of command ≡ rounds_app) × ((fields_of command).has_globals ≡ false)) }
-{
-    Command::new(alloc, "record")
-        .about(ABOUT)
-        .after_help(EXAMPLE)
-        .arg(workers_argument(alloc))?
-        .arg(rounds_argument(alloc))
-}
-
-/// The command `record` with its options.
-pub fn record_command<'a>(alloc: Global) -> Result<Command<'a>, AllocError>
+/// The command `record` with its words.
+pub(crate) fn record_command<'a>(alloc: Global) -> Result<Command<'a>, AllocError>
     ensures { IfOk result (λ command. (app_of command ≡ record_app) × ((fields_of command).has_globals ≡ false)) }
 {
-    rounds_command(alloc)?
-        .arg(judge_argument(alloc))?
-        .arg(scan_argument(alloc))?
-        .arg(stamped_argument(alloc))
+    command_of(alloc, "record", ABOUT, EXAMPLE, WORDS)
 }

@@ -4,7 +4,8 @@ ghost use Rattle.clap.specs.Words.{app_of};
 ghost use Rattle.clap.specs.declared.builder.command.Command.TheViews.{out-Command as fields_of};
 ghost use Rattle.snap_words.specs.CommandLine.{shrink_app};
 
-use crate::file_argument::file_argument;
+use crate::command::command_of;
+use crate::word::{FILE, Takes, Word};
 use clap::Command;
 use std::alloc::{AllocError, Global};
 
@@ -40,6 +41,9 @@ it takes both views and update 0:2, which the second misses:
 
 An atomic history has no fault, and is written as it is, without stamps.
 
+With --draw the picture of that history is written in its place, by lines of characters as
+`snapjudge draw --text` writes it. A picture is no history, so it can't be judged.
+
 Exit status, of the history that was read:
     0  it is atomic
     1  it is regular, and not atomic
@@ -48,12 +52,20 @@ Exit status, of the history that was read:
     4  reading, writing or memory failed, or the file can't be opened
     5  the words of the command line were not taken";
 
-/// The command `shrink` with its file.
-pub fn shrink_command<'a>(alloc: Global) -> Result<Command<'a>, AllocError>
+const WORDS: &[Word<'static>] = &[
+    Word {
+        id: "draw",
+        long: Some("draw"),
+        short: None,
+        takes: Takes::Nothing,
+        help: "Write the picture of the witness in its place",
+    },
+    FILE,
+];
+
+/// The command `shrink` with its words.
+pub(crate) fn shrink_command<'a>(alloc: Global) -> Result<Command<'a>, AllocError>
     ensures { IfOk result (λ command. (app_of command ≡ shrink_app) × ((fields_of command).has_globals ≡ false)) }
 {
-    Command::new(alloc, "shrink")
-        .about(ABOUT)
-        .after_help(EXAMPLE)
-        .arg(file_argument(alloc))
+    command_of(alloc, "shrink", ABOUT, EXAMPLE, WORDS)
 }

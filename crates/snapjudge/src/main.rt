@@ -1,33 +1,50 @@
 //! Judges a recorded history of a single-writer board: is it regular, is it atomic, and why not?
 #![tactic(auto)]
 
-ghost use Rattle.std.specs.Prelude.{IfOk};
+mod names;
+mod streams;
+mod version;
+
+ghost use Rattle.std.specs.Prelude.{◌≡◌, IfOk, MatchBool};
 ghost use Rattle.snap_words.specs.Jobs.{IsInRange};
 
+use crate::names::{Names, inputs_in, names_of};
+use crate::streams::held_place;
+use crate::version::{asks_version, write_version};
+use snap_check::{CheckOptions, RunFault, Status, check_run_with};
 use snap_core::{Counted, OpenGate};
-use snap_files::{Opener, System, SystemText, check_all, trouble_line};
-use snap_runs::{
-    CheckOptions, RunFault, Status, check_run_asked, explain_run, record_rounds,
-    record_rounds_stamped, shrink_run,
+use snap_files::{
+    FileOptions, Format, Opener, System, SystemText, check_all, sum_all, trouble_line,
 };
+use snap_picture::{Explained, Lines, Page, Svg, draw_explained_run, draw_run, draw_witness_run};
+use snap_runs::{explain_run, record_rounds, record_rounds_stamped, shrink_run};
+use snap_terminal::{Cleared, Painted, Progress, Watched};
 use snap_threads::Cutting;
-use snap_words::{Asked, Job, JobFault, job_of};
+use snap_words::{Asked, Color, Form, Job, JobFault, Options, Sources, job_of};
 use std::alloc::{AllocError, Global};
 use std::env;
+use std::env::VarError;
 use std::fs::File;
-use std::io::{ErrorKind, Read};
+use std::io::{ErrorKind, IsTerminal, Read, Write};
 use std::process::ExitCode;
-use std::rt::Stdout;
 use std::sync::Wait;
 use std::thread::Threads;
 
-// Why a job has no exit status of its own.
+// Why the words have no exit status of their own.
 #[derive(Drop)]
 enum Failure {
+    // They name no job.
+    Words(JobFault),
     // A file was not opened, which is said already.
     Unopened,
     // The run of the job ended with a fault.
     Run(RunFault),
+}
+
+impl From<JobFault> for Failure {
+    fn from(fault: JobFault) -> Failure {
+        Failure::Words(fault)
+    }
 }
 
 impl From<RunFault> for Failure {
@@ -36,24 +53,35 @@ impl From<RunFault> for Failure {
     }
 }
 
+// The words of the command line, the program's name first.
+fn words_of(rt: &HostRuntime) -> Result<Vec<String>, JobFault> {
+    let alloc = rt.alloc();
+    match env::args(rt) {
+        Ok(words) => Ok(words.collect(alloc)?),
+        Err(error) if error.kind() == ErrorKind::OutOfMemory => Err(JobFault::Memory),
+        Err(_) => Err(usage(alloc, "error: the words are not text\n")?),
+    }
+}
+
 // The job that the words of the command line ask for, and its files. Standard input, `-`, can be read once.
-fn asked_job(rt: &HostRuntime) -> Result<Asked, JobFault>
+fn asked_job(alloc: Global, words: Vec<String>) -> Result<Asked, JobFault>
     ensures { IfOk result (λ asked. IsInRange asked.job) }
 {
-    let alloc = rt.alloc();
-    let words = match env::args(rt) {
-        Ok(words) => words.collect(alloc)?,
-        Err(error) if error.kind() == ErrorKind::OutOfMemory => return Err(JobFault::Memory),
-        Err(_) => return Err(usage(alloc, "error: the words are not text\n")?),
-    };
-    let asked = job_of(alloc, words)?;
-    if asked
-        .files
-        .iter()
-        .filter(|name| name.as_str() == "-")
-        .count()
-        > 1
+    if let Some(name) = words.get(1)
+        && name.ends_with(".csv")
     {
+        return Err(JobFault::Usage(format!(in alloc;
+            "error: to judge a file, write: snapjudge check {name}\n"
+        )?));
+    }
+    let asked = job_of(alloc, words)?;
+    if asked.sources.null && asked.sources.list.is_none() {
+        return Err(usage(
+            alloc,
+            "error: the argument '--null' needs '--files-from <LIST>'\n",
+        )?);
+    }
+    if inputs_in(&asked.files, &asked.sources.list) > 1 {
         return Err(usage(alloc, "error: - is standard input, and can be named once\n")?);
     }
     Ok(asked)
@@ -73,10 +101,14 @@ fn system(rt: &HostRuntime) -> System<'_, HostRuntime> {
 
 // The text of the only file, or of standard input where there is none. Why it can't be opened is said.
 fn open_only(rt: &HostRuntime, files: &[String]) -> Result<SystemText<File>, Failure> {
-    let name = match files.first() {
-        Some(name) => name.as_str(),
-        None => "-",
-    };
+    match files.first() {
+        Some(name) => open_named(rt, name),
+        None => open_named(rt, "-"),
+    }
+}
+
+/// The text of a name. Why it can't be opened is said.
+fn open_named(rt: &HostRuntime, name: &str) -> Result<SystemText<File>, Failure> {
     match system(rt).open(name) {
         Ok(text) => Ok(text),
         Err(trouble) => {
@@ -90,16 +122,16 @@ fn open_only(rt: &HostRuntime, files: &[String]) -> Result<SystemText<File>, Fai
 }
 
 // The check of one text. That a history has too few views is said.
-fn check_text<Rt: Threads + Sync, R: Read + Drop>(
+fn check_text<Rt: Threads + Sync, R: Read + Drop, W: Write>(
     rt: &Rt,
     host: &HostRuntime,
     text: R,
-    writer: &mut Counted<Stdout>,
+    writer: &mut Counted<W>,
     cutting: Cutting,
     options: CheckOptions,
 ) -> Result<Status, RunFault> {
     let mut reader = Counted::new(text);
-    match check_run_asked(
+    match check_run_with(
         rt,
         host.alloc(),
         &mut reader,
@@ -116,6 +148,146 @@ fn check_text<Rt: Threads + Sync, R: Read + Drop>(
     }
 }
 
+// The check of each file that a check of these options asks for.
+fn file_options(asked: Options) -> FileOptions
+    ensures format { MatchBool asked.json (result.format ≡ Format.Json) (result.format ≡ Format.Plain) }
+    ensures check { result.check ≡ record { quiet = asked.quiet; views = asked.views } }
+{
+    FileOptions {
+        format: if asked.json {
+            Format::Json
+        } else {
+            Format::Plain
+        },
+        check: CheckOptions {
+            quiet: asked.quiet,
+            views: asked.views,
+        },
+    }
+}
+
+// Whether the environment asks for no colours: its variable is set, and not to an empty text.
+fn has_no_color(host: &HostRuntime) -> bool {
+    match env::var(host, "NO_COLOR") {
+        Ok(text) => !text.as_str().is_empty(),
+        Err(VarError::NotPresent) => false,
+        Err(_) => true,
+    }
+}
+
+// Whether the verdicts of reports have colours. An object has none.
+fn in_colors(host: &HostRuntime, asked: Options) -> bool {
+    match asked.color {
+        _ if asked.json => false,
+        Color::Auto => host.stdout().is_terminal() && !has_no_color(host),
+        Color::Always => true,
+        Color::Never => false,
+    }
+}
+
+// The line of progress over so many files, if there is to be one.
+fn progress_of(
+    host: &HostRuntime,
+    files: usize,
+    asked: Options,
+) -> Option<Progress<'_, HostRuntime>> {
+    if asked.no_progress || !host.stderr().is_terminal() {
+        return None;
+    }
+    Progress::new(host, host.alloc(), host.stderr(), files)
+}
+
+// Whether the answers of a check have the names of their texts: objects and sums always do, and a report beside others.
+fn has_names(files: &[String], asked: Options) -> bool {
+    asked.json || asked.summary || files.len() > 1
+}
+
+// The check of some files, or of standard input where there is none, with their names in the answers or in the sums.
+fn check_files<Rt: Threads + Sync>(
+    rt: &Rt,
+    host: &HostRuntime,
+    files: &[String],
+    cutting: Cutting,
+    asked: Options,
+) -> Result<u8, RunFault> {
+    let input = [String::from_str(host.alloc(), "-")?];
+    let names = if files.is_empty() { &input } else { files };
+    check_names(rt, host, names, cutting, asked)
+}
+
+// The check of some names, with the name in each answer or in the sums.
+fn check_names<Rt: Threads + Sync>(
+    rt: &Rt,
+    host: &HostRuntime,
+    names: &[String],
+    cutting: Cutting,
+    asked: Options,
+) -> Result<u8, RunFault> {
+    let alloc = host.alloc();
+    let line = progress_of(host, names.len(), asked);
+    let progress = line.as_ref();
+    let opener = Watched {
+        opener: system(host),
+        progress,
+    };
+    let answers = Cleared {
+        inner: host.stdout(),
+        progress,
+    };
+    let mut writer = Counted::new(Painted::new(answers, in_colors(host, asked)));
+    let mut errors = Counted::new(Cleared {
+        inner: host.stderr(),
+        progress,
+    });
+    let result = if asked.summary {
+        sum_all(
+            rt,
+            alloc,
+            &opener,
+            names,
+            &mut writer,
+            &mut errors,
+            cutting,
+            &OpenGate,
+            asked.views,
+        )
+    } else {
+        check_all(
+            rt,
+            alloc,
+            &opener,
+            names,
+            &mut writer,
+            &mut errors,
+            cutting,
+            &OpenGate,
+            file_options(asked),
+        )
+    };
+    if let Some(progress) = progress {
+        progress.clear();
+    }
+    result
+}
+
+// The check of some files, or of standard input where there is none.
+fn check<Rt: Threads + Sync>(
+    rt: &Rt,
+    host: &HostRuntime,
+    files: &[String],
+    cutting: Cutting,
+    asked: Options,
+) -> Result<u8, Failure> {
+    if has_names(files, asked) {
+        return Ok(check_files(rt, host, files, cutting, asked)?);
+    }
+    let text = open_only(host, files)?;
+    let painted = Painted::new(host.stdout(), in_colors(host, asked));
+    let mut writer = Counted::new(painted);
+    let options = file_options(asked).check;
+    Ok(check_text(rt, host, text, &mut writer, cutting, options)?.code())
+}
+
 // Does a job, and gives its exit status. The threads are those of `rt`; all else is of the host.
 fn done<Rt: Threads + Wait + Sync>(
     rt: &Rt,
@@ -128,43 +300,30 @@ fn done<Rt: Threads + Wait + Sync>(
     let alloc = host.alloc();
     let mut writer = Counted::new(host.stdout());
     let status = match job {
-        Job::Check {
-            cutting,
-            quiet,
-            views,
-        } => {
-            let options = CheckOptions { quiet, views };
-            if files.len() > 1 {
-                let mut errors = Counted::new(host.stderr());
-                let opener = system(host);
-                return Ok(check_all(
-                    rt,
-                    alloc,
-                    &opener,
-                    files,
-                    &mut writer,
-                    &mut errors,
-                    cutting,
-                    &OpenGate,
-                    options,
-                )?);
+        Job::Check { cutting, options } => return check(rt, host, files, cutting, options),
+        Job::Shrink { drawn } => {
+            let mut reader = Counted::new(open_only(host, files)?);
+            if drawn {
+                draw_witness_run(rt, alloc, &Lines, &mut reader, &mut writer)?
+            } else {
+                shrink_run(rt, alloc, &mut reader, &mut writer)?
             }
-            check_text(
-                rt,
-                host,
-                open_only(host, files)?,
-                &mut writer,
-                cutting,
-                options,
-            )?
         }
-        Job::Shrink => {
+        Job::Explain { drawn } => {
             let mut reader = Counted::new(open_only(host, files)?);
-            shrink_run(rt, alloc, &mut reader, &mut writer)?
+            if drawn {
+                draw_explained_run(rt, alloc, &Explained, &mut reader, &mut writer)?
+            } else {
+                explain_run(rt, alloc, &mut reader, &mut writer)?
+            }
         }
-        Job::Explain => {
+        Job::Draw { form } => {
             let mut reader = Counted::new(open_only(host, files)?);
-            explain_run(rt, alloc, &mut reader, &mut writer)?
+            match form {
+                Form::Page => draw_run(rt, alloc, &Page, &mut reader, &mut writer)?,
+                Form::Svg => draw_run(rt, alloc, &Svg, &mut reader, &mut writer)?,
+                Form::Lines => draw_run(rt, alloc, &Lines, &mut reader, &mut writer)?,
+            }
         }
         Job::Record {
             workers,
@@ -183,24 +342,68 @@ fn done<Rt: Threads + Wait + Sync>(
     Ok(status.code())
 }
 
+// The check of the files that the words, a list and a folder name.
+fn check_sources<Rt: Threads + Sync>(
+    rt: &Rt,
+    host: &HostRuntime,
+    files: Vec<String>,
+    sources: &Sources,
+    cutting: Cutting,
+    asked: Options,
+) -> Result<u8, Failure> {
+    let Names { names, lost } = names_of(host, files, sources)?;
+    let code = check_names(rt, host, &names, cutting, asked)?;
+    Ok(if lost { 4 } else { code })
+}
+
+// Does what the words ask for, and gives its exit status. The threads are those of `rt`; all else is of the host.
+fn answered<Rt: Threads + Wait + Sync>(
+    rt: &Rt,
+    host: &HostRuntime,
+    asked: Asked,
+) -> Result<u8, Failure>
+    requires { IsInRange asked.job }
+{
+    let Asked {
+        job,
+        files,
+        sources,
+    } = asked;
+    match job {
+        Job::Check { cutting, options } if sources.list.is_some() || sources.folder.is_some() => {
+            check_sources(rt, host, files, &sources, cutting, options)
+        }
+        _ => done(rt, host, job, &files),
+    }
+}
+
 // The exit status where a run ended with a fault. That is said.
 fn failed(rt: &HostRuntime, fault: &RunFault) -> u8 {
     let _ = eprintln!(rt; "snapjudge: {fault}");
     4
 }
 
+// Does what the words of the command line ask for, and gives its exit status. The threads are those of `rt`; all else is of the
+// host.
+fn run<Rt: Threads + Wait + Sync>(rt: &Rt, host: &HostRuntime) -> Result<u8, Failure> {
+    let words = words_of(host)?;
+    if asks_version(&words) {
+        return Ok(write_version(host)?);
+    }
+    answered(rt, host, asked_job(host.alloc(), words)?)
+}
+
 fn main(rt: HostRuntime) -> ExitCode {
-    let code = match asked_job(&rt) {
-        Ok(asked) => match done(&rt, &rt, asked.job, &asked.files) {
-            Ok(code) => code,
-            Err(Failure::Unopened) => 4,
-            Err(Failure::Run(fault)) => failed(&rt, &fault),
-        },
-        Err(JobFault::Usage(text)) => {
+    let _places = [held_place(&rt), held_place(&rt), held_place(&rt)];
+    let code = match run(&rt, &rt) {
+        Ok(code) => code,
+        Err(Failure::Words(JobFault::Usage(text))) => {
             let _ = eprint!(rt; "{text}");
             5
         }
-        Err(JobFault::Memory) => failed(&rt, &RunFault::Memory),
+        Err(Failure::Words(JobFault::Memory)) => failed(&rt, &RunFault::Memory),
+        Err(Failure::Unopened) => 4,
+        Err(Failure::Run(fault)) => failed(&rt, &fault),
     };
     ExitCode::from(code)
 }

@@ -4,9 +4,11 @@ check(text) hands the text to the judge, whose answer is proved, and takes its r
 parser are not proved; Judged.report is the report byte by byte. The call holds no lock of the interpreter, so threads of one
 program judge side by side; each needs 128 KiB of stack. Do not call it in the forked child of a process with threads.
 
-libsnapjudge.so is that which SNAPJUDGE_LIBRARY names, else the one beside this file, else that of ffi/build.
+libsnapjudge.so is that which SNAPJUDGE_LIBRARY names, else the one beside this file, else that of ffi/build. It is loaded by the
+first call, which raises ImportError where it is not there.
 """
 import ctypes
+import functools
 import os
 from dataclasses import dataclass
 
@@ -21,7 +23,8 @@ _PLACES = (os.environ.get("SNAPJUDGE_LIBRARY"), os.path.join(_HERE, "libsnapjudg
            os.path.join(_HERE, "..", "..", "build", "libsnapjudge.so"))
 
 
-def _load():
+@functools.cache
+def _library():
     path = next((place for place in _PLACES if place and os.path.exists(place)), None)
     if path is None:
         raise ImportError("libsnapjudge.so is not built: run ffi/build.sh, or name it in SNAPJUDGE_LIBRARY")
@@ -34,9 +37,6 @@ def _load():
     library.snapjudge_check.argtypes = [
         ctypes.c_char_p, ctypes.c_size_t, ctypes.c_void_p, ctypes.c_size_t, ctypes.POINTER(ctypes.c_size_t)]
     return library
-
-
-_library = _load()
 
 
 class Refused(ValueError):
@@ -116,7 +116,7 @@ def report_into(text, room):
     length = ctypes.c_size_t()
     # a bytearray of no bytes has no place of its own
     place = (ctypes.c_char * len(room)).from_buffer(room) if room else ctypes.create_string_buffer(1)
-    answer = _library.snapjudge_check(text, len(text), place, len(room), ctypes.byref(length))
+    answer = _library().snapjudge_check(text, len(text), place, len(room), ctypes.byref(length))
     if answer < len(STATUSES):
         return STATUSES[answer], length.value
     if answer == NO_ROOM:

@@ -1,21 +1,29 @@
 /* Objects that a driver has to answer for: usage as that of own. `stale` shows nothing but the initial values, `gives-up` never has a
  * view, and a view of `hangs` does not end. `second` is stale from its second run on, and gives up before. `slow` pauses around what it
- * does, and is right with one component. */
+ * does, and is right with one component. `fails` is stale; of its updates the first had no effect, and of the third it is not known.
+ * `retries` is slow, and right with one component: of five updates one has no effect, one is tried again, and the 13th comes late. */
 #include "snapdrive.h"
 
 static uint32_t components, begun;
-static _Atomic uint32_t word;
+static _Atomic uint32_t word, updates, late;
 
 static void begin(uint32_t count) {
     components = count;
     begun++;
-    word = 0;
+    word = updates = late = 0;
 }
 
 static void update(uint32_t thread, uint32_t component, uint32_t value) {
     (void)thread;
     (void)component;
     (void)value;
+}
+
+static void failing_update(uint32_t thread, uint32_t component, uint32_t value) {
+    update(thread, component, value);
+    updates++;
+    if (updates == 1) snapdrive_no_effect();
+    if (updates == 3) snapdrive_unknown();
 }
 
 static bool stale(uint32_t thread, uint32_t *values) {
@@ -44,6 +52,35 @@ static bool slow_view(uint32_t thread, uint32_t *values) {
     return true;
 }
 
+/* Whether a try has an effect. The first one of each fifth update has none. */
+static bool is_done(uint32_t number, uint32_t tries, uint32_t value) {
+    if (number % 5 == 2 && tries == 0) return false;
+    slow_update(0, 0, value);
+    return true;
+}
+
+static void retried_update(uint32_t thread, uint32_t component, uint32_t value) {
+    uint32_t number = ++updates, tries = 0;
+    (void)thread;
+    (void)component;
+    if (number % 5 == 1) {
+        snapdrive_no_effect();
+    } else if (number == 13) {
+        late = value;
+        snapdrive_unknown();
+    } else {
+        while (!is_done(number, tries, value)) tries++;
+    }
+}
+
+/* What comes late comes at the end of a view. */
+static bool retried_view(uint32_t thread, uint32_t *values) {
+    slow_view(thread, values);
+    uint32_t value = atomic_exchange(&late, 0);
+    if (value) word = value;
+    return true;
+}
+
 static bool hangs(uint32_t thread, uint32_t *values) {
     for (;;) sleep(thread + 1);
     return values;
@@ -52,6 +89,7 @@ static bool hangs(uint32_t thread, uint32_t *values) {
 int main(int count, char **words) {
     static const snapdrive_object objects[] = {
         {"stale", begin, update, stale}, {"gives-up", begin, update, gives_up}, {"hangs", begin, update, hangs},
-        {"second", begin, update, second}, {"slow", begin, slow_update, slow_view}, {0}};
+        {"second", begin, update, second}, {"slow", begin, slow_update, slow_view},
+        {"fails", begin, failing_update, stale}, {"retries", begin, retried_update, retried_view}, {0}};
     return snapdrive_main(count, words, objects);
 }

@@ -1,6 +1,32 @@
 /* The recorder's texts of two worked runs, written to the files that are named, and the fault of each misuse.
  * usage: misuse FILE FILE */
+#include <stddef.h>
+#include <stdlib.h>
+
+/* The recorder gets so much memory, and then none; and how much of it it holds. */
+static unsigned scarce = 1000000;
+static int held;
+
+static void *taken(void *memory) {
+    held += memory != NULL;
+    return memory;
+}
+
+static void *scarce_malloc(size_t size) { return scarce && scarce-- ? taken(malloc(size)) : NULL; }
+
+static void *scarce_aligned_alloc(size_t alignment, size_t size) { return scarce && scarce-- ? taken(aligned_alloc(alignment, size)) : NULL; }
+
+static void counted_free(void *memory) {
+    held -= memory != NULL;
+    free(memory);
+}
+
+#define malloc scarce_malloc
+#define aligned_alloc scarce_aligned_alloc
+#define free counted_free
 #include "snaprecord.h"
+#include <setjmp.h>
+#include <signal.h>
 
 static int passed, failed;
 
@@ -86,6 +112,48 @@ static bool is_dirty(snaprecord *recorder) {
     return is_told;
 }
 
+/* The values of the last view of one history are the first ones of the next, which may write older ones again. */
+static bool goes_on(snaprecord *recorder) {
+    size_t length;
+    recorder->initials = (const uint32_t[]){7, 0};
+    view(recorder, 0, (const uint32_t[]){7, 0});
+    update(recorder, 0, 0, 0);
+    view(recorder, 0, (const uint32_t[]){0, 0});
+    char *text = snaprecord_text(recorder, &length);
+    bool is_told = text && !strcmp(text, "at,event,process,op,data\n0,begin,0,view,\n1,end,0,view,\n2,begin,0,update,0:1:0\n"
+                                         "3,end,0,update,\n4,begin,0,view,\n5,end,0,view,0:1:0\n");
+    free(text);
+    snaprecord_close(recorder);
+    return is_told;
+}
+
+/* Without memory there is no recorder and no text; the fault says so, and nothing is held. */
+static bool lacks_memory(snaprecord *recorder) {
+    unsigned opened = 0, told = 0;
+    size_t length;
+    char *text = NULL;
+    for (scarce = 0; !snaprecord_open(recorder, 2, 1, 2); scarce = ++opened)
+        if (recorder->fault != SNAPRECORD_MEMORY || strcmp(recorder->message, "out of memory") || held) return false;
+    for (scarce = 0; !(text = snaprecord_text(recorder, &length)); scarce = ++told)
+        if (recorder->fault != SNAPRECORD_MEMORY || strcmp(recorder->message, "out of memory")) return false;
+    free(text);
+    snaprecord_close(recorder);
+    scarce = 1000000;
+    return opened == 5 && told == 3 && !held; /* two logs of two parts each and their list; two tables and the text */
+}
+
+static jmp_buf aborted;
+
+static void catch_abort(int signal) { longjmp(aborted, signal); }
+
+/* Whether the process would end where it asks for a log that there is not. */
+static bool has_no_log(snaprecord *recorder, uint32_t thread) {
+    signal(SIGABRT, catch_abort);
+    if (setjmp(aborted)) return true;
+    snaprecord_log_of(recorder, thread);
+    return false;
+}
+
 int main(int count, char **words) {
     static snaprecord r;
     if (count < 3) return 2;
@@ -95,10 +163,18 @@ int main(int count, char **words) {
     expect("failed calls", failed_calls(&r, words[2]));
     snaprecord_open(&r, 2, 1, 2);
     expect("a dropped update that was seen", is_dirty(&r));
+    snaprecord_open(&r, 1, 2, 4);
+    expect("a history that goes on", goes_on(&r));
+    expect("no memory", lacks_memory(&r));
 
     expect("limits of threads", !snaprecord_open(&r, 0, 1, 1) && r.fault == SNAPRECORD_LIMITS && !snaprecord_open(&r, 65537, 1, 1));
     expect("limits of components", !snaprecord_open(&r, 1, 257, 1) && r.fault == SNAPRECORD_LIMITS);
     expect("limits of calls", !snaprecord_open(&r, 2, 1, SNAPRECORD_EVENTS / 4 + 1) && r.fault == SNAPRECORD_LIMITS);
+    expect("no call", !snaprecord_open(&r, 1, 1, 0) && r.fault == SNAPRECORD_LIMITS);
+    expect("a log of a recorder that is not open", has_no_log(&r, 0));
+    snaprecord_open(&r, 2, 1, 2);
+    expect("a log that there is not", has_no_log(&r, 2) && !has_no_log(&r, 1));
+    snaprecord_close(&r);
 
     snaprecord_open(&r, 2, 1, 2);
     for (uint32_t value = 1; value <= 3; value++) update(&r, 0, 0, value);
@@ -128,6 +204,23 @@ int main(int count, char **words) {
     expect("an end of another kind", fault_of(&r) == SNAPRECORD_NOT_OPEN);
 
     snaprecord_open(&r, 1, 1, 4);
+    snaprecord_end_view_values(snaprecord_log_of(&r, 0), (const uint32_t[]){0});
+    expect("an end of a view without a begin", fault_of(&r) == SNAPRECORD_NOT_OPEN);
+
+    snaprecord_open(&r, 1, 1, 4);
+    snaprecord_end_view(snaprecord_log_of(&r, 0), (const snaprecord_entry[]){{0, 0, 0}}, 1);
+    expect("the same of one with numbers", fault_of(&r) == SNAPRECORD_NOT_OPEN);
+
+    snaprecord_open(&r, 1, 1, 4);
+    snaprecord_drop_view(snaprecord_log_of(&r, 0));
+    expect("a view dropped without a begin", fault_of(&r) == SNAPRECORD_NOT_OPEN);
+
+    snaprecord_open(&r, 1, 1, 4);
+    expect("an update", snaprecord_begin_update(snaprecord_log_of(&r, 0), 0, 1) == 1);
+    snaprecord_drop_view(snaprecord_log_of(&r, 0));
+    expect("an update dropped as a view", fault_of(&r) == SNAPRECORD_NOT_OPEN);
+
+    snaprecord_open(&r, 1, 1, 4);
     snaprecord_drop_update(snaprecord_log_of(&r, 0));
     expect("an update dropped without a begin", fault_of(&r) == SNAPRECORD_NOT_OPEN);
 
@@ -152,6 +245,11 @@ int main(int count, char **words) {
     expect("a view", snaprecord_begin_view(snaprecord_log_of(&r, 0)));
     snaprecord_end_view(snaprecord_log_of(&r, 0), (const snaprecord_entry[]){{1, 1, 1}, {0, 1, 1}}, 2);
     expect("components that do not rise", fault_of(&r) == SNAPRECORD_COMPONENT);
+
+    snaprecord_open(&r, 1, 2, 4);
+    expect("a view", snaprecord_begin_view(snaprecord_log_of(&r, 0)));
+    snaprecord_end_view(snaprecord_log_of(&r, 0), (const snaprecord_entry[]){{2, 1, 1}}, 1);
+    expect("an entry that is too high", fault_of(&r) == SNAPRECORD_COMPONENT);
 
     snaprecord_open(&r, 2, 2, 4);
     update(&r, 0, 1, 5);

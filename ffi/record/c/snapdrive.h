@@ -9,8 +9,9 @@
  *     static const snapdrive_object objects[] = {{"board", begin, update, view}, {0}};
  *     int main(int count, char **words) { return snapdrive_main(count, words, objects); }
  *
- * Where an object calls snapdrive_pause() between its steps, the other threads run in the middle of its calls. In a test of one's
- * own, snapdrive_run does the same without a command line.
+ * Where an object calls snapdrive_pause() between its steps, the other threads run in the middle of its calls. An update that
+ * failed calls snapdrive_no_effect() or snapdrive_unknown() before it returns. In a test of one's own, snapdrive_run does the same
+ * without a command line.
  *
  * SPDX-License-Identifier: 0BSD
  * Copyright (C) 2026 by the authors of snapjudge
@@ -64,7 +65,7 @@ typedef struct {
     "  --choices        writes the calls that the seed chooses, and runs nothing"
 
 /* How many runs were atomic, only regular, or neither; and which was the first that was not atomic, from 1, or 0. Where there is
- * no verdict, `fault` is usage, limits, no judge, no verdict, files, or a misuse of the recorder. A call that hangs ends the
+ * no verdict, `fault` is usage, limits, memory, no judge, no verdict, files, or a misuse of the recorder. A call that hangs ends the
  * process, with status 4. */
 typedef struct {
     uint64_t found[3], first;
@@ -122,6 +123,19 @@ static inline void snapdrive_pause(void) {
     nanosleep(&(struct timespec){(time_t)(micros / 1000000), (long)(micros % 1000000 * 1000)}, NULL);
 }
 
+/* ---- updates that fail */
+
+typedef enum { SNAPDRIVE_DONE, SNAPDRIVE_NO_EFFECT, SNAPDRIVE_UNKNOWN } snapdrive_fate;
+
+/* That of the update that a thread makes; one for all files of a program. */
+__attribute__((weak)) _Thread_local snapdrive_fate snapdrive_fate_of_update;
+
+/* This update had no effect, and can have none any more. It is left out of the history. */
+static inline void snapdrive_no_effect(void) { snapdrive_fate_of_update = SNAPDRIVE_NO_EFFECT; }
+
+/* Nobody knows whether this update had an effect, or will have one. It stays pending, and its thread makes no more calls in this run. */
+static inline void snapdrive_unknown(void) { snapdrive_fate_of_update = SNAPDRIVE_UNKNOWN; }
+
 /* ---- one run */
 
 typedef struct {
@@ -145,8 +159,11 @@ static inline void *snapdrive_work(void *argument) {
         } else {
             uint32_t value = (thread + 1) * 1000000 + (uint32_t)i; /* each value once */
             if (!snaprecord_begin_update(worker.log, component, value)) break;
+            snapdrive_fate_of_update = SNAPDRIVE_DONE;
             worker.object->update(thread, component, value);
-            snaprecord_end_update(worker.log);
+            if (snapdrive_fate_of_update == SNAPDRIVE_UNKNOWN) break;
+            if (snapdrive_fate_of_update == SNAPDRIVE_NO_EFFECT) snaprecord_drop_update(worker.log);
+            else snaprecord_end_update(worker.log);
         }
         if (snapdrive_longest_nap) snapdrive_pause();
     }
@@ -248,6 +265,7 @@ static inline bool snapdrive_run(const snapdrive_object *object, const snapdrive
     if (!snapverdict_open(&judge, options->program)) return snapdrive_failed(outcome, judge.fault, "%s", judge.message);
     if (snprintf(front, sizeof front, "%s/%s", options->out, object->name) >= PATH_MAX)
         return snapdrive_failed(outcome, "files", "the name of the folder is too long");
+    if (!snapverdict_can_keep(&judge, options->out)) return snapdrive_failed(outcome, judge.fault, "%s", judge.message);
     snapdrive_longest_nap = options->nap;
     atomic_store(&snapdrive_naps, options->seed);
     clock_gettime(CLOCK_MONOTONIC, &told);

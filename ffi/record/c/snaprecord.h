@@ -161,8 +161,12 @@ static inline bool snaprecord_open(snaprecord *recorder, uint32_t threads, uint3
     return true;
 }
 
-/* The log of a thread, which is the process of that number. */
-static inline snaprecord_log *snaprecord_log_of(snaprecord *recorder, uint32_t thread) { return &recorder->logs[thread]; }
+/* The log of a thread, which is the process of that number. Where there is none, the process ends and says so. */
+static inline snaprecord_log *snaprecord_log_of(snaprecord *recorder, uint32_t thread) {
+    if (recorder->logs && thread < recorder->threads) return &recorder->logs[thread];
+    fprintf(stderr, "snaprecord: thread %" PRIu32 " has no log\n", thread);
+    abort();
+}
 
 static inline uint64_t snaprecord_tick(snaprecord_log *log) {
     return atomic_fetch_add_explicit(&log->recorder->clock, 1, memory_order_acq_rel);

@@ -113,6 +113,16 @@ static inline bool snapverdict_write(snapverdict_judge *judge, const char *name,
     return snapverdict_failed(judge, "files", "%s can't be written: %s", name, strerror(errno));
 }
 
+/* The name of a file that this process may write into a folder. */
+static inline void snapverdict_scratch(char *name, const char *out) { snprintf(name, PATH_MAX + 40, "%s/run-%ld.csv", out, (long)getpid()); }
+
+/* Whether files can be written into a folder; it is tried before the first run, so that none is lost. */
+static inline bool snapverdict_can_keep(snapverdict_judge *judge, const char *out) {
+    char name[PATH_MAX + 40];
+    snapverdict_scratch(name, out);
+    return snapverdict_write(judge, name, "", 0) && !remove(name);
+}
+
 /* 0 for atomic, 1 for regular, 2 for neither; or -1, and `fault` says why. A file of the folder `out` holds the text meanwhile. */
 static inline int snapverdict_of(snapverdict_judge *judge, const char *text, size_t length, const char *out) {
     uint32_t status;
@@ -123,7 +133,7 @@ static inline int snapverdict_of(snapverdict_judge *judge, const char *text, siz
         free(report);
     } else {
         char name[PATH_MAX + 40];
-        snprintf(name, sizeof name, "%s/run-%ld.csv", out, (long)getpid());
+        snapverdict_scratch(name, out);
         if (!snapverdict_write(judge, name, text, length)) return -1;
         char *const words[] = {"snapjudge", "check", "--quiet", NULL};
         status = (uint32_t)snapverdict_call(judge, words, name, "/dev/null");
@@ -144,8 +154,8 @@ static inline bool snapverdict_keep(snapverdict_judge *judge, const char *text, 
     remove(witness); /* of an earlier run */
     remove(explained);
     if (!*judge->program) return true;
-    snapverdict_call(judge, (char *const[]){"snapjudge", "shrink", NULL}, caught, witness);
-    snapverdict_call(judge, (char *const[]){"snapjudge", "explain", NULL}, caught, explained);
-    return true;
+    bool is_kept = snapverdict_call(judge, (char *const[]){"snapjudge", "shrink", NULL}, caught, witness) < 3 &&
+                   snapverdict_call(judge, (char *const[]){"snapjudge", "explain", NULL}, caught, explained) < 3;
+    return is_kept || snapverdict_failed(judge, "files", "%s or %s can't be written", witness, explained);
 }
 #endif

@@ -1,6 +1,9 @@
 // Objects that a driver has to answer for: usage as that of own. `stale` shows nothing but the initial values, `gives-up` never has a
-// view, a view of `hangs` does not end, one of `short` lacks a component, and an update of `dies` throws. `second` is stale from its
-// second run on, and gives up before. `slow` pauses around what it does, and is right with one component.
+// view, a view of `hangs` does not end, one of `short` lacks a component, an update of `dies` throws, and
+// one of `odd` throws a number. `unmade` can't be made. `second` is stale from its
+// second run on, and gives up before. `slow` pauses around what it does, and is right with one component. `fails` is stale; of its
+// updates the first had no effect, and of the third it is not known. `retries` is slow, and right with one component: of five updates
+// one has no effect, one is tried again, and the 13th comes late.
 #include "snapdrive.hpp"
 
 struct Stale {
@@ -32,6 +35,15 @@ struct Dies : Stale {
     void update(std::uint32_t, std::uint32_t, std::uint32_t) { throw std::runtime_error("no connection"); }
 };
 
+struct Unmade : Stale {
+    explicit Unmade(std::uint32_t count) : Stale(count) { throw std::runtime_error("no connection"); }
+};
+
+struct Odd : Stale {
+    using Stale::Stale;
+    void update(std::uint32_t, std::uint32_t, std::uint32_t) { throw 7; }
+};
+
 struct Second : Stale {
     static inline int begun = 0;
     explicit Second(std::uint32_t count) : Stale(count) { begun++; }
@@ -57,9 +69,50 @@ struct Slow {
     }
 };
 
+struct Fails : Stale {
+    using Stale::Stale;
+    std::atomic<std::uint32_t> updates{0};
+    void update(std::uint32_t, std::uint32_t, std::uint32_t) {
+        const std::uint32_t number = ++updates;
+        if (number == 1) throw snapdrive::NoEffect();
+        if (number == 3) throw snapdrive::Unknown();
+    }
+};
+
+struct Retries : Slow {
+    using Slow::Slow;
+    std::atomic<std::uint32_t> updates{0}, late{0};
+
+    // Whether a try has an effect. The first one of each fifth update has none.
+    bool is_done(std::uint32_t number, std::uint32_t tries, std::uint32_t value) {
+        if (number % 5 == 2 && tries == 0) return false;
+        Slow::update(0, 0, value);
+        return true;
+    }
+
+    void update(std::uint32_t, std::uint32_t, std::uint32_t value) {
+        const std::uint32_t number = ++updates;
+        if (number % 5 == 1) throw snapdrive::NoEffect();
+        if (number == 13) {
+            late = value;
+            throw snapdrive::Unknown();
+        }
+        for (std::uint32_t tries = 0; !is_done(number, tries, value);) tries++;
+    }
+
+    // What comes late comes at the end of a view.
+    std::vector<std::uint32_t> view(std::uint32_t thread) {
+        const auto values = Slow::view(thread);
+        const std::uint32_t value = late.exchange(0);
+        if (value) word = value;
+        return values;
+    }
+};
+
 int main(int count, char **words) {
     return snapdrive::main(count, words,
                            {snapdrive::object<Stale>("stale"), snapdrive::object<GivesUp>("gives-up"), snapdrive::object<Hangs>("hangs"),
                             snapdrive::object<Short>("short"), snapdrive::object<Dies>("dies"), snapdrive::object<Second>("second"),
-                            snapdrive::object<Slow>("slow")});
+                            snapdrive::object<Slow>("slow"), snapdrive::object<Fails>("fails"),
+                            snapdrive::object<Retries>("retries"), snapdrive::object<Unmade>("unmade"), snapdrive::object<Odd>("odd")});
 }

@@ -83,15 +83,37 @@ static std::string dirty() {
     return recorder.text();
 }
 
+// The values of the last view of one history are the first ones of the next, which may write older ones again.
+static std::string goes_on() {
+    Recorder recorder(1, 2, 4);
+    recorder.initials = {7, 0};
+    view(recorder.log(0), {7, 0});
+    update(recorder.log(0), 0, 0);
+    view(recorder.log(0), {0, 0});
+    return recorder.text();
+}
+
+static bool has_log(Recorder &recorder, std::uint32_t thread) {
+    try {
+        recorder.log(thread);
+        return true;
+    } catch (const std::out_of_range &) {
+        return false;
+    }
+}
+
 int main(int count, char **words) {
     if (count < 3) return 2;
     std::ofstream(words[1]) << worked();
     std::ofstream(words[2]) << failed_calls();
     expect("a dropped update that was seen", dirty() == "at,event,process,op,data\n1,begin,1,view,\n2,end,1,view,0:1:9\n");
 
+    expect("a history that goes on", goes_on() == "at,event,process,op,data\n0,begin,0,view,\n1,end,0,view,\n2,begin,0,update,0:1:0\n"
+                                                  "3,end,0,update,\n4,begin,0,view,\n5,end,0,view,0:1:0\n");
+
     expect("limits of threads", limits(0, 1, 1) == Fault::limits && limits(65537, 1, 1) == Fault::limits);
     expect("limits of components", limits(1, 257, 1) == Fault::limits);
-    expect("limits of calls", limits(2, 1, snaprecord::event_limit / 4 + 1) == Fault::limits);
+    expect("limits of calls", limits(2, 1, snaprecord::event_limit / 4 + 1) == Fault::limits && limits(1, 1, 0) == Fault::limits);
     expect("within limits", limits(snaprecord::event_limit / 2, 1, 1) == Fault::none && limits(2, 256, snaprecord::event_limit / 4) == Fault::none);
     {
         Recorder r(2, 1, 2);
@@ -118,6 +140,30 @@ int main(int count, char **words) {
         Recorder r(1, 1, 4);
         if (r.log(0).begin_view()) r.log(0).end_update();
         expect("an end of another kind", fault_of(r) == Fault::not_open);
+    }
+    {
+        Recorder r(2, 1, 1);
+        expect("a log that there is not", has_log(r, 1) && !has_log(r, 2));
+    }
+    {
+        Recorder r(1, 1, 4);
+        r.log(0).end_view_values({0});
+        expect("an end of a view without a begin", fault_of(r) == Fault::not_open);
+    }
+    {
+        Recorder r(1, 1, 4);
+        r.log(0).end_view({{0, 0, 0}});
+        expect("the same of one with numbers", fault_of(r) == Fault::not_open);
+    }
+    {
+        Recorder r(1, 1, 4);
+        r.log(0).drop_view();
+        expect("a view dropped without a begin", fault_of(r) == Fault::not_open);
+    }
+    {
+        Recorder r(1, 1, 4);
+        if (r.log(0).begin_update(0, 1)) r.log(0).drop_view();
+        expect("an update dropped as a view", fault_of(r) == Fault::not_open);
     }
     {
         Recorder r(1, 1, 4);
@@ -148,6 +194,11 @@ int main(int count, char **words) {
     }
     {
         Recorder r(1, 2, 4);
+        if (r.log(0).begin_view()) r.log(0).end_view({{2, 1, 1}});
+        expect("an entry that is too high", fault_of(r) == Fault::component);
+    }
+    {
+        Recorder r(1, 2, 4);
         view(r.log(0), {0, 0, 0});
         expect("more values than components", fault_of(r) == Fault::component);
     }
@@ -160,6 +211,8 @@ int main(int count, char **words) {
         Recorder r(1, 2, 4);
         r.initials = {4};
         expect("fewer initial values than components", fault_of(r) == Fault::initials);
+        r.initials = {4, 5, 6};
+        expect("more initial values than components", fault_of(r) == Fault::initials);
     }
     for (std::uint32_t component = 0; component < 2; component++) {
         Recorder r(1, 2, 4);

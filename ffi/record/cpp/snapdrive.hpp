@@ -9,8 +9,9 @@
 //
 //     int main(int count, char **words) { return snapdrive::main(count, words, {snapdrive::object<Board>("board")}); }
 //
-// Where an object calls snapdrive::pause() between its steps, the other threads run in the middle of its calls. In a test of one's
-// own, snapdrive::run<Board> does the same without a command line; it throws snapdrive::Error and snaprecord::Error.
+// Where an object calls snapdrive::pause() between its steps, the other threads run in the middle of its calls. An update that
+// failed throws snapdrive::NoEffect or snapdrive::Unknown. In a test of one's own, snapdrive::run<Board> does the same without a
+// command line; it throws snapdrive::Error and snaprecord::Error.
 //
 // SPDX-License-Identifier: 0BSD
 // Copyright (C) 2026 by the authors of snapjudge
@@ -27,8 +28,10 @@
 #include <condition_variable>
 #include <functional>
 #include <iostream>
+#include <memory>
 #include <mutex>
 #include <optional>
+#include <system_error>
 #include <thread>
 
 namespace snapdrive {
@@ -106,6 +109,32 @@ inline void pause() {
     std::this_thread::sleep_for(std::chrono::microseconds(Random::mix(state) % (longest_nap + 1)));
 }
 
+// ---- updates that fail
+
+// This update had no effect, and can have none any more. It is left out of the history.
+struct NoEffect : std::runtime_error {
+    NoEffect() : std::runtime_error("an update that had no effect") {}
+};
+
+// Nobody knows whether this update had an effect, or will have one. It stays pending, and its thread makes no more calls in this run.
+struct Unknown : std::runtime_error {
+    Unknown() : std::runtime_error("an update of unknown fate") {}
+};
+
+// Makes an update that has begun; false where its fate is not known.
+template <class Board>
+bool update(Board &board, snaprecord::Log &log, std::uint32_t thread, std::uint32_t component, std::uint32_t value) {
+    try {
+        board.update(thread, component, value);
+        log.end_update();
+    } catch (const NoEffect &) {
+        log.drop_update();
+    } catch (const Unknown &) {
+        return false;
+    }
+    return true;
+}
+
 // ---- one run
 
 template <class Board>
@@ -115,8 +144,7 @@ void work(Board &board, snaprecord::Log &log, std::uint32_t thread, const Option
         if (component) {
             const auto value = static_cast<std::uint32_t>((thread + 1) * 1000000 + i); // each value once
             if (!log.begin_update(*component, value)) return;
-            board.update(thread, *component, value);
-            log.end_update();
+            if (!update(board, log, thread, *component, value)) return;
         } else {
             if (!log.begin_view()) return;
             const std::optional<std::vector<std::uint32_t>> values = board.view(thread);
@@ -163,26 +191,44 @@ class Race {
     std::condition_variable ended;
 };
 
+template <class Board> std::unique_ptr<Board> fresh(std::uint32_t components) {
+    try {
+        return std::make_unique<Board>(components);
+    } catch (const std::exception &thrown) {
+        throw Error("died", std::string("the object can't be made: ") + thrown.what());
+    } catch (...) {
+        throw Error("died", "the object can't be made");
+    }
+}
+
 // The history of a fresh object.
 template <class Board> std::string record(const std::string &name, const Options &options, Random &seeds) {
     const auto threads = static_cast<std::uint32_t>(options.threads), components = static_cast<std::uint32_t>(options.components);
     snaprecord::Recorder recorder(threads, components, static_cast<std::uint32_t>(options.calls));
-    Board board(components);
+    const std::unique_ptr<Board> board = fresh<Board>(components);
     Race race(threads);
     std::vector<std::thread> all;
+    const auto run_thread = [&](std::uint32_t t, const Random &random) {
+        std::exception_ptr error;
+        race.start();
+        try {
+            work(*board, recorder.log(t), t, options, random);
+        } catch (const Error &) {
+            error = std::current_exception();
+        } catch (const std::exception &thrown) {
+            error = std::make_exception_ptr(Error("died", "a call of thread " + std::to_string(t) + " threw " + thrown.what()));
+        } catch (...) {
+            error = std::make_exception_ptr(Error("died", "a call of thread " + std::to_string(t) + " threw no std::exception"));
+        }
+        race.end(error);
+    };
     for (std::uint32_t t = 0; t < threads; t++)
-        all.emplace_back([&, t, random = Random(seeds.next())] {
-            std::exception_ptr error;
-            race.start();
-            try {
-                work(board, recorder.log(t), t, options, random);
-            } catch (const Error &) {
-                error = std::current_exception();
-            } catch (const std::exception &thrown) {
-                error = std::make_exception_ptr(Error("died", "a call of thread " + std::to_string(t) + " threw " + thrown.what()));
-            }
-            race.end(error);
-        });
+        try {
+            all.emplace_back(run_thread, t, Random(seeds.next()));
+        } catch (const std::system_error &) {
+            std::cerr << name << ": memory: thread " << t << " can't be started" << std::endl;
+            std::_Exit(4); // those before it wait for it
+        }
     race.wait(name, options.limit);
     for (std::thread &thread : all) thread.join();
     if (race.failed) std::rethrow_exception(race.failed);
@@ -222,6 +268,7 @@ inline void test(const Options &options) {
 template <class Board> Outcome run(const std::string &name, const Options &options = {}) {
     test(options);
     const snapverdict::Judge judge(options.program);
+    judge.test_folder(options.out);
     const std::string front = options.out + "/" + name;
     Random seeds(options.seed);
     Outcome outcome;
@@ -286,9 +333,9 @@ inline void show_choices(const Options &options) {
 }
 
 inline const char *name_of(snaprecord::Fault fault) {
-    static constexpr const char *names[] = {"none", "limits", "nested", "not open", "after full", "component", "two writers", "same value"};
-    const auto place = static_cast<std::size_t>(fault);
-    return place < std::size(names) ? names[place] : "recorder";
+    static constexpr const char *names[] = {"none",      "limits",      "nested",     "not open", "after full",
+                                             "component", "two writers", "same value", "part",     "initials"};
+    return names[static_cast<std::size_t>(fault)];
 }
 
 // Runs the object that the command line names, or the first one. The status is 0 where each run was atomic, 1 where some were only

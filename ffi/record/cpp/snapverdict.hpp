@@ -55,6 +55,12 @@ class Judge {
                                         ": install snapjudge, or name it by --program");
     }
 
+    // Tries whether files can be written into a folder, before the first run, so that none is lost.
+    void test_folder(const std::string &out) const {
+        write(scratch(out), "");
+        std::remove(scratch(out).c_str());
+    }
+
     // 0 for atomic, 1 for regular, 2 for neither. A file of the folder `out` holds the text meanwhile.
     int status(const std::string &text, const std::string &out) const {
         const int status = check ? by_library(text) : by_program(text, out);
@@ -67,8 +73,9 @@ class Judge {
         write(front + "-caught.csv", text);
         for (const char *name : {"-witness.csv", "-explained.txt"}) std::remove((front + name).c_str()); // of an earlier run
         if (program.empty()) return;
-        call({"shrink"}, front + "-caught.csv", front + "-witness.csv");
-        call({"explain"}, front + "-caught.csv", front + "-explained.txt");
+        const bool is_kept = call({"shrink"}, front + "-caught.csv", front + "-witness.csv") < 3 &&
+                             call({"explain"}, front + "-caught.csv", front + "-explained.txt") < 3;
+        if (!is_kept) throw Error("files", front + "-witness.csv or " + front + "-explained.txt can't be written");
     }
 
   private:
@@ -100,8 +107,11 @@ class Judge {
         return static_cast<int>(check(bytes, text.size(), report.data(), report.size(), &length));
     }
 
+    // The name of a file that this process may write into a folder.
+    static std::string scratch(const std::string &out) { return out + "/run-" + std::to_string(getpid()) + ".csv"; }
+
     int by_program(const std::string &text, const std::string &out) const {
-        const std::string name = out + "/run-" + std::to_string(getpid()) + ".csv";
+        const std::string name = scratch(out);
         write(name, text);
         const int status = call({"check", "--quiet"}, name, "/dev/null");
         std::remove(name.c_str());

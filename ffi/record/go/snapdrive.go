@@ -34,10 +34,47 @@ type Board interface {
 	View(thread int) []uint32
 }
 
-// An Object has a name, and makes a fresh board for each run.
+// A FallibleBoard is a board whose updates can fail. An update answers NoEffect, or an error that wraps it, where it had no effect and
+// can have none any more: it is left out of the history. With any other error nobody knows whether it had an effect, or will have one:
+// it stays pending, and its goroutine makes no more calls in this run.
+type FallibleBoard interface {
+	Update(thread, component int, value uint32) error
+	View(thread int) []uint32
+}
+
+// NoEffect is the error of an update that had no effect.
+var NoEffect = errors.New("the update had no effect")
+
+// An Object has a name, and makes a fresh board for each run. Where its updates can fail, it has MakeFallible in place of Make.
 type Object struct {
-	Name string
-	Make func(components int) Board
+	Name         string
+	Make         func(components int) Board
+	MakeFallible func(components int) FallibleBoard
+}
+
+// A board whose updates do not fail.
+type sureBoard struct{ Board }
+
+func (board sureBoard) Update(thread, component int, value uint32) error {
+	board.Board.Update(thread, component, value)
+	return nil
+}
+
+func (object Object) fresh(components int) FallibleBoard {
+	if object.MakeFallible != nil {
+		return object.MakeFallible(components)
+	}
+	return sureBoard{object.Make(components)}
+}
+
+// A fresh object.
+func (object Object) made(components int) (board FallibleBoard, err error) {
+	defer func() {
+		if reason := recover(); reason != nil {
+			err = failed("died", "the object can't be made: %v", reason)
+		}
+	}()
+	return object.fresh(components), nil
 }
 
 type Options struct {
@@ -133,7 +170,7 @@ func Pause() {
 
 // ---- one run
 
-func work(board Board, log *Log[uint32], calls []int, options Options) (err error) {
+func work(board FallibleBoard, log *Log[uint32], calls []int, options Options) (err error) {
 	defer func() {
 		if reason := recover(); reason != nil {
 			err = failed("died", "a call of thread %d panicked: %v", log.thread, reason)
@@ -158,8 +195,13 @@ func work(board Board, log *Log[uint32], calls []int, options Options) (err erro
 			if log.BeginUpdate(component, value) == 0 {
 				return nil
 			}
-			board.Update(log.thread, component, value)
-			log.EndUpdate()
+			if err := board.Update(log.thread, component, value); err == nil {
+				log.EndUpdate()
+			} else if errors.Is(err, NoEffect) {
+				log.DropUpdate()
+			} else {
+				return nil
+			}
 		}
 		if options.Nap > 0 {
 			Pause()
@@ -174,7 +216,10 @@ func record(object Object, options Options, schedule [][]int) (string, error) {
 	if err != nil {
 		return "", err
 	}
-	board := object.Make(int(options.Components))
+	board, err := object.made(int(options.Components))
+	if err != nil {
+		return "", err
+	}
 	ready, start, ended := make(chan bool, len(schedule)), make(chan bool), make(chan error, len(schedule))
 	for t, calls := range schedule {
 		go func(log *Log[uint32], calls []int) {
@@ -246,6 +291,9 @@ func Run(object Object, options Options) (Outcome, error) {
 	}
 	judge, err := findJudge(options.Program)
 	if err != nil {
+		return outcome, err
+	}
+	if err := testFolder(options.Out); err != nil {
 		return outcome, err
 	}
 	front, told, next := options.Out+"/"+object.Name, time.Now(), schedules(options)

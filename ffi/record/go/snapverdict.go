@@ -4,6 +4,7 @@ package snaprecord
 
 import (
 	"errors"
+	"fmt"
 	"os"
 	"os/exec"
 	"path/filepath"
@@ -72,6 +73,19 @@ func (judge judge) status(text string) (int, error) {
 	return status, nil
 }
 
+// Tries whether files can be written into a folder, before the first run, so that none is lost.
+func testFolder(out string) error {
+	name := fmt.Sprintf("%s/run-%d.csv", out, os.Getpid())
+	err := os.WriteFile(name, nil, 0o666)
+	if err == nil {
+		err = os.Remove(name)
+	}
+	if err != nil {
+		return failed("files", "%v", err)
+	}
+	return nil
+}
+
 // Writes a history, its witness and its explanation.
 func (judge judge) keep(text, front string) error {
 	if err := os.WriteFile(front+"-caught.csv", []byte(text), 0o666); err != nil {
@@ -84,7 +98,10 @@ func (judge judge) keep(text, front string) error {
 		}
 		command := exec.Command(judge.program, verb)
 		command.Stdin = strings.NewReader(text)
-		said, _ := command.Output()
+		said, err := command.Output()
+		if err != nil && command.ProcessState.ExitCode() > 2 {
+			return failed("files", "%s%s can't be written: the program ends with %v", front, name, err)
+		}
 		if err := os.WriteFile(front+name, said, 0o666); err != nil {
 			return failed("files", "%v", err)
 		}

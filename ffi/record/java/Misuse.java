@@ -3,6 +3,7 @@ import java.nio.file.Files;
 import java.nio.file.Path;
 import java.util.Arrays;
 import java.util.List;
+import java.util.function.Consumer;
 import java.util.function.Supplier;
 
 /** The recorder's texts of two worked runs, written to the files that are named, and the fault of each misuse. usage: Misuse FILE FILE */
@@ -80,6 +81,24 @@ public final class Misuse {
         return recorder.text();
     }
 
+    /** The values of the last view of one history are the first ones of the next, which may write older ones again. */
+    static String goesOn() {
+        SnapRecorder recorder = new SnapRecorder(1, 2, 4);
+        recorder.initials = new Object[] {7, 0};
+        view(recorder.log(0), 7, 0);
+        update(recorder.log(0), 0, 0);
+        view(recorder.log(0), 0, 0);
+        return recorder.text();
+    }
+
+    static boolean hasLog(SnapRecorder recorder, int thread) {
+        try {
+            return recorder.log(thread) != null;
+        } catch (ArrayIndexOutOfBoundsException error) {
+            return false;
+        }
+    }
+
     /** Values of several classes: one is equal to another by equals, whole numbers where they are the same number. */
     static void values() {
         SnapRecorder recorder = new SnapRecorder(1, 2, 8);
@@ -133,11 +152,16 @@ public final class Misuse {
         Files.writeString(Path.of(words[0]), worked());
         Files.writeString(Path.of(words[1]), failedCalls());
         expect("a dropped update that was seen", dirty().equals("at,event,process,op,data\n1,begin,1,view,\n2,end,1,view,0:1:9\n"));
+        expect("a history that goes on", goesOn().equals("at,event,process,op,data\n0,begin,0,view,\n1,end,0,view,\n"
+            + "2,begin,0,update,0:1:0\n3,end,0,update,\n4,begin,0,view,\n5,end,0,view,0:1:0\n"));
         values();
 
+        SnapRecorder two = new SnapRecorder(2, 1, 1);
+        expect("a log that there is not", hasLog(two, 1) && !hasLog(two, 2) && !hasLog(two, -1));
         expect("limits of threads", limits(0, 1, 1) == SnapRecorder.Fault.LIMITS && limits(65537, 1, 1) == SnapRecorder.Fault.LIMITS);
         expect("limits of components", limits(1, 257, 1) == SnapRecorder.Fault.LIMITS);
         expect("limits of calls", limits(2, 1, SnapRecorder.EVENT_LIMIT / 4 + 1) == SnapRecorder.Fault.LIMITS);
+        expect("no call", limits(1, 1, 0) == SnapRecorder.Fault.LIMITS && limits(1, -1, 1) == SnapRecorder.Fault.LIMITS);
         expect("within limits", limits(2, 256, SnapRecorder.EVENT_LIMIT / 4) == null);
 
         SnapRecorder full = new SnapRecorder(2, 1, 2);
@@ -163,6 +187,17 @@ public final class Misuse {
         if (other.log(0).beginView()) other.log(0).endUpdate();
         expect("an end of another kind", faultOf(other::text) == SnapRecorder.Fault.NOT_OPEN);
 
+        List<Consumer<SnapRecorder.Log>> ends = List.of(
+            log -> log.endViewValues(new long[] {0}), log -> log.endViewValues(new Object[] {0}),
+            log -> log.endView(new long[1], new long[1]), log -> log.endView(new long[1], new Object[1]), SnapRecorder.Log::dropView);
+        for (Consumer<SnapRecorder.Log> end : ends)
+            for (boolean updates : new boolean[] {false, true}) {
+                SnapRecorder ended = new SnapRecorder(1, 1, 4);
+                expect("an update", !updates || ended.log(0).beginUpdate(0, 1) == 1);
+                end.accept(ended.log(0));
+                expect("an end of a view without a begin", faultOf(ended::text) == SnapRecorder.Fault.NOT_OPEN);
+            }
+
         SnapRecorder high = new SnapRecorder(1, 2, 4);
         expect("a component that is too high is refused", high.log(0).beginUpdate(2, 1) == 0);
         expect("a component that is too high", faultOf(high::text) == SnapRecorder.Fault.COMPONENT);
@@ -179,6 +214,15 @@ public final class Misuse {
         if (wide.log(0).beginView()) wide.log(0).endView(new long[] {1L << 32}, new long[] {1});
         expect("a number of 33 bits", faultOf(wide::text) == SnapRecorder.Fault.VALUE);
 
+        for (int numbers = 1; numbers < 4; numbers += 2)
+            for (boolean ofAnyClass : new boolean[] {false, true}) {
+                SnapRecorder uneven = new SnapRecorder(1, 3, 4);
+                if (!uneven.log(0).beginView()) continue;
+                if (ofAnyClass) uneven.log(0).endView(new long[numbers], new Object[2]);
+                else uneven.log(0).endView(new long[numbers], new long[2]);
+                expect("not as many numbers as values", faultOf(uneven::text) == SnapRecorder.Fault.PART);
+            }
+
         SnapRecorder part = new SnapRecorder(1, 2, 4);
         view(part.log(0), 0);
         expect("fewer values than components", faultOf(part::text) == SnapRecorder.Fault.PART);
@@ -190,6 +234,8 @@ public final class Misuse {
         SnapRecorder few = new SnapRecorder(1, 2, 4);
         few.initials = new Object[] {4};
         expect("fewer initial values than components", faultOf(few::text) == SnapRecorder.Fault.INITIALS);
+        few.initials = new Object[] {4, 5, 6};
+        expect("more initial values than components", faultOf(few::text) == SnapRecorder.Fault.INITIALS);
 
         for (int component = 0; component < 2; component++) {
             SnapRecorder first = new SnapRecorder(1, 2, 4);

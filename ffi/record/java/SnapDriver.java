@@ -40,8 +40,9 @@ import java.util.function.IntFunction;
  * SnapDriver.main(words, "mine", Mine::new);
  * </pre>
  *
- * <p>Where an object calls SnapDriver.pause() between its steps, the other threads run in the middle of its calls. In a test of
- * one's own, SnapDriver.run does the same without a command line; it throws DriveException and RecordException.
+ * <p>Where an object calls SnapDriver.pause() between its steps, the other threads run in the middle of its calls. An update that
+ * failed throws SnapDriver.NoEffect or SnapDriver.Unknown. In a test of one's own, SnapDriver.run does the same without a command
+ * line; it throws DriveException and RecordException.
  */
 public final class SnapDriver {
     public static final String USAGE = String.join("\n",
@@ -67,7 +68,20 @@ public final class SnapDriver {
         long[] view(int thread) throws Exception;
     }
 
-    /** Why runs have no verdict; the name is usage, limits, view, died, hangs, no judge, no verdict or files. */
+    /** Thrown by an update that had no effect, and can have none any more. It is left out of the history. */
+    public static final class NoEffect extends Exception {
+        private static final long serialVersionUID = 1;
+    }
+
+    /**
+     * Thrown by an update of which nobody knows whether it had an effect, or will have one. It stays pending, and its thread makes no
+     * more calls in this run.
+     */
+    public static final class Unknown extends Exception {
+        private static final long serialVersionUID = 1;
+    }
+
+    /** Why runs have no verdict; the name is usage, limits, view, died, hangs, memory, no judge, no verdict or files. */
     public static final class DriveException extends RuntimeException {
         private static final long serialVersionUID = 1;
         public final String name;
@@ -212,18 +226,42 @@ public final class SnapDriver {
             } else {
                 long value = (thread + 1) * 1000000L + i; // each value once
                 if (log.beginUpdate(calls[i], value) == 0) return;
-                board.update(thread, calls[i], value);
-                log.endUpdate();
+                try {
+                    board.update(thread, calls[i], value);
+                    log.endUpdate();
+                } catch (NoEffect failed) {
+                    log.dropUpdate();
+                } catch (Unknown failed) {
+                    return;
+                }
             }
             if (longestNap > 0) pause();
         }
+    }
+
+    private static Board fresh(IntFunction<? extends Board> make, int components) {
+        try {
+            return make.apply(components);
+        } catch (Throwable error) {
+            throw new DriveException("died", "the object can't be made: " + error);
+        }
+    }
+
+    private static void start(List<Thread> threads) {
+        for (int t = 0; t < threads.size(); t++)
+            try {
+                threads.get(t).setDaemon(true);
+                threads.get(t).start();
+            } catch (OutOfMemoryError error) {
+                throw new DriveException("memory", "thread " + t + " can't be started");
+            }
     }
 
     /** The history of a fresh object. */
     private static String record(IntFunction<? extends Board> make, Options options, Random seeds) throws InterruptedException {
         int count = options.get(Number.THREADS);
         SnapRecorder recorder = new SnapRecorder(count, options.get(Number.COMPONENTS), options.get(Number.CALLS));
-        Board board = make.apply(options.get(Number.COMPONENTS));
+        Board board = fresh(make, options.get(Number.COMPONENTS));
         CyclicBarrier start = new CyclicBarrier(count);
         AtomicReference<DriveException> failed = new AtomicReference<>();
         List<Thread> threads = new ArrayList<>();
@@ -236,13 +274,12 @@ public final class SnapDriver {
                     work(board, recorder.log(thread), thread, calls, options);
                 } catch (DriveException error) {
                     failed.compareAndSet(null, error);
-                } catch (Exception error) {
+                } catch (Throwable error) {
                     failed.compareAndSet(null, new DriveException("died", "a call of thread " + thread + " threw " + error));
                 }
             }));
         }
-        threads.forEach(thread -> thread.setDaemon(true));
-        threads.forEach(Thread::start);
+        start(threads);
         long end = System.nanoTime() + options.get(Number.LIMIT) * 1000000000L;
         for (Thread thread : threads) thread.join(Math.max(1, (end - System.nanoTime()) / 1000000));
         if (failed.get() != null) throw failed.get();
@@ -277,13 +314,29 @@ public final class SnapDriver {
     /** Writes a history, its witness and its explanation. */
     private static void keep(Path program, String text, String front) throws IOException, InterruptedException {
         Files.writeString(Path.of(front + "-caught.csv"), text);
-        call(program, "shrink", front + "-caught.csv", front + "-witness.csv");
-        call(program, "explain", front + "-caught.csv", front + "-explained.txt");
+        if (call(program, "shrink", front + "-caught.csv", front + "-witness.csv") > 2
+            || call(program, "explain", front + "-caught.csv", front + "-explained.txt") > 2)
+            throw new DriveException("files", front + "-witness.csv or " + front + "-explained.txt can't be written");
+    }
+
+    /** The name of a file that this process may write into a folder. */
+    private static Path scratch(String out) {
+        return Path.of(out, "run-" + ProcessHandle.current().pid() + ".csv");
+    }
+
+    /** Tries whether files can be written into a folder, before the first run, so that none is lost. */
+    private static void testFolder(String out) {
+        try {
+            Files.writeString(scratch(out), "");
+            Files.delete(scratch(out));
+        } catch (IOException error) {
+            throw new DriveException("files", "a file can't be written: " + error);
+        }
     }
 
     /** 0 for atomic, 1 for regular, 2 for neither. */
     private static int judge(Path program, String text, String out) throws IOException, InterruptedException {
-        Path name = Path.of(out, "run-" + ProcessHandle.current().pid() + ".csv");
+        Path name = scratch(out);
         Files.writeString(name, text);
         int status = call(program, "check", name.toString(), "/dev/null");
         Files.delete(name);
@@ -300,6 +353,7 @@ public final class SnapDriver {
     public static Outcome run(String name, IntFunction<? extends Board> make, Options options) throws InterruptedException {
         options.test();
         Path program = findProgram(options.program);
+        testFolder(options.out);
         String front = options.out + "/" + name;
         Random seeds = new Random(options.numbers[Number.SEED.ordinal()]);
         Outcome outcome = new Outcome();

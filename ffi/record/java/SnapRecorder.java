@@ -231,7 +231,7 @@ public final class SnapRecorder {
         /** The end of a view that shows number and value of component 0 and so on. Number 0 is the initial state. */
         public void endView(long[] numbers, long[] values) {
             long stamp = clock.getAndIncrement();
-            if (!mayEnd(State.VIEWING)) return;
+            if (!mayEndWith(numbers.length, values.length)) return;
             for (int k = 0; k < numbers.length; k++) if (!show(k, numbers[k], values[k])) return;
             end(stamp, END_VIEW);
         }
@@ -239,7 +239,7 @@ public final class SnapRecorder {
         /** The same of values of any class; that of a number 0 may be null. */
         public void endView(long[] numbers, Object[] values) {
             long stamp = clock.getAndIncrement();
-            if (!mayEnd(State.VIEWING)) return;
+            if (!mayEndWith(numbers.length, values.length)) return;
             for (int k = 0; k < numbers.length; k++) if (!show(k, numbers[k], numbers[k] == 0 ? 0 : values[k])) return;
             end(stamp, END_VIEW);
         }
@@ -261,6 +261,10 @@ public final class SnapRecorder {
             if (!mayEndViewOf(values.length)) return;
             for (int k = 0; k < values.length; k++) if (values[k] != null && !show(k, 0, values[k])) return;
             end(stamp, END_VIEW_VALUES);
+        }
+
+        private boolean mayEndWith(int numbers, int values) {
+            return mayEnd(State.VIEWING) && (numbers == values || misused(Fault.PART));
         }
 
         private boolean mayEndViewOf(int count) {

@@ -95,11 +95,18 @@ class Misuse(unittest.TestCase):
         self.assertEqual(recorder.table, [])
 
     def test_limits(self):
-        for words in ((0, 1, 1), (65537, 1, 1), (1, 257, 1), (2, 1, EVENT_LIMIT // 4 + 1), (1, 1, 0)):
+        of_another_kind = ("1", 1, 1), (1, 2.0, 1), (1, 1, True), (None, 1, 1)
+        for words in ((0, 1, 1), (65537, 1, 1), (1, 257, 1), (2, 1, EVENT_LIMIT // 4 + 1), (1, 1, 0), *of_another_kind):
             with self.assertRaises(RecordError) as raised:
                 Recorder(*words)
             self.assertIs(raised.exception.fault, Fault.LIMITS)
         Recorder(2, 256, EVENT_LIMIT // 4)
+
+    def test_log_that_there_is_not(self):
+        for thread in (-1, 2, "0", True):
+            with self.assertRaises(RecordError) as raised:
+                Recorder(2, 1, 1).log(thread)
+            self.assertIs(raised.exception.fault, Fault.LIMITS)
 
     def test_full_log(self):
         recorder = Recorder(2, 1, 2)
@@ -131,6 +138,21 @@ class Misuse(unittest.TestCase):
         recorder.log(0).drop_update()
         self.assertFault(Fault.NOT_OPEN, recorder)
 
+    def test_end_of_a_view_without_begin(self):
+        ends = lambda log: log.end_view_values([0]), lambda log: log.end_view([(0, 0, 0)]), lambda log: log.drop_view()
+        for end in ends:
+            for updates in (False, True):
+                recorder = Recorder(1, 1, 4)
+                self.assertTrue(not updates or recorder.log(0).begin_update(0, 1))
+                end(recorder.log(0))
+                self.assertFault(Fault.NOT_OPEN, recorder)
+
+    def test_dropped_update_leaves_its_room(self):
+        recorder = Recorder(1, 1, 1)
+        for _ in range(100):
+            self.assertEqual(recorder.log(0).begin_update(0, 1), 1)
+            recorder.log(0).drop_update()
+
     def test_component(self):
         recorder = Recorder(1, 2, 4)
         self.assertEqual(recorder.log(0).begin_update(2, 1), 0)
@@ -138,6 +160,10 @@ class Misuse(unittest.TestCase):
         recorder = Recorder(1, 2, 4)
         self.assertTrue(recorder.log(0).begin_view())
         recorder.log(0).end_view([(1, 1, 1), (0, 1, 1)])
+        self.assertFault(Fault.COMPONENT, recorder)
+        recorder = Recorder(1, 2, 4)
+        self.assertTrue(recorder.log(0).begin_view())
+        recorder.log(0).end_view([(2, 1, 1)])
         self.assertFault(Fault.COMPONENT, recorder)
 
     def test_component_of_another_kind(self):
@@ -178,7 +204,8 @@ class Misuse(unittest.TestCase):
             self.assertFault(fault, recorder)
 
     def test_initial_values(self):
-        self.assertFault(Fault.INITIALS, Recorder(1, 2, 4, initials=[4]))
+        for initials in ([4], [4, 5, 6]):
+            self.assertFault(Fault.INITIALS, Recorder(1, 2, 4, initials=initials))
         for component in range(2):
             recorder = Recorder(1, 2, 4, initials=[4, 5])
             update(recorder.log(0), component, 5)

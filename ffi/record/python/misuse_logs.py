@@ -29,7 +29,7 @@ def view(process, begun, ended, entries):
 
 def judge(history, *words):
     """The status of the program and the lines of its report."""
-    done = subprocess.run([PROGRAM, "check", *words], input=history.encode(), stdout=subprocess.PIPE, timeout=60)
+    done = subprocess.run([PROGRAM, "check", *words], input=history.encode(), stdout=subprocess.PIPE, timeout=600)
     return done.returncode, done.stdout.decode().splitlines()
 
 
@@ -72,7 +72,7 @@ class Logs(unittest.TestCase):
             with open(os.path.join(self.folder, name), "wb") as file:
                 file.write(log)
         command = [sys.executable, "-B", os.path.join(HERE, "merge_logs.py"), *words, *names]
-        done = subprocess.run(command, cwd=self.folder, stdout=subprocess.PIPE, stderr=subprocess.PIPE, timeout=60)
+        done = subprocess.run(command, cwd=self.folder, stdout=subprocess.PIPE, stderr=subprocess.PIPE, timeout=600)
         return done.returncode, done.stdout.decode(), done.stderr.decode()
 
     def merged(self, logs, *words):
@@ -300,7 +300,7 @@ class Logs(unittest.TestCase):
         for output, told in ((">&-", "standard output is closed"), ("> /dev/full", "No space left on device")):
             command = f'exec "$0" -B "$1" 0.log {output}'
             words = ["sh", "-c", command, sys.executable, os.path.join(HERE, "merge_logs.py")]
-            done = subprocess.run(words, cwd=self.folder, stderr=subprocess.PIPE, timeout=60)
+            done = subprocess.run(words, cwd=self.folder, stderr=subprocess.PIPE, timeout=600)
             self.assertEqual((done.returncode, done.stderr.decode()), (4, f"merge_logs.py: {told}\n"))
 
 

@@ -10,7 +10,8 @@ Two files, this one and snaprecord.py, Python 3.8 or later, no dependencies: cop
     main({"board": Board})                              # takes options from the command line
     outcome = run(Board, runs=100, threads=3)           # or this, in a test of one's own; raises DriveError and RecordError
 
-Where an object calls pause() between its steps, the other threads run in the middle of its calls.
+Where an object calls pause() between its steps, the other threads run in the middle of its calls. An update that failed raises
+NoEffect or Unknown.
 
 SPDX-License-Identifier: 0BSD
 Copyright (C) 2026 by the authors of snapjudge
@@ -97,7 +98,7 @@ class Outcome:
 
 
 class DriveError(Exception):
-    """Why runs have no verdict; `name` is usage, limits, view, died, hangs, no judge, no verdict or files."""
+    """Why runs have no verdict; `name` is usage, limits, view, died, hangs, memory, no judge, no verdict or files."""
 
     def __init__(self, name, message):
         super().__init__(message)
@@ -152,6 +153,18 @@ def pause():
     time.sleep(next(_Naps.random) % (_Naps.longest + 1) / 1e6 if _Naps.longest else 0)
 
 
+# ---- updates that fail
+
+
+class NoEffect(Exception):
+    """Raised by an update that had no effect, and can have none any more. It is left out of the history."""
+
+
+class Unknown(Exception):
+    """Raised by an update of which nobody knows whether it had an effect, or will have one. It stays pending, and its thread makes no
+    more calls in this run."""
+
+
 # ---- one run
 
 
@@ -171,15 +184,35 @@ def work(board, log, thread, calls, options):
             value = (thread + 1) * 1000000 + i  # each value once
             if not log.begin_update(component, value):
                 return
-            board.update(thread, component, value)
-            log.end_update()
+            try:
+                board.update(thread, component, value)
+                log.end_update()
+            except NoEffect:
+                log.drop_update()
+            except Unknown:
+                return
         if options.nap:
             pause()
 
 
+def fresh(make, options):
+    try:
+        return make(options.components)
+    except Exception as error:
+        raise DriveError("died", f"the object can't be made: {error!r}") from error
+
+
+def start_all(threads):
+    for number, thread in enumerate(threads):
+        try:
+            thread.start()
+        except (RuntimeError, MemoryError) as error:
+            raise DriveError("memory", f"thread {number} can't be started") from error
+
+
 def record(make, options, schedule):
     """The history of a fresh object under a schedule."""
-    board, recorder = make(options.components), Recorder(options.threads, options.components, options.calls)
+    board, recorder = fresh(make, options), Recorder(options.threads, options.components, options.calls)
     start, failed = threading.Barrier(options.threads), []
 
     def run_thread(thread):
@@ -188,13 +221,12 @@ def record(make, options, schedule):
             work(board, recorder.log(thread), thread, schedule[thread], options)
         except DriveError as error:
             failed.append(error)
-        except Exception as error:
+        except BaseException as error:  # also SystemExit, which else would end this thread alone
             failed.append(DriveError("died", f"a call of thread {thread} raised {error!r}"))
 
     threads = [threading.Thread(target=run_thread, args=(thread,), daemon=True) for thread in range(options.threads)]
     end = time.monotonic() + options.limit
-    for thread in threads:
-        thread.start()
+    start_all(threads)
     for thread in threads:
         thread.join(max(0, end - time.monotonic()))
     if failed:
@@ -256,7 +288,19 @@ class Judge:
                 os.remove(name)  # of an earlier run
             if self.program:
                 with open(history, encoding="ascii") as file, open(name, "wb") as out:
-                    subprocess.run([self.program, verb], stdin=file, stdout=out)
+                    if subprocess.run([self.program, verb], stdin=file, stdout=out).returncode not in range(3):
+                        raise DriveError("files", f"{name} can't be written")
+
+
+def test_folder(out):
+    """Tries whether files can be written into a folder, before the first run, so that none is lost."""
+    name = os.path.join(out, f"run-{os.getpid()}.csv")
+    try:
+        with open(name, "w"):
+            pass
+        os.remove(name)
+    except OSError as error:
+        raise DriveError("files", f"{name} can't be written: {error.strerror}") from error
 
 
 def run(make, name="object", **words):
@@ -265,6 +309,7 @@ def run(make, name="object", **words):
     options = Options(**words)
     judge, outcome, told = Judge(options.program), Outcome(), time.monotonic()
     front = os.path.join(options.out, name)
+    test_folder(options.out)
     _Naps.longest, _Naps.random = options.nap, splitmix64(options.seed)
     for number, schedule in enumerate(schedules(options), 1):
         text = record(make, options, schedule)

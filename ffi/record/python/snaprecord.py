@@ -225,7 +225,8 @@ class Recorder:
     """
 
     def __init__(self, threads, components, calls, initial=0, initials=None):
-        fits = 1 <= threads <= PROCESS_LIMIT and 0 <= components <= COMPONENT_LIMIT and calls >= 1
+        are_numbers = all(type(number) is int for number in (threads, components, calls))
+        fits = are_numbers and 1 <= threads <= PROCESS_LIMIT and 0 <= components <= COMPONENT_LIMIT and calls >= 1
         if not fits or 2 * threads * calls > EVENT_LIMIT:
             raise RecordError(Fault.LIMITS, f"{threads} threads of {calls} calls, {components} components")
         self.components, self.calls, self.initial, self.initials, self.table = components, calls, initial, initials, []
@@ -234,6 +235,8 @@ class Recorder:
 
     def log(self, thread):
         """The log of a thread, which is the process of that number."""
+        if not _is_number_below(len(self.logs), thread):
+            raise RecordError(Fault.LIMITS, f"thread {thread!r} of {len(self.logs)}")
         return self.logs[thread]
 
     def text(self):

@@ -62,6 +62,33 @@ fn a_dropped_update_that_was_seen_is_a_value_nobody_wrote() {
     assert_eq!(r.text().as_deref(), Ok("at,event,process,op,data\n1,begin,1,view,\n2,end,1,view,0:1:9\n"));
 }
 
+/// The values of the last view of one history are the first ones of the next, which may write older ones again.
+#[test]
+fn a_history_goes_on_from_another() {
+    let mut r = recorder(1, 2, 4);
+    r.initials = vec![7, 0];
+    view(&mut r.logs[0], &[7, 0]);
+    update(&mut r.logs[0], 0, 0);
+    view(&mut r.logs[0], &[0, 0]);
+    let events = "0,begin,0,view,\n1,end,0,view,\n2,begin,0,update,0:1:0\n3,end,0,update,\n4,begin,0,view,\n5,end,0,view,0:1:0\n";
+    assert_eq!(r.text(), Ok(format!("at,event,process,op,data\n{events}")));
+}
+
+#[test]
+#[should_panic(expected = "index out of bounds")]
+fn a_log_that_there_is_not_panics() {
+    view(&mut recorder(2, 1, 1).logs[2], &[0]);
+}
+
+#[test]
+fn a_dropped_update_leaves_its_room() {
+    let mut r = recorder(1, 1, 1);
+    for _ in 0..100 {
+        assert_eq!(r.logs[0].begin_update(0, 1), Some(1));
+        r.logs[0].drop_update();
+    }
+}
+
 #[test]
 fn more_than_the_judge_takes_is_refused() {
     for (threads, components, calls) in [(0, 1, 1), (65537, 1, 1), (1, 257, 1), (2, 1, EVENT_LIMIT / 4 + 1), (1, 1, 0)] {
@@ -104,6 +131,20 @@ fn an_end_without_its_begin_is_told() {
 }
 
 #[test]
+fn an_end_of_a_view_without_its_begin_is_told() {
+    let ends: [fn(&mut Log); 3] =
+        [|log| log.end_view_values(&[0]), |log| log.end_view(&[Entry { component: 0, number: 0, value: 0 }]), Log::drop_view];
+    for end in ends {
+        for updates in [false, true] {
+            let mut r = recorder(1, 1, 4);
+            assert!(!updates || r.logs[0].begin_update(0, 1).is_some());
+            end(&mut r.logs[0]);
+            assert_eq!(r.text(), Err(Fault::NotOpen { thread: 0 }));
+        }
+    }
+}
+
+#[test]
 fn an_update_dropped_without_its_begin_is_told() {
     for views in [false, true] {
         let mut r = recorder(1, 1, 4);
@@ -124,10 +165,12 @@ fn a_view_of_a_part_is_told() {
 }
 
 #[test]
-fn initial_values_that_are_too_few_are_told() {
-    let mut r = recorder(1, 2, 4);
-    r.initials = vec![4];
-    assert_eq!(r.text(), Err(Fault::Initials));
+fn initial_values_that_are_too_few_or_too_many_are_told() {
+    for initials in [vec![4], vec![4, 5, 6]] {
+        let mut r = recorder(1, 2, 4);
+        r.initials = initials;
+        assert_eq!(r.text(), Err(Fault::Initials));
+    }
 }
 
 #[test]
@@ -138,6 +181,10 @@ fn a_wrong_component_is_told() {
     let mut r = recorder(1, 2, 4);
     assert!(r.logs[0].begin_view());
     r.logs[0].end_view(&[Entry { component: 1, number: 1, value: 1 }, Entry { component: 0, number: 1, value: 1 }]);
+    assert_eq!(r.text(), Err(Fault::Component { thread: 0 }));
+    let mut r = recorder(1, 2, 4);
+    assert!(r.logs[0].begin_view());
+    r.logs[0].end_view(&[Entry { component: 2, number: 1, value: 1 }]);
     assert_eq!(r.text(), Err(Fault::Component { thread: 0 }));
 }
 

@@ -17,8 +17,9 @@
 //! fn main() -> ExitCode { snapdrive::main(&[("mine", snapdrive::run::<Mine>)]) }
 //! ```
 //!
-//! Where an object calls `pause()` between its steps, the other threads run in the middle of its calls. In a test of one's own,
-//! `run::<Mine>("mine", &options)` does the same without a command line.
+//! Where an object calls `pause()` between its steps, the other threads run in the middle of its calls. An object whose updates can
+//! fail has the trait `FallibleBoard` in place of `Board`. In a test of one's own, `run::<Mine>("mine", &options)` does the same
+//! without a command line.
 //!
 //! SPDX-License-Identifier: 0BSD
 //! Copyright (C) 2026 by the authors of snapjudge
@@ -59,6 +60,35 @@ pub trait Board: Sync {
     fn update(&self, thread: usize, component: usize, value: u32);
     /// One value for each component; nothing where it gave up.
     fn view(&self, thread: usize) -> Option<Vec<u32>>;
+}
+
+/// What is known of an update that failed.
+#[derive(Clone, Copy, Debug, PartialEq, Eq)]
+pub enum Failed {
+    /// It had no effect, and can have none any more. It is left out of the history.
+    NoEffect,
+    /// Nobody knows whether it had an effect, or will have one. It stays pending, and its thread makes no more calls in this run.
+    Unknown,
+}
+
+/// An object whose updates can fail. Each `Board` is one.
+pub trait FallibleBoard: Sync {
+    fn new(components: usize) -> Self;
+    fn update(&self, thread: usize, component: usize, value: u32) -> Result<(), Failed>;
+    fn view(&self, thread: usize) -> Option<Vec<u32>>;
+}
+
+impl<B: Board> FallibleBoard for B {
+    fn new(components: usize) -> Self {
+        Board::new(components)
+    }
+    fn update(&self, thread: usize, component: usize, value: u32) -> Result<(), Failed> {
+        Board::update(self, thread, component, value);
+        Ok(())
+    }
+    fn view(&self, thread: usize) -> Option<Vec<u32>> {
+        Board::view(self, thread)
+    }
 }
 
 #[derive(Clone, Debug)]
@@ -106,7 +136,7 @@ pub enum Error {
     Limits(String),
     /// A view has not one value for each component.
     View(String),
-    /// A call of the object panicked.
+    /// A call of the object panicked, or its making did.
     Died(String),
     Judge(snapverdict::Error),
     Recorder(snaprecord::Fault),
@@ -193,15 +223,18 @@ pub fn pause() {
 
 // ---- one run
 
-fn work<B: Board>(board: &B, log: &mut Log, thread: usize, options: &Options, mut random: Random) -> Result<(), Error> {
+fn work<B: FallibleBoard>(board: &B, log: &mut Log, thread: usize, options: &Options, mut random: Random) -> Result<(), Error> {
     for i in 0..options.calls {
         if let Some(component) = choose(options, thread, i, &mut random) {
             let value = (thread as u32 + 1) * 1_000_000 + i as u32; // each value once
             if log.begin_update(component as u32, value).is_none() {
                 break;
             }
-            board.update(thread, component, value);
-            log.end_update();
+            match board.update(thread, component, value) {
+                Ok(()) => log.end_update(),
+                Err(Failed::NoEffect) => log.drop_update(),
+                Err(Failed::Unknown) => break,
+            }
         } else {
             if !log.begin_view() {
                 break;
@@ -231,20 +264,25 @@ fn watch(ended: &mpsc::Receiver<()>, name: &str, limit: u64) {
 }
 
 /// The history of a fresh object.
-fn record<B: Board>(name: &str, options: &Options, seeds: &mut Random) -> Result<String, Error> {
+fn record<B: FallibleBoard>(name: &str, options: &Options, seeds: &mut Random) -> Result<String, Error> {
     let mut recorder = Recorder::new(options.threads as usize, options.components as usize, options.calls as usize)?;
-    let board = B::new(options.components as usize);
+    let board = panic::catch_unwind(|| B::new(options.components as usize))
+        .map_err(|_| Error::Died("the object can't be made: it panicked".into()))?;
     let start = Barrier::new(options.threads as usize);
     let (running, ended) = mpsc::channel();
     thread::scope(|scope| {
         let workers: Vec<_> = recorder.logs.iter_mut().enumerate().map(|(thread, log)| (thread, log, Random(seeds.next()))).collect();
         let workers = workers.into_iter().map(|(thread, log, random)| {
             let (board, start, running) = (&board, &start, running.clone());
-            scope.spawn(move || {
+            let started = thread::Builder::new().spawn_scoped(scope, move || {
                 let _running = running; // dropped at the end, which the watch hears
                 start.wait();
                 panic::catch_unwind(AssertUnwindSafe(|| work(board, log, thread, options, random)))
                     .unwrap_or_else(|_| Err(Error::Died(format!("a call of thread {thread} panicked"))))
+            });
+            started.unwrap_or_else(|_| {
+                eprintln!("{name}: memory: thread {thread} can't be started");
+                process::exit(4) // those before it wait for it
             })
         });
         let workers: Vec<_> = workers.collect();
@@ -288,9 +326,10 @@ fn test(options: &Options) -> Result<(), Error> {
 
 /// Runs fresh objects, and counts the verdicts. Of the first run that is not atomic it keeps NAME-caught.csv, the history,
 /// NAME-witness.csv, the least of it that is not atomic, and NAME-explained.txt.
-pub fn run<B: Board>(name: &str, options: &Options) -> Result<Outcome, Error> {
+pub fn run<B: FallibleBoard>(name: &str, options: &Options) -> Result<Outcome, Error> {
     test(options)?;
     let judge = Judge::find(options.program.as_deref())?;
+    judge.test_folder(&options.out)?;
     let front = format!("{}/{name}", options.out);
     let mut seeds = Random(options.seed);
     let mut outcome = Outcome::default();

@@ -99,6 +99,13 @@ impl Judge {
         Ok(Judge { program, check })
     }
 
+    /// Tries whether files can be written into a folder, before the first run, so that none is lost.
+    pub fn test_folder(&self, out: &str) -> Result<(), Error> {
+        write(&scratch(out), "")?;
+        let _ = fs::remove_file(scratch(out));
+        Ok(())
+    }
+
     /// 0 for atomic, 1 for regular, 2 for neither. A file of the folder `out` holds the text meanwhile.
     pub fn status(&self, text: &str, out: &str) -> Result<u32, Error> {
         let status = match self.check {
@@ -116,7 +123,7 @@ impl Judge {
     }
 
     fn by_program(&self, text: &str, out: &str) -> Result<u32, Error> {
-        let name = format!("{out}/run-{}.csv", process::id());
+        let name = scratch(out);
         write(&name, text)?;
         let status = self.call(&["check", "--quiet"], &name, Stdio::null());
         let _ = fs::remove_file(&name);
@@ -139,11 +146,18 @@ impl Judge {
             let _ = fs::remove_file(&name); // of an earlier run
             if self.program.is_some() {
                 let to = File::create(&name).map_err(|error| Error::Files(format!("{name} can't be written: {error}")))?;
-                self.call(&[verb], &caught, to.into());
+                if self.call(&[verb], &caught, to.into()) > 2 {
+                    return Err(Error::Files(format!("{name} can't be written")));
+                }
             }
         }
         Ok(())
     }
+}
+
+/// The name of a file that this process may write into a folder.
+fn scratch(out: &str) -> String {
+    format!("{out}/run-{}.csv", process::id())
 }
 
 fn write(name: &str, text: &str) -> Result<(), Error> {

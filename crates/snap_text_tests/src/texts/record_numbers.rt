@@ -1,7 +1,8 @@
 //! The records of a text by their numbers.
 use super::{STALE_VIEW, VIEW_BESIDE_UPDATE, stamps};
 use snap_core::Counted;
-use snap_csv::{ReadRefusal, TextFault, read_records, record_of};
+use snap_csv::{ReadRefusal, read_records, record_of};
+use snap_text::TextFault;
 use std::alloc::{AllocError, Global};
 use std::test::Fail;
 

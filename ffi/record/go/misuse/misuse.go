@@ -87,6 +87,30 @@ func failed() []byte {
 	return textOf(recorder)
 }
 
+// The view shows what a dropped update wrote.
+func dirty() string {
+	recorder := recorder(2, 1, 2)
+	expect("an update begins", recorder.Log(0).BeginUpdate(0, 9) == 1)
+	show(recorder.Log(1), 9)
+	recorder.Log(0).DropUpdate()
+	return string(textOf(recorder))
+}
+
+// The values of the last view of one history are the first ones of the next, which may write older ones again.
+func goesOn() string {
+	recorder := recorder(1, 2, 4)
+	recorder.Initials = []uint32{7, 0}
+	show(recorder.Log(0), 7, 0)
+	update(recorder.Log(0), 0, 0)
+	show(recorder.Log(0), 0, 0)
+	return string(textOf(recorder))
+}
+
+func hasLog(recorder *Recorder[uint32], thread int) (has bool) {
+	defer func() { has = recover() == nil }()
+	return recorder.Log(thread) != nil
+}
+
 func main() {
 	for place, text := range [][]byte{worked(), failed()} {
 		if place+1 < len(os.Args) {
@@ -99,6 +123,13 @@ func main() {
 		expect("limits", errors.Is(err, Limits))
 	}
 	recorder(2, 256, EventLimit/4)
+
+	header := "at,event,process,op,data\n"
+	expect("a dropped update that was seen", dirty() == header+"1,begin,1,view,\n2,end,1,view,0:1:9\n")
+	expect("a history that goes on", goesOn() == header+"0,begin,0,view,\n1,end,0,view,\n2,begin,0,update,0:1:0\n"+
+		"3,end,0,update,\n4,begin,0,view,\n5,end,0,view,0:1:0\n")
+	two := recorder(2, 1, 1)
+	expect("a log that there is not", hasLog(two, 1) && !hasLog(two, 2) && !hasLog(two, -1))
 
 	full := recorder(2, 1, 2)
 	update(full.Log(0), 0, 1)
@@ -125,6 +156,32 @@ func main() {
 	}
 	expectFault("an end of another kind", other, NotOpen)
 
+	dropped, viewed, room := recorder(1, 1, 4), recorder(1, 1, 4), recorder(1, 1, 1)
+	dropped.Log(0).DropUpdate()
+	expectFault("an update dropped without a begin", dropped, NotOpen)
+	if viewed.Log(0).BeginView() {
+		viewed.Log(0).DropUpdate()
+	}
+	expectFault("a view dropped as an update", viewed, NotOpen)
+	for i := 0; i < 100; i++ {
+		expect("a dropped update leaves its room", room.Log(0).BeginUpdate(0, 1) == 1)
+		room.Log(0).DropUpdate()
+	}
+
+	ends := []func(*Log[uint32]){
+		func(log *Log[uint32]) { log.EndViewValues([]uint32{0}) },
+		func(log *Log[uint32]) { log.EndView([]Entry[uint32]{{}}) },
+		func(log *Log[uint32]) { log.DropView() },
+	}
+	for _, end := range ends {
+		for _, updates := range []bool{false, true} {
+			ended := recorder(1, 1, 4)
+			expect("an update", !updates || ended.Log(0).BeginUpdate(0, 1) == 1)
+			end(ended.Log(0))
+			expectFault("an end of a view without a begin", ended, NotOpen)
+		}
+	}
+
 	high := recorder(1, 2, 4)
 	expect("a component that is too high is refused", high.Log(0).BeginUpdate(2, 1) == 0)
 	expectFault("a component that is too high", high, Component)
@@ -134,6 +191,12 @@ func main() {
 		falling.Log(0).EndView([]Entry[uint32]{{Component: 1}, {Component: 0}})
 	}
 	expectFault("entries that do not rise", falling, Component)
+
+	far := recorder(1, 2, 4)
+	if far.Log(0).BeginView() {
+		far.Log(0).EndView([]Entry[uint32]{{Component: 2}})
+	}
+	expectFault("an entry that is too high", far, Component)
 
 	long, short := recorder(1, 2, 4), recorder(1, 2, 4)
 	show(long.Log(0), 0, 0, 0)
@@ -162,6 +225,15 @@ func main() {
 	initials := recorder(1, 2, 4)
 	initials.Initials = []uint32{1}
 	expectFault("too few first values", initials, Initials)
+	initials.Initials = []uint32{1, 2, 3}
+	expectFault("too many first values", initials, Initials)
+	for component, fault := range []error{nil, SameValue} {
+		first := recorder(1, 2, 4)
+		first.Initials = []uint32{4, 5}
+		update(first.Log(0), component, 5)
+		show(first.Log(0), 5, 5)
+		expectFault("the first value of a component", first, fault)
+	}
 
 	named, err := New[string](1, 2, 4)
 	expect("a recorder of texts", err == nil)

@@ -2,7 +2,7 @@ use Rattle.std.proofs.Common.{◌≡◌, ◌+◌, ◌<◌, [], ◌∷◌, ◌++�
 use Rattle.std.proofs.lemmas.List.{take_more, length-map, length-take-le, take_all}
 use Rattle.snap_core.specs.Entries.{view_refusal}
 use Rattle.snap_board.specs.Desks.{listed}
-use Rattle.snap_account.specs.Hands.{pairs}
+use Rattle.snap_account.specs.Seats.{pairs}
 use Rattle.snap_account.specs.Plays.{entry_of}
 use Rattle.snap_board.proofs.Listing.{listed_view, listed_short, list_more, list_same}
 use Rattle.snap_account.proofs.Reading.{pairs-push}

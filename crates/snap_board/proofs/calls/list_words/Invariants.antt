@@ -1,6 +1,6 @@
 use Rattle.std.proofs.Common.{◌≡◌, ◌≤◌, length, vec_capacity, take}
 use Rattle.snap_board.specs.Desks.{listed}
-use Rattle.snap_account.specs.Hands.{pairs}
+use Rattle.snap_account.specs.Seats.{pairs}
 use Rattle.snap_board.proofs.calls.list_words.Given as goal
 
 abbrev pub invariant-each : goal.invariant-each

@@ -1,9 +1,9 @@
 use Rattle.std.proofs.Common.{◌≡◌, Some, None, Option, is_some, true, true≢false, sym, refl, ap, ◌∙◌, arith}
 use Rattle.std.specs.Prelude.{slice_index_or}
-use Rattle.snap_board.specs.declared.kept.Kept.{Kept}
+use Rattle.snap_board.specs.declared.desk_state.DeskState.{DeskState}
 use Rattle.snap_board.proofs.slots.highest.Goals as goal
 
-kept_of : (o : Option Kept) → is_some o ≡ true → (k : Kept) × (o ≡ Some k)
+kept_of : (o : Option DeskState) → is_some o ≡ true → (k : DeskState) × (o ≡ Some k)
 kept_of None e = absurd (true≢false (sym e))
 kept_of (Some k) e = (k, refl)
 

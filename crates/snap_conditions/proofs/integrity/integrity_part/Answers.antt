@@ -5,14 +5,15 @@ use Rattle.std.specs.Bool.{then_some}
 use Rattle.snap_core.specs.declared.entry.Entry.{Entry}
 use Rattle.snap_core.specs.Entries.{EntryFits}
 use Rattle.snap_core.specs.Calls.{calls_of, entries_of, shown}
-use Rattle.snap_conditions.specs.Faults.{integrity_fault, listed}
+use Rattle.snap_theory.specs.Faults.{integrity_fault, listed}
 use Rattle.snap_conditions.specs.Parts.{part_of, found_at}
 use Rattle.snap_conditions.specs.PartValue.{PartValue}
-use Rattle.snap_conditions.specs.Places.{update_of, is_written}
+use Rattle.snap_conditions.specs.Places.{is_written}
+use Rattle.snap_theory.specs.Updates.{update_of}
 use Rattle.snap_conditions.specs.declared.fault.IntegrityFault.{IntegrityFault}
 use Rattle.snap_conditions.specs.Seen.{view_in}
 use Rattle.snap_conditions.specs.Tally.{reported_integrity}
-use Rattle.snap_conditions.proofs.Entries.{nothing}
+use Rattle.snap_theory.proofs.Entries.{nothing}
 use Rattle.snap_conditions.proofs.Finds.{shown_at, integrity_found}
 use Rattle.snap_conditions.proofs.Parts.{next_noted}
 use Rattle.snap_conditions.proofs.Ranges.{few_listed}
@@ -42,8 +43,8 @@ loop-entry-preserved c =
     let at : get_or (listed r) i 0 ≡ e.component = get_or-map (λ (d : Entry). d.component) (entries_of r.operation) i nothing 0 within ∙ ap (λ z. (get_or z i nothing).component) (sym shape) in
     let fault : ℕ → IntegrityFault = λ n. record { view = n; entry = e } in
     let fits : EntryFits e = subst (λ z. EntryFits (get_or z i nothing)) (sym shape) (c.requires.view.shape.fit i nothing within) in
-    let found : (b : Bool) → c.is_written.result ≡ b → then_some (not b) (fault c.args.view.now.number) ≡ found_at (λ k. reported_integrity (r, k)) (integrity_fault calls r) (get_or (listed r) i 0) = λ b is.
-    ap (λ z. then_some (not z) (fault c.args.view.now.number)) (sym is ∙ c.is_written.ensures es r c.requires.kept c.requires.around is_shown fits)
+    let found : (b : Bool) → c.is_written.result ≡ b → then_some (not b) (fault c.args.view.now.call_number) ≡ found_at (λ k. reported_integrity (r, k)) (integrity_fault calls r) (get_or (listed r) i 0) = λ b is.
+    ap (λ z. then_some (not z) (fault c.args.view.now.call_number)) (sym is ∙ c.is_written.ensures es r c.requires.kept c.requires.updates is_shown fits)
     ∙ ap (λ n. then_some (not (is_written (update_of calls e.component e.number) e)) (fault n)) c.requires.view.number ∙ sym (integrity_found es c.requires.kept r e is_shown)
     ∙ ap (found_at (λ k. reported_integrity (r, k)) (integrity_fault calls r)) (sym at) in
     let next = next_noted (λ k. reported_integrity (r, k)) (integrity_fault calls r) (listed r) i 0 (omega (arith, within, length-map (entries_of r.operation) (λ d. d.component))) in

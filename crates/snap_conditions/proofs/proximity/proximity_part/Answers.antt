@@ -2,7 +2,7 @@ use Rattle.snap_conditions.proofs.Limits.{near_rest}
 use Rattle.std.proofs.Common.{◌-◌, ◌<◌, ◌≡◌, ◌||◌, get_or, sym, ap, ◌∙◌, arith}
 use Rattle.std.proofs.lemmas.List.FromFn.{get_or-range_with_len}
 use Rattle.snap_core.specs.Calls.{calls_of}
-use Rattle.snap_conditions.specs.Faults.{old_fault, early_fault, components}
+use Rattle.snap_theory.specs.Faults.{old_fault, early_fault, components}
 use Rattle.snap_conditions.specs.PartValue.{PartValue}
 use Rattle.snap_conditions.specs.declared.fault.ProximityFault.{ProximityFault}
 use Rattle.snap_conditions.specs.Seen.{view_in}
@@ -11,7 +11,7 @@ use Rattle.snap_conditions.proofs.Finds.{proximity_at}
 use Rattle.snap_conditions.proofs.Parts.{next_noted}
 use Rattle.snap_conditions.proofs.OneView.{proximity_alone, found_few}
 use Rattle.snap_core.specs.Calls.{is_before}
-use Rattle.snap_index.specs.declared.call.Call.{Call as BareCall}
+use Rattle.snap_index.specs.declared.call.Call.{Call as IndexedCall}
 use Rattle.snap_conditions.proofs.Surrounded.{none_near}
 use Rattle.snap_conditions.proofs.proximity.proximity_part.Goals as goal
 
@@ -30,17 +30,17 @@ loop-k-preserved c =
     let below : c.loop-k.k < 256 = omega (arith, c.loop-k-test.true, c.requires.limit.few) in
     let at : get_or components c.loop-k.k 0 ≡ c.loop-k.k = omega (arith, get_or-range_with_len 0 256 c.loop-k.k 0 below) in
     next_noted (λ k. reported_proximity calls (r, k)) (λ k. old_fault calls r k || early_fault calls r k) components c.loop-k.k 0 below _ _ _ c.loop-k.invariant c.note-part.ensures
-    (c.proximity_fault.ensures es r c.requires.kept c.requires.view c.requires.around ∙ ap (proximity_at calls r) (sym at))
+    (c.proximity_fault.ensures es r c.requires.kept c.requires.view c.requires.updates ∙ ap (proximity_at calls r) (sym at))
 
 pub returns-then-not-is_before : goal.returns-then-not-is_before
 returns-then-not-is_before c =
     let es = c.args.index.now in
     let r = view_in (calls_of es) c.args.place in
-    let begun : r.begun ≡ c.args.view.now.call.begun = sym (ap (λ (z : BareCall). z.begun) c.requires.view.call) in
-    let ended : r.ended ≡ c.args.view.now.call.ended = sym (ap (λ (z : BareCall). z.ended) c.requires.view.call) in
+    let begun : r.begun ≡ c.args.view.now.call.begun = sym (ap (λ (z : IndexedCall). z.begun) c.requires.view.call) in
+    let ended : r.ended ≡ c.args.view.now.call.ended = sym (ap (λ (z : IndexedCall). z.ended) c.requires.view.call) in
     c.none-part.ensures
-    ∙ sym (none_near es c.requires.kept r c.args.around.now c.requires.around (omega (arith, begun, c.type_inv.view.1.0.1.1.0)) (omega (arith, begun, c.if-view-around.true))
-    (ap (λ z. is_before z c.args.around.now.latest) ended ∙ sym c.is_before.ensures ∙ c.if-not-is_before.true))
+    ∙ sym (none_near es c.requires.kept r c.args.updates.now c.requires.updates (omega (arith, begun, c.type_inv.view.1.0.1.1.0)) (omega (arith, begun, c.if-view-updates.true))
+    (ap (λ z. is_before z c.args.updates.now.latest) ended ∙ sym c.is_before.ensures ∙ c.if-not-is_before.true))
 
 pub returns : goal.returns
 returns c =

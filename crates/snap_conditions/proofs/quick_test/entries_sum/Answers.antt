@@ -1,5 +1,5 @@
 use Rattle.std.proofs.Common.{arith}
-use Rattle.snap_conditions.proofs.Entries.{nothing}
+use Rattle.snap_theory.proofs.Entries.{nothing}
 use Rattle.snap_conditions.proofs.Ranges.{rising_few}
 use Rattle.snap_conditions.proofs.quick_test.entries_sum.Goals as goal
 

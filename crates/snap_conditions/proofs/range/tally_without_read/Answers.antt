@@ -11,7 +11,7 @@ fit_without a b s = record { integrity = s.integrity; proximity = s.proximity; r
 pub loop-place-init : goal.loop-place-init
 loop-place-init c =
     let calls = calls_of c.args.index.now in
-    (c.new-around.ensures, c.none-tally.ensures ∙ ap without_read (sym (ap (tally_of calls) (empty_between calls c.args.from) ∙ (tallies_join calls).nothing)))
+    (c.new-updates.ensures, c.none-tally.ensures ∙ ap without_read (sym (ap (tally_of calls) (empty_between calls c.args.from) ∙ (tallies_join calls).nothing)))
 
 pub merge-tally-requires : goal.merge-tally-requires
 merge-tally-requires c =

@@ -1,8 +1,8 @@
 use Rattle.std.proofs.Common.{◌≡◌}
 use Rattle.snap_core.specs.Calls.{calls_of}
-use Rattle.snap_conditions.specs.Around.{AreAround}
+use Rattle.snap_conditions.specs.ShownAndNext.{IsOfEntries}
 use Rattle.snap_conditions.specs.Tally.{tally_of, without_read, views_between}
 use Rattle.snap_conditions.proofs.range.tally_without_read.Given as goal
 
 abbrev pub invariant-loop-place : goal.invariant-loop-place
-invariant-loop-place l = AreAround (calls_of l.index) l.around × (l.tally ≡ without_read (tally_of (calls_of l.index) (views_between (calls_of l.index) l.from l.place)))
+invariant-loop-place l = IsOfEntries (calls_of l.index) l.updates × (l.tally ≡ without_read (tally_of (calls_of l.index) (views_between (calls_of l.index) l.from l.place)))

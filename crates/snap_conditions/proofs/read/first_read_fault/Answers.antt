@@ -2,7 +2,7 @@ use Rattle.std.proofs.Common.{◌≡◌, ℕ, ◌<◌, ◌∷◌, [], List, Some
 use Rattle.std.specs.Prelude.{option_map, IfSome}
 use Rattle.snap_core.specs.Calls.{Call, calls_of, views_of}
 use Rattle.snap_conditions.specs.declared.fault.ReadFault.{ReadFault}
-use Rattle.snap_conditions.specs.Faults.{read_faults, first_of}
+use Rattle.snap_theory.specs.Faults.{read_faults, first_of}
 use Rattle.snap_conditions.specs.Grids.{faults_at}
 use Rattle.snap_conditions.specs.Parts.{noted}
 use Rattle.snap_conditions.specs.PartValue.{PartValue}

@@ -21,13 +21,13 @@ not_first part first fault other h =
     ap (λ o. P (option_or o (Some fault))) h ∙ sym (ap (λ o. P (option_or o (Some other))) h)
 
 told : (r s : Call) (view other : SeenView) (row : List ℕ) (k : ℕ) → IsSeen r view → IsSeen s other → AreNumbersOf view.entries.now row → k ≡ unwrap_or (first_less (number_among other.entries.now) (row_number row)) 0 →
-    ◌≡◌ {A = ReadFault} (record { view = view.number; other = other.number; component = k }) (reported_read (r, s))
+    ◌≡◌ {A = ReadFault} (record { view = view.call_number; other = other.call_number; component = k }) (reported_read (r, s))
 told r s view other row k v w n e =
     let fault : ℕ → ℕ → ℕ → ReadFault = λ a b j. record { view = a; other = b; component = j } in
     let least =
     least_by_numbers r s (row_number row) (number_among other.entries.now) (λ j l. n j l ∙ ap (λ es. number_among es j) v.entries ∙ among_is_shown r j)
     (λ j l. ap (λ es. number_among es j) w.entries ∙ among_is_shown s j) in
-    ap (λ a. fault a other.number k) v.number ∙ ap (λ b. fault r.number b k) w.number ∙ ap (fault r.number s.number) (e ∙ ap (λ o. unwrap_or o 0) least)
+    ap (λ a. fault a other.call_number k) v.number ∙ ap (λ b. fault r.number b k) w.number ∙ ap (fault r.number s.number) (e ∙ ap (λ o. unwrap_or o 0) least)
 
 pub returns : goal.returns
 returns c = λ r s v w. c.note.ensures ∙ elim c.match-first.branch [

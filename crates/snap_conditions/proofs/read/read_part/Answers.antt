@@ -3,7 +3,7 @@ use Rattle.std.specs.Bool.{then_some}
 use Rattle.std.proofs.lemmas.List.{take_all}
 use Rattle.std.specs.Prelude.{filter}
 use Rattle.snap_core.specs.Calls.{calls_of, views_of, nobody}
-use Rattle.snap_conditions.specs.Faults.{read_fault}
+use Rattle.snap_theory.specs.Faults.{read_fault}
 use Rattle.snap_conditions.specs.Parts.{part_of}
 use Rattle.snap_conditions.specs.PartValue.{PartValue}
 use Rattle.snap_conditions.specs.declared.fault.ReadFault.{ReadFault}

@@ -3,7 +3,7 @@ use Rattle.std.specs.Prelude.{option_map, option_copied, slice_get}
 use Rattle.std.proofs.lemmas.Option.{slice_get-get_or}
 use Rattle.snap_core.specs.Entries.{AreEntries}
 use Rattle.snap_core.specs.Calls.{calls_of, views_of, nobody}
-use Rattle.snap_index.specs.Bare.{bare, number_of, entries_shown}
+use Rattle.snap_index.specs.IndexedCalls.{as_indexed, number_of, entries_shown}
 use Rattle.snap_index.proofs.Ends.{answer_of_view}
 use Rattle.snap_conditions.specs.Seen.{view_in}
 use Rattle.snap_conditions.proofs.Viewed.{view_at_number}
@@ -13,9 +13,9 @@ pub unreachable-requires-in_default-call : goal.unreachable-requires-in_default-
 unreachable-requires-in_default-call c =
     let es = c.args.index.now in
     let there = slice_get-get_or (views_of (calls_of es)) c.args.place nobody c.requires in
-    let number : Some c.in-Some.number ≡ Some (view_in (calls_of es) c.args.place).number = sym c.in-Some.is ∙ c.view_call.ensures ∙ ap (option_map number_of) there in
-    let same : c.in-Some.number ≡ (view_in (calls_of es) c.args.place).number = cc in
-    let read = c.call.ensures ∙ ap (λ n. option_map bare (slice_get (calls_of es) n)) same ∙ ap (option_map bare) (view_at_number es c.args.place c.requires) in
+    let number : Some c.in-Some.call_number ≡ Some (view_in (calls_of es) c.args.place).number = sym c.in-Some.is ∙ c.view_call.ensures ∙ ap (option_map number_of) there in
+    let same : c.in-Some.call_number ≡ (view_in (calls_of es) c.args.place).number = cc in
+    let read = c.call.ensures ∙ ap (λ n. option_map as_indexed (slice_get (calls_of es) n)) same ∙ ap (option_map as_indexed) (view_at_number es c.args.place c.requires) in
     let gone = ap option_copied c.in_default-call.is in
     cc
 
@@ -23,7 +23,7 @@ pub unreachable-requires-in_default-answer : goal.unreachable-requires-in_defaul
 unreachable-requires-in_default-answer c =
     let es = c.args.index.now in
     let there = slice_get-get_or (views_of (calls_of es)) c.args.place nobody c.requires in
-    let gone = sym (ap option_copied c.in_default-answer.is) ∙ c.answer.ensures ∙ answer_of_view es c.args.place c.in-Some.number (sym c.view_call.ensures ∙ c.in-Some.is) ∙ ap (option_map entries_shown) there in
+    let gone = sym (ap option_copied c.in_default-answer.is) ∙ c.answer.ensures ∙ answer_of_view es c.args.place c.in-Some.call_number (sym c.view_call.ensures ∙ c.in-Some.is) ∙ ap (option_map entries_shown) there in
     cc
 
 pub returns : goal.returns
@@ -31,10 +31,10 @@ returns c =
     let es = c.args.index.now in
     let r = view_in (calls_of es) c.args.place in
     let there = slice_get-get_or (views_of (calls_of es)) c.args.place nobody c.requires in
-    let number : Some c.in-Some.number ≡ Some r.number = sym c.in-Some.is ∙ c.view_call.ensures ∙ ap (option_map number_of) there in
-    let same : c.in-Some.number ≡ r.number = cc in
-    let read : Some c.in-Some-call.call.now ≡ Some (bare r) = sym (ap option_copied c.in-Some-call.is) ∙ c.call.ensures ∙ ap (λ n. option_map bare (slice_get (calls_of es) n)) same ∙ ap (option_map bare) (view_at_number es c.args.place c.requires) in
+    let number : Some c.in-Some.call_number ≡ Some r.number = sym c.in-Some.is ∙ c.view_call.ensures ∙ ap (option_map number_of) there in
+    let same : c.in-Some.call_number ≡ r.number = cc in
+    let read : Some c.in-Some-call.call.now ≡ Some (as_indexed r) = sym (ap option_copied c.in-Some-call.is) ∙ c.call.ensures ∙ ap (λ n. option_map as_indexed (slice_get (calls_of es) n)) same ∙ ap (option_map as_indexed) (view_at_number es c.args.place c.requires) in
     let shows : Some c.in-Some-answer.view.now ≡ Some (entries_shown r) =
-    sym (ap option_copied c.in-Some-answer.is) ∙ c.answer.ensures ∙ answer_of_view es c.args.place c.in-Some.number (sym c.view_call.ensures ∙ c.in-Some.is) ∙ ap (option_map entries_shown) there in
+    sym (ap option_copied c.in-Some-answer.is) ∙ c.answer.ensures ∙ answer_of_view es c.args.place c.in-Some.call_number (sym c.view_call.ensures ∙ c.in-Some.is) ∙ ap (option_map entries_shown) there in
     let listed : c.in-Some-answer.view.now ≡ entries_shown r = cc in
     record { number = same; call = cc; entries = c.entries.ensures.entries ∙ listed; shape = subst AreEntries listed c.entries.ensures.view }

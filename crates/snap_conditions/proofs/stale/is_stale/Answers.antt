@@ -1,5 +1,5 @@
 use Rattle.std.proofs.Common.{◌&&◌, sym, ap, ◌∙◌}
-use Rattle.snap_conditions.specs.Faults.{exceeds}
+use Rattle.snap_theory.specs.Faults.{exceeds}
 use Rattle.snap_conditions.proofs.SeenPairs.{exceeds_seen, stale_seen}
 use Rattle.snap_conditions.proofs.stale.is_stale.Goals as goal
 

@@ -3,7 +3,7 @@ use Rattle.snap_core.specs.Calls.{calls_of}
 use Rattle.snap_conditions.specs.declared.fault.ReadFault.{ReadFault}
 use Rattle.snap_conditions.specs.PartValue.{PartValue}
 use Rattle.snap_conditions.specs.Seen.{view_in}
-use Rattle.snap_conditions.proofs.StaleViews.{none_stale_alone}
+use Rattle.snap_theory.proofs.StaleViews.{none_stale_alone}
 use Rattle.snap_conditions.proofs.stale.stale_beside.Goals as goal
 
 pub returns-then-count-eq0 : goal.returns-then-count-eq0

@@ -2,7 +2,7 @@ use Rattle.std.proofs.Common.{◌≡◌, ◌<◌, ◌≤◌, ◌∙◌, length, 
 use Rattle.std.proofs.lemmas.Bool.{false≢true, cases_lt}
 use Rattle.std.proofs.lemmas.List.{get_or_default}
 use Rattle.snap_core.specs.Calls.{calls_of, views_of}
-use Rattle.snap_index.specs.declared.call.Call.{Call as Bare}
+use Rattle.snap_index.specs.declared.call.Call.{Call as IndexedCall}
 use Rattle.snap_conditions.specs.Quick.{shown_sum}
 use Rattle.snap_conditions.specs.Seen.{view_in}
 use Rattle.snap_conditions.proofs.Chains.{sum_in, view_is}
@@ -15,7 +15,7 @@ index-requires c =
     let r = view_in (calls_of es) c.loop-place.place in
     let within : c.loop-place.place < length (views_of (calls_of es)) = omega (arith, c.loop-place-test.true, c.view_count-place-end.ensures) in
     let at = view_places es c.event_count-events.ensures.kept r (view_is (calls_of es) c.loop-place.place within) in
-    let begun : c.view_at-begun.result.call.begun ≡ r.begun = ap (λ (z : Bare). z.begun) c.view_at-begun.ensures.call in
+    let begun : c.view_at-begun.result.call.begun ≡ r.begun = ap (λ (z : IndexedCall). z.begun) c.view_at-begun.ensures.call in
     omega (arith, begun, at.begins, at.within, c.in_ok-greatest.greatest.ok, c.in_ok-greatest.ensures.size)
 
 pub returns-then-sums-place : goal.returns-then-sums-place
@@ -24,7 +24,7 @@ returns-then-sums-place c =
     let r = view_in (calls_of es) c.loop-place.place in
     let within : c.loop-place.place < length (views_of (calls_of es)) = omega (arith, c.loop-place-test.true, c.view_count-place-end.ensures) in
     let sum = sum_in (calls_of es) c.args.sums.now c.loop-place.place 0 c.requires within in
-    let begun : c.view_at-begun.result.call.begun ≡ r.begun = ap (λ (z : Bare). z.begun) c.view_at-begun.ensures.call in
+    let begun : c.view_at-begun.result.call.begun ≡ r.begun = ap (λ (z : IndexedCall). z.begun) c.view_at-begun.ensures.call in
     let places = view_places es c.event_count-events.ensures.kept r (view_is (calls_of es) c.loop-place.place within) in
     let at : c.view_at-begun.result.call.begun < length c.in_ok-greatest.greatest.items = omega (arith, begun, places.begins, places.within, c.in_ok-greatest.ensures.size) in
     let value : c.index.result.now ≡ get_or c.in_ok-greatest.greatest.items r.begun 0 = c.index.ensures ∙ get_or_default c.in_ok-greatest.greatest.items c.view_at-begun.result.call.begun c.index.result.now 0 at ∙ ap (λ b. get_or c.in_ok-greatest.greatest.items b 0) begun in
@@ -43,7 +43,7 @@ loop-place-preserved c = λ place l. elim (cases_lt place c.loop-place.place) [
       let r = view_in (calls_of es) c.loop-place.place in
       let within : c.loop-place.place < length (views_of (calls_of es)) = omega (arith, c.loop-place-test.true, c.view_count-place-end.ensures) in
       let sum = sum_in (calls_of es) c.args.sums.now c.loop-place.place 0 c.requires within in
-      let begun : c.view_at-begun.result.call.begun ≡ r.begun = ap (λ (z : Bare). z.begun) c.view_at-begun.ensures.call in
+      let begun : c.view_at-begun.result.call.begun ≡ r.begun = ap (λ (z : IndexedCall). z.begun) c.view_at-begun.ensures.call in
       let places = view_places es c.event_count-events.ensures.kept r (view_is (calls_of es) c.loop-place.place within) in
       let at : c.view_at-begun.result.call.begun < length c.in_ok-greatest.greatest.items = omega (arith, begun, places.begins, places.within, c.in_ok-greatest.ensures.size) in
       let value : c.index.result.now ≡ get_or c.in_ok-greatest.greatest.items r.begun 0 = c.index.ensures ∙ get_or_default c.in_ok-greatest.greatest.items c.view_at-begun.result.call.begun c.index.result.now 0 at ∙ ap (λ b. get_or c.in_ok-greatest.greatest.items b 0) begun in

@@ -1,7 +1,7 @@
 use Rattle.std.proofs.Common.{◌≡◌, ◌+◌, ◌<◌, ◌∙◌, Some, length, set, get_or, max, sym, ap, subst, arith}
 use Rattle.std.proofs.lemmas.List.{length-set, get_or_default}
 use Rattle.snap_core.specs.Calls.{calls_of, views_of}
-use Rattle.snap_index.specs.declared.call.Call.{Call as Bare}
+use Rattle.snap_index.specs.declared.call.Call.{Call as IndexedCall}
 use Rattle.snap_conditions.specs.Seen.{view_in}
 use Rattle.snap_conditions.specs.Sweeps.{IsSwept}
 use Rattle.snap_conditions.proofs.Chains.{sum_in, view_is}
@@ -14,7 +14,7 @@ index-requires c =
     let es = c.args.index.now in
     let within : c.loop-place.place < length (views_of (calls_of es)) = omega (arith, c.loop-place-test.true, c.view_count-place-end.ensures) in
     let at = view_places es c.requires.kept (view_in (calls_of es) c.loop-place.place) (view_is (calls_of es) c.loop-place.place within) in
-    let ends : Some c.in-Some.ended ≡ Some at.ended = sym c.in-Some.is ∙ ap (λ (z : Bare). z.ended) c.view_at.ensures.call ∙ at.ends in
+    let ends : Some c.in-Some.ended ≡ Some at.ended = sym c.in-Some.is ∙ ap (λ (z : IndexedCall). z.ended) c.view_at.ensures.call ∙ at.ends in
     let same : c.in-Some.ended ≡ at.ended = cc in
     omega (arith, same, at.within, c.loop-place.behind.ok, c.loop-place.invariant.size)
 
@@ -23,7 +23,7 @@ index_mut-requires c =
     let es = c.args.index.now in
     let within : c.loop-place.place < length (views_of (calls_of es)) = omega (arith, c.loop-place-test.true, c.view_count-place-end.ensures) in
     let at = view_places es c.requires.kept (view_in (calls_of es) c.loop-place.place) (view_is (calls_of es) c.loop-place.place within) in
-    let ends : Some c.in-Some.ended ≡ Some at.ended = sym c.in-Some.is ∙ ap (λ (z : Bare). z.ended) c.view_at.ensures.call ∙ at.ends in
+    let ends : Some c.in-Some.ended ≡ Some at.ended = sym c.in-Some.is ∙ ap (λ (z : IndexedCall). z.ended) c.view_at.ensures.call ∙ at.ends in
     let same : c.in-Some.ended ≡ at.ended = cc in
     omega (arith, same, at.within, c.loop-place.behind.ok, c.loop-place.invariant.size)
 
@@ -35,7 +35,7 @@ loop-place-preserved c =
     let old = c.loop-place.behind.items in
     let within : n < length (views_of calls) = omega (arith, c.loop-place-test.true, c.view_count-place-end.ensures) in
     let at = view_places es c.requires.kept (view_in calls n) (view_is calls n within) in
-    let ends = ap (λ (z : Bare). z.ended) c.view_at.ensures.call in
+    let ends = ap (λ (z : IndexedCall). z.ended) c.view_at.ensures.call in
     elim c.match-view_at.branch [
       | in-Some w ↦
           let ended = w.in-Some.ended in

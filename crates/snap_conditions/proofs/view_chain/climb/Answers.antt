@@ -1,7 +1,7 @@
 use Rattle.std.proofs.Common.{rules, ◌+◌, ◌≤◌, ℕ, Fits, w64, ap, ◌∙◌, arith}
 use Rattle.snap_conditions.proofs.Climbing.{none_taken, one_taken, below_by_sum, all_taken}
 use Rattle.snap_conditions.proofs.Compared.{compared_small}
-use Rattle.snap_conditions.proofs.Entries.{nothing}
+use Rattle.snap_theory.proofs.Entries.{nothing}
 use Rattle.snap_conditions.proofs.view_chain.climb.Goals as goal
 
 fits : (n : ℕ) → n ≤ 2199023255551 → Fits w64 n

@@ -2,9 +2,10 @@ use Rattle.std.proofs.Common.{◌≡◌, suc, ◌+◌, ◌<◌, Some, length, ge
 use Rattle.snap_core.specs.Calls.{calls_of, shown_number}
 use Rattle.snap_conditions.specs.declared.fault.WriteFault.{WriteFault}
 use Rattle.snap_conditions.specs.PartValue.{PartValue}
-use Rattle.snap_conditions.specs.Places.{update_of, end_of}
+use Rattle.snap_conditions.specs.Places.{end_of}
+use Rattle.snap_theory.specs.Updates.{update_of}
 use Rattle.snap_conditions.specs.Seen.{view_in}
-use Rattle.snap_conditions.proofs.Entries.{nothing}
+use Rattle.snap_theory.proofs.Entries.{nothing}
 use Rattle.std.specs.Prelude.{nat_lt, not}
 use Rattle.std.specs.List.{position_or_len}
 use Rattle.std.proofs.lemmas.List.Sums.{prefix_len-le-length}
@@ -51,8 +52,8 @@ returns c =
     let tested = are_tested es c.requires.kept r c.args.j c.args.ended c.args.view.now.entries.now c.args.begins.now c.requires.view.entries c.requires.view.shape ended c.requires.count c.requires.begins in
     let within : c.first_behind-first.result < length c.args.begins.now = omega (arith, c.first_behind-first.ensures, prefix_len-le-length (λ b. not (nat_lt c.args.ended b)) c.args.begins.now, c.if-first-begins.false) in
     let d = get_or c.args.view.now.entries.now c.first_behind-first.result nothing in
-    let fault : WriteFault = record { view = c.args.view.now.number; missed_component = c.args.j; missed_number = c.args.number + 1; shown_component = d.component; shown_number = d.number } in
-    let told = reported_at r c.args.view.now.number c.args.j (c.args.number + 1) c.first_behind-first.result d c.requires.view.shape (omega (arith, within, c.requires.count, ap length c.requires.view.entries))
+    let fault : WriteFault = record { view = c.args.view.now.call_number; missed_component = c.args.j; missed_number = c.args.number + 1; shown_component = d.component; shown_number = d.number } in
+    let told = reported_at r c.args.view.now.call_number c.args.j (c.args.number + 1) c.first_behind-first.result d c.requires.view.shape (omega (arith, within, c.requires.count, ap length c.requires.view.entries))
     (ap (λ z. get_or z c.first_behind-first.result nothing) c.requires.view.entries) c.requires.view.number (omega (arith, c.requires.number)) in
     let first : c.note.result.first ≡ Some fault = ap (λ (p : PartValue WriteFault). p.first) (c.note.ensures ∙ ap (λ p. noted p (Some fault)) c.none-part.ensures) in
     c.counted.ensures ∙ ap (λ o. record { count = c.count_behind-count.result; first = o }) first

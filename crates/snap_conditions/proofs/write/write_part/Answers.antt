@@ -1,7 +1,8 @@
 use Rattle.snap_conditions.proofs.Limits.{none_step, missed_rest}
-use Rattle.snap_conditions.specs.Around.{end_next}
-use Rattle.snap_conditions.specs.Places.{update_of, begin_or_0, begin_of_shown}
-use Rattle.snap_conditions.proofs.Entries.{nothing}
+use Rattle.snap_conditions.specs.ShownAndNext.{end_next}
+use Rattle.snap_conditions.specs.Places.{begin_or_0, begin_of_shown}
+use Rattle.snap_theory.specs.Updates.{update_of}
+use Rattle.snap_theory.proofs.Entries.{nothing}
 use Rattle.std.proofs.lemmas.List.{get_or-take}
 use Rattle.snap_core.specs.Calls.{entries_of}
 use Rattle.snap_conditions.proofs.Surrounded.{some_end, none_missed_at, none_missed_around, begin_at}
@@ -10,7 +11,7 @@ use Rattle.std.proofs.lemmas.List.FromFn.{get_or-range_with_len}
 use Rattle.std.specs.Prelude.{flat_map}
 use Rattle.snap_core.specs.Calls.{calls_of}
 use Rattle.snap_conditions.specs.declared.fault.WriteFault.{WriteFault}
-use Rattle.snap_conditions.specs.Faults.{components, missed_at}
+use Rattle.snap_theory.specs.Faults.{components, missed_at}
 use Rattle.snap_conditions.specs.Parts.{part_of, merged_part}
 use Rattle.snap_conditions.specs.PartValue.{PartValue}
 use Rattle.snap_conditions.specs.Seen.{view_in}
@@ -24,18 +25,18 @@ use Rattle.snap_conditions.proofs.Ranges.{rising_few}
 use Rattle.snap_core.specs.Calls.{shown_number}
 use Rattle.snap_conditions.specs.Places.{end_of}
 use Rattle.snap_conditions.proofs.write.write_part.Goals as goal
-use Rattle.snap_conditions.proofs.write.write_part.Goals.{then-ended-around, else-ended-around}
+use Rattle.snap_conditions.proofs.write.write_part.Goals.{then-ended-updates, else-ended-updates}
 
 pub missed_part-requires-clause-number : goal.missed_part-requires-clause-number
-missed_part-requires-clause-number c = c.requires.around.numbers c.loop-j.j (omega (arith, c.loop-j-test.true, c.requires.limit.few))
+missed_part-requires-clause-number c = c.requires.updates.numbers c.loop-j.j (omega (arith, c.loop-j-test.true, c.requires.limit.few))
 
 pub missed_part-requires-clause-ended : goal.missed_part-requires-clause-ended
 missed_part-requires-clause-ended c =
     let calls = calls_of c.args.index.now in
     let r = view_in calls c.args.place in
     let below : c.loop-j.j < 256 = omega (arith, c.loop-j-test.true, c.requires.limit.few) in
-    ap (λ n. end_of (update_of calls c.loop-j.j (suc n))) (c.requires.around.numbers c.loop-j.j below)
-    ∙ some_end (end_of (update_of calls c.loop-j.j (suc (shown_number r c.loop-j.j)))) _ (c.requires.around.ends c.loop-j.j below) (omega (arith, c.if-ended-around.true, c.fits-around))
+    ap (λ n. end_of (update_of calls c.loop-j.j (suc n))) (c.requires.updates.numbers c.loop-j.j below)
+    ∙ some_end (end_of (update_of calls c.loop-j.j (suc (shown_number r c.loop-j.j)))) _ (c.requires.updates.ends c.loop-j.j below) (omega (arith, c.if-ended-updates.true, c.fits-updates))
 
 pub missed_part-requires-clause-begins : goal.missed_part-requires-clause-begins
 missed_part-requires-clause-begins c = λ i l.
@@ -46,8 +47,8 @@ missed_part-requires-clause-begins c = λ i l.
     let within : i < length (entries_of r.operation) = omega (arith, l, ap length same) in
     get_or-take (length c.args.view.now.entries.now) c.begins_of-begins.result i 0 l
     ∙ c.begins_of-begins.ensures.each i nothing l
-    ∙ ap (λ z. get_or c.args.around.now.begins (get_or z i nothing).component 0) same
-    ∙ begin_at calls r c.args.around.now i c.requires.around shape within (shape.fit i nothing within).0
+    ∙ ap (λ z. get_or c.args.updates.now.begins (get_or z i nothing).component 0) same
+    ∙ begin_at calls r c.args.updates.now i c.requires.updates shape within (shape.fit i nothing within).0
     ∙ sym (ap (λ z. begin_or_0 (begin_of_shown calls z i)) same)
 
 pub merge-part-requires : goal.merge-part-requires
@@ -68,21 +69,21 @@ loop-j-preserved c =
     let calls = calls_of c.args.index.now in
     let r = view_in calls c.args.place in
     let at : get_or components c.loop-j.j 0 ≡ c.loop-j.j = omega (arith, get_or-range_with_len 0 256 c.loop-j.j 0 (omega (arith, c.loop-j-test.true, c.requires.limit.few))) in
-    elim c.if-ended-around.branch [
-      | then-ended-around w ↦
+    elim c.if-ended-updates.branch [
+      | then-ended-updates w ↦
           w.part-is ∙ w.merge-part.ensures ∙ ap (λ p. merged_part p w.missed_part.result) c.loop-j.invariant
           ∙ ap (merged_part (part_of reported_write (flat_map (missed_at calls r) (take c.loop-j.j components)))) (w.missed_part.ensures ∙ ap (λ j. part_of reported_write (missed_at calls r j)) (sym at))
           ∙ sym (merge_step reported_write (missed_at calls r) components c.loop-j.j 0 (omega (arith, c.loop-j-test.true, c.requires.limit.few)))
-      | else-ended-around w ↦
-          let late : c.args.around.now.latest ≤ end_next calls r c.loop-j.j = omega (arith, w.if-ended-around.false, c.requires.around.ends c.loop-j.j (omega (arith, c.loop-j-test.true, c.requires.limit.few))) in
+      | else-ended-updates w ↦
+          let late : c.args.updates.now.latest ≤ end_next calls r c.loop-j.j = omega (arith, w.if-ended-updates.false, c.requires.updates.ends c.loop-j.j (omega (arith, c.loop-j-test.true, c.requires.limit.few))) in
           w.part-is ∙ c.loop-j.invariant
-          ∙ none_step c.args.index.now r c.loop-j.j (omega (arith, c.loop-j-test.true, c.requires.limit.few)) (none_missed_at c.args.index.now c.requires.kept r c.args.around.now c.loop-j.j c.requires.around c.requires.view.shape (omega (arith, c.fits-around)) late)
+          ∙ none_step c.args.index.now r c.loop-j.j (omega (arith, c.loop-j-test.true, c.requires.limit.few)) (none_missed_at c.args.index.now c.requires.kept r c.args.updates.now c.loop-j.j c.requires.updates c.requires.view.shape (omega (arith, c.fits-updates)) late)
     ]
 
-pub returns-then-around : goal.returns-then-around
-returns-then-around c =
+pub returns-then-updates : goal.returns-then-updates
+returns-then-updates c =
     let calls = calls_of c.args.index.now in
-    c.none-part.ensures ∙ sym (none_missed_around c.args.index.now c.requires.kept (view_in calls c.args.place) c.args.around.now c.requires.around c.requires.view.shape (omega (arith, c.fits-around)) c.if-around.true)
+    c.none-part.ensures ∙ sym (none_missed_around c.args.index.now c.requires.kept (view_in calls c.args.place) c.args.updates.now c.requires.updates c.requires.view.shape (omega (arith, c.fits-updates)) c.if-updates.true)
 
 pub returns : goal.returns
 returns c =

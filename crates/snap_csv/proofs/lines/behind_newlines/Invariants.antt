@@ -1,6 +1,6 @@
 use Rattle.std.proofs.Common.{List, length}
 use Rattle.snap_csv.specs.Lines.{HasRows}
-use Rattle.snap_csv.specs.Rows.{Fields}
+use Rattle.snap_text.specs.Fields.{Fields}
 use Rattle.snap_csv.proofs.lines.behind_newlines.Given as goal
 
 abbrev pub invariant-loop-left : goal.invariant-loop-left

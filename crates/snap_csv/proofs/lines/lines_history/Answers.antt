@@ -1,9 +1,9 @@
 use Rattle.std.proofs.Common.{◌≡◌, ◌∷◌, ◌+◌, [], drop, length, refl, ap, arith, rules}
 use Rattle.std.proofs.lemmas.List.{length-append, nil_from_length}
 use Rattle.std.proofs.lemmas.Result.{err_from_is_err_and}
-use Rattle.snap_csv.specs.declared.refusal.TextFault.TheVariants as faults
+use Rattle.snap_text.specs.declared.fault.TextFault.TheVariants as faults
 use Rattle.snap_csv.specs.declared.refusal.ReadRefusal.TheVariants as refusals
-use Rattle.snap_csv.specs.Fields.{header}
+use Rattle.snap_csv.specs.Layout.{header}
 use Rattle.snap_csv.specs.Lines.{HasRows}
 use Rattle.snap_csv.proofs.PlainFacts.{no_line}
 use Rattle.snap_csv.proofs.ReadFacts.{begun, done, more, row_short, stopped}

@@ -1,7 +1,7 @@
 use Rattle.std.proofs.Common.{◌≡◌, ◌∷◌, List, length}
-use Rattle.snap_csv.specs.Fields.{header}
+use Rattle.snap_csv.specs.Layout.{header}
 use Rattle.snap_csv.specs.Lines.{HasRows}
-use Rattle.snap_csv.specs.Rows.{Fields}
+use Rattle.snap_text.specs.Fields.{Fields}
 use Rattle.snap_csv.proofs.ReadFacts.{Midway}
 use Rattle.snap_csv.proofs.lines.lines_history.Given as goal
 

@@ -1,7 +1,8 @@
 use Rattle.std.proofs.Common.{◌≡◌, ◌≤◌, List, length}
 use Rattle.snap_core.specs.Events.{event_limit}
 use Rattle.snap_csv.specs.Answers.{HasSeen}
-use Rattle.snap_csv.specs.Rows.{Fields, Stands}
+use Rattle.snap_text.specs.Fields.{Fields}
+use Rattle.snap_csv.specs.Rows.{Stands}
 use Rattle.snap_csv.proofs.StampFacts.{MidStamped}
 use Rattle.snap_csv.proofs.stamped.read_stamped.Given as goal
 

@@ -1,6 +1,6 @@
 use Rattle.std.proofs.Common.{◌++◌, List, ℕ, take, subst, sym, ap, ◌∙◌}
 use Rattle.std.proofs.lemmas.List.{take_all}
-use Rattle.snap_csv.specs.Spelling.{history_text}
+use Rattle.snap_csv.specs.Layout.{history_text}
 use Rattle.snap_csv.specs.Writing.{Holds}
 use Rattle.snap_csv.proofs.LineFacts.{history_more, line_of}
 use Rattle.snap_csv.proofs.writing.text_of.Goals as goal

@@ -6,7 +6,7 @@ use Rattle.snap_report.specs.Lines.{call_word}
 use Rattle.snap_report.proofs.Calls.{op_is}
 use Rattle.snap_report.proofs.Pieces.{piece_added}
 use Rattle.snap_explain.specs.Calls.{call_text, operation_text, records_words}
-use Rattle.snap_explain.proofs.Calls.{call_is_within}
+use Rattle.snap_witness.proofs.Within.{call_is_within}
 use Rattle.snap_explain.proofs.Pieces.{nine_pieces}
 use Rattle.snap_explain.proofs.call.put_call_line.Goals as goal
 

@@ -1,8 +1,8 @@
 use Rattle.std.proofs.Common.{◌<◌, ◌++◌, ◌∙◌, [], ap, sym, subst, find, length}
 use Rattle.std.specs.Option.{option_map_or}
 use Rattle.snap_core.specs.Calls.{call_numbered, calls_of, is_update_numbered}
-use Rattle.snap_index.specs.Bare.{number_of}
-use Rattle.snap_index.proofs.BareCalls.{mapped_some}
+use Rattle.snap_index.specs.IndexedCalls.{number_of}
+use Rattle.snap_index.proofs.IndexedCalls.{mapped_some}
 use Rattle.snap_index.proofs.Known.{update_found}
 use Rattle.snap_report.proofs.Pieces.{same_text}
 use Rattle.snap_explain.specs.Calls.{call_text}

@@ -1,7 +1,7 @@
 use Rattle.std.proofs.Common.{◌≡◌, ◌++◌, ◌∙◌, false, ap, codes, decimal, sym}
 use Rattle.std.specs.Prelude.{if◌then◌else◌, unwrap_or}
 use Rattle.snap_core.specs.Calls.{call_numbered, calls_of, precedes}
-use Rattle.snap_conditions.specs.Faults.{least_exceeding}
+use Rattle.snap_theory.specs.Faults.{least_exceeding}
 use Rattle.snap_report.proofs.Pieces.{piece_added}
 use Rattle.snap_witness.proofs.Excess.{least_exceeded}
 use Rattle.snap_explain.specs.Faults.{against_text}

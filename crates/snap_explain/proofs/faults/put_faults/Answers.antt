@@ -1,4 +1,4 @@
-use Rattle.snap_explain.proofs.Named.{integrity_is_named, proximity_is_named, read_is_named, write_is_named}
+use Rattle.snap_witness.proofs.Reported.{integrity_is_named, proximity_is_named, read_is_named, write_is_named}
 use Rattle.snap_explain.proofs.faults.put_faults.Goals as goal
 
 pub put_first-requires-clause-named : goal.put_first-requires-clause-named

@@ -1,30 +1,39 @@
-use Rattle.std.proofs.Common.{◌∙◌, ap, arith, max, sym, subst, rules, List, ℕ}
-use Rattle.snap_core.specs.Counting.{failures_in, inner_of}
-use Rattle.snap_files.specs.Files.{IsPage, Told, told_text}
-use Rattle.snap_files.proofs.Pages.{next_checked, next_cut, sent_front, sent_whole, some_checked, told_by}
+use Rattle.std.proofs.Common.{◌∙◌, ap, arith, length, rules, subst, sym}
+use Rattle.std.proofs.lemmas.Slice.Zip.{AllZip-long}
+use Rattle.snap_files.specs.Files.{AreAnswered}
+use Rattle.snap_files.proofs.Pages.{all_checked, round_checked, round_cut, round_written, some_checked, whatever_error}
 use Rattle.snap_files.proofs.files.check_all.Goals as goal
 
-pub returns-in_default-clause-some : goal.returns-in_default-clause-some
-returns-in_default-clause-some g c =
-    some_checked _ _ _ _ _ _ _ _ _ _ _ (omega (arith, c.loop-name-test.true)) c.loop-name.invariant.all
+pub write_round-requires : goal.write_round-requires
+write_round-requires g c =
+    ap length c.deref.ensures.value ∙ AllZip-long _ c.round_at-round.result.now c.in_ok-pages.pages.items c.in_ok-pages.ensures
 
-pub returns-then-is_err-clause-some : goal.returns-then-is_err-clause-some
-returns-then-is_err-clause-some g c =
-    let page = subst (λ (name : List ℕ). IsPage (g.O.Opener.opens c.args.opener.now) c.args.options name c.check_name-answer.result.0 c.check_name-answer.result.1.items) c.deref.ensures c.check_name-answer.ensures in
-    let sent = rw c.deref-in-loop-name-3.ensures.value at c.send-in-loop-name.ensures.bytes in
-    next_cut _ _ _ _ _ _ _ _ _ _ _ _ c.name-item.result c.check_name-answer.result.0 c.check_name-answer.result.1.items c.loop-name-test.true c.name-item.is c.loop-name.invariant.all page
-    (sent_front _ _ _ c.send-in-loop-name.result sent)
-
-pub loop-name-preserved : goal.loop-name-preserved
-loop-name-preserved g c =
-    let page = subst (λ (name : List ℕ). IsPage (g.O.Opener.opens c.args.opener.now) c.args.options name c.check_name-answer.result.0 c.check_name-answer.result.1.items) c.deref.ensures c.check_name-answer.ensures in
-    let sent = rw c.deref-in-loop-name-3.ensures.value at c.send-in-loop-name.ensures.bytes in
-    let whole = sent_whole _ _ _ c.send-in-loop-name.result sent (sym c.is_err.ensures.value ∙ c.if-is_err.false) in
-    let line = c.deref-in-loop-name-2.ensures.value ∙ c.in-Ok.ensures ∙ ap (λ (name : List ℕ). told_text c.args.options name c.check_name-answer.result.0) c.deref-in-loop-name.ensures in
-    let told = subst (λ (text : List ℕ). Told (g.E.Write.contents (inner_of c.loop-name.errors)) (g.E.Write.contents (inner_of c.send.new.self)) (failures_in c.loop-name.errors) (failures_in c.send.new.self) text) line
-    (told_by _ _ _ _ _ c.send.result c.send.ensures.bytes c.send.ensures.counts) in
-    let code = c.max-greatest.ensures ∙ ap (λ n. max n c.loop-name.greatest) c.code_of.ensures in
+pub loop-from-preserved : goal.loop-from-preserved
+loop-from-preserved g c =
+    let opens = g.O.Opener.opens c.args.opener.now in
+    let options = c.args.options in
+    let round = c.round_at-round.result.now in
+    let within = c.round_at-round.ensures.within in
+    let answered = subst (λ ps. AreAnswered opens options round ps) (sym c.deref.ensures.value) c.in_ok-pages.ensures in
     record {
-      all = rw code (next_checked _ _ _ _ _ _ _ _ _ _ _ _ _ _ c.name-item.result c.check_name-answer.result.0 c.check_name-answer.result.1.items c.loop-name-test.true c.name-item.is c.loop-name.invariant.all page whole told);
+      within = within;
+      all = rw (c.max-greatest.ensures) (round_checked opens options c.args.names.now c.loop-from.from round _ _ _ _ _ _ _ _ _ _ _ c.round_at-round.ensures.names c.loop-from.invariant.all
+          (round_written opens options round c.deref.result.now _ _ _ _ _ _ _ answered c.in_ok-code.ensures.all));
       count = search rules;
     }
+
+pub returns-in_err-pages-clause-some : goal.returns-in_err-pages-clause-some
+returns-in_err-pages-clause-some g c =
+    whatever_error _ c.from_residual.result (some_checked _ _ c.args.names.now c.loop-from.from _ _ _ _ _ _ _ c.loop-from.invariant.within c.loop-from.invariant.all)
+
+pub returns-in_err-code-clause-some : goal.returns-in_err-code-clause-some
+returns-in_err-code-clause-some g c =
+    let opens = g.O.Opener.opens c.args.opener.now in
+    let options = c.args.options in
+    let round = c.round_at-round.result.now in
+    let answered = subst (λ ps. AreAnswered opens options round ps) (sym c.deref.ensures.value) c.in_ok-pages.ensures in
+    whatever_error _ c.from_residual-in_err-code.result (round_cut opens options c.args.names.now c.loop-from.from round c.deref.result.now _ _ _ _ _ _ _ _ c.round_at-round.ensures.within c.round_at-round.ensures.names
+    c.loop-from.invariant.all answered c.in_err-code.ensures.some)
+
+pub returns-clause-all : goal.returns-clause-all
+returns-clause-all g c = all_checked _ _ _ c.loop-from.from _ _ _ _ _ _ _ (omega (arith, c.loop-from-test.false)) c.loop-from.invariant.all

@@ -3,7 +3,7 @@ use Rattle.std.proofs.lemmas.List.{get_or_default, drop_all, get_or-replicate, l
 use Rattle.snap_index.specs.declared.call.Call.{Call}
 use Rattle.snap_core.specs.Events.{process_of}
 use Rattle.snap_core.specs.Calls.{calls_of, calls_from, next_place}
-use Rattle.snap_index.specs.Bare.{bare}
+use Rattle.snap_index.specs.IndexedCalls.{as_indexed}
 use Rattle.snap_index.proofs.Back.{placed, so_far_more}
 use Rattle.snap_index.proofs.listing.list_calls.Goals as goal
 use Rattle.snap_index.proofs.listing.list_calls.Goals.{in-Some+in_ok-push, in_default}
@@ -17,7 +17,7 @@ loop-i-init c =
       within = omega arith;
       room = λ i e l. omega (arith, ap length table, length-replicate {A = Option ℕ} n None, c.process_limit.ensures i e l);
       places = λ p l. ap (λ z. get_or z p None) table ∙ get_or-replicate n p None None (omega (arith, l, ap length table, length-replicate {A = Option ℕ} n None)) ∙ sym (ap (next_place p (length c.args.events.now)) empty);
-      so_far = ap reverse c.in_ok-calls.ensures.items ∙ sym (ap (λ z. map bare (calls_from 0 (length c.args.events.now) z)) empty);
+      so_far = ap reverse c.in_ok-calls.ensures.items ∙ sym (ap (λ z. map as_indexed (calls_from 0 (length c.args.events.now) z)) empty);
     }
 
 pub loop-i-preserved : goal.loop-i-preserved
@@ -41,4 +41,4 @@ pub returns : goal.returns
 unfolding calls_of
 returns c =
     let zero : c.loop-i.i ≡ 0 = omega arith in
-    c.reverse.ensures.items ∙ c.loop-i.invariant.so_far ∙ ap (λ z. map bare (calls_from 0 z (drop z c.args.events.now))) zero
+    c.reverse.ensures.items ∙ c.loop-i.invariant.so_far ∙ ap (λ z. map as_indexed (calls_from 0 z (drop z c.args.events.now))) zero

@@ -2,12 +2,12 @@ use Rattle.std.proofs.Common.{◌≡◌, ◌<◌, false, length, get_or, replica
 use Rattle.std.proofs.lemmas.Bool.{false≢true}
 use Rattle.snap_core.specs.Calls.{calls_of, call_numbered, nobody}
 use Rattle.snap_core.proofs.Histories.{numbered_calls}
-use Rattle.snap_index.specs.Bare.{bare}
+use Rattle.snap_index.specs.IndexedCalls.{as_indexed}
 use Rattle.snap_index.specs.declared.call.Call.{Call}
 use Rattle.snap_order.proofs.State.{IsState, Passed, passed, may_follow, next_state, first_state, last_state}
 use Rattle.snap_order.proofs.Places.{found, not_lost}
 use Rattle.snap_order.proofs.Checked.{bytes_of, within, Puts, puts_update, puts_nothing, read_false}
-use Rattle.snap_order.proofs.Laws.{legal_order_has_no_fault}
+use Rattle.snap_theory.proofs.OrderLaws.{legal_order_has_no_fault}
 use Rattle.snap_order.proofs.checking.check_order.Goals as goal
 use Rattle.snap_order.proofs.checking.check_order.Goals.{then-index-via-then-index, then-index-via-else-index+then-not-may_stand, in-Update, in_default-op}
 
@@ -22,17 +22,17 @@ pub returns-in_default-clause-exact : goal.returns-in_default-clause-exact
 returns-in_default-clause-exact c =
     let es = c.args.index.now in (
       λ t. absurd (false≢true t),
-      λ h. absurd (let q = passed (calls_of es) c.args.order.now c.loop-number.number-index c.loop-number.seen.items c.loop-number.last c.loop-number.latest (numbered_calls es) c.loop-number.invariant c.loop-number-test.true h in not_lost bare (calls_of es) (get_or c.args.order.now c.loop-number.number-index 0) nobody q.below c.in_default.ensures),
+      λ h. absurd (let q = passed (calls_of es) c.args.order.now c.loop-number.number-index c.loop-number.seen.items c.loop-number.last c.loop-number.latest (numbered_calls es) c.loop-number.invariant c.loop-number-test.true h in not_lost as_indexed (calls_of es) (get_or c.args.order.now c.loop-number.number-index 0) nobody q.below c.in_default.ensures),
     )
 
 pub index-requires : goal.index-requires
-index-requires c = let l = within bare (calls_of c.args.index.now) (get_or c.args.order.now c.loop-number.number-index 0) c.in-Some.call.now c.in-Some.ensures in omega (arith, l, c.loop-number.invariant.seen_size)
+index-requires c = let l = within as_indexed (calls_of c.args.index.now) (get_or c.args.order.now c.loop-number.number-index 0) c.in-Some.call.now c.in-Some.ensures in omega (arith, l, c.loop-number.invariant.seen_size)
 
 pub index_mut-requires : goal.index_mut-requires
-index_mut-requires c = let l = within bare (calls_of c.args.index.now) (get_or c.args.order.now c.loop-number.number-index 0) c.in-Some.call.now c.in-Some.ensures in omega (arith, l, c.loop-number.invariant.seen_size)
+index_mut-requires c = let l = within as_indexed (calls_of c.args.index.now) (get_or c.args.order.now c.loop-number.number-index 0) c.in-Some.call.now c.in-Some.ensures in omega (arith, l, c.loop-number.invariant.seen_size)
 
 pub may_stand-requires-clause-number : goal.may_stand-requires-clause-number
-may_stand-requires-clause-number c = within bare (calls_of c.args.index.now) (get_or c.args.order.now c.loop-number.number-index 0) c.in-Some.call.now c.in-Some.ensures
+may_stand-requires-clause-number c = within as_indexed (calls_of c.args.index.now) (get_or c.args.order.now c.loop-number.number-index 0) c.in-Some.call.now c.in-Some.ensures
 
 pub returns-then-index-clause-exact : goal.returns-then-index-clause-exact
 returns-then-index-clause-exact c =
@@ -52,8 +52,8 @@ loop-number-preserved c =
     let calls = calls_of es in
     let n = get_or c.args.order.now c.loop-number.number-index 0 in
     let s = c.loop-number.invariant in
-    let below : n < length calls = within bare calls n c.in-Some.call.now c.in-Some.ensures in
-    let is = found bare calls n nobody c.in-Some.call.now below c.in-Some.ensures in
+    let below : n < length calls = within as_indexed calls n c.in-Some.call.now c.in-Some.ensures in
+    let is = found as_indexed calls n nobody c.in-Some.call.now below c.in-Some.ensures in
     let unseen : get_or c.loop-number.seen.items n false ≡ false = read_false c.loop-number.seen.items n c.index.result.now (omega (arith, below, s.seen_size)) c.index.ensures ∙ c.if-index.false in
     let m = may_follow calls c.args.order.now c.loop-number.number-index n c.loop-number.seen.items c.loop-number.last c.loop-number.latest (numbered_calls es) (bytes_of es c.event_count-events.ensures.kept) s below unseen (c.may_stand.ensures.0 c.if-not-may_stand.false) in
     let written : Puts (call_numbered calls n) c.loop-number.last c.match-call-2.last = elim c.match-call-2.branch [

@@ -5,11 +5,11 @@ use Rattle.snap_core.specs.declared.event.Event.{Event}
 use Rattle.snap_core.specs.Calls.{calls_of}
 use Rattle.snap_core.proofs.Fits.{bytes_of_events}
 use Rattle.snap_core.proofs.Histories.{are_calls}
-use Rattle.snap_order.specs.Keys.{printed_keys}
-use Rattle.snap_order.specs.Levels.{printed_order}
+use Rattle.snap_theory.specs.Keys.{printed_keys}
+use Rattle.snap_theory.specs.Levels.{printed_order}
 use Rattle.snap_order.proofs.Sorting.{sorted_keys}
-use Rattle.snap_order.proofs.Keys.{keys_give_order}
-use Rattle.snap_order.proofs.Laws.{prints_legal_order}
+use Rattle.snap_theory.proofs.Keys.{keys_give_order}
+use Rattle.snap_theory.proofs.OrderLaws.{prints_legal_order}
 use Rattle.snap_order.proofs.printing.build_along.Goals as goal
 
 pub returns-clause-printed : goal.returns-clause-printed

@@ -1,7 +1,7 @@
 use Rattle.snap_core.specs.Counting.{inner_of}
 use Rattle.snap_csv.specs.Records.{HaveRecords}
 use Rattle.snap_runs.proofs.Explaining.{explained_refusal, explained_text}
-use Rattle.snap_runs.proofs.Runs.{with_text}
+use Rattle.snap_check.proofs.Runs.{with_text}
 use Rattle.snap_runs.proofs.explain.explain_input.Goals as goal
 
 pub returns-in-Ok-clause-answer : goal.returns-in-Ok-clause-answer

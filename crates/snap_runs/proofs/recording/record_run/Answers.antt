@@ -1,6 +1,6 @@
 use Rattle.std.proofs.Common.{subst, sym}
 use Rattle.snap_core.specs.Counting.{inner_of}
-use Rattle.snap_runs.specs.RecordRuns.{IsRecorded, WroteAs}
+use Rattle.snap_runs.specs.Recordings.{IsRecorded, WroteAs}
 use Rattle.snap_runs.proofs.Recordings.{report_written, judged_atomic}
 use Rattle.snap_runs.proofs.recording.record_run.Goals as goal
 

@@ -1,7 +1,7 @@
 use Rattle.std.proofs.Common.{◌≡◌, ◌++◌, take}
 use Rattle.snap_core.specs.Calls.{calls_of}
 use Rattle.snap_witness.specs.Places.{places_of}
-use Rattle.snap_witness.specs.Witness.{updates_kept}
+use Rattle.snap_theory.specs.Witness.{updates_kept}
 use Rattle.snap_witness.proofs.calls.push_updates.Given as goal
 
 abbrev pub invariant-loop-i : goal.invariant-loop-i

@@ -1,8 +1,8 @@
 use Rattle.std.proofs.Common.{◌≡◌, None, sym, ap, ◌∙◌}
 use Rattle.std.specs.Option.{option_map, option_or}
 use Rattle.snap_core.specs.Calls.{calls_of}
-use Rattle.snap_witness.specs.Faults.{fault_witness}
-use Rattle.snap_witness.specs.First.{first_integrity, first_proximity, first_read, first_write}
+use Rattle.snap_theory.specs.FaultWitnesses.{fault_witness}
+use Rattle.snap_theory.specs.First.{first_integrity, first_proximity, first_read, first_write}
 use Rattle.snap_witness.proofs.Tallied.{integrity_told, proximity_told, read_told, write_told, no_integrity, no_proximity, no_read, no_write, before, behind}
 use Rattle.snap_witness.proofs.finding.first_witness.Goals as goal
 

@@ -1,7 +1,7 @@
 use Rattle.std.proofs.Common.{◌≡◌, ◌++◌, [], ◌∷◌, Some, None, sym, ap, ◌∙◌, append-nil}
 use Rattle.snap_core.specs.Calls.{calls_of, call_numbered, shown_number}
-use Rattle.snap_conditions.specs.Faults.{least_exceeding}
-use Rattle.snap_witness.specs.Faults.{shown_update}
+use Rattle.snap_theory.specs.Faults.{least_exceeding}
+use Rattle.snap_theory.specs.FaultWitnesses.{shown_update}
 use Rattle.snap_witness.proofs.Excess.{least_exceeded, number_shown}
 use Rattle.snap_witness.proofs.finding.push_excess.Goals as goal
 

@@ -1,8 +1,8 @@
 use Rattle.std.proofs.Common.{◌≡◌, true, false, take, sym, ap, ◌∙◌, append-nil}
 use Rattle.snap_core.specs.declared.event.Event.TheVariants.{BeginView}
 use Rattle.snap_core.specs.Refusals.{refusal_of}
-use Rattle.snap_witness.specs.Kept.{kept_from, kept_event, is_among}
-use Rattle.snap_witness.specs.Witness.{numbers_of}
+use Rattle.snap_theory.specs.Kept.{kept_from, kept_event, is_among}
+use Rattle.snap_theory.specs.Witness.{numbers_of}
 use Rattle.snap_witness.proofs.Steps.{none_refused, kept_next}
 use Rattle.snap_witness.proofs.keeping.keep.Goals as goal
 use Rattle.snap_witness.proofs.keeping.keep.Goals.{then-is_among+in_ok-event+in_ok-append, else-is_among}

@@ -1,6 +1,6 @@
 use Rattle.std.proofs.Common.{◌≡◌, take}
-use Rattle.snap_witness.specs.Kept.{kept_from, is_among}
-use Rattle.snap_witness.specs.Witness.{numbers_of}
+use Rattle.snap_theory.specs.Kept.{kept_from, is_among}
+use Rattle.snap_theory.specs.Witness.{numbers_of}
 use Rattle.snap_witness.proofs.keeping.keep.Given as goal
 
 abbrev pub invariant-loop-i : goal.invariant-loop-i

@@ -3,9 +3,9 @@ use Rattle.std.specs.Prelude.{◌==◌}
 use Rattle.std.proofs.lemmas.Bool.{eq-eqb, ne_eqb}
 use Rattle.std.proofs.lemmas.Grind.{common_steps}
 use Rattle.snap_core.specs.declared.entry.Entry.{Entry}
-use Rattle.snap_witness.specs.Kept.{alone}
-use Rattle.snap_witness.specs.Kept.{kept_entries as spec_kept_entries}
-use Rattle.snap_witness.specs.Witness.{numbers_of}
+use Rattle.snap_theory.specs.Kept.{alone}
+use Rattle.snap_theory.specs.Kept.{kept_entries as spec_kept_entries}
+use Rattle.snap_theory.specs.Witness.{numbers_of}
 use Rattle.snap_witness.proofs.Steps.{kept_more}
 use Rattle.snap_witness.proofs.keeping.kept_entries.Goals as goal
 use Rattle.snap_witness.proofs.keeping.kept_entries.Goals.{then-e-number_of+in_ok-push, else-e-number_of}

@@ -1,6 +1,6 @@
 use Rattle.std.proofs.Common.{◌≡◌, take}
-use Rattle.snap_witness.specs.Kept.{kept_entries as spec_kept_entries}
-use Rattle.snap_witness.specs.Witness.{numbers_of}
+use Rattle.snap_theory.specs.Kept.{kept_entries as spec_kept_entries}
+use Rattle.snap_theory.specs.Witness.{numbers_of}
 use Rattle.snap_witness.proofs.keeping.kept_entries.Given as goal
 
 abbrev pub invariant-loop-i : goal.invariant-loop-i

@@ -1,7 +1,7 @@
 use Rattle.std.proofs.Common.{◌≡◌, None, Some, sym, ap, ◌∙◌}
 use Rattle.snap_core.specs.Entries.{view_refusal}
-use Rattle.snap_witness.specs.Kept.{kept_entries as spec_kept_entries}
-use Rattle.snap_witness.specs.Witness.{numbers_of}
+use Rattle.snap_theory.specs.Kept.{kept_entries as spec_kept_entries}
+use Rattle.snap_theory.specs.Witness.{numbers_of}
 use Rattle.snap_witness.proofs.Steps.{kept_is_view}
 use Rattle.snap_witness.proofs.keeping.kept_view.Goals as goal
 

@@ -1,4 +1,4 @@
-use Rattle.std.proofs.Common.{◌≡◌, ◌∙◌, List, ℕ, ap, codes, map, subst}
+use Rattle.std.proofs.Common.{◌≡◌, ◌∙◌, List, ap, codes, map, subst}
 use Rattle.std.specs.Prelude.{IfOk, string_bytes}
 use Rattle.clap.specs.Words.{Text, found_of}
 use Rattle.clap.proofs.WalkLemmas.{raw_values-rows}

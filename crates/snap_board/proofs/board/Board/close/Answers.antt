@@ -1,9 +1,9 @@
 use Rattle.std.proofs.Common.{◌≡◌, ℕ, length, map, true≢false, refl, ap, ◌∙◌, sym, subst}
 use Rattle.snap_account.specs.Rule.{Boarded}
 use Rattle.snap_board.specs.Boards.{BoardView, GatheredView}
-use Rattle.snap_account.specs.Hands.{brief}
-use Rattle.snap_board.specs.Regular.{Settled, ScansSettled, TicksSettled}
-use Rattle.snap_board.specs.Slots.{ins, AllIn, HasLast}
+use Rattle.snap_account.specs.Seats.{brief}
+use Rattle.snap_board.specs.Settled.{Settled, ScansSettled, TicksSettled}
+use Rattle.snap_board.specs.Slots.{desks_in, AllIn, HasLast}
 use Rattle.snap_board.proofs.Closing.{settles, settles_scans, settles_ticks}
 use Rattle.snap_board.proofs.Ordering.{close_history, close_completed, close_regular}
 use Rattle.snap_board.proofs.Monotone.{close_monotone}
@@ -37,7 +37,7 @@ returns-clause-settled c _ =
     subst (λ (b : BoardView). Settled b.desks c.args.gathered.accounts) c.self.view_is
     (subst (λ (g : GatheredView). Settled self.desks g.accounts) c.gathered.view_is
     (settles self.desks old.seat.id old.seat.me.0 old.slots v.0 (subst (λ (z : ℕ). Boarded z v.0) c.self.invariant.keyed v.1.0) v.1.1
-    (c.gathered.invariant.matches ∙ ap (λ z. ins z old.slots) at.1) (subst (λ (z : ℕ). AllIn z old.slots) at.1 (c.if-not-all_in.ensures.0 refl))))
+    (c.gathered.invariant.matches ∙ ap (λ z. desks_in z old.slots) at.1) (subst (λ (z : ℕ). AllIn z old.slots) at.1 (c.if-not-all_in.ensures.0 refl))))
 
 pub returns-clause-ticks : goal.returns-clause-ticks
 returns-clause-ticks c _ =
@@ -46,7 +46,7 @@ returns-clause-ticks c _ =
     let at = gathered_at self _ old _ c.self.view_is c.gathered.view_is c.requires in
     subst (λ (g : GatheredView). TicksSettled g.accounts) c.gathered.view_is
     (settles_ticks self.desks old.seat.id old.seat.me.0 old.slots v.0 (subst (λ (z : ℕ). Boarded z v.0) c.self.invariant.keyed v.1.0) v.1.1
-    (c.gathered.invariant.matches ∙ ap (λ z. ins z old.slots) at.1) (subst (λ (z : ℕ). AllIn z old.slots) at.1 (c.if-not-all_in.ensures.0 refl)))
+    (c.gathered.invariant.matches ∙ ap (λ z. desks_in z old.slots) at.1) (subst (λ (z : ℕ). AllIn z old.slots) at.1 (c.if-not-all_in.ensures.0 refl)))
 
 pub returns-clause-history : goal.returns-clause-history
 returns-clause-history c e = close_history c.args.self.desks c.args.gathered.accounts (returns-clause-settled c e)
@@ -80,4 +80,4 @@ returns-clause-last c =
     let n = at.1 ∙ ap (λ (b : BoardView). b.desks) c.self.view_is in
     let hand = ap (λ (g : GatheredView). g.accounts) c.gathered.view_is in
     last_stores c.args.self.desks (record { desks = old.desks; last = c.last_stores-last.result }) old.slots c.args.gathered.accounts n (subst (λ (z : ℕ). HasLast z old.slots c.last_stores-last.result) n c.last_stores-last.ensures.0) (returns-clause-settled c refl)
-    (ap (map brief) (sym hand) ∙ c.gathered.invariant.matches ∙ ap (λ z. ins z old.slots) n)
+    (ap (map brief) (sym hand) ∙ c.gathered.invariant.matches ∙ ap (λ z. desks_in z old.slots) n)

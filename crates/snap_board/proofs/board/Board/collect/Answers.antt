@@ -5,7 +5,7 @@ use Rattle.snap_core.specs.Entries as entries
 use Rattle.snap_account.specs.Plays.{Seated, entry_of}
 use Rattle.std.proofs.lemmas.List.{length-map}
 use Rattle.snap_board.specs.Desks.{number_shown}
-use Rattle.snap_account.specs.Hands.{answered_of, desk_of, has_read, pairs, Told}
+use Rattle.snap_account.specs.Seats.{answered_of, desk_of, has_read, pairs, IsUpToDate}
 use Rattle.snap_account.specs.Rule.{first_step}
 use Rattle.snap_account.specs.Plays.{Above, ReadAll}
 use Rattle.snap_board.specs.declared.board.Desk.TheInside as fields
@@ -84,10 +84,10 @@ done : (desk : fields.Inside) (ok : IsDesk desk) (t1 t3 : ℕ) (me1 me2 me3 : Se
 done desk ok t1 t3 me1 me2 me3 xs first second third = collect_done desk.seat.me me1 me2 me3 desk.desk (answered_of desk.seat.me.0) desk.kept.ticks t1 t3 xs ok.alone first second third
 
 -- what the desk had before is what the view was told of
-told_of : (desk : fields.Inside) (ok : IsDesk desk) (t1 : ℕ) (me1 : Seated) (xs : List (ℕ × ℕ)) → me1 ≡ (first_step (begun_view t1) desk.seat.me.0, desk.seat.me.1) → Told (desk_of me1.0) (answered_of me1.0) xs → Told desk.desk (answered_of desk.seat.me.0) xs
+told_of : (desk : fields.Inside) (ok : IsDesk desk) (t1 : ℕ) (me1 : Seated) (xs : List (ℕ × ℕ)) → me1 ≡ (first_step (begun_view t1) desk.seat.me.0, desk.seat.me.1) → IsUpToDate (desk_of me1.0) (answered_of me1.0) xs → IsUpToDate desk.desk (answered_of desk.seat.me.0) xs
 told_of desk ok t1 me1 xs first told =
     let is = viewing_after desk.seat.me me1 desk.desk (answered_of desk.seat.me.0) desk.kept.ticks t1 ok.alone first in
-    subst (λ (m : Seated). Told (desk_of m.0) (answered_of m.0) xs) is told
+    subst (λ (m : Seated). IsUpToDate (desk_of m.0) (answered_of m.0) xs) is told
 
 pub invariant_of-desk : goal.invariant_of-desk
 invariant_of-desk c =

@@ -1,8 +1,8 @@
 use Rattle.std.proofs.Common.{◌≡◌, ◌≤◌, refl, length, map, set, Some, sym, ap, ◌∙◌, subst, arith, length-set}
-use Rattle.snap_account.specs.Hands.{brief}
+use Rattle.snap_account.specs.Seats.{brief}
 use Rattle.snap_account.specs.Rule.{of_desk}
 use Rattle.snap_account.specs.Plays.{Seated, merge}
-use Rattle.snap_board.specs.Slots.{ins, Smalls}
+use Rattle.snap_board.specs.Slots.{desks_in, AreSmall}
 use Rattle.snap_account.proofs.Seats.{joins, looks, none_there, length-insert}
 use Rattle.snap_board.proofs.Slotting.{put_in, free_slot, smalls_put}
 use Rattle.snap_board.proofs.Fields.{gathered_at, desk_at}
@@ -40,8 +40,8 @@ invariant_of-result c =
     record {
       bare = ap (λ m. m.1) me ∙ good.bare;
       few = (good.few.0, length-set slots c.from.result (Some desk.kept) ∙ eight);
-      matches = ap (λ m. map brief m.0) me ∙ put_in old.desks desk.desk slots desk.kept old.seat.me.0 desk.seat.me good.matches (omega arith) (omega arith) free ok.alone ok.stored ∙ ap (ins old.desks) (sym set_at);
-      small = subst Smalls (sym set_at) (smalls_put slots desk.desk desk.kept good.small ok.small (omega arith));
+      matches = ap (λ m. map brief m.0) me ∙ put_in old.desks desk.desk slots desk.kept old.seat.me.0 desk.seat.me good.matches (omega arith) (omega arith) free ok.alone ok.stored ∙ ap (desks_in old.desks) (sym set_at);
+      small = subst AreSmall (sym set_at) (smalls_put slots desk.desk desk.kept good.small ok.small (omega arith));
     }
 
 pub returns-clause-account : goal.returns-clause-account

@@ -1,6 +1,6 @@
 use Rattle.std.proofs.Common.{ℕ, ◌+◌, List, [], length, sym, ap, ◌∙◌, subst, arith}
 use Rattle.std.proofs.lemmas.List.{length_push, length-map}
-use Rattle.snap_account.specs.Hands.{showing, pairs, doing_of, desk_of, answered_of, ticks_of, Told}
+use Rattle.snap_account.specs.Seats.{showing, pairs, doing_of, desk_of, answered_of, ticks_of, IsUpToDate}
 use Rattle.snap_account.specs.Plays.{entry_of}
 use Rattle.snap_account.proofs.Moves.{loads_at}
 use Rattle.snap_board.specs.Boards.{BoardView}
@@ -28,9 +28,9 @@ words-preserved c =
     let items = c.push_reserved.ensures.items in
     record {
       at = c.load-word.ensures.0 ∙ i.at;
-      reads = has_read_more me0 c.words.seat.me now ws n i.reads c.requires.ready.1 told.0 ∙ ap (λ l. Rattle.snap_account.specs.Hands.has_read me0 (pairs l)) (sym items);
+      reads = has_read_more me0 c.words.seat.me now ws n i.reads c.requires.ready.1 told.0 ∙ ap (λ l. Rattle.snap_account.specs.Seats.has_read me0 (pairs l)) (sym items);
       count = ap length items ∙ length_push ws n ∙ ap (λ z. z + 1) i.count;
       room = omega (arith, i.room, c.push_reserved.ensures.capacity);
-      told = subst (λ (l : List ℕ). Told (desk_of me0.0) (answered_of me0.0) (pairs l)) (sym items)
+      told = subst (λ (l : List ℕ). IsUpToDate (desk_of me0.0) (answered_of me0.0) (pairs l)) (sym items)
           (told_more me0 c.words.seat.me ws (c.from.result + 1) n i.reads c.requires.ready.1 (omega (arith, c.from.ensures, i.count)) told.1 i.told);
     }

@@ -1,5 +1,5 @@
 use Rattle.std.proofs.Common.{◌≡◌, ◌≤◌, length, vec_capacity}
-use Rattle.snap_account.specs.Hands.{has_read, pairs, desk_of, answered_of, Told}
+use Rattle.snap_account.specs.Seats.{has_read, pairs, desk_of, answered_of, IsUpToDate}
 use Rattle.snap_board.proofs.board.Board.load_words.Given as goal
 
 abbrev pub invariant-words : goal.invariant-words
@@ -8,5 +8,5 @@ invariant-words l = record {
   reads : l.seat.me ≡ has_read l.initial.seat.me (pairs l.words.items);
   count : length l.words.items ≡ l.k;
   room : l.self.desks ≤ vec_capacity l.words;
-  told : Told (desk_of l.initial.seat.me.0) (answered_of l.initial.seat.me.0) (pairs l.words.items);
+  told : IsUpToDate (desk_of l.initial.seat.me.0) (answered_of l.initial.seat.me.0) (pairs l.words.items);
 }

@@ -1,5 +1,5 @@
 use Rattle.std.proofs.Common.{◌+◌, map, ap, ◌∙◌, arith}
-use Rattle.snap_account.specs.Hands.{brief}
+use Rattle.snap_account.specs.Seats.{brief}
 use Rattle.snap_board.proofs.Closing.{begins}
 use Rattle.snap_board.proofs.Slotting.{ins_fresh, smalls_fresh, zero_words}
 use Rattle.snap_board.proofs.board.Board.open.Goals as goal

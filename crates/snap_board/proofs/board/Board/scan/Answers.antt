@@ -13,7 +13,7 @@ use Rattle.snap_board.specs.declared.record.RecordedOp.TheVariants as Kind
 use Rattle.snap_account.specs.Calls.{latest, begun_view, ended, gave_up}
 use Rattle.snap_account.specs.Rule.{first_step}
 use Rattle.snap_board.specs.Desks.{records_at, lost_in, collects_in, number_shown}
-use Rattle.snap_account.specs.Hands.{idle, pairs, has_read, one_desk, answered_of, desk_of, doing_of, ticks_of, begun_of, Told}
+use Rattle.snap_account.specs.Seats.{idle, pairs, has_read, one_desk, answered_of, desk_of, doing_of, ticks_of, begun_of, IsUpToDate}
 use Rattle.snap_account.specs.Plays.{Seated, entry_of, Above, ReadAll}
 use Rattle.snap_account.specs.Tries.{IsRead, IsTrying, HasAgreed, made_of, middle_in, middles_made}
 use Rattle.snap_account.proofs.Accounts.{rec_with, latest-push}
@@ -58,7 +58,7 @@ try_until-requires-clause-read c =
     let me1 = viewing_after desk.seat.me c.fetch_add-begun.new.seat.me desk.desk rs desk.kept.ticks t1 ok.alone c.fetch_add-begun.ensures.2.0 in
     let r = get_ready desk.seat.me _ c.load_words.new.seat.me desk.desk rs desk.kept.ticks t1 (pairs ws) ok.alone c.fetch_add-begun.ensures.2.0 c.load_words.ensures.read in (
       length-map ws entry_of ∙ c.load_words.ensures.all,
-      subst (λ (m : Seated). Told (desk_of m.0) (answered_of m.0) (pairs ws)) (sym r.me) (subst (λ (m : Seated). Told (desk_of m.0) (answered_of m.0) (pairs ws)) me1 c.load_words.ensures.told),
+      subst (λ (m : Seated). IsUpToDate (desk_of m.0) (answered_of m.0) (pairs ws)) (sym r.me) (subst (λ (m : Seated). IsUpToDate (desk_of m.0) (answered_of m.0) (pairs ws)) me1 c.load_words.ensures.told),
     )
 
 -- what the desk had before is what a collect was told of

@@ -6,7 +6,7 @@ use Rattle.snap_board.specs.Boards.{BoardView}
 use Rattle.snap_board.specs.Fields.{IsDesk}
 use Rattle.snap_board.proofs.Fields.{desk_at}
 use Rattle.snap_board.specs.declared.record.RecordedOp.TheVariants as Kind
-use Rattle.snap_account.specs.Hands.{answered_of}
+use Rattle.snap_account.specs.Seats.{answered_of}
 use Rattle.snap_account.specs.Calls.{latest, begun_store, wrote, ended}
 use Rattle.snap_account.specs.declared.account.Answer.TheVariants.{Stored}
 use Rattle.snap_account.proofs.Accounts.{rec, latest-push}

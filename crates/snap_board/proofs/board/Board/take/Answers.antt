@@ -1,8 +1,8 @@
 use Rattle.std.proofs.Common.{◌≡◌, map, set, Some, None, sym, ap, ◌∙◌, subst, arith, length-set}
 use Rattle.std.specs.Prelude.{slice_index_or}
-use Rattle.snap_account.specs.Hands.{brief}
+use Rattle.snap_account.specs.Seats.{brief}
 use Rattle.snap_account.specs.Plays.{Seated}
-use Rattle.snap_board.specs.Slots.{ins, brief_of, Smalls}
+use Rattle.snap_board.specs.Slots.{desks_in, brief_of, AreSmall}
 use Rattle.snap_account.proofs.Seats.{splits}
 use Rattle.snap_board.proofs.Slotting.{ins_top, ins_clear, smalls_clear, head_of, out_of, none_in, up_to}
 use Rattle.snap_board.proofs.Fields.{gathered_at}
@@ -17,14 +17,14 @@ invariant_of-gathered c =
     let k = c.in-Some-slots.kept in let s = c.split_seat-seat.ensures in
     let here : slice_index_or old.slots d None ≡ Some k = ap (λ i. slice_index_or old.slots i None) (sym c.from.ensures) ∙ c.in-Some-slots.is in
     let top = ins_top old.desks d old.slots k h.0 here h.2 in
-    let head = head_of old.seat.me.0 (brief_of d k) (ins d old.slots) (good.matches ∙ top) in
+    let head = head_of old.seat.me.0 (brief_of d k) (desks_in d old.slots) (good.matches ∙ top) in
     let clear = ins_clear old.desks d old.slots h.0 h.2 in
     let at : set old.slots c.from-2.result None ≡ set old.slots d None = ap (λ i. set old.slots i None) c.from-2.ensures in
     record {
       bare = ap (λ m. m.1) s.2 ∙ good.bare;
       few = (good.few.0, length-set old.slots c.from-2.result None ∙ good.few.1);
-      matches = ap (λ m. map brief m.0) s.2 ∙ head.3 ∙ sym clear ∙ ap (ins old.desks) (sym at);
-      small = subst Smalls (sym at) (smalls_clear old.slots d good.small);
+      matches = ap (λ m. map brief m.0) s.2 ∙ head.3 ∙ sym clear ∙ ap (desks_in old.desks) (sym at);
+      small = subst AreSmall (sym at) (smalls_clear old.slots d good.small);
     }
 
 pub invariant_of-result : goal.invariant_of-result
@@ -33,7 +33,7 @@ invariant_of-result c =
     let k = c.in-Some-slots.kept in let s = c.split_seat-seat.ensures in
     let here : slice_index_or old.slots d None ≡ Some k = ap (λ i. slice_index_or old.slots i None) (sym c.from.ensures) ∙ c.in-Some-slots.is in
     let top = ins_top old.desks d old.slots k h.0 here h.2 in
-    let out = out_of old.seat.me c.split_seat-seat.result.me d k (ins d old.slots) (good.matches ∙ top) s.4 in
+    let out = out_of old.seat.me c.split_seat-seat.result.me d k (desks_in d old.slots) (good.matches ∙ top) s.4 in
     record { alone = out.0; stored = out.1; small = good.small d k here }
 
 pub returns-in_default-clause-empty : goal.returns-in_default-clause-empty
@@ -52,5 +52,5 @@ returns-clause-account c = rw (← c.gathered.view_is) (
     let k = c.in-Some-slots.kept in let s = c.split_seat-seat.ensures in
     let here : slice_index_or old.slots d None ≡ Some k = ap (λ i. slice_index_or old.slots i None) (sym c.from.ensures) ∙ c.in-Some-slots.is in
     let top = ins_top old.desks d old.slots k h.0 here h.2 in
-    let out = out_of old.seat.me c.split_seat-seat.result.me d k (ins d old.slots) (good.matches ∙ top) s.4 in
+    let out = out_of old.seat.me c.split_seat-seat.result.me d k (desks_in d old.slots) (good.matches ∙ top) s.4 in
     ap (λ (m : Seated). m.0) (sym out.0 ∙ s.4))

@@ -3,7 +3,7 @@ use Rattle.std.proofs.lemmas.List.{length-map}
 use Rattle.std.proofs.lemmas.Bool.{false≢true}
 use Rattle.snap_account.specs.Calls.{middle_open}
 use Rattle.snap_account.specs.Plays.{Seated, entry_of}
-use Rattle.snap_account.specs.Hands.{pairs, desk_of, answered_of, doing_of, ticks_of, Told}
+use Rattle.snap_account.specs.Seats.{pairs, desk_of, answered_of, doing_of, ticks_of, IsUpToDate}
 use Rattle.snap_account.specs.Tries.{IsTrying, HasAgreed}
 use Rattle.snap_board.specs.Boards.{BoardView}
 use Rattle.snap_account.proofs.Calling.{middled_after}
@@ -40,13 +40,13 @@ returns-clause-read c =
     let ws = c.load_words.new.words.items in
     let me1 = middled_after me c.fetch_add.new.seat.me (desk_of me.0) (answered_of me.0) (doing_of me.0) (ticks_of me.0) c.fetch_add.result c.requires.seat.1 c.fetch_add.ensures.2.0 in (
       length-map ws entry_of ∙ c.load_words.ensures.all,
-      subst (λ (m : Seated). Told (desk_of m.0) (answered_of m.0) (pairs ws)) me1 c.load_words.ensures.told,
+      subst (λ (m : Seated). IsUpToDate (desk_of m.0) (answered_of m.0) (pairs ws)) me1 c.load_words.ensures.told,
     )
 
 pub returns-clause-seat : goal.returns-clause-seat
 returns-clause-seat c =
     let t = tried c.args.self.now.desks c.args.seat.now.me _ _ c.fetch_add.result (pairs c.args.before.now.items) (pairs c.load_words.new.words.items) c.requires.seat.1 c.requires.trying c.fetch_add.ensures.2.0 c.load_words.ensures.read in
-    (c.load_words.ensures.seat ∙ c.fetch_add.ensures.0, t.me ∙ ap Rattle.snap_account.specs.Hands.one_desk (sym t.me))
+    (c.load_words.ensures.seat ∙ c.fetch_add.ensures.0, t.me ∙ ap Rattle.snap_account.specs.Seats.one_desk (sym t.me))
 
 pub returns-clause-account : goal.returns-clause-account
 returns-clause-account c =

@@ -6,7 +6,7 @@ use Rattle.snap_core.specs.Calls.{Call, calls_of, views_of}
 use Rattle.snap_conditions.specs.declared.fault.ReadFault.{ReadFault}
 use Rattle.snap_conditions.specs.PartValue.{PartValue}
 use Rattle.snap_conditions.specs.Parts.{part_of, no_part, noted}
-use Rattle.snap_conditions.specs.Faults.{read_fault, read_faults, first_of, stale_count}
+use Rattle.snap_theory.specs.Faults.{read_fault, read_faults, first_of, stale_count}
 use Rattle.snap_conditions.specs.Seen.{view_in}
 use Rattle.snap_conditions.specs.Tally.{reported_read, views_between}
 use Rattle.snap_conditions.specs.Grids.{IsGridOf}

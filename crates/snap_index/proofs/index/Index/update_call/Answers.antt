@@ -1,6 +1,6 @@
 use Rattle.std.proofs.Common.{slice_get, ap, ◌∙◌, arith}
-use Rattle.snap_index.specs.Bare.{number_of}
-use Rattle.snap_index.proofs.BareCalls.{got}
+use Rattle.snap_index.specs.IndexedCalls.{number_of}
+use Rattle.snap_index.proofs.IndexedCalls.{got}
 use Rattle.snap_index.proofs.LookUps.{update_in_row, no_zero}
 use Rattle.snap_index.proofs.index.Index.update_call.Goals as goal
 

@@ -1,6 +1,6 @@
 use Rattle.std.proofs.Common.{length, ap, ◌∙◌, arith}
 use Rattle.snap_core.specs.Calls.{calls_of}
-use Rattle.snap_index.proofs.BareCalls.{word_fits}
+use Rattle.snap_index.proofs.IndexedCalls.{word_fits}
 use Rattle.snap_index.proofs.LookUps.{row_is, row_few}
 use Rattle.snap_index.proofs.index.Index.update_count.Goals as goal
 

@@ -1,5 +1,5 @@
 use Rattle.std.proofs.Common.{arith}
-use Rattle.snap_index.proofs.BareCalls.{word_fits}
+use Rattle.snap_index.proofs.IndexedCalls.{word_fits}
 use Rattle.snap_index.proofs.LookUps.{views_few}
 use Rattle.snap_index.proofs.index.Index.view_count.Goals as goal
 

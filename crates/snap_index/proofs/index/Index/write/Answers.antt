@@ -1,6 +1,6 @@
 use Rattle.std.proofs.Common.{slice_get, option_copied, ap, ◌∙◌, arith}
-use Rattle.snap_index.specs.Bare.{write_of}
-use Rattle.snap_index.proofs.BareCalls.{got}
+use Rattle.snap_index.specs.IndexedCalls.{write_of}
+use Rattle.snap_index.proofs.IndexedCalls.{got}
 use Rattle.snap_index.proofs.LookUps.{update_in_row, no_zero}
 use Rattle.snap_index.proofs.index.Index.write.Goals as goal
 

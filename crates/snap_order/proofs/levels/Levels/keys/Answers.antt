@@ -5,9 +5,9 @@ use Rattle.std.proofs.lemmas.List.Elements.{filter-append}
 use Rattle.snap_core.specs.declared.event.Event.{Event}
 use Rattle.snap_core.specs.Calls.{Call, calls_of, call_numbered, nobody}
 use Rattle.snap_core.proofs.Histories.{numbered_calls}
-use Rattle.snap_order.specs.Levels.{rank, is_printed}
-use Rattle.snap_order.specs.Keys.{key_of, rank_of}
-use Rattle.snap_core.specs.Events.{IsKept}
+use Rattle.snap_theory.specs.Levels.{rank, is_printed}
+use Rattle.snap_theory.specs.Keys.{key_of, rank_of}
+use Rattle.snap_core.specs.Events.{IsBoundedHistory}
 use Rattle.snap_conditions.proofs.Ranges.{few_views}
 use Rattle.snap_order.proofs.Ranking.{word_fits}
 use Rattle.snap_order.proofs.Searches.{view_of_number}
@@ -64,4 +64,4 @@ pub overflow_add-views : goal.overflow_add-views
 overflow_add-views c =
     let es = c.args.self.now in
     let within = (view_of_number es c.loop-number.views c.loop-number.number (c.is_view_at.ensures.0 c.if-is_view_at.true)).0 in
-    word_fits (c.loop-number.views + 1) (omega (arith, within, few_views es (subst IsKept c.self.view_is c.self.invariant.kept)))
+    word_fits (c.loop-number.views + 1) (omega (arith, within, few_views es (subst IsBoundedHistory c.self.view_is c.self.invariant.kept)))

@@ -1,8 +1,8 @@
 use Rattle.std.proofs.Common.{◌≡◌, map, take}
 use Rattle.std.specs.List.{filter}
 use Rattle.snap_core.specs.Calls.{calls_of}
-use Rattle.snap_order.specs.Levels.{is_printed}
-use Rattle.snap_order.specs.Keys.{key_of}
+use Rattle.snap_theory.specs.Levels.{is_printed}
+use Rattle.snap_theory.specs.Keys.{key_of}
 use Rattle.snap_order.proofs.levels.Levels.keys.Given as goal
 
 abbrev pub invariant-loop-number : goal.invariant-loop-number

@@ -6,7 +6,7 @@ use Rattle.snap_core.specs.declared.event.Event.{Event}
 use Rattle.snap_core.specs.Calls.{calls_of, views_of, shown_number}
 use Rattle.snap_conditions.specs.Seen.{view_in}
 use Rattle.snap_conditions.proofs.Ranges.{few_views}
-use Rattle.snap_order.specs.Levels.{update_level}
+use Rattle.snap_theory.specs.Levels.{update_level}
 use Rattle.snap_order.proofs.Counts.{point_counts}
 use Rattle.snap_order.proofs.Ranking.{word_fits}
 use Rattle.snap_order.proofs.Searches.{chain_length, numbers_rise, update_place}

@@ -1,0 +1,65 @@
+-- What a run answers and writes.
+use Rattle.std.proofs.Common.{◌≡◌, inl, inr, ℕ, List, Option, Some, None, refl, subst}
+use Rattle.std.specs.Global.{Vec}
+use Rattle.std.specs.Prelude.{IfSome}
+use Rattle.std.specs.Io.KnownBytes.{Appends, Keeps}
+use Rattle.snap_core.specs.declared.event.Event.{Event}
+use Rattle.snap_core.specs.Sending.{SendsFront}
+use Rattle.snap_text.specs.declared.fault.TextFault.{TextFault}
+use Rattle.snap_csv.specs.Texts.{HasFault, IsText}
+use Rattle.snap_report.specs.Lines.{line_text}
+use Rattle.snap_report.specs.Refusals.{refusal_line}
+use Rattle.snap_check.specs.declared.fault.RunFault.{RunFault}
+use Rattle.snap_check.specs.declared.fault.RunFault.TheVariants as faults
+use Rattle.snap_verdict.specs.declared.status.Status.{Status}
+use Rattle.snap_verdict.specs.declared.status.Status.TheVariants.{Refused}
+use Rattle.snap_verdict.specs.Verdicts.{IsVerdict}
+use Rattle.snap_verdict.specs.Reports.{IsRefused, IsReport}
+use Rattle.snap_check.specs.declared.reading.Reading.{Reading}
+use Rattle.snap_check.specs.declared.reading.Reading.TheVariants.{History, Refusal}
+use Rattle.snap_check.specs.Runs.{FailedBy, FaultCounts, JudgeFaultCounts, Reads, WroteFront, WroteWhole}
+
+-- what follows of a known text from what it was read as
+
+pub with_text : (P Q : List ℕ → Type 0) (known : Option (List ℕ)) → IfSome known P → ((text : List ℕ) → P text → Q text) → IfSome known Q
+with_text P Q None h then = tt
+with_text P Q (Some text) h then = then text h
+
+pub from_history : (Q : List ℕ → Type 0) (known : Option (List ℕ)) (reading : Reading) (events : List Event) → IfSome known (λ text. Reads text reading) → reading ≡ History events → ((text : List ℕ) → IsText text events → Q text) → IfSome known Q
+from_history Q known reading events h is then = with_text (λ text. IsText text events) Q known (subst (λ (r : Reading). IfSome known (λ text. Reads text r)) is h) then
+
+pub from_refusal : (Q : List ℕ → Type 0) (known : Option (List ℕ)) (reading : Reading) (line : Vec ℕ) → IfSome known (λ text. Reads text reading) → reading ≡ Refusal line → ((text : List ℕ) → IsRefused text Refused line.items → Q text) → IfSome known Q
+from_refusal Q known reading line h is then = with_text (λ text. IsRefused text Refused line.items) Q known (subst (λ (r : Reading). IfSome known (λ text. Reads text r)) is h) then
+
+pub judged : (text : List ℕ) (events : List Event) (status : Status) (out : List ℕ) → IsText text events → IsVerdict events status out → IsReport text status out
+judged text events status out reads verdict = inr (record { events = events; history = reads; verdict = verdict })
+
+pub refused : (known : Option (List ℕ)) (place : ℕ) (fault : TextFault) (out : List ℕ) → IfSome known (λ text. HasFault text place fault) → out ≡ line_text (refusal_line place fault) → IfSome known (λ text. IsRefused text Refused out)
+refused None place fault out first e = tt
+refused (Some text) place fault out first e = record { place = place; fault = fault; first = first; answers = refl; writes = e }
+
+pub reported : (known : Option (List ℕ)) (out : List ℕ) → IfSome known (λ text. IsRefused text Refused out) → IfSome known (λ text. IsReport text Refused out)
+reported None out h = tt
+reported (Some text) out h = inl h
+
+keeps_itself : (known : Option (List ℕ)) → Keeps known known
+keeps_itself None = tt
+keeps_itself (Some xs) = refl
+
+pub not_sent : {A : Type 0} (Is : List ℕ → A → List ℕ → Type 0) (known held : Option (List ℕ)) (old new : ℕ) (fault : RunFault) → JudgeFaultCounts old new fault → FailedBy Is known held held fault
+not_sent Is known held old new faults.Read h = keeps_itself held
+not_sent Is known held old new faults.Write h = absurd h
+not_sent Is known held old new faults.Memory h = keeps_itself held
+
+pub not_sent_counts : (old new writer : ℕ) (fault : RunFault) → JudgeFaultCounts old new fault → FaultCounts old new writer writer fault
+not_sent_counts old new writer faults.Read h = (h, refl)
+not_sent_counts old new writer faults.Write h = absurd h
+not_sent_counts old new writer faults.Memory h = (h, refl)
+
+pub sent : {A : Type 0} (Is : List ℕ → A → List ℕ → Type 0) (known held new : Option (List ℕ)) (answer : A) (out : List ℕ) → IfSome known (λ text. Is text answer out) → Appends held new out → IfSome known (λ text. WroteWhole (Is text) held new answer)
+sent Is None held new answer out h a = tt
+sent Is (Some text) held new answer out h a = (out, h, a)
+
+pub front_sent : {A : Type 0} (Is : List ℕ → A → List ℕ → Type 0) (known held new : Option (List ℕ)) (answer : A) (out : List ℕ) → IfSome known (λ text. Is text answer out) → SendsFront held new out → IfSome known (λ text. WroteFront (Is text) held new)
+front_sent Is None held new answer out h a = tt
+front_sent Is (Some text) held new answer out h a = (answer, out, h, a)

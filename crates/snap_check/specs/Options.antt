@@ -1,0 +1,33 @@
+-- What a check writes of which more is asked.
+use Rattle.std.specs.Prelude.{◌≡◌, ◌<◌, ◌≤◌, ◌⊎◌, ℕ, Bool, true, false, List, [], length, Option, Some, None}
+use Rattle.snap_core.specs.declared.event.Event.{Event}
+use Rattle.snap_core.specs.Calls.{calls_of, views_of}
+use Rattle.snap_csv.specs.Texts.{IsText}
+use Rattle.snap_verdict.specs.declared.status.Status.{Status}
+use Rattle.snap_verdict.specs.Reports.{IsRefused}
+use Rattle.snap_verdict.specs.Verdicts.{IsBriefVerdict, IsVerdict}
+use Rattle.snap_check.specs.declared.options.CheckOptions.{CheckOptions}
+
+-- the status of a history and its report, or quiet, of the report the lines of the verdicts alone
+abbrev pub IsWritten : Bool → List Event → Status → List ℕ → Type 0
+IsWritten false events status out = IsVerdict events status out
+IsWritten true events status out = IsBriefVerdict events status out
+
+-- no status exactly where the history has fewer completed views than are asked for; nothing is then written
+abbrev pub IsVerdictWith : CheckOptions → List Event → Option Status → List ℕ → Type 0
+IsVerdictWith options events (Some status) out = (options.views ≤ length (views_of (calls_of events))) × IsWritten options.quiet events status out
+IsVerdictWith options events None out = (length (views_of (calls_of events)) < options.views) × (out ≡ [])
+
+-- a text without a fault is a history
+pub record IsJudgedWith (options : CheckOptions) (text : List ℕ) (answer : Option Status) (out : List ℕ) : Type 0 where
+  pub events : List Event
+  pub history : IsText text events
+  pub verdict : IsVerdictWith options events answer out
+
+-- a text with a fault is refused as without options
+abbrev pub IsRefusedWith : List ℕ → Option Status → List ℕ → Type 0
+IsRefusedWith text (Some status) out = IsRefused text status out
+IsRefusedWith text None out = ⊥
+
+abbrev pub IsReportWith : CheckOptions → List ℕ → Option Status → List ℕ → Type 0
+IsReportWith options text answer out = IsRefusedWith text answer out ⊎ IsJudgedWith options text answer out

@@ -1,0 +1,13 @@
+//! The check, from a reader to a writer, and what other runs share with it.
+#![tactic(auto)]
+
+mod check;
+mod fault;
+mod options;
+mod reading;
+
+pub use check::{check_run, check_run_with, verdict};
+pub use fault::RunFault;
+pub use options::CheckOptions;
+pub use reading::{Reading, read_in};
+pub use snap_verdict::Status;

@@ -1,0 +1,121 @@
+ghost use Rattle.std.specs.Prelude.{◌≡◌, ◌≤◌, ◌<◌, ℕ, length, get_or};
+ghost use Rattle.snap_core.specs.Calls.{Call as SpecCall, calls_of};
+ghost use Rattle.snap_core.specs.Entries.{AreEntries};
+ghost use Rattle.snap_core.specs.Events.{IsBoundedHistory};
+ghost use Rattle.snap_conditions.specs.ShownAndNext.{IsOfEntries, IsOfView};
+ghost use Rattle.snap_conditions.specs.Limits.{IsLimit};
+ghost use Rattle.snap_conditions.specs.Places.{value_or_none as spec_value_or_none};
+ghost use Rattle.snap_conditions.specs.Seen.{IsSeen};
+
+use crate::row::numbers_of;
+use crate::seen::{SeenView, begin_of_update, end_of_next, value_of_update};
+use snap_core::{COMPONENT_COUNT, Entry, are_same};
+use snap_index::Index;
+
+// A place behind all events.
+pub(crate) const NEVER: u32 = u32::MAX;
+
+// A value that is no update's.
+const NO_VALUE: u64 = u32::MAX as u64 + 1;
+
+// Where the updates stand between which a view is by what it shows, component by component.
+#[derive(Drop)]
+pub(crate) struct ShownAndNext<'i> {
+    // the entries of the view that was looked at last, none before the first
+    pub(crate) entries: &'i [Entry],
+    pub(crate) numbers: [u32; COMPONENT_COUNT],
+    // the value of the update of that number, `NO_VALUE` where there is none
+    pub(crate) values: [u64; COMPONENT_COUNT],
+    // where the update of that number begins, 0 where there is none
+    pub(crate) begins: [u32; COMPONENT_COUNT],
+    // where the update after it ends, `NEVER` where there is none or it is pending
+    pub(crate) ends: [u32; COMPONENT_COUNT],
+    // no begin is later, and no end is earlier
+    pub(crate) latest: u32,
+    pub(crate) earliest: u32,
+}
+
+// A value, or `NO_VALUE`.
+fn value_or_none(value: Option<u32>) -> u64
+    ensures { result ≡ spec_value_or_none value }
+{
+    match value {
+        Some(value) => u64::from(value),
+        None => NO_VALUE,
+    }
+}
+
+// The latest of some places, 0 where there are none.
+fn latest_of(places: &[u32]) -> u32
+    ensures { (k : ℕ) → k < length places.now → get_or places.now k 0 ≤ result }
+{
+    let mut latest = 0;
+    for place in places {
+        latest = latest.max(*place);
+    }
+    latest
+}
+
+// The earliest of some places, `NEVER` where there are none.
+fn earliest_of(places: &[u32]) -> u32
+    ensures places { (k : ℕ) → k < length places.now → result ≤ get_or places.now k 0 }
+    ensures never { result ≤ 4294967295 }
+{
+    let mut earliest = NEVER;
+    for place in places {
+        earliest = earliest.min(*place);
+    }
+    earliest
+}
+
+impl<'i> ShownAndNext<'i> {
+    // The updates of a view that shows nothing, where no component from a limit on has an update. One serves for many views, which
+    // mostly show what the view before them showed.
+    pub(crate) fn new(index: &Index<'_>, limit: usize) -> ShownAndNext<'i>
+        requires kept { IsBoundedHistory index.now }
+        requires limit { IsLimit (calls_of index.now) limit }
+        ensures { IsOfEntries (calls_of index.now) result }
+    {
+        let mut ends = [NEVER; COMPONENT_COUNT];
+        for k in 0..limit {
+            ends[k] = end_of_next(index, k as u8, 0).unwrap_or(NEVER);
+        }
+        let earliest = earliest_of(&ends);
+        ShownAndNext {
+            entries: &[],
+            numbers: [0; COMPONENT_COUNT],
+            values: [NO_VALUE; COMPONENT_COUNT],
+            begins: [0; COMPONENT_COUNT],
+            ends,
+            latest: 0,
+            earliest,
+        }
+    }
+
+    // Looks up the updates around a view where it shows another number than the view before, where no component from a limit on
+    // has an update.
+    pub(crate) fn look(&mut self, index: &Index<'_>, view: &SeenView<'i>, limit: usize)
+        requires before { IsOfEntries (calls_of index.now) self.old }
+        requires kept { IsBoundedHistory index.now }
+        requires limit { IsLimit (calls_of index.now) limit }
+        requires view { AreEntries view.now.entries.now }
+        ensures numbers { IsOfEntries (calls_of index.now) self.new }
+        ensures updates { (r : SpecCall) → IsSeen r view.now → IsOfView (calls_of index.now) r self.new }
+    {
+        if are_same(self.entries, view.entries) {
+            return;
+        }
+        let numbers = numbers_of(view.entries);
+        for k in 0..limit {
+            if numbers[k] != self.numbers[k] {
+                self.values[k] = value_or_none(value_of_update(index, k as u8, numbers[k]));
+                self.begins[k] = begin_of_update(index, k as u8, numbers[k]).unwrap_or(0);
+                self.ends[k] = end_of_next(index, k as u8, numbers[k]).unwrap_or(NEVER);
+            }
+        }
+        self.entries = view.entries;
+        self.numbers = numbers;
+        self.latest = latest_of(&self.begins[..limit]);
+        self.earliest = earliest_of(&self.ends[..limit]);
+    }
+}

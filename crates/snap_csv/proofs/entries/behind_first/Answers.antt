@@ -1,5 +1,0 @@
-use Rattle.snap_csv.proofs.KnownFacts.{none_spelled}
-use Rattle.snap_csv.proofs.entries.behind_first.Goals as goal
-
-pub returns-in-None : goal.returns-in-None
-returns-in-None c = none_spelled

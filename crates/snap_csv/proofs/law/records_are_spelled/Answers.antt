@@ -1,5 +1,0 @@
-use Rattle.snap_csv.proofs.GrammarFacts.{record_is}
-use Rattle.snap_csv.proofs.law.records_are_spelled.Goals as goal
-
-pub returns : goal.returns
-returns c = record_is

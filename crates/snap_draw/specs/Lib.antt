@@ -1,0 +1,4 @@
+pub mod Calls
+pub mod Marks
+pub mod Window
+pub mod Timelines

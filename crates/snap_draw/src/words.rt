@@ -1,0 +1,82 @@
+//! What is said of a call that is drawn.
+use crate::shapes::Bar;
+use snap_index::{CallOp, Index};
+use snap_report::{put_call, put_entry, put_number};
+use std::alloc::{AllocError, Global};
+
+/// The record of the event at a place.
+pub fn record_at(records: &[u32], place: u32) -> u64 {
+    u64::from(records.get(place as usize).copied().unwrap_or(0))
+}
+
+/// The place of the event of a column.
+pub fn place_at(bars: &[Bar], column: usize) -> Option<u32> {
+    for bar in bars {
+        if bar.begin == column {
+            return Some(bar.drawn.call.begun);
+        }
+        if bar.end == Some(column) {
+            return bar.drawn.call.ended;
+        }
+    }
+    None
+}
+
+// Adds what a call does.
+fn put_operation(out: &mut Vec<u8>, index: &Index<'_>, bar: &Bar) -> Result<(), AllocError> {
+    if let CallOp::Update(entry) = bar.drawn.call.op {
+        return put_entry(out, b"update ", &entry);
+    }
+    out.extend_from_slice(b"view")?;
+    if let Some(view) = index.answer(bar.drawn.number) {
+        for entry in view.entries() {
+            put_entry(out, b" ", entry)?;
+        }
+    }
+    Ok(())
+}
+
+/// Adds what an explanation says of a call, too.
+pub fn put_title(
+    out: &mut Vec<u8>,
+    index: &Index<'_>,
+    records: &[u32],
+    bar: &Bar,
+) -> Result<(), AllocError> {
+    let call = bar.drawn.call;
+    put_call(out, b"call ", bar.drawn.number)?;
+    put_number(out, b" of process ", u64::from(call.process))?;
+    match call.ended {
+        Some(ended) => {
+            put_number(out, b", records ", record_at(records, call.begun))?;
+            put_number(out, b" and ", record_at(records, ended))?;
+            out.extend_from_slice(b": ")?;
+        }
+        None => {
+            put_number(out, b", record ", record_at(records, call.begun))?;
+            out.extend_from_slice(b", pending: ")?;
+        }
+    }
+    put_operation(out, index, bar)
+}
+
+/// Adds text, cut where it is longer than the room of so many characters.
+pub fn put_cut(out: &mut Vec<u8>, text: &[u8], room: usize) -> Result<(), AllocError> {
+    if text.len() <= room {
+        return out.extend_from_slice(text);
+    }
+    for byte in text.iter().take(room.saturating_sub(1)) {
+        out.push(*byte)?;
+    }
+    // an ellipsis in UTF-8
+    out.extend_from_slice(&[0xe2, 0x80, 0xa6])
+}
+
+/// The short name of a call: its number, and what it does.
+pub fn label_of(alloc: Global, index: &Index<'_>, bar: &Bar) -> Result<Vec<u8>, AllocError> {
+    let mut label = Vec::new(alloc);
+    put_call(&mut label, b"", bar.drawn.number)?;
+    label.extend_from_slice(b" ")?;
+    put_operation(&mut label, index, bar)?;
+    Ok(label)
+}

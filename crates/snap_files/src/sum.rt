@@ -1,0 +1,90 @@
+//! The check of several texts of which only the sums are written.
+ghost use Rattle.std.specs.Prelude.{◌≡◌, ◌++◌, ◌+◌, ◌<◌, ◌^◌, List, IfErr, IfOk, OnOk, length};
+ghost use Rattle.snap_core.specs.Counting.{failures_in, inner_of};
+ghost use Rattle.snap_check.specs.Runs.{RunCounts};
+ghost use Rattle.snap_files.specs.Files.{Told, paged, said};
+ghost use Rattle.snap_files.specs.Sums.{AreSums, Judged, SumsAll, SumsSome, counting, judged_of};
+
+use crate::format::{FileOptions, Format};
+use crate::opener::Opener;
+use crate::page::{Answer, code_of, told_of};
+use crate::round::{pages_of, round_at};
+use crate::sums::Sums;
+use snap_check::{CheckOptions, RunFault};
+use snap_core::{Counted, Gate};
+use snap_threads::Cutting;
+use std::alloc::{AllocError, Global};
+use std::io::Write;
+use std::thread::Threads;
+
+// What is asked of each text: its report is dropped, so it is a short one.
+fn options_of(views: u32) -> FileOptions
+    ensures { result ≡ counting views }
+{
+    FileOptions {
+        format: Format::Plain,
+        check: CheckOptions { quiet: true, views },
+    }
+}
+
+// Counts the names of a round, and says why some have no status.
+fn count_round<E: Write>(
+    alloc: Global,
+    names: &[String],
+    pages: &[(Answer, Vec<u8>)],
+    errors: &mut Counted<E>,
+    sums: &mut Sums,
+    options: FileOptions,
+) -> Result<(), AllocError>
+    requires { length pages.now ≡ length names.now }
+    ensures counts { (before : List Judged) → length before + length names.now < 2 ^ 64 → AreSums before sums.old
+        → OnOk result (AreSums (before ++ judged_of (paged names.now pages.now)) sums.new) }
+    ensures told { OnOk result (Told (E.contents (inner_of errors.old)) (E.contents (inner_of errors.new)) (failures_in errors.old) (failures_in errors.new)
+        (said options (paged names.now pages.now))) }
+{
+    for place in 0..names.len() {
+        let name = &names[place];
+        let (answer, _) = &pages[place];
+        let told = told_of(alloc, name, options, answer)?;
+        let _ = errors.send(&told);
+        sums.add(code_of(answer));
+    }
+    Ok(())
+}
+
+/// Checks the texts of some names as `check_all` does, and writes no report: once all are judged, it writes how many files have each
+/// status, and the first of them in the order of the names. It answers the greatest exit status. A history with fewer than `views`
+/// completed views counts as refused. The reasons go to the error output as at `check_all`.
+///
+/// Memory holds what a round needs, and no report of a round that is done. Sums that can't be written end in `Write`.
+pub fn sum_all<Rt: Threads + Sync, O: Opener, W: Write, E: Write, G: Gate>(
+    rt: &Rt,
+    alloc: Global,
+    opener: &O,
+    names: &[String],
+    writer: &mut Counted<W>,
+    errors: &mut Counted<E>,
+    cutting: Cutting,
+    gate: &G,
+    views: u32,
+) -> Result<u8, RunFault>
+    ensures all { IfOk result (SumsAll (O.opens opener.now) views names.now (W.contents (inner_of writer.old)) (W.contents (inner_of writer.new))
+        (E.contents (inner_of errors.old)) (E.contents (inner_of errors.new)) (failures_in errors.old) (failures_in errors.new)) }
+    ensures some { IfErr result (λ _. SumsSome (O.opens opener.now) views names.now (W.contents (inner_of writer.old)) (W.contents (inner_of writer.new))) }
+    ensures counts { RunCounts 0 0 (failures_in writer.old) (failures_in writer.new) result }
+{
+    let options = options_of(views);
+    let mut sums = Sums::new();
+    let mut from = 0;
+    while from < names.len() {
+        let round = round_at(names, from, cutting);
+        let pages = pages_of(rt, alloc, opener, round, cutting, gate, options)?;
+        count_round(alloc, round, &pages, errors, &mut sums, options)?;
+        from += round.len();
+    }
+    let text = sums.text(alloc, names)?;
+    if writer.send(&text).is_err() {
+        return Err(RunFault::Write);
+    }
+    Ok(sums.greatest())
+}

@@ -1,0 +1,5 @@
+pub mod Values
+pub mod Calls
+pub mod Faults
+pub mod Objects
+pub mod Laws

@@ -1,0 +1,6 @@
+ghost use Rattle.snap_json.specs.Laws.{HasOneName};
+
+/// No two names have one line: the escapes of a name can be undone.
+pub fn one_name()
+    ensures { HasOneName }
+{}

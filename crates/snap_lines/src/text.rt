@@ -1,0 +1,286 @@
+//! The lines of a picture, as text. A character of a line is a byte, but for the one that says that something is cut.
+use crate::layout::{Line, Span, character_of, lines_of, span_of};
+use snap_draw::{
+    KINDS, Picture, Shapes, front_of, has_kind, is_sentence, label_of, place_at, put_cut,
+    put_kinds, put_title, record_at, verdict_of,
+};
+use snap_index::CallOp;
+use snap_report::put_number;
+use std::alloc::{AllocError, Global};
+
+// So many characters stand before those of the first column.
+const LEFT: usize = 8;
+
+// So many characters there are for the columns, so that a line has at most 120.
+const ROOM: usize = 111;
+
+const LEAST_STEP: usize = 4;
+
+const GREATEST_STEP: usize = 16;
+
+// What the signs mean.
+const KEY: &[u8] = b"[ ] update  ( ) view  > no end";
+
+const KEY_OF_MARKS: &[u8] = b"  ! call of a fault, its kind below";
+
+const KEY_OF_PLACES: &[u8] = b"  # place in the printed order, below";
+
+// How many characters a column has.
+fn step_of(columns: usize) -> usize {
+    (ROOM / columns.max(1)).max(LEAST_STEP).min(GREATEST_STEP)
+}
+
+// The right edge of the columns.
+fn edge_of(shapes: &Shapes) -> usize {
+    character_of(step_of(shapes.columns), shapes.columns)
+}
+
+// Adds so many of a character.
+fn put_run(out: &mut Vec<u8>, byte: u8, count: usize) -> Result<(), AllocError> {
+    for _ in 0..count {
+        out.push(byte)?;
+    }
+    Ok(())
+}
+
+// Adds the name of a line, up to the first column.
+fn put_name(out: &mut Vec<u8>, name: &[u8]) -> Result<(), AllocError> {
+    out.extend_from_slice(name)?;
+    put_run(out, b' ', LEFT.saturating_sub(name.len()))
+}
+
+// Adds above each column the number of the record of its event, where there is room behind the one before.
+fn put_records(alloc: Global, out: &mut Vec<u8>, picture: &Picture<'_>) -> Result<(), AllocError> {
+    let shapes = picture.shapes;
+    put_name(out, b"record")?;
+    let mut end = 0usize;
+    for column in 0..shapes.columns {
+        let from = character_of(step_of(shapes.columns), column);
+        if let Some(place) = place_at(&shapes.bars, column) {
+            if end == 0 || end < from {
+                let mut number = Vec::new(alloc);
+                put_number(&mut number, b"", record_at(picture.records, place))?;
+                put_run(out, b' ', from.saturating_sub(end))?;
+                out.extend_from_slice(&number)?;
+                end = from.saturating_add(number.len());
+            }
+        }
+    }
+    out.extend_from_slice(b"\n")
+}
+
+// The label of a call, behind a mark where it is one of a first fault.
+fn marked_label(alloc: Global, picture: &Picture<'_>, span: &Span) -> Result<Vec<u8>, AllocError> {
+    let number = span.bar.drawn.number;
+    let mut label = Vec::new(alloc);
+    if KINDS
+        .iter()
+        .any(|kind| has_kind(&picture.shapes.marks, number, *kind))
+    {
+        label.push(b'!')?;
+    }
+    label.extend_from_slice(&label_of(alloc, picture.index, &span.bar)?)?;
+    Ok(label)
+}
+
+// How many characters there are between the ends of a bar.
+fn room_of(span: &Span, edge: usize) -> usize {
+    span.to
+        .unwrap_or(edge)
+        .saturating_sub(span.from)
+        .saturating_sub(1)
+}
+
+// Adds a bar: its label, cut or filled up to its room, between its ends.
+fn put_bar(
+    alloc: Global,
+    out: &mut Vec<u8>,
+    picture: &Picture<'_>,
+    span: &Span,
+    edge: usize,
+) -> Result<(), AllocError> {
+    let (begin, fill, end) = match span.bar.drawn.call.op {
+        CallOp::Update(_entry) => (b'[', b'=', b']'),
+        CallOp::View => (b'(', b'-', b')'),
+    };
+    let label = marked_label(alloc, picture, span)?;
+    let room = room_of(span, edge);
+    out.push(begin)?;
+    put_cut(out, &label, room)?;
+    if label.len() < room {
+        out.push(b' ')?;
+        put_run(
+            out,
+            fill,
+            room.saturating_sub(label.len()).saturating_sub(1),
+        )?;
+    }
+    out.push(if span.to.is_some() { end } else { b'>' })?;
+    Ok(())
+}
+
+// Adds the bars of a line.
+fn put_bars(
+    alloc: Global,
+    out: &mut Vec<u8>,
+    picture: &Picture<'_>,
+    line: &Line,
+) -> Result<(), AllocError> {
+    let edge = edge_of(picture.shapes);
+    let mut name = Vec::new(alloc);
+    put_number(&mut name, b"p", u64::from(line.process))?;
+    put_name(out, &name)?;
+    let mut at = 0usize;
+    for span in &line.spans {
+        put_run(out, b' ', span.from.saturating_sub(at))?;
+        put_bar(alloc, out, picture, span, edge)?;
+        at = span.to.unwrap_or(edge).saturating_add(1);
+    }
+    out.extend_from_slice(b"\n")
+}
+
+// What stands below a bar: the kinds of the first faults that it is of, or its place in the printed order.
+fn note_of(alloc: Global, picture: &Picture<'_>, span: &Span) -> Result<Vec<u8>, AllocError> {
+    let mut note = Vec::new(alloc);
+    put_kinds(
+        &mut note,
+        &picture.shapes.marks,
+        span.bar.drawn.number,
+        b" ",
+    )?;
+    if let Some(place) = span.bar.place {
+        put_number(&mut note, b" #", (place as u64).saturating_add(1))?;
+    }
+    Ok(note)
+}
+
+// Adds the line of notes below a line, where one of its bars has a note. Each has the room up to the next bar.
+fn put_notes(
+    alloc: Global,
+    out: &mut Vec<u8>,
+    picture: &Picture<'_>,
+    line: &Line,
+) -> Result<(), AllocError> {
+    let mut notes = Vec::new(alloc);
+    let mut end = 0usize;
+    for (place, span) in line.spans.iter().enumerate() {
+        let note = note_of(alloc, picture, span)?;
+        let next = match line.spans.get(place.saturating_add(1)) {
+            Some(other) => other.from,
+            None => edge_of(picture.shapes),
+        };
+        if let Some(text) = note.strip_prefix(b" ") {
+            let room = next.saturating_sub(span.from).saturating_sub(1);
+            put_run(&mut notes, b' ', span.from.saturating_sub(end))?;
+            put_cut(&mut notes, text, room)?;
+            end = span.from.saturating_add(text.len().min(room));
+        }
+    }
+    if notes.is_empty() {
+        return Ok(());
+    }
+    put_name(out, b"")?;
+    out.extend_from_slice(&notes)?;
+    out.extend_from_slice(b"\n")
+}
+
+// Adds the calls whose labels had no room, each in full.
+fn put_cut_calls(
+    alloc: Global,
+    out: &mut Vec<u8>,
+    picture: &Picture<'_>,
+) -> Result<(), AllocError> {
+    let shapes = picture.shapes;
+    let edge = edge_of(shapes);
+    let mut cut = Vec::new(alloc);
+    for bar in &shapes.bars {
+        let span = span_of(step_of(shapes.columns), bar);
+        if room_of(&span, edge) < marked_label(alloc, picture, &span)?.len() {
+            cut.extend_from_slice(b"  ")?;
+            put_title(&mut cut, picture.index, picture.records, bar)?;
+            cut.push(b'\n')?;
+        }
+    }
+    if cut.is_empty() {
+        return Ok(());
+    }
+    out.extend_from_slice(b"\ncalls whose labels are cut\n")?;
+    out.extend_from_slice(&cut)
+}
+
+// Adds how many calls are left out, where some are.
+fn put_left_out(out: &mut Vec<u8>, picture: &Picture<'_>) -> Result<(), AllocError> {
+    let all = u64::from(picture.index.call_count());
+    let drawn = picture.shapes.bars.len() as u64;
+    if drawn == all {
+        return Ok(());
+    }
+    put_number(out, b"calls drawn ", drawn)?;
+    put_number(out, b", left out ", all.saturating_sub(drawn))?;
+    out.extend_from_slice(b"\n")
+}
+
+// Adds what the signs mean.
+fn put_key(out: &mut Vec<u8>, picture: &Picture<'_>) -> Result<(), AllocError> {
+    out.extend_from_slice(KEY)?;
+    if !picture.shapes.marks.is_empty() {
+        out.extend_from_slice(KEY_OF_MARKS)?;
+    }
+    if !picture.order.is_empty() {
+        out.extend_from_slice(KEY_OF_PLACES)?;
+    }
+    out.extend_from_slice(b"\n")
+}
+
+// Adds the lanes, with the records above them and what the signs mean below.
+fn put_lanes(alloc: Global, out: &mut Vec<u8>, picture: &Picture<'_>) -> Result<(), AllocError> {
+    let shapes = picture.shapes;
+    if shapes.lanes.is_empty() {
+        return out.extend_from_slice(b"no calls\n");
+    }
+    put_left_out(out, picture)?;
+    put_records(alloc, out, picture)?;
+    let lines = lines_of(alloc, step_of(shapes.columns), shapes)?;
+    for line in &lines {
+        put_bars(alloc, out, picture, line)?;
+        put_notes(alloc, out, picture, line)?;
+    }
+    put_key(out, picture)
+}
+
+// Adds the sentence on the first fault of each kind.
+fn put_sentences(alloc: Global, out: &mut Vec<u8>, said: &[u8]) -> Result<(), AllocError> {
+    let mut sentences = Vec::new(alloc);
+    for line in said.split(|byte| *byte == b'\n').skip(1) {
+        if is_sentence(line) {
+            sentences.extend_from_slice(line)?;
+            sentences.push(b'\n')?;
+        }
+    }
+    if sentences.is_empty() {
+        return Ok(());
+    }
+    out.extend_from_slice(b"\n")?;
+    out.extend_from_slice(&sentences)
+}
+
+/// The picture, with the verdict above it and the sentences on its faults below.
+pub fn text_lines(alloc: Global, picture: &Picture<'_>) -> Result<Vec<u8>, AllocError> {
+    let mut out = Vec::new(alloc);
+    out.extend_from_slice(front_of(verdict_of(picture.said)))?;
+    out.extend_from_slice(b"\n\n")?;
+    put_lanes(alloc, &mut out, picture)?;
+    put_sentences(alloc, &mut out, picture.said)?;
+    put_cut_calls(alloc, &mut out, picture)?;
+    Ok(out)
+}
+
+/// The explanation, with the picture below it.
+pub fn explained_lines(alloc: Global, picture: &Picture<'_>) -> Result<Vec<u8>, AllocError> {
+    let mut out = Vec::new(alloc);
+    out.extend_from_slice(picture.said)?;
+    out.extend_from_slice(b"\n")?;
+    put_lanes(alloc, &mut out, picture)?;
+    put_cut_calls(alloc, &mut out, picture)?;
+    Ok(out)
+}

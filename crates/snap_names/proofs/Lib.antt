@@ -1,0 +1,3 @@
+pub mod ListFacts
+pub mod TextFacts
+pub mod WalkFacts

@@ -1,0 +1,32 @@
+ghost use Rattle.std.specs.Prelude.{◌≡◌};
+ghost use Rattle.snap_names.specs.declared.fault.NamesFault.TheVariants.{Memory};
+
+use std::alloc::AllocError;
+use thiserror::Error;
+
+/// Why there are no names.
+#[derive(Debug, Drop, Error)]
+pub enum NamesFault {
+    /// The list can't be read.
+    #[error("read failed")]
+    Unread,
+    /// The list has more bytes than are read.
+    #[error("is longer than 268435456 bytes")]
+    TooLong,
+    /// The name of this number, from 1, is empty.
+    #[error("name {0} is empty")]
+    Empty(usize),
+    /// There are more folders below the folder than are listed.
+    #[error("has more than 1048576 folders")]
+    TooManyFolders,
+    #[error("out of memory")]
+    Memory,
+}
+
+impl From<AllocError> for NamesFault {
+    ghost from_gives = { λ _ fault. fault ≡ Memory };
+
+    fn from(_error: AllocError) -> NamesFault {
+        NamesFault::Memory
+    }
+}

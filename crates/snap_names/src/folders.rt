@@ -1,0 +1,38 @@
+ghost use Rattle.std.specs.Prelude.{ℕ, List, Option, IfOk, option_map};
+ghost use Rattle.std.specs.Global.{Global, Vec};
+
+use std::alloc::{AllocError, Global};
+
+/// What stands in a folder under a name.
+#[derive(Clone, Copy, Debug, PartialEq, Eq)]
+pub enum Kind {
+    /// A folder.
+    Folder,
+    /// A link to a folder.
+    Link,
+    /// A file.
+    File,
+    /// Anything else, as a pipe, a socket or a device.
+    Other,
+    /// That can't be found out.
+    Unknown,
+}
+
+/// A name in a folder, and what stands there under it.
+#[derive(Debug, Drop)]
+pub struct Entry {
+    pub name: Vec<u8>,
+    pub kind: Kind,
+}
+
+/// What lists folders.
+pub trait Folders {
+    ghost use Rattle.snap_names.specs.declared.folders.Entry.{Entry};
+
+    /// What a folder may be listed as: its entries, or none where it can't be listed.
+    ghost lists: { Self → List ℕ → Option (List Entry) → Type 0 };
+
+    /// The entries of a folder, without itself and the folder above it; none where it can't be listed.
+    fn list(&self, alloc: Global, folder: &[u8]) -> Result<Option<Vec<Entry>>, AllocError>
+        ensures { IfOk result (λ entries. lists self.now folder.now (option_map (λ found. found.items) entries)) };
+}

@@ -1,0 +1,15 @@
+use Rattle.std.proofs.Common.{inl, inr, refl}
+use Rattle.snap_core.specs.Counting.{inner_of}
+use Rattle.snap_check.proofs.Runs.{from_history, from_refusal}
+use Rattle.snap_picture.proofs.shrink.shrink_input.Goals as goal
+
+pub returns-in-History-clause-answer : goal.returns-in-History-clause-answer
+returns-in-History-clause-answer g c =
+    from_history _ (g.R.Read.remaining (inner_of c.args.reader.now)) c.in_ok-history.field-0 c.in-History.history c.in_ok-history.ensures.text c.in-History.is
+    (λ text reads. inr (record {
+      events = c.in-History.history;
+      left = c.in_ok-status-in-History.left;
+      history = reads;
+      cut = c.in_ok-status-in-History.ensures;
+      drawn = c.in_ok-text-in-History.ensures;
+    }))

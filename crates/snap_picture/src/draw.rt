@@ -1,0 +1,149 @@
+ghost use Rattle.std.specs.Prelude.{◌≡◌, [], IfOk, is_some, length, map};
+ghost use Rattle.std.specs.Option.{ForSome, option_map_or};
+ghost use Rattle.snap_core.specs.Calls.{calls_of, views_of};
+ghost use Rattle.snap_core.specs.Counting.{failures_in, inner_of};
+ghost use Rattle.snap_conditions.specs.Tally.{tally_of};
+ghost use Rattle.snap_theory.specs.Levels.{printed_order};
+ghost use Rattle.snap_report.specs.Reports.{has_no_fault};
+ghost use Rattle.snap_check.specs.Runs.{JudgeCounts, JudgesBy, RunCounts, WroteBy};
+ghost use Rattle.snap_picture.specs.Drawing.{DrawsHistory, IsDrawing, IsDrawn};
+
+use crate::markup::Markup;
+use snap_check::RunFault;
+use snap_conditions::{Tally, is_atomic};
+use snap_core::{Counted, History, OpenGate};
+use snap_csv::{ReadRefusal, read_records};
+use snap_draw::{Picture, shapes_of};
+use snap_explain::explain;
+use snap_index::Index;
+use snap_order::build;
+use snap_pairs::tally;
+use snap_report::refusal_text;
+use snap_threads::Cutting;
+use snap_verdict::{Status, status_of};
+use std::alloc::{AllocError, Global};
+use std::io::{Read, Write};
+use std::thread::Threads;
+
+// The numbers of an order, none where there is no order.
+fn numbers_of<'x>(order: Option<&'x [u32]>) -> &'x [u32]
+    ensures { result.now ≡ option_map_or (λ numbers. numbers.now) order.entry [] }
+{
+    match order {
+        Some(numbers) => numbers,
+        None => &[],
+    }
+}
+
+// The picture of a history by its index, the tally of all its completed views, the records of its events, and the numbers of its
+// printed order, which is given exactly where the tally has no fault.
+fn picture_of<'x, M: Markup>(
+    alloc: Global,
+    markup: &M,
+    index: &'x Index<'x>,
+    tally: &Tally,
+    records: &'x [u32],
+    order: Option<&'x [u32]>,
+) -> Result<Vec<u8>, AllocError>
+    requires tally { tally.now ≡ tally_of (calls_of index.now) (views_of (calls_of index.now)) }
+    requires each { length records.now ≡ length index.now }
+    requires given { is_some order ≡ has_no_fault tally.now }
+    requires order { ForSome order (λ numbers. numbers.now ≡ map (λ c. c.number) (printed_order (calls_of index.now))) }
+    ensures { IfOk result (λ text. IsDrawing M.calls M.writes index.now records.now text.items) }
+{
+    let said = explain(alloc, index, tally, records, order)?;
+    let order = numbers_of(order);
+    let shapes = shapes_of(alloc, index, tally, order, markup.call_limit())?;
+    markup.text(
+        alloc,
+        &Picture {
+            shapes: &shapes,
+            index,
+            records,
+            order,
+            said: &said,
+        },
+    )
+}
+
+// The same, with the order where there is one.
+fn text_of<Rt: Threads + Sync, M: Markup>(
+    rt: &Rt,
+    alloc: Global,
+    markup: &M,
+    index: &Index<'_>,
+    tally: &Tally,
+    records: &[u32],
+) -> Result<Vec<u8>, AllocError>
+    requires tally { tally.now ≡ tally_of (calls_of index.now) (views_of (calls_of index.now)) }
+    requires each { length records.now ≡ length index.now }
+    ensures { IfOk result (λ text. IsDrawing M.calls M.writes index.now records.now text.items) }
+{
+    if is_atomic(tally) {
+        let order = build(rt, alloc, index)?;
+        picture_of(alloc, markup, index, tally, records, Some(&order))
+    } else {
+        picture_of(alloc, markup, index, tally, records, None)
+    }
+}
+
+/// The status of a history, and its picture by the records of its events.
+pub(crate) fn drawn<Rt: Threads + Sync, M: Markup>(
+    rt: &Rt,
+    alloc: Global,
+    markup: &M,
+    history: &History,
+    records: &[u32],
+) -> Result<(Status, Vec<u8>), AllocError>
+    requires { length records.now ≡ length history.now }
+    ensures { IfOk result (λ answer. DrawsHistory M.calls M.writes history.now records.now answer.0 answer.1.items) }
+{
+    let index = Index::build(alloc, history)?;
+    let tally = tally(rt, alloc, &index, Cutting::usual(), &OpenGate)?;
+    let text = text_of(rt, alloc, markup, &index, &tally, records)?;
+    Ok((status_of(&index, &tally), text))
+}
+
+// The status of the text that a reader has, and its picture, or the line of its first fault.
+fn draw_input<Rt: Threads + Sync, R: Read, M: Markup>(
+    rt: &Rt,
+    alloc: Global,
+    markup: &M,
+    reader: &mut Counted<R>,
+) -> Result<(Status, Vec<u8>), RunFault>
+    ensures answer { JudgesBy (IsDrawn M.calls M.writes) (R.remaining (inner_of reader.old)) result }
+    ensures counts { JudgeCounts (failures_in reader.old) (failures_in reader.new) result }
+{
+    let mut room = Vec::new(alloc);
+    match read_records(alloc, reader, &mut room) {
+        Ok((history, records)) => Ok(drawn(rt, alloc, markup, &history, &records)?),
+        Err(ReadRefusal::Text { place, fault }) => {
+            let line = refusal_text(alloc, place, fault)?;
+            Ok((Status::Refused, line))
+        }
+        Err(ReadRefusal::Device) => Err(RunFault::Read),
+        Err(ReadRefusal::Memory) => Err(RunFault::Memory),
+    }
+}
+
+/// Reads a history, and writes its picture in a markup. Of a text that is no history the line of its first fault goes out. The
+/// status is that of `check_run`.
+///
+/// Nothing is written until the whole text is built: after `Read` or `Memory` nothing went out, after `Write` a front of the
+/// text, perhaps all of it. The writer is flushed once at the end. The run returns where the reader and the writer do.
+pub fn draw_run<Rt: Threads + Sync, R: Read, W: Write, M: Markup>(
+    rt: &Rt,
+    alloc: Global,
+    markup: &M,
+    reader: &mut Counted<R>,
+    writer: &mut Counted<W>,
+) -> Result<Status, RunFault>
+    ensures wrote { WroteBy (IsDrawn M.calls M.writes) (R.remaining (inner_of reader.old)) (W.contents (inner_of writer.old)) (W.contents (inner_of writer.new)) result }
+    ensures counts { RunCounts (failures_in reader.old) (failures_in reader.new) (failures_in writer.old) (failures_in writer.new) result }
+{
+    let (status, text) = draw_input(rt, alloc, markup, reader)?;
+    match writer.send(&text) {
+        Ok(()) => Ok(status),
+        Err(_) => Err(RunFault::Write),
+    }
+}

@@ -1,0 +1,10 @@
+//! The shapes of a history as a picture: SVG, and a page around it.
+#![tactic(auto)]
+
+mod page;
+mod points;
+mod scale;
+mod strip;
+mod svg;
+
+pub use svg::{page_of, svg_of};

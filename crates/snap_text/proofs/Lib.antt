@@ -1,0 +1,10 @@
+pub mod NumberFacts
+pub mod FrontFacts
+pub mod PartFacts
+pub mod ByteFacts
+pub mod BackFacts
+pub mod SpellingFacts
+pub mod GrammarFacts
+pub mod ViewFacts
+pub mod GroupFacts
+pub mod KnownFacts

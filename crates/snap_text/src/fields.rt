@@ -1,0 +1,84 @@
+ghost use Rattle.std.specs.Prelude.{◌≡◌, IfOk};
+ghost use Rattle.snap_text.specs.Fields.{event_of, update_at, view_at};
+
+use crate::entries::{entries_of, entry_of};
+use crate::fault::TextFault;
+use crate::known::Known;
+use crate::number::process_of;
+use snap_core::{Entry, Event, View};
+use std::alloc::{AllocError, Global};
+
+// The entry of an update.
+#[tactic(auto, unfolding(crate::specs::Fields::update_at))]
+fn update_of(text: &[u8]) -> Option<Entry>
+    ensures { result ≡ update_at text.now }
+{
+    let entry = entry_of(text)?;
+    if entry.number == 0 { None } else { Some(entry) }
+}
+
+/// The view whose entries are spelled.
+#[tactic(auto, unfolding(crate::specs::Fields::view_at))]
+fn view_of(alloc: Global, known: &mut Known, text: &[u8]) -> Result<Option<View>, AllocError>
+    ensures { IfOk result (λ o. o ≡ view_at text.now) }
+{
+    let Some(entries) = entries_of(alloc, known, text)? else {
+        return Ok(None);
+    };
+    known.keep(alloc, text, &entries)?;
+    match View::from_entries(entries) {
+        Ok(view) => Ok(Some(view)),
+        Err(_) => Ok(None),
+    }
+}
+
+/// The event that four fields spell, or the first fault in them.
+#[tactic(auto, unfolding(crate::specs::Fields::event_of))]
+pub fn event_of_fields(
+    alloc: Global,
+    known: &mut Known,
+    event: &[u8],
+    process: &[u8],
+    op: &[u8],
+    text: &[u8],
+) -> Result<Result<Event, TextFault>, AllocError>
+    ensures { IfOk result (λ read. read ≡ event_of event.now process.now op.now text.now) }
+{
+    let begins = if event == b"begin".as_slice() {
+        true
+    } else if event == b"end".as_slice() {
+        false
+    } else {
+        return Ok(Err(TextFault::BadEvent));
+    };
+    let Some(process) = process_of(process) else {
+        return Ok(Err(TextFault::BadProcess));
+    };
+    let updates = if op == b"update".as_slice() {
+        true
+    } else if op == b"view".as_slice() {
+        false
+    } else {
+        return Ok(Err(TextFault::BadOp));
+    };
+    if begins && updates {
+        let Some(entry) = update_of(text) else {
+            return Ok(Err(TextFault::BadData));
+        };
+        return Ok(Ok(Event::BeginUpdate { process, entry }));
+    }
+    if !begins && !updates {
+        let Some(view) = view_of(alloc, known, text)? else {
+            return Ok(Err(TextFault::BadData));
+        };
+        return Ok(Ok(Event::EndView { process, view }));
+    }
+    if !text.is_empty() {
+        return Ok(Err(TextFault::BadData));
+    }
+    if begins {
+        Ok(Ok(Event::BeginView { process }))
+    } else {
+        Ok(Ok(Event::EndUpdate { process }))
+    }
+}

@@ -1,0 +1,129 @@
+//! What is kept of the view that was read last. A view mostly shows what the view before it showed, so a text is first compared
+//! with the one before it: where views have hundreds of entries, that spares nearly all of the reading.
+ghost use Rattle.std.specs.Prelude.{◌≡◌, ◌<◌, ◌≤◌, ◌==◌, Some, length, count_by, take};
+ghost use Rattle.snap_text.specs.Fields.{entries_at};
+ghost use Rattle.snap_text.specs.Fronts.{AreSpelled};
+
+use snap_core::Entry;
+use std::alloc::{AllocError, Global};
+
+/// The entries of the view that was read last, and their text.
+#[derive(Drop)]
+pub struct Known {
+    text: Vec<u8>,
+    entries: Vec<Entry>,
+    ghost spelled: { AreSpelled entries.items text.items },
+}
+
+impl Known {
+    /// Of no view.
+    pub fn new(alloc: Global) -> Known {
+        Known {
+            text: Vec::new(alloc),
+            entries: Vec::new(alloc),
+        }
+    }
+
+    /// The text.
+    pub(crate) fn text(&self) -> &[u8]
+        ensures { result.now ≡ self.now.text.items }
+    {
+        &self.text
+    }
+
+    /// The entries.
+    pub(crate) fn entries(&self) -> &[Entry]
+        ensures entries { result.now ≡ self.now.entries.items }
+        ensures spelled { AreSpelled self.now.entries.items self.now.text.items }
+    {
+        &self.entries
+    }
+
+    // Of another view, which has these entries and this text, in the same memory.
+    fn of(self, text: &[u8], entries: &[Entry]) -> Result<Known, AllocError>
+        requires { entries_at text.now ≡ Some entries.now }
+    {
+        let Known {
+            text: mut text_room,
+            entries: mut entries_room,
+        } = self;
+        text_room.clear();
+        text_room.extend_from_slice(text)?;
+        entries_room.clear();
+        entries_room.extend_from_slice(entries)?;
+        Ok(Known {
+            text: text_room,
+            entries: entries_room,
+        })
+    }
+
+    /// Keeps the entries of another view, and their text.
+    pub(crate) fn keep(
+        &mut self,
+        alloc: Global,
+        text: &[u8],
+        entries: &[Entry],
+    ) -> Result<(), AllocError>
+        requires { entries_at text.now ≡ Some entries.now }
+    {
+        let room = std::mem::replace(self, Known::new(alloc));
+        *self = room.of(text, entries)?;
+        Ok(())
+    }
+}
+
+// How many pieces of so many bytes have both texts alike, one behind the other, from a place on: where they end.
+#[inline(always)]
+fn skip_same(a: &[u8], b: &[u8], from: usize, step: usize) -> usize
+    requires from { (from ≤ length a.now) × (from ≤ length b.now) }
+    requires same { take from a.now ≡ take from b.now }
+    requires step { 0 < step }
+    ensures within { (result ≤ length a.now) × (result ≤ length b.now) }
+    ensures same { take result a.now ≡ take result b.now }
+{
+    let limit = a.len().min(b.len());
+    let mut at = from;
+    while limit - at >= step && a[at..].starts_with(&b[at..at + step]) {
+        at += step;
+    }
+    at
+}
+
+/// How many bytes two texts have alike at their fronts.
+pub fn same_front(a: &[u8], b: &[u8]) -> usize
+    ensures within { (result ≤ length a.now) × (result ≤ length b.now) }
+    ensures same { take result a.now ≡ take result b.now }
+{
+    let far = skip_same(a, b, 0, 64);
+    let near = skip_same(a, b, far, 8);
+    skip_same(a, b, near, 1)
+}
+
+// How many spaces a text of at most 255 bytes has.
+fn few_spaces(text: &[u8]) -> u8
+    requires { length text.now < 256 }
+    ensures { result ≡ count_by (λ b. b == 32) text.now }
+{
+    let mut count = 0u8;
+    for byte in text {
+        count += u8::from(*byte == b' ');
+    }
+    count
+}
+
+// How many bytes are counted at a time, in lanes of one byte.
+const PIECE: usize = 192;
+
+/// How many spaces a text has.
+pub fn spaces(text: &[u8]) -> usize
+    ensures { result ≡ count_by (λ b. b == 32) text.now }
+{
+    let mut count = 0;
+    let mut left = text;
+    while left.len() > PIECE {
+        let (piece, rest) = left.split_at(PIECE);
+        count += few_spaces(piece) as usize;
+        left = rest;
+    }
+    count + few_spaces(left) as usize
+}

@@ -1,0 +1,62 @@
+ghost use Rattle.std.specs.Prelude.{◌≡◌, ◌^◌, ℕ, List, MatchOption};
+ghost use Rattle.snap_text.specs.Fields.{number_at};
+ghost use Rattle.snap_text.specs.Fronts.{NumberThen};
+
+use itoa::Buffer;
+
+// One digit more than a number below 2^32 has.
+const DIGIT_LIMIT: usize = 11;
+
+/// The number below 2^32 whose decimal a text begins with, and the text behind its last digit.
+#[inline(always)]
+pub fn number_first(text: &[u8]) -> Option<(u32, &[u8])>
+    ensures { MatchOption result ((n : ℕ) (rest : List ℕ) → NumberThen n rest text.now → ⊥) (λ x. NumberThen x.0 x.1.now text.now) }
+{
+    let limit = text.len().min(DIGIT_LIMIT);
+    let mut number = 0u64;
+    let mut len = 0;
+    while len < limit && text[len].is_ascii_digit() {
+        number = number * 10 + u64::from(text[len] - b'0');
+        len += 1;
+    }
+    if len == 0 || (len > 1 && text[0] == b'0') || number > 4294967295 {
+        return None;
+    }
+    Some((number as u32, &text[len..]))
+}
+
+/// The number below 2^32 whose decimal a field is.
+pub fn number_of(field: &[u8]) -> Option<u32>
+    ensures { result ≡ number_at (2 ^ 32) field.now }
+{
+    let (number, rest) = number_first(field)?;
+    if rest.is_empty() { Some(number) } else { None }
+}
+
+/// The process that a field names.
+pub fn process_of(field: &[u8]) -> Option<u16>
+    ensures { result ≡ number_at (2 ^ 16) field.now }
+{
+    match number_of(field) {
+        Some(n) if n < 65536 => Some(n as u16),
+        _ => None,
+    }
+}
+
+/// The stamp that a field is: a number below 2^64 by its decimal.
+pub fn stamp_of(field: &[u8]) -> Option<u64>
+    ensures { result ≡ number_at (2 ^ 64) field.now }
+{
+    let Ok(text) = str::from_utf8(field) else {
+        return None;
+    };
+    let Ok(stamp) = text.parse::<u64>() else {
+        return None;
+    };
+    let mut buffer = Buffer::new();
+    if buffer.format(stamp).as_bytes() == field {
+        Some(stamp)
+    } else {
+        None
+    }
+}

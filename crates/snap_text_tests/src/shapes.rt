@@ -1,0 +1,138 @@
+//! What is drawn of worked histories, against shapes worked out by hand.
+ghost use Rattle.std.specs.Prelude.{◌≡◌};
+ghost use Rattle.snap_core.specs.Calls.{calls_of, views_of};
+ghost use Rattle.snap_conditions.specs.Tally.{tally_of};
+
+use snap_conditions::{Tally, is_atomic, tally_range};
+use snap_draw::{Bar, Kind, LINE_CALLS, Mark, Shapes, shapes_of};
+use snap_index::Index;
+use snap_order::build_alone;
+use snap_testing::worked::{ATOMIC_RUN, MISSED_UPDATE, NEW_THEN_OLD, NOTHING, SEEN_PENDING};
+use snap_testing::{Step, history_of};
+use std::alloc::{AllocError, Global};
+use std::test::Fail;
+
+// A bar: the number of its call, its lane, the columns of its begin and its end, and its place in the printed order.
+type Drawn = (u32, usize, usize, Option<usize>, Option<usize>);
+
+// The shapes of a history: its lanes, its bars, how many columns there are, and its marks.
+type Known = (
+    &'static [u32],
+    &'static [Drawn],
+    usize,
+    &'static [(Kind, u32)],
+);
+
+// Histories, how many calls are drawn of each, and their shapes.
+const WORKED: &[(&[Step<'static>], usize, Known)] = &[
+    (NOTHING, LINE_CALLS, (&[], &[], 0, &[])),
+    (
+        NEW_THEN_OLD,
+        LINE_CALLS,
+        (
+            &[0, 1, 2],
+            &[
+                (0, 0, 0, Some(5), None),
+                (1, 1, 1, Some(2), None),
+                (2, 2, 3, Some(4), None),
+            ],
+            6,
+            &[(Kind::Read, 1), (Kind::Read, 2)],
+        ),
+    ),
+    (
+        MISSED_UPDATE,
+        3,
+        (
+            &[0, 1, 2],
+            &[
+                (0, 2, 0, Some(5), None),
+                (1, 0, 1, Some(2), None),
+                (2, 1, 3, Some(4), None),
+            ],
+            6,
+            &[(Kind::Write, 0), (Kind::Write, 1), (Kind::Write, 2)],
+        ),
+    ),
+    (
+        SEEN_PENDING,
+        LINE_CALLS,
+        (
+            &[0, 1, 2],
+            &[
+                (0, 0, 0, None, Some(0)),
+                (1, 1, 1, None, None),
+                (2, 2, 2, Some(3), Some(1)),
+            ],
+            4,
+            &[],
+        ),
+    ),
+    // a window of the first two calls
+    (
+        ATOMIC_RUN,
+        2,
+        (
+            &[0, 1],
+            &[(0, 0, 0, Some(1), Some(0)), (1, 1, 2, Some(3), Some(2))],
+            4,
+            &[],
+        ),
+    ),
+];
+
+// The shapes of an index by the tally of its views, of which so many calls are drawn.
+fn drawn_by(
+    alloc: Global,
+    index: &Index<'_>,
+    tally: &Tally,
+    limit: usize,
+) -> Result<Shapes, AllocError>
+    requires tally { tally.now ≡ tally_of (calls_of index.now) (views_of (calls_of index.now)) }
+{
+    if is_atomic(tally) {
+        let order = build_alone(alloc, index)?;
+        shapes_of(alloc, index, tally, &order, limit)
+    } else {
+        shapes_of(alloc, index, tally, &[], limit)
+    }
+}
+
+// The shapes of a history of which so many calls are drawn.
+fn drawn(alloc: Global, steps: &[Step<'_>], limit: usize) -> Result<Shapes, Fail> {
+    let history = history_of(alloc, steps)?;
+    let index = Index::build(alloc, &history)?;
+    let tally = tally_range(&index, 0, index.view_count());
+    Ok(drawn_by(alloc, &index, &tally, limit)?)
+}
+
+fn is_bar(bar: &Bar, known: &Drawn) -> bool {
+    let (number, lane, begin, end, place) = *known;
+    bar.drawn.number == number
+        && bar.lane == lane
+        && bar.begin == begin
+        && bar.end == end
+        && bar.place == place
+}
+
+fn is_mark(mark: &Mark, known: &(Kind, u32)) -> bool {
+    mark.kind == known.0 && mark.call == known.1
+}
+
+#[test]
+fn each_worked_history_has_its_lanes_bars_columns_and_marks(rt: HostRuntime) -> Result<(), Fail> {
+    for (steps, limit, (lanes, bars, columns, marks)) in WORKED {
+        let shapes = drawn(rt.alloc(), steps, *limit)?;
+        assert_eq!(rt; shapes.lanes.as_slice(), *lanes);
+        assert_eq!(rt; shapes.columns, *columns);
+        assert_eq!(rt; shapes.bars.len(), bars.len());
+        for (bar, known) in shapes.bars.iter().zip(bars.iter()) {
+            assert!(rt; is_bar(bar, known), "{bar:?}");
+        }
+        assert_eq!(rt; shapes.marks.len(), marks.len());
+        for (mark, known) in shapes.marks.iter().zip(marks.iter()) {
+            assert!(rt; is_mark(mark, known), "{mark:?}");
+        }
+    }
+    Ok(())
+}

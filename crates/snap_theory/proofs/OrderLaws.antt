@@ -1,0 +1,36 @@
+-- The laws of orders, put together.
+use Rattle.std.proofs.Common.{sym, subst}
+use Rattle.snap_core.specs.Calls.{calls_of}
+use Rattle.snap_theory.specs.Levels.{printed_order, IsPrintedOrder}
+use Rattle.snap_theory.proofs.Starts.{start_push, start_back}
+use Rattle.snap_theory.proofs.Keys.{keys_give_order}
+use Rattle.snap_theory.proofs.Unique.{printed_is, printed_alone}
+use Rattle.snap_theory.specs.OrderLaws.{PrintsLegalOrder, LegalOrderHasNoFault, AtomicExactly, AtomicIsMonotone, PrintedOrderAlone, LegalStartGrows, KeysGiveOrder}
+use Rattle.snap_theory.proofs.Forward.{printed_legal}
+use Rattle.snap_theory.proofs.Backward.{legal_meets}
+use Rattle.snap_theory.proofs.FaultLaws.{meets_from_none, none_from_meets}
+use Rattle.snap_theory.proofs.StaleViews.{monotone_without_read_fault}
+use Rattle.snap_core.proofs.Histories.{are_calls}
+
+pub prints_legal_order : PrintsLegalOrder
+prints_legal_order es h b n = printed_legal (calls_of es) (are_calls es h) (meets_from_none es h b n)
+
+pub legal_order_has_no_fault : LegalOrderHasNoFault
+legal_order_has_no_fault es h order o = none_from_meets es (legal_meets (calls_of es) order (are_calls es h) o)
+
+pub atomic_exactly : AtomicExactly
+atomic_exactly es h b = (λ a. legal_order_has_no_fault es h a.0 a.1, λ n. (printed_order (calls_of es), prints_legal_order es h b n))
+
+pub atomic_is_monotone : AtomicIsMonotone
+atomic_is_monotone es h a = monotone_without_read_fault (calls_of es) (legal_order_has_no_fault es h a.0 a.1).read
+
+pub printed_order_alone : PrintedOrderAlone
+printed_order_alone es h order =
+    let f = are_calls es h in
+    (printed_alone (calls_of es) order f, λ e. subst (IsPrintedOrder (calls_of es)) (sym e) (printed_is (calls_of es) f))
+
+pub legal_start_grows : LegalStartGrows
+legal_start_grows calls before c = (λ h. start_push calls before c h.0 h.1, start_back calls before c)
+
+pub keys_give_order_law : KeysGiveOrder
+keys_give_order_law es h keys k = keys_give_order (calls_of es) (are_calls es h) keys k

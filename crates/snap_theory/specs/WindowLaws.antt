@@ -1,0 +1,59 @@
+-- What a cut at a quiet moment keeps, whatever the length of the history.
+use Rattle.std.specs.Prelude.{List, ◌++◌, ◌↔◌, All}
+use Rattle.snap_core.specs.declared.event.Event.{Event}
+use Rattle.snap_core.specs.Events.{IsHistory, EventFits}
+use Rattle.snap_core.specs.Calls.{Call, calls_of}
+use Rattle.snap_core.specs.Monotone.{IsMonotone}
+use Rattle.snap_core.specs.Orders.{IsAtomic}
+use Rattle.snap_core.specs.Regular.{IsRegular}
+use Rattle.snap_theory.specs.Windows.{IsQuiet, left_by, nothing, IsRegularFrom, IsAtomicFrom}
+use Rattle.snap_theory.specs.Renumbered.{renumbered, ShowsNoLess}
+
+-- where nothing was left, the words mean what they mean of a whole history
+abbrev pub RegularFromNothing : Type 0
+RegularFromNothing = (calls : List Call) → IsRegularFrom nothing calls ↔ IsRegular calls
+
+abbrev pub AtomicFromNothing : Type 0
+AtomicFromNothing = (calls : List Call) → IsAtomicFrom nothing calls ↔ IsAtomic calls
+
+-- regular exactly where both sides of a quiet moment are, the later one from what the earlier one left
+abbrev pub RegularJoins : Type 0
+RegularJoins =
+    (before after : List Event) → IsHistory (before ++ after) → IsQuiet before →
+    IsRegular (calls_of (before ++ after)) ↔ (IsRegular (calls_of before) × IsRegularFrom (left_by before) (calls_of after))
+
+-- a regular history is monotone exactly where both sides are
+abbrev pub MonotoneJoins : Type 0
+MonotoneJoins =
+    (before after : List Event) → IsHistory (before ++ after) → IsQuiet before → IsRegular (calls_of (before ++ after)) →
+    IsMonotone (calls_of (before ++ after)) ↔ (IsMonotone (calls_of before) × IsMonotone (calls_of after))
+
+-- atomic exactly where both sides are, the later one from what the earlier one left
+abbrev pub AtomicJoins : Type 0
+AtomicJoins =
+    (before after : List Event) → IsHistory (before ++ after) → IsQuiet before →
+    IsAtomic (calls_of (before ++ after)) ↔ (IsAtomic (calls_of before) × IsAtomicFrom (left_by before) (calls_of after))
+
+-- both sides are histories, the later one with numbers from 1
+abbrev pub SidesAreHistories : Type 0
+SidesAreHistories =
+    (before after : List Event) → IsHistory (before ++ after) → IsQuiet before →
+    IsHistory before × IsHistory (renumbered (left_by before) after)
+
+-- regular from what was left exactly where each view shows that or more, and the history with numbers from 1 is regular
+abbrev pub RegularRenumbered : Type 0
+RegularRenumbered =
+    (before after : List Event) → IsHistory (before ++ after) → All EventFits after → IsQuiet before →
+    IsRegularFrom (left_by before) (calls_of after) ↔ (ShowsNoLess (left_by before) (calls_of after) × IsRegular (calls_of (renumbered (left_by before) after)))
+
+-- where each view shows what was left or more, monotone exactly where the history with numbers from 1 is
+abbrev pub MonotoneRenumbered : Type 0
+MonotoneRenumbered =
+    (before after : List Event) → IsHistory (before ++ after) → All EventFits after → IsQuiet before → ShowsNoLess (left_by before) (calls_of after) →
+    IsMonotone (calls_of after) ↔ IsMonotone (calls_of (renumbered (left_by before) after))
+
+-- atomic from what was left exactly where each view shows that or more, and the history with numbers from 1 is atomic
+abbrev pub AtomicRenumbered : Type 0
+AtomicRenumbered =
+    (before after : List Event) → IsHistory (before ++ after) → All EventFits after → IsQuiet before →
+    IsAtomicFrom (left_by before) (calls_of after) ↔ (ShowsNoLess (left_by before) (calls_of after) × IsAtomic (calls_of (renumbered (left_by before) after)))

@@ -1,0 +1,40 @@
+-- A history behind a quiet moment, with what was left there as its beginning.
+use Rattle.std.specs.Prelude.{ℕ, true, false, List, ◌++◌, ◌∷◌, ◌≡◌, ◌≢◌, ◌≤◌, ◌<◌, ◌⊎◌, Option, Some, None, All, AllPairs, Contains}
+use Rattle.snap_core.specs.declared.entry.Entry.{Entry}
+use Rattle.snap_core.specs.Entries.{number_in}
+use Rattle.snap_core.specs.declared.event.Event.{Event}
+use Rattle.snap_core.specs.Calls.{Call, calls_of, precedes, is_view, shown, shown_number}
+use Rattle.snap_core.specs.Orders.{is_completed, is_update, last_written}
+use Rattle.snap_core.specs.Regular.{IsViewOf, IsUpdateOf, IsBegunBeforeEnd}
+
+-- no call is open behind these events
+abbrev pub IsQuiet : List Event → Type 0
+IsQuiet before = All (λ c. is_completed c ≡ true) (calls_of before)
+
+-- what these events leave of a component: the entry of its last update, or nothing
+abbrev pub left_by : List Event → ℕ → Option Entry
+left_by before k = last_written k None (calls_of before)
+
+-- the beginning of a history of its own: nothing was left of any component
+abbrev pub nothing : ℕ → Option Entry
+nothing k = None
+
+-- regular, where something was left of the components
+pub record IsRegularFrom (left : ℕ → Option Entry) (calls : List Call) : Type 0 where
+  pub not_old : (r c : Call) (e : Entry) → IsViewOf calls r → IsUpdateOf calls c e → shown_number r e.component < e.number → precedes c r ≡ false
+  -- no view shows less than what was left
+  pub not_less : (r : Call) (k : ℕ) → IsViewOf calls r → number_in (left k) ≤ shown_number r k
+  -- each entry is what was left, or that of an update begun before the view ended
+  pub not_early : (r : Call) (k : ℕ) (e : Entry) → IsViewOf calls r → shown r k ≡ Some e → (left k ≡ Some e) ⊎ ((c : Call) × IsUpdateOf calls c e × IsBegunBeforeEnd c r)
+
+-- a legal order, where something was left: a view before the first update of a component shows that
+pub record IsLegalOrderFrom (left : ℕ → Option Entry) (calls order : List Call) : Type 0 where
+  pub only : All (λ c. Contains calls c × ((is_completed c ≡ true) ⊎ (is_update c ≡ true))) order
+  pub distinct : AllPairs (λ a b. a ≢ b) order
+  pub completed : (c : Call) → Contains calls c → is_completed c ≡ true → Contains order c
+  pub precedence : AllPairs (λ a b. precedes b a ≡ false) order
+  pub latest : (before after : List Call) (r : Call) → order ≡ before ++ r ∷ after → is_view r ≡ true → (k : ℕ) → shown r k ≡ last_written k (left k) before
+
+-- atomic, where something was left
+abbrev pub IsAtomicFrom : (ℕ → Option Entry) → List Call → Type 0
+IsAtomicFrom left calls = (order : List Call) × IsLegalOrderFrom left calls order

@@ -1,0 +1,24 @@
+ghost use Rattle.snap_theory.specs.WindowLaws.{RegularFromNothing, AtomicFromNothing, RegularJoins, MonotoneJoins, AtomicJoins, SidesAreHistories, RegularRenumbered, MonotoneRenumbered, AtomicRenumbered};
+
+/// Where nothing was left, regular and atomic from a beginning are regular and atomic.
+pub fn beginnings_may_be_empty()
+    ensures regular { RegularFromNothing }
+    ensures atomic { AtomicFromNothing }
+{}
+
+/// A history that is cut at a quiet moment is atomic exactly where both sides are, the later one from what the earlier one
+/// left. The same holds of regular, and of monotone where the history is regular.
+pub fn windows_join()
+    ensures regular { RegularJoins }
+    ensures monotone { MonotoneJoins }
+    ensures atomic { AtomicJoins }
+{}
+
+/// A history behind a quiet moment is judged as one with numbers from 1, where each view shows what was left or more. What
+/// was left is then not listed. Both sides are histories.
+pub fn windows_may_be_renumbered()
+    ensures histories { SidesAreHistories }
+    ensures regular { RegularRenumbered }
+    ensures monotone { MonotoneRenumbered }
+    ensures atomic { AtomicRenumbered }
+{}

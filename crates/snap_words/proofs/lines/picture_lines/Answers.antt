@@ -1,0 +1,76 @@
+use Rattle.std.proofs.Common.{◌∷◌, [], codes, refl}
+use Rattle.clap.specs.Words.{subcommand_of}
+use Rattle.clap.proofs.OnLiterals.{clap_on_literals}
+use Rattle.snap_words.specs.CommandLine.{program_app}
+use Rattle.snap_words.proofs.Rows.{rows_in}
+use Rattle.snap_words.proofs.lines.picture_lines.Goals as goal
+
+pub returns-clause-shrink_alone : goal.returns-clause-shrink_alone
+unfolding clap_on_literals
+returns-clause-shrink_alone c = λ name. record {
+  rows = rows_in (subcommand_of program_app (name ∷ codes "shrink" ∷ []));
+  taken = refl;
+  rows_are = refl;
+  asks = refl;
+  files_are = refl;
+}
+
+pub returns-clause-shrink_drawn : goal.returns-clause-shrink_drawn
+unfolding clap_on_literals
+returns-clause-shrink_drawn c = λ name. record {
+  rows = rows_in (subcommand_of program_app (name ∷ codes "shrink" ∷ codes "--draw" ∷ []));
+  taken = refl;
+  rows_are = refl;
+  asks = refl;
+  files_are = refl;
+}
+
+pub returns-clause-explain_alone : goal.returns-clause-explain_alone
+unfolding clap_on_literals
+returns-clause-explain_alone c = λ name. record {
+  rows = rows_in (subcommand_of program_app (name ∷ codes "explain" ∷ []));
+  taken = refl;
+  rows_are = refl;
+  asks = refl;
+  files_are = refl;
+}
+
+pub returns-clause-explain_drawn : goal.returns-clause-explain_drawn
+unfolding clap_on_literals
+returns-clause-explain_drawn c = λ name. record {
+  rows = rows_in (subcommand_of program_app (name ∷ codes "explain" ∷ codes "--draw" ∷ []));
+  taken = refl;
+  rows_are = refl;
+  asks = refl;
+  files_are = refl;
+}
+
+pub returns-clause-draw_alone : goal.returns-clause-draw_alone
+unfolding clap_on_literals
+returns-clause-draw_alone c = λ name. record {
+  rows = rows_in (subcommand_of program_app (name ∷ codes "draw" ∷ []));
+  taken = refl;
+  rows_are = refl;
+  asks = record { svg_is = refl; text_is = refl };
+  files_are = refl;
+}
+
+pub returns-clause-draw_svg : goal.returns-clause-draw_svg
+unfolding clap_on_literals
+returns-clause-draw_svg c = λ name. record {
+  rows = rows_in (subcommand_of program_app (name ∷ codes "draw" ∷ codes "--svg" ∷ []));
+  taken = refl;
+  rows_are = refl;
+  asks = record { svg_is = refl; text_is = refl };
+  files_are = refl;
+}
+
+pub returns-clause-draw_text : goal.returns-clause-draw_text
+unfolding clap_on_literals
+returns-clause-draw_text c = λ name. record {
+  rows = rows_in (subcommand_of program_app (name ∷ codes "draw" ∷ codes "--text" ∷ []));
+  taken = refl;
+  rows_are = refl;
+  asks = record { svg_is = refl; text_is = refl };
+  files_are = refl;
+}

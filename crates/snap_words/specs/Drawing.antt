@@ -1,0 +1,23 @@
+-- What the words of `draw` ask for.
+use Rattle.std.specs.Prelude.{◌≡◌, Bool, true, false, List, Some, codes}
+use Rattle.clap.specs.Words.{Row, one_of}
+use Rattle.snap_words.specs.declared.drawing.Form.{Form}
+use Rattle.snap_words.specs.declared.drawing.Form.TheVariants.{Lines, Page, Svg}
+use Rattle.snap_words.specs.Jobs.{flag_text}
+
+-- whether a form has the flag --svg
+abbrev pub asks_svg : Form → Bool
+asks_svg Page = false
+asks_svg Svg = true
+asks_svg Lines = false
+
+-- whether a form has the flag --text
+abbrev pub asks_text : Form → Bool
+asks_text Page = false
+asks_text Svg = false
+asks_text Lines = true
+
+-- the flags of `draw` are those of a form
+pub record AsksDraw (rows : List Row) (form : Form) : Type 0 where
+  pub svg_is : one_of (codes "svg") rows ≡ Some (flag_text (asks_svg form))
+  pub text_is : one_of (codes "text") rows ≡ Some (flag_text (asks_text form))

@@ -1,0 +1,187 @@
+//! The words of `check`, and its help.
+ghost use Rattle.std.specs.Prelude.{◌≡◌, IfOk, false};
+ghost use Rattle.clap.specs.Words.{app_of};
+ghost use Rattle.clap.specs.declared.builder.command.Command.TheViews.{out-Command as fields_of};
+ghost use Rattle.snap_words.specs.CommandLine.{check_app};
+
+use crate::command::command_of;
+use crate::word::{Takes, Word};
+use clap::Command;
+use snap_core::EVENT_LIMIT;
+use snap_threads::{PIECE_LIMIT, WORKER_LIMIT};
+use std::alloc::{AllocError, Global};
+
+/// How many completed views a history has at most, each of two events.
+pub(crate) const VIEW_LIMIT: u32 = (EVENT_LIMIT / 2) as u32;
+
+const ABOUT: &str =
+    "Reads a history from a file or standard input and writes its report to standard output";
+
+const EXAMPLE: &str = "\
+A history is a text of records, one event each, under a header:
+
+    event,process,op,data
+    begin,0,update,0:1:7
+    end,0,update,
+    begin,1,view,
+    end,1,view,0:1:7
+
+Process 0 writes the value 7 into component 0, as its update 1; process 1 then takes a
+view, and sees it. An update begins with COMPONENT:NUMBER:VALUE, a view ends with what it
+shows, entries of the same form with spaces between. `snapjudge check history.csv` prints:
+
+    events 4 calls 2 pending 0 views 1
+    regular yes
+    monotone yes
+    atomic yes
+    order 2
+    1 p0 update 0:1:7
+    2 p1 view 0:1:7
+
+An atomic history's report ends with an order of its calls that explains every view. Any
+other history's report ends with a line for each kind of fault: how many there are, and
+the first one.
+
+With --quiet only the lines of the three verdicts are printed; the line of a text that is
+no history is printed all the same. With --views N a history with fewer than N completed
+views has status 3: nothing is printed, and standard error says so. So a script that judges
+runs does not take an empty recording for a good one.
+
+Of several files the reports stand in the order of the names. Each line has the file's name and
+a colon before it, and the status is the greatest. A file that can't be opened or read counts
+as 4: standard error says why, and the others are judged all the same.
+
+With --format json each history is answered by one JSON object on a line, which has its file's
+name. It holds the status, the verdicts and the first fault of each kind with its calls and
+their records. A file that can't be read has an object too, with the reason. Not with --quiet.
+
+With --summary the reports are left out. Once all files are judged it prints how many there are, and
+how many have each status, with the first of them. Not with --quiet, and not with --format json.
+
+On a terminal a line on standard error shows how far it is, where there are more than 100 files or a
+second has passed. --no-progress leaves it out. The verdicts have colours there, unless --color never
+is asked for or the variable NO_COLOR is set. Elsewhere there is neither.
+
+Exit status:
+    0  the history is atomic
+    1  it is regular, and not atomic
+    2  it is not regular
+    3  the text is no history: the one line of the report names the record and its fault;
+       or it has fewer completed views than --views asks for
+    4  reading, writing or memory failed, or a file can't be opened
+    5  the words of the command line were not taken";
+
+const WORDS: &[Word<'static>] = &[
+    Word {
+        id: "pieces",
+        long: Some("pieces"),
+        short: None,
+        takes: Takes::Number {
+            name: "P",
+            least: 1,
+            most: PIECE_LIMIT as i64,
+            usual: "8",
+        },
+        help: "Into how many pieces the views are cut, from 1 to 1024",
+    },
+    Word {
+        id: "workers",
+        long: Some("workers"),
+        short: None,
+        takes: Takes::Number {
+            name: "W",
+            least: 1,
+            most: WORKER_LIMIT as i64,
+            usual: "2",
+        },
+        help: "How many threads share the pieces, from 1 to 8",
+    },
+    Word {
+        id: "list",
+        long: Some("files-from"),
+        short: None,
+        takes: Takes::Text { name: "LIST" },
+        help: "Judge the files named in LIST too, one a line; - is standard input",
+    },
+    Word {
+        id: "null",
+        long: Some("null"),
+        short: Some('0'),
+        takes: Takes::Nothing,
+        help: "The names in LIST end with a zero byte",
+    },
+    Word {
+        id: "folder",
+        long: Some("recursive"),
+        short: Some('r'),
+        takes: Takes::Text { name: "FOLDER" },
+        help: "Judge all *.csv below FOLDER too, in the order of their names",
+    },
+    Word {
+        id: "quiet",
+        long: Some("quiet"),
+        short: None,
+        takes: Takes::Nothing,
+        help: "Write the lines of the verdicts alone",
+    },
+    Word {
+        id: "views",
+        long: Some("views"),
+        short: None,
+        takes: Takes::Number {
+            name: "N",
+            least: 0,
+            most: VIEW_LIMIT as i64,
+            usual: "0",
+        },
+        help: "How many completed views the history must have, from 0 to 32768",
+    },
+    Word {
+        id: "format",
+        long: Some("format"),
+        short: None,
+        takes: Takes::TextOr {
+            name: "FORMAT",
+            usual: "plain",
+        },
+        help: "Write reports, or a JSON object for each history: plain or json",
+    },
+    Word {
+        id: "summary",
+        long: Some("summary"),
+        short: None,
+        takes: Takes::Nothing,
+        help: "Write how many files have each status, and the first of them, in place of reports",
+    },
+    Word {
+        id: "no-progress",
+        long: Some("no-progress"),
+        short: None,
+        takes: Takes::Nothing,
+        help: "Do not show on a terminal how far it is",
+    },
+    Word {
+        id: "color",
+        long: Some("color"),
+        short: None,
+        takes: Takes::TextOr {
+            name: "WHEN",
+            usual: "auto",
+        },
+        help: "Colour the verdicts: auto, which is on a terminal, always or never",
+    },
+    Word {
+        id: "file",
+        long: None,
+        short: None,
+        takes: Takes::Texts { name: "FILE" },
+        help: "The histories; without one, and of -, standard input is read",
+    },
+];
+
+/// The command `check` with its words.
+pub(crate) fn check_command<'a>(alloc: Global) -> Result<Command<'a>, AllocError>
+    ensures { IfOk result (λ command. (app_of command ≡ check_app) × ((fields_of command).has_globals ≡ false)) }
+{
+    command_of(alloc, "check", ABOUT, EXAMPLE, WORDS)
+}

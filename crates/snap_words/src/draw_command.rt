@@ -1,0 +1,66 @@
+//! The words of `draw`, and its help.
+ghost use Rattle.std.specs.Prelude.{◌≡◌, IfOk, false};
+ghost use Rattle.clap.specs.Words.{app_of};
+ghost use Rattle.clap.specs.declared.builder.command.Command.TheViews.{out-Command as fields_of};
+ghost use Rattle.snap_words.specs.CommandLine.{draw_app};
+
+use crate::command::command_of;
+use crate::word::{FILE, Takes, Word};
+use clap::Command;
+use std::alloc::{AllocError, Global};
+
+const ABOUT: &str =
+    "Reads a history from a file or standard input and writes a picture of it to standard output";
+
+const EXAMPLE: &str = "\
+The picture is a page for a browser, which needs no other file. Each process has a lane, and
+each call a bar from its begin to its end. The calls of the first fault of each kind are
+marked, and a sentence says what the fault is. Where the history is atomic, a line leads
+through the points at which its calls take effect. A call that is chosen on the page is shown
+with its records.
+
+Of a history of more than 60 calls a window of 60 is drawn: the calls of the first faults, and
+the first others that overlap one of them. Where there is no fault, these are the first calls.
+
+With --svg only the picture is written, without the page around it, as for a document. With
+--text the picture is made of lines of characters, as for a terminal or a mail, of at most 12
+calls. An update stands between [ ], a view between ( ), and a pending call ends in >. A call of
+a first fault has an exclamation mark, and below it stands the kind of the fault; of an atomic
+history the place of each call in the printed order stands there. What is wrong is said below.
+
+    snapjudge draw run.csv > run.html
+    snapjudge draw --svg run.csv > run.svg
+    snapjudge draw --text run.csv
+
+Exit status:
+    0  the history is atomic
+    1  it is regular, and not atomic
+    2  it is not regular
+    3  the text is no history: the one line that is written names the record and its fault
+    4  reading, writing or memory failed, or the file can't be opened
+    5  the words of the command line were not taken";
+
+const WORDS: &[Word<'static>] = &[
+    Word {
+        id: "svg",
+        long: Some("svg"),
+        short: None,
+        takes: Takes::Nothing,
+        help: "Write the picture as SVG, without a page around it",
+    },
+    Word {
+        id: "text",
+        long: Some("text"),
+        short: None,
+        takes: Takes::Nothing,
+        help: "Write the picture as lines of characters; not with --svg",
+    },
+    FILE,
+];
+
+/// The command `draw` with its words.
+pub(crate) fn draw_command<'a>(alloc: Global) -> Result<Command<'a>, AllocError>
+    ensures { IfOk result (λ command. (app_of command ≡ draw_app) × ((fields_of command).has_globals ≡ false)) }
+{
+    command_of(alloc, "draw", ABOUT, EXAMPLE, WORDS)
+}

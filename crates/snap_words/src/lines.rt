@@ -1,0 +1,46 @@
+//! What whole lines of words mean. Each law names lines by their words behind the program's name, which may be any.
+ghost use Rattle.std.specs.Prelude.{◌∷◌, [], Some, None, codes, false, true};
+ghost use Rattle.clap.specs.Words.{Text};
+ghost use Rattle.snap_words.specs.Drawing.{AsksDraw};
+ghost use Rattle.snap_words.specs.Jobs.{AsksCheck, AsksPicture, AsksRecord, no_flags, no_options};
+ghost use Rattle.snap_words.specs.Lines.{Means};
+ghost use Rattle.snap_words.specs.Sources.{NamesSources};
+ghost use Rattle.snap_words.specs.declared.color.Color.TheVariants.{Never};
+ghost use Rattle.snap_words.specs.declared.drawing.Form.TheVariants.{Lines, Page, Svg};
+
+/// What lines of `check` ask for: 8 pieces and 2 workers where nothing else is said, and what each option says.
+pub fn check_lines()
+    ensures alone { (name : Text) → Means (name ∷ codes "check" ∷ []) (codes "check") (λ rows. AsksCheck rows 8 2 no_options) [] }
+    ensures cut { (name : Text) → Means (name ∷ codes "check" ∷ codes "--pieces" ∷ codes "3" ∷ codes "--workers" ∷ codes "4" ∷ []) (codes "check") (λ rows. AsksCheck rows 3 4 no_options) [] }
+    ensures quiet { (name : Text) → Means (name ∷ codes "check" ∷ codes "--quiet" ∷ []) (codes "check") (λ rows. AsksCheck rows 8 2 (record no_options { quiet = true })) [] }
+    ensures views { (name : Text) → Means (name ∷ codes "check" ∷ codes "--views" ∷ codes "5" ∷ []) (codes "check") (λ rows. AsksCheck rows 8 2 (record no_options { views = 5 })) [] }
+    ensures json { (name : Text) → Means (name ∷ codes "check" ∷ codes "--format" ∷ codes "json" ∷ []) (codes "check") (λ rows. AsksCheck rows 8 2 (record no_options { json = true })) [] }
+    ensures summary { (name : Text) → Means (name ∷ codes "check" ∷ codes "--summary" ∷ []) (codes "check") (λ rows. AsksCheck rows 8 2 (record no_options { summary = true })) [] }
+    ensures color { (name : Text) → Means (name ∷ codes "check" ∷ codes "--color" ∷ codes "never" ∷ []) (codes "check") (λ rows. AsksCheck rows 8 2 (record no_options { color = Never })) [] }
+    ensures files { (name : Text) → Means (name ∷ codes "check" ∷ codes "a.csv" ∷ codes "-" ∷ []) (codes "check") (λ rows. AsksCheck rows 8 2 no_options) (codes "a.csv" ∷ codes "-" ∷ []) }
+{}
+
+/// Where the names of files come from: from the words alone, or also from a list and from below a folder.
+pub fn source_lines()
+    ensures without { (name : Text) → Means (name ∷ codes "check" ∷ []) (codes "check") (λ rows. NamesSources rows None false None) [] }
+    ensures named { (name : Text) → Means (name ∷ codes "check" ∷ codes "--files-from" ∷ codes "-" ∷ codes "-0" ∷ codes "-r" ∷ codes "runs" ∷ []) (codes "check") (λ rows. AsksCheck rows 8 2 no_options × NamesSources rows (Some (codes "-")) true (Some (codes "runs"))) [] }
+{}
+
+/// What lines of `shrink`, `explain` and `draw` ask for.
+pub fn picture_lines()
+    ensures shrink_alone { (name : Text) → Means (name ∷ codes "shrink" ∷ []) (codes "shrink") (AsksPicture false) [] }
+    ensures shrink_drawn { (name : Text) → Means (name ∷ codes "shrink" ∷ codes "--draw" ∷ []) (codes "shrink") (AsksPicture true) [] }
+    ensures explain_alone { (name : Text) → Means (name ∷ codes "explain" ∷ []) (codes "explain") (AsksPicture false) [] }
+    ensures explain_drawn { (name : Text) → Means (name ∷ codes "explain" ∷ codes "--draw" ∷ []) (codes "explain") (AsksPicture true) [] }
+    ensures draw_alone { (name : Text) → Means (name ∷ codes "draw" ∷ []) (codes "draw") (λ rows. AsksDraw rows Page) [] }
+    ensures draw_svg { (name : Text) → Means (name ∷ codes "draw" ∷ codes "--svg" ∷ []) (codes "draw") (λ rows. AsksDraw rows Svg) [] }
+    ensures draw_text { (name : Text) → Means (name ∷ codes "draw" ∷ codes "--text" ∷ []) (codes "draw") (λ rows. AsksDraw rows Lines) [] }
+{}
+
+/// What lines of `record` ask for: 2 workers and 16 rounds of views where nothing else is said.
+pub fn record_lines()
+    ensures alone { (name : Text) → Means (name ∷ codes "record" ∷ []) (codes "record") (λ rows. AsksRecord rows 2 16 no_flags) [] }
+    ensures judged { (name : Text) → Means (name ∷ codes "record" ∷ codes "--rounds" ∷ codes "5" ∷ codes "--judge" ∷ []) (codes "record") (λ rows. AsksRecord rows 2 5 (record no_flags { judge = true })) [] }
+    ensures scanned { (name : Text) → Means (name ∷ codes "record" ∷ codes "--scan" ∷ []) (codes "record") (λ rows. AsksRecord rows 2 16 (record no_flags { scan = true })) [] }
+    ensures stamped { (name : Text) → Means (name ∷ codes "record" ∷ codes "--stamped" ∷ []) (codes "record") (λ rows. AsksRecord rows 2 16 (record no_flags { stamped = true })) [] }
+{}

@@ -1,0 +1,102 @@
+//! A word that a command takes, and the parser's argument for it.
+ghost use Rattle.std.specs.Prelude.{◌≡◌, false};
+ghost use Rattle.clap.specs.Words.{rule_of};
+ghost use Rattle.snap_words.specs.Tables.{named_rule, number_between, rule_in};
+
+use clap::builder::ValueParser;
+use clap::{Arg, ArgAction};
+use std::alloc::Global;
+
+/// What stands behind a word. The help has a name for it.
+#[derive(Clone, Copy)]
+pub(crate) enum Takes<'a> {
+    /// Nothing: the word is a flag.
+    Nothing,
+    /// A text, if the word is given.
+    Text {
+        name: &'a str,
+    },
+    /// A text, which is the usual one if the word is not given.
+    TextOr {
+        name: &'a str,
+        usual: &'a str,
+    },
+    /// Any number of texts.
+    Texts {
+        name: &'a str,
+    },
+    /// A number from the least to the most, which is the usual one if the word is not given.
+    Number {
+        name: &'a str,
+        least: i64,
+        most: i64,
+        usual: &'a str,
+    },
+}
+
+/// A word that a command takes. One that is neither long nor short is what stands behind it alone.
+#[derive(Clone, Copy)]
+pub(crate) struct Word<'a> {
+    /// The name by which a job asks for it.
+    pub(crate) id: &'a str,
+    /// How it is spelled behind two hyphens.
+    pub(crate) long: Option<&'a str>,
+    /// How it is spelled behind one hyphen.
+    pub(crate) short: Option<char>,
+    pub(crate) takes: Takes<'a>,
+    pub(crate) help: &'a str,
+}
+
+/// The file of a command that takes one.
+pub(crate) const FILE: Word<'static> = Word {
+    id: "file",
+    long: None,
+    short: None,
+    takes: Takes::Text { name: "FILE" },
+    help: "The history; without it, and of -, standard input is read",
+};
+
+// The argument of a word, but for what stands behind it.
+fn named_argument<'a>(alloc: Global, word: &Word<'a>) -> Arg<'a>
+    ensures rule { rule_of result ≡ named_rule word.entry.now }
+    ensures own { result.global ≡ false }
+{
+    let mut argument = Arg::new(alloc, word.id).help(word.help);
+    if let Some(long) = word.long {
+        argument = argument.long(long);
+    }
+    if let Some(short) = word.short {
+        argument = argument.short(short);
+    }
+    argument
+}
+
+// The parser of a number of 32 bits from the least to the most.
+fn number_parser<'a>(least: i64, most: i64) -> ValueParser<'a>
+    ensures { result ≡ number_between least most }
+{
+    clap::value_parser!(u32).range(least..=most)
+}
+
+/// The argument of a word.
+pub(crate) fn argument_of<'a>(alloc: Global, word: &Word<'a>) -> Arg<'a>
+    ensures rule { rule_of result ≡ rule_in word.entry.now }
+    ensures own { result.global ≡ false }
+{
+    let argument = named_argument(alloc, word);
+    match word.takes {
+        Takes::Nothing => argument.action(ArgAction::SetTrue),
+        Takes::Text { name } => argument.value_name(name),
+        Takes::TextOr { name, usual } => argument.value_name(name).default_value(usual),
+        Takes::Texts { name } => argument.value_name(name).action(ArgAction::Append),
+        Takes::Number {
+            name,
+            least,
+            most,
+            usual,
+        } => argument
+            .value_name(name)
+            .value_parser(number_parser(least, most))
+            .default_value(usual),
+    }
+}

@@ -1,0 +1,124 @@
+"""Histories and the pictures that `snapjudge draw` makes of them, as test-draw.py reads both."""
+import re
+import xml.etree.ElementTree as tree
+
+SVG = "{http://www.w3.org/2000/svg}"
+# A character of a label is at most so wide, and a line of text so high above its foot and so deep below it.
+WIDE, HIGH, DEEP = 7, 10, 2
+
+
+class Call:
+    """A call of a history: its process, what it does, and the records of its begin and its end."""
+
+    def __init__(self, process, kind, data, begin):
+        self.process, self.kind, self.data, self.begin, self.end = process, kind, data, begin, None
+
+    def title(self, number):
+        records = f"record {self.begin}, pending" if self.end is None else f"records {self.begin} and {self.end}"
+        return f"call {number} of process {self.process}, {records}: {self.kind} {self.data}".strip()
+
+
+def calls_of(text):
+    """The calls of a history by their numbers."""
+    calls, open_calls = [], {}
+    for record, line in enumerate(text.splitlines()[1:], 2):
+        what, process, kind, data = line.split(",")
+        if what == "begin":
+            open_calls[process] = Call(process, kind, data, record)
+            calls.append(open_calls[process])
+        else:
+            call = open_calls.pop(process)
+            call.end, call.data = record, call.data or data
+    return dict(enumerate(calls, 1))
+
+
+def faults_of(report, calls):
+    """For each kind of fault in a report the calls of the first one, and the printed order, or nothing."""
+    updates = {tuple(call.data.split(":")[:2]): number for number, call in calls.items() if call.kind == "update"}
+    faults, order = {}, []
+
+    def update(component, number):
+        found = updates.get((component, str(number)))
+        return {found} if found else set()
+
+    for line in report.splitlines():
+        words = line.split()
+        numbers = re.findall(r"\d+", line)
+        if words[0] == "integrity":
+            faults["integrity"] = {int(numbers[1])} | update(*numbers[2:4])
+        elif words[0] == "proximity":
+            number = int(numbers[3]) + (words[-1] == "old")
+            faults["proximity"] = {int(numbers[1])} | update(numbers[2], number)
+        elif words[0] == "read":
+            faults["read"] = {int(numbers[1]), int(numbers[2])}
+        elif words[0] == "write":
+            faults["write"] = {int(numbers[1])} | update(*numbers[2:4]) | update(*numbers[4:6])
+        elif words[0].isdigit():
+            order.append(int(words[0]))
+    return faults, order
+
+
+class Box:
+    """A rectangle of a picture."""
+
+    def __init__(self, left, top, right, bottom):
+        self.left, self.top, self.right, self.bottom = left, top, right, bottom
+
+    def meets(self, other):
+        return self.left < other.right and other.left < self.right and self.top < other.bottom and other.top < self.bottom
+
+
+def number(element, name):
+    return float(element.get(name))
+
+
+def bar_box(element):
+    left, top = number(element, "x"), number(element, "y")
+    return Box(left, top, left + number(element, "width"), top + number(element, "height"))
+
+
+def text_box(element, is_middle):
+    wide = WIDE * len(element.text or "")
+    left, foot = number(element, "x") - is_middle * wide / 2, number(element, "y")
+    return Box(left, foot - HIGH, left + wide, foot + DEEP)
+
+
+def points_of(path):
+    """The points of a line of straight steps."""
+    numbers = list(map(float, re.findall(r"-?\d+(?:\.\d+)?", path)))
+    return list(zip(numbers[::2], numbers[1::2]))
+
+
+class Picture:
+    """A picture: its elements by their ids."""
+
+    def __init__(self, text):
+        self.root = tree.fromstring(text)
+        self.all_ids = [it.get("id") for it in self.root.iter() if it.get("id")]
+        self.by = {it.get("id"): it for it in self.root.iter() if it.get("id")}
+
+    def ids(self, front):
+        return {name[len(front):] for name in self.by if name.startswith(front)}
+
+    def classes(self, name):
+        return set(self.by[name].get("class", "").split())
+
+    def part(self, name, tag, kind=None):
+        """The first element of a tag, and of a class where one is named, in the element of an id; or none."""
+        inside = self.by[name].iter(SVG + tag) if name in self.by else ()
+        return next((it for it in inside if kind is None or kind in it.get("class", "").split()), None)
+
+    def text(self, name, tag, kind=None):
+        """The text of such an element, or nothing."""
+        found = self.part(name, tag, kind)
+        return "" if found is None else found.text or ""
+
+    def bar(self, call):
+        return bar_box(self.part(f"call-{call}", "rect", "bar"))
+
+    def texts(self):
+        """All visible texts, each with its box."""
+        for group in self.root.iter():
+            for it in group.findall(SVG + "text"):
+                is_middle = group.get("id") in ("records", "places")
+                yield it.text, text_box(it, is_middle)

@@ -1,0 +1,333 @@
+#!/usr/bin/env python3
+"""Tries `snapjudge draw` on each history of examples/. The last line is 'N passed, M failed', with ', K skipped' behind it.
+
+usage: test-draw.py [--write] [PROGRAM]      the program is ./snapjudge where none is named
+
+What a picture must show is worked out here from the history's text and from the report that is kept beside it. The picture is
+read as XML, its numbers are compared, and where chromium is here the page is opened in it at two widths. Pictures are kept in
+docs/pictures, and must be what the program draws today; with --write they are written. First the tests are tried themselves: each
+must find what is wrong with a changed picture.
+"""
+import contextlib
+import io
+import itertools
+import json
+import pathlib
+import re
+import shutil
+import subprocess
+import sys
+import tempfile
+import xml.etree.ElementTree as tree
+
+from drawn_lines import WRONG as WRONG_LINES, LinePicture, try_lines
+from pictures import Picture, calls_of, faults_of, number, points_of
+
+TOP = pathlib.Path(__file__).resolve().parent.parent
+PICTURES, ASKED = TOP / "docs/pictures", TOP / "share/test-draw.js"
+# The widths at which the page is opened, and how long the browser may take, in seconds.
+WIDTHS, LONGEST = (400, 1400), 60
+# The most bytes that a page may have, for the longest history.
+MOST_BYTES, MOST_EVENTS = 5_000_000, 65_536
+# The most calls that are drawn on a page, and by lines.
+MOST_CALLS, MOST_IN_LINES = 60, 12
+
+
+class Count:
+    """What passed, failed and was skipped."""
+
+    def __init__(self):
+        self.passed, self.failed, self.skipped = 0, 0, 0
+
+    def expect(self, is_so, otherwise):
+        self.passed += bool(is_so)
+        self.failed += not is_so
+        if not is_so:
+            print(f"failed: {otherwise}")
+
+    def same(self, found, wanted, what):
+        self.expect(found == wanted, f"{what}: found {found}, wanted {wanted}")
+
+    def skip(self, what):
+        self.skipped += 1
+        print(f"skipped: {what}")
+
+    def end(self):
+        print(f"{self.passed} passed, {self.failed} failed" + (f", {self.skipped} skipped" if self.skipped else ""))
+        return 1 if self.failed else 0
+
+
+def picture_of(count, name, text):
+    """The picture that a text is; or none, where it is no XML."""
+    try:
+        return Picture(text)
+    except tree.ParseError as wrong:
+        count.expect(False, f"{name}: the picture can't be read: {wrong}")
+        return None
+
+
+def asked(program, *words, given=None):
+    """The status of a command, and what it writes."""
+    ran = subprocess.run([program, *words], input=given and given.encode(), capture_output=True, check=False)
+    return ran.returncode, ran.stdout.decode()
+
+
+def draw(program, path, *words):
+    return asked(program, "draw", *words, path)
+
+
+def try_calls(count, name, picture, calls, faults):
+    """Each call has its bar, in its lane, from its begin to its end, and no other call has one."""
+    count.same(picture.ids("call-"), set(map(str, calls)), f"{name}: calls")
+    count.same(picture.ids("lane-"), {call.process for call in calls.values()}, f"{name}: lanes")
+    count.same(len(set(picture.all_ids)), len(picture.all_ids), f"{name}: an id stands twice")
+    if picture.ids("call-") != set(map(str, calls)):
+        return False
+    lines = {process: points_of(picture.part(f"lane-{process}", "path").get("d")) for process in picture.ids("lane-")}
+    heights = {process: line[0][1] for process, line in lines.items()}
+    places = {}
+    for at, call in calls.items():
+        where, bar = f"{name}: call {at}", picture.bar(at)
+        marks = {f"fault-{kind}" for kind, members in faults.items() if at in members}
+        wanted = {"call", call.kind} | ({"pending"} if call.end is None else set()) | marks
+        count.same(picture.classes(f"call-{at}"), wanted, f"{where}: classes")
+        count.same(picture.text(f"call-{at}", "title"), call.title(at), f"{where}: title")
+        count.same(picture.by[f"call-{at}"].get("data-records"), f"{call.begin}-{call.end or ''}", f"{where}: records")
+        count.same(picture.by[f"call-{at}"].get("tabindex"), "0", f"{where}: a key gets to it")
+        inside = {process for process, high in heights.items() if bar.top < high < bar.bottom}
+        count.same(inside, {call.process}, f"{where}: lanes of its bar")
+        count.same(set(picture.text(f"call-{at}", "text", "tag").split()), {it[len("fault-"):] for it in marks}, f"{where}: tag")
+        label = picture.text(f"call-{at}", "text", "label")
+        whole = f"{at} {call.kind} {call.data}".strip()
+        count.expect(label == whole or label.endswith("…") and whole.startswith(label[:-1]), f"{where}: its label is {label}")
+        count.expect((picture.part(f"call-{at}", "path", "open") is not None) == (call.end is None), f"{where}: an open end")
+        places[call.begin] = bar.left
+        places[call.end or 2 * MOST_EVENTS + at] = bar.right + (call.end is None) * at / 1000
+    across = [places[record] for record in sorted(places)]
+    count.expect(all(one < next_one for one, next_one in zip(across, across[1:])), f"{name}: the order of the events is not kept: {across}")
+    return True
+
+
+def try_overlap(count, name, picture, calls):
+    for (one, first), (two, second) in itertools.combinations(calls.items(), 2):
+        if first.process == second.process:
+            count.expect(not picture.bar(one).meets(picture.bar(two)), f"{name}: the bars of calls {one} and {two} overlap")
+    for (one, box), (two, other) in itertools.combinations(picture.texts(), 2):
+        count.expect(not box.meets(other), f"{name}: the text {one} covers {two}")
+    right = number(picture.root, "width")
+    count.expect(all(box.left >= 0 and box.right <= right for _, box in picture.texts()), f"{name}: a text leaves the picture")
+
+
+def try_faults(count, name, picture, faults, said):
+    """Each kind of fault has its sentence, as `explain` writes it, and its place in the strip."""
+    count.same(picture.ids("fault-"), set(faults), f"{name}: kinds of faults")
+    for kind in faults:
+        for tag in ("title", "text"):
+            sentence = picture.text(f"fault-{kind}", tag)
+            count.expect(sentence in said, f"{name}: {kind}: its {tag} is {sentence}")
+        count.expect(picture.part("strip", "path", f"fault-{kind}") is not None, f"{name}: {kind} is not in the strip")
+
+
+def try_order(count, name, picture, order):
+    """Each call of the printed order takes effect in its bar, one behind the other, and the line leads through these points."""
+    count.same(picture.ids("place-"), {str(place) for place in range(1, len(order) + 1)}, f"{name}: places")
+    if not order or len(picture.ids("place-")) != len(order):
+        return
+    points = points_of(picture.part("order", "path", "line").get("d"))
+    count.same(len(points), len(order), f"{name}: points of the line")
+    count.expect(all(one[0] < two[0] for one, two in zip(points, points[1:])), f"{name}: the line goes back: {points}")
+    for place, (call, (across, down)) in enumerate(zip(order, points), 1):
+        bar, label = picture.bar(call), picture.by[f"place-{place}"]
+        count.expect(bar.left < across < bar.right and bar.top < down < bar.bottom, f"{name}: place {place} is not in the bar of call {call}")
+        count.expect(label.text == str(place) and number(label, "x") == across, f"{name}: the label of place {place}")
+
+
+def try_alone(count, name, page):
+    """A page names nothing that it would have to load."""
+    bare = page.replace('xmlns="http://www.w3.org/2000/svg"', "")
+    found = re.findall(r"https?:|\bsrc\s*=|\bhref\s*=|@import|url\((?!#)|@font-face|\bfetch\(|XMLHttpRequest", bare)
+    count.same(found, [], f"{name}: what it would load")
+
+
+def ask(browser, page, width):
+    """What a page answers in the browser at a width; nothing where its script failed or took too long."""
+    # the window of a browser has a least width, so the page is held to its own
+    page = page.replace("</head>", f"<style>html {{ width: {width}px }}</style></head>").replace("</body>", f"<script>{ASKED.read_text()}</script></body>")
+    with tempfile.TemporaryDirectory() as room:
+        path = pathlib.Path(room, "page.html")
+        path.write_text(page, encoding="utf-8")
+        words = [browser, "--headless", "--no-sandbox", "--disable-gpu", f"--user-data-dir={room}/user", f"--window-size={max(width, 600)},900", "--dump-dom", path.as_uri()]
+        try:
+            ran = subprocess.run(words, capture_output=True, timeout=LONGEST, check=False)
+        except subprocess.TimeoutExpired:
+            return None
+    found = re.search(r'id="found"[^>]*>(.*?)</script>', ran.stdout.decode(errors="replace"), re.S)
+    return found and json.loads(found.group(1))
+
+
+def try_browser(count, browser, name, page, calls, faults):
+    for width in WIDTHS:
+        where = f"{name}, {width} wide"
+        found = ask(browser, page, width)
+        if not found:
+            count.expect(False, f"{where}: the page did not answer")
+            continue
+        count.same(found["covered"], [], f"{where}: labels that cover others")
+        count.same(found["loaded"], 0, f"{where}: what was loaded")
+        count.expect(found["page"] <= width, f"{where}: the page takes {found['page']}")
+        count.expect(all(kind + ":" in found["faults"] for kind in faults), f"{where}: its faults are {found['faults']}")
+        kinds = {call.kind for call in calls.values()} | {"pending" for call in calls.values() if call.end is None}
+        count.same(set(found["legend"]), kinds | {"call" if faults else "the"}, f"{where}: what the legend explains")
+        for at, call in calls.items():
+            begin = f"record {call.begin}: begin,{call.process},{call.kind}," + (call.data if call.kind == "update" else "")
+            end = f"record {call.end}: end,{call.process},{call.kind}," + (call.data if call.kind == "view" else "")
+            wanted = [call.title(at), begin, end if call.end else "pending"]
+            panel = found["shown"].get(f"call-{at}", "")
+            count.expect(all(it in panel for it in wanted), f"{where}: of call {at} the panel shows {panel}")
+        count.expect(found["isWhole"], f"{where}: 0 does not show the whole picture")
+        count.expect(found["fitted"] < found["larger"] > found["smaller"] < found["wheeled"], f"{where}: larger and smaller are wrong: {found}")
+        count.expect(found["moved"] > 0, f"{where}: an arrow does not move the picture")
+
+
+def try_example(count, program, browser, path, is_written):
+    name, report = path.stem, path.with_suffix(".report").read_text()
+    status, picture_text = draw(program, path, "--svg")
+    count.same(status, subprocess.run([program, "check", path], capture_output=True, check=False).returncode, f"{name}: status")
+    if report.startswith("refused"):
+        count.same(picture_text, report, f"{name}: what is written of no history")
+        return
+    page_status, page = draw(program, path)
+    count.same(page_status, status, f"{name}: status of the page")
+    count.expect(picture_text.strip() in page, f"{name}: the page has another picture")
+    try_picture(count, name, picture_text, path, explained(program, path))
+    try_alone(count, name, page)
+    kept = PICTURES / f"{name}.svg"
+    if is_written:
+        kept.write_text(picture_text, encoding="utf-8")
+    count.expect(kept.exists() and kept.read_text(encoding="utf-8") == picture_text, f"docs/pictures/{name}.svg is not what is drawn today: run share/test-draw.py --write")
+    try_text(count, program, path, status)
+    if browser:
+        calls = calls_of(path.read_text())
+        try_browser(count, browser, name, page, calls, faults_of(report, calls)[0])
+    else:
+        count.skip(f"{name}: the page in a browser, since chromium is not here")
+
+
+def try_text(count, program, path, status):
+    """The picture by lines, alone, below an explanation, and of a witness."""
+    name, calls, said = f"{path.stem}, by lines", calls_of(path.read_text()), explained(program, path)
+    faults, order = faults_of(path.with_suffix(".report").read_text(), calls)
+    text_status, text = draw(program, path, "--text")
+    count.same(text_status, status, f"{name}: status")
+    count.same(text.split("\n")[0], said[0].split(":")[0], f"{name}: verdict")
+    if len(calls) <= MOST_IN_LINES:
+        try_lines(count, name, text, calls, faults, order, said)
+    explanation = asked(program, "explain", path)[1]
+    beside_status, beside = asked(program, "explain", "--draw", path)
+    sentences = [line for line in said if line.split(":")[0] in faults]
+    lanes = [line for line in text.split("\n\n", 1)[1].split("\n") if line and line not in sentences]
+    count.same(beside_status, status, f"{name}: status of the explanation")
+    count.expect(beside.startswith(explanation + "\n"), f"{name}: the explanation is not above the picture")
+    count.same([line for line in beside[len(explanation):].split("\n") if line], lanes, f"{name}: the picture below the explanation")
+    witness = asked(program, "shrink", path)[1]
+    count.same(asked(program, "shrink", "--draw", path), (status, asked(program, "draw", "--text", given=witness)[1]), f"{name}: the picture of the witness")
+
+
+# What is changed in the picture of new-old-inversion, so that it is wrong.
+WRONG = {
+    "a call is left out": (r'<g class="call[^>]*id="call-3".*?</g>', ""),
+    "a call stands twice": (r'(<g class="call[^>]*id="call-2".*?</g>)', r"\1\1"),
+    "a call has another number": (r'id="call-3"', 'id="call-4"'),
+    "a bar ends at the next event": (r'(id="call-1".*?width=")\d+', r"\g<1>48"),
+    "a bar begins too early": (r'(id="call-3".*?<rect class="bar" x=")\d+', r"\g<1>100"),
+    "a bar lies in the lane of a neighbour": (r'(id="call-3".*?<rect[^>]*y=")\d+', r"\g<1>168"),
+    "the second call of a fault is not marked": (r'call view fault-read" id="call-3"', 'call view" id="call-3"'),
+    "a call of no fault is marked": (r'call update" id="call-1"', 'call update fault-read" id="call-1"'),
+    "a marked call has no tag": (r'(id="call-3".*?)<text class="tag".*?</text>', r"\1"),
+    "a call that ended is open": (r'call view fault-read" id="call-2"', 'call view pending fault-read" id="call-2"'),
+    "a title has another entry": (r"view 0:1:7</title>", "view 0:1:8</title>"),
+    "a call has other records": (r'data-records="3-4"', 'data-records="3-5"'),
+    "a label covers another": (r'(<text class="label" x=")\d+(" y=")\d+(">3 view)', r"\g<1>136\g<2>163\3"),
+    "a label leaves the picture": (r'(<text class="label" x=")\d+(" y="\d+">3 view)', r"\g<1>5000\2"),
+    "a fault has no sentence": (r'<g class="mark".*?</g>', ""),
+    "a fault has another sentence": (r">read: view 2 shows more of component 0", ">read: view 2 shows more of component 1"),
+    "a fault is not in the strip": (r'<path class="tick[^>]*/>', ""),
+    "an order is drawn of what has none": ("</svg>", '<text id="place-1" x="0" y="0">1</text></svg>'),
+    "a font is loaded": ("<style>", "<style>@import url(https://example.org/font.css);"),
+}
+
+
+def try_picture(count, name, text, path, said):
+    """All that is said of a picture of a history."""
+    calls = calls_of(path.read_text())
+    faults, order = faults_of(path.with_suffix(".report").read_text(), calls)
+    picture = picture_of(count, name, text)
+    try_alone(count, name, text)
+    if picture and try_calls(count, name, picture, calls, faults):
+        try_overlap(count, name, picture, calls)
+        try_faults(count, name, picture, faults, said)
+        try_order(count, name, picture, order)
+
+
+def explained(program, path):
+    return subprocess.run([program, "explain", path], capture_output=True, text=True, check=False).stdout.splitlines()
+
+
+def try_tests(count, program):
+    """Tries the tests on pictures that are wrong."""
+    path = TOP / "examples/new-old-inversion.csv"
+    text, said = draw(program, path, "--svg")[1], explained(program, path)
+    for what, (old, new) in WRONG.items():
+        wrong, found = re.sub(old, new, text, count=1, flags=re.S), Count()
+        with contextlib.redirect_stdout(io.StringIO()):
+            try_picture(found, what, wrong, path, said)
+        count.expect(wrong != text and found.failed > 0, f"a picture is not found wrong where {what}")
+    lines, calls = draw(program, path, "--text")[1], calls_of(path.read_text())
+    faults, order = faults_of(path.with_suffix(".report").read_text(), calls)
+    for what, (old, new) in WRONG_LINES.items():
+        wrong, found = re.sub(old, new, lines, count=1, flags=re.S), Count()
+        with contextlib.redirect_stdout(io.StringIO()):
+            try_lines(found, what, wrong, calls, faults, order, said)
+        count.expect(wrong != lines and found.failed > 0, f"lines are not found wrong where {what}")
+
+
+def try_longest(count, program):
+    """A picture of the longest history is a window with the fault's calls in it, within the bytes that a page may have."""
+    overlapping = "".join(f"begin,{1 + n % 2},view,\nend,{1 + n % 2},view,0:1:7\n" for n in range((MOST_EVENTS - 4) // 2))
+    text = "event,process,op,data\nbegin,0,update,0:1:7\n" + overlapping + "begin,3,view,\nend,3,view,\nend,0,update,\n"
+    with tempfile.TemporaryDirectory() as room:
+        path = pathlib.Path(room, "long.csv")
+        path.write_text(text)
+        status, page = draw(program, path)
+        picture = picture_of(count, "the longest history", draw(program, path, "--svg")[1])
+        lines = LinePicture(draw(program, path, "--text")[1])
+    if not picture:
+        return
+    last = (MOST_EVENTS - 4) // 2 + 2
+    marked = {it for it in picture.ids("call-") if "fault-read" in picture.classes(f"call-{it}")}
+    count.same(status, 1, "the longest history: status")
+    count.same(marked, {"2", str(last)}, "the longest history: calls of the fault")
+    count.expect(len(picture.ids("call-")) <= MOST_CALLS, f"the longest history: {len(picture.ids('call-'))} calls are drawn")
+    drawn = [bar.label.split()[0] for bar in lines.bars]
+    count.expect(len(drawn) <= MOST_IN_LINES and {"2", str(last)} <= set(drawn), f"the longest history: by lines {drawn} are drawn")
+    count.same(lines.left_out, (len(drawn), last - len(drawn)), "the longest history: calls that the lines leave out")
+    count.expect(len(page.encode()) <= MOST_BYTES, f"the longest history: its page has {len(page.encode())} bytes")
+
+
+def main(words):
+    is_written = words[:1] == ["--write"]
+    program = pathlib.Path(words[is_written] if words[is_written:] else TOP / "snapjudge").resolve()
+    count, browser = Count(), shutil.which("chromium") or shutil.which("chromium-browser")
+    examples = sorted((TOP / "examples").glob("*.csv"))
+    drawn = {path.stem for path in examples if not path.with_suffix(".report").read_text().startswith("refused")}
+    PICTURES.mkdir(exist_ok=True)
+    try_tests(count, program)
+    for path in examples:
+        try_example(count, program, browser, path, is_written)
+    count.same({it.stem for it in PICTURES.iterdir()}, drawn, "the files of docs/pictures")
+    try_longest(count, program)
+    return count.end()
+
+
+if __name__ == "__main__":
+    sys.exit(main(sys.argv[1:]))

@@ -1,0 +1,224 @@
+# Names from a list and from below a folder, and files of other kinds. share/test.sh reads this file: it works in the room there,
+# with its functions and its files.
+
+# Judges with these words, and compares status and the names of the histories, in their order.
+asked() {
+  about=$1 status=$2 wanted=$3
+  shift 3
+  expect "$about" "$status" "$wanted" sh -c '"$@" >answer; code=$?; sed -n "s/: atomic .*//p" answer; exit $code' sh ./second check --quiet "$@"
+}
+
+# Whether this user can be refused a file.
+can_be_refused() {
+  [ "$(id -u)" = 0 ] || return 0
+  echo "skipped: root reads each file and folder ($1)"
+  skipped=$((skipped + 1))
+  return 1
+}
+
+two='old.csv
+a b.csv
+'
+printf 'old.csv\na b.csv\n' >list
+asked "a list" 2 "$two" --files-from list
+asked "a list that is given with an equals sign" 2 "$two" --files-from=list
+printf 'old.csv\na b.csv' >list
+asked "a list whose last line has no end" 2 "$two" --files-from list
+expect "a list on standard input" 2 "$named_inversion$named_stale" sh -c './second check --files-from - <list'
+printf 'old.csv' >list
+expect "a list of one name" 1 "$named_inversion" ./second check --files-from list
+asked "words before a list" 2 "a b.csv
+old.csv
+" --files-from list "a b.csv"
+asked "a name twice" 1 "old.csv
+old.csv
+" --files-from list old.csv
+printf -- '-x.csv\nold.csv' >list
+asked "a name with a leading hyphen" 2 "-x.csv
+old.csv
+" --files-from list
+printf 'old.csv\nnone.csv\na b.csv' >list
+asked "a name of no file in a list" 4 "$two" --files-from list
+expect_said "the name and the reason" "snapjudge: none.csv: no such file"
+printf 'old.csv\r\n' >list
+asked "a list with carriage returns" 4 "" --files-from list
+expect_said "the name and the reason" 'snapjudge: old.csv\r: no such file'
+printf 'old.csv\n\377.csv\n' >list
+asked "a name in a list that is not UTF-8" 4 "old.csv
+" --files-from list
+expect_said "the name and the reason" "$(printf 'snapjudge: \377.csv: is not UTF-8')"
+
+broken=$(printf 'a\nb\\c.csv')
+cp old.csv "$broken"
+printf 'a b.csv\0%s\0' "$broken" >list
+for null in -0 --null; do
+  expect "a list with $null" 2 "$named_stale$(report_of new-old-inversion 'a\\nb\\\\c.csv: ' | sed '$d')
+" ./second check $null --files-from list
+done
+printf 'a b.csv\0old.csv' >list
+asked "a list whose last name has no zero byte" 2 "a b.csv
+old.csv
+" --files-from list -0
+rm "$broken"
+printf 'old.csv\0' >list
+asked "a list of zero bytes without the option" 4 "" --files-from list
+
+printf 'old.csv\n\na b.csv\n' >list
+asked "an empty line in a list" 4 "" --files-from list old.csv
+expect_said "the list and the reason" "snapjudge: list: name 2 is empty"
+echo >list
+asked "a list of one empty line" 4 "" --files-from list
+expect_said "the list and the reason" "snapjudge: list: name 1 is empty"
+printf '\0' >list
+asked "a list of one zero byte" 4 "" --files-from list -0
+expect_said "the list and the reason" "snapjudge: list: name 1 is empty"
+: >list
+asked "an empty list" 4 "" --files-from list
+expect_said "the reason" "snapjudge: there are no recordings"
+asked "an empty list behind a word" 1 "old.csv
+" --files-from list old.csv
+asked "no such list" 4 "" --files-from none old.csv
+expect_said "the list and the reason" "snapjudge: none: no such file"
+asked "a folder as a list" 4 "" --files-from many old.csv
+expect_said "the list and the reason" "snapjudge: many: is a directory"
+asked "a list without an end" 4 "" --files-from /dev/zero old.csv
+expect_said "the list and the reason" "snapjudge: /dev/zero: is longer than 268435456 bytes"
+expect "a list from no input" 4 "" sh -c './second check --files-from - old.csv <&-'
+expect_said "the reason" "snapjudge: -: read failed"
+
+asked "names with zero bytes, and no list" 5 "" -0 old.csv
+expect_said "the reason" "error: the argument '--null' needs '--files-from <LIST>'"
+asked "two lists" 5 "" --files-from list --files-from list
+asked "a list without a name" 5 "" --files-from
+asked "standard input as a list and as a file" 5 "" --files-from - -
+expect_said "the reason" "error: - is standard input, and can be named once"
+expect "a list on standard input that names it" 4 "" sh -c 'echo - | ./second check --files-from -'
+expect_said "the reason" "snapjudge: -: - is standard input, and can be named once"
+echo - >list
+expect "a list that names standard input" 2 "$(report_of stale-view '-: ' | sed '$d')
+" sh -c './second check --files-from list <"a b.csv"'
+asked "a list that names standard input, as a word does" 4 "" --files-from list -
+expect_said "the reason" "snapjudge: list: - is standard input, and can be named once"
+expect "a list for another command" 5 "" ./second shrink --files-from list
+
+mkdir -p runs/a runs/deep/er/still runs/d.csv runs/empty "runs/with blank"
+for name in runs/b.csv runs/a.csv runs/a-b.csv runs/a/b.csv runs/.csv runs/.hidden.csv runs/d.csv/in.csv runs/deep/er/still/z.csv; do
+  cp old.csv $name
+done
+cp "a b.csv" "runs/with blank/a b.csv"
+cp old.csv runs/x.CSV
+cp old.csv runs/x.csv.txt
+cp old.csv runs/csv
+ln -s ../many runs/linked
+ln -s ../many runs/linked.csv
+ln -s . runs/itself
+ln -s ../old.csv runs/file.csv
+below='runs/.csv
+runs/.hidden.csv
+runs/a-b.csv
+runs/a.csv
+runs/a/b.csv
+runs/b.csv
+runs/d.csv/in.csv
+runs/deep/er/still/z.csv
+runs/file.csv
+runs/with blank/a b.csv
+'
+for word in -r --recursive; do
+  asked "a folder, by $word" 2 "$below" $word runs
+done
+asked "a folder with a slash behind it" 2 "$below" -r runs/
+expect "the folder that one is in" 2 "$(printf '%s' "$below" | sed 's/^runs/./')
+" sh -c 'cd runs && ../second check --quiet -r . >../answer; code=$?; sed -n "s/: atomic .*//p" ../answer; exit $code'
+asked "a link to a folder that is named" 2 "$(for number in 1 2 3 4 5 6 7 8 9; do echo runs/linked/$number.csv; done)
+" -r runs/linked
+printf 'old.csv' >list
+asked "a word, a list and a folder, in this order" 2 "many/9.csv
+old.csv
+$below" -r runs --files-from list many/9.csv
+asked "a folder of one recording" 1 "runs/a/b.csv
+" -r runs/a
+expect "objects of a folder" 1 '"runs/a/b.csv"
+' sh -c './second check --format json -r runs/a >answer; code=$?; grep -o "\"runs[^\"]*\"" answer; exit $code'
+asked "a file in the place of a folder" 1 "old.csv
+" -r old.csv
+asked "an empty folder" 4 "" -r runs/empty
+expect_said "the reason" "snapjudge: there are no recordings"
+asked "an empty folder behind a word" 1 "old.csv
+" -r runs/empty old.csv
+asked "no such folder" 4 "old.csv
+" -r none old.csv
+expect_said "the folder and the reason" "snapjudge: none: no such file"
+asked "a folder without a name" 4 "" -r ""
+expect_said "the reason" "snapjudge: : no such file"
+asked "two folders" 5 "" -r runs -r many
+ln -s nowhere runs/a/gone.csv
+asked "a link to nothing" 4 "runs/a/b.csv
+" -r runs/a
+expect_said "the name and the reason" "snapjudge: runs/a/gone.csv: no such file"
+rm runs/a/gone.csv
+mkdir pipes
+cp old.csv pipes/old.csv
+mkfifo pipes/pipe.csv
+ln -s pipe.csv pipes/linked.csv
+ln -s /dev/zero pipes/zero.csv
+expect "pipes and devices below a folder are left out" 1 "pipes/old.csv: regular yes
+pipes/old.csv: monotone no
+pipes/old.csv: atomic no
+" timeout 60 ./second check --quiet -r pipes
+rm -r pipes
+cp old.csv "$(printf 'runs/a/\377.csv')"
+asked "a name in a folder that is not UTF-8" 4 "runs/a/b.csv
+" -r runs/a
+expect_said "the name and the reason" "$(printf 'snapjudge: runs/a/\377.csv: is not UTF-8')"
+rm "$(printf 'runs/a/\377.csv')"
+if has python3; then
+  expect "the names below a folder, as snapjudge.cluster takes them" 0 "$below" env PYTHONPATH="$top/ffi/python" python3 -c '
+import sys
+from snapjudge.cluster import names_below
+sys.stdout.buffer.write(b"".join(name + b"\n" for name in names_below(b"runs", [])))'
+fi
+if can_be_refused "a folder that can't be read"; then
+  chmod 0 runs/deep/er
+  asked "a folder that can't be read" 4 "$(printf '%s' "$below" | grep -v still)
+" -r runs
+  expect_said "the folder and the reason" "snapjudge: runs/deep/er: can't be opened"
+  chmod 755 runs/deep/er
+fi
+if can_be_refused "a file that can't be read"; then
+  cp old.csv locked.csv
+  chmod 0 locked.csv
+  expect "a file that can't be read" 4 "$named_inversion" ./second check locked.csv old.csv
+  expect_said "the file and the reason" "snapjudge: locked.csv: can't be opened"
+  rm -f locked.csv
+fi
+
+# many files, and a text that grows while it is read
+mkdir lots
+text=$(cat old.csv)
+for number in $(seq 10000); do
+  printf '%s\n' "$text" >lots/$number.csv
+done
+expect "10,000 files in a folder" 1 "30000
+" timeout 120 sh -c './second check --quiet -r lots >answer; code=$?; wc -l <answer; exit $code'
+expect "10,000 names in a list" 1 "30000
+" timeout 120 sh -c 'ls lots | sed s,^,lots/, >list; ./second check --quiet --files-from list >answer; code=$?; wc -l <answer; exit $code'
+rm -r lots
+cp old.csv growing.csv
+(
+  number=0
+  while [ ! -e grown ]; do
+    for turn in 1 2 3 4 5 6 7 8 9 10; do
+      number=$((number + 1))
+      printf 'begin,9,update,9:%d:1\nend,9,update,\n' $number
+    done
+    sleep 0.01
+  done >>growing.csv
+) &
+grower=$!
+expect "a text that grows while it is read" 1 "regular yes
+monotone no
+atomic no
+" timeout 60 ./second check --quiet growing.csv
+touch grown
+wait $grower
