@@ -43,10 +43,23 @@ expect_said "the name and the reason" "snapjudge: none.csv: no such file"
 printf 'old.csv\r\n' >list
 asked "a list with carriage returns" 4 "" --files-from list
 expect_said "the name and the reason" 'snapjudge: old.csv\r: no such file'
-printf 'old.csv\n\377.csv\n' >list
-asked "a name in a list that is not UTF-8" 4 "old.csv
+bare=$(printf '\377.csv')
+printf 'old.csv\n%s\n' "$bare" >list
+asked "a name in a list that is not UTF-8, of no file" 4 "old.csv
 " --files-from list
-expect_said "the name and the reason" "$(printf 'snapjudge: \377.csv: is not UTF-8')"
+expect_said "the name and the reason" "snapjudge: $bare: no such file"
+cp old.csv "$bare"
+asked "a name in a list that is not UTF-8" 1 "old.csv
+$bare
+" --files-from list
+asked "a name among the words that is not UTF-8" 2 "$bare
+a b.csv
+" "$bare" "a b.csv"
+cp list "$(printf 'list\377')"
+asked "a list whose name is not UTF-8" 1 "old.csv
+$bare
+" --files-from "$(printf 'list\377')"
+rm "$(printf 'list\377')"
 
 broken=$(printf 'a\nb\\c.csv')
 cp old.csv "$broken"
@@ -167,11 +180,24 @@ pipes/old.csv: monotone no
 pipes/old.csv: atomic no
 " timeout 60 ./second check --quiet -r pipes
 rm -r pipes
-cp old.csv "$(printf 'runs/a/\377.csv')"
-asked "a name in a folder that is not UTF-8" 4 "runs/a/b.csv
+bare=$(printf 'runs/a/\377')
+mkdir "$bare"
+cp old.csv "$bare.csv"
+cp old.csv "$bare/in.csv"
+cp old.csv "$bare.txt"
+mkfifo "$bare.pipe.csv"
+ln -s ../b.csv "$bare.link.csv"
+ln -s ../../many "$bare.folder.csv"
+asked "names in a folder that are not UTF-8" 1 "runs/a/b.csv
+$bare.csv
+$bare.link.csv
+$bare/in.csv
 " -r runs/a
-expect_said "the name and the reason" "$(printf 'snapjudge: runs/a/\377.csv: is not UTF-8')"
-rm "$(printf 'runs/a/\377.csv')"
+asked "a folder whose name is not UTF-8" 1 "$bare/in.csv
+" -r "$bare"
+expect "an object of a name that is not UTF-8" 1 "$(printf '"runs/a/\357\277\275.csv"')
+" sh -c './second check --format json "$0" >answer; code=$?; grep -o "\"runs[^\"]*\"" answer; exit $code' "$bare.csv"
+rm -r "$bare" "$bare".*
 if has python3; then
   expect "the names below a folder, as snapjudge.cluster takes them" 0 "$below" env PYTHONPATH="$top/ffi/python" python3 -c '
 import sys

@@ -134,8 +134,17 @@ expect "a folder among files" 4 "$named_inversion" ./second check "$room" old.cs
 expect_said "its name and the reason" "snapjudge: $room: is a directory"
 expect "a file below a file" 4 "" ./second check old.csv/none.csv
 expect_said "its name and the reason" "snapjudge: old.csv/none.csv: no such file"
-expect "a name that is not UTF-8" 5 "" ./second check "$(printf '\377.csv')"
-expect_said "the reason" "error: the words are not text"
+cp old.csv "$(printf '\377.csv')"
+for command in check shrink explain draw; do
+  ./second $command old.csv >wanted
+  expect "$command of a name that is not UTF-8" $? "$(cat wanted)
+" ./second $command "$(printf '\377.csv')"
+done
+rm "$(printf '\377.csv')"
+for words in "check --views" "check --format" record ""; do
+  expect "a word that is not UTF-8 where no name stands: $words" 5 "" ./second $words "$(printf '\377')"
+  expect_said "the reason" "error: a word that is not UTF-8 can only name a file, a list or a folder"
+done
 expect "an option with a blank" 5 "" ./second check --pieces "3 --quiet" old.csv
 
 . "$top/share/test-names.sh"

@@ -1,7 +1,7 @@
 -- One file more is counted, and one round more.
-use Rattle.std.proofs.Common.{◌≡◌, ◌==◌, ◌≤◌, ◌<◌, ◌+◌, ◌++◌, ◌∷◌, [], ◌∙◌, ℕ, Bool, true, false, List, Option, Some, None, max, length, take, drop, map, String, string_bytes, refl, sym, ap, ap₂, append_assoc, cond, get_or, inl, subst, arith, zero, suc}
+use Rattle.std.proofs.Common.{◌≡◌, ◌==◌, ◌≤◌, ◌<◌, ◌+◌, ◌++◌, ◌∷◌, [], ◌∙◌, ℕ, Bool, true, false, List, Option, Some, None, max, length, take, drop, map, vec_items, refl, sym, ap, ap₂, append_assoc, cond, get_or, inl, subst, arith, zero, suc}
 use Rattle.std.specs.Prelude.{count_by, find, slice_get}
-use Rattle.std.specs.Global.{Global, Vec}
+use Rattle.std.specs.Global.{Vec}
 use Rattle.std.specs.Option.{option_or}
 use Rattle.std.proofs.KnownBytes.{Appends-nil}
 use Rattle.std.proofs.lemmas.List.{length-map, length-take-le, map-append, take_all}
@@ -76,26 +76,26 @@ greatest_more (f ∷ fs) name code = let rest = greatest_more fs name code in om
 
 -- the first file by the names
 
-pub name_at : (files : List Judged) (names : List (String Global)) (place : ℕ) (first : Judged) (name : String Global) → map (λ file. file.name) files ≡ map string_bytes names → slice_get files place ≡ Some first → name ≡ get_or names place name → first.name ≡ string_bytes name
+pub name_at : (files : List Judged) (names : List (Vec ℕ)) (place : ℕ) (first : Judged) (name : Vec ℕ) → map (λ file. file.name) files ≡ map vec_items names → slice_get files place ≡ Some first → name ≡ get_or names place name → first.name ≡ name.items
 name_at [] names place first name are a b = absurd cc
 name_at (f ∷ fs) [] place first name are a b = absurd cc
 name_at (f ∷ fs) (n ∷ ns) zero first name are a b = cc
-name_at (f ∷ fs) (n ∷ ns) (suc place) first name are a b = let rest : map (λ file. file.name) fs ≡ map string_bytes ns = cc in name_at fs ns place first name rest a b
+name_at (f ∷ fs) (n ∷ ns) (suc place) first name are a b = let rest : map (λ file. file.name) fs ≡ map vec_items ns = cc in name_at fs ns place first name rest a b
 
 -- the pages of some names
 
-length_paged : (names : List (String Global)) (pages : List (Answer × Vec ℕ)) → length names ≡ length pages → length (paged names pages) ≡ length names
+length_paged : (names : List (Vec ℕ)) (pages : List (Answer × Vec ℕ)) → length names ≡ length pages → length (paged names pages) ≡ length names
 length_paged [] pages same = refl
 length_paged (n ∷ ns) [] same = let no : ⊥ = omega arith in absurd no
 length_paged (n ∷ ns) (p ∷ ps) same = let rest = length_paged ns ps (omega (arith, same)) in omega (arith, rest)
 
-pub names_are : (opens : Opens) (options : FileOptions) (names : List (String Global)) (pages : List Page) → ArePages opens options names pages → map (λ file. file.name) (judged_of pages) ≡ map string_bytes names
+pub names_are : (opens : Opens) (options : FileOptions) (names : List (Vec ℕ)) (pages : List Page) → ArePages opens options names pages → map (λ file. file.name) (judged_of pages) ≡ map vec_items names
 names_are opens options [] [] all = refl
 names_are opens options [] (p ∷ ps) all = absurd all
 names_are opens options (n ∷ ns) [] all = absurd all
 names_are opens options (n ∷ ns) (p ∷ ps) all = ap₂ (λ (x : List ℕ) (xs : List (List ℕ)). x ∷ xs) all.0.0 (names_are opens options ns ps all.1)
 
-pub judged_fits : (opens : Opens) (options : FileOptions) (names : List (String Global)) (pages : List Page) → ArePages opens options names pages → length (judged_of pages) ≡ length names
+pub judged_fits : (opens : Opens) (options : FileOptions) (names : List (Vec ℕ)) (pages : List Page) → ArePages opens options names pages → length (judged_of pages) ≡ length names
 judged_fits opens options [] [] all = refl
 judged_fits opens options [] (p ∷ ps) all = absurd all
 judged_fits opens options (n ∷ ns) [] all = absurd all
@@ -106,13 +106,13 @@ greatest_is [] = refl
 greatest_is (p ∷ ps) = ap (λ n. max (answer_code p.answer) n) (greatest_is ps)
 
 -- the names that are counted so far
-pub record Summed (opens : Opens) (views : ℕ) (names : List (String Global)) (told_old told_new : Option (List ℕ)) (failures_old failures_new : ℕ) (sums : Sums) : Type 0 where
+pub record Summed (opens : Opens) (views : ℕ) (names : List (Vec ℕ)) (told_old told_new : Option (List ℕ)) (failures_old failures_new : ℕ) (sums : Sums) : Type 0 where
   pub pages : List Page
   pub each : ArePages opens (counting views) names pages
   pub told : Told told_old told_new failures_old failures_new (said (counting views) pages)
   pub sums_are : AreSums (judged_of pages) sums
 
-pub round_summed : (opens : Opens) (views : ℕ) (names : List (String Global)) (from : ℕ) (round : List (String Global)) (answers : List (Answer × Vec ℕ)) (told_old told_mid told_new : Option (List ℕ)) (f g h : ℕ) (sums_old sums_new : Sums) →
+pub round_summed : (opens : Opens) (views : ℕ) (names : List (Vec ℕ)) (from : ℕ) (round : List (Vec ℕ)) (answers : List (Answer × Vec ℕ)) (told_old told_mid told_new : Option (List ℕ)) (f g h : ℕ) (sums_old sums_new : Sums) →
     round ≡ take (length round) (drop from names) → (so_far : Summed opens views (take from names) told_old told_mid f g sums_old) → AreAnswered opens (counting views) round answers →
     AreSums (judged_of so_far.pages ++ judged_of (paged round answers)) sums_new → Told told_mid told_new g h (said (counting views) (paged round answers)) →
     Summed opens views (take (from + length round) names) told_old told_new f h sums_new
@@ -120,38 +120,38 @@ round_summed opens views names from round answers told_old told_mid told_new f g
     let more = paged round answers in
     record {
       pages = so_far.pages ++ more;
-      each = subst (λ (ns : List (String Global)). ArePages opens (counting views) ns (so_far.pages ++ more)) (round_joined names from round is) (zip_append _ (take from names) round so_far.pages more so_far.each (are_pages opens (counting views) round answers all));
+      each = subst (λ (ns : List (Vec ℕ)). ArePages opens (counting views) ns (so_far.pages ++ more)) (round_joined names from round is) (zip_append _ (take from names) round so_far.pages more so_far.each (are_pages opens (counting views) round answers all));
       told = subst (λ (l : List ℕ). Told told_old told_new f h l) (sym (flat_map-append (λ (p : Page). told_text (counting views) p.name p.answer) so_far.pages more)) (told_more told_old told_mid told_new f g h _ _ so_far.told told);
       sums_are = subst (λ (l : List Judged). AreSums l sums_new) (sym (map-append (λ (p : Page). with_code p.name (answer_code p.answer)) so_far.pages more)) sums;
     }
 
 -- one name more of a round, where the lists are read at the same place
 
-pub file_more : (before : List Judged) (names : List (String Global)) (pages : List (Answer × Vec ℕ)) (place : ℕ) (name : String Global) (page : Answer × Vec ℕ) (sums : Sums) → length pages ≡ length names →
+pub file_more : (before : List Judged) (names : List (Vec ℕ)) (pages : List (Answer × Vec ℕ)) (place : ℕ) (name : Vec ℕ) (page : Answer × Vec ℕ) (sums : Sums) → length pages ≡ length names →
     place < length names → name ≡ get_or names place name → page ≡ get_or pages place page →
-    AreSums ((before ++ judged_of (paged (take place names) (take place pages))) ++ with_code (string_bytes name) (answer_code page.0) ∷ []) sums →
+    AreSums ((before ++ judged_of (paged (take place names) (take place pages))) ++ with_code (name.items) (answer_code page.0) ∷ []) sums →
     AreSums (before ++ judged_of (paged (take (place + 1) names) (take (place + 1) pages))) sums
 file_more before names pages place name page sums same low is was are =
     let so_far = paged (take place names) (take place pages) in
     let this = page_of name page.0 page.1.items in
-    let next : judged_of (paged (take (place + 1) names) (take (place + 1) pages)) ≡ judged_of so_far ++ with_code (string_bytes name) (answer_code page.0) ∷ [] =
+    let next : judged_of (paged (take (place + 1) names) (take (place + 1) pages)) ≡ judged_of so_far ++ with_code (name.items) (answer_code page.0) ∷ [] =
     ap judged_of (paged_next names pages place name page same low is was) ∙ map-append (λ (p : Page). with_code p.name (answer_code p.answer)) so_far (this ∷ []) in
-    subst (λ (l : List Judged). AreSums l sums) (append_assoc before (judged_of so_far) (with_code (string_bytes name) (answer_code page.0) ∷ []) ∙ sym (ap (λ (l : List Judged). before ++ l) next)) are
+    subst (λ (l : List Judged). AreSums l sums) (append_assoc before (judged_of so_far) (with_code (name.items) (answer_code page.0) ∷ []) ∙ sym (ap (λ (l : List Judged). before ++ l) next)) are
 
-pub said_next : (options : FileOptions) (names : List (String Global)) (pages : List (Answer × Vec ℕ)) (place : ℕ) (name : String Global) (page : Answer × Vec ℕ) → length pages ≡ length names →
+pub said_next : (options : FileOptions) (names : List (Vec ℕ)) (pages : List (Answer × Vec ℕ)) (place : ℕ) (name : Vec ℕ) (page : Answer × Vec ℕ) → length pages ≡ length names →
     place < length names → name ≡ get_or names place name → page ≡ get_or pages place page →
-    said options (paged (take (place + 1) names) (take (place + 1) pages)) ≡ said options (paged (take place names) (take place pages)) ++ told_text options (string_bytes name) page.0
+    said options (paged (take (place + 1) names) (take (place + 1) pages)) ≡ said options (paged (take place names) (take place pages)) ++ told_text options (name.items) page.0
 said_next options names pages place name page same low is was =
     let so_far = paged (take place names) (take place pages) in
     ap (said options) (paged_next names pages place name page same low is was) ∙ flat_push (λ (p : Page). told_text options p.name p.answer) so_far (page_of name page.0 page.1.items)
 
-pub paged_fits : (names : List (String Global)) (pages : List (Answer × Vec ℕ)) (place : ℕ) → length pages ≡ length names → place < length names → length (judged_of (paged (take place names) (take place pages))) ≡ place
+pub paged_fits : (names : List (Vec ℕ)) (pages : List (Answer × Vec ℕ)) (place : ℕ) → length pages ≡ length names → place < length names → length (judged_of (paged (take place names) (take place pages))) ≡ place
 paged_fits names pages place same low =
     length-map (paged (take place names) (take place pages)) (λ (p : Page). with_code p.name (answer_code p.answer)) ∙ length_paged (take place names) (take place pages) (length-take-le place names (omega arith) ∙ sym (length-take-le place pages (omega arith))) ∙ length-take-le place names (omega arith)
 
 pub none_summed : (opens : Opens) (views : ℕ) (told : Option (List ℕ)) (failures : ℕ) (sums : Sums) → AreSums [] sums → Summed opens views [] told told failures failures sums
 none_summed opens views told failures sums are = record { pages = []; each = tt; told = inl (Appends-nil told, refl); sums_are = are }
 
-pub all_summed : (opens : Opens) (views : ℕ) (names : List (String Global)) (from : ℕ) (told_old told_new : Option (List ℕ)) (f g : ℕ) (sums : Sums) → length names ≤ from →
+pub all_summed : (opens : Opens) (views : ℕ) (names : List (Vec ℕ)) (from : ℕ) (told_old told_new : Option (List ℕ)) (f g : ℕ) (sums : Sums) → length names ≤ from →
     Summed opens views (take from names) told_old told_new f g sums → Summed opens views names told_old told_new f g sums
-all_summed opens views names from told_old told_new f g sums whole so_far = subst (λ (ns : List (String Global)). Summed opens views ns told_old told_new f g sums) (take_all from names whole) so_far
+all_summed opens views names from told_old told_new f g sums whole so_far = subst (λ (ns : List (Vec ℕ)). Summed opens views ns told_old told_new f g sums) (take_all from names whole) so_far

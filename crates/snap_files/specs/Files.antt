@@ -1,6 +1,7 @@
 -- What a check of several named texts answers, writes and says.
-use Rattle.std.specs.Prelude.{◌≡◌, ◌≤◌, ◌<◌, ◌-◌, ◌^◌, ◌++◌, ◌⊎◌, ℕ, max, List, [], ◌∷◌, length, take, Option, Some, None, Result, Ok, Err, IfSome, codes, decimal, flat_map, String, string_bytes}
-use Rattle.std.specs.Global.{Global, Vec}
+use Rattle.std.specs.Prelude.{◌≡◌, ◌≤◌, ◌<◌, ◌-◌, ◌^◌, ◌++◌, ◌⊎◌, ℕ, max, List, [], ◌∷◌, length, take, Option, Some, None, Result, Ok, Err, IfSome, codes, decimal, flat_map}
+use Rattle.std.specs.Global.{Vec}
+use Rattle.std.specs.Str.Lossy.{utf8_lossy}
 use Rattle.std.specs.List.{AllZip}
 use Rattle.std.specs.Io.KnownBytes.{Appends}
 use Rattle.snap_core.specs.Sending.{SendsFront}
@@ -41,10 +42,14 @@ abbrev pub IsObject : ℕ → List ℕ → List ℕ → Option Status → List �
 IsObject least name text (Some status) out = IsTold name least text status out
 IsObject least name text None out = ⊥
 
+-- a name in an object, which is Unicode: U+FFFD stands for each sequence of bytes that is not UTF-8
+abbrev pub object_name : List ℕ → List ℕ
+object_name name = utf8_lossy name
+
 -- what is answered and written of a text that was opened: its named report, or its object alone
 abbrev pub IsTextPage : Format → CheckOptions → List ℕ → List ℕ → Option Status → List ℕ → Type 0
 IsTextPage Plain options name text status out = IsNamedReport options name text status out
-IsTextPage Json options name text status out = IsObject options.views name text status out
+IsTextPage Json options name text status out = IsObject options.views (object_name name) text status out
 
 -- the exit status of a name
 abbrev pub answer_code : Answer → ℕ
@@ -70,7 +75,7 @@ trouble_text Memory = codes "out of memory"
 abbrev pub IsTroublePage : Format → List ℕ → Trouble → Trouble → List ℕ → Type 0
 IsTroublePage Plain name met trouble out = (trouble ≡ met) × (out ≡ [])
 IsTroublePage Json name met trouble out =
-    ((trouble ≡ met) × IsLineOf (trouble_json name (answer_code (Err met)) (trouble_text met)) out) ⊎ ((trouble ≡ Memory) × (out ≡ []))
+    ((trouble ≡ met) × IsLineOf (trouble_json (object_name name) (answer_code (Err met)) (trouble_text met)) out) ⊎ ((trouble ≡ Memory) × (out ≡ []))
 
 -- what is answered and written of a name
 abbrev pub IsPage : Opens → FileOptions → List ℕ → Answer → List ℕ → Type 0
@@ -79,8 +84,8 @@ IsPage opens options name (Ok status) out =
 IsPage opens options name (Err trouble) out = (met : Trouble) × IsTroubled opens name met × IsTroublePage options.format name met trouble out
 
 -- what is answered and written of each of some names, in the order of the names
-abbrev pub AreAnswered : Opens → FileOptions → List (String Global) → List (Answer × Vec ℕ) → Type 0
-AreAnswered opens options names pages = AllZip (λ name page. IsPage opens options (string_bytes name) page.0 page.1.items) names pages
+abbrev pub AreAnswered : Opens → FileOptions → List (Vec ℕ) → List (Answer × Vec ℕ) → Type 0
+AreAnswered opens options names pages = AllZip (λ name page. IsPage opens options (name.items) page.0 page.1.items) names pages
 
 -- what is said of a name with a trouble, and of one whose history has fewer views than are asked for
 abbrev pub trouble_line_text : List ℕ → Trouble → List ℕ
@@ -107,14 +112,14 @@ pub record Page : Type 0 where
   pub out : List ℕ
 
 -- the names with what is answered and written of each
-abbrev pub paged : List (String Global) → List (Answer × Vec ℕ) → List Page
+abbrev pub paged : List (Vec ℕ) → List (Answer × Vec ℕ) → List Page
 paged [] pages = []
 paged (name ∷ names) [] = []
-paged (name ∷ names) (page ∷ pages) = record { name = string_bytes name; answer = page.0; out = page.1.items } ∷ paged names pages
+paged (name ∷ names) (page ∷ pages) = record { name = name.items; answer = page.0; out = page.1.items } ∷ paged names pages
 
 -- the pages of some names, in the order of the names, each name once
-abbrev pub ArePages : Opens → FileOptions → List (String Global) → List Page → Type 0
-ArePages opens options names pages = AllZip (λ name page. (page.name ≡ string_bytes name) × IsPage opens options page.name page.answer page.out) names pages
+abbrev pub ArePages : Opens → FileOptions → List (Vec ℕ) → List Page → Type 0
+ArePages opens options names pages = AllZip (λ name page. (page.name ≡ name.items) × IsPage opens options page.name page.answer page.out) names pages
 
 -- what is written of some pages, and said of them
 abbrev pub written : List Page → List ℕ
@@ -135,7 +140,7 @@ pub record WritesAll (options : FileOptions) (pages : List Page) (old new : Opti
   pub told : Told told_old told_new failures_old failures_new (said options pages)
 
 -- the names were all checked: the greatest status, what was written, and what was said
-pub record ChecksAll (opens : Opens) (options : FileOptions) (names : List (String Global)) (old new : Option (List ℕ)) (told_old told_new : Option (List ℕ)) (failures_old failures_new : ℕ) (code : ℕ) : Type 0 where
+pub record ChecksAll (opens : Opens) (options : FileOptions) (names : List (Vec ℕ)) (old new : Option (List ℕ)) (told_old told_new : Option (List ℕ)) (failures_old failures_new : ℕ) (code : ℕ) : Type 0 where
   pub pages : List Page
   pub each : ArePages opens options names pages
   pub greatest : code ≡ greatest_code pages
@@ -143,7 +148,7 @@ pub record ChecksAll (opens : Opens) (options : FileOptions) (names : List (Stri
   pub told : Told told_old told_new failures_old failures_new (said options pages)
 
 -- of some of the names, the first ones, a front went out of what is written of them
-pub record ChecksSome (opens : Opens) (options : FileOptions) (names : List (String Global)) (old new : Option (List ℕ)) : Type 0 where
+pub record ChecksSome (opens : Opens) (options : FileOptions) (names : List (Vec ℕ)) (old new : Option (List ℕ)) : Type 0 where
   pub count : ℕ
   pub within : count ≤ length names
   pub pages : List Page

@@ -1,6 +1,6 @@
 -- How many files have each status, and which is the first of them.
-use Rattle.std.specs.Prelude.{◌≡◌, ◌==◌, ◌++◌, ◌⊎◌, ℕ, Bool, true, max, List, [], ◌∷◌, length, map, Option, Some, None, codes, count_by, decimal, find, slice_get, String}
-use Rattle.std.specs.Global.{Global}
+use Rattle.std.specs.Prelude.{◌≡◌, ◌==◌, ◌++◌, ◌⊎◌, ℕ, Bool, true, max, List, [], ◌∷◌, length, map, Option, Some, None, codes, count_by, decimal, find, slice_get}
+use Rattle.std.specs.Global.{Vec}
 use Rattle.std.specs.Io.KnownBytes.{Appends}
 use Rattle.snap_core.specs.Sending.{SendsFront}
 use Rattle.snap_files.specs.Names.{shown}
@@ -70,7 +70,7 @@ abbrev pub counting : ℕ → FileOptions
 counting views = record { format = Plain; check = record { quiet = true; views = views } }
 
 -- the names were all judged: the greatest status, the sums that were written, and what was said
-pub record SumsAll (opens : Opens) (views : ℕ) (names : List (String Global)) (old new : Option (List ℕ)) (told_old told_new : Option (List ℕ)) (failures_old failures_new : ℕ) (code : ℕ) : Type 0 where
+pub record SumsAll (opens : Opens) (views : ℕ) (names : List (Vec ℕ)) (old new : Option (List ℕ)) (told_old told_new : Option (List ℕ)) (failures_old failures_new : ℕ) (code : ℕ) : Type 0 where
   pub pages : List Page
   pub each : ArePages opens (counting views) names pages
   pub greatest : code ≡ greatest_code pages
@@ -78,11 +78,11 @@ pub record SumsAll (opens : Opens) (views : ℕ) (names : List (String Global)) 
   pub told : Told told_old told_new failures_old failures_new (said (counting views) pages)
 
 -- a front of the sums went out, once all names were judged
-pub record SumsCut (opens : Opens) (views : ℕ) (names : List (String Global)) (old new : Option (List ℕ)) : Type 0 where
+pub record SumsCut (opens : Opens) (views : ℕ) (names : List (Vec ℕ)) (old new : Option (List ℕ)) : Type 0 where
   pub pages : List Page
   pub each : ArePages opens (counting views) names pages
   pub wrote : SendsFront old new (sums_text (judged_of pages))
 
 -- nothing was written, or a front of the sums
-abbrev pub SumsSome : Opens → ℕ → List (String Global) → Option (List ℕ) → Option (List ℕ) → Type 0
+abbrev pub SumsSome : Opens → ℕ → List (Vec ℕ) → Option (List ℕ) → Option (List ℕ) → Type 0
 SumsSome opens views names old new = Appends old new [] ⊎ SumsCut opens views names old new

@@ -19,7 +19,7 @@ use std::thread::Threads;
 // Writes what there is of the names of a round, and says why some have no status. It answers their greatest exit status.
 fn write_round<W: Write, E: Write>(
     alloc: Global,
-    names: &[String],
+    names: &[Vec<u8>],
     pages: &[(Answer, Vec<u8>)],
     writer: &mut Counted<W>,
     errors: &mut Counted<E>,
@@ -59,7 +59,7 @@ pub fn check_all<Rt: Threads + Sync, O: Opener, W: Write, E: Write, G: Gate>(
     rt: &Rt,
     alloc: Global,
     opener: &O,
-    names: &[String],
+    names: &[Vec<u8>],
     writer: &mut Counted<W>,
     errors: &mut Counted<E>,
     cutting: Cutting,

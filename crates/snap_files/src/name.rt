@@ -17,20 +17,13 @@ fn put_shown_byte(out: &mut Vec<u8>, byte: u8) -> Result<(), AllocError>
 }
 
 /// Adds a name as it is shown: a line end in it, and a backslash, are escaped.
-pub(crate) fn put_shown_bytes(out: &mut Vec<u8>, name: &[u8]) -> Result<(), AllocError>
+pub(crate) fn put_shown(out: &mut Vec<u8>, name: &[u8]) -> Result<(), AllocError>
     ensures { OnOk result (out.new.items ≡ out.old.items ++ shown name.now) }
 {
     for byte in name {
         put_shown_byte(out, *byte)?;
     }
     Ok(())
-}
-
-/// The same of a text.
-pub(crate) fn put_shown(out: &mut Vec<u8>, name: &str) -> Result<(), AllocError>
-    ensures { OnOk result (out.new.items ≡ out.old.items ++ shown name.now) }
-{
-    put_shown_bytes(out, name.as_bytes())
 }
 
 /// A text with this front before each of its lines.

@@ -28,6 +28,6 @@ pub trait Opener: Sync {
     ghost opens: { Self → List ℕ → Result (Option (List ℕ)) Trouble → Type 0 };
 
     /// Opens the text of a name.
-    fn open(&self, name: &str) -> Result<Self::Text, Trouble>
+    fn open(&self, name: &[u8]) -> Result<Self::Text, Trouble>
         ensures { MatchResult result (λ text. opens self.now name.now (Ok (Self.Text.remaining text))) (λ trouble. opens self.now name.now (Err trouble)) };
 }

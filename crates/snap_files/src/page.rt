@@ -1,6 +1,8 @@
 //! What is answered, written and said of one name.
-ghost use Rattle.std.specs.Prelude.{◌≡◌, ◌++◌, ◌⊎◌, IfOk, IfSome, MatchResult, Ok};
-ghost use Rattle.snap_files.specs.Files.{IsNamedReport, IsObject, IsPage, IsTextPage, IsTroublePage, answer_code, refusal_line_text, told_text, trouble_by, trouble_line_text, trouble_text};
+ghost use Rattle.std.specs.Prelude.{◌≡◌, ◌++◌, ◌⊎◌, IfOk, IfSome, MatchResult, Ok, Err, string_bytes};
+ghost use Rattle.snap_json.specs.Objects.{trouble_json};
+ghost use Rattle.snap_json.specs.Values.{IsLineOf};
+ghost use Rattle.snap_files.specs.Files.{IsNamedReport, IsObject, IsPage, IsTextPage, IsTroublePage, answer_code, object_name, refusal_line_text, told_text, trouble_by, trouble_line_text, trouble_text};
 ghost use Rattle.snap_files.specs.Names.{named_lines};
 ghost use Rattle.snap_files.specs.declared.opener.Trouble.TheVariants as troubles;
 
@@ -33,7 +35,7 @@ pub(crate) fn code_of(answer: &Answer) -> u8
 }
 
 // A text with the name before each of its lines.
-fn name_lines(alloc: Global, name: &str, text: &[u8]) -> Result<Vec<u8>, AllocError>
+fn name_lines(alloc: Global, name: &[u8], text: &[u8]) -> Result<Vec<u8>, AllocError>
     ensures { IfOk result (λ lines. lines.items ≡ named_lines name.now text.now) }
 {
     let mut front = Vec::new(alloc);
@@ -58,7 +60,7 @@ fn trouble_of(fault: RunFault) -> Trouble
 fn named_report<Rt: Threads + Sync, R: Read + Drop, G: Gate>(
     rt: &Rt,
     alloc: Global,
-    name: &str,
+    name: &[u8],
     text: R,
     cutting: Cutting,
     gate: &G,
@@ -101,11 +103,34 @@ fn object<Rt: Threads + Sync, R: Read + Drop, G: Gate>(
     Ok((Some(status), writer.into_inner()))
 }
 
+// A name as it stands in an object.
+fn object_name(alloc: Global, name: &[u8]) -> Result<String, AllocError>
+    ensures { IfOk result (λ text. string_bytes text ≡ object_name name.now) }
+{
+    String::from_utf8_lossy(alloc, name)
+}
+
+// The same of a text whose name need not be Unicode.
+fn shown_object<Rt: Threads + Sync, R: Read + Drop, G: Gate>(
+    rt: &Rt,
+    alloc: Global,
+    name: &[u8],
+    text: R,
+    cutting: Cutting,
+    gate: &G,
+    least: u32,
+) -> Result<(Option<Status>, Vec<u8>), RunFault>
+    ensures { IfOk result (λ page. IfSome (R.remaining text) (λ bytes. IsObject least (object_name name.now) bytes page.0 page.1.items)) }
+{
+    let shown = object_name(alloc, name)?;
+    object(rt, alloc, &shown, text, cutting, gate, least)
+}
+
 // The status of a text and what is written of it, in the format that is asked for.
 fn text_page<Rt: Threads + Sync, R: Read + Drop, G: Gate>(
     rt: &Rt,
     alloc: Global,
-    name: &str,
+    name: &[u8],
     text: R,
     cutting: Cutting,
     gate: &G,
@@ -115,7 +140,7 @@ fn text_page<Rt: Threads + Sync, R: Read + Drop, G: Gate>(
 {
     match options.format {
         Format::Plain => named_report(rt, alloc, name, text, cutting, gate, options.check),
-        Format::Json => object(rt, alloc, name, text, cutting, gate, options.check.views),
+        Format::Json => shown_object(rt, alloc, name, text, cutting, gate, options.check.views),
     }
 }
 
@@ -132,14 +157,22 @@ fn text_of(trouble: Trouble) -> &'static str
     }
 }
 
+// The object of a name that met a trouble.
+fn trouble_object(alloc: Global, name: &[u8], met: Trouble) -> Result<Vec<u8>, AllocError>
+    ensures { IfOk result (λ line. IsLineOf (trouble_json (object_name name.now) (answer_code (Err met)) (trouble_text met)) line.items) }
+{
+    let shown = object_name(alloc, name)?;
+    snap_json::trouble_line(alloc, &shown, code_of(&Err(met)), text_of(met))
+}
+
 // The trouble of a name that met one, and what is written of it.
-fn trouble_page(alloc: Global, name: &str, met: Trouble, format: Format) -> (Trouble, Vec<u8>)
+fn trouble_page(alloc: Global, name: &[u8], met: Trouble, format: Format) -> (Trouble, Vec<u8>)
     ensures { IsTroublePage format name.now met result.0 result.1.items }
 {
     match format {
         Format::Plain => (met, Vec::new(alloc)),
         Format::Json => {
-            match snap_json::trouble_line(alloc, name, code_of(&Err(met)), text_of(met)) {
+            match trouble_object(alloc, name, met) {
                 Ok(line) => (met, line),
                 Err(_) => (Trouble::Memory, Vec::new(alloc)),
             }
@@ -152,7 +185,7 @@ pub(crate) fn check_name<Rt: Threads + Sync, O: Opener, G: Gate>(
     rt: &Rt,
     alloc: Global,
     opener: &O,
-    name: &str,
+    name: &[u8],
     cutting: Cutting,
     gate: &G,
     options: FileOptions,
@@ -171,14 +204,14 @@ pub(crate) fn check_name<Rt: Threads + Sync, O: Opener, G: Gate>(
 }
 
 /// What is said of a name on the error output where there is a trouble.
-pub fn trouble_line(alloc: Global, name: &str, trouble: Trouble) -> Result<Vec<u8>, AllocError>
+pub fn trouble_line(alloc: Global, name: &[u8], trouble: Trouble) -> Result<Vec<u8>, AllocError>
     ensures { IfOk result (λ line. line.items ≡ trouble_line_text name.now trouble) }
 {
-    reason_line(alloc, name.as_bytes(), text_of(trouble))
+    reason_line(alloc, name, text_of(trouble))
 }
 
 // What is said of a name whose history has fewer completed views than are asked for.
-fn refusal_line(alloc: Global, name: &str, options: CheckOptions) -> Result<Vec<u8>, AllocError>
+fn refusal_line(alloc: Global, name: &[u8], options: CheckOptions) -> Result<Vec<u8>, AllocError>
     ensures { IfOk result (λ line. line.items ≡ refusal_line_text options name.now) }
 {
     let mut line = Vec::new(alloc);
@@ -195,7 +228,7 @@ fn refusal_line(alloc: Global, name: &str, options: CheckOptions) -> Result<Vec<
 /// What is said of a name on the error output.
 pub(crate) fn told_of(
     alloc: Global,
-    name: &str,
+    name: &[u8],
     options: FileOptions,
     answer: &Answer,
 ) -> Result<Vec<u8>, AllocError>

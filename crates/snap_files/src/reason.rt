@@ -2,7 +2,7 @@
 ghost use Rattle.std.specs.Prelude.{◌≡◌, IfOk};
 ghost use Rattle.snap_files.specs.Names.{reason_line_text};
 
-use crate::name::put_shown_bytes;
+use crate::name::put_shown;
 use std::alloc::{AllocError, Global};
 
 /// The line that says a reason of a name, which need be no text.
@@ -11,7 +11,7 @@ pub fn reason_line(alloc: Global, name: &[u8], reason: &str) -> Result<Vec<u8>, 
 {
     let mut line = Vec::new(alloc);
     line.extend_from_slice(b"snapjudge: ")?;
-    put_shown_bytes(&mut line, name)?;
+    put_shown(&mut line, name)?;
     line.extend_from_slice(b": ")?;
     line.extend_from_slice(reason.as_bytes())?;
     line.push(b'\n')?;

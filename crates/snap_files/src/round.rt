@@ -14,7 +14,7 @@ use std::thread::{Threads, map_chunks};
 const SHARE_LIMIT: usize = 8;
 
 /// The names of the round that begins at a place: as many shares as there are workers, or all names that are left.
-pub(crate) fn round_at(names: &[String], from: usize, cutting: Cutting) -> &[String]
+pub(crate) fn round_at(names: &[Vec<u8>], from: usize, cutting: Cutting) -> &[Vec<u8>]
     requires { from < length names.now }
     ensures some { 0 < length result.now }
     ensures count { length result.now ≡ min (length names.now - from) (cutting.workers * SHARE_LIMIT) }
@@ -26,7 +26,7 @@ pub(crate) fn round_at(names: &[String], from: usize, cutting: Cutting) -> &[Str
 }
 
 // The cutting of each text of a round: a text beside others has one worker, and a text alone has all of them.
-fn cutting_in(names: &[String], cutting: Cutting) -> Cutting {
+fn cutting_in(names: &[Vec<u8>], cutting: Cutting) -> Cutting {
     if names.len() > 1 {
         Cutting::new(cutting.pieces(), 1).unwrap_or(cutting)
     } else {
@@ -39,7 +39,7 @@ fn pages_in_turn<Rt: Threads + Sync, O: Opener, G: Gate>(
     rt: &Rt,
     alloc: Global,
     opener: &O,
-    names: &[String],
+    names: &[Vec<u8>],
     cutting: Cutting,
     gate: &G,
     options: FileOptions,
@@ -59,7 +59,7 @@ pub(crate) fn pages_of<Rt: Threads + Sync, O: Opener, G: Gate>(
     rt: &Rt,
     alloc: Global,
     opener: &O,
-    names: &[String],
+    names: &[Vec<u8>],
     cutting: Cutting,
     gate: &G,
     options: FileOptions,
@@ -73,7 +73,7 @@ pub(crate) fn pages_of<Rt: Threads + Sync, O: Opener, G: Gate>(
         alloc,
         names,
         size,
-        &|_, share: &[String]| -> Result<Vec<(Answer, Vec<u8>)>, AllocError>
+        &|_, share: &[Vec<u8>]| -> Result<Vec<(Answer, Vec<u8>)>, AllocError>
             ensures { IfOk result (λ pages. AreAnswered (O.opens opener.entry.now) options share.now pages.items) }
         { pages_in_turn(rt, alloc, opener, share, own, gate, options) },
     )?;

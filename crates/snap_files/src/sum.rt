@@ -30,7 +30,7 @@ fn options_of(views: u32) -> FileOptions
 // Counts the names of a round, and says why some have no status.
 fn count_round<E: Write>(
     alloc: Global,
-    names: &[String],
+    names: &[Vec<u8>],
     pages: &[(Answer, Vec<u8>)],
     errors: &mut Counted<E>,
     sums: &mut Sums,
@@ -61,7 +61,7 @@ pub fn sum_all<Rt: Threads + Sync, O: Opener, W: Write, E: Write, G: Gate>(
     rt: &Rt,
     alloc: Global,
     opener: &O,
-    names: &[String],
+    names: &[Vec<u8>],
     writer: &mut Counted<W>,
     errors: &mut Counted<E>,
     cutting: Cutting,

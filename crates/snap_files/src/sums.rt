@@ -1,5 +1,5 @@
 //! How many files have each exit status, and the first of them.
-ghost use Rattle.std.specs.Prelude.{◌≡◌, ◌++◌, ◌+◌, ◌<◌, ◌^◌, ◌∷◌, [], ℕ, List, IfOk, OnOk, find, map, length, string_bytes};
+ghost use Rattle.std.specs.Prelude.{◌≡◌, ◌++◌, ◌+◌, ◌<◌, ◌^◌, ◌∷◌, [], ℕ, List, IfOk, OnOk, find, map, length, vec_items};
 ghost use Rattle.snap_files.specs.Sums.{AreSums, IsFirst, IsKind, Judged, first_text, greatest_of, has_code, kind_text, sums_text, with_code};
 
 use crate::name::put_shown;
@@ -39,8 +39,8 @@ impl Kind {
 }
 
 // Adds the first file of a kind.
-fn put_first(out: &mut Vec<u8>, first: Option<usize>, names: &[String]) -> Result<(), AllocError>
-    ensures { (code : ℕ) (files : List Judged) → map (λ file. file.name) files ≡ map string_bytes names.now → IsFirst code files first
+fn put_first(out: &mut Vec<u8>, first: Option<usize>, names: &[Vec<u8>]) -> Result<(), AllocError>
+    ensures { (code : ℕ) (files : List Judged) → map (λ file. file.name) files ≡ map vec_items names.now → IsFirst code files first
         → OnOk result (out.new.items ≡ out.old.items ++ first_text (find (has_code code) files)) }
 {
     let Some(place) = first else {
@@ -54,8 +54,8 @@ fn put_first(out: &mut Vec<u8>, first: Option<usize>, names: &[String]) -> Resul
 }
 
 // Adds the line of a kind.
-fn put_kind(out: &mut Vec<u8>, word: &[u8], kind: Kind, names: &[String]) -> Result<(), AllocError>
-    ensures { (code : ℕ) (files : List Judged) → map (λ file. file.name) files ≡ map string_bytes names.now → IsKind code files kind
+fn put_kind(out: &mut Vec<u8>, word: &[u8], kind: Kind, names: &[Vec<u8>]) -> Result<(), AllocError>
+    ensures { (code : ℕ) (files : List Judged) → map (λ file. file.name) files ≡ map vec_items names.now → IsKind code files kind
         → OnOk result (out.new.items ≡ out.old.items ++ kind_text word.now code files) }
 {
     put_number(out, word, kind.files as u64)?;
@@ -113,8 +113,8 @@ impl Sums {
     }
 
     /// The lines of the sums over these names.
-    pub(crate) fn text(&self, alloc: Global, names: &[String]) -> Result<Vec<u8>, AllocError>
-        ensures { (files : List Judged) → map (λ file. file.name) files ≡ map string_bytes names.now → AreSums files self.now → IfOk result (λ text. text.items ≡ sums_text files) }
+    pub(crate) fn text(&self, alloc: Global, names: &[Vec<u8>]) -> Result<Vec<u8>, AllocError>
+        ensures { (files : List Judged) → map (λ file. file.name) files ≡ map vec_items names.now → AreSums files self.now → IfOk result (λ text. text.items ≡ sums_text files) }
     {
         let mut out = Vec::new(alloc);
         put_number(&mut out, b"files ", self.files as u64)?;

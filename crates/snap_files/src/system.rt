@@ -2,7 +2,9 @@
 ghost use Rattle.std.specs.Prelude.{⊤};
 
 use crate::opener::{Opener, Trouble};
-use std::fs::{self, OpenFile};
+use snap_names::open_file;
+use std::alloc::Global;
+use std::fs::OpenFile;
 use std::io;
 use std::io::{ErrorKind, Read};
 use std::rt::{Files, Stdin};
@@ -28,6 +30,8 @@ impl<F: Read> Read for SystemText<F> {
 /// What opens files by their names; `-` is standard input.
 #[derive(Drop)]
 pub struct System<'a, R> {
+    /// The memory for the path of a name that is not UTF-8.
+    pub alloc: Global,
     /// The files.
     pub files: &'a R,
     /// Standard input.
@@ -52,11 +56,11 @@ where
 
     ghost opens = { λ _ _ _. ⊤ };
 
-    fn open(&self, name: &str) -> Result<SystemText<R::File>, Trouble> {
-        if name == "-" {
+    fn open(&self, name: &[u8]) -> Result<SystemText<R::File>, Trouble> {
+        if name == b"-".as_slice() {
             return Ok(SystemText::Input(self.input));
         }
-        let file = match fs::open(self.files, name) {
+        let file = match open_file(self.alloc, self.files, name) {
             Ok(file) => file,
             Err(error) => return Err(trouble_of(&error)),
         };

@@ -1,3 +1,2 @@
 pub mod ListFacts
-pub mod TextFacts
 pub mod WalkFacts

@@ -40,23 +40,23 @@ impl Opener for Shelf {
 
     ghost opens = { λ _ _ _. ⊤ };
 
-    fn open(&self, name: &str) -> Result<Drip<'static>, Trouble> {
+    fn open(&self, name: &[u8]) -> Result<Drip<'static>, Trouble> {
         match name {
-            "stale" => Ok(Drip::new(STALE.as_bytes(), 0)),
-            "inversion" | "in\nver\\sion" => Ok(Drip::new(INVERSION.as_bytes(), 0)),
-            "busy" => Ok(Drip::new(BUSY.as_bytes(), 0)),
-            "broken" => Ok(Drip::new(STALE.as_bytes(), 3)),
-            "locked" => Err(Trouble::Unopened),
-            "folder" => Err(Trouble::Folder),
+            b"stale" | b"st\xffale" => Ok(Drip::new(STALE.as_bytes(), 0)),
+            b"inversion" | b"in\nver\\sion" => Ok(Drip::new(INVERSION.as_bytes(), 0)),
+            b"busy" => Ok(Drip::new(BUSY.as_bytes(), 0)),
+            b"broken" => Ok(Drip::new(STALE.as_bytes(), 3)),
+            b"locked" | b"lo\xffcked" => Err(Trouble::Unopened),
+            b"folder" => Err(Trouble::Folder),
             _ => Err(Trouble::Missing),
         }
     }
 }
 
-fn names_of(alloc: Global, list: &[&str]) -> Result<Vec<String>, AllocError> {
+fn names_of(alloc: Global, list: &[&[u8]]) -> Result<Vec<Vec<u8>>, AllocError> {
     let mut names = Vec::new(alloc);
     for name in list {
-        names.push(String::from_str(alloc, name)?)?;
+        names.push(Vec::from_slice(alloc, name)?)?;
     }
     Ok(names)
 }
@@ -65,7 +65,7 @@ fn names_of(alloc: Global, list: &[&str]) -> Result<Vec<String>, AllocError> {
 fn check<Rt: Threads + Sync, W: Write>(
     rt: &Rt,
     alloc: Global,
-    list: &[&str],
+    list: &[&[u8]],
     writer: &mut Counted<W>,
     format: Format,
     views: u32,
@@ -91,10 +91,10 @@ fn check<Rt: Threads + Sync, W: Write>(
 }
 
 // Some names, how many views are asked for, the status, what is written, and what is said.
-const CHECKS: &[(&[&str], u32, u8, &str, &str)] = &[
+const CHECKS: &[(&[&[u8]], u32, u8, &str, &str)] = &[
     (&[], 0, 0, "", ""),
     (
-        &["stale", "inversion"],
+        &[b"stale", b"inversion"],
         0,
         2,
         "stale: regular no\nstale: monotone yes\nstale: atomic no\n\
@@ -102,7 +102,14 @@ const CHECKS: &[(&[&str], u32, u8, &str, &str)] = &[
         "",
     ),
     (
-        &["inversion", "none", "busy", "locked", "broken", "folder"],
+        &[
+            b"inversion",
+            b"none",
+            b"busy",
+            b"locked",
+            b"broken",
+            b"folder",
+        ],
         0,
         4,
         "inversion: regular yes\ninversion: monotone no\ninversion: atomic no\n\
@@ -111,14 +118,14 @@ const CHECKS: &[(&[&str], u32, u8, &str, &str)] = &[
          snapjudge: broken: read failed\nsnapjudge: folder: is a directory\n",
     ),
     (
-        &["in\nver\\sion"],
+        &[b"in\nver\\sion"],
         0,
         1,
         "in\\nver\\\\sion: regular yes\nin\\nver\\\\sion: monotone no\nin\\nver\\\\sion: atomic no\n",
         "",
     ),
     (
-        &["stale", "inversion"],
+        &[b"stale", b"inversion"],
         2,
         3,
         "inversion: regular yes\ninversion: monotone no\ninversion: atomic no\n",
@@ -156,23 +163,50 @@ const OBJECTS: &str = "{\"name\":\"none\",\"status\":4,\"trouble\":\"no such fil
 #[test]
 fn each_name_has_its_object(rt: HostRuntime) -> Result<(), Fail> {
     let alloc = rt.alloc();
-    let list = [
-        "none",
-        "busy",
-        "stale",
-        "locked",
-        "broken",
-        "folder",
-        "in\nver\\sion",
+    let list: &[&[u8]] = &[
+        b"none",
+        b"busy",
+        b"stale",
+        b"locked",
+        b"broken",
+        b"folder",
+        b"in\nver\\sion",
     ];
     let mut writer = Counted::new(Vec::new(alloc));
-    let (answer, told) = check(&rt, alloc, &list, &mut writer, Format::Json, 2)?;
+    let (answer, told) = check(&rt, alloc, list, &mut writer, Format::Json, 2)?;
     same(answer.ok(), Some(4))?;
     same(str::from_utf8(&writer.into_inner())?, OBJECTS)?;
     same(
         str::from_utf8(&told)?,
         "snapjudge: none: no such file\nsnapjudge: locked: can't be opened\n\
          snapjudge: broken: read failed\nsnapjudge: folder: is a directory\n",
+    )
+}
+
+// In a report a name stands as its bytes are; in an object U+FFFD stands for what is not UTF-8.
+#[test]
+fn a_name_need_not_be_unicode(rt: HostRuntime) -> Result<(), Fail> {
+    let alloc = rt.alloc();
+    let list: &[&[u8]] = &[b"lo\xffcked", b"st\xffale", b"st\xe2\x82ale"];
+    let mut writer = Counted::new(Vec::new(alloc));
+    let (answer, told) = check(&rt, alloc, list, &mut writer, Format::Plain, 0)?;
+    assert!(rt; answer.ok() == Some(4));
+    assert!(rt;
+        writer.into_inner().as_slice()
+            == b"st\xffale: regular no\nst\xffale: monotone yes\nst\xffale: atomic no\n".as_slice()
+    );
+    assert!(rt;
+        told.as_slice()
+            == b"snapjudge: lo\xffcked: can't be opened\nsnapjudge: st\xe2\x82ale: no such file\n".as_slice()
+    );
+    let mut writer = Counted::new(Vec::new(alloc));
+    let (answer, _) = check(&rt, alloc, list, &mut writer, Format::Json, 2)?;
+    same(answer.ok(), Some(4))?;
+    same(
+        str::from_utf8(&writer.into_inner())?,
+        "{\"name\":\"lo\u{fffd}cked\",\"status\":4,\"trouble\":\"can't be opened\"}\n\
+         {\"name\":\"st\u{fffd}ale\",\"status\":3,\"too_few_views\":{\"views\":1,\"least\":2}}\n\
+         {\"name\":\"st\u{fffd}ale\",\"status\":4,\"trouble\":\"no such file\"}\n",
     )
 }
 
@@ -183,7 +217,7 @@ fn a_full_writer_ends_the_check(rt: HostRuntime) -> Result<(), Fail> {
     let (answer, _) = check(
         &rt,
         alloc,
-        &["stale", "none"],
+        &[b"stale", b"none"],
         &mut writer,
         Format::Plain,
         0,

@@ -1,9 +1,7 @@
 //! The names in lists, and those below folders from memory.
 ghost use Rattle.std.specs.Prelude.{⊤};
 
-use snap_names::{
-    Entry, Folders, Kind, NamesFault, Texts, names_below, names_in, read_names, texts_of,
-};
+use snap_names::{Entry, Folders, Kind, NamesFault, names_below, names_in, read_names};
 use snap_testing::Drip;
 use std::alloc::{AllocError, Global};
 use std::test::Fail;
@@ -155,23 +153,6 @@ fn names_below_a_folder_stand_in_order(rt: HostRuntime) -> Result<(), Fail> {
         if !are(&names, wanted) {
             return Err(Fail::from("names below a folder stand in order"));
         }
-    }
-    Ok(())
-}
-
-#[test]
-fn names_that_are_no_text_are_told_apart(rt: HostRuntime) -> Result<(), Fail> {
-    let alloc = rt.alloc();
-    let mut names = Vec::new(alloc);
-    for name in [b"a".as_slice(), b"\xff", b"\xc3\xa4", b"b\x80"] {
-        names.push(Vec::from_slice(alloc, name)?)?;
-    }
-    let Texts { texts, others } = texts_of(alloc, names)?;
-    if texts.len() != 2 || texts[0].as_str() != "a" || texts[1].as_str() != "ä" {
-        return Err(Fail::from("names that are no text are told apart"));
-    }
-    if !are(&others, &[b"\xff", b"b\x80"]) {
-        return Err(Fail::from("names that are no text are told apart"));
     }
     Ok(())
 }

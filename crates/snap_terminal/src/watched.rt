@@ -19,7 +19,7 @@ impl<O: Opener, R: Clock + Sync> Opener for Watched<'_, O, R> {
 
     ghost opens = { λ w name how. O.opens w.opener name how };
 
-    fn open(&self, name: &str) -> Result<O::Text, Trouble> {
+    fn open(&self, name: &[u8]) -> Result<O::Text, Trouble> {
         if let Some(progress) = self.progress {
             progress.next();
         }

@@ -4,13 +4,15 @@
 mod names;
 mod streams;
 mod version;
+mod words;
 
-ghost use Rattle.std.specs.Prelude.{◌≡◌, IfOk, MatchBool};
+ghost use Rattle.std.specs.Prelude.{◌≡◌, MatchBool};
 ghost use Rattle.snap_words.specs.Jobs.{IsInRange};
 
-use crate::names::{Names, inputs_in, names_of};
+use crate::names::names_of;
 use crate::streams::held_place;
 use crate::version::{asks_version, write_version};
+use crate::words::{Places, Wanted, wanted_by, words_of};
 use snap_check::{CheckOptions, RunFault, Status, check_run_with};
 use snap_core::{Counted, OpenGate};
 use snap_files::{
@@ -20,12 +22,12 @@ use snap_picture::{Explained, Lines, Page, Svg, draw_explained_run, draw_run, dr
 use snap_runs::{explain_run, record_rounds, record_rounds_stamped, shrink_run};
 use snap_terminal::{Cleared, Painted, Progress, Watched};
 use snap_threads::Cutting;
-use snap_words::{Asked, Color, Form, Job, JobFault, Options, Sources, job_of};
-use std::alloc::{AllocError, Global};
+use snap_words::{Color, Form, Job, JobFault, Options};
+use std::alloc::AllocError;
 use std::env;
 use std::env::VarError;
 use std::fs::File;
-use std::io::{ErrorKind, IsTerminal, Read, Write};
+use std::io::{IsTerminal, Read, Write};
 use std::process::ExitCode;
 use std::sync::Wait;
 use std::thread::Threads;
@@ -47,68 +49,37 @@ impl From<JobFault> for Failure {
     }
 }
 
+impl From<AllocError> for Failure {
+    fn from(_error: AllocError) -> Failure {
+        Failure::Run(RunFault::Memory)
+    }
+}
+
 impl From<RunFault> for Failure {
     fn from(fault: RunFault) -> Failure {
         Failure::Run(fault)
     }
 }
 
-// The words of the command line, the program's name first.
-fn words_of(rt: &HostRuntime) -> Result<Vec<String>, JobFault> {
-    let alloc = rt.alloc();
-    match env::args(rt) {
-        Ok(words) => Ok(words.collect(alloc)?),
-        Err(error) if error.kind() == ErrorKind::OutOfMemory => Err(JobFault::Memory),
-        Err(_) => Err(usage(alloc, "error: the words are not text\n")?),
-    }
-}
-
-// The job that the words of the command line ask for, and its files. Standard input, `-`, can be read once.
-fn asked_job(alloc: Global, words: Vec<String>) -> Result<Asked, JobFault>
-    ensures { IfOk result (λ asked. IsInRange asked.job) }
-{
-    if let Some(name) = words.get(1)
-        && name.ends_with(".csv")
-    {
-        return Err(JobFault::Usage(format!(in alloc;
-            "error: to judge a file, write: snapjudge check {name}\n"
-        )?));
-    }
-    let asked = job_of(alloc, words)?;
-    if asked.sources.null && asked.sources.list.is_none() {
-        return Err(usage(
-            alloc,
-            "error: the argument '--null' needs '--files-from <LIST>'\n",
-        )?);
-    }
-    if inputs_in(&asked.files, &asked.sources.list) > 1 {
-        return Err(usage(alloc, "error: - is standard input, and can be named once\n")?);
-    }
-    Ok(asked)
-}
-
-fn usage(alloc: Global, text: &str) -> Result<JobFault, AllocError> {
-    Ok(JobFault::Usage(String::from_str(alloc, text)?))
-}
-
 // What opens the files.
 fn system(rt: &HostRuntime) -> System<'_, HostRuntime> {
     System {
+        alloc: rt.alloc(),
         files: rt,
         input: rt.stdin(),
     }
 }
 
 // The text of the only file, or of standard input where there is none. Why it can't be opened is said.
-fn open_only(rt: &HostRuntime, files: &[String]) -> Result<SystemText<File>, Failure> {
+fn open_only(rt: &HostRuntime, files: &[Vec<u8>]) -> Result<SystemText<File>, Failure> {
     match files.first() {
         Some(name) => open_named(rt, name),
-        None => open_named(rt, "-"),
+        None => open_named(rt, b"-"),
     }
 }
 
 /// The text of a name. Why it can't be opened is said.
-fn open_named(rt: &HostRuntime, name: &str) -> Result<SystemText<File>, Failure> {
+fn open_named(rt: &HostRuntime, name: &[u8]) -> Result<SystemText<File>, Failure> {
     match system(rt).open(name) {
         Ok(text) => Ok(text),
         Err(trouble) => {
@@ -198,7 +169,7 @@ fn progress_of(
 }
 
 // Whether the answers of a check have the names of their texts: objects and sums always do, and a report beside others.
-fn has_names(files: &[String], asked: Options) -> bool {
+fn has_names(files: &[Vec<u8>], asked: Options) -> bool {
     asked.json || asked.summary || files.len() > 1
 }
 
@@ -206,11 +177,11 @@ fn has_names(files: &[String], asked: Options) -> bool {
 fn check_files<Rt: Threads + Sync>(
     rt: &Rt,
     host: &HostRuntime,
-    files: &[String],
+    files: &[Vec<u8>],
     cutting: Cutting,
     asked: Options,
 ) -> Result<u8, RunFault> {
-    let input = [String::from_str(host.alloc(), "-")?];
+    let input = [Vec::from_slice(host.alloc(), b"-")?];
     let names = if files.is_empty() { &input } else { files };
     check_names(rt, host, names, cutting, asked)
 }
@@ -219,7 +190,7 @@ fn check_files<Rt: Threads + Sync>(
 fn check_names<Rt: Threads + Sync>(
     rt: &Rt,
     host: &HostRuntime,
-    names: &[String],
+    names: &[Vec<u8>],
     cutting: Cutting,
     asked: Options,
 ) -> Result<u8, RunFault> {
@@ -274,7 +245,7 @@ fn check_names<Rt: Threads + Sync>(
 fn check<Rt: Threads + Sync>(
     rt: &Rt,
     host: &HostRuntime,
-    files: &[String],
+    files: &[Vec<u8>],
     cutting: Cutting,
     asked: Options,
 ) -> Result<u8, Failure> {
@@ -293,7 +264,7 @@ fn done<Rt: Threads + Wait + Sync>(
     rt: &Rt,
     host: &HostRuntime,
     job: Job,
-    files: &[String],
+    files: &[Vec<u8>],
 ) -> Result<u8, Failure>
     requires { IsInRange job }
 {
@@ -343,35 +314,30 @@ fn done<Rt: Threads + Wait + Sync>(
 }
 
 // The check of the files that the words, a list and a folder name.
-fn check_sources<Rt: Threads + Sync>(
+fn check_places<Rt: Threads + Sync>(
     rt: &Rt,
     host: &HostRuntime,
-    files: Vec<String>,
-    sources: &Sources,
+    files: Vec<Vec<u8>>,
+    places: &Places,
     cutting: Cutting,
     asked: Options,
 ) -> Result<u8, Failure> {
-    let Names { names, lost } = names_of(host, files, sources)?;
-    let code = check_names(rt, host, &names, cutting, asked)?;
-    Ok(if lost { 4 } else { code })
+    let names = names_of(host, files, places)?;
+    Ok(check_names(rt, host, &names, cutting, asked)?)
 }
 
 // Does what the words ask for, and gives its exit status. The threads are those of `rt`; all else is of the host.
 fn answered<Rt: Threads + Wait + Sync>(
     rt: &Rt,
     host: &HostRuntime,
-    asked: Asked,
+    wanted: Wanted,
 ) -> Result<u8, Failure>
-    requires { IsInRange asked.job }
+    requires { IsInRange wanted.job }
 {
-    let Asked {
-        job,
-        files,
-        sources,
-    } = asked;
+    let Wanted { job, files, places } = wanted;
     match job {
-        Job::Check { cutting, options } if sources.list.is_some() || sources.folder.is_some() => {
-            check_sources(rt, host, files, &sources, cutting, options)
+        Job::Check { cutting, options } if places.list.is_some() || places.folder.is_some() => {
+            check_places(rt, host, files, &places, cutting, options)
         }
         _ => done(rt, host, job, &files),
     }
@@ -387,10 +353,10 @@ fn failed(rt: &HostRuntime, fault: &RunFault) -> u8 {
 // host.
 fn run<Rt: Threads + Wait + Sync>(rt: &Rt, host: &HostRuntime) -> Result<u8, Failure> {
     let words = words_of(host)?;
-    if asks_version(&words) {
+    if asks_version(&words.texts) {
         return Ok(write_version(host)?);
     }
-    answered(rt, host, asked_job(host.alloc(), words)?)
+    answered(rt, host, wanted_by(host.alloc(), words)?)
 }
 
 fn main(rt: HostRuntime) -> ExitCode {

@@ -19,7 +19,7 @@ loop-place-preserved g c =
     let page = c.index-pages-place.result in
     let sent = rw c.deref-in-loop-place-2.ensures.value at c.send-in-loop-place.ensures.bytes in
     let whole = sent_whole _ _ _ c.send-in-loop-place.result sent (sym c.is_err.ensures.value ∙ c.if-is_err.false) in
-    let line = c.deref-in-loop-place.ensures.value ∙ c.in_ok-told.ensures ∙ ap (λ (name : List ℕ). told_text c.args.options name page.0) c.deref.ensures in
+    let line = c.deref-in-loop-place.ensures.value ∙ c.in_ok-told.ensures ∙ ap (λ (name : List ℕ). told_text c.args.options name page.0) c.deref.ensures.value in
     let told = subst (λ (text : List ℕ). Told (g.E.Write.contents (inner_of c.loop-place.errors)) (g.E.Write.contents (inner_of c.send.new.self)) (failures_in c.loop-place.errors) (failures_in c.send.new.self) text) line
     (told_by _ _ _ _ _ c.send.result c.send.ensures.bytes c.send.ensures.counts) in
     let code = c.max-greatest.ensures ∙ ap (λ n. max n c.loop-place.greatest) c.code_of.ensures in

@@ -1,5 +1,5 @@
-use Rattle.std.proofs.Common.{◌≡◌, ◌<◌, ◌+◌, ◌*◌, ◌++◌, ◌∷◌, [], ◌∙◌, rules, arith, ap, drop, get_or, length, length-append, List, String, subst, sym, vec_items}
-use Rattle.std.specs.Global.{Global}
+use Rattle.std.proofs.Common.{◌≡◌, ◌<◌, ◌+◌, ◌*◌, ◌++◌, ◌∷◌, [], ◌∙◌, rules, arith, ap, drop, get_or, length, length-append, List, ℕ, subst, sym, vec_items}
+use Rattle.std.specs.Global.{Vec}
 use Rattle.std.specs.Fork.{slice_chunk}
 use Rattle.std.proofs.Math.Nat.{zero-mul}
 use Rattle.std.proofs.lemmas.List.{drop_all}
@@ -21,8 +21,8 @@ loop-share-init g c =
     record {
       shares = λ n none low.
           let given = (c.in_ok-shares.ensures.each n none low).1 in
-          subst (λ (ns : List (String Global)). Answered opens options ns (get_or shares n none)) given.argument_is.value given.call;
-      behind = subst (AreAnswered opens options (drop (length shares * size) names)) (sym c.new-behind.ensures.items) (subst (λ (ns : List (String Global)). AreAnswered opens options ns []) (sym past) tt);
+          subst (λ (ns : List (Vec ℕ)). Answered opens options ns (get_or shares n none)) given.argument_is.value given.call;
+      behind = subst (AreAnswered opens options (drop (length shares * size) names)) (sym c.new-behind.ensures.items) (subst (λ (ns : List (Vec ℕ)). AreAnswered opens options ns []) (sym past) tt);
     }
 
 pub loop-share-preserved : goal.loop-share-preserved
@@ -50,4 +50,4 @@ returns g c =
     let size = c.max-size.result in
     let none : vec_items c.loop-share.shares ≡ [] = search rules in
     let whole : drop (length (vec_items c.loop-share.shares) * size) names ≡ names = ap (λ l. drop (length l * size) names) none ∙ ap (λ k. drop k names) (zero-mul size) in
-    subst (λ (ns : List (String Global)). AreAnswered (g.O.Opener.opens c.args.opener.now) c.args.options ns (vec_items c.loop-share.behind)) whole c.loop-share.invariant.behind
+    subst (λ (ns : List (Vec ℕ)). AreAnswered (g.O.Opener.opens c.args.opener.now) c.args.options ns (vec_items c.loop-share.behind)) whole c.loop-share.invariant.behind

@@ -12,5 +12,5 @@ returns c = λ code files are is.
     let out = c.args.out.now.items in
     let text : c.extend_from_slice.new.self.items ++ shown c.deref.result.now ≡ out ++ first_text (find (has_code code) files) =
     ap (λ (l : List ℕ). l ++ shown c.deref.result.now) c.in_ok-extend_from_slice.ensures.items ∙ append_assoc out (codes " first ") (shown c.deref.result.now)
-    ∙ ap (λ (l : List ℕ). out ++ (codes " first " ++ shown l)) (c.deref.ensures ∙ sym name) ∙ sym (ap (λ o. out ++ first_text o) found.1) in
+    ∙ ap (λ (l : List ℕ). out ++ (codes " first " ++ shown l)) (c.deref.ensures.value ∙ sym name) ∙ sym (ap (λ o. out ++ first_text o) found.1) in
     subst (λ (l : List ℕ). OnOk c.put_shown.result (c.put_shown.new.out.items ≡ l)) text c.put_shown.ensures
