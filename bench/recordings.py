@@ -13,6 +13,8 @@ TOP = os.path.join(os.path.dirname(os.path.abspath(__file__)), "..")
 EXAMPLES = os.path.join(TOP, "examples")
 PROGRAM = os.environ.get("SNAPJUDGE", os.path.join(TOP, "built", "snapjudge"))
 PYTHON = os.path.join(TOP, "ffi", "python")
+# What a worker and a scheduler find; a machine that is this one answers soon, or is dead.
+SETTINGS = {"PYTHONPATH": PYTHON, "DASK_DISTRIBUTED__COMM__TIMEOUTS__CONNECT": "5s"}
 # The recordings that are not atomic: each kind by an example, every so many of them, from this one on.
 OTHERS = (("new-old-inversion", 100, 37), ("stale-view", 250, 101), ("skipped-number", 1000, 702))
 # The exit status that belongs to the three verdicts.
@@ -69,7 +71,7 @@ def scheduler(workers):
 
         def start(which, *words):
             command = [sys.executable, "-B", "-m", f"distributed.cli.dask_{which}", "--host", "127.0.0.1", "--scheduler-file", file]
-            how = {"cwd": room, "env": {**os.environ, "PYTHONPATH": PYTHON}, "stdout": subprocess.DEVNULL, "stderr": subprocess.DEVNULL}
+            how = {"cwd": room, "env": {**os.environ, **SETTINGS}, "stdout": subprocess.DEVNULL, "stderr": subprocess.DEVNULL}
             process = subprocess.Popen([*command, "--no-dashboard", *words], **how)
             started.callback(process.wait)
             started.callback(process.kill)

@@ -141,7 +141,7 @@ for command in check shrink explain draw; do
 " ./second $command "$(printf '\377.csv')"
 done
 rm "$(printf '\377.csv')"
-for words in "check --views" "check --format" record ""; do
+for words in "check --views" record ""; do
   expect "a word that is not UTF-8 where no name stands: $words" 5 "" ./second $words "$(printf '\377')"
   expect_said "the reason" "error: a word that is not UTF-8 can only name a file, a list or a folder"
 done
@@ -744,9 +744,9 @@ expect_said "the reason" "at work
 snapjudge: the build failed: the program is built as snapjudge 9, and VERSION has 1"
 echo proved >answer
 
-# Waits until a file has a line, for at most ten seconds.
+# Waits until a file has a line, for at most two minutes.
 await() {
-  for turn in $(seq 200); do
+  for turn in $(seq 2400); do
     ! grep -q "$1" "$2" 2>/dev/null || return 0
     sleep 0.05
   done

@@ -3,6 +3,7 @@ import concurrent.futures
 import importlib.util
 import multiprocessing
 import os
+import queue
 import shutil
 import signal
 import subprocess
@@ -185,6 +186,9 @@ class Deadly:
             future.set_result([(0, "") for _ in paths])
         return future
 
+    def answers(self, future):
+        return future.result()
+
 
 class Deaths(unittest.TestCase):
     def test_a_file_of_which_workers_die_has_failed_and_no_other(self):
@@ -213,6 +217,20 @@ class ManyMachines(Recordings):
             self.expect_sums(cluster.judge_all(engine, self.paths, tell=kill))
             engine.close()
             self.assertEqual(workers[1].wait(), -signal.SIGKILL)
+
+    def test_a_bag_whose_worker_dies_before_its_answers_are_fetched_is_judged_once_more(self):
+        with scheduler(2) as (address, workers):
+            engine = cluster.Cluster(address)
+            ended = queue.SimpleQueue()
+            future = engine.submit(self.paths[:3], 0)
+            future.add_done_callback(ended.put)
+            self.assertIs(ended.get(timeout=60), future)
+            (keeper,) = engine.client.who_has(future)[future.key]
+            number = engine.client.run(os.getpid)[keeper]
+            (worker,) = (worker for worker in workers if worker.pid == number)
+            worker.kill()
+            self.assertEqual(engine.answers(future), [(0, "")] * 3)
+            engine.close()
 
     def test_a_scheduler_without_workers_is_told_of(self):
         pipe = os.path.join(self.room, "pipe")

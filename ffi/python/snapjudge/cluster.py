@@ -85,6 +85,10 @@ class Processes:
             self._started.pop(process)
         self._idle.append(None if error else process)
 
+    def answers(self, future):
+        """What the process answered for a bag."""
+        return future.result()
+
     def is_there(self):
         return True
 
@@ -118,26 +122,28 @@ class Cluster:
         self.deaths = (distributed.KilledWorker,)
         self.address = address
         try:
-            self._client = distributed.Client(address, timeout=CONNECT, set_as_default=False)
+            self.client = distributed.Client(address, timeout=CONNECT, set_as_default=False)
         except (OSError, ValueError) as error:
             raise Unable(f"{address}: no scheduler answers: {error}") from None
         try:
-            self._client.wait_for_workers(1, timeout=CONNECT)
+            self.client.wait_for_workers(1, timeout=CONNECT)
         except distributed.TimeoutError:
-            self._client.close()
+            self.client.close()
             raise Unable(f"{address}: the scheduler has no worker") from None
-        self.workers = sum(self._client.nthreads().values())
-        self._bags = self._client.get_executor(pure=False)
+        self.workers = sum(self.client.nthreads().values())
 
     def submit(self, paths, views):
-        return self._bags.submit(judge_bag, paths, views)
+        return self.client.submit(judge_bag, paths, views, pure=False)
+
+    def answers(self, future):
+        """What a worker answered for a bag. Where that worker has died since, the bag is judged once more."""
+        return self.client.gather(future)
 
     def is_there(self):
-        return self._client.status == "running" and bool(self._client.scheduler_info()["workers"])
+        return self.client.status == "running" and bool(self.client.scheduler_info()["workers"])
 
     def close(self):
-        self._bags.shutdown(wait=False)
-        self._client.close()
+        self.client.close()
 
 
 def bag_size(files, workers):
@@ -185,7 +191,7 @@ def next_of(ended, engine):
 def answers_of(future, engine, count):
     """The answers for a bag, or none where its worker died."""
     try:
-        found = future.result()
+        found = engine.answers(future)
     except engine.deaths:
         return None
     except concurrent.futures.CancelledError:
