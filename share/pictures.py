@@ -1,8 +1,11 @@
-"""Histories and the pictures that `snapjudge draw` makes of them, as test-draw.py reads both."""
+"""Histories and the pictures that `snapjudge draw` makes of them: as test-draw.py reads both, and as the pages show the pictures."""
 import re
+import textwrap
 import xml.etree.ElementTree as tree
 
 SVG = "{http://www.w3.org/2000/svg}"
+# A picture in a page is no wider: on a telephone its letters would be too small.
+WIDEST = 600
 # A character of a label is at most so wide, and a line of text so high above its foot and so deep below it.
 WIDE, HIGH, DEEP = 7, 10, 2
 
@@ -122,3 +125,28 @@ class Picture:
             for it in group.findall(SVG + "text"):
                 is_middle = group.get("id") in ("records", "places")
                 yield it.text, text_box(it, is_middle)
+
+
+# The lines of a folded sentence stand so far apart, and so much stays free behind the lanes and behind the labels.
+LINE, BEHIND_LANES, BEHIND_LABELS = 14, 12, 6
+MARK = re.compile(r'(<g class="mark".*?</title>)<text x="(\d+)" y="(\d+)">(.*?)</text>')
+SIZE = re.compile(r'viewBox="0 0 \d+ (\d+)" width="\d+" height="\d+"')
+
+
+def folded(text):
+    """A picture that is no wider than its lanes and their labels, as a narrow page can show it: its sentences take more lines."""
+    picture, lower = Picture(text), 0
+    said = {picture.text(f"fault-{kind}", "text") for kind in picture.ids("fault-")}
+    labels = max(box.right for it, box in picture.texts() if it not in said)
+    width = int(max(labels + BEHIND_LABELS, bar_box(picture.part("strip", "rect", "all")).right + BEHIND_LANES))
+
+    def fold(found):
+        nonlocal lower
+        front, left, foot, sentence = found.groups()
+        lines = textwrap.wrap(sentence, (width - 2 * int(left)) // WIDE)
+        feet = [int(foot) + lower + LINE * place for place in range(len(lines))]
+        lower += LINE * (len(lines) - 1)
+        return front + "".join(f'<text x="{left}" y="{at}">{line}</text>' for at, line in zip(feet, lines))
+
+    text = MARK.sub(fold, text)
+    return SIZE.sub(lambda it: f'viewBox="0 0 {width} {int(it[1]) + lower}" width="{width}" height="{int(it[1]) + lower}"', text, count=1)

@@ -4,14 +4,14 @@
 usage: test-draw.py [--write] [PROGRAM]      the program is ./snapjudge where none is named
 
 What a picture must show is worked out here from the history's text and from the report that is kept beside it. The picture is
-read as XML, its numbers are compared, and where chromium is here the page is opened in it at two widths. Pictures are kept in
-docs/pictures, and must be what the program draws today; with --write they are written. First the tests are tried themselves: each
-must find what is wrong with a changed picture.
+read as XML, and its numbers are compared. Where chromium is here, the page is opened in it at two widths, light and dark. Pictures
+are kept in docs/pictures as pages can show them: folded, and of a run that is too wide for a page its witness too. They must be what
+the program draws today; with --write they are written. First the tests are tried themselves: each must find what is wrong with a
+changed picture.
 """
 import contextlib
 import io
 import itertools
-import json
 import pathlib
 import re
 import shutil
@@ -20,13 +20,16 @@ import sys
 import tempfile
 import xml.etree.ElementTree as tree
 
+from browser import Browser
 from drawn_lines import WRONG as WRONG_LINES, LinePicture, try_lines
-from pictures import Picture, calls_of, faults_of, number, points_of
+from pictures import SVG, WIDEST, Picture, calls_of, faults_of, folded, number, points_of
 
 TOP = pathlib.Path(__file__).resolve().parent.parent
 PICTURES, ASKED = TOP / "docs/pictures", TOP / "share/test-draw.js"
-# The widths at which the page is opened, and how long the browser may take, in seconds.
-WIDTHS, LONGEST = (400, 1400), 60
+# The widths and the schemes in which the page is opened, and how long the browser may take for an answer, in seconds.
+WIDTHS, SCHEMES, LONGEST = (400, 1400), ("light", "dark"), 60
+# The least size of a letter on the screen where the page opens.
+SMALLEST = 7.5
 # The most bytes that a page may have, for the longest history.
 MOST_BYTES, MOST_EVENTS = 5_000_000, 65_536
 # The most calls that are drawn on a page, and by lines.
@@ -149,68 +152,96 @@ def try_alone(count, name, page):
     count.same(found, [], f"{name}: what it would load")
 
 
-def ask(browser, page, width):
-    """What a page answers in the browser at a width; nothing where its script failed or took too long."""
-    # the window of a browser has a least width, so the page is held to its own
-    page = page.replace("</head>", f"<style>html {{ width: {width}px }}</style></head>").replace("</body>", f"<script>{ASKED.read_text()}</script></body>")
+def try_browser(count, browser, name, page, calls, faults):
+    script = ASKED.read_text(encoding="utf-8")
     with tempfile.TemporaryDirectory() as room:
         path = pathlib.Path(room, "page.html")
         path.write_text(page, encoding="utf-8")
-        words = [browser, "--headless", "--no-sandbox", "--disable-gpu", f"--user-data-dir={room}/user", f"--window-size={max(width, 600)},900", "--dump-dom", path.as_uri()]
-        try:
-            ran = subprocess.run(words, capture_output=True, timeout=LONGEST, check=False)
-        except subprocess.TimeoutExpired:
-            return None
-    found = re.search(r'id="found"[^>]*>(.*?)</script>', ran.stdout.decode(errors="replace"), re.S)
-    return found and json.loads(found.group(1))
+        for width, scheme in itertools.product(WIDTHS, SCHEMES):
+            try_shown(count, f"{name}, {width} wide, {scheme}", browser.ask(path.as_uri(), width, scheme, script), width, scheme, calls, faults)
 
 
-def try_browser(count, browser, name, page, calls, faults):
-    for width in WIDTHS:
-        where = f"{name}, {width} wide"
-        found = ask(browser, page, width)
-        if not found:
-            count.expect(False, f"{where}: the page did not answer")
-            continue
-        count.same(found["covered"], [], f"{where}: labels that cover others")
-        count.same(found["loaded"], 0, f"{where}: what was loaded")
-        count.expect(found["page"] <= width, f"{where}: the page takes {found['page']}")
-        count.expect(all(kind + ":" in found["faults"] for kind in faults), f"{where}: its faults are {found['faults']}")
-        kinds = {call.kind for call in calls.values()} | {"pending" for call in calls.values() if call.end is None}
-        count.same(set(found["legend"]), kinds | {"call" if faults else "the"}, f"{where}: what the legend explains")
-        for at, call in calls.items():
-            begin = f"record {call.begin}: begin,{call.process},{call.kind}," + (call.data if call.kind == "update" else "")
-            end = f"record {call.end}: end,{call.process},{call.kind}," + (call.data if call.kind == "view" else "")
-            wanted = [call.title(at), begin, end if call.end else "pending"]
-            panel = found["shown"].get(f"call-{at}", "")
-            count.expect(all(it in panel for it in wanted), f"{where}: of call {at} the panel shows {panel}")
-        count.expect(found["isWhole"], f"{where}: 0 does not show the whole picture")
-        count.expect(found["fitted"] < found["larger"] > found["smaller"] < found["wheeled"], f"{where}: larger and smaller are wrong: {found}")
-        count.expect(found["moved"] > 0, f"{where}: an arrow does not move the picture")
+def try_shown(count, where, found, width, scheme, calls, faults):
+    """What the browser answers on a page: what can be read, what the panel says of each call, and what the keys do."""
+    if not found:
+        count.expect(False, f"{where}: the page did not answer")
+        return
+    count.same((found["window"], found["isDark"]), (width, scheme == "dark"), f"{where}: the width, and whether it is dark")
+    count.same(found["covered"], [], f"{where}: labels that cover others")
+    count.same(found["barred"], [], f"{where}: labels that lie over bars")
+    count.same(found["pale"], [], f"{where}: what is too pale")
+    count.expect(found["smallest"] >= SMALLEST, f"{where}: letters are {found['smallest']} high")
+    count.same(found["loaded"], 0, f"{where}: what was loaded")
+    count.expect(found["page"] <= width, f"{where}: the page takes {found['page']}")
+    count.expect(all(kind + ":" in found["faults"] for kind in faults), f"{where}: its faults are {found['faults']}")
+    kinds = {call.kind for call in calls.values()} | {"pending" for call in calls.values() if call.end is None}
+    count.same(set(found["legend"]), kinds | {"call" if faults else "the"}, f"{where}: what the legend explains")
+    for at, call in calls.items():
+        begin = f"record {call.begin}: begin,{call.process},{call.kind}," + (call.data if call.kind == "update" else "")
+        end = f"record {call.end}: end,{call.process},{call.kind}," + (call.data if call.kind == "view" else "")
+        wanted = [call.title(at), begin, end if call.end else "pending"]
+        panel = found["shown"].get(f"call-{at}", "")
+        count.expect(all(it in panel for it in wanted), f"{where}: of call {at} the panel shows {panel}")
+    count.expect(found["isWhole"], f"{where}: 0 does not show the whole picture")
+    count.expect(found["fitted"] < found["larger"] > found["smaller"] < found["wheeled"], f"{where}: larger and smaller are wrong: {found}")
+    count.expect(found["moved"] > 0, f"{where}: an arrow does not move the picture")
+
+
+def try_folded(count, name, shown, calls):
+    """The lines of a folded picture have room in it, and say what its sentences say."""
+    picture = Picture(shown)
+    try_overlap(count, f"{name}, folded", picture, calls)
+    high = number(picture.root, "height")
+    count.expect(all(box.bottom <= high for _, box in picture.texts()), f"{name}, folded: a text is below the picture")
+    for kind in picture.ids("fault-"):
+        lines = " ".join(it.text for it in picture.by[f"fault-{kind}"].iter(SVG + "text"))
+        count.same(lines, picture.text(f"fault-{kind}", "title"), f"{name}, folded: the sentence on {kind}")
+
+
+def try_kept(count, name, text, calls, is_written):
+    """The picture in docs/pictures is the one that is drawn today, folded. Its width is returned."""
+    if not picture_of(count, name, text):
+        return 0
+    shown, kept = folded(text), PICTURES / f"{name}.svg"
+    if shown != text:
+        try_folded(count, name, shown, calls)
+    if is_written:
+        kept.write_text(shown, encoding="utf-8")
+    count.expect(kept.exists() and kept.read_text(encoding="utf-8") == shown, f"docs/pictures/{name}.svg is not what is drawn today: run share/test-draw.py --write")
+    return number(Picture(shown).root, "width")
+
+
+def try_witness(count, program, path, is_written):
+    """The picture of the witness of a history."""
+    name, witness = f"{path.stem}-witness", asked(program, "shrink", path)[1]
+    text, report, said = (asked(program, *words, given=witness)[1] for words in (("draw", "--svg"), ("check",), ("explain",)))
+    try_picture(count, name, text, witness, report, said.splitlines())
+    width = try_kept(count, name, text, calls_of(witness), is_written)
+    count.expect(width <= WIDEST, f"{name}: it is {width} wide")
+    return name
 
 
 def try_example(count, program, browser, path, is_written):
-    name, report = path.stem, path.with_suffix(".report").read_text()
+    """All that is tried on a history; the names of its pictures are returned."""
+    name, history, report = path.stem, path.read_text(), path.with_suffix(".report").read_text()
     status, picture_text = draw(program, path, "--svg")
     count.same(status, subprocess.run([program, "check", path], capture_output=True, check=False).returncode, f"{name}: status")
     if report.startswith("refused"):
         count.same(picture_text, report, f"{name}: what is written of no history")
-        return
+        return []
     page_status, page = draw(program, path)
     count.same(page_status, status, f"{name}: status of the page")
     count.expect(picture_text.strip() in page, f"{name}: the page has another picture")
-    try_picture(count, name, picture_text, path, explained(program, path))
+    try_picture(count, name, picture_text, history, report, explained(program, path))
     try_alone(count, name, page)
-    kept = PICTURES / f"{name}.svg"
-    if is_written:
-        kept.write_text(picture_text, encoding="utf-8")
-    count.expect(kept.exists() and kept.read_text(encoding="utf-8") == picture_text, f"docs/pictures/{name}.svg is not what is drawn today: run share/test-draw.py --write")
     try_text(count, program, path, status)
+    calls = calls_of(history)
     if browser:
-        calls = calls_of(path.read_text())
         try_browser(count, browser, name, page, calls, faults_of(report, calls)[0])
     else:
         count.skip(f"{name}: the page in a browser, since chromium is not here")
+    is_wide = try_kept(count, name, picture_text, calls, is_written) > WIDEST
+    return [name, try_witness(count, program, path, is_written)] if is_wide else [name]
 
 
 def try_text(count, program, path, status):
@@ -257,10 +288,10 @@ WRONG = {
 }
 
 
-def try_picture(count, name, text, path, said):
+def try_picture(count, name, text, history, report, said):
     """All that is said of a picture of a history."""
-    calls = calls_of(path.read_text())
-    faults, order = faults_of(path.with_suffix(".report").read_text(), calls)
+    calls = calls_of(history)
+    faults, order = faults_of(report, calls)
     picture = picture_of(count, name, text)
     try_alone(count, name, text)
     if picture and try_calls(count, name, picture, calls, faults):
@@ -273,17 +304,53 @@ def explained(program, path):
     return subprocess.run([program, "explain", path], capture_output=True, text=True, check=False).stdout.splitlines()
 
 
-def try_tests(count, program):
+# What is changed in its folded picture.
+WRONG_FOLDED = {
+    "a line is left out": (r'<text x="8" y="\d+">[^<]*</text></g>', "</g>"),
+    "a line covers another": (r'y="\d+">and had', 'y="296">and had'),
+    "a line is too long": (r">and had ended[^<]*", ">and had ended before that view began, and this is more than fits"),
+    "the picture is not higher": (r'height="326"', 'height="300"'),
+}
+
+
+# What is changed in the page of new-old-inversion, so that it is wrong at one width at least, or in one scheme.
+WRONG_PAGES = {
+    "a dark page has dark words": ("--quiet: #a3adb8", "--quiet: #444c55"),
+    "a light page has light bars": ("--update: #2c69a8", "--update: #c3d9f0"),
+    "no page is dark": ("prefers-color-scheme: dark", "prefers-color-scheme: none"),
+    "a narrow page is too wide": ("#help {", "#help { width: 500px;"),
+    "letters are too small": ("font: 11px", "font: 7px"),
+    "a label lies over a bar": (r'(<text class="label" x="\d+" y=")\d+', r"\g<1>122"),
+    "a legend is missing": (r"<li data-of='.view'>.*?</li>", ""),
+    "the panel is wrong": ("said.match", "''.match"),
+    "a page loads something": ("<h1 id", "<img src='no.png'><h1 id"),
+    "a script fails": ("const by =", "const const by ="),
+}
+
+
+def try_tests(count, program, browser):
     """Tries the tests on pictures that are wrong."""
     path = TOP / "examples/new-old-inversion.csv"
-    text, said = draw(program, path, "--svg")[1], explained(program, path)
+    history, report = path.read_text(), path.with_suffix(".report").read_text()
+    text, said, calls = draw(program, path, "--svg")[1], explained(program, path), calls_of(history)
+    faults, order = faults_of(report, calls)
     for what, (old, new) in WRONG.items():
         wrong, found = re.sub(old, new, text, count=1, flags=re.S), Count()
         with contextlib.redirect_stdout(io.StringIO()):
-            try_picture(found, what, wrong, path, said)
+            try_picture(found, what, wrong, history, report, said)
         count.expect(wrong != text and found.failed > 0, f"a picture is not found wrong where {what}")
-    lines, calls = draw(program, path, "--text")[1], calls_of(path.read_text())
-    faults, order = faults_of(path.with_suffix(".report").read_text(), calls)
+    for what, (old, new) in WRONG_FOLDED.items():
+        wrong, found = re.sub(old, new, folded(text), count=1, flags=re.S), Count()
+        with contextlib.redirect_stdout(io.StringIO()):
+            try_folded(found, what, wrong, calls)
+        count.expect(wrong != folded(text) and found.failed > 0, f"a folded picture is not found wrong where {what}")
+    page = draw(program, path)[1]
+    for what, (old, new) in WRONG_PAGES.items() if browser else ():
+        wrong, found = re.sub(old, new, page, count=1, flags=re.S), Count()
+        with contextlib.redirect_stdout(io.StringIO()):
+            try_browser(found, browser, what, wrong, calls, faults)
+        count.expect(wrong != page and found.failed > 0, f"a page is not found wrong where {what}")
+    lines = draw(program, path, "--text")[1]
     for what, (old, new) in WRONG_LINES.items():
         wrong, found = re.sub(old, new, lines, count=1, flags=re.S), Count()
         with contextlib.redirect_stdout(io.StringIO()):
@@ -317,14 +384,16 @@ def try_longest(count, program):
 def main(words):
     is_written = words[:1] == ["--write"]
     program = pathlib.Path(words[is_written] if words[is_written:] else TOP / "snapjudge").resolve()
-    count, browser = Count(), shutil.which("chromium") or shutil.which("chromium-browser")
-    examples = sorted((TOP / "examples").glob("*.csv"))
-    drawn = {path.stem for path in examples if not path.with_suffix(".report").read_text().startswith("refused")}
+    count, chromium = Count(), shutil.which("chromium") or shutil.which("chromium-browser")
+    browser = Browser(chromium, LONGEST) if chromium else None
     PICTURES.mkdir(exist_ok=True)
-    try_tests(count, program)
-    for path in examples:
-        try_example(count, program, browser, path, is_written)
-    count.same({it.stem for it in PICTURES.iterdir()}, drawn, "the files of docs/pictures")
+    try:
+        try_tests(count, program, browser)
+        kept = [name for path in sorted((TOP / "examples").glob("*.csv")) for name in try_example(count, program, browser, path, is_written)]
+    finally:
+        if browser:
+            browser.end()
+    count.same(sorted(it.name for it in PICTURES.iterdir()), sorted(f"{name}.svg" for name in kept), "the files of docs/pictures")
     try_longest(count, program)
     return count.end()
 

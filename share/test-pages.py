@@ -1,5 +1,5 @@
 #!/usr/bin/env python3
-"""Tries the pages: their dialogues, links, paths and sizes. The last line is 'N passed, M failed', with ', K skipped' behind it.
+"""Tries the pages: their dialogues, links, pictures, paths and sizes. The last line is 'N passed, M failed', with ', K skipped' behind it.
 
 usage: test-pages.py [PAGE ..]      all pages where none is named
 
@@ -25,6 +25,7 @@ import sys
 import tempfile
 
 import graph
+import pictures
 
 TOP = graph.TOP
 # What is no page and goes into no copy.
@@ -33,6 +34,8 @@ BUILT = {".git", "out", "target", "dist", "__pycache__"}
 README_LINES, CRATE_LINES = 110, 40
 # A sentence has no more words; and outside of tables none of so many words stands twice.
 WORDS, SAME_WORDS = 25, 4
+# So many words at least say what a picture shows.
+PICTURE_WORDS = 10
 # The pages whose commands are not run here, and the script that tries what they show.
 ELSEWHERE = {"docs/OWN-OBJECT.md": "ffi/record/test.sh", "docs/RECORDING.md": "ffi/record/test.sh", "docs/INSTALL.md": "share/test-package.sh"}
 # The files that repeat the number of VERSION, each with how it stands there.
@@ -63,6 +66,8 @@ WRONG = {
     "a link to no file": "[no file](none.md)\n",
     "a link to no heading": "[no heading](README.md#none)\n",
     "a path of no file": "`share/none.py`\n",
+    "a picture too wide": "![Twelve bars in three lanes, and three of them are hatched.](docs/pictures/recorded-1.svg)\n",
+    "a picture without words": "![A picture.](docs/pictures/atomic-run.svg)\n",
     "a block without an end": "```\n",
     "commands without a mark": "```\n$ echo one\none\n```\n",
     "a line too many": "\n" * (README_LINES + 1),
@@ -72,6 +77,7 @@ WRONG = {
 }
 
 LINK = re.compile(r"!?\[((?:[^\[\]]|\[[^\]]*\])*)\]\(([^()\s]+)\)")
+PICTURE = re.compile(r"!\[([^\[\]]*)\]\(([^()\s]+\.svg)\)")
 CODE = re.compile(r"(`+)(.+?)\1")
 PATH = re.compile(r"(?:(?:crates|docs|bench|ffi|sweep|examples)/[\w./-]*\w|share/[\w.-]*\w)")
 
@@ -226,6 +232,16 @@ def try_links(count, page, pages):
         count.expect(is_built or (TOP / path).exists(), f"{page.name}:{line}: there is no {path}")
 
 
+def try_pictures(count, page):
+    """Each picture that a page shows can be read where the page is narrow, and words say what is to be seen."""
+    for line, text in page.prose:
+        for words, target in PICTURE.findall(text):
+            file = TOP / os.path.dirname(page.name) / target
+            width = pictures.number(pictures.Picture(file.read_text(encoding="utf-8")).root, "width") if file.exists() else 0
+            count.expect(width <= pictures.WIDEST, f"{page.name}:{line}: {target} is {width} wide, and may be {pictures.WIDEST}")
+            count.expect(len(words.split()) >= PICTURE_WORDS, f"{page.name}:{line}: too few words say what {target} shows")
+
+
 def try_form(count, page):
     """How long a page is, and the marks of its blocks."""
     count.expect(page.is_whole, f"{page.name}: a block has no end")
@@ -338,6 +354,7 @@ def try_tests(count):
             os.mkdir(f"{room}/tree")
             try_form(found, page)
             try_links(found, page, {})
+            try_pictures(found, page)
             try_sentences(found, [page])
             for block in filter(lambda it: it.is_dialogue, page.blocks):
                 try_dialogue(found, block, room)
@@ -355,6 +372,7 @@ def main(words):
     for page in chosen:
         try_form(count, page)
         try_links(count, page, pages)
+        try_pictures(count, page)
     try_graph(count)
     try_version(count)
     try_sentences(count, chosen)
