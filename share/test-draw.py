@@ -175,7 +175,7 @@ def try_shown(count, where, found, width, scheme, calls, faults):
     count.expect(found["page"] <= width, f"{where}: the page takes {found['page']}")
     count.expect(all(kind + ":" in found["faults"] for kind in faults), f"{where}: its faults are {found['faults']}")
     kinds = {call.kind for call in calls.values()} | {"pending" for call in calls.values() if call.end is None}
-    count.same(set(found["legend"]), kinds | {"call" if faults else "the"}, f"{where}: what the legend explains")
+    count.same(set(found["legend"]), kinds | {"strip", "call" if faults else "order"}, f"{where}: what the legend explains")
     for at, call in calls.items():
         begin = f"record {call.begin}: begin,{call.process},{call.kind}," + (call.data if call.kind == "update" else "")
         end = f"record {call.end}: end,{call.process},{call.kind}," + (call.data if call.kind == "view" else "")

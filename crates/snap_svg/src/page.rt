@@ -58,6 +58,7 @@ pre { margin: 4px 0; white-space: pre-wrap; }
 #view svg { display: block; }
 .script #view .mark text, .script #verdict { display: none; }
 #panel { border-left: 4px solid var(--quiet); margin: 8px 0; padding: 4px 10px; min-height: 104px; overflow-wrap: anywhere; }
+#panel p { margin: 4px 0 0; font-weight: bold; }
 #panel.is-fault { border-left: 8px double var(--fault); }
 #legend { display: flex; flex-wrap: wrap; gap: 4px 18px; margin: 0; padding: 0; list-style: none; font-size: 13px; }
 #legend svg { vertical-align: middle; }
@@ -80,9 +81,10 @@ pub(crate) const TAIL: &[u8] = b"\
 <li data-of='.view'><svg width='34' height='14'><g class='view'><rect class='bar' x='3' y='3' width='28' height='8'/></g></svg> view</li>
 <li data-of='.pending'><svg width='34' height='14'><g class='update pending'><rect class='bar' x='3' y='3' width='20' height='8'/><path class='open' d='M 23 2 l 5 5 l -5 5'/></g></svg> pending: no end</li>
 <li data-of='.mark'><svg width='34' height='14'><g class='fault-read'><rect class='bar' x='3' y='3' width='28' height='8'/></g></svg> call of a fault, with its kind below</li>
-<li data-of='#order'><svg width='34' height='14'><g style='fill: var(--line); stroke: var(--line)'><path d='M 3 7 H 31'/><circle cx='17' cy='7' r='4'/></g></svg> the printed order, one point a call</li>
+<li data-of='#order'><svg width='34' height='14'><g style='fill: var(--line); stroke: var(--line)'><path d='M 3 7 H 31'/><circle cx='17' cy='7' r='4'/></g></svg> order: one that explains all views, a point where each call takes effect</li>
+<li data-of='#strip'><svg width='34' height='14'><rect x='1' y='4' width='32' height='6' style='fill: var(--faint)'/><rect x='9' y='2' width='14' height='10' style='fill: none; stroke: var(--quiet); stroke-width: 1.5'/><path d='M 18 2 V 12' style='stroke: var(--fault); stroke-width: 3'/></svg> strip: the whole run, a frame around what is drawn, a mark where a fault begins</li>
 </ul>
-<p id='help'><kbd>+</kbd> <kbd>-</kbd> or the wheel: larger, smaller. <kbd>0</kbd>: the whole picture. Arrows or a drag: move. <kbd>Tab</kbd>: the next call. The numbers above the bars are the records of the text.</p>
+<p id='help'><kbd>+</kbd> <kbd>-</kbd> or the wheel: larger, smaller. <kbd>0</kbd>: the whole picture. Arrows or a drag: move. <kbd>Tab</kbd>: the next call. The numbers above the bars are the records of the text. <code>p0</code> is process 0. <code>0:1:7</code> is component 0, its update 1 and the value 7.</p>
 <script>
 'use strict';
 (function () {
@@ -122,7 +124,7 @@ pub(crate) const TAIL: &[u8] = b"\
       const last = places[1] ? 'record ' + places[1] + ': end' + start + (isView ? title[3] : '') : 'no record ends it: the call is pending';
       add(panel, 'pre', first + String.fromCharCode(10) + last);
     }
-    kindsOf(call).forEach(function (mark) { add(panel, 'strong', named(mark) + ' '); });
+    kindsOf(call).forEach(function (mark) { add(panel, 'p', named(mark)); });
     panel.classList.toggle('is-fault', kindsOf(call).length > 0);
   };
 
