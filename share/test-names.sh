@@ -44,22 +44,29 @@ printf 'old.csv\r\n' >list
 asked "a list with carriage returns" 4 "" --files-from list
 expect_said "the name and the reason" 'snapjudge: old.csv\r: no such file'
 bare=$(printf '\377.csv')
-printf 'old.csv\n%s\n' "$bare" >list
-asked "a name in a list that is not UTF-8, of no file" 4 "old.csv
-" --files-from list
-expect_said "the name and the reason" "snapjudge: $bare: no such file"
 cp old.csv "$bare"
-asked "a name in a list that is not UTF-8" 1 "old.csv
-$bare
+printf 'old.csv\n%s\n' "$bare" >list
+asked "a name in a list that is not UTF-8" 4 "old.csv
 " --files-from list
-asked "a name among the words that is not UTF-8" 2 "$bare
-a b.csv
+expect_said "the name and the reason" "snapjudge: $bare: is not UTF-8"
+asked "a name among the words that is not UTF-8" 4 "a b.csv
 " "$bare" "a b.csv"
-cp list "$(printf 'list\377')"
-asked "a list whose name is not UTF-8" 1 "old.csv
-$bare
-" --files-from "$(printf 'list\377')"
-rm "$(printf 'list\377')"
+expect_said "the name and the reason" "snapjudge: $bare: is not UTF-8"
+expect "sums with a name that is not UTF-8" 4 "files 2
+atomic 0
+only-regular 1 first old.csv
+not-regular 0
+refused 0
+failed 1 first $bare
+" ./second check --summary "$bare" old.csv
+expect "an object of a name that is not UTF-8" 4 "$(printf '{"name":"\357\277\275.csv","status":4,"trouble":"is not UTF-8"}')
+" ./second check --format json "$bare"
+asked "a list whose name is not UTF-8" 4 "" --files-from "$bare"
+expect_said "the name and the reason" "snapjudge: $bare: is not UTF-8"
+asked "a folder whose name is not UTF-8" 4 "old.csv
+" -r "$bare" old.csv
+expect_said "the name and the reason" "snapjudge: $bare: is not UTF-8"
+rm "$bare"
 
 broken=$(printf 'a\nb\\c.csv')
 cp old.csv "$broken"
@@ -181,23 +188,13 @@ pipes/old.csv: atomic no
 " timeout 60 ./second check --quiet -r pipes
 rm -r pipes
 bare=$(printf 'runs/a/\377')
-mkdir "$bare"
 cp old.csv "$bare.csv"
-cp old.csv "$bare/in.csv"
-cp old.csv "$bare.txt"
-mkfifo "$bare.pipe.csv"
-ln -s ../b.csv "$bare.link.csv"
-ln -s ../../many "$bare.folder.csv"
-asked "names in a folder that are not UTF-8" 1 "runs/a/b.csv
-$bare.csv
-$bare.link.csv
-$bare/in.csv
+mkdir "$bare"
+asked "names in a folder that are not UTF-8" 4 "runs/a/b.csv
 " -r runs/a
-asked "a folder whose name is not UTF-8" 1 "$bare/in.csv
-" -r "$bare"
-expect "an object of a name that is not UTF-8" 1 "$(printf '"runs/a/\357\277\275.csv"')
-" sh -c './second check --format json "$0" >answer; code=$?; grep -o "\"runs[^\"]*\"" answer; exit $code' "$bare.csv"
-rm -r "$bare" "$bare".*
+expect_said "the names and the reason" "snapjudge: $bare: is not UTF-8
+snapjudge: $bare.csv: is not UTF-8"
+rm -r "$bare" "$bare.csv"
 if has python3; then
   expect "the names below a folder, as snapjudge.cluster takes them" 0 "$below" env PYTHONPATH="$top/ffi/python" python3 -c '
 import sys

@@ -19,7 +19,7 @@ use Rattle.snap_files.specs.declared.format.FileOptions.{FileOptions}
 use Rattle.snap_files.specs.declared.format.Format.{Format}
 use Rattle.snap_files.specs.declared.format.Format.TheVariants.{Plain, Json}
 use Rattle.snap_files.specs.declared.opener.Trouble.{Trouble}
-use Rattle.snap_files.specs.declared.opener.Trouble.TheVariants.{Missing, Folder, Unopened, Unread, Memory}
+use Rattle.snap_files.specs.declared.opener.Trouble.TheVariants.{Missing, Folder, NotUnicode, Unopened, Unread, Memory}
 
 -- what became of a name: its status, none where its history has fewer views than are asked for, or why it has none
 abbrev pub Answer : Type 0
@@ -67,6 +67,7 @@ trouble_by faults.Memory = Memory
 abbrev pub trouble_text : Trouble → List ℕ
 trouble_text Missing = codes "no such file"
 trouble_text Folder = codes "is a directory"
+trouble_text NotUnicode = codes "is not UTF-8"
 trouble_text Unopened = codes "can't be opened"
 trouble_text Unread = codes "read failed"
 trouble_text Memory = codes "out of memory"

@@ -9,6 +9,8 @@ pub enum Trouble {
     Missing,
     /// It is a directory.
     Folder,
+    /// The name is not UTF-8, as the names of the system's files have to be here.
+    NotUnicode,
     /// It can't be opened, for another reason.
     Unopened,
     /// A read failed.

@@ -151,6 +151,7 @@ fn text_of(trouble: Trouble) -> &'static str
     match trouble {
         Trouble::Missing => "no such file",
         Trouble::Folder => "is a directory",
+        Trouble::NotUnicode => "is not UTF-8",
         Trouble::Unopened => "can't be opened",
         Trouble::Unread => "read failed",
         Trouble::Memory => "out of memory",

@@ -2,12 +2,10 @@
 ghost use Rattle.std.specs.Prelude.{⊤};
 
 use crate::opener::{Opener, Trouble};
-use snap_names::open_file;
-use std::alloc::Global;
-use std::fs::OpenFile;
-use std::io;
+use std::fs::{self, OpenFile};
 use std::io::{ErrorKind, Read};
 use std::rt::{Files, Stdin};
+use std::{io, str};
 
 /// A file, or standard input.
 #[derive(Drop)]
@@ -30,8 +28,6 @@ impl<F: Read> Read for SystemText<F> {
 /// What opens files by their names; `-` is standard input.
 #[derive(Drop)]
 pub struct System<'a, R> {
-    /// The memory for the path of a name that is not UTF-8.
-    pub alloc: Global,
     /// The files.
     pub files: &'a R,
     /// Standard input.
@@ -60,7 +56,10 @@ where
         if name == b"-".as_slice() {
             return Ok(SystemText::Input(self.input));
         }
-        let file = match open_file(self.alloc, self.files, name) {
+        let Ok(path) = str::from_utf8(name) else {
+            return Err(Trouble::NotUnicode);
+        };
+        let file = match fs::open(self.files, path) {
             Ok(file) => file,
             Err(error) => return Err(trouble_of(&error)),
         };

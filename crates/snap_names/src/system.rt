@@ -1,14 +1,15 @@
 //! The folders of the system. No contract says what they hold.
 ghost use Rattle.std.specs.Prelude.{⊤};
 
-use crate::bytes::{Node, node_at, open_folder};
 use crate::fault::NamesFault;
 use crate::folders::{Entry, Folders, Kind};
 use crate::list::read_names;
 use crate::walk::path_in;
 use std::alloc::{AllocError, Global};
+use std::fs::Metadata;
 use std::io::{BufReader, ErrorKind};
 use std::rt::Files;
+use std::{fs, str};
 
 /// What lists the folders of the system.
 #[derive(Drop)]
@@ -16,18 +17,26 @@ pub struct SystemFolders<'a, R> {
     pub files: &'a R,
 }
 
+// What stands where no folder does.
+fn kind_of(metadata: &Metadata) -> Kind {
+    if metadata.is_file() {
+        Kind::File
+    } else {
+        Kind::Other
+    }
+}
+
 impl<R: Files> SystemFolders<'_, R> {
     // What stands at a path, behind a link what it leads to. A file that is gone in the meantime is one still.
-    fn kind_at(&self, path: &[u8]) -> Kind {
-        match node_at(self.files, path, false) {
-            Ok(Node::Folder) => Kind::Folder,
-            Ok(Node::Link) => match node_at(self.files, path, true) {
-                Ok(Node::Folder) => Kind::Link,
-                Ok(Node::Link | Node::Other) => Kind::Other,
-                Ok(Node::File) | Err(_) => Kind::File,
+    fn kind_at(&self, path: &str) -> Kind {
+        match fs::symlink_metadata(self.files, path) {
+            Ok(metadata) if metadata.is_dir() => Kind::Folder,
+            Ok(metadata) if metadata.is_symlink() => match fs::metadata(self.files, path) {
+                Ok(aim) if aim.is_dir() => Kind::Link,
+                Ok(aim) => kind_of(&aim),
+                Err(_) => Kind::File,
             },
-            Ok(Node::File) => Kind::File,
-            Ok(Node::Other) => Kind::Other,
+            Ok(metadata) => kind_of(&metadata),
             Err(error) if error.kind() == ErrorKind::NotFound => Kind::File,
             Err(_) => Kind::Unknown,
         }
@@ -37,10 +46,11 @@ impl<R: Files> SystemFolders<'_, R> {
     fn listed(&self, alloc: Global, folder: &[u8]) -> Result<Option<Vec<Vec<u8>>>, AllocError> {
         // the slash has the system follow a link to the folder that the words name
         let slashed = path_in(alloc, folder, b"")?;
-        let listing = match open_folder(alloc, self.files, &slashed) {
-            Ok(listing) => listing,
-            Err(error) if error.kind() == ErrorKind::OutOfMemory => return Err(AllocError),
-            Err(_) => return Ok(None),
+        let Ok(path) = str::from_utf8(&slashed) else {
+            return Ok(None);
+        };
+        let Ok(listing) = self.files.open_dir(path) else {
+            return Ok(None);
         };
         // a read of few bytes has no room for a name, and fails
         let Ok(listing) = BufReader::new(alloc, listing) else {
@@ -70,7 +80,10 @@ impl<R: Files> Folders for SystemFolders<'_, R> {
                 continue;
             }
             let path = path_in(alloc, folder, &name)?;
-            let kind = self.kind_at(&path);
+            let kind = match str::from_utf8(&path) {
+                Ok(path) => self.kind_at(path),
+                Err(_) => Kind::Unknown,
+            };
             entries.push(Entry { name, kind })?;
         }
         Ok(Some(entries))

@@ -64,7 +64,6 @@ impl From<RunFault> for Failure {
 // What opens the files.
 fn system(rt: &HostRuntime) -> System<'_, HostRuntime> {
     System {
-        alloc: rt.alloc(),
         files: rt,
         input: rt.stdin(),
     }
