@@ -6,20 +6,8 @@
 #        sources.sh sum       one sum over the names and the texts of the program's files
 #        sources.sh crates    the crates that the program stands on, and its own
 #
-# The launcher reads this file at each start, since a shell more would take half a millisecond. Nor is there time to look for the
-# files: a note names them and their folders. A folder's time changes with the names in it, and crates.txt is one of the files.
-
-# Goes to the folder that is named, and lists what the lines behind it name: its size, and when its entry changed, as it does with
-# the text, its time and its name.
-list_times() {
-  unset CDPATH
-  export LC_ALL=C
-  cd "$1" || return
-  set -f
-  IFS='
-'
-  exec stat -L -c '%s %.9Z' -- $2 2>/dev/null
-}
+# There is no time to look for the files at each start: a note names them and their folders. A folder's time changes with the names
+# in it, and crates.txt is one of the files. The names come to this file too, since another rule makes another sum.
 
 # From the last line of crates.txt up each crate is met before those below it. Where the lines stand in another order, they are
 # gone through until no further crate is met.
@@ -64,13 +52,19 @@ find_files() {
   find -L crates.txt VERSION $folders \( -path '*/src/tests' -o -path '*/src/tests.rt' \) -prune -o "$@"
 }
 
-# Writes the names of the program's files and of their folders, a line each. Where a crate lacks one of its two folders, it is named
-# itself, since that may come.
+# Writes the names of what is looked at, a line each: the program's files and their folders, and this file. Where a crate lacks one
+# of its two folders, it is named itself, since that may come.
 find_names() {
+  echo share/sources.sh
   find_files \( -type f -o -type d \) -print
   for crate in $(find_crates); do
     { [ -d "crates/$crate/src" ] && [ -d "crates/$crate/specs" ]; } || echo "crates/$crate"
   done
+}
+
+# Makes words of a shell, in one line, of the lines that it reads.
+quote_lines() {
+  sed -n "/[^A-Za-z0-9_./-]/{s/'/'\\\\''/g;s/^/'/;s/$/'/;};H;\${x;s/\\n/ /g;p;}"
 }
 
 # Goes to the folder that is named, and sums up.
@@ -81,16 +75,27 @@ sum_sources() {
   sum=$(find_files -type f -print0 | sort -z | xargs -0 sha256sum | sha256sum) && [ "${#sum}" -ge 64 ] && echo "${sum%% *}"
 }
 
-# Goes to the folder that is named, and notes what its sources are, in assignments of a shell. The times come before the sum: what
-# changes behind them is known by them. What comes or goes before them is known by the names. There are no times where a name is not
-# one line.
+# Goes to the folder that is named, and notes what its sources are, in lines of a shell that has the folder in `here`. `stat` tells
+# of each name its size, and when its entry changed, as it does with the text, its time and its name. It has its path and plain
+# words, since it takes a shell time to look for it and to split a variable. The times come before the sum: what changes behind them
+# is known by them. What comes or goes before them is known by the names. There are no times where a name is not one line, or where
+# they are whole seconds, as those of a smaller `stat`.
 note_sources() {
   unset CDPATH
+  export LC_ALL=C
   cd "$1" || return
   names=$(find_names)
-  list=$(list_times . "$names") || list=
+  words=$(printf '%s\n' "$names" | sed -e 's,^crates/,,' -e t -e 's,^,../,' | quote_lines)
+  look="exec 2>/dev/null; export LC_ALL=C; cd \"\$here/crates\" && set -f && "
+  look="${look}exec$(command -v stat | quote_lines) -L -c '%s %.9Z' --$words"
+  list=$(here=. && eval "$look") || list=
+  case $list in
+    *.*) ;;
+    *) list= ;;
+  esac
   sum=$(sum_sources .) && [ "$(find_names)" = "$names" ] || return
-  printf "built='%s'\nnames='%s'\nlist='%s'\n" "$sum" "$(echo "$names" | sed "s/'/'\\\\''/g")" "$list"
+  printf "built='%s'\n" "$sum"
+  [ -z "$list" ] || printf "case \$(%s) in\n'%s') same=yes ;;\nesac\n" "$look" "$list"
 }
 
 # What this file does as a command.

@@ -596,6 +596,10 @@ runs() {
 }
 builds "a first call" old
 runs "a second call" old
+expect "where nothing is found but the tool that looks at the times" 0 "old
+" env PATH=/nowhere tree/snapjudge check
+! command -v bash >/dev/null || expect "and by another shell" 0 "old
+" env PATH=/nowhere "$(command -v bash)" tree/snapjudge check
 expect "the library is proved in the same run" 0 "--beside snap_c snapjudge
 " cat tree/beside
 expect "and is linked once" 0 "
@@ -639,17 +643,55 @@ fi
 echo old >$main
 touch -d 2001-01-01 $main
 builds "an edit by a clock that went back" old
-for file in src/more.rt specs/More.antt "src/a b's.rt" src/below/more.rt "src/a
+for file in src/more.rt specs/More.antt "src/a b's.rt" 'src/$HOME*\c.rt' src/below/more.rt "src/a
 b.rt"; do
   mkdir -p "tree/crates/snapjudge/${file%/*}"
   touch "tree/crates/snapjudge/$file"
   builds "one file more, $file" old
   runs "and once more, $file" old
+  noted=0
+  [ "$file" != "src/a
+b.rt" ] || noted=1
+  expect "whether times are noted, $file" $noted "" grep -q same=yes tree/built/sources.sh
   echo more >"tree/crates/snapjudge/$file"
   builds "an edit of it, $file" old
   rm "tree/crates/snapjudge/$file"
   builds "one file less, $file" old
 done
+below=tree/crates/snapjudge/src/below
+echo one >$below/one.rt
+builds "a file in a folder that was empty" old
+touch -r $below time
+echo two >$below/two.rt
+touch -r time $below
+builds "one more in it, with the time of before" old
+mv $below/one.rt one.rt
+mv $below/two.rt $below/one.rt
+mv one.rt $below/two.rt
+builds "two names change places" old
+touch -r $below/one.rt time
+echo six >one.rt
+touch -r time one.rt
+mv one.rt $below/one.rt
+builds "another file of the same size and time in its place" old
+mv $below tree/crates/snapjudge/src/beneath
+builds "another name of the folder" old
+rm -r tree/crates/snapjudge/src/beneath
+builds "the folder is gone" old
+cp tree/share/sources.sh saved.sh
+sed -i 's,folder in ,&"crates/$crate/proofs" ,' tree/share/sources.sh
+echo proof >tree/crates/snapjudge/proofs/Main.antt
+builds "another rule of what the sources are" old
+echo more >>tree/crates/snapjudge/proofs/Main.antt
+builds "an edit by that rule" old
+cp saved.sh tree/share/sources.sh
+builds "the rule of before" old
+echo new >$main
+export same=yes
+builds "an edit, and a variable of the caller" new
+unset same
+echo old >$main
+builds "an edit" old
 mkdir elsewhere
 echo linked >elsewhere/linked.rt
 ln -s ../../../../elsewhere/linked.rt tree/crates/snapjudge/src/linked.rt
@@ -677,7 +719,7 @@ builds "a program of which no source is known" old
 builds "a program whose sources were not written" old
 sed -i 2,\$d tree/built/sources.sh
 runs "a program of which the sum alone is known" old
-expect "the list is noted anew" 0 "" grep -q "^list='" tree/built/sources.sh
+expect "the list is noted anew" 0 "" grep -q "') same=yes ;;$" tree/built/sources.sh
 
 # what does not
 touch $main tree/VERSION
@@ -721,6 +763,19 @@ at work"
 expect "the program alone is proved" 0 "snapjudge
 " cat tree/beside
 expect "and nothing is linked" 1 "" test -e tree/linked
+mkdir whole
+printf '#!/bin/sh\necho 1 2\n' >whole/stat
+chmod +x whole/stat
+touch $main
+expect "a tool that knows whole seconds alone" 0 "new
+" env PATH="$room/whole:$PATH" tree/snapjudge check
+expect "and no times" 1 "" grep -q same=yes tree/built/sources.sh
+expect "times of a tool in a folder of its own" 0 "new
+" env PATH="$room/tools" tree/snapjudge check
+expect "and its name" 0 "" grep -q "$room/tools/stat" tree/built/sources.sh
+rm tools/stat
+runs "the tool that looked at the times is gone" new
+expect "another is noted" 1 "" grep -q "$room/tools/stat" tree/built/sources.sh
 
 mv tree/share/sources.sh saved.sh
 expect "a checkout without share/sources.sh" 70 "" tree/snapjudge check
@@ -751,6 +806,7 @@ await() {
 # Builds twice at once: the first prover ends when the second build has said that it waits. The second takes what the first left,
 # or proves by the answer that is named.
 build_twice() {
+  rm -f one.err two.err
   touch answer.wait
   tree/snapjudge check >one 2>one.err &
   one=$!
@@ -785,6 +841,7 @@ $waits
 at work
 " sh -c 'echo "$1"; cat one two one.err two.err' sh "$codes"
 echo new >$main
+rm -f one.err
 touch answer.wait
 tree/build >one 2>one.err &
 one=$!
