@@ -325,7 +325,7 @@ public final class SnapDriver {
             throw new DriveException("files", front + "-witness.csv or " + front + "-explained.txt can't be written");
     }
 
-    // Who holds this may write files for the program. A process that ends takes it for good, and then removes those files.
+    // Whoever holds this writes a file of a run. A Java that ends takes it for good, and then removes the files that are left.
     private static final ReentrantLock scratching = new ReentrantLock();
 
     static {
@@ -389,8 +389,8 @@ public final class SnapDriver {
         private final int runs, stop;
         private final Outcome outcome = new Outcome();
         private final List<String> batch = new ArrayList<>(); // the histories of runs that are not yet judged
-        private int most = 1; // runs of the batch
-        private long begun = System.nanoTime(), told = begun; // when the batch began, and when the outcome was last told
+        private int most = 1; // so many runs fill the batch
+        private long begun = System.nanoTime(), told = begun; // when the batch began, and when it was last told how far the runs are
 
         private Judge(String name, Options options) {
             this.name = name;
@@ -409,7 +409,7 @@ public final class SnapDriver {
             return judged() == runs || stop > 0 && outcome.regular + outcome.neither == stop;
         }
 
-        /** Whether the batch is to be judged: it is full or has the last run, or the outcome was not told for long. */
+        /** Whether the batch is to be judged: it is full, or has the last run, or half a second has passed since the last judgement. */
         private boolean isDue() {
             return batch.size() >= most || judged() + batch.size() == runs || System.nanoTime() - begun >= SECOND / 2
                 || batch.stream().mapToLong(String::length).sum() >= MOST_CHARACTERS;
@@ -427,7 +427,7 @@ public final class SnapDriver {
             }
         }
 
-        /** The status of each run of the batch; or nothing where they have to be judged alone, which then tells what is wrong. */
+        /** The status of each run of the batch; or nothing where each has to be judged alone, which then tells what is wrong. */
         private List<Integer> judgeTogether() throws IOException, InterruptedException {
             if (batch.size() == 1) return List.of();
             List<Path> names = scratch(out, batch.size());
