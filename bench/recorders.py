@@ -2,7 +2,8 @@
 """Prints how many runs of right and of wrong objects the drivers of the recorders catch, by their options, and what recording costs.
 
 usage: recorders.py [RUNS [PROGRAM [OBJECT ..]]]; 200 runs where no number is given, and the costs alone where it is 0. Where objects
-of recorders/objects.c are named, it prints their rows alone.
+of recorders/objects.c are named, it prints their rows alone. Where `batches` is named, it prints how long runs of Java take by how many
+of them one start of the program judges; of three times in turn the least.
 
 The objects are those of recorders/objects.c, and those of ffi/record in each language. A language whose compiler is missing is left out.
 """
@@ -19,6 +20,8 @@ RECORD = os.path.join(HERE, "..", "ffi", "record")
 COST = os.path.join(HERE, "recorders")
 LIMIT = 600
 C, CPP = ["cc", "-std=gnu11", "-O2", "-pthread"], ["c++", "-std=c++17", "-O2", "-pthread"]
+# how many runs of Java one start of the program judges at most
+BATCHES = (1, 4, 16, 64, 256)
 # an object, its options, and by how much its runs are more than those of the others
 ROWS = [
     ("bare", "", 1),
@@ -63,16 +66,51 @@ def output(command, folder):
     return subprocess.run(command, cwd=folder, stdout=subprocess.PIPE, check=True, timeout=LIMIT, text=True).stdout.strip()
 
 
-def print_caught(said, command, name, options, runs, folder):
-    """A row of the table: of so many runs those that were caught, and how long one took."""
+def drive(command, name, options, runs, folder):
+    """How many of so many runs were atomic, and how many milliseconds one took."""
     begun = time.monotonic()
     words = [*command, name, *options.split(), "--runs", str(runs)]
     done = subprocess.run(words, cwd=folder, stdout=subprocess.PIPE, stderr=subprocess.DEVNULL, timeout=LIMIT, text=True)
     found = re.fullmatch(rf"{name}: atomic (\d+), regular (\d+), neither (\d+)\n", done.stdout)
     if not found or done.returncode > 2:
         sys.exit(f"{words} ended with status {done.returncode}")
-    milliseconds = (time.monotonic() - begun) * 1000 / runs
-    print(f"| {said} | {f'`{options}`' if options else ''} | {runs - int(found[1])} of {runs} | {milliseconds:.1f} |", flush=True)
+    return int(found[1]), (time.monotonic() - begun) * 1000 / runs
+
+
+def print_caught(said, command, name, options, runs, folder):
+    """A row of the table: of so many runs those that were caught, and how long one took."""
+    atomic, milliseconds = drive(command, name, options, runs, folder)
+    print(f"| {said} | {f'`{options}`' if options else ''} | {runs - atomic} of {runs} | {milliseconds:.1f} |", flush=True)
+
+
+def java_of(most, folder):
+    """The command of the boards in Java, whose driver judges at most so many runs by one start of the program."""
+    room = os.path.join(folder, f"java-{most}")
+    shutil.copytree(f"{RECORD}/java", room)
+    with open(f"{room}/SnapDriver.java", "r+", encoding="ascii") as file:
+        text, changed = re.subn(r"MOST_RUNS = \d+", f"MOST_RUNS = {most}", file.read())
+        file.seek(0)
+        file.write(text)
+        file.truncate()
+    if changed != 1:
+        sys.exit("SnapDriver.java has another limit of batches")
+    subprocess.run(["javac", "Own.java", "SnapDriver.java", "SnapRecorder.java"], cwd=room, check=True)
+    return ["java", "-cp", room, "Own"]
+
+
+def print_batches(runs, folder):
+    """What a run of Java takes with its judgement, by how many runs one start of the program judges."""
+    columns = [("", 2), ("--calls 10", 5)]
+    commands = {most: java_of(most, folder) for most in BATCHES}
+    took = {most: [[] for _ in columns] for most in BATCHES}
+    for _ in range(3):
+        for most, command in commands.items():
+            for found, (options, times) in zip(took[most], columns):
+                found.append(drive(command, "double", options, runs * times, folder)[1])
+    print("| runs of Java a start, at most | double, ms a run | with `--calls 10` |\n|---|---|---|")
+    for most in BATCHES:
+        print(f"| {most} | {' | '.join(f'{min(found):.1f}' for found in took[most])} |")
+    print()
 
 
 def print_rows(runs, folder, names):
@@ -124,6 +162,9 @@ def main():
     program = sys.argv[2] if len(sys.argv) > 2 else os.path.join(HERE, "..", "snapjudge")
     os.environ["SNAPJUDGE_PROGRAM"] = os.path.realpath(program)
     with tempfile.TemporaryDirectory() as folder:
+        if sys.argv[3:] == ["batches"]:
+            print_batches(runs, folder)
+            return
         if len(sys.argv) > 3:
             print_rows(runs, folder, sys.argv[3:])
             return
@@ -134,6 +175,8 @@ def main():
                 for name in ("naive", "double"):
                     print_caught(f"{name}, {language}", own, name, "", runs, folder)
             print()
+            if shutil.which("javac"):
+                print_batches(runs, folder)
         print("| cost of a call, ns | 1 thread | 2 threads | 4 threads |\n|---|---|---|---|")
         for language, _, cost in languages:
             found = [output([*cost, str(threads)], folder) for threads in (1, 2, 4)]

@@ -476,12 +476,110 @@ few_java_threads() {
   fi
 }
 
+# judging WORDS: the program ./judges, which judges, and calls these before each check
+judging() {
+  rm -f numbered-* starts checked seen
+  # shellcheck disable=SC2016
+  printf '#!/bin/sh\n[ "$1" != check ] || { %s; }\nexec "%s" "$@"\n' "$1" "$program" >judges
+  chmod +x judges
+}
+
+# nothing_left: no file of a run that was judged is there
+nothing_left() {
+  [ -z "$(find . -maxdepth 1 -name 'run-*')" ]
+}
+
+# runs of two calls, which ./judges judges, in batches where they are not slow
+batched=(--threads 1 --components 1 --calls 2 --order turn --program ./judges)
+
+# fourth_is_kept: of the runs of `numbered` the fourth was told and kept, and its view shows a 4
+fourth_is_kept() {
+  grep -qxF "numbered: run 4 is not atomic: see ./numbered-caught.csv and the files beside it" told &&
+    [ "$(tail -n 1 numbered-caught.csv)" = "3,end,0,view,0:1:4" ] && "$program" explain <numbered-caught.csv | cmp - numbered-explained.txt &&
+    nothing_left
+}
+
+# batch WORDS NEITHER OPTION ..: runs of which so many are caught, while the program calls these words
+batch() {
+  judging "$1"
+  ends 2 "numbered: atomic 3, regular 0, neither $2" "${faulty[@]}" numbered "${batched[@]}" "${@:3}" && fourth_is_kept
+}
+
+# batch_fails WORDS START OPTION ..: the fourth run is kept, and then the driver ends with a line that begins so
+batch_fails() {
+  judging "$1"
+  misused "$2" numbered "${batched[@]}" "${@:3}" && fourth_is_kept
+}
+
+# judge_fails WORDS START: the program fails behind the first run
+judge_fails() {
+  judging "$1"
+  misused "$2" numbered "${batched[@]}" --runs 8 && nothing_left
+}
+
+# The first run is judged alone, and then batches double up to 64, so 300 runs need ten of them. Where one has fewer runs, half a
+# second has passed. While the program reads files, there are no others.
+# shellcheck disable=SC2016
+few_starts() {
+  local begun=$SECONDS
+  judging 'echo $# $(ls run-* | wc -l) >>starts'
+  ends 0 "gives-up: atomic 300, regular 0, neither 0" "${faulty[@]}" gives-up "${batched[@]}" --runs 300 || return 1
+  cat starts
+  [ "$(head -n 1 starts)" = "1 1" ] && [ "$(wc -l <starts)" -le $((10 + 2 * (SECONDS - begun + 1))) ] &&
+    awk '$2 != ($1 == 1 ? 1 : $1 - 4) || $2 > 64 { exit 1 }' starts
+}
+
+# slow runs are judged one by one
+slow_runs() {
+  judging 'echo >>starts'
+  ends 0 "slows: atomic 4, regular 0, neither 0" "${faulty[@]}" slows "${batched[@]}" --runs 4 && [ "$(wc -l <starts)" = 4 ]
+}
+
+# with room for one character, each run is a batch
+bounded_batches() {
+  judging 'echo >>starts'
+  rm -rf bounded
+  cp -r "$here/java" bounded
+  sed 's/MOST_CHARACTERS = 1 << 24/MOST_CHARACTERS = 1/' "$here/java/SnapDriver.java" >bounded/SnapDriver.java
+  ! cmp -s bounded/SnapDriver.java "$here/java/SnapDriver.java" && javac -d bounded bounded/*.java || return 1
+  ends 0 "gives-up: atomic 5, regular 0, neither 0" java -cp bounded Faulty gives-up "${batched[@]}" --runs 5 && [ "$(wc -l <starts)" = 5 ]
+}
+
+# the driver is ended while the program reads the files of its second start, and they are gone
+# shellcheck disable=SC2016
+ended_in_batch() {
+  judging '[ ! -e checked ] || { ls run-* >seen; kill $PPID; while kill -0 $PPID 2>/dev/null; do sleep 0.1; done; exit; }; touch checked'
+  ends 143 "" "${faulty[@]}" numbered "${batched[@]}" --runs 8 && [ -s seen ] && nothing_left
+}
+
+# Where a batch is not judged at once, its runs are judged one by one.
+# shellcheck disable=SC2016
+java_batches() {
+  local died="numbered: died: a call of thread 0 threw " alone='[ $# = 1 ] ||' seen="grep -q ':5$' run-*"
+  try "Java: the first of a batch is kept" batch : 2 --runs 5
+  try "Java: a batch with the last run that counts" batch : 1 --runs 5 --stop 1
+  try "Java: a fault behind the last run that counts" batch : 1 --runs 8 --stop 1
+  try "Java: a fault behind runs that are not judged" batch_fails : "$died" --runs 8
+  try "Java: no verdict on a run of a batch" batch_fails "! $seen || exit 4" "numbered: no verdict: the judge ends with status 4" --runs 5
+  try "Java: a program that knows no batches" batch "$alone exit 0" 2 --runs 5
+  try "Java: a program that leaves out a run" batch "$alone { \"$program\" \"\$@\" >all; found=\$?; sed 1,3d all; exit \$found; }" 2 --runs 5
+  try "Java: a program that ends otherwise than it tells" batch "$alone { \"$program\" \"\$@\" | sed 's/ no/ yes/'; exit 2; }" 2 --runs 5
+  try "Java: a full disk for a batch" batch '[ $# != 1 ] || ln -sfn /dev/full run-$PPID-1.csv' 2 --runs 5
+  try "Java: a program that fails later" judge_fails '[ ! -e checked ] || exit 4; touch checked' "numbered: no verdict: the judge ends with status 4"
+  try "Java: a program that is gone later" judge_fails 'rm judges' "numbered: files: a file can't be written, or the program can't be run: "
+  try "Java: few starts of the program" few_starts
+  try "Java: slow runs are judged at once" slow_runs
+  try "Java: batches of few characters" bounded_batches
+  try "Java: ended in a batch" ended_in_batch
+}
+
 try_java() {
   local own=(java -cp java Own) faulty=(java -cp java Faulty)
   try "Java: builds" javac -Xlint:all -Werror -d java "$here"/java/*.java
   try "Java: misuse" worked java -cp java Misuse
   drivers Java
   throws Java
+  java_batches
   few_java_threads
   try "Java: the command of the guide" first_verdict "cd ../java &&"
 }

@@ -1,3 +1,4 @@
+import java.util.Arrays;
 import java.util.HashMap;
 import java.util.List;
 import java.util.Map;
@@ -12,6 +13,9 @@ import java.util.function.IntFunction;
  * second run on, and gives up before. "slow" pauses around what it does, and is right with one component. "fails" is stale; of its
  * updates the first had no effect, and of the third it is not known. "retries" is slow, and right with one component: of five updates
  * one has no effect, one is tried again, and the 13th comes late.
+ *
+ * <p>For runs that are judged in batches: "numbered" gives up in three runs, shows the number of the run in the next two, and throws
+ * behind them. "slows" gives up, and from its second run on a view takes more than half a second.
  */
 public final class Faulty implements SnapDriver.Board {
     final String name;
@@ -65,7 +69,13 @@ public final class Faulty implements SnapDriver.Board {
         while (name.equals("hangs")) Thread.sleep(1000);
         if (name.equals("slow")) return slowView();
         if (name.equals("retries")) return retriedView();
-        return name.equals("gives-up") || name.equals("second") && begun == 1 ? null : new long[name.equals("short") ? components - 1 : components];
+        if (name.equals("numbered")) return numberedView();
+        if (name.equals("slows") && begun > 1) Thread.sleep(600);
+        return givesUp() ? null : new long[name.equals("short") ? components - 1 : components];
+    }
+
+    private boolean givesUp() {
+        return name.equals("gives-up") || name.equals("slows") || name.equals("second") && begun == 1;
     }
 
     private long[] slowView() {
@@ -83,9 +93,17 @@ public final class Faulty implements SnapDriver.Board {
         return values;
     }
 
+    private long[] numberedView() {
+        if (begun > 5) throw new IllegalStateException("no connection");
+        long[] values = new long[components];
+        Arrays.fill(values, begun);
+        return begun < 4 ? null : values;
+    }
+
     public static void main(String[] words) throws InterruptedException {
         Map<String, IntFunction<? extends SnapDriver.Board>> objects = new HashMap<>();
-        for (String name : List.of("stale", "gives-up", "hangs", "short", "dies", "odd", "second", "slow", "fails", "retries", "unmade"))
+        for (String name : List.of(
+            "stale", "gives-up", "hangs", "short", "dies", "odd", "second", "slow", "fails", "retries", "unmade", "numbered", "slows"))
             objects.put(name, components -> new Faulty(name, components));
         SnapDriver.main(words, objects);
     }

@@ -11,10 +11,12 @@
 import java.io.File;
 import java.io.IOException;
 import java.math.BigInteger;
+import java.nio.charset.StandardCharsets;
 import java.nio.file.Files;
 import java.nio.file.Path;
 import java.util.ArrayList;
 import java.util.Arrays;
+import java.util.Collections;
 import java.util.List;
 import java.util.Locale;
 import java.util.Map;
@@ -22,7 +24,11 @@ import java.util.concurrent.CyclicBarrier;
 import java.util.concurrent.atomic.AtomicLong;
 import java.util.concurrent.atomic.AtomicReference;
 import java.util.concurrent.locks.LockSupport;
+import java.util.concurrent.locks.ReentrantLock;
 import java.util.function.IntFunction;
+import java.util.regex.Pattern;
+import java.util.stream.Collectors;
+import java.util.stream.IntStream;
 
 /**
  * Drives a snapshot object of one's own: threads update and view it by a seeded schedule, and the judge judges each run.
@@ -319,29 +325,154 @@ public final class SnapDriver {
             throw new DriveException("files", front + "-witness.csv or " + front + "-explained.txt can't be written");
     }
 
-    /** The name of a file that this process may write into a folder. */
-    private static Path scratch(String out) {
-        return Path.of(out, "run-" + ProcessHandle.current().pid() + ".csv");
+    // Whoever holds this writes a file of a run. A Java that ends takes it for good, and then removes the files that are left.
+    private static final ReentrantLock scratching = new ReentrantLock();
+
+    static {
+        Runtime.getRuntime().addShutdownHook(new Thread(scratching::lock));
+    }
+
+    /** The names of so many files that this process may write into a folder. */
+    private static List<Path> scratch(String out, int count) {
+        String front = "run-" + ProcessHandle.current().pid() + "-";
+        return IntStream.range(0, count).mapToObj(it -> Path.of(out, front + it + ".csv")).collect(Collectors.toList());
+    }
+
+    private static void write(Path name, String text) throws IOException {
+        scratching.lock();
+        try {
+            name.toFile().deleteOnExit();
+            Files.writeString(name, text);
+        } finally {
+            scratching.unlock();
+        }
+    }
+
+    private static void remove(List<Path> names) throws IOException {
+        for (Path name : names) Files.deleteIfExists(name);
     }
 
     /** Tries whether files can be written into a folder, before the first run, so that none is lost. */
     private static void testFolder(String out) {
         try {
-            Files.writeString(scratch(out), "");
-            Files.delete(scratch(out));
+            write(scratch(out, 1).get(0), "");
+            remove(scratch(out, 1));
         } catch (IOException error) {
             throw new DriveException("files", "a file can't be written: " + error);
         }
     }
 
-    /** 0 for atomic, 1 for regular, 2 for neither. */
-    private static int judge(Path program, String text, String out) throws IOException, InterruptedException {
-        Path name = scratch(out);
-        Files.writeString(name, text);
-        int status = call(program, "check", name.toString(), "/dev/null");
-        Files.delete(name);
-        if (status > 2) throw new DriveException("no verdict", "the judge ends with status " + status);
-        return status;
+    private static final Pattern VERDICTS = Pattern.compile("(?md)^.*: regular (yes|no)\n.*: monotone (?:yes|no)\n.*: atomic (yes|no)$");
+
+    /** Of each of several files 0 for atomic, 1 for regular, 2 for neither; or nothing where some have no verdict. */
+    private static List<Integer> check(Path program, List<Path> names) throws IOException, InterruptedException {
+        List<String> words = new ArrayList<>(List.of(program.toString(), "check", "--quiet", "--no-progress", "--"));
+        for (Path name : names) words.add(name.toString());
+        Process process = new ProcessBuilder(words)
+            .redirectInput(new File("/dev/null"))
+            .redirectError(ProcessBuilder.Redirect.INHERIT)
+            .start();
+        String said = new String(process.getInputStream().readAllBytes(), StandardCharsets.UTF_8);
+        int status = process.waitFor();
+        List<Integer> found = VERDICTS.matcher(said).results()
+            .map(it -> it.group(1).equals("no") ? 2 : it.group(2).equals("no") ? 1 : 0)
+            .collect(Collectors.toList());
+        return found.size() == names.size() && Collections.max(found) == status ? found : List.of();
+    }
+
+    /** Judges the runs that are added, in their order. The program is started once for a batch of them. */
+    private static final class Judge {
+        private static final int MOST_RUNS = 64, MOST_CHARACTERS = 1 << 24;
+        private static final long SECOND = 1000000000L;
+        private final String name, out;
+        private final Path program;
+        private final int runs, stop;
+        private final Outcome outcome = new Outcome();
+        private final List<String> batch = new ArrayList<>(); // the histories of runs that are not yet judged
+        private int most = 1; // so many runs fill the batch
+        private long begun = System.nanoTime(), told = begun; // when the batch began, and when it was last told how far the runs are
+
+        private Judge(String name, Options options) {
+            this.name = name;
+            out = options.out;
+            program = findProgram(options.program);
+            testFolder(out);
+            runs = options.get(Number.RUNS);
+            stop = options.get(Number.STOP);
+        }
+
+        private int judged() {
+            return outcome.atomic + outcome.regular + outcome.neither;
+        }
+
+        private boolean hasEnded() {
+            return judged() == runs || stop > 0 && outcome.regular + outcome.neither == stop;
+        }
+
+        /** Whether the batch is to be judged: it is full, or has the last run, or half a second has passed since the last judgement. */
+        private boolean isDue() {
+            return batch.size() >= most || judged() + batch.size() == runs || System.nanoTime() - begun >= SECOND / 2
+                || batch.stream().mapToLong(String::length).sum() >= MOST_CHARACTERS;
+        }
+
+        private int judgeAlone(String text) throws IOException, InterruptedException {
+            List<Path> names = scratch(out, 1);
+            try {
+                write(names.get(0), text);
+                int status = call(program, "check", names.get(0).toString(), "/dev/null");
+                if (status > 2) throw new DriveException("no verdict", "the judge ends with status " + status);
+                return status;
+            } finally {
+                remove(names);
+            }
+        }
+
+        /** The status of each run of the batch; or nothing where each has to be judged alone, which then tells what is wrong. */
+        private List<Integer> judgeTogether() throws IOException, InterruptedException {
+            if (batch.size() == 1) return List.of();
+            List<Path> names = scratch(out, batch.size());
+            try {
+                for (int i = 0; i < names.size(); i++) write(names.get(i), batch.get(i));
+                return check(program, names);
+            } catch (IOException error) {
+                return List.of();
+            } finally {
+                remove(names);
+            }
+        }
+
+        private void count(String text, int status) throws IOException, InterruptedException {
+            if (status == 0) outcome.atomic++;
+            else if (status == 1) outcome.regular++;
+            else outcome.neither++;
+            if (status == 0 || outcome.first > 0) return;
+            outcome.first = judged();
+            keep(program, text, out + "/" + name);
+            System.err.println(
+                name + ": run " + outcome.first + " is not atomic: see " + out + "/" + name + "-caught.csv and the files beside it");
+        }
+
+        private void tell() {
+            if (!hasEnded() && System.nanoTime() - told < SECOND) return;
+            told = System.nanoTime();
+            System.err.println(name + ": run " + judged() + " of " + runs + ": " + outcome);
+        }
+
+        /** Judges the batch. A run behind the one that ends all does not count. */
+        private void judge() throws InterruptedException {
+            if (batch.isEmpty()) return;
+            try {
+                List<Integer> found = judgeTogether();
+                for (int i = 0; i < batch.size() && !hasEnded(); i++)
+                    count(batch.get(i), found.isEmpty() ? judgeAlone(batch.get(i)) : found.get(i));
+            } catch (IOException error) {
+                throw new DriveException("files", "a file can't be written, or the program can't be run: " + error);
+            }
+            tell();
+            batch.clear();
+            most = Math.min(2 * most, MOST_RUNS);
+            begun = System.nanoTime();
+        }
     }
 
     // ---- all runs
@@ -352,38 +483,20 @@ public final class SnapDriver {
      */
     public static Outcome run(String name, IntFunction<? extends Board> make, Options options) throws InterruptedException {
         options.test();
-        Path program = findProgram(options.program);
-        testFolder(options.out);
-        String front = options.out + "/" + name;
+        Judge judge = new Judge(name, options);
         Random seeds = new Random(options.numbers[Number.SEED.ordinal()]);
-        Outcome outcome = new Outcome();
-        int runs = options.get(Number.RUNS), stop = options.get(Number.STOP);
-        long told = System.nanoTime();
         longestNap = options.get(Number.NAP);
         naps.set(options.numbers[Number.SEED.ordinal()]);
-        for (int run = 1;; run++) {
-            String text = record(make, options, seeds);
+        while (!judge.hasEnded()) {
             try {
-                int status = judge(program, text, options.out);
-                if (status == 0) outcome.atomic++;
-                else if (status == 1) outcome.regular++;
-                else outcome.neither++;
-                if (status != 0 && outcome.first == 0) {
-                    outcome.first = run;
-                    keep(program, text, front);
-                    System.err.println(
-                        name + ": run " + run + " is not atomic: see " + front + "-caught.csv and the files beside it");
-                }
-            } catch (IOException error) {
-                throw new DriveException("files", "a file can't be written, or the program can't be run: " + error);
+                judge.batch.add(record(make, options, seeds));
+            } catch (Throwable fault) {
+                judge.judge(); // the runs before may have ended all
+                if (!judge.hasEnded()) throw fault;
             }
-            boolean hasEnded = run == runs || stop > 0 && outcome.regular + outcome.neither == stop;
-            if (hasEnded || System.nanoTime() >= told + 1000000000L) {
-                told = System.nanoTime();
-                System.err.println(name + ": run " + run + " of " + runs + ": " + outcome);
-            }
-            if (hasEnded) return outcome;
+            if (judge.isDue()) judge.judge();
         }
+        return judge.outcome;
     }
 
     // ---- the command line
