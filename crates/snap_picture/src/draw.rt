@@ -87,6 +87,11 @@ fn text_of<Rt: Threads + Sync, M: Markup>(
     }
 }
 
+// How the faults of a picture are looked for. Who waits for a picture waits for one alone, so more workers share the pieces.
+fn cutting() -> Cutting {
+    Cutting::new(8, 4).unwrap_or(Cutting::usual())
+}
+
 /// The status of a history, and its picture by the records of its events.
 pub(crate) fn drawn<Rt: Threads + Sync, M: Markup>(
     rt: &Rt,
@@ -99,7 +104,7 @@ pub(crate) fn drawn<Rt: Threads + Sync, M: Markup>(
     ensures { IfOk result (λ answer. DrawsHistory M.calls M.writes history.now records.now answer.0 answer.1.items) }
 {
     let index = Index::build(alloc, history)?;
-    let tally = tally(rt, alloc, &index, Cutting::usual(), &OpenGate)?;
+    let tally = tally(rt, alloc, &index, cutting(), &OpenGate)?;
     let text = text_of(rt, alloc, markup, &index, &tally, records)?;
     Ok((status_of(&index, &tally), text))
 }
