@@ -58,10 +58,19 @@ class Browser:
             raise ValueError(answer)
         return answer["result"]
 
+    def first_page(self):
+        """What its first page is called, which comes soon after its start."""
+        end = time.monotonic() + self.longest
+        while time.monotonic() < end:
+            for it in self.order("Target.getTargets")["targetInfos"]:
+                if it["type"] == "page":
+                    return it["targetId"]
+            time.sleep(0.05)
+        raise TimeoutError
+
     def begin(self):
         """Goes to its first page, and waits until that is there."""
-        pages = [it for it in self.order("Target.getTargets")["targetInfos"] if it["type"] == "page"]
-        self.session = self.order("Target.attachToTarget", targetId=pages[0]["targetId"], flatten=True)["sessionId"]
+        self.session = self.order("Target.attachToTarget", targetId=self.first_page(), flatten=True)["sessionId"]
         self.order("Runtime.evaluate", expression=IS_LOADED, awaitPromise=True)
         self.order("Page.enable")
         # an element gets the focus as in a window that people look at
@@ -78,7 +87,7 @@ class Browser:
             self.order("Emulation.setEmulatedMedia", features=[{"name": "prefers-color-scheme", "value": scheme}])
             self.order("Page.navigate", "Page.loadEventFired", url=page)
             return self.order("Runtime.evaluate", expression=script, returnByValue=True)["result"].get("value")
-        except (OSError, EOFError, IndexError, KeyError, ValueError) as wrong:
+        except (OSError, EOFError, KeyError, ValueError) as wrong:
             self.is_lost = True
             print(f"the browser failed: {wrong!r}")
             return None
