@@ -9,8 +9,8 @@ import re
 
 from generate import any_numbers, atomic, crossed, entries, overlapping, stale, toggling, update, writes
 
+# how many events a history may have, if not said
 MOST_EVENTS = 65536
-LONGEST = 64 * 1024 * 1024
 GREATEST = 2**32 - 1
 HEADER, STAMPED = "event,process,op,data", "at,event,process,op,data"
 SHAPES = {}
@@ -48,6 +48,11 @@ def texts_of(name, events):
     if isinstance(made[0], str):
         return text_of(made), text_of(made)
     return text_of([f"{at},{row}" for at, row in made], STAMPED), text_of([row for _, row in sorted(made)])
+
+
+def bytes_of(events):
+    """How many bytes a text may have that may have so many events."""
+    return events * 1024
 
 
 def text_of(rows, header=HEADER, end="\n"):
@@ -363,11 +368,11 @@ def refused(events, draw, place):
 def filled(events, _draw, what):
     """One byte again and again, up to the limit of bytes with 65,536 events."""
     byte, header = {"newlines": ("\n", ""), "commas": (",", ""), "an open quote": ("a", '"'), "one field": ("a", ""), "a line of blanks": (" ", HEADER + "\n")}[what]
-    return header.ljust(LONGEST * events // MOST_EVENTS, byte)
+    return header.ljust(bytes_of(events), byte)
 
 
 @shape("a text at the limit of bytes{}", [[""], [" and one over"]])
 def at_limit(events, draw, over):
     """A history of 256 components whose text has as many bytes as a text may have, or one more; empty lines fill it up."""
     rows = [re.sub(r"(\d+:\d+):\d+", r"\1:99999999", row) for row in one_by_one(events, draw, 256)]
-    return text_of(rows).ljust(LONGEST + (over != ""), "\n")
+    return text_of(rows).ljust(bytes_of(max(events, MOST_EVENTS)) + (over != ""), "\n")

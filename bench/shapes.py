@@ -7,7 +7,8 @@ usage: shapes.py [--against PROGRAM] [--repeats N] [--sizes N,N,..] [--workers N
 
 PROGRAM is called as `PROGRAM check`, with the history on its standard input; words that stand behind the other judge in one
 argument, as in `--against "judge --monotone"`, are put behind `check`. The shapes are those of histories.py; where words are
-given, those whose names have one of them. A judge that reads no stamps is given the same history without them.
+given, those whose names have one of them. A judge that reads no stamps is given the same history without them. Where a size is
+greater than 65,536, the program is called with `--events`; tell the other judge the same by a word of its own.
 
 Times are processor time, user and system, of all threads. The judges are called in turn, N times (5, if not said) or until they
 have taken four seconds, and the least time of each counts. In the row of a shape stand for each size the milliseconds of the
@@ -25,7 +26,7 @@ import subprocess
 import sys
 import tempfile
 
-from histories import LONGEST, SHAPES, about, texts_of
+from histories import MOST_EVENTS, SHAPES, about, bytes_of, texts_of
 from run import ENVIRONMENT
 
 SIZES = (4096, 16384, 65536)
@@ -69,7 +70,7 @@ def row_of(name, programs, sizes, room, repeats, start):
     for events in sizes:
         histories = write_texts(name, events, room)
         size = os.path.getsize(histories[0])
-        if size > LONGEST + 1:
+        if size > bytes_of(max(*sizes, MOST_EVENTS)) + 1:
             cells += ["-"] * (3 if len(programs) > 1 else 1)
             continue
         costs, reports = measure(programs, histories, room, repeats)
@@ -86,6 +87,8 @@ def row_of(name, programs, sizes, room, repeats, start):
 
 def print_table(asked):
     programs = [[os.path.abspath(asked.program), "check", "--workers", asked.workers]]
+    if max(asked.sizes) > MOST_EVENTS:
+        programs[0] += ["--events", str(max(asked.sizes))]
     if asked.against:
         other, *options = shlex.split(asked.against)
         programs.append([os.path.abspath(other), "check", *options])

@@ -37,7 +37,7 @@ cd "$work"
 ar x "$top/crates/snap_c/out/libsnap_c.a"
 ar x "$kit/c/liblibc_c.a"
 ld -r -o judge.o ./*.o
-objcopy --keep-global-symbol=snapjudge_check --keep-global-symbol=snapjudge_version judge.o
+objcopy --keep-global-symbol=snapjudge_check --keep-global-symbol=snapjudge_check_limit --keep-global-symbol=snapjudge_version judge.o
 # both are built before one takes its place, so that a full disk leaves what there was
 ar rcsD libsnapjudge.a judge.o
 cc -shared -Wl,-soname,libsnapjudge.so -Wl,-z,noexecstack -o libsnapjudge.so judge.o

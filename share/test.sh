@@ -516,15 +516,15 @@ for shell in bash zsh fish; do
   has "$shell" || continue
   completes "snapjudge sh" shrink
   completes "snapjudge --v" --version
-  completes "snapjudge check --" "--color --files-from --format --help --no-progress --null --pieces --quiet --recursive --summary --views --workers"
+  completes "snapjudge check --" "--color --events --files-from --format --help --no-progress --null --pieces --quiet --recursive --summary --views --workers"
   completes "snapjudge check --format " "json plain"
   completes "snapjudge check --color " "always auto never"
   completes "snapjudge check --files-from t" two.csv
   completes "snapjudge check --quiet --pi" --pieces
-  completes "snapjudge record --" "--help --judge --rounds --scan --stamped --workers"
+  completes "snapjudge record --" "--events --help --judge --rounds --scan --stamped --workers"
   completes "snapjudge record --scan --r" --rounds
-  completes "snapjudge draw --" "--help --svg --text"
-  completes "snapjudge shrink --" "--draw --help"
+  completes "snapjudge draw --" "--events --help --svg --text"
+  completes "snapjudge shrink --" "--draw --events --help"
   completes "snapjudge explain --d" --draw
   for command in check shrink explain draw; do
     completes "snapjudge $command " "one.csv two.csv"

@@ -25,7 +25,8 @@ enum {
     SNAPJUDGE_IRREGULAR = 2, /* it is not regular */
     SNAPJUDGE_REFUSED = 3,   /* the text is no history */
     SNAPJUDGE_NO_MEMORY = 4, /* memory ran out: nothing was written, *report_length is 0 */
-    SNAPJUDGE_NO_ROOM = 5    /* the report does not fit: nothing was written, *report_length is how many bytes it has */
+    SNAPJUDGE_NO_ROOM = 5,   /* the report does not fit: nothing was written, *report_length is how many bytes it has */
+    SNAPJUDGE_NO_LIMIT = 6   /* there is no such limit of events: nothing was written, *report_length is 0 */
 };
 
 /* Judges the text_length bytes at text. From 0 to 3 the report stands at the front of the room bytes at report, and
@@ -42,6 +43,10 @@ enum {
  *   - the calling thread has 128 KiB of stack.
  * The library keeps nothing from call to call: any number of threads may call at once. */
 uint32_t snapjudge_check(const uint8_t *text, size_t text_length, uint8_t *report, size_t room, size_t *report_length);
+
+/* The same as snapjudge_check, where a history may have so many events, from 1 to 1,048,576, in place of 65,536. Its text may have
+ * 1,024 bytes for each of them. The answer is SNAPJUDGE_NO_LIMIT where events is not in that range. */
+uint32_t snapjudge_check_limit(const uint8_t *text, size_t text_length, uint32_t events, uint8_t *report, size_t room, size_t *report_length);
 
 /* The version of the library. */
 uint32_t snapjudge_version(void);

@@ -99,6 +99,23 @@ class Judge(unittest.TestCase):
                     judge(history)
                 self.assertEqual(str(refused.exception), f"a history is text or bytes, and no {name}")
 
+    def test_the_caller_chooses_the_limit_of_events(self):
+        view = HEADER + "begin,0,view,\nend,0,view,\n"
+        self.assertEqual(snapjudge.report(view, 1), ("refused", "refused record 3: toomany\n"))
+        self.assertEqual(snapjudge.check(view, 2).counts, snapjudge.Counts(2, 1, 0, 1))
+        updates = HEADER + "".join(f"begin,0,update,0:{n}:0\nend,0,update,\n" for n in range(1, 32770))
+        self.assertEqual(snapjudge.report(updates), ("refused", "refused record 65538: toomany\n"))
+        self.assertEqual(snapjudge.report(updates, 65537), ("refused", "refused record 65539: toomany\n"))
+        self.assertEqual(snapjudge.check(updates, events=65538).counts, snapjudge.Counts(65538, 32769, 0, 0))
+
+    def test_a_limit_that_there_is_not_is_told_and_the_room_stays_as_it_was(self):
+        self.assertTrue(snapjudge.check(HEADER, 1 << 20).atomic)
+        for events in (0, -1, (1 << 20) + 1, 1 << 32, (1 << 32) + 1, 1 << 64):
+            room = bytearray(b"\xee" * 100)
+            with self.assertRaises(snapjudge.NoLimit) as told:
+                snapjudge.report_into(HEADER.encode(), room, events)
+            self.assertEqual((told.exception.events, room), (events, b"\xee" * 100))
+
     def test_an_order_is_taken_apart(self):
         judged = snapjudge.check(HEADER + "begin,0,update,0:1:3\nbegin,1,view,\nend,1,view,\nend,0,update,\n")
         steps = (snapjudge.Step(2, 1, "view", ()), snapjudge.Step(1, 0, "update", (snapjudge.Entry(0, 1, 3),)))

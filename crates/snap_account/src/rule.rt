@@ -3,7 +3,7 @@ use crate::account::Accounts;
 use atomic_table::{Join, Play, Split, TableRule};
 
 /// How many ticks a desk may draw.
-pub const TICK_LIMIT: u32 = 1_048_576;
+pub const TICK_LIMIT: u32 = 4_194_304;
 
 /// How many desks a board has.
 #[derive(Clone, Copy)]

@@ -147,7 +147,7 @@ fn spend(rt: &impl Abort, board: &Board, desk: &mut Desk) -> Result<(), Fail>
     requires { IsDeskOf board.now desk.old }
     ensures { IsDeskOf board.now desk.new }
 {
-    'stores: for before in 0..524_288 {
+    'stores: for before in 0..2_097_152 {
         let stored = board.store(desk, 0)?;
         assert!(rt; is_store(&stored, entry(0, before + 1, 0)));
     }
@@ -165,6 +165,6 @@ fn a_desk_is_spent_after_its_last_tick(rt: HostRuntime) -> Result<(), Fail> {
     let Ok(closed) = board.close(gathered) else {
         panic!(rt; "not closed")
     };
-    assert!(rt; closed.entry(0) == Some(entry(0, 524_288, 0)));
+    assert!(rt; closed.entry(0) == Some(entry(0, 2_097_152, 0)));
     Ok(())
 }

@@ -66,19 +66,19 @@ fn plans_have_two_to_eight_lists(rt: HostRuntime) -> Result<(), Fail> {
 #[test]
 fn plans_have_steps_within_the_limit(rt: HostRuntime) -> Result<(), Fail> {
     let alloc = rt.alloc();
-    let long = vec![in alloc; stores(alloc, 16384)?, stores(alloc, 16385)?]?;
+    let long = vec![in alloc; stores(alloc, 262144)?, stores(alloc, 262145)?]?;
     assert!(rt; refusal(long) == Some(PlanRefusal::TooLong));
-    let full = vec![in alloc; stores(alloc, 16384)?, stores(alloc, 16384)?]?;
+    let full = vec![in alloc; stores(alloc, 262144)?, stores(alloc, 262144)?]?;
     assert!(rt; refusal(full).is_none());
     Ok(())
 }
 
 // The workers and rounds of plans, and why each is none.
 const ROUNDS: &[(u32, u32, Option<PlanRefusal>)] = &[
-    (2, 2048, None),
+    (2, 32768, None),
     (2, 0, Some(PlanRefusal::TooLong)),
-    (2, 2049, Some(PlanRefusal::TooLong)),
-    (8, 2048, None),
+    (2, 32769, Some(PlanRefusal::TooLong)),
+    (8, 32768, None),
     (8, 0, Some(PlanRefusal::TooLong)),
     (1, 0, Some(PlanRefusal::Workers)),
     (9, 0, Some(PlanRefusal::Workers)),
@@ -221,7 +221,7 @@ fn begins_of(recording: &Recording, want: Entry) -> usize {
 }
 
 #[test]
-fn two_lists_of_16384_stores_fill_a_history(rt: HostRuntime) -> Result<(), Fail> {
+fn two_lists_of_16384_stores_have_65536_events(rt: HostRuntime) -> Result<(), Fail> {
     let alloc = rt.alloc();
     let plan = Plan::new(vec![in alloc; stores(alloc, 16384)?, stores(alloc, 16384)?]?)?;
     let recording = record_plan(&rt, alloc, &plan, &OpenGate)?;

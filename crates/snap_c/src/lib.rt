@@ -2,12 +2,13 @@
 #![tactic(auto)]
 
 ghost use Rattle.std.specs.Prelude.{◌≡◌};
-ghost use Rattle.snap_c.specs.Answers.{IsChecked};
+ghost use Rattle.snap_c.specs.Answers.{IsChecked, IsCheckedFor, IsCheckedWithin};
 ghost use Rattle.snap_c.specs.declared.version.TheConstants.{VERSION as version};
 
 mod version;
 
-use snap_verdict::judge_text;
+use snap_core::Limit;
+use snap_verdict::judge_text_within;
 use std::alloc::Global;
 use version::VERSION;
 
@@ -16,6 +17,36 @@ const NO_MEMORY: u32 = 4;
 
 /// What is answered where the room is too small.
 const NO_ROOM: u32 = 5;
+
+/// What is answered where there is no such limit of events.
+const NO_LIMIT: u32 = 6;
+
+// Judges a text whose history may have so many events.
+fn check_within(
+    alloc: Global,
+    text: &[u8],
+    limit: Limit,
+    report: &mut [u8],
+    length: &mut usize,
+) -> u32
+    ensures { IsCheckedWithin limit.events text.now report.old report.new length.new result }
+{
+    match judge_text_within(alloc, text, limit) {
+        Ok((status, out)) => {
+            let needed = out.len();
+            *length = needed;
+            if needed > report.len() {
+                return NO_ROOM;
+            }
+            report[..needed].copy_from_slice(&out);
+            u32::from(status.code())
+        }
+        Err(_) => {
+            *length = 0;
+            NO_MEMORY
+        }
+    }
+}
 
 /// Judges a text. The answer is 0 where it is an atomic history, 1 where it is one that is regular and not atomic, 2 where it
 /// is one that is neither, and 3 where it is no history; then the report stands at the front of `report`, `length` bytes
@@ -30,19 +61,26 @@ pub extern "C" fn snapjudge_check(
 ) -> u32
     ensures { IsChecked text.now report.old report.new length.new result }
 {
-    match judge_text(alloc, text) {
-        Ok((status, out)) => {
-            let needed = out.len();
-            *length = needed;
-            if needed > report.len() {
-                return NO_ROOM;
-            }
-            report[..needed].copy_from_slice(&out);
-            u32::from(status.code())
-        }
-        Err(_) => {
+    check_within(alloc, text, Limit::usual(), report, length)
+}
+
+/// Judges a text as `snapjudge_check` does, where a history may have `events` events in place of 65,536, and its text 1,024 times
+/// as many bytes. The answer is 6 where `events` is not 1 to 1,048,576; then nothing was written into `report`, and `length` is 0.
+#[unsafe(no_mangle)]
+pub extern "C" fn snapjudge_check_limit(
+    alloc: Global,
+    text: &[u8],
+    events: u32,
+    report: &mut [u8],
+    length: &mut usize,
+) -> u32
+    ensures { IsCheckedFor events text.now report.old report.new length.new result }
+{
+    match Limit::new(events) {
+        Some(limit) => check_within(alloc, text, limit, report, length),
+        None => {
             *length = 0;
-            NO_MEMORY
+            NO_LIMIT
         }
     }
 }

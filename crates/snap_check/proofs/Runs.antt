@@ -6,7 +6,7 @@ use Rattle.std.specs.Io.KnownBytes.{Appends, Keeps}
 use Rattle.snap_core.specs.declared.event.Event.{Event}
 use Rattle.snap_core.specs.Sending.{SendsFront}
 use Rattle.snap_text.specs.declared.fault.TextFault.{TextFault}
-use Rattle.snap_csv.specs.Texts.{HasFault, IsText}
+use Rattle.snap_csv.specs.Texts.{HasFaultWithin, IsTextWithin}
 use Rattle.snap_report.specs.Lines.{line_text}
 use Rattle.snap_report.specs.Refusals.{refusal_line}
 use Rattle.snap_check.specs.declared.fault.RunFault.{RunFault}
@@ -14,7 +14,7 @@ use Rattle.snap_check.specs.declared.fault.RunFault.TheVariants as faults
 use Rattle.snap_verdict.specs.declared.status.Status.{Status}
 use Rattle.snap_verdict.specs.declared.status.Status.TheVariants.{Refused}
 use Rattle.snap_verdict.specs.Verdicts.{IsVerdict}
-use Rattle.snap_verdict.specs.Reports.{IsRefused, IsReport}
+use Rattle.snap_verdict.specs.Reports.{IsRefusedWithin, IsReportWithin}
 use Rattle.snap_check.specs.declared.reading.Reading.{Reading}
 use Rattle.snap_check.specs.declared.reading.Reading.TheVariants.{History, Refusal}
 use Rattle.snap_check.specs.Runs.{FailedBy, FaultCounts, JudgeFaultCounts, Reads, WroteFront, WroteWhole}
@@ -25,22 +25,22 @@ pub with_text : (P Q : List ℕ → Type 0) (known : Option (List ℕ)) → IfSo
 with_text P Q None h then = tt
 with_text P Q (Some text) h then = then text h
 
-pub from_history : (Q : List ℕ → Type 0) (known : Option (List ℕ)) (reading : Reading) (events : List Event) → IfSome known (λ text. Reads text reading) → reading ≡ History events → ((text : List ℕ) → IsText text events → Q text) → IfSome known Q
-from_history Q known reading events h is then = with_text (λ text. IsText text events) Q known (subst (λ (r : Reading). IfSome known (λ text. Reads text r)) is h) then
+pub from_history : (limit : ℕ) (Q : List ℕ → Type 0) (known : Option (List ℕ)) (reading : Reading) (events : List Event) → IfSome known (λ text. Reads limit text reading) → reading ≡ History events → ((text : List ℕ) → IsTextWithin limit text events → Q text) → IfSome known Q
+from_history limit Q known reading events h is then = with_text (λ text. IsTextWithin limit text events) Q known (subst (λ (r : Reading). IfSome known (λ text. Reads limit text r)) is h) then
 
-pub from_refusal : (Q : List ℕ → Type 0) (known : Option (List ℕ)) (reading : Reading) (line : Vec ℕ) → IfSome known (λ text. Reads text reading) → reading ≡ Refusal line → ((text : List ℕ) → IsRefused text Refused line.items → Q text) → IfSome known Q
-from_refusal Q known reading line h is then = with_text (λ text. IsRefused text Refused line.items) Q known (subst (λ (r : Reading). IfSome known (λ text. Reads text r)) is h) then
+pub from_refusal : (limit : ℕ) (Q : List ℕ → Type 0) (known : Option (List ℕ)) (reading : Reading) (line : Vec ℕ) → IfSome known (λ text. Reads limit text reading) → reading ≡ Refusal line → ((text : List ℕ) → IsRefusedWithin limit text Refused line.items → Q text) → IfSome known Q
+from_refusal limit Q known reading line h is then = with_text (λ text. IsRefusedWithin limit text Refused line.items) Q known (subst (λ (r : Reading). IfSome known (λ text. Reads limit text r)) is h) then
 
-pub judged : (text : List ℕ) (events : List Event) (status : Status) (out : List ℕ) → IsText text events → IsVerdict events status out → IsReport text status out
-judged text events status out reads verdict = inr (record { events = events; history = reads; verdict = verdict })
+pub judged : (limit : ℕ) (text : List ℕ) (events : List Event) (status : Status) (out : List ℕ) → IsTextWithin limit text events → IsVerdict events status out → IsReportWithin limit text status out
+judged limit text events status out reads verdict = inr (record { events = events; history = reads; verdict = verdict })
 
-pub refused : (known : Option (List ℕ)) (place : ℕ) (fault : TextFault) (out : List ℕ) → IfSome known (λ text. HasFault text place fault) → out ≡ line_text (refusal_line place fault) → IfSome known (λ text. IsRefused text Refused out)
-refused None place fault out first e = tt
-refused (Some text) place fault out first e = record { place = place; fault = fault; first = first; answers = refl; writes = e }
+pub refused : (limit : ℕ) (known : Option (List ℕ)) (place : ℕ) (fault : TextFault) (out : List ℕ) → IfSome known (λ text. HasFaultWithin limit text place fault) → out ≡ line_text (refusal_line place fault) → IfSome known (λ text. IsRefusedWithin limit text Refused out)
+refused limit None place fault out first e = tt
+refused limit (Some text) place fault out first e = record { place = place; fault = fault; first = first; answers = refl; writes = e }
 
-pub reported : (known : Option (List ℕ)) (out : List ℕ) → IfSome known (λ text. IsRefused text Refused out) → IfSome known (λ text. IsReport text Refused out)
-reported None out h = tt
-reported (Some text) out h = inl h
+pub reported : (limit : ℕ) (known : Option (List ℕ)) (out : List ℕ) → IfSome known (λ text. IsRefusedWithin limit text Refused out) → IfSome known (λ text. IsReportWithin limit text Refused out)
+reported limit None out h = tt
+reported limit (Some text) out h = inl h
 
 keeps_itself : (known : Option (List ℕ)) → Keeps known known
 keeps_itself None = tt

@@ -4,14 +4,14 @@ use Rattle.std.specs.Global.{Vec}
 use Rattle.std.specs.Io.KnownBytes.{Appends, Keeps}
 use Rattle.snap_core.specs.Counting.{Rose}
 use Rattle.snap_core.specs.Sending.{SendsFront}
-use Rattle.snap_csv.specs.Texts.{IsText}
+use Rattle.snap_csv.specs.Texts.{IsTextWithin}
 use Rattle.snap_check.specs.declared.fault.RunFault.{RunFault}
 use Rattle.snap_check.specs.declared.fault.RunFault.TheVariants as faults
 use Rattle.snap_check.specs.declared.reading.Reading.{Reading}
 use Rattle.snap_check.specs.declared.reading.Reading.TheVariants.{History, Refusal}
 use Rattle.snap_verdict.specs.declared.status.Status.{Status}
 use Rattle.snap_verdict.specs.declared.status.Status.TheVariants.{Refused}
-use Rattle.snap_verdict.specs.Reports.{IsRefused, IsReport}
+use Rattle.snap_verdict.specs.Reports.{IsRefusedWithin, IsReport}
 
 -- what a writer holds before and after a run, by what may go out with an answer
 
@@ -67,7 +67,7 @@ abbrev pub JudgeCounts : {A : Type 0} → ℕ → ℕ → Result A RunFault → 
 JudgeCounts old new (Ok answer) = new ≡ old
 JudgeCounts old new (Err fault) = JudgeFaultCounts old new fault
 
--- what a text is: a history, or none, with the line of its first fault
-abbrev pub Reads : List ℕ → Reading → Type 0
-Reads text (History events) = IsText text events
-Reads text (Refusal line) = IsRefused text Refused line.items
+-- what a text is, where a history may have so many events: a history, or none, with the line of its first fault
+abbrev pub Reads : ℕ → List ℕ → Reading → Type 0
+Reads limit text (History events) = IsTextWithin limit text events
+Reads limit text (Refusal line) = IsRefusedWithin limit text Refused line.items

@@ -79,7 +79,7 @@ fn judge<Rt: Threads + Sync, R: Read, G: Gate>(
 {
     // the text is not needed once it is read, and its memory serves for the report
     let mut room = Vec::new(alloc);
-    match read_in(alloc, reader, &mut room)? {
+    match read_in(alloc, reader, &mut room, options.limit)? {
         Reading::History(history) => {
             Ok(verdict(rt, alloc, &history, room, cutting, gate, options)?)
         }
@@ -89,7 +89,8 @@ fn judge<Rt: Threads + Sync, R: Read, G: Gate>(
 
 /// A check as `check_run` makes it, of which more is asked. `None` is answered where the text is a history and has fewer
 /// completed views than are asked for; then nothing is written. Otherwise the status is that of `check_run`. Quiet, it writes
-/// of a history's report the lines of the three verdicts alone; the line of a text that is no history stays as it is.
+/// of a history's report the lines of the three verdicts alone; the line of a text that is no history stays as it is. The limit
+/// of events takes the place of the usual one, and 1,024 bytes for each of them that of the usual limit of bytes.
 ///
 /// Of the devices, memory and waiting the same is true as in `check_run`.
 pub fn check_run_with<Rt: Threads + Sync, R: Read, W: Write, G: Gate>(

@@ -1,4 +1,7 @@
 ghost use Rattle.std.specs.Prelude.{◌≡◌, false};
+ghost use Rattle.snap_core.specs.Limits.{event_limit};
+
+use snap_core::Limit;
 
 /// What a check is asked for besides.
 #[derive(Clone, Copy, Debug, PartialEq, Eq)]
@@ -7,17 +10,21 @@ pub struct CheckOptions {
     pub quiet: bool,
     /// How many completed views a history must have.
     pub views: u32,
+    /// How many events a history may have, and with them how many bytes its text.
+    pub limit: Limit,
 }
 
 impl CheckOptions {
-    /// The options that ask for nothing: the whole report, of a history of any number of views.
+    /// The options that ask for nothing: the whole report, of a history of any number of views, within the usual limit.
     pub fn plain() -> CheckOptions
         ensures quiet { result.quiet ≡ false }
         ensures views { result.views ≡ 0 }
+        ensures limit { result.limit.events ≡ event_limit }
     {
         CheckOptions {
             quiet: false,
             views: 0,
+            limit: Limit::usual(),
         }
     }
 }

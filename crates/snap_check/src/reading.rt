@@ -4,8 +4,8 @@ ghost use Rattle.snap_core.specs.Counting.{failures_in, inner_of};
 ghost use Rattle.snap_check.specs.Runs.{JudgeCounts, Reads};
 
 use crate::fault::RunFault;
-use snap_core::{Counted, History};
-use snap_csv::{ReadRefusal, read_history_in};
+use snap_core::{Counted, History, Limit};
+use snap_csv::{ReadRefusal, read_history_within};
 use snap_report::refusal_text;
 use std::alloc::Global;
 use std::io::Read;
@@ -17,16 +17,17 @@ pub enum Reading {
     Refusal(Vec<u8>),
 }
 
-/// What the text of a reader is. It is left in a vector, whose memory can then serve for something else.
+/// What the text of a reader is, where a history may have so many events. It is left in a vector, whose memory can then serve for something else.
 pub fn read_in<R: Read>(
     alloc: Global,
     reader: &mut Counted<R>,
     room: &mut Vec<u8>,
+    limit: Limit,
 ) -> Result<Reading, RunFault>
-    ensures text { IfSome (R.remaining (inner_of reader.old)) (λ text. IfOk result (λ reading. Reads text reading)) }
+    ensures text { IfSome (R.remaining (inner_of reader.old)) (λ text. IfOk result (λ reading. Reads limit.events text reading)) }
     ensures counts { JudgeCounts (failures_in reader.old) (failures_in reader.new) result }
 {
-    match read_history_in(alloc, reader, room) {
+    match read_history_within(alloc, reader, room, limit) {
         Ok(history) => Ok(Reading::History(history)),
         Err(ReadRefusal::Text { place, fault }) => {
             Ok(Reading::Refusal(refusal_text(alloc, place, fault)?))

@@ -1,7 +1,7 @@
 -- Tallies of ranges of views: how they join, that their counts fit, and what no fault in them says.
 use Rattle.std.proofs.Common.{◌≡◌, ℕ, zero, suc, ◌+◌, ◌-◌, ◌*◌, ◌<◌, ◌≤◌, true, List, [], ◌∷◌, ◌++◌, take, drop, length, get_or, refl, ap, ◌∙◌, subst, inl, inr, arith}
 use Rattle.std.specs.Prelude.{◌^◌, ◌||◌, nat_lt, filter}
-use Rattle.std.specs.List.{All}
+use Rattle.std.specs.List.{All, flat_map}
 use Rattle.std.proofs.lemmas.List.{take_all, length-take, drop-drop, drop_more, length-map}
 use Rattle.std.proofs.lemmas.List.Elements.{All-head, All-tail}
 use Rattle.std.proofs.Math.Seq.{take-add}
@@ -9,7 +9,7 @@ use Rattle.std.proofs.lemmas.Bool.{and_parts, ltb-true}
 use Rattle.snap_core.specs.declared.entry.Entry.{Entry}
 use Rattle.snap_core.specs.declared.event.Event.{Event}
 use Rattle.snap_core.specs.Entries.{HasByteComponent, rises}
-use Rattle.snap_core.specs.Events.{IsBoundedHistory, event_limit}
+use Rattle.snap_core.specs.Events.{IsBoundedHistory, event_cap}
 use Rattle.snap_core.specs.declared.event.Event.TheVariants.{BeginUpdate, BeginView, EndUpdate, EndView}
 use Rattle.snap_core.specs.Calls.{Call, calls_of, calls_from, is_view, entries_of, views_of, nobody}
 use Rattle.snap_core.proofs.Lists.{In}
@@ -100,20 +100,20 @@ within_drop zero xs r i = i
 within_drop (suc n) [] r i = absurd i
 within_drop (suc n) (x ∷ xs) r i = inr (within_drop n xs r i)
 
--- no count of the tally is above 65536 for each view
+-- no count of the tally is above the greatest number of events for each view
 pub record IsSmall (n : ℕ) (t : Tally) : Type 0 where
-  pub integrity : t.integrity.count ≤ n * 65536
-  pub proximity : t.proximity.count ≤ n * 65536
-  pub read : t.read.count ≤ n * 65536
-  pub write : t.write.count ≤ n * 65536
-  pub stale : t.stale ≤ n * 65536
+  pub integrity : t.integrity.count ≤ n * event_cap
+  pub proximity : t.proximity.count ≤ n * event_cap
+  pub read : t.read.count ≤ n * event_cap
+  pub write : t.write.count ≤ n * event_cap
+  pub stale : t.stale ≤ n * event_cap
 
 pub few_listed : (es : List Event) → IsBoundedHistory es → (r : Call) → In r (views_of (calls_of es)) → length (listed r) ≤ 256
 few_listed es k r i =
     let f = fit_views es k.fit r (from_views (calls_of es) r i).there in
     omega (arith, length-map (entries_of r.operation) (λ e. e.component), rising_few (entries_of r.operation) f.rising (λ j d l. (f.fit j d l).0))
 
-pub few_views : (es : List Event) → IsBoundedHistory es → length (views_of (calls_of es)) ≤ event_limit
+pub few_views : (es : List Event) → IsBoundedHistory es → length (views_of (calls_of es)) ≤ event_cap
 unfolding views_of calls_of
 few_views es k = omega (arith, filter_short is_view (calls_of es), few_calls 0 0 es, k.short)
   where
@@ -127,11 +127,13 @@ few_views es k = omega (arith, filter_short is_view (calls_of es), few_calls 0 0
 pub tally_small : (es : List Event) → IsBoundedHistory es → (rs : List Call) → Within rs (views_of (calls_of es)) → IsSmall (length rs) (tally_of (calls_of es) rs)
 unfolding tally_of integrity_faults proximity_faults read_faults write_faults
 tally_small es k rs w = record {
-  integrity = flat_map_short _ 65536 rs (λ r i. omega (arith, length-map {B = Call × ℕ} (filter (integrity_fault calls r) (listed r)) (λ k. (r, k)), filter_short (integrity_fault calls r) (listed r), few_listed es k r (w r i)));
-  proximity = flat_map_short _ 65536 rs (λ r i. omega (arith, length-map {B = Call × ℕ} (filter (λ k. old_fault calls r k || early_fault calls r k) components) (λ k. (r, k)), filter_short (λ k. old_fault calls r k || early_fault calls r k) components));
-  read = flat_map_short _ 65536 rs (λ r i. omega (arith, length-map {B = Call × Call} (filter (read_fault r) (views_of calls)) (λ s. (r, s)), filter_short (read_fault r) (views_of calls), few_views es k));
-  write = flat_map_short _ 65536 rs (λ r i. flat_map_short (missed_at calls r) 256 components (λ j l. omega (arith, length-map {B = Call × ℕ × ℕ} (filter (write_fault calls r j) (listed r)) (λ k. (r, j, k)), filter_short (write_fault calls r j) (listed r), few_listed es k r (w r i))));
-  stale = stale_few calls rs 65536 (omega (arith, few_views es k));
+  integrity = flat_map_short _ event_cap rs (λ r i. omega (arith, length-map {B = Call × ℕ} (filter (integrity_fault calls r) (listed r)) (λ k. (r, k)), filter_short (integrity_fault calls r) (listed r), few_listed es k r (w r i)));
+  proximity = flat_map_short _ event_cap rs (λ r i. omega (arith, length-map {B = Call × ℕ} (filter (λ k. old_fault calls r k || early_fault calls r k) components) (λ k. (r, k)), filter_short (λ k. old_fault calls r k || early_fault calls r k) components));
+  read = flat_map_short _ event_cap rs (λ r i. omega (arith, length-map {B = Call × Call} (filter (read_fault r) (views_of calls)) (λ s. (r, s)), filter_short (read_fault r) (views_of calls), few_views es k));
+  write = flat_map_short _ event_cap rs (λ r i.
+      let few : length (flat_map (missed_at calls r) components) ≤ 65536 = flat_map_short (missed_at calls r) 256 components (λ j l. omega (arith, length-map {B = Call × ℕ × ℕ} (filter (write_fault calls r j) (listed r)) (λ k. (r, j, k)), filter_short (write_fault calls r j) (listed r), few_listed es k r (w r i))) in
+      omega (arith, few));
+  stale = stale_few calls rs event_cap (omega (arith, few_views es k));
 }
   where
     calls : List Call

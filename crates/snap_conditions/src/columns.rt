@@ -9,8 +9,8 @@ ghost use Rattle.snap_conditions.specs.Rows.{number_among};
 
 use crate::number_table::NumberTable;
 use crate::seen::view_at;
-use snap_core::{EVENT_LIMIT, Entry};
-use snap_grid::Column;
+use snap_core::Entry;
+use snap_grid::{Column, TABLE_LIMIT};
 use snap_index::Index;
 use std::alloc::{AllocError, Global};
 
@@ -70,7 +70,7 @@ pub fn columns_between(
             let limit = index
                 .update_count(k as u8)
                 .saturating_add(1)
-                .min(EVENT_LIMIT as u32);
+                .min(TABLE_LIMIT);
             columns.push(Column::new(alloc, numbers, limit)?)?;
         }
     }

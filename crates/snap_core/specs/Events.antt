@@ -2,7 +2,7 @@
 use Rattle.std.specs.Prelude.{ℕ, suc, Bool, false, List, [], ◌∷◌, ◌++◌, ◌≡◌, ◌==◌, filter, count_by, Contains, ⊤, ◌≤◌, ◌<◌, length, All}
 use Rattle.snap_core.specs.declared.entry.Entry.{Entry}
 use Rattle.snap_core.specs.Entries.{HasByteComponent, EntryFits, AreEntries}
-use Rattle.snap_core.specs.declared.history.TheConstants.{EVENT_LIMIT}
+use Rattle.snap_core.specs.declared.history.TheConstants.{EVENT_CAP}
 pub use Rattle.snap_core.specs.declared.event.Event.{Event}
 pub use Rattle.snap_core.specs.declared.event.Event.TheVariants.{BeginUpdate, BeginView, EndUpdate, EndView}
 
@@ -73,12 +73,12 @@ EventFits (BeginView p) = p < 65536
 EventFits (EndUpdate p) = p < 65536
 EventFits (EndView p es) = (p < 65536) × AreEntries es
 
--- how many events a history may have
-abbrev pub event_limit : ℕ
-event_limit = EVENT_LIMIT
+-- how many events a `History` has at most
+abbrev pub event_cap : ℕ
+event_cap = EVENT_CAP
 
--- what a `History` keeps: the three properties, its limit, and fields as their types have them
+-- what a `History` keeps: the three properties, its length, and fields as their types have them
 pub record IsBoundedHistory (es : List Event) : Type 0 where
   pub history : IsHistory es
-  pub short : length es ≤ event_limit
+  pub short : length es ≤ event_cap
   pub fit : All EventFits es

@@ -10,3 +10,4 @@ pub mod Laws
 pub mod Counting
 pub mod Sending
 pub mod Sums
+pub mod Limits

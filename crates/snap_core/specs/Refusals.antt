@@ -3,7 +3,7 @@ use Rattle.std.specs.Prelude.{ℕ, suc, ◌%◌, Bool, true, false, not, ◌&&�
 use Rattle.std.specs.List.{list_any}
 use Rattle.snap_core.specs.declared.history.EventRefusal.{EventRefusal}
 use Rattle.snap_core.specs.declared.history.EventRefusal.TheVariants.{TooMany, Busy, Idle, OtherOp, Writer, Number}
-use Rattle.snap_core.specs.Events.{Event, BeginUpdate, BeginView, EndUpdate, EndView, process_of, begins_update_of, event_limit}
+use Rattle.snap_core.specs.Events.{Event, BeginUpdate, BeginView, EndUpdate, EndView, process_of, begins_update_of, event_cap}
 
 abbrev pub is_begin : Event → Bool
 is_begin (BeginUpdate p e) = true
@@ -67,7 +67,7 @@ pub record IsAccepted (es : List Event) (e : Event) : Type 0 where
 -- the first refusal that applies, want of memory aside
 unfoldable pub refusal_of : List Event → Event → Option EventRefusal
 refusal_of es e =
-    if nat_le event_limit (length es) then Some TooMany
+    if nat_le event_cap (length es) then Some TooMany
     else if is_busy es e then Some Busy
     else if is_idle es e then Some Idle
     else if is_other es e then Some OtherOp

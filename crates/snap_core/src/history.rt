@@ -1,7 +1,7 @@
 //! Histories, and why an event is refused.
 ghost use Rattle.std.specs.Prelude.{◌≡◌, ◌≤◌, ◌⊎◌, [], ◌∷◌, ◌++◌, length, OnOk, OnErr, IfErr, slice_get};
 ghost use Rattle.std.specs.Option.{option_copied};
-ghost use Rattle.snap_core.specs.Events.{EventFits, IsBoundedHistory, event_limit};
+ghost use Rattle.snap_core.specs.Events.{EventFits, IsBoundedHistory, event_cap};
 ghost use Rattle.snap_core.specs.Refusals.{refusal_of};
 
 use crate::entry::fields_fit;
@@ -10,8 +10,8 @@ use crate::tables::Tables;
 use std::alloc::Global;
 use std::marker::Model;
 
-/// How many events a history may have.
-pub const EVENT_LIMIT: usize = 65_536;
+/// How many events a history has at most, whatever limit a caller chooses.
+pub const EVENT_CAP: usize = 1_048_576;
 
 /// Why an event is refused, in the order in which the reasons are tested.
 #[derive(Clone, Copy, PartialEq, Eq, Debug)]
@@ -80,10 +80,10 @@ impl History {
         }
     }
 
-    /// How many events it has, at most `EVENT_LIMIT`.
+    /// How many events it has, at most `EVENT_CAP`.
     pub fn len(&self) -> usize
         ensures len { result ≡ length self.now }
-        ensures limit { result ≤ event_limit }
+        ensures limit { result ≤ event_cap }
     {
         self.events.len()
     }
@@ -132,7 +132,7 @@ impl History {
     fn refusal(&self, event: &Event) -> Option<EventRefusal>
         ensures { result ≡ refusal_of self.now event.now }
     {
-        if self.events.len() >= EVENT_LIMIT {
+        if self.events.len() >= EVENT_CAP {
             Some(EventRefusal::TooMany)
         } else if self.tables.is_busy(event) {
             Some(EventRefusal::Busy)

@@ -7,6 +7,7 @@ mod event;
 mod gate;
 mod history;
 mod law;
+mod limit;
 mod tables;
 mod view;
 
@@ -14,6 +15,7 @@ pub use counted::Counted;
 pub use entry::{COMPONENT_COUNT, Entry, are_same};
 pub use event::Event;
 pub use gate::{Gate, OpenGate};
-pub use history::{EVENT_LIMIT, EventRefusal, History};
+pub use history::{EVENT_CAP, EventRefusal, History};
 pub use law::histories_grow;
+pub use limit::{EVENT_LIMIT, Limit};
 pub use view::{View, ViewRefusal};

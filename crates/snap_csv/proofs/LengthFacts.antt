@@ -17,7 +17,7 @@ use Rattle.snap_core.specs.Entries.{AreEntries, EntryFits, rises}
 use Rattle.snap_core.specs.Events.{EventFits, TakeTurns, IsBegin, Ends, IsBoundedHistory, IsWellFormed, events_of, process_of}
 use Rattle.snap_core.specs.Refusals.{is_begin}
 use Rattle.snap_csv.specs.Laws.{ListsAtMost}
-use Rattle.snap_csv.specs.Texts.{byte_limit}
+use Rattle.snap_csv.specs.Texts.{bytes_within}
 use Rattle.snap_csv.specs.Layout.{header, history_text, record_text}
 use Rattle.snap_text.specs.Spelling.{entries_text, entry_text, spelled}
 
@@ -168,8 +168,8 @@ text_weight : (xs : List Event) → length (history_text xs) ≡ 22 + sum_by wei
 unfolding history_text
 text_weight xs = omega (arith, length-flat_map record_text (header ∷ map spelled xs), sum_by-cons (λ r. length (record_text r)) header (map spelled xs), record_long (codes "event") (codes "process") (codes "op") (codes "data"), map_weights xs)
 
-pub text_short : (xs : List Event) → IsBoundedHistory xs → length xs ≤ 16384 → length (history_text xs) ≤ byte_limit
-text_short xs k few = omega (arith, text_weight xs, all_short (length xs) xs (omega arith) k.history.well_formed k.fit, few)
+pub text_short : (limit : ℕ) (xs : List Event) → 1 ≤ limit → IsBoundedHistory xs → 4 * length xs ≤ limit → length (history_text xs) ≤ bytes_within limit
+text_short limit xs some k few = omega (arith, text_weight xs, all_short (length xs) xs (omega arith) k.history.well_formed k.fit, few)
 
 -- ---- views of few entries
 
@@ -184,5 +184,5 @@ each_narrow [] f few = omega arith
 each_narrow (x ∷ xs) f few =
     omega (arith, narrow_short x (All-head EventFits x xs f) (All-head (ListsAtMost 36) x xs few), each_narrow xs (All-tail EventFits x xs f) (All-tail (ListsAtMost 36) x xs few), sum_by-cons weight x xs)
 
-pub narrow_text_short : (xs : List Event) → IsBoundedHistory xs → All (ListsAtMost 36) xs → length (history_text xs) ≤ byte_limit
-narrow_text_short xs k few = omega (arith, text_weight xs, each_narrow xs k.fit few, k.short)
+pub narrow_text_short : (limit : ℕ) (xs : List Event) → 1 ≤ limit → IsBoundedHistory xs → length xs ≤ limit → All (ListsAtMost 36) xs → length (history_text xs) ≤ bytes_within limit
+narrow_text_short limit xs some k short few = omega (arith, text_weight xs, each_narrow xs k.fit few, short)

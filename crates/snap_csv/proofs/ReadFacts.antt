@@ -1,5 +1,5 @@
 -- Reading the records under the header in turn.
-use Rattle.std.proofs.Common.{◌≡◌, ◌<◌, ◌≤◌, ◌+◌, ◌++◌, inl, inr, ℕ, suc, true, false, List, [], ◌∷◌, length, get_or, take, drop, Some, None, Result, Ok, Err, refl, arith, ◌∙◌, sym, ap, add-one}
+use Rattle.std.proofs.Common.{◌≡◌, ◌<◌, ◌≤◌, ◌+◌, ◌++◌, cond, not, inl, inr, ℕ, suc, Bool, true, false, List, [], ◌∷◌, length, get_or, take, drop, Option, Some, None, Result, Ok, Err, refl, arith, ◌∙◌, sym, ap, add-one}
 use Rattle.std.specs.Prelude.{◌==◌, ◌≢◌, nat_le}
 use Rattle.std.specs.Global.{Vec}
 use Rattle.std.specs.List.{range_with_len}
@@ -10,7 +10,7 @@ use Rattle.std.proofs.lemmas.List.{drop_all, length-append, length-drop, take_al
 use Rattle.std.proofs.lemmas.List.Elements.{filter_map-append}
 use Rattle.std.proofs.Math.Seq.{drop-cons, take-suc}
 use Rattle.snap_core.specs.declared.event.Event.{Event}
-use Rattle.snap_core.specs.Events.{event_limit}
+use Rattle.snap_text.specs.declared.fault.TextFault.{TextFault}
 use Rattle.snap_text.specs.declared.fault.TextFault.TheVariants as faults
 use Rattle.snap_csv.specs.declared.refusal.ReadRefusal.{ReadRefusal}
 use Rattle.snap_csv.specs.declared.refusal.ReadRefusal.TheVariants as refusals
@@ -21,54 +21,69 @@ use Rattle.snap_csv.specs.Texts.{RowsFault}
 use Rattle.snap_csv.specs.Answers.{AnswersNumbered, AnswersStamps, FailsEvent, RefusesRow, RefusesRows, RefusesStamps, TakesEvent, TakesRow}
 
 -- what is left to be read is the records from place i under the header on, and the history is that of those before it
-pub record Midway (rows : List Fields) (Left : List Fields → Type 0) (events : List Event) (i : ℕ) : Type 0 where
+pub record Midway (limit : ℕ) (rows : List Fields) (Left : List Fields → Type 0) (events : List Event) (i : ℕ) : Type 0 where
   pub head : Fields
   pub later : List Fields
   pub whole : rows ≡ head ∷ later
   pub header : is_header_row head ≡ true
   pub left : Left (drop i later)
   pub within : i ≤ length later
-  pub fine : (j : ℕ) → j < i → fault_at later j ≡ None
+  pub fine : (j : ℕ) → j < i → fault_at limit later j ≡ None
   pub history : events ≡ events_in (take i later)
   pub count : length events ≡ i
+  pub room : i ≤ limit
 
 -- ---- one record
 
-pub row_short : (old : List Event) (r : Fields) → length r ≢ 4 → row_fault old r ≡ Some faults.Fields
+pub row_short : (limit : ℕ) (old : List Event) (r : Fields) → length r ≢ 4 → row_fault limit old r ≡ Some faults.Fields
 unfolding row_fault
-row_short old r h = let test : (length r == 4) ≡ false = grind (arith, nat_tests) in rw test refl
+row_short limit old r h = let test : (length r == 4) ≡ false = grind (arith, nat_tests) in rw test refl
 
 four_long : (r : Fields) (a p o d : List ℕ) → r ≡ a ∷ p ∷ o ∷ d ∷ [] → (length r == 4) ≡ true
 four_long r a p o d e = rw e refl
 
-pub row_full : (old : List Event) (r : Fields) (a p o d : List ℕ) → r ≡ a ∷ p ∷ o ∷ d ∷ [] → event_limit ≤ length old → row_fault old r ≡ Some faults.TooMany
+pub row_full : (limit : ℕ) (old : List Event) (r : Fields) (a p o d : List ℕ) → r ≡ a ∷ p ∷ o ∷ d ∷ [] → limit ≤ length old → row_fault limit old r ≡ Some faults.TooMany
 unfolding row_fault
-row_full old r a p o d e h =
-    let test : nat_le event_limit (length old) ≡ true = le-leb _ _ h in
+row_full limit old r a p o d e h =
+    let test : nat_le limit (length old) ≡ true = le-leb _ _ h in
     rw (four_long r a p o d e, test) refl
 
-pub row_fits : (old : List Event) (r : Fields) (a p o d : List ℕ) → r ≡ a ∷ p ∷ o ∷ d ∷ [] → length old < event_limit → row_fault old r ≡ fault_with old (event_of a p o d)
+pub row_fits : (limit : ℕ) (old : List Event) (r : Fields) (a p o d : List ℕ) → r ≡ a ∷ p ∷ o ∷ d ∷ [] → length old < limit → row_fault limit old r ≡ fault_with old (event_of a p o d)
 unfolding row_fault row_event
-row_fits old r a p o d e h =
-    let test : nat_le event_limit (length old) ≡ false = grind (arith, nat_tests) in
+row_fits limit old r a p o d e h =
+    let test : nat_le limit (length old) ≡ false = grind (arith, nat_tests) in
     rw (four_long r a p o d e, test, e) refl
 
 event_is : (r : Fields) (a p o d : List ℕ) → r ≡ a ∷ p ∷ o ∷ d ∷ [] → row_event r ≡ event_of a p o d
 unfolding row_event
 event_is r a p o d e = rw e refl
 
-pub row_fails : (place : ℕ) (old : List Event) (r : Fields) (a p o d : List ℕ) (e : ReadRefusal) → r ≡ a ∷ p ∷ o ∷ d ∷ [] → length old < event_limit
-    → FailsEvent place e (event_of a p o d) → RefusesRow place old r e
-row_fails place old r a p o d (refusals.Text q f) e h g = (g.0, row_fits old r a p o d e h ∙ rw g.1 refl)
-row_fails place old r a p o d refusals.Device e h g = g
-row_fails place old r a p o d refusals.Memory e h g = tt
+pub row_fails : (limit : ℕ) (place : ℕ) (old : List Event) (r : Fields) (a p o d : List ℕ) (e : ReadRefusal) → r ≡ a ∷ p ∷ o ∷ d ∷ [] → length old < limit
+    → FailsEvent place e (event_of a p o d) → RefusesRow limit place old r e
+row_fails limit place old r a p o d (refusals.Text q f) e h g = (g.0, row_fits limit old r a p o d e h ∙ rw g.1 refl)
+row_fails limit place old r a p o d refusals.Device e h g = g
+row_fails limit place old r a p o d refusals.Memory e h g = tt
 
-pub row_pushed : (place : ℕ) (old new : List Event) (r : Fields) (a p o d : List ℕ) (x : Event) (res : Result (Unit {0}) ReadRefusal) → r ≡ a ∷ p ∷ o ∷ d ∷ [] → length old < event_limit
-    → event_of a p o d ≡ Ok x → TakesEvent place old new x res → TakesRow place old new r res
-row_pushed place old new r a p o d x (Ok u) e h is t = (row_fits old r a p o d e h ∙ rw is t.0, x, event_is r a p o d e ∙ is, t.1)
-row_pushed place old new r a p o d x (Err (refusals.Text q f)) e h is t = (t.0, row_fits old r a p o d e h ∙ rw is t.1)
-row_pushed place old new r a p o d x (Err refusals.Device) e h is t = t
-row_pushed place old new r a p o d x (Err refusals.Memory) e h is t = tt
+pub row_pushed : (limit : ℕ) (place : ℕ) (old new : List Event) (r : Fields) (a p o d : List ℕ) (x : Event) (res : Result (Unit {0}) ReadRefusal) → r ≡ a ∷ p ∷ o ∷ d ∷ [] → length old < limit
+    → event_of a p o d ≡ Ok x → TakesEvent place old new x res → TakesRow limit place old new r res
+row_pushed limit place old new r a p o d x (Ok u) e h is t = (row_fits limit old r a p o d e h ∙ rw is t.0, x, event_is r a p o d e ∙ is, t.1)
+row_pushed limit place old new r a p o d x (Err (refusals.Text q f)) e h is t = (t.0, row_fits limit old r a p o d e h ∙ rw is t.1)
+row_pushed limit place old new r a p o d x (Err refusals.Device) e h is t = t
+row_pushed limit place old new r a p o d x (Err refusals.Memory) e h is t = tt
+
+pub full_fails : (b c : Bool) (x y : TextFault) (o : Option TextFault) → c ≡ true → cond (not b) (Some x) (cond c (Some y) o) ≡ None → ⊥
+full_fails true true x y o e h = cc
+full_fails true false x y o e h = cc
+full_fails false true x y o e h = cc
+full_fails false false x y o e h = cc
+
+-- a record is taken only where the history is not full
+pub has_room : (limit : ℕ) (old : List Event) (r : Fields) → row_fault limit old r ≡ None → length old < limit
+unfolding row_fault
+has_room limit old r h = elim (cases_lt (length old) limit) [
+  | inl lt ↦ lt
+  | inr le ↦ absurd (full_fails (length r == 4) (nat_le limit (length old)) faults.Fields faults.TooMany (fault_with old (row_event r)) (le-leb _ _ le) h)
+]
 
 -- ---- one record after the other
 
@@ -82,8 +97,8 @@ at_drop xs i r rest e = elim (cases_lt i (length xs)) [
   | inr le ↦ let none = drop_all i xs le in absurd (cc)
 ]
 
-pub begun : (rows : List Fields) (Left : List Fields → Type 0) (head : Fields) (events : List Event) → (rest : List Fields) × (rows ≡ head ∷ rest) × Left rest → is_header_row head ≡ true → events ≡ [] → Midway rows Left events 0
-begun rows Left head events (rest, e, s) h none = record {
+pub begun : (limit : ℕ) (rows : List Fields) (Left : List Fields → Type 0) (head : Fields) (events : List Event) → (rest : List Fields) × (rows ≡ head ∷ rest) × Left rest → is_header_row head ≡ true → events ≡ [] → Midway limit rows Left events 0
+begun limit rows Left head events (rest, e, s) h none = record {
   head = head;
   later = rest;
   whole = e;
@@ -93,33 +108,34 @@ begun rows Left head events (rest, e, s) h none = record {
   fine = λ j lt. absurd (omega arith);
   history = none;
   count = rw none refl;
+  room = omega arith;
 }
 
-pub done : (rows : List Fields) (Left : List Fields → Type 0) (events : List Event) (i : ℕ) (m : Midway rows Left events i) → drop i m.later ≡ [] → AnswersNumbered rows (Ok (events, None))
-done rows Left events i m e =
+pub done : (limit : ℕ) (rows : List Fields) (Left : List Fields → Type 0) (events : List Event) (i : ℕ) (m : Midway limit rows Left events i) → drop i m.later ≡ [] → AnswersNumbered limit rows (Ok (events, None))
+done limit rows Left events i m e =
     let len : length m.later ≤ i = omega (arith, length-drop i m.later, ap length e) in
     let all : take i m.later ≡ m.later = take_all i m.later len in
     let count : length events ≡ length m.later = omega (arith, m.count, m.within) in
     rw m.whole (inl (m.header, λ j lt. m.fine j (omega (arith, m.within)), rw all at m.history), inl (m.header, ap (range_with_len 2) count))
 
-fault_here : (rows : List Fields) (Left : List Fields → Type 0) (events : List Event) (i : ℕ) (m : Midway rows Left events i) (row : Fields) → get_or m.later i [] ≡ row
-    → fault_at m.later i ≡ row_fault events row
-fault_here rows Left events i m row e = rw (e, ← m.history) refl
+fault_here : (limit : ℕ) (rows : List Fields) (Left : List Fields → Type 0) (events : List Event) (i : ℕ) (m : Midway limit rows Left events i) (row : Fields) → get_or m.later i [] ≡ row
+    → fault_at limit m.later i ≡ row_fault limit events row
+fault_here limit rows Left events i m row e = rw (e, ← m.history) refl
 
-pub stopped : (rows : List Fields) (Left : List Fields → Type 0) (events : List Event) (i : ℕ) (m : Midway rows Left events i) (row : Fields) (rest : List Fields) (e : ReadRefusal)
-    → drop i m.later ≡ row ∷ rest → RefusesRow (i + 2) events row e → RefusesRows rows e
-stopped rows Left events i m row rest (refusals.Text p f) d t =
+pub stopped : (limit : ℕ) (rows : List Fields) (Left : List Fields → Type 0) (events : List Event) (i : ℕ) (m : Midway limit rows Left events i) (row : Fields) (rest : List Fields) (e : ReadRefusal)
+    → drop i m.later ≡ row ∷ rest → RefusesRow limit (i + 2) events row e → RefusesRows limit rows e
+stopped limit rows Left events i m row rest (refusals.Text p f) d t =
     let (lt, here, next) = at_drop m.later i row rest d in
-    rw m.whole (inr (inl (m.header, i, t.0, record { place = lt; fault = fault_here rows Left events i m row here ∙ t.1; first = m.fine })))
-stopped rows Left events i m row rest refusals.Device d t = t
-stopped rows Left events i m row rest refusals.Memory d t = tt
+    rw m.whole (inr (inl (m.header, i, t.0, record { place = lt; fault = fault_here limit rows Left events i m row here ∙ t.1; first = m.fine })))
+stopped limit rows Left events i m row rest refusals.Device d t = t
+stopped limit rows Left events i m row rest refusals.Memory d t = tt
 
-fine_more : (later : List Fields) (i : ℕ) → ((j : ℕ) → j < i → fault_at later j ≡ None) → fault_at later i ≡ None → (j : ℕ) → j < i + 1 → fault_at later j ≡ None
-fine_more later i h here = below_more (λ j. fault_at later j ≡ None) i h here
+fine_more : (limit : ℕ) (later : List Fields) (i : ℕ) → ((j : ℕ) → j < i → fault_at limit later j ≡ None) → fault_at limit later i ≡ None → (j : ℕ) → j < i + 1 → fault_at limit later j ≡ None
+fine_more limit later i h here = below_more (λ j. fault_at limit later j ≡ None) i h here
 
-pub more : (rows : List Fields) (A B : List Fields → Type 0) (old new : List Event) (i : ℕ) (m : Midway rows A old i) (row : Fields)
-    → (rest : List Fields) × (drop i m.later ≡ row ∷ rest) × B rest → TakesRow (i + 2) old new row (Ok tt) → Midway rows B new (i + 1)
-more rows A B old new i m row (rest, d, s) (none, x, is, longer) =
+pub more : (limit : ℕ) (rows : List Fields) (A B : List Fields → Type 0) (old new : List Event) (i : ℕ) (m : Midway limit rows A old i) (row : Fields)
+    → (rest : List Fields) × (drop i m.later ≡ row ∷ rest) × B rest → TakesRow limit (i + 2) old new row (Ok tt) → Midway limit rows B new (i + 1)
+more limit rows A B old new i m row (rest, d, s) (none, x, is, longer) =
     let (lt, here, next) = at_drop m.later i row rest d in
     let taken : take (i + 1) m.later ≡ take i m.later ++ row ∷ [] = rw (add-one, take-suc m.later i [] lt, here) refl in
     let events : new ≡ events_in (take (i + 1) m.later) = rw (longer, taken, filter_map-append (λ r. event_in (row_event r)) (take i m.later) (row ∷ []), m.history, is) refl in
@@ -130,23 +146,24 @@ more rows A B old new i m row (rest, d, s) (none, x, is, longer) =
       header = m.header;
       left = rw next s;
       within = omega arith;
-      fine = fine_more m.later i m.fine (fault_here rows A old i m row here ∙ none);
+      fine = fine_more limit m.later i m.fine (fault_here limit rows A old i m row here ∙ none);
       history = events;
       count = rw longer (omega (arith, length-append old (x ∷ []), m.count));
+      room = omega (arith, has_room limit old row none, m.count);
     }
 
-pub no_rows : (rows : List Fields) → rows ≡ [] → RowsFault rows 1 faults.Header
-no_rows rows e = rw e (refl, refl)
+pub no_rows : (limit : ℕ) (rows : List Fields) → rows ≡ [] → RowsFault limit rows 1 faults.Header
+no_rows limit rows e = rw e (refl, refl)
 
-pub no_header : (rows : List Fields) (head : Fields) (rest : List Fields) → rows ≡ head ∷ rest → is_header_row head ≡ false → is_stamped_header_row head ≡ false → RowsFault rows 1 faults.Header
-no_header rows head rest e h s = rw e (inl (h, s, refl, refl))
+pub no_header : (limit : ℕ) (rows : List Fields) (head : Fields) (rest : List Fields) → rows ≡ head ∷ rest → is_header_row head ≡ false → is_stamped_header_row head ≡ false → RowsFault limit rows 1 faults.Header
+no_header limit rows head rest e h s = rw e (inl (h, s, refl, refl))
 
 -- the answer to the records under the header of a text with stamps
-pub with_stamps : (rows : List Fields) (head : Fields) (rest : List Fields) (events : List Event) (records : Vec ℕ) → rows ≡ head ∷ rest → is_stamped_header_row head ≡ true → AnswersStamps rest (Ok (events, records))
-    → AnswersNumbered rows (Ok (events, Some records))
-with_stamps rows head rest events records e s a = rw e (inr (s, a.0), inr (s, a.0.sorted, a.0.order, a.1))
+pub with_stamps : (limit : ℕ) (rows : List Fields) (head : Fields) (rest : List Fields) (events : List Event) (records : Vec ℕ) → rows ≡ head ∷ rest → is_stamped_header_row head ≡ true → AnswersStamps limit rest (Ok (events, records))
+    → AnswersNumbered limit rows (Ok (events, Some records))
+with_stamps limit rows head rest events records e s a = rw e (inr (s, a.0), inr (s, a.0.sorted, a.0.order, a.1))
 
-pub without_stamps : (rows : List Fields) (head : Fields) (rest : List Fields) (e : ReadRefusal) → rows ≡ head ∷ rest → is_stamped_header_row head ≡ true → RefusesStamps rest e → RefusesRows rows e
-without_stamps rows head rest (refusals.Text p f) e s a = rw e (inr (inr (s, a)))
-without_stamps rows head rest refusals.Device e s a = a
-without_stamps rows head rest refusals.Memory e s a = tt
+pub without_stamps : (limit : ℕ) (rows : List Fields) (head : Fields) (rest : List Fields) (e : ReadRefusal) → rows ≡ head ∷ rest → is_stamped_header_row head ≡ true → RefusesStamps limit rest e → RefusesRows limit rows e
+without_stamps limit rows head rest (refusals.Text p f) e s a = rw e (inr (inr (s, a)))
+without_stamps limit rows head rest refusals.Device e s a = a
+without_stamps limit rows head rest refusals.Memory e s a = tt

@@ -10,7 +10,6 @@ use Rattle.std.proofs.lemmas.List.Sorted.{Contains-permutation, IsPermutation-ma
 use Rattle.std.proofs.lemmas.Map.Keys.{IsDistinct-IsPermutation, IsDistinct-from_apart}
 use Rattle.std.proofs.lemmas.Option.{get_or_from_slice_get, slice_get-get_or, slice_get-map, slice_get_within}
 use Rattle.snap_core.specs.declared.event.Event.{Event}
-use Rattle.snap_core.specs.Events.{event_limit}
 use Rattle.snap_text.specs.declared.fault.TextFault.{TextFault}
 use Rattle.snap_text.specs.declared.fault.TextFault.TheVariants as faults
 use Rattle.snap_csv.specs.declared.stamped.Stamped.{Stamped}
@@ -21,7 +20,7 @@ use Rattle.snap_csv.specs.Stamps.{InOrder, NoneOf, events_of, nothing, places_of
 use Rattle.snap_text.specs.Spelling.{spelled}
 use Rattle.snap_csv.specs.Layout.{stamped_fields}
 use Rattle.snap_csv.specs.Texts.{RowsRead}
-use Rattle.snap_csv.specs.Records.{HaveRecords, RowsNumbered, SpellEvents, Spells, record_at}
+use Rattle.snap_csv.specs.Records.{HaveRecordsWithin, RowsNumbered, SpellEvents, Spells, record_at}
 use Rattle.snap_csv.proofs.Exclusive.{one_header}
 use Rattle.snap_text.proofs.GrammarFacts.{bind_ok, record_is, some_or}
 use Rattle.snap_text.proofs.NumberFacts.{number_is}
@@ -36,9 +35,9 @@ only_fits true false before (Err f) h = absurd cc
 only_fits true true before res h = absurd cc
 only_fits false c before res h = absurd cc
 
-fits : (before : List Event) (r : Fields) → row_fault before r ≡ None → (x : Event) × (row_event r ≡ Ok x)
+fits : (limit : ℕ) (before : List Event) (r : Fields) → row_fault limit before r ≡ None → (x : Event) × (row_event r ≡ Ok x)
 unfolding row_fault
-fits before r h = only_fits (length r == 4) (nat_le event_limit (length before)) before (row_event r) h
+fits limit before r h = only_fits (length r == 4) (nat_le limit (length before)) before (row_event r) h
 
 -- each of these records is read as an event
 Read : List Fields → Type 0
@@ -64,9 +63,9 @@ fresh_fits true false earlier (Err f) h = absurd cc
 fresh_fits true true earlier res h = absurd cc
 fresh_fits false c earlier res h = absurd cc
 
-stamp_fits : (n : ℕ) (earlier : List ℕ) (r : Fields) → shape_fault n earlier r ≡ None → (x : ℕ × Event) × (stamped_row r ≡ Ok x)
+stamp_fits : (limit : ℕ) (n : ℕ) (earlier : List ℕ) (r : Fields) → shape_fault limit n earlier r ≡ None → (x : ℕ × Event) × (stamped_row r ≡ Ok x)
 unfolding shape_fault
-stamp_fits n earlier r h = fresh_fits (length r == 5) (nat_le event_limit n) earlier (stamped_row r) h
+stamp_fits limit n earlier r h = fresh_fits (length r == 5) (nat_le limit n) earlier (stamped_row r) h
 
 stamped_is : (r : Fields) (x : ℕ × Event) → stamped_row r ≡ Ok x → r ≡ stamped_fields x
 unfolding stamped_row row_event
@@ -123,10 +122,10 @@ under_header head rows number j e = let two : number ≡ suc (suc j) = omega (ar
 
 -- ---- the whole
 
-plain_spell : (head : Fields) (rows : List Fields) → NoFault rows → SpellEvents (head ∷ rows) (events_in rows) (range_with_len 2 (length rows))
+plain_spell : (limit : ℕ) (head : Fields) (rows : List Fields) → NoFault limit rows → SpellEvents (head ∷ rows) (events_in rows) (range_with_len 2 (length rows))
 unfolding Read
-plain_spell head rows none =
-    let all : Read rows = λ i lt. fits _ _ (none i lt) in
+plain_spell limit head rows none =
+    let all : Read rows = λ i lt. fits limit _ _ (none i lt) in
     let same = plain_rows rows all in
     let size : length rows ≡ length (events_in rows) = ap length same ∙ length-map (events_in rows) spelled in
     record {
@@ -139,10 +138,10 @@ plain_spell head rows none =
           (spelled event, under_header head rows number i place ∙ found, inl refl);
     }
 
-stamped_spell : (head : Fields) (rows : List Fields) (sorted : List Stamped) → NoneOf (shape_at rows) (length rows) → InOrder rows sorted → SpellEvents (head ∷ rows) (events_of sorted) (places_of sorted)
+stamped_spell : (limit : ℕ) (head : Fields) (rows : List Fields) (sorted : List Stamped) → NoneOf (shape_at limit rows) (length rows) → InOrder rows sorted → SpellEvents (head ∷ rows) (events_of sorted) (places_of sorted)
 unfolding ReadStamped
-stamped_spell head rows sorted shapes order =
-    let all : ReadStamped rows = λ i lt. stamp_fits _ _ _ (shapes i lt) in
+stamped_spell limit head rows sorted shapes order =
+    let all : ReadStamped rows = λ i lt. stamp_fits limit _ _ _ (shapes i lt) in
     let places : places_of (stamped_in rows) ≡ range_with_len 2 (length rows) = stamped_places 2 rows all in
     record {
       count = length-map sorted (λ s. s.place) ∙ sym (length-map sorted (λ s. s.event));
@@ -171,14 +170,14 @@ stamped_spell head rows sorted shapes order =
         ap (λ (rs : List Fields). slice_get rs j) same ∙ slice_get-map (λ (z : Stamped). stamped_fields (stamp_and_event z)) (stamped_in rows) j ∙ rw there refl in
         (stamped_fields (s.at, event), under_header head rows number j place ∙ found ∙ ap (λ (x : Event). Some (stamped_fields (s.at, x))) is_event, inr (s.at, refl))
 
-pub rows_spell : (rows : List Fields) (events : List Event) (records : List ℕ) → RowsRead rows events → RowsNumbered rows records → SpellEvents rows events records
-rows_spell [] events records read numbers = absurd read
-rows_spell (head ∷ rows) events records (inl read) (inl numbers) = rw (read.2, numbers.1) (plain_spell head rows read.1)
-rows_spell (head ∷ rows) events records (inl read) (inr numbers) = absurd (one_header head read.0 numbers.0)
-rows_spell (head ∷ rows) events records (inr read) (inl numbers) = absurd (one_header head numbers.0 read.0)
-rows_spell (head ∷ rows) events records (inr (stamped, read)) (inr numbers) =
+pub rows_spell : (limit : ℕ) (rows : List Fields) (events : List Event) (records : List ℕ) → RowsRead limit rows events → RowsNumbered rows records → SpellEvents rows events records
+rows_spell limit [] events records read numbers = absurd read
+rows_spell limit (head ∷ rows) events records (inl read) (inl numbers) = rw (read.2, numbers.1) (plain_spell limit head rows read.1)
+rows_spell limit (head ∷ rows) events records (inl read) (inr numbers) = absurd (one_header head read.0 numbers.0)
+rows_spell limit (head ∷ rows) events records (inr read) (inl numbers) = absurd (one_header head numbers.0 read.0)
+rows_spell limit (head ∷ rows) events records (inr (stamped, read)) (inr numbers) =
     let same : read.sorted ≡ numbers.1 = one_sort rows read.sorted numbers.1 read.order numbers.2 in
-    rw (read.history, numbers.3, ← same) (stamped_spell head rows read.sorted read.shapes read.order)
+    rw (read.history, numbers.3, ← same) (stamped_spell limit head rows read.sorted read.shapes read.order)
 
-pub records_spell : (text : List ℕ) (events : List Event) (records : List ℕ) → HaveRecords text events records → SpellEvents (rows_of text) events records
-records_spell text events records h = rows_spell (rows_of text) events records h.history.1 h.numbers
+pub records_spell : (limit : ℕ) (text : List ℕ) (events : List Event) (records : List ℕ) → HaveRecordsWithin limit text events records → SpellEvents (rows_of text) events records
+records_spell limit text events records h = rows_spell limit (rows_of text) events records h.history.1 h.numbers

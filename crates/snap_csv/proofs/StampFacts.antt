@@ -18,7 +18,6 @@ use Rattle.std.proofs.lemmas.Map.Keys.{IsDistinct-IsPermutation, IsDistinct-push
 use Rattle.std.proofs.Math.Seq.{drop-cons, take-suc}
 use Rattle.csv.specs.declared.reader.Reader.{Reader}
 use Rattle.snap_core.specs.declared.event.Event.{Event}
-use Rattle.snap_core.specs.Events.{event_limit}
 use Rattle.snap_text.specs.declared.fault.TextFault.{TextFault}
 use Rattle.snap_text.specs.declared.fault.TextFault.TheVariants as faults
 use Rattle.snap_csv.specs.declared.refusal.ReadRefusal.{ReadRefusal}
@@ -28,7 +27,7 @@ use Rattle.snap_text.specs.Fields.{Fields, event_of, number_at}
 use Rattle.snap_csv.specs.Rows.{Stands}
 use Rattle.snap_csv.specs.Stamps.{InOrder, NoneOf, events_of, nothing, order_at, places_of, repeat_fault, shape_at, shape_fault, stamped_from, stamped_in, stamped_row, stamps_of, with_stamped}
 use Rattle.snap_csv.specs.Answers.{AnswersStamps, FailsEvent, HasSeen, RefusesShapes, RefusesStamped, RefusesStamps, RefusesTurns, TakesEvent, TakesStamped, TakesTurns}
-use Rattle.snap_csv.proofs.ReadFacts.{at_drop}
+use Rattle.snap_csv.proofs.ReadFacts.{at_drop, full_fails}
 
 -- ---- a sort
 
@@ -54,23 +53,23 @@ sorted_rise xs ys apart p up =
 
 -- ---- one record
 
-pub row_short : (n : ℕ) (earlier : List ℕ) (r : Fields) → length r ≢ 5 → shape_fault n earlier r ≡ Some faults.Fields
+pub row_short : (limit : ℕ) (n : ℕ) (earlier : List ℕ) (r : Fields) → length r ≢ 5 → shape_fault limit n earlier r ≡ Some faults.Fields
 unfolding shape_fault
-row_short n earlier r h = let test : (length r == 5) ≡ false = grind (arith, nat_tests) in rw test refl
+row_short limit n earlier r h = let test : (length r == 5) ≡ false = grind (arith, nat_tests) in rw test refl
 
 five_long : (r : Fields) (t a p o d : List ℕ) → r ≡ t ∷ a ∷ p ∷ o ∷ d ∷ [] → (length r == 5) ≡ true
 five_long r t a p o d e = rw e refl
 
-pub row_full : (n : ℕ) (earlier : List ℕ) (r : Fields) (t a p o d : List ℕ) → r ≡ t ∷ a ∷ p ∷ o ∷ d ∷ [] → event_limit ≤ n → shape_fault n earlier r ≡ Some faults.TooMany
+pub row_full : (limit : ℕ) (n : ℕ) (earlier : List ℕ) (r : Fields) (t a p o d : List ℕ) → r ≡ t ∷ a ∷ p ∷ o ∷ d ∷ [] → limit ≤ n → shape_fault limit n earlier r ≡ Some faults.TooMany
 unfolding shape_fault
-row_full n earlier r t a p o d e h =
-    let test : nat_le event_limit n ≡ true = le-leb _ _ h in
+row_full limit n earlier r t a p o d e h =
+    let test : nat_le limit n ≡ true = le-leb _ _ h in
     rw (five_long r t a p o d e, test) refl
 
-row_fits : (n : ℕ) (earlier : List ℕ) (r : Fields) (t a p o d : List ℕ) → r ≡ t ∷ a ∷ p ∷ o ∷ d ∷ [] → n < event_limit → shape_fault n earlier r ≡ repeat_fault earlier (stamped_row r)
+row_fits : (limit : ℕ) (n : ℕ) (earlier : List ℕ) (r : Fields) (t a p o d : List ℕ) → r ≡ t ∷ a ∷ p ∷ o ∷ d ∷ [] → n < limit → shape_fault limit n earlier r ≡ repeat_fault earlier (stamped_row r)
 unfolding shape_fault
-row_fits n earlier r t a p o d e h =
-    let test : nat_le event_limit n ≡ false = grind (arith, nat_tests) in
+row_fits limit n earlier r t a p o d e h =
+    let test : nat_le limit n ≡ false = grind (arith, nat_tests) in
     rw (five_long r t a p o d e, test) refl
 
 no_stamp : (r : Fields) (t a p o d : List ℕ) → r ≡ t ∷ a ∷ p ∷ o ∷ d ∷ [] → None ≡ number_at (2 ^ 64) t → stamped_row r ≡ Err faults.BadAt
@@ -85,32 +84,26 @@ has_event : (r : Fields) (t a p o d : List ℕ) (at : ℕ) (x : Event) → r ≡
 unfolding stamped_row
 has_event r t a p o d at x e h g = rw (e, ← h, g) refl
 
-full_fails : (b c : Bool) (x y : TextFault) (o : Option TextFault) → c ≡ true → cond (not b) (Some x) (cond c (Some y) o) ≡ None → ⊥
-full_fails true true x y o e h = cc
-full_fails true false x y o e h = cc
-full_fails false true x y o e h = cc
-full_fails false false x y o e h = cc
-
 -- a record is taken only where the history is not full
-has_room : (n : ℕ) (earlier : List ℕ) (r : Fields) → shape_fault n earlier r ≡ None → n < event_limit
+has_room : (limit : ℕ) (n : ℕ) (earlier : List ℕ) (r : Fields) → shape_fault limit n earlier r ≡ None → n < limit
 unfolding shape_fault
-has_room n earlier r h = elim (cases_lt n event_limit) [
+has_room limit n earlier r h = elim (cases_lt n limit) [
   | inl lt ↦ lt
-  | inr le ↦ absurd (full_fails (length r == 5) (nat_le event_limit n) faults.Fields faults.TooMany (repeat_fault earlier (stamped_row r)) (le-leb _ _ le) h)
+  | inr le ↦ absurd (full_fails (length r == 5) (nat_le limit n) faults.Fields faults.TooMany (repeat_fault earlier (stamped_row r)) (le-leb _ _ le) h)
 ]
 
-pub one_longer : (place : ℕ) (old new : List Stamped) (r : Fields) → TakesStamped place old new r (Ok tt) → (length old < event_limit) × (length new ≡ length old + 1)
-one_longer place old new r (none, x, is, longer) = (has_room _ _ r none, rw longer (omega (arith, length-append old (record { at = x.0; place = place; event = x.1 } ∷ []))))
+pub one_longer : (limit : ℕ) (place : ℕ) (old new : List Stamped) (r : Fields) → TakesStamped limit place old new r (Ok tt) → (length old < limit) × (length new ≡ length old + 1)
+one_longer limit place old new r (none, x, is, longer) = (has_room limit _ _ r none, rw longer (omega (arith, length-append old (record { at = x.0; place = place; event = x.1 } ∷ []))))
 
-pub row_bad_at : (n : ℕ) (earlier : List ℕ) (r : Fields) (t a p o d : List ℕ) → r ≡ t ∷ a ∷ p ∷ o ∷ d ∷ [] → n < event_limit → None ≡ number_at (2 ^ 64) t → shape_fault n earlier r ≡ Some faults.BadAt
-row_bad_at n earlier r t a p o d e lt h = row_fits n earlier r t a p o d e lt ∙ ap (repeat_fault earlier) (no_stamp r t a p o d e h)
+pub row_bad_at : (limit : ℕ) (n : ℕ) (earlier : List ℕ) (r : Fields) (t a p o d : List ℕ) → r ≡ t ∷ a ∷ p ∷ o ∷ d ∷ [] → n < limit → None ≡ number_at (2 ^ 64) t → shape_fault limit n earlier r ≡ Some faults.BadAt
+row_bad_at limit n earlier r t a p o d e lt h = row_fits limit n earlier r t a p o d e lt ∙ ap (repeat_fault earlier) (no_stamp r t a p o d e h)
 
-pub row_fails : (place : ℕ) (old : List Stamped) (r : Fields) (t a p o d : List ℕ) (at : ℕ) (e : ReadRefusal) → r ≡ t ∷ a ∷ p ∷ o ∷ d ∷ [] → length old < event_limit
-    → Some at ≡ number_at (2 ^ 64) t → FailsEvent place e (event_of a p o d) → RefusesStamped place old r e
-row_fails place old r t a p o d at (refusals.Text q f) e lt h g =
-    (g.0, row_fits (length old) (stamps_of old) r t a p o d e lt ∙ ap (repeat_fault (stamps_of old)) (no_event r t a p o d at f e h g.1))
-row_fails place old r t a p o d at refusals.Device e lt h g = g
-row_fails place old r t a p o d at refusals.Memory e lt h g = tt
+pub row_fails : (limit : ℕ) (place : ℕ) (old : List Stamped) (r : Fields) (t a p o d : List ℕ) (at : ℕ) (e : ReadRefusal) → r ≡ t ∷ a ∷ p ∷ o ∷ d ∷ [] → length old < limit
+    → Some at ≡ number_at (2 ^ 64) t → FailsEvent place e (event_of a p o d) → RefusesStamped limit place old r e
+row_fails limit place old r t a p o d at (refusals.Text q f) e lt h g =
+    (g.0, row_fits limit (length old) (stamps_of old) r t a p o d e lt ∙ ap (repeat_fault (stamps_of old)) (no_event r t a p o d at f e h g.1))
+row_fails limit place old r t a p o d at refusals.Device e lt h g = g
+row_fails limit place old r t a p o d at refusals.Memory e lt h g = tt
 
 not_false : (b : Bool) → not b ≡ false → b ≡ true
 not_false true e = refl
@@ -123,18 +116,18 @@ not_true true e = absurd (cc)
 known_stamp : (seen : BTreeSet ℕ) (old : List Stamped) (at : ℕ) (b : Bool) → HasSeen seen old → contains nat_cmp seen at ≡ b → list_any (λ s. at == s) (stamps_of old) ≡ b
 known_stamp seen old at b h e = sym (h.has at) ∙ e
 
-pub row_repeats : (seen : BTreeSet ℕ) (old : List Stamped) (r : Fields) (t a p o d : List ℕ) (at : ℕ) (x : Event) → r ≡ t ∷ a ∷ p ∷ o ∷ d ∷ [] → length old < event_limit
-    → Some at ≡ number_at (2 ^ 64) t → event_of a p o d ≡ Ok x → HasSeen seen old → not (contains nat_cmp seen at) ≡ false → shape_fault (length old) (stamps_of old) r ≡ Some faults.Repeated
-row_repeats seen old r t a p o d at x e lt h g s n =
-    row_fits (length old) (stamps_of old) r t a p o d e lt ∙ ap (repeat_fault (stamps_of old)) (has_event r t a p o d at x e h g)
+pub row_repeats : (limit : ℕ) (seen : BTreeSet ℕ) (old : List Stamped) (r : Fields) (t a p o d : List ℕ) (at : ℕ) (x : Event) → r ≡ t ∷ a ∷ p ∷ o ∷ d ∷ [] → length old < limit
+    → Some at ≡ number_at (2 ^ 64) t → event_of a p o d ≡ Ok x → HasSeen seen old → not (contains nat_cmp seen at) ≡ false → shape_fault limit (length old) (stamps_of old) r ≡ Some faults.Repeated
+row_repeats limit seen old r t a p o d at x e lt h g s n =
+    row_fits limit (length old) (stamps_of old) r t a p o d e lt ∙ ap (repeat_fault (stamps_of old)) (has_event r t a p o d at x e h g)
     ∙ rw (known_stamp seen old at true s (not_false _ n)) refl
 
-pub row_taken : (place : ℕ) (seen : BTreeSet ℕ) (old new : List Stamped) (r : Fields) (t a p o d : List ℕ) (at : ℕ) (x : Event) → r ≡ t ∷ a ∷ p ∷ o ∷ d ∷ [] → length old < event_limit
+pub row_taken : (limit : ℕ) (place : ℕ) (seen : BTreeSet ℕ) (old new : List Stamped) (r : Fields) (t a p o d : List ℕ) (at : ℕ) (x : Event) → r ≡ t ∷ a ∷ p ∷ o ∷ d ∷ [] → length old < limit
     → Some at ≡ number_at (2 ^ 64) t → event_of a p o d ≡ Ok x → HasSeen seen old → not (contains nat_cmp seen at) ≡ true
-    → new ≡ old ++ record { at = at; place = place; event = x } ∷ [] → TakesStamped place old new r (Ok tt)
-row_taken place seen old new r t a p o d at x e lt h g s n is =
+    → new ≡ old ++ record { at = at; place = place; event = x } ∷ [] → TakesStamped limit place old new r (Ok tt)
+row_taken limit place seen old new r t a p o d at x e lt h g s n is =
     let none : repeat_fault (stamps_of old) (Ok (at, x)) ≡ None = rw (known_stamp seen old at false s (not_true _ n)) refl in (
-      row_fits (length old) (stamps_of old) r t a p o d e lt ∙ ap (repeat_fault (stamps_of old)) (has_event r t a p o d at x e h g) ∙ none,
+      row_fits limit (length old) (stamps_of old) r t a p o d e lt ∙ ap (repeat_fault (stamps_of old)) (has_event r t a p o d at x e h g) ∙ none,
       (at, x),
       has_event r t a p o d at x e h g,
       is,
@@ -168,10 +161,10 @@ none_seen seen xs e f = record { has = λ q. rw (e, f) refl; distinct = rw f tt 
 -- ---- one record after the other
 
 -- the reader stands before the record at place i under the header, and the stamped events are those of the records before it
-pub record MidStamped (rows : List Fields) (r : Reader (Bor (List ℕ))) (xs : List Stamped) (i : ℕ) : Type 0 where
+pub record MidStamped (limit : ℕ) (rows : List Fields) (r : Reader (Bor (List ℕ))) (xs : List Stamped) (i : ℕ) : Type 0 where
   pub stands : Stands r (drop i rows)
   pub within : i ≤ length rows
-  pub fine : NoneOf (shape_at rows) i
+  pub fine : NoneOf (shape_at limit rows) i
   pub stamped : xs ≡ stamped_in (take i rows)
   pub count : length xs ≡ i
 
@@ -187,8 +180,8 @@ from_append place (r ∷ rs) qs =
     along (Ok x) us vs = refl
     along (Err f) us vs = refl
 
-pub begun : (rows : List Fields) (r : Reader (Bor (List ℕ))) (xs : List Stamped) → Stands r rows → xs ≡ [] → MidStamped rows r xs 0
-begun rows r xs s none = record {
+pub begun : (limit : ℕ) (rows : List Fields) (r : Reader (Bor (List ℕ))) (xs : List Stamped) → Stands r rows → xs ≡ [] → MidStamped limit rows r xs 0
+begun limit rows r xs s none = record {
   stands = s;
   within = omega arith;
   fine = λ j lt. absurd (omega arith);
@@ -196,27 +189,27 @@ begun rows r xs s none = record {
   count = rw none refl;
 }
 
-pub done : (rows : List Fields) (r : Reader (Bor (List ℕ))) (xs : List Stamped) (i : ℕ) (m : MidStamped rows r xs i) → drop i rows ≡ [] → NoneOf (shape_at rows) (length rows) × (xs ≡ stamped_in rows)
-done rows r xs i m e =
+pub done : (limit : ℕ) (rows : List Fields) (r : Reader (Bor (List ℕ))) (xs : List Stamped) (i : ℕ) (m : MidStamped limit rows r xs i) → drop i rows ≡ [] → NoneOf (shape_at limit rows) (length rows) × (xs ≡ stamped_in rows)
+done limit rows r xs i m e =
     let len : length rows ≤ i = omega (arith, length-drop i rows, ap length e) in
     let all : take i rows ≡ rows = take_all i rows len in
     (λ j lt. m.fine j (omega (arith, m.within)), m.stamped ∙ ap stamped_in all)
 
-fault_here : (rows : List Fields) (r : Reader (Bor (List ℕ))) (xs : List Stamped) (i : ℕ) (m : MidStamped rows r xs i) (row : Fields) → get_or rows i [] ≡ row
-    → shape_at rows i ≡ shape_fault (length xs) (stamps_of xs) row
-fault_here rows r xs i m row e = rw (e, m.count, ← m.stamped) refl
+fault_here : (limit : ℕ) (rows : List Fields) (r : Reader (Bor (List ℕ))) (xs : List Stamped) (i : ℕ) (m : MidStamped limit rows r xs i) (row : Fields) → get_or rows i [] ≡ row
+    → shape_at limit rows i ≡ shape_fault limit (length xs) (stamps_of xs) row
+fault_here limit rows r xs i m row e = rw (e, m.count, ← m.stamped) refl
 
-pub stopped : (rows : List Fields) (r : Reader (Bor (List ℕ))) (xs : List Stamped) (i : ℕ) (m : MidStamped rows r xs i) (row : Fields) (rest : List Fields) (e : ReadRefusal)
-    → drop i rows ≡ row ∷ rest → RefusesStamped (i + 2) xs row e → RefusesShapes rows e
-stopped rows r xs i m row rest (refusals.Text p f) d t =
+pub stopped : (limit : ℕ) (rows : List Fields) (r : Reader (Bor (List ℕ))) (xs : List Stamped) (i : ℕ) (m : MidStamped limit rows r xs i) (row : Fields) (rest : List Fields) (e : ReadRefusal)
+    → drop i rows ≡ row ∷ rest → RefusesStamped limit (i + 2) xs row e → RefusesShapes limit rows e
+stopped limit rows r xs i m row rest (refusals.Text p f) d t =
     let (lt, here, next) = at_drop rows i row rest d in
-    record { i = i; record_is = t.0; first = record { below = lt; here = fault_here rows r xs i m row here ∙ t.1; first = m.fine } }
-stopped rows r xs i m row rest refusals.Device d t = t
-stopped rows r xs i m row rest refusals.Memory d t = tt
+    record { i = i; record_is = t.0; first = record { below = lt; here = fault_here limit rows r xs i m row here ∙ t.1; first = m.fine } }
+stopped limit rows r xs i m row rest refusals.Device d t = t
+stopped limit rows r xs i m row rest refusals.Memory d t = tt
 
-pub more : (rows : List Fields) (a b : Reader (Bor (List ℕ))) (old new : List Stamped) (i : ℕ) (m : MidStamped rows a old i) (row : Fields)
-    → (rest : List Fields) × (drop i rows ≡ row ∷ rest) × Stands b rest → TakesStamped (i + 2) old new row (Ok tt) → MidStamped rows b new (i + 1)
-more rows a b old new i m row (rest, d, s) (none, x, is, longer) =
+pub more : (limit : ℕ) (rows : List Fields) (a b : Reader (Bor (List ℕ))) (old new : List Stamped) (i : ℕ) (m : MidStamped limit rows a old i) (row : Fields)
+    → (rest : List Fields) × (drop i rows ≡ row ∷ rest) × Stands b rest → TakesStamped limit (i + 2) old new row (Ok tt) → MidStamped limit rows b new (i + 1)
+more limit rows a b old new i m row (rest, d, s) (none, x, is, longer) =
     let (lt, here, next) = at_drop rows i row rest d in
     let taken : take (i + 1) rows ≡ take i rows ++ row ∷ [] = rw (add-one, take-suc rows i [] lt, here) refl in
     let size : length (take i rows) ≡ i = length-take-le i rows m.within in
@@ -228,7 +221,7 @@ more rows a b old new i m row (rest, d, s) (none, x, is, longer) =
     record {
       stands = rw next s;
       within = omega arith;
-      fine = below_more (λ j. shape_at rows j ≡ None) i m.fine (fault_here rows a old i m row here ∙ none);
+      fine = below_more (λ j. shape_at limit rows j ≡ None) i m.fine (fault_here limit rows a old i m row here ∙ none);
       stamped = stamped;
       count = rw longer (omega (arith, length-append old (record { at = x.0; place = i + 2; event = x.1 } ∷ []), m.count));
     }
@@ -291,21 +284,21 @@ turns_more xs left rest old new y place x m l yx t =
 
 -- ---- the whole
 
-pub shapes_stop : (rows : List Fields) (e : ReadRefusal) → RefusesShapes rows e → RefusesStamps rows e
-shapes_stop rows (refusals.Text p f) r = inl r
-shapes_stop rows refusals.Device r = r
-shapes_stop rows refusals.Memory r = tt
+pub shapes_stop : (limit : ℕ) (rows : List Fields) (e : ReadRefusal) → RefusesShapes limit rows e → RefusesStamps limit rows e
+shapes_stop limit rows (refusals.Text p f) r = inl r
+shapes_stop limit rows refusals.Device r = r
+shapes_stop limit rows refusals.Memory r = tt
 
 in_order : (rows : List Fields) (xs ys : List Stamped) → xs ≡ stamped_in rows → IsPermutation xs ys → IsStrictlyIncreasing (stamps_of ys) → InOrder rows ys
 in_order rows xs ys read p up = record { same = subst (λ (z : List Stamped). IsPermutation z ys) read p; rising = up }
 
-pub whole : (rows : List Fields) (xs ys : List Stamped) (h : List Event) (places : Vec ℕ) → NoneOf (shape_at rows) (length rows) × (xs ≡ stamped_in rows) → IsPermutation xs ys → IsStrictlyIncreasing (stamps_of ys)
-    → TakesTurns ys (Ok h) → places.items ≡ places_of ys → AnswersStamps rows (Ok (h, places))
-whole rows xs ys h places read p up t is = (record { shapes = read.0; sorted = ys; order = in_order rows xs ys read.1 p up; fine = t.0; history = t.1 }, is)
+pub whole : (limit : ℕ) (rows : List Fields) (xs ys : List Stamped) (h : List Event) (places : Vec ℕ) → NoneOf (shape_at limit rows) (length rows) × (xs ≡ stamped_in rows) → IsPermutation xs ys → IsStrictlyIncreasing (stamps_of ys)
+    → TakesTurns ys (Ok h) → places.items ≡ places_of ys → AnswersStamps limit rows (Ok (h, places))
+whole limit rows xs ys h places read p up t is = (record { shapes = read.0; sorted = ys; order = in_order rows xs ys read.1 p up; fine = t.0; history = t.1 }, is)
 
-pub turns_stop : (rows : List Fields) (xs ys : List Stamped) (e : ReadRefusal) → NoneOf (shape_at rows) (length rows) × (xs ≡ stamped_in rows) → IsPermutation xs ys → IsStrictlyIncreasing (stamps_of ys)
-    → RefusesTurns ys e → RefusesStamps rows e
-turns_stop rows xs ys (refusals.Text q f) read p up t =
+pub turns_stop : (limit : ℕ) (rows : List Fields) (xs ys : List Stamped) (e : ReadRefusal) → NoneOf (shape_at limit rows) (length rows) × (xs ≡ stamped_in rows) → IsPermutation xs ys → IsStrictlyIncreasing (stamps_of ys)
+    → RefusesTurns ys e → RefusesStamps limit rows e
+turns_stop limit rows xs ys (refusals.Text q f) read p up t =
     inr (record { shapes = read.0; sorted = ys; order = in_order rows xs ys read.1 p up; i = t.0; first = t.1; record_is = t.2 })
-turns_stop rows xs ys refusals.Device read p up t = t
-turns_stop rows xs ys refusals.Memory read p up t = tt
+turns_stop limit rows xs ys refusals.Device read p up t = t
+turns_stop limit rows xs ys refusals.Memory read p up t = tt

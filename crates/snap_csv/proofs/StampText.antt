@@ -15,11 +15,11 @@ use Rattle.csv.specs.Reading.{default_config, records, strip_bom}
 use Rattle.csv.specs.Writing.{fields_text, is_blank, read_back}
 use Rattle.snap_core.specs.declared.event.Event.{Event}
 use Rattle.snap_core.specs.declared.event.Event.TheVariants.{BeginUpdate, BeginView, EndUpdate, EndView}
-use Rattle.snap_core.specs.Events.{EventFits, IsHistory, IsBoundedHistory, event_limit}
+use Rattle.snap_core.specs.Events.{EventFits, IsHistory, IsBoundedHistory, event_cap}
 use Rattle.snap_text.specs.Fields.{Fields, row_event}
 use Rattle.snap_csv.specs.Rows.{rows_of}
 use Rattle.snap_csv.specs.Layout.{record_text, stamped_fields, stamped_header, stamped_lines, stamped_text}
-use Rattle.snap_csv.specs.Texts.{IsText, byte_limit}
+use Rattle.snap_csv.specs.Texts.{IsTextWithin, bytes_within}
 use Rattle.snap_csv.proofs.LineFacts.{stamped_header_line, stamped_line_of}
 use Rattle.snap_csv.specs.declared.stamped.Stamped.{Stamped}
 use Rattle.snap_csv.specs.Faults.{fault_with}
@@ -141,14 +141,14 @@ five_fields (n, BeginView p) = refl
 five_fields (n, EndUpdate p) = refl
 five_fields (n, EndView p es) = refl
 
-shape_fine : (n : ℕ) (earlier : List ℕ) (p : Stamp) → n < event_limit → stamped_row (stamped_fields p) ≡ Ok p → list_any (λ s. p.0 == s) earlier ≡ false → shape_fault n earlier (stamped_fields p) ≡ None
+shape_fine : (limit : ℕ) (n : ℕ) (earlier : List ℕ) (p : Stamp) → n < limit → stamped_row (stamped_fields p) ≡ Ok p → list_any (λ s. p.0 == s) earlier ≡ false → shape_fault limit n earlier (stamped_fields p) ≡ None
 unfolding shape_fault
-shape_fine n earlier p lt b none =
-    let test : nat_le event_limit n ≡ false = grind (arith, nat_tests) in
+shape_fine limit n earlier p lt b none =
+    let test : nat_le limit n ≡ false = grind (arith, nat_tests) in
     rw (five_fields p, test, b, none) refl
 
-shapes_fine : (at : List ℕ) (xs : List Event) → length at ≡ length xs → length xs ≤ event_limit → IsStrictlyIncreasing at → AllBack (zip at xs) → NoneOf (shape_at (map stamped_fields (zip at xs))) (length (map stamped_fields (zip at xs)))
-shapes_fine at xs same short up b i lt =
+shapes_fine : (limit : ℕ) (at : List ℕ) (xs : List Event) → length at ≡ length xs → length xs ≤ limit → IsStrictlyIncreasing at → AllBack (zip at xs) → NoneOf (shape_at limit (map stamped_fields (zip at xs))) (length (map stamped_fields (zip at xs)))
+shapes_fine limit at xs same short up b i lt =
     let ps = zip at xs in
     let d : Stamp = (0, BeginView 0) in
     let size = length-map ps stamped_fields in
@@ -166,12 +166,12 @@ shapes_fine at xs same short up b i lt =
     let m = AllPairs-from_increasing at up j i 0 lj la in
     omega (arith, e, m, first) in
     let none = earlier_none (take i at) (get_or ps i d).0 below in
-    let fine = shape_fine i (take i at) (get_or ps i d) (omega (arith, here, len, same, short)) (back_here ps i d here b) none in
-    ap (λ (t : List Fields). shape_fault i (stamps_of (stamped_in t)) (get_or (map stamped_fields ps) i [])) front
-    ∙ ap (λ (e : List ℕ). shape_fault i e (get_or (map stamped_fields ps) i [])) stamps
-    ∙ ap (shape_fault i (take i at)) there ∙ fine
+    let fine = shape_fine limit i (take i at) (get_or ps i d) (omega (arith, here, len, same, short)) (back_here ps i d here b) none in
+    ap (λ (t : List Fields). shape_fault limit i (stamps_of (stamped_in t)) (get_or (map stamped_fields ps) i [])) front
+    ∙ ap (λ (e : List ℕ). shape_fault limit i e (get_or (map stamped_fields ps) i [])) stamps
+    ∙ ap (shape_fault limit i (take i at)) there ∙ fine
 
-events_fine : (xs : List Event) → IsHistory xs → length xs ≤ event_limit → (i : ℕ) (d : Event) → i < length xs → fault_with (take i xs) (Ok (get_or xs i d)) ≡ None
+events_fine : (xs : List Event) → IsHistory xs → length xs ≤ event_cap → (i : ℕ) (d : Event) → i < length xs → fault_with (take i xs) (Ok (get_or xs i d)) ≡ None
 events_fine xs h short i d lt =
     let p = place xs i lt in
     let fine = none_then p.before p.here (not_refused p.before p.here p.behind (subst (λ (t : List Event). IsHistory t) p.whole h) (omega (arith, p.count, lt, short))) in
@@ -180,7 +180,7 @@ events_fine xs h short i d lt =
     ap (λ (t : List Event). fault_with (take i t) (Ok (get_or t i d))) p.whole
     ∙ ap (λ (t : List Event). fault_with t (Ok (get_or (p.before ++ p.here ∷ p.behind) i d))) before ∙ ap (λ (x : Event). fault_with p.before (Ok x)) here ∙ fine
 
-turns_fine : (ys : List Stamped) (xs : List Event) → events_of ys ≡ xs → IsHistory xs → length xs ≤ event_limit → NoneOf (order_at ys) (length ys)
+turns_fine : (ys : List Stamped) (xs : List Event) → events_of ys ≡ xs → IsHistory xs → length xs ≤ event_cap → NoneOf (order_at ys) (length ys)
 turns_fine ys xs e h short i lt =
     let size : length xs ≡ length ys = ap length (sym e) ∙ length-map ys (λ (y : Stamped). y.event) in
     let d : Event = BeginView 0 in
@@ -200,8 +200,8 @@ all_fit (n ∷ at) [] a b = tt
 all_fit (n ∷ at) (x ∷ xs) a b =
     ((All-head (λ n. n < 2 ^ 64) n at a, All-head EventFits x xs b), all_fit at xs (All-tail (λ n. n < 2 ^ 64) n at a) (All-tail EventFits x xs b))
 
-pub stamped_reads : (at : List ℕ) (xs : List Event) → IsBoundedHistory xs → length at ≡ length xs → IsStrictlyIncreasing at → All (λ n. n < 2 ^ 64) at → length (stamped_text at xs) ≤ byte_limit → IsText (stamped_text at xs) xs
-stamped_reads at xs k same up small short =
+pub stamped_reads : (limit : ℕ) (at : List ℕ) (xs : List Event) → IsBoundedHistory xs → length xs ≤ limit → length at ≡ length xs → IsStrictlyIncreasing at → All (λ n. n < 2 ^ 64) at → length (stamped_text at xs) ≤ bytes_within limit → IsTextWithin limit (stamped_text at xs) xs
+stamped_reads limit at xs k few same up small short =
     let ps = zip at xs in
     let fits = all_fit at xs small k.fit in
     let seconds : map (λ (p : Stamp). p.1) ps ≡ xs = seconds-zip at xs (sym same) in
@@ -214,7 +214,7 @@ stamped_reads at xs k same up small short =
       rw (stamped_rows ps fits) (inr (
         refl,
         record {
-          shapes = shapes_fine at xs same k.short up back;
+          shapes = shapes_fine limit at xs same few up back;
           sorted = stamped_in rows;
           order = record { same = IsPermutation-refl (stamped_in rows); rising = subst (λ (t : List ℕ). IsStrictlyIncreasing t) (sym stamps) up };
           fine = turns_fine (stamped_in rows) xs events k.history k.short;

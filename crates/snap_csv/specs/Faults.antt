@@ -5,7 +5,6 @@ use Rattle.snap_core.specs.declared.event.Event.{Event}
 use Rattle.snap_core.specs.declared.history.EventRefusal.{EventRefusal}
 use Rattle.snap_core.specs.declared.history.EventRefusal.TheVariants as refusals
 use Rattle.snap_core.specs.Refusals.{refusal_of}
-use Rattle.snap_core.specs.Events.{event_limit}
 use Rattle.snap_text.specs.declared.fault.TextFault.{TextFault}
 use Rattle.snap_text.specs.declared.fault.TextFault.TheVariants as faults
 use Rattle.snap_text.specs.Fields.{Fields, row_event}
@@ -35,22 +34,22 @@ fault_with before (Ok x) = option_and_then fault_of (refusal_of before x)
 
 -- the first fault of a record under the header, with the events before it: how many fields it has, whether the history is full,
 -- what the fields spell, and what the event is after those events
-unfoldable pub row_fault : List Event → Fields → Option TextFault
-row_fault before r =
+unfoldable pub row_fault : ℕ → List Event → Fields → Option TextFault
+row_fault limit before r =
     if not (length r == 4) then Some faults.Fields
-    else if nat_le event_limit (length before) then Some faults.TooMany
+    else if nat_le limit (length before) then Some faults.TooMany
     else fault_with before (row_event r)
 
 -- the same of the record at a place among those under the header
-abbrev pub fault_at : List Fields → ℕ → Option TextFault
-fault_at rows i = row_fault (events_in (take i rows)) (slice_index_or rows i [])
+abbrev pub fault_at : ℕ → List Fields → ℕ → Option TextFault
+fault_at limit rows i = row_fault limit (events_in (take i rows)) (slice_index_or rows i [])
 
 -- no record under the header has a fault
-abbrev pub NoFault : List Fields → Type 0
-NoFault rows = (i : ℕ) → i < length rows → fault_at rows i ≡ None
+abbrev pub NoFault : ℕ → List Fields → Type 0
+NoFault limit rows = (i : ℕ) → i < length rows → fault_at limit rows i ≡ None
 
 -- the first record with a fault, and its first fault
-pub record FirstFault (rows : List Fields) (i : ℕ) (f : TextFault) : Type 0 where
+pub record FirstFault (limit : ℕ) (rows : List Fields) (i : ℕ) (f : TextFault) : Type 0 where
   pub place : i < length rows
-  pub fault : fault_at rows i ≡ Some f
-  pub first : (j : ℕ) → j < i → fault_at rows j ≡ None
+  pub fault : fault_at limit rows i ≡ Some f
+  pub first : (j : ℕ) → j < i → fault_at limit rows j ≡ None

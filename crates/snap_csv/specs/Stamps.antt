@@ -4,7 +4,6 @@ use Rattle.std.specs.List.{list_any}
 use Rattle.std.specs.List.Sorted.{IsPermutation, IsStrictlyIncreasing}
 use Rattle.snap_core.specs.declared.event.Event.{Event}
 use Rattle.snap_core.specs.declared.event.Event.TheVariants.{BeginView}
-use Rattle.snap_core.specs.Events.{event_limit}
 use Rattle.snap_text.specs.declared.fault.TextFault.{TextFault}
 use Rattle.snap_text.specs.declared.fault.TextFault.TheVariants as faults
 use Rattle.snap_csv.specs.declared.stamped.Stamped.{Stamped}
@@ -48,15 +47,15 @@ repeat_fault earlier (Ok x) = if list_any (λ s. x.0 == s) earlier then Some fau
 
 -- the first fault of a record by itself, behind so many records with these stamps: how many fields it has, whether the history
 -- would be full, what the fields spell, and whether its stamp is new
-unfoldable pub shape_fault : ℕ → List ℕ → Fields → Option TextFault
-shape_fault count earlier r =
+unfoldable pub shape_fault : ℕ → ℕ → List ℕ → Fields → Option TextFault
+shape_fault limit count earlier r =
     if not (length r == 5) then Some faults.Fields
-    else if nat_le event_limit count then Some faults.TooMany
+    else if nat_le limit count then Some faults.TooMany
     else repeat_fault earlier (stamped_row r)
 
 -- the same of the record at a place among those under the header
-abbrev pub shape_at : List Fields → ℕ → Option TextFault
-shape_at rows i = shape_fault i (stamps_of (stamped_in (take i rows))) (slice_index_or rows i [])
+abbrev pub shape_at : ℕ → List Fields → ℕ → Option TextFault
+shape_at limit rows i = shape_fault limit i (stamps_of (stamped_in (take i rows))) (slice_index_or rows i [])
 
 -- stands where a place is no event's
 abbrev pub nothing : Stamped
@@ -82,27 +81,27 @@ pub record InOrder (rows : List Fields) (xs : List Stamped) : Type 0 where
   pub rising : IsStrictlyIncreasing (stamps_of xs)
 
 -- no record has a fault by itself, and no event has one behind those with smaller stamps
-pub record StampedRead (rows : List Fields) (events : List Event) : Type 0 where
-  pub shapes : NoneOf (shape_at rows) (length rows)
+pub record StampedRead (limit : ℕ) (rows : List Fields) (events : List Event) : Type 0 where
+  pub shapes : NoneOf (shape_at limit rows) (length rows)
   pub sorted : List Stamped
   pub order : InOrder rows sorted
   pub fine : NoneOf (order_at sorted) (length sorted)
   pub history : events ≡ events_of sorted
 
 -- the least record with a fault by itself
-pub record ShapeFault (rows : List Fields) (place : ℕ) (f : TextFault) : Type 0 where
+pub record ShapeFault (limit : ℕ) (rows : List Fields) (place : ℕ) (f : TextFault) : Type 0 where
   pub i : ℕ
   pub record_is : place ≡ i + 2
-  pub first : FirstOf (shape_at rows) (length rows) i f
+  pub first : FirstOf (shape_at limit rows) (length rows) i f
 
 -- no record has a fault by itself; the first event by stamps with a fault, by the number of its record
-pub record OrderFault (rows : List Fields) (place : ℕ) (f : TextFault) : Type 0 where
-  pub shapes : NoneOf (shape_at rows) (length rows)
+pub record OrderFault (limit : ℕ) (rows : List Fields) (place : ℕ) (f : TextFault) : Type 0 where
+  pub shapes : NoneOf (shape_at limit rows) (length rows)
   pub sorted : List Stamped
   pub order : InOrder rows sorted
   pub i : ℕ
   pub first : FirstOf (order_at sorted) (length sorted) i f
   pub record_is : place ≡ (slice_index_or sorted i nothing).place
 
-abbrev pub StampedFault : List Fields → ℕ → TextFault → Type 0
-StampedFault rows place f = ShapeFault rows place f ⊎ OrderFault rows place f
+abbrev pub StampedFault : ℕ → List Fields → ℕ → TextFault → Type 0
+StampedFault limit rows place f = ShapeFault limit rows place f ⊎ OrderFault limit rows place f

@@ -4,17 +4,18 @@ ghost use Rattle.std.specs.Io.KnownBytes.{ReadConsumes};
 ghost use Rattle.snap_core.specs.Counting.{counted, inner_of, failures_in};
 ghost use Rattle.snap_csv.specs.Answers.{Counts, TakesIn};
 ghost use Rattle.snap_csv.specs.Lines.{IsPlain};
-ghost use Rattle.snap_csv.specs.Texts.{byte_limit};
+ghost use Rattle.snap_core.specs.Events.{event_cap};
+ghost use Rattle.snap_csv.specs.Texts.{bytes_within};
 
 use crate::lines::is_plain;
 use crate::refusal::ReadRefusal;
-use snap_core::Counted;
+use snap_core::{Counted, Limit};
 use snap_text::TextFault;
 use std::alloc::{AllocError, Global};
 use std::io::{self, Read};
 
-/// How many bytes a text may have.
-pub const BYTE_LIMIT: usize = 67_108_864;
+/// How many bytes a text may have for each event that its history may have.
+const BYTES_EACH: usize = 1024;
 
 // For how many bytes a text makes room at a time.
 const PIECE: usize = 65_536;
@@ -25,9 +26,17 @@ pub struct Taken {
     pub plain: bool,
 }
 
+/// How many bytes a text may have.
+pub fn bytes_within(limit: Limit) -> usize
+    ensures bytes { result ≡ bytes_within limit.events }
+    ensures most { result ≤ bytes_within event_cap }
+{
+    limit.events() * BYTES_EACH
+}
+
 // Makes room for a piece, where a text has no room left behind the bytes that are filled.
 fn make_room(text: &mut Vec<u8>, filled: usize) -> Result<(), AllocError>
-    requires within { filled ≤ byte_limit }
+    requires within { filled ≤ bytes_within event_cap }
     requires has { filled ≤ length text.old.items }
     ensures kept { OnOk result (take filled text.new.items ≡ take filled text.old.items) }
     ensures room { OnOk result (filled < length text.new.items) }
@@ -56,11 +65,16 @@ fn read_behind<R: Read>(
 
 /// All that a reader has left, where that is within the limit. Each piece is searched for quotes and carriage returns when it
 /// was just read, so that the text is not gone through again for these.
-pub fn take_in<R: Read>(alloc: Global, reader: &mut Counted<R>) -> Result<Taken, ReadRefusal>
-    ensures text { TakesIn (R.remaining (inner_of reader.old)) result }
+pub fn take_in<R: Read>(
+    alloc: Global,
+    reader: &mut Counted<R>,
+    limit: Limit,
+) -> Result<Taken, ReadRefusal>
+    ensures text { TakesIn limit.events (R.remaining (inner_of reader.old)) result }
     ensures plain { IfOk result (λ taken. IsTrue taken.plain ↔ All IsPlain taken.text.items) }
     ensures counts { Counts (failures_in reader.old) (failures_in reader.new) result }
 {
+    let most = bytes_within(limit);
     let mut text = Vec::new(alloc);
     let mut filled = 0;
     let mut plain = true;
@@ -70,7 +84,7 @@ pub fn take_in<R: Read>(alloc: Global, reader: &mut Counted<R>) -> Result<Taken,
         match read_behind(reader, &mut text, filled) {
             Err(_) => return Err(ReadRefusal::Device),
             Ok(n) => {
-                if n > BYTE_LIMIT - filled {
+                if n > most - filled {
                     return Err(ReadRefusal::Text {
                         place: 0,
                         fault: TextFault::TooLong,

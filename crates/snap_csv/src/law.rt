@@ -1,31 +1,31 @@
 ghost use Rattle.snap_csv.specs.Laws.{HeadersDiffer, NarrowTextsAreShort, RecordsSpellEvents, StampedTextsReadBack, TextsAreShort, TextsHaveNoFault, TextsHaveOneFault, TextsHaveOneReading, TextsReadBack};
 
-/// The text of a history has no fault and is that of this history, within the limit of bytes.
+/// The text of a history has no fault and is that of this history, within every limit of events and its limit of bytes.
 pub fn texts_read_back()
     ensures { TextsReadBack }
 {}
 
-/// No text is one of a history and has a fault.
+/// Within no limit is a text one of a history and has a fault.
 pub fn texts_have_no_fault()
     ensures { TextsHaveNoFault }
 {}
 
-/// The text of every history of at most 16,384 events is within the limit of bytes.
+/// The text of every history of at most a quarter of the events of a limit is within its limit of bytes.
 pub fn texts_are_short()
     ensures { TextsAreShort }
 {}
 
-/// The text of every history whose views list at most 36 entries each is within the limit of bytes.
+/// The text of every history within a limit whose views list at most 36 entries each is within its limit of bytes.
 pub fn narrow_texts_are_short()
     ensures { NarrowTextsAreShort }
 {}
 
-/// A text is one of at most one history.
+/// Within a limit a text is one of at most one history.
 pub fn texts_have_one_reading()
     ensures { TextsHaveOneReading }
 {}
 
-/// A text has at most one first fault.
+/// Within a limit a text has at most one first fault.
 pub fn texts_have_one_fault()
     ensures { TextsHaveOneFault }
 {}
@@ -35,7 +35,8 @@ pub fn headers_differ()
     ensures { HeadersDiffer }
 {}
 
-/// The text of a history with strictly rising stamps has no fault and is that of this history, within the limit of bytes.
+/// The text of a history with strictly rising stamps has no fault and is that of this history, within every limit of events and
+/// its limit of bytes.
 pub fn stamped_texts_read_back()
     ensures { StampedTextsReadBack }
 {}

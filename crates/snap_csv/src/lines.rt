@@ -7,10 +7,10 @@ ghost use Rattle.snap_csv.specs.Lines.{EndsField, FieldGoesOn, FieldIsLast, Four
 ghost use Rattle.snap_text.specs.Fields.{Fields};
 ghost use Rattle.snap_csv.specs.Rows.{rows_of};
 
-use crate::read::{ROW_LIMIT, take_fields};
+use crate::read::{row_limit, take_fields};
 use crate::refusal::ReadRefusal;
 use memchr::memchr2;
-use snap_core::History;
+use snap_core::{History, Limit};
 use snap_text::{Known, TextFault};
 use std::alloc::Global;
 
@@ -127,13 +127,14 @@ fn behind_newlines(text: &[u8]) -> &[u8]
 pub fn lines_history(
     alloc: Global,
     lines: &[u8],
+    limit: Limit,
 ) -> Result<(History, Option<Vec<u32>>), ReadRefusal>
-    ensures { (later : List Fields) → HasRows lines.now later → AnswersNumbered (header ∷ later) result }
+    ensures { (later : List Fields) → HasRows lines.now later → AnswersNumbered limit.events (header ∷ later) result }
 {
     let mut known = Known::new(alloc);
     let mut history = History::new(alloc);
     let mut left = lines;
-    for i in 0..ROW_LIMIT {
+    for i in 0..row_limit(limit) {
         let line = behind_newlines(left);
         if line.is_empty() {
             return Ok((history, None));
@@ -144,9 +145,8 @@ pub fn lines_history(
                 fault: TextFault::Fields,
             });
         };
-        take_fields(alloc, &mut known, &mut history, i + 2, fields)?;
+        take_fields(alloc, &mut known, &mut history, limit, i + 2, fields)?;
         left = rest;
     }
-    let _len = history.len();
     unreachable!()
 }

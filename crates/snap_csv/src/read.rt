@@ -1,25 +1,31 @@
-ghost use Rattle.std.specs.Prelude.{◌≡◌, ◌∷◌, [], All, IfSome, IsTrue};
+ghost use Rattle.std.specs.Prelude.{◌≡◌, ◌≤◌, ◌+◌, ◌∷◌, [], All, IfSome, IsTrue};
 ghost use Rattle.snap_core.specs.Counting.{inner_of, failures_in};
-ghost use Rattle.snap_csv.specs.Answers.{AnswersNumbered, AnswersRows, AnswersText, AnswersWhole, Counts, Leaves, TakesEvent, TakesRow};
+ghost use Rattle.snap_core.specs.Events.{event_cap};
+ghost use Rattle.snap_csv.specs.Answers.{AnswersNumbered, AnswersRows, AnswersText, AnswersTextWithin, AnswersWhole, AnswersWholeWithin, Counts, Leaves, TakesEvent, TakesRow};
 ghost use Rattle.snap_csv.specs.Faults.{fault_of};
 ghost use Rattle.snap_csv.specs.Lines.{IsPlain};
 ghost use Rattle.snap_csv.specs.Rows.{rows_of};
 ghost use Rattle.csv.specs.Records.{fields_of};
 
 use crate::fields::{event_of_record, four_fields, is_header, is_stamped_header};
-use crate::intake::{BYTE_LIMIT, Taken, take_in};
+use crate::intake::{Taken, bytes_within, take_in};
 use crate::lines::{is_plain, lines_history, lines_under_header};
 use crate::refusal::ReadRefusal;
 use crate::rows::{next_row, reader_of};
 use crate::stamped::stamped_history;
 use csv::ByteRecord;
-use snap_core::{Counted, EVENT_LIMIT, Event, EventRefusal, History};
+use snap_core::{Counted, Event, EventRefusal, History, Limit};
 use snap_text::{Known, TextFault};
 use std::alloc::Global;
 use std::io::Read;
 
-// One record more than a history has events: that one has a fault.
-pub const ROW_LIMIT: u32 = EVENT_LIMIT as u32 + 1;
+/// One record more than a history may have events: that one has a fault.
+pub fn row_limit(limit: Limit) -> u32
+    ensures rows { result ≡ limit.events + 1 }
+    ensures most { result ≤ event_cap + 1 }
+{
+    limit.events() as u32 + 1
+}
 
 // The fault that a refusal of a history stands for; memory aside.
 fn fault_for(refusal: EventRefusal) -> Option<TextFault>
@@ -41,10 +47,11 @@ fn take_row(
     alloc: Global,
     known: &mut Known,
     history: &mut History,
+    limit: Limit,
     place: u32,
     row: &ByteRecord,
 ) -> Result<(), ReadRefusal>
-    ensures { TakesRow place history.old history.new (fields_of row.now) result }
+    ensures { TakesRow limit.events place history.old history.new (fields_of row.now) result }
 {
     let Some(fields) = four_fields(row) else {
         return Err(ReadRefusal::Text {
@@ -52,7 +59,7 @@ fn take_row(
             fault: TextFault::Fields,
         });
     };
-    take_fields(alloc, known, history, place, fields)
+    take_fields(alloc, known, history, limit, place, fields)
 }
 
 /// Adds the event of a record to a history, by the record's four fields.
@@ -60,12 +67,13 @@ pub fn take_fields(
     alloc: Global,
     known: &mut Known,
     history: &mut History,
+    limit: Limit,
     place: u32,
     fields: (&[u8], &[u8], &[u8], &[u8]),
 ) -> Result<(), ReadRefusal>
-    ensures { TakesRow place history.old history.new (fields.entry.0.now ∷ fields.entry.1.now ∷ fields.entry.2.now ∷ fields.entry.3.now ∷ []) result }
+    ensures { TakesRow limit.events place history.old history.new (fields.entry.0.now ∷ fields.entry.1.now ∷ fields.entry.2.now ∷ fields.entry.3.now ∷ []) result }
 {
-    if history.len() >= EVENT_LIMIT {
+    if history.len() >= limit.events() {
         return Err(ReadRefusal::Text {
             place,
             fault: TextFault::TooMany,
@@ -96,19 +104,24 @@ pub fn numbered_history(
     alloc: Global,
     text: &[u8],
     plain: bool,
+    limit: Limit,
 ) -> Result<(History, Option<Vec<u32>>), ReadRefusal>
     requires { IsTrue plain → All IsPlain text.now }
-    ensures { AnswersNumbered (rows_of text.now) result }
+    ensures { AnswersNumbered limit.events (rows_of text.now) result }
 {
     match lines_under_header(text, plain) {
-        Some(lines) => lines_history(alloc, lines),
-        None => rows_history(alloc, text),
+        Some(lines) => lines_history(alloc, lines, limit),
+        None => rows_history(alloc, text, limit),
     }
 }
 
 // The same of any text, by `csv`.
-fn rows_history(alloc: Global, text: &[u8]) -> Result<(History, Option<Vec<u32>>), ReadRefusal>
-    ensures { AnswersNumbered (rows_of text.now) result }
+fn rows_history(
+    alloc: Global,
+    text: &[u8],
+    limit: Limit,
+) -> Result<(History, Option<Vec<u32>>), ReadRefusal>
+    ensures { AnswersNumbered limit.events (rows_of text.now) result }
 {
     let mut reader = reader_of(alloc, text);
     let mut row = ByteRecord::new(alloc);
@@ -120,7 +133,7 @@ fn rows_history(alloc: Global, text: &[u8]) -> Result<(History, Option<Vec<u32>>
     }
     if !is_header(&row) {
         if is_stamped_header(&row) {
-            let (history, records) = stamped_history(alloc, &mut reader, &mut row)?;
+            let (history, records) = stamped_history(alloc, &mut reader, &mut row, limit)?;
             return Ok((history, Some(records)));
         }
         return Err(ReadRefusal::Text {
@@ -130,22 +143,21 @@ fn rows_history(alloc: Global, text: &[u8]) -> Result<(History, Option<Vec<u32>>
     }
     let mut known = Known::new(alloc);
     let mut history = History::new(alloc);
-    for i in 0..ROW_LIMIT {
+    for i in 0..row_limit(limit) {
         if !next_row(&mut reader, &mut row)? {
             return Ok((history, None));
         }
-        take_row(alloc, &mut known, &mut history, i + 2, &row)?;
+        take_row(alloc, &mut known, &mut history, limit, i + 2, &row)?;
     }
-    let _len = history.len();
     unreachable!()
 }
 
 // The history of a text, or its first fault.
-fn history_of(alloc: Global, text: &[u8], plain: bool) -> Result<History, ReadRefusal>
+fn history_of(alloc: Global, text: &[u8], plain: bool, limit: Limit) -> Result<History, ReadRefusal>
     requires { IsTrue plain → All IsPlain text.now }
-    ensures { AnswersRows (rows_of text.now) result }
+    ensures { AnswersRows limit.events (rows_of text.now) result }
 {
-    let (history, _) = numbered_history(alloc, text, plain)?;
+    let (history, _) = numbered_history(alloc, text, plain, limit)?;
     Ok(history)
 }
 
@@ -174,20 +186,41 @@ pub fn read_history_in<R: Read>(
     ensures counts { Counts (failures_in reader.old) (failures_in reader.new) result }
     ensures room { IfSome (R.remaining (inner_of reader.old)) (λ text. Leaves text room.new.items result) }
 {
-    let Taken { text, plain } = take_in(alloc, reader)?;
+    read_history_within(alloc, reader, room, Limit::usual())
+}
+
+/// As `read_history_in`, where the history may have so many events, and the text 1,024 times as many bytes.
+pub fn read_history_within<R: Read>(
+    alloc: Global,
+    reader: &mut Counted<R>,
+    room: &mut Vec<u8>,
+    limit: Limit,
+) -> Result<History, ReadRefusal>
+    ensures text { IfSome (R.remaining (inner_of reader.old)) (λ text. AnswersTextWithin limit.events text result) }
+    ensures counts { Counts (failures_in reader.old) (failures_in reader.new) result }
+    ensures room { IfSome (R.remaining (inner_of reader.old)) (λ text. Leaves text room.new.items result) }
+{
+    let Taken { text, plain } = take_in(alloc, reader, limit)?;
     *room = text;
-    history_of(alloc, room, plain)
+    history_of(alloc, room, plain, limit)
 }
 
 /// Reads the history of a text in memory, as `read_history` does of a reader: the text is not copied, and no device can fail.
 pub fn read_text(alloc: Global, text: &[u8]) -> Result<History, ReadRefusal>
     ensures { AnswersWhole text.now result }
 {
-    if text.len() > BYTE_LIMIT {
+    read_text_within(alloc, text, Limit::usual())
+}
+
+/// As `read_text`, where the history may have so many events, and the text 1,024 times as many bytes.
+pub fn read_text_within(alloc: Global, text: &[u8], limit: Limit) -> Result<History, ReadRefusal>
+    ensures { AnswersWholeWithin limit.events text.now result }
+{
+    if text.len() > bytes_within(limit) {
         return Err(ReadRefusal::Text {
             place: 0,
             fault: TextFault::TooLong,
         });
     }
-    history_of(alloc, text, is_plain(text))
+    history_of(alloc, text, is_plain(text), limit)
 }

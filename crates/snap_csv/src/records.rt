@@ -2,8 +2,8 @@ ghost use Rattle.std.specs.Prelude.{◌≡◌, ◌≤◌, IfOk, IfSome, length, 
 ghost use Rattle.std.specs.List.{range_with_len};
 ghost use Rattle.csv.specs.Records.{fields_of};
 ghost use Rattle.snap_core.specs.Counting.{inner_of, failures_in};
-ghost use Rattle.snap_core.specs.Events.{event_limit};
-ghost use Rattle.snap_csv.specs.Answers.{AnswersRecords, Counts, Leaves};
+ghost use Rattle.snap_core.specs.Events.{event_cap};
+ghost use Rattle.snap_csv.specs.Answers.{AnswersRecords, AnswersRecordsWithin, Counts, Leaves};
 ghost use Rattle.snap_csv.specs.Records.{record_at};
 ghost use Rattle.snap_csv.specs.Rows.{rows_of};
 
@@ -12,13 +12,13 @@ use crate::read::numbered_history;
 use crate::refusal::ReadRefusal;
 use crate::rows::{next_row, reader_of};
 use csv::ByteRecord;
-use snap_core::{Counted, History};
+use snap_core::{Counted, History, Limit};
 use std::alloc::{AllocError, Global};
 use std::io::Read;
 
 // The numbers of so many records one after the other under the header.
 fn in_turn(alloc: Global, count: usize) -> Result<Vec<u32>, AllocError>
-    requires { count ≤ event_limit }
+    requires { count ≤ event_cap }
     ensures { IfOk result (λ numbers. numbers.items ≡ range_with_len 2 count) }
 {
     (2..count as u32 + 2).collect(alloc)
@@ -36,9 +36,24 @@ pub fn read_records<R: Read>(
     ensures counts { Counts (failures_in reader.old) (failures_in reader.new) result }
     ensures room { IfSome (R.remaining (inner_of reader.old)) (λ text. Leaves text room.new.items result) }
 {
-    let Taken { text, plain } = take_in(alloc, reader)?;
+    read_records_within(alloc, reader, room, Limit::usual())
+}
+
+/// As `read_records`, where the history may have so many events, and the text 1,024 times as many bytes.
+pub fn read_records_within<R: Read>(
+    alloc: Global,
+    reader: &mut Counted<R>,
+    room: &mut Vec<u8>,
+    limit: Limit,
+) -> Result<(History, Vec<u32>), ReadRefusal>
+    ensures text { IfSome (R.remaining (inner_of reader.old)) (λ text. AnswersRecordsWithin limit.events text result) }
+    ensures each { IfOk result (λ x. length x.1.items ≡ length x.0) }
+    ensures counts { Counts (failures_in reader.old) (failures_in reader.new) result }
+    ensures room { IfSome (R.remaining (inner_of reader.old)) (λ text. Leaves text room.new.items result) }
+{
+    let Taken { text, plain } = take_in(alloc, reader, limit)?;
     *room = text;
-    let (history, kept) = numbered_history(alloc, room, plain)?;
+    let (history, kept) = numbered_history(alloc, room, plain, limit)?;
     let records = match kept {
         Some(numbers) => numbers,
         None => in_turn(alloc, history.len())?,

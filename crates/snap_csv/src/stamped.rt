@@ -8,11 +8,11 @@ ghost use Rattle.snap_csv.specs.Rows.{Stands};
 ghost use Rattle.snap_csv.specs.Stamps.{places_of, stamps_of};
 
 use crate::fields::{event_of_record, five_fields};
-use crate::read::{ROW_LIMIT, push_event};
+use crate::read::{push_event, row_limit};
 use crate::refusal::ReadRefusal;
 use crate::rows::next_row;
 use csv::{ByteRecord, Reader};
-use snap_core::{EVENT_LIMIT, Event, History};
+use snap_core::{Event, History, Limit};
 use snap_text::{Known, TextFault, stamp_of};
 use std::alloc::{AllocError, Global};
 use std::collections::BTreeSet;
@@ -31,11 +31,12 @@ fn take_stamped(
     known: &mut Known,
     seen: &mut BTreeSet<u64>,
     stamped: &mut Vec<Stamped>,
+    limit: Limit,
     place: u32,
     row: &ByteRecord,
 ) -> Result<(), ReadRefusal>
     requires { HasSeen seen.old stamped.old.items }
-    ensures row { TakesStamped place stamped.old.items stamped.new.items (fields_of row.now) result }
+    ensures row { TakesStamped limit.events place stamped.old.items stamped.new.items (fields_of row.now) result }
     ensures seen { OnOk result (HasSeen seen.new stamped.new.items) }
 {
     let Some((at, event, process, op, entries)) = five_fields(row) else {
@@ -44,7 +45,7 @@ fn take_stamped(
             fault: TextFault::Fields,
         });
     };
-    if stamped.len() >= EVENT_LIMIT {
+    if stamped.len() >= limit.events() {
         return Err(ReadRefusal::Text {
             place,
             fault: TextFault::TooMany,
@@ -72,20 +73,28 @@ fn read_stamped(
     alloc: Global,
     reader: &mut Reader<&[u8]>,
     row: &mut ByteRecord,
+    limit: Limit,
 ) -> Result<Vec<Stamped>, ReadRefusal>
-    ensures reads { (rows : List Fields) → Stands reader.old rows → ReadsStamped rows result }
+    ensures reads { (rows : List Fields) → Stands reader.old rows → ReadsStamped limit.events rows result }
     ensures distinct { IfOk result (λ stamped. IsDistinct (λ (a : ℕ) (b : ℕ). a == b) (stamps_of stamped.items)) }
 {
     let mut known = Known::new(alloc);
     let mut seen = BTreeSet::new(alloc);
     let mut stamped = Vec::new(alloc);
-    for i in 0..ROW_LIMIT {
+    for i in 0..row_limit(limit) {
         if !next_row(reader, row)? {
             return Ok(stamped);
         }
-        take_stamped(alloc, &mut known, &mut seen, &mut stamped, i + 2, row)?;
+        take_stamped(
+            alloc,
+            &mut known,
+            &mut seen,
+            &mut stamped,
+            limit,
+            i + 2,
+            row,
+        )?;
     }
-    let _len = stamped.len();
     unreachable!()
 }
 
@@ -130,10 +139,11 @@ pub fn stamped_history(
     alloc: Global,
     reader: &mut Reader<&[u8]>,
     row: &mut ByteRecord,
+    limit: Limit,
 ) -> Result<(History, Vec<u32>), ReadRefusal>
-    ensures { (rows : List Fields) → Stands reader.old rows → AnswersStamps rows result }
+    ensures { (rows : List Fields) → Stands reader.old rows → AnswersStamps limit.events rows result }
 {
-    let mut stamped = read_stamped(alloc, reader, row)?;
+    let mut stamped = read_stamped(alloc, reader, row, limit)?;
     sort_by_stamp(&mut stamped);
     let places = places_in(alloc, &stamped)?;
     Ok((take_turns(alloc, stamped)?, places))

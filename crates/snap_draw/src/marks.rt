@@ -2,7 +2,7 @@
 ghost use Rattle.std.specs.Prelude.{◌≡◌, ◌≤◌, ◌++◌, [], IfOk, OnOk};
 ghost use Rattle.std.specs.Option.{ForSome, option_map_or};
 ghost use Rattle.snap_core.specs.Calls.{calls_of, views_of};
-ghost use Rattle.snap_core.specs.Events.{event_limit};
+ghost use Rattle.snap_core.specs.Events.{event_cap};
 ghost use Rattle.snap_conditions.specs.Tally.{tally_of};
 ghost use Rattle.snap_draw.specs.Marks.{integrity_marks, mark_at, marks_of, proximity_marks, read_marks, write_marks};
 
@@ -57,7 +57,7 @@ fn mark_proximity(
     index: &Index<'_>,
     first: Option<ProximityFault>,
 ) -> Result<(), AllocError>
-    requires { ForSome first (λ f. f.number ≤ event_limit) }
+    requires { ForSome first (λ f. f.number ≤ event_cap) }
     ensures { OnOk result (marks.new.items ≡ marks.old.items ++ option_map_or (proximity_marks (calls_of index.now)) first []) }
 {
     let Some(fault) = first else {

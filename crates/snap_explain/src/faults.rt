@@ -2,7 +2,7 @@
 ghost use Rattle.std.specs.Prelude.{◌≡◌, ◌≤◌, ◌++◌, ℕ, List, [], OnOk, length};
 ghost use Rattle.std.specs.Option.{ForSome, option_map_or};
 ghost use Rattle.snap_core.specs.Calls.{Call, call_numbered, calls_of, views_of};
-ghost use Rattle.snap_core.specs.Events.{event_limit};
+ghost use Rattle.snap_core.specs.Events.{event_cap};
 ghost use Rattle.snap_conditions.specs.Tally.{tally_of};
 ghost use Rattle.snap_witness.specs.Places.{IsViewAt, side_number as spec_side_number};
 ghost use Rattle.snap_explain.specs.Faults.{against_text, faults_text, integrity_text, proximity_text, read_text, side_text, write_sentence, write_text};
@@ -60,7 +60,7 @@ fn put_side(out: &mut Vec<u8>, fault: &ProximityFault, update: u32) -> Result<()
 impl Explained for ProximityFault {
     ghost text = { proximity_text };
 
-    ghost is_named = { λ calls f. IsViewAt calls f.view × (f.number ≤ event_limit) };
+    ghost is_named = { λ calls f. IsViewAt calls f.view × (f.number ≤ event_cap) };
 
     fn put(&self, out: &mut Vec<u8>, index: &Index<'_>, records: &[u32]) -> Result<(), AllocError> {
         let update = side_number(self.side, self.number);

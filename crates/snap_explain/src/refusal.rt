@@ -1,16 +1,17 @@
 //! Why a text is no history.
-ghost use Rattle.std.specs.Prelude.{◌≡◌, ◌++◌, IfOk, OnOk, map};
+ghost use Rattle.std.specs.Prelude.{◌≡◌, ◌++◌, IfOk, OnOk, decimal, map};
 ghost use Rattle.std.specs.List.{flat_map};
 ghost use Rattle.snap_csv.specs.Records.{record_at};
 ghost use Rattle.snap_csv.specs.Rows.{rows_of};
-ghost use Rattle.snap_explain.specs.Refusals.{IsRefusalExplanation, quoted, record_text, rule_of as spec_rule_of};
+ghost use Rattle.snap_explain.specs.Refusals.{IsRefusalExplanation, limit_of, quoted, record_text, rule_of as spec_rule_of};
 
-use snap_csv::record_of;
+use snap_core::Limit;
+use snap_csv::{bytes_within, record_of};
 use snap_report::{put_number, refusal_text};
 use snap_text::TextFault;
 use std::alloc::{AllocError, Global};
 
-// The rule that a fault breaks, with a newline.
+// The rule that a fault breaks, with a newline; where that is a limit, the words before its number.
 fn rule_of(fault: TextFault) -> &'static str
     ensures { result.now ≡ spec_rule_of fault }
 {
@@ -19,7 +20,7 @@ fn rule_of(fault: TextFault) -> &'static str
             "the first record is event,process,op,data, or at,event,process,op,data where records have stamps\n"
         }
         TextFault::Fields => "a record has four fields, or five where records have stamps\n",
-        TextFault::TooMany => "a history has at most 65536 events\n",
+        TextFault::TooMany => "a history has at most ",
         TextFault::BadEvent => "the field event is begin or end\n",
         TextFault::BadProcess => {
             "the field process is a number from 0 to 65535, without a sign or leading zeros\n"
@@ -36,11 +37,30 @@ fn rule_of(fault: TextFault) -> &'static str
         TextFault::Number => {
             "an update has the next number of its component, which is one more than the updates of it that began before\n"
         }
-        TextFault::TooLong => "a text has at most 67108864 bytes\n",
+        TextFault::TooLong => "a text has at most ",
         TextFault::BadAt => {
             "the field at is a number from 0 to 18446744073709551615, without a sign or leading zeros\n"
         }
         TextFault::Repeated => "no two records have the same stamp\n",
+    }
+}
+
+// Adds a number, and the words behind it.
+fn put_most(out: &mut Vec<u8>, number: usize, words: &[u8]) -> Result<(), AllocError>
+    ensures { OnOk result (out.new.items ≡ out.old.items ++ (decimal number ++ words.now)) }
+{
+    put_number(out, b"", number as u64)?;
+    out.extend_from_slice(words)
+}
+
+// Adds the number of the limit that a fault breaks, and the words behind it; nothing where the rule is no limit.
+fn put_limit(out: &mut Vec<u8>, fault: TextFault, limit: Limit) -> Result<(), AllocError>
+    ensures { OnOk result (out.new.items ≡ out.old.items ++ limit_of limit.events fault) }
+{
+    match fault {
+        TextFault::TooMany => put_most(out, limit.events(), b" events\n"),
+        TextFault::TooLong => put_most(out, bytes_within(limit), b" bytes\n"),
+        _ => Ok(()),
     }
 }
 
@@ -69,7 +89,7 @@ fn put_record(out: &mut Vec<u8>, text: &[u8], place: u32) -> Result<(), AllocErr
     out.extend_from_slice(b"\n")
 }
 
-/// Why a text is no history, by its first fault and the place of that: the line of its report, the rule that is broken, in a
+/// Why a text is no history of at most so many events, by its first fault and the place of that: the line of its report, the rule that is broken, in a
 /// sentence, and the fields of the record at that place, each as it stands in the text, in quotes behind a space. In place of
 /// the fields a line says that no record has that number, as for the text as a whole, which is place 0.
 pub fn explain_refusal(
@@ -77,11 +97,13 @@ pub fn explain_refusal(
     text: &[u8],
     place: u32,
     fault: TextFault,
+    limit: Limit,
 ) -> Result<Vec<u8>, AllocError>
-    ensures { IfOk result (λ explained. IsRefusalExplanation text.now place fault explained.items) }
+    ensures { IfOk result (λ explained. IsRefusalExplanation limit.events text.now place fault explained.items) }
 {
     let mut out = refusal_text(alloc, place, fault)?;
     out.extend_from_slice(rule_of(fault).as_bytes())?;
+    put_limit(&mut out, fault, limit)?;
     put_record(&mut out, text, place)?;
     Ok(out)
 }

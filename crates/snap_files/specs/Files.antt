@@ -38,9 +38,9 @@ abbrev pub IsTroubled : Opens → List ℕ → Trouble → Type 0
 IsTroubled opens name trouble = opens name (Err trouble) ⊎ ((known : Option (List ℕ)) × opens name (Ok known) × ((trouble ≡ Unread) ⊎ (trouble ≡ Memory)))
 
 -- the object of a text has a status in each case
-abbrev pub IsObject : ℕ → List ℕ → List ℕ → Option Status → List ℕ → Type 0
-IsObject least name text (Some status) out = IsTold name least text status out
-IsObject least name text None out = ⊥
+abbrev pub IsObject : CheckOptions → List ℕ → List ℕ → Option Status → List ℕ → Type 0
+IsObject options name text (Some status) out = IsTold options.limit.events name options.views text status out
+IsObject options name text None out = ⊥
 
 -- a name in an object, which is Unicode: U+FFFD stands for each sequence of bytes that is not UTF-8
 abbrev pub object_name : List ℕ → List ℕ
@@ -49,7 +49,7 @@ object_name name = utf8_lossy name
 -- what is answered and written of a text that was opened: its named report, or its object alone
 abbrev pub IsTextPage : Format → CheckOptions → List ℕ → List ℕ → Option Status → List ℕ → Type 0
 IsTextPage Plain options name text status out = IsNamedReport options name text status out
-IsTextPage Json options name text status out = IsObject options.views (object_name name) text status out
+IsTextPage Json options name text status out = IsObject options (object_name name) text status out
 
 -- the exit status of a name
 abbrev pub answer_code : Answer → ℕ

@@ -3,6 +3,7 @@ use Rattle.std.specs.Prelude.{◌≡◌, ◌==◌, ◌++◌, ◌⊎◌, ℕ, Boo
 use Rattle.std.specs.Global.{Vec}
 use Rattle.std.specs.Io.KnownBytes.{Appends}
 use Rattle.snap_core.specs.Sending.{SendsFront}
+use Rattle.snap_core.specs.declared.limit.Limit.{Limit}
 use Rattle.snap_files.specs.Names.{shown}
 use Rattle.snap_files.specs.Files.{ArePages, Opens, Page, Told, answer_code, greatest_code, said}
 use Rattle.snap_files.specs.declared.format.FileOptions.{FileOptions}
@@ -66,23 +67,23 @@ pub record AreSums (files : List Judged) (sums : Sums) : Type 0 where
   pub failed : IsKind 4 files sums.failed
 
 -- what is asked of each text of which only the status is counted
-abbrev pub counting : ℕ → FileOptions
-counting views = record { format = Plain; check = record { quiet = true; views = views } }
+abbrev pub counting : Limit → ℕ → FileOptions
+counting limit views = record { format = Plain; check = record { quiet = true; views = views; limit = limit } }
 
 -- the names were all judged: the greatest status, the sums that were written, and what was said
-pub record SumsAll (opens : Opens) (views : ℕ) (names : List (Vec ℕ)) (old new : Option (List ℕ)) (told_old told_new : Option (List ℕ)) (failures_old failures_new : ℕ) (code : ℕ) : Type 0 where
+pub record SumsAll (opens : Opens) (limit : Limit) (views : ℕ) (names : List (Vec ℕ)) (old new : Option (List ℕ)) (told_old told_new : Option (List ℕ)) (failures_old failures_new : ℕ) (code : ℕ) : Type 0 where
   pub pages : List Page
-  pub each : ArePages opens (counting views) names pages
+  pub each : ArePages opens (counting limit views) names pages
   pub greatest : code ≡ greatest_code pages
   pub wrote : Appends old new (sums_text (judged_of pages))
-  pub told : Told told_old told_new failures_old failures_new (said (counting views) pages)
+  pub told : Told told_old told_new failures_old failures_new (said (counting limit views) pages)
 
 -- a front of the sums went out, once all names were judged
-pub record SumsCut (opens : Opens) (views : ℕ) (names : List (Vec ℕ)) (old new : Option (List ℕ)) : Type 0 where
+pub record SumsCut (opens : Opens) (limit : Limit) (views : ℕ) (names : List (Vec ℕ)) (old new : Option (List ℕ)) : Type 0 where
   pub pages : List Page
-  pub each : ArePages opens (counting views) names pages
+  pub each : ArePages opens (counting limit views) names pages
   pub wrote : SendsFront old new (sums_text (judged_of pages))
 
 -- nothing was written, or a front of the sums
-abbrev pub SumsSome : Opens → ℕ → List (Vec ℕ) → Option (List ℕ) → Option (List ℕ) → Type 0
-SumsSome opens views names old new = Appends old new [] ⊎ SumsCut opens views names old new
+abbrev pub SumsSome : Opens → Limit → ℕ → List (Vec ℕ) → Option (List ℕ) → Option (List ℕ) → Type 0
+SumsSome opens limit views names old new = Appends old new [] ⊎ SumsCut opens limit views names old new

@@ -84,9 +84,9 @@ fn object<Rt: Threads + Sync, R: Read + Drop, G: Gate>(
     text: R,
     cutting: Cutting,
     gate: &G,
-    least: u32,
+    options: CheckOptions,
 ) -> Result<(Option<Status>, Vec<u8>), RunFault>
-    ensures { IfOk result (λ page. IfSome (R.remaining text) (λ bytes. IsObject least name.now bytes page.0 page.1.items)) }
+    ensures { IfOk result (λ page. IfSome (R.remaining text) (λ bytes. IsObject options name.now bytes page.0 page.1.items)) }
 {
     let mut reader = Counted::new(text);
     let mut writer = Counted::new(Vec::new(alloc));
@@ -98,7 +98,8 @@ fn object<Rt: Threads + Sync, R: Read + Drop, G: Gate>(
         &mut writer,
         cutting,
         gate,
-        least,
+        options.views,
+        options.limit,
     )?;
     Ok((Some(status), writer.into_inner()))
 }
@@ -118,12 +119,12 @@ fn shown_object<Rt: Threads + Sync, R: Read + Drop, G: Gate>(
     text: R,
     cutting: Cutting,
     gate: &G,
-    least: u32,
+    options: CheckOptions,
 ) -> Result<(Option<Status>, Vec<u8>), RunFault>
-    ensures { IfOk result (λ page. IfSome (R.remaining text) (λ bytes. IsObject least (object_name name.now) bytes page.0 page.1.items)) }
+    ensures { IfOk result (λ page. IfSome (R.remaining text) (λ bytes. IsObject options (object_name name.now) bytes page.0 page.1.items)) }
 {
     let shown = object_name(alloc, name)?;
-    object(rt, alloc, &shown, text, cutting, gate, least)
+    object(rt, alloc, &shown, text, cutting, gate, options)
 }
 
 // The status of a text and what is written of it, in the format that is asked for.
@@ -140,7 +141,7 @@ fn text_page<Rt: Threads + Sync, R: Read + Drop, G: Gate>(
 {
     match options.format {
         Format::Plain => named_report(rt, alloc, name, text, cutting, gate, options.check),
-        Format::Json => shown_object(rt, alloc, name, text, cutting, gate, options.check.views),
+        Format::Json => shown_object(rt, alloc, name, text, cutting, gate, options.check),
     }
 }
 

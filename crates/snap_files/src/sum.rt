@@ -11,19 +11,23 @@ use crate::page::{Answer, code_of, told_of};
 use crate::round::{pages_of, round_at};
 use crate::sums::Sums;
 use snap_check::{CheckOptions, RunFault};
-use snap_core::{Counted, Gate};
+use snap_core::{Counted, Gate, Limit};
 use snap_threads::Cutting;
 use std::alloc::{AllocError, Global};
 use std::io::Write;
 use std::thread::Threads;
 
 // What is asked of each text: its report is dropped, so it is a short one.
-fn options_of(views: u32) -> FileOptions
-    ensures { result ≡ counting views }
+fn options_of(limit: Limit, views: u32) -> FileOptions
+    ensures { result ≡ counting limit views }
 {
     FileOptions {
         format: Format::Plain,
-        check: CheckOptions { quiet: true, views },
+        check: CheckOptions {
+            quiet: true,
+            views,
+            limit,
+        },
     }
 }
 
@@ -54,7 +58,7 @@ fn count_round<E: Write>(
 
 /// Checks the texts of some names as `check_all` does, and writes no report: once all are judged, it writes how many files have each
 /// status, and the first of them in the order of the names. It answers the greatest exit status. A history with fewer than `views`
-/// completed views counts as refused. The reasons go to the error output as at `check_all`.
+/// completed views counts as refused, and so does one beyond the limit of events. The reasons go to the error output as at `check_all`.
 ///
 /// Memory holds what a round needs, and no report of a round that is done. Sums that can't be written end in `Write`.
 pub fn sum_all<Rt: Threads + Sync, O: Opener, W: Write, E: Write, G: Gate>(
@@ -66,14 +70,15 @@ pub fn sum_all<Rt: Threads + Sync, O: Opener, W: Write, E: Write, G: Gate>(
     errors: &mut Counted<E>,
     cutting: Cutting,
     gate: &G,
+    limit: Limit,
     views: u32,
 ) -> Result<u8, RunFault>
-    ensures all { IfOk result (SumsAll (O.opens opener.now) views names.now (W.contents (inner_of writer.old)) (W.contents (inner_of writer.new))
+    ensures all { IfOk result (SumsAll (O.opens opener.now) limit views names.now (W.contents (inner_of writer.old)) (W.contents (inner_of writer.new))
         (E.contents (inner_of errors.old)) (E.contents (inner_of errors.new)) (failures_in errors.old) (failures_in errors.new)) }
-    ensures some { IfErr result (λ _. SumsSome (O.opens opener.now) views names.now (W.contents (inner_of writer.old)) (W.contents (inner_of writer.new))) }
+    ensures some { IfErr result (λ _. SumsSome (O.opens opener.now) limit views names.now (W.contents (inner_of writer.old)) (W.contents (inner_of writer.new))) }
     ensures counts { RunCounts 0 0 (failures_in writer.old) (failures_in writer.new) result }
 {
-    let options = options_of(views);
+    let options = options_of(limit, views);
     let mut sums = Sums::new();
     let mut from = 0;
     while from < names.len() {

@@ -15,6 +15,7 @@ use Rattle.snap_grid.specs.Masks.{mask_by, mask_below}
 use Rattle.snap_grid.specs.Clashes.{AreApart, ClashesWith, pair_count}
 use Rattle.snap_grid.proofs.Bits.{bit_by, bit_past, bit_below, bit_not_below, mask_from_bits, ones_below}
 use Rattle.snap_grid.proofs.Passing.{row_at, row_count}
+use Rattle.snap_grid.specs.Limits.{row_limit}
 
 -- ranges in two parts
 pub range-append : (a m n : ℕ) → range_with_len a (m + n) ≡ range_with_len a m ++ range_with_len (a + m) n
@@ -237,8 +238,8 @@ by_row p g from n m count e h =
     none : from + 0 ≡ from
     none = omega arith
 
-few_by_row : (p : ℕ → ℕ → Bool) (g : GridValue) (from n : ℕ) → length g.begins ≤ 65536 → sum_by (λ a. count_by (p a) (rows_of g)) (range_with_len from n) ≤ n * 65536
-few_by_row p g from n l = sum_small (λ a. count_by (p a) (rows_of g)) 65536 (λ a. omega (arith, l, count_by-le-length (p a) (rows_of g), length-range_with_len 0 (length g.begins))) n from
+few_by_row : (p : ℕ → ℕ → Bool) (g : GridValue) (from n : ℕ) → length g.begins ≤ row_limit → sum_by (λ a. count_by (p a) (rows_of g)) (range_with_len from n) ≤ n * row_limit
+few_by_row p g from n l = sum_small (λ a. count_by (p a) (rows_of g)) row_limit (λ a. omega (arith, l, count_by-le-length (p a) (rows_of g), length-range_with_len 0 (length g.begins))) n from
 
 pub counted : (g : GridValue) (from n m count : ℕ) → m ≡ length g.begins → count ≡ pair_count (clashes g) from n 0 m → count ≡ sum_by (clash_count g) (range_with_len from n)
 unfolding clash_count
@@ -248,11 +249,11 @@ pub dropped : (g : GridValue) (from n m count : ℕ) → m ≡ length g.begins �
 unfolding drop_count
 dropped g = by_row (drops g) g
 
-pub few_counted : (g : GridValue) (from n : ℕ) → length g.begins ≤ 65536 → sum_by (clash_count g) (range_with_len from n) ≤ n * 65536
+pub few_counted : (g : GridValue) (from n : ℕ) → length g.begins ≤ row_limit → sum_by (clash_count g) (range_with_len from n) ≤ n * row_limit
 unfolding clash_count
 few_counted g = few_by_row (clashes g) g
 
-pub few_dropped : (g : GridValue) (from n : ℕ) → length g.begins ≤ 65536 → sum_by (drop_count g) (range_with_len from n) ≤ n * 65536
+pub few_dropped : (g : GridValue) (from n : ℕ) → length g.begins ≤ row_limit → sum_by (drop_count g) (range_with_len from n) ≤ n * row_limit
 unfolding drop_count
 few_dropped g = few_by_row (drops g) g
 

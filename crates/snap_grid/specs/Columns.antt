@@ -1,6 +1,7 @@
 -- Rows of numbers, kept by columns, and which of two rows has a greater number in some column.
 use Rattle.std.specs.Prelude.{true, false, ℕ, ◌<◌, ◌≤◌, ◌≡◌, Bool, ◌&&◌, ◌||◌, cond, List, [], length, get_or, nat_lt}
 use Rattle.std.specs.List.{list_any, range_with_len, count_by}
+use Rattle.snap_grid.specs.Limits.{row_limit}
 
 -- the number of a row in a column
 abbrev pub number : List ℕ → ℕ → ℕ
@@ -39,7 +40,7 @@ unfoldable pub drops : GridValue → ℕ → ℕ → Bool
 drops g a b = any_passes true g.columns a b && nat_lt (number g.ends a) (number g.begins b)
 
 pub record HaveSameRows (columns : List (List ℕ)) (begins ends : List ℕ) : Type 0 where
-  pub few : length begins ≤ 65536
+  pub few : length begins ≤ row_limit
   pub ended : length ends ≡ length begins
   pub each : (j : ℕ) → j < length columns → length (get_or columns j []) ≡ length begins
 

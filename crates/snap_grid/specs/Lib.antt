@@ -1,3 +1,4 @@
+pub mod Limits
 pub mod Columns
 pub mod Masks
 pub mod Tables

@@ -4,6 +4,7 @@ ghost use Rattle.snap_grid.specs.Columns.{any_passes};
 ghost use Rattle.snap_grid.specs.Masks.{mask_below};
 ghost use Rattle.snap_grid.specs.Kept.{AreRows, HaveRows};
 ghost use Rattle.snap_grid.specs.Facing.{AreFacing, AreFar, AreTabled, IsWhole, any_faces, faces};
+ghost use Rattle.snap_grid.specs.Limits.{row_limit};
 
 use crate::bounds::Bounds;
 use crate::column::Column;
@@ -183,7 +184,7 @@ impl<'g> Block<'g> {
         count: usize,
     ) -> Result<Block<'g>, AllocError>
         requires few { count ≤ 512 }
-        requires small { from ≤ 65536 }
+        requires small { from ≤ row_limit }
         requires rows { HaveRows columns.now (from + count) }
         ensures columns { IfOk result (λ block. block.columns.now ≡ columns.now) }
         ensures rows { IfOk result (λ block. (block.from ≡ from) × (block.count ≡ count)) }
@@ -237,7 +238,7 @@ impl<'g> Block<'g> {
         requires some { 0 < count }
         requires few { count ≤ 512 }
         requires rows { HaveRows self.now.columns.now (block * 512 + count) }
-        requires small { block < 65536 }
+        requires small { block < row_limit }
         ensures rows { IfOk result (λ against. (against.ours ≡ self.now.count) × (against.theirs ≡ count)) }
         ensures more { IfOk result (λ against. (a i : ℕ) → a < self.now.count → i < count → faces true against.more against.near.items against.far.items a i ≡ any_passes true self.now.columns.now (self.now.from + a) (block * 512 + i)) }
         ensures less { IfOk result (λ against. (a i : ℕ) → a < self.now.count → i < count → faces false against.less against.near.items against.far.items a i ≡ any_passes false self.now.columns.now (self.now.from + a) (block * 512 + i)) }

@@ -1,6 +1,7 @@
 //! Columns of numbers, and their ranks.
 ghost use Rattle.std.specs.Prelude.{◌≡◌, ◌≤◌, ◌<◌, ◌+◌, ◌*◌, ◌-◌, ℕ, length, get_or, take, drop, min, IfOk};
 ghost use Rattle.snap_grid.specs.Columns.{AreOrderedAs, IsOrderedAs};
+ghost use Rattle.snap_grid.specs.Limits.{row_limit, table_limit};
 
 use crate::bounds::Bounds;
 use crate::mask::WIDTH;
@@ -8,6 +9,12 @@ use crate::masks::Masks;
 use crate::ranked::{distinct_of, ranks_of};
 use std::alloc::{AllocError, Global};
 use std::marker::Model;
+
+/// How many rows a grid has at most.
+pub const ROW_LIMIT: usize = 1_048_576;
+
+/// How far apart the numbers of a table are at most: it has a mask of 64 bytes for each number between them.
+pub const TABLE_LIMIT: u32 = 65_536;
 
 /// The numbers of all rows in one column.
 #[derive(Drop)]
@@ -23,7 +30,7 @@ pub struct Column {
 
 // The ranks of some numbers, where they are farther apart than a limit; else none.
 fn ranks_beyond(alloc: Global, numbers: &[u32], limit: u32) -> Result<Vec<u32>, AllocError>
-    requires { length numbers.now ≤ 65536 }
+    requires { length numbers.now ≤ row_limit }
     ensures { IfOk result (λ ranks. 0 < length ranks.items → IsOrderedAs numbers.now ranks.items) }
 {
     let bounds = Bounds::of(numbers);
@@ -65,8 +72,8 @@ impl Column {
     /// The column of some numbers. Comparing is fast where those of 512 neighbouring rows are at most the limit apart, and takes
     /// memory by how far they are.
     pub fn new(alloc: Global, numbers: Vec<u32>, limit: u32) -> Result<Column, AllocError>
-        requires few { length numbers.items ≤ 65536 }
-        requires limit { limit ≤ 65536 }
+        requires few { length numbers.items ≤ row_limit }
+        requires limit { limit ≤ table_limit }
         ensures { IfOk result (λ column. column ≡ numbers.items) }
     {
         let mut bounds = Vec::new(alloc);

@@ -6,18 +6,16 @@ ghost use Rattle.snap_grid.specs.Facing.{faces};
 ghost use Rattle.snap_grid.specs.Kinds.{AreKinds};
 ghost use Rattle.snap_grid.specs.Masks.{mask_below};
 ghost use Rattle.snap_grid.specs.Clashes.{AreApart, ClashesWith};
+ghost use Rattle.snap_grid.specs.Limits.{row_limit};
 
 use crate::block::{Against, Block};
-use crate::column::Column;
+use crate::column::{Column, TABLE_LIMIT};
 use crate::kind::Kind;
 use crate::kinds::Kinds;
 use crate::mask::{Mask, WIDTH};
 use crate::masks::Masks;
 use std::alloc::{AllocError, Global};
 use std::marker::Model;
-
-// So many places a row may begin and end at.
-const PLACES: u32 = 65536;
 
 /// Rows of numbers by columns, each with the places of its begin and its end.
 #[derive(Drop)]
@@ -66,7 +64,7 @@ fn passes(more: bool, number: u32, other: u32) -> bool
 
 // The first row of a mask of the rows from one on.
 fn first_row(from: usize, rows: &Mask) -> Option<usize>
-    requires { from ≤ 65536 }
+    requires { from ≤ row_limit }
     ensures { (n : ℕ) (p : ℕ → Bool) → rows.now ≡ mask_below (λ a. p (from + a)) n → result ≡ find p (range_with_len from n) }
 {
     let first = rows.first()?;
@@ -227,13 +225,13 @@ impl Grid {
         requires within { from + count ≤ length self.now.begins }
         ensures count { IfOk result (λ c. c.count ≡ sum_by (clash_count self.now) (range_with_len from count)) }
         ensures drops { IfOk result (λ c. c.drops ≡ sum_by (drop_count self.now) (range_with_len from count)) }
-        ensures few { IfOk result (λ c. c.count ≤ count * 65536) }
-        ensures few_drops { IfOk result (λ c. c.drops ≤ count * 65536) }
+        ensures few { IfOk result (λ c. c.count ≤ count * row_limit) }
+        ensures few_drops { IfOk result (λ c. c.drops ≤ count * row_limit) }
         ensures rows { IfOk result (λ c. c.rows ≡ mask_below (λ a. has_clash self.now (from + a)) count) }
     {
         let all = self.ends.len();
         let ours = Block::of(alloc, &self.columns, from, count)?;
-        let ends = Masks::of(alloc, &self.ends[from..from + count], PLACES, &[])?;
+        let ends = Masks::of(alloc, &self.ends[from..from + count], TABLE_LIMIT, &[])?;
         let mut found = 0;
         let mut drops = 0;
         let mut rows = Mask::none();
@@ -303,7 +301,7 @@ impl Grid {
         ensures { IfOk result (λ first. first ≡ find (clashes self.now row) (rows_of self.now)) }
     {
         let ours = Block::of(alloc, &self.columns, row, 1)?;
-        let ends = Masks::of(alloc, &self.ends[row..row + 1], PLACES, &[])?;
+        let ends = Masks::of(alloc, &self.ends[row..row + 1], TABLE_LIMIT, &[])?;
         let rows = self.ends.len();
         let mut block: usize = 0;
         while block * WIDTH < rows {

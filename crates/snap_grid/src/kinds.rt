@@ -2,6 +2,7 @@
 ghost use Rattle.std.specs.Prelude.{◌≡◌, ◌≤◌, ◌<◌, ◌+◌, IsTrue, IfOk};
 ghost use Rattle.snap_grid.specs.Kept.{HaveRows};
 ghost use Rattle.snap_grid.specs.Kinds.{AreAlike, AreKinds};
+ghost use Rattle.snap_grid.specs.Limits.{row_limit};
 
 use crate::column::Column;
 use crate::kind::Kind;
@@ -32,7 +33,7 @@ fn places_of(
     from: usize,
     count: usize,
 ) -> Result<Vec<u32>, AllocError>
-    requires small { from ≤ 65536 }
+    requires small { from ≤ row_limit }
     requires few { count ≤ 512 }
     requires rows { HaveRows columns.now (from + count) }
 {
@@ -86,7 +87,7 @@ impl Kinds {
         from: usize,
         count: usize,
     ) -> Result<Kinds, AllocError>
-        requires small { from ≤ 65536 }
+        requires small { from ≤ row_limit }
         requires few { count ≤ 512 }
         requires rows { HaveRows columns.now (from + count) }
         ensures { IfOk result (λ kinds. AreKinds columns.now from count kinds) }

@@ -13,5 +13,5 @@ mod masks;
 mod ranked;
 
 pub use bounds::Bounds;
-pub use column::{Column, by_ranks};
+pub use column::{Column, ROW_LIMIT, TABLE_LIMIT, by_ranks};
 pub use grid::{Clashes, Grid};

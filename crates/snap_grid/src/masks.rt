@@ -1,6 +1,7 @@
 //! The masks of a block's numbers of one column, by a table of what is below each number.
 ghost use Rattle.std.specs.Prelude.{◌≡◌, ◌≤◌, ◌<◌, ◌+◌, ◌-◌, ℕ, length, get_or, nat_lt, IfOk};
 ghost use Rattle.snap_grid.specs.Masks.{mask_by};
+ghost use Rattle.snap_grid.specs.Limits.{table_limit};
 
 use crate::bounds::Bounds;
 use crate::facing::Facing;
@@ -73,7 +74,7 @@ impl<'c> Masks<'c> {
         places: &[u32],
     ) -> Result<Masks<'c>, AllocError>
         requires numbers { length numbers.now ≤ 512 }
-        requires limit { limit ≤ 65536 }
+        requires limit { limit ≤ table_limit }
         ensures { IfOk result (λ masks. masks ≡ numbers.now) }
     {
         let bounds = Bounds::of(numbers);

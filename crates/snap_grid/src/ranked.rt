@@ -3,6 +3,7 @@ ghost use Rattle.std.specs.Prelude.{◌≡◌, ◌≤◌, ◌<◌, ◌+◌, ℕ,
 ghost use Rattle.std.specs.List.Sorted.{IsStrictlyIncreasing};
 ghost use Rattle.snap_grid.specs.Masks.{mask_by};
 ghost use Rattle.snap_grid.specs.Ranked.{AreDistinct, AreRanks, IsRank};
+ghost use Rattle.snap_grid.specs.Limits.{row_limit};
 
 use crate::bounds::Bounds;
 use crate::facing::MasksAround;
@@ -49,7 +50,7 @@ pub(crate) fn ranks_of(
     numbers: &[u32],
     distinct: &[u32],
 ) -> Result<Vec<u32>, AllocError>
-    requires few { length distinct.now ≤ 65536 }
+    requires few { length distinct.now ≤ row_limit }
     requires order { IsStrictlyIncreasing distinct.now }
     ensures { IfOk result (λ ranks. AreRanks numbers.now distinct.now ranks.items) }
 {

@@ -11,7 +11,7 @@ use Rattle.std.proofs.lemmas.Option.{slice_get-get_or, slice_get_past, slice_get
 use Rattle.snap_core.specs.declared.entry.Entry.{Entry}
 use Rattle.snap_core.specs.declared.event.Event.{Event}
 use Rattle.snap_core.specs.declared.event.Event.TheVariants.{BeginUpdate, BeginView, EndUpdate, EndView}
-use Rattle.snap_core.specs.Events.{event_limit}
+use Rattle.snap_core.specs.Events.{event_cap}
 use Rattle.snap_core.specs.Calls.{Operation, Updates, Views, calls_from, calls_of, views_of, nobody, call_numbered, is_view, is_answer, is_before, precedes}
 use Rattle.snap_core.specs.Calls.{Call as SpecCall}
 use Rattle.snap_core.proofs.Lists.{In, Contains-from_In}
@@ -32,7 +32,7 @@ pub call_count_within : (es : List Event) → length (calls_of es) ≤ length es
 unfolding calls_of
 call_count_within es = from_count 0 0 es
 
-pub word_fits : (n : ℕ) → n ≤ event_limit → Fits w32 n
+pub word_fits : (n : ℕ) → n ≤ event_cap → Fits w32 n
 word_fits n l = search (rules, l)
 
 pub count_is : (es : List Event) (calls : List Call) → calls ≡ map as_indexed (calls_of es) → length calls ≡ length (calls_of es)

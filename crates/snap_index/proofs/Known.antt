@@ -10,7 +10,7 @@ use Rattle.snap_core.specs.declared.entry.Entry.{Entry}
 use Rattle.snap_core.specs.declared.event.Event.{Event}
 use Rattle.snap_core.specs.declared.event.Event.TheVariants.{BeginUpdate, BeginView, EndUpdate, EndView}
 use Rattle.snap_core.specs.Entries.{AreEntries}
-use Rattle.snap_core.specs.Events.{IsHistory, IsBoundedHistory, EventFits, event_limit}
+use Rattle.snap_core.specs.Events.{IsHistory, IsBoundedHistory, EventFits, event_cap}
 use Rattle.snap_core.specs.Calls.{Call, Operation, Updates, Views, calls_of, views_of, nobody, call_numbered, is_view, is_answer, is_update_numbered, writes_number, entries_of}
 use Rattle.snap_core.specs.Regular.{IsUpdateOf}
 use Rattle.snap_core.proofs.Lists.{In, Contains-from_In, In-get_or, In-from_filter}
@@ -23,7 +23,7 @@ use Rattle.snap_index.proofs.Ends.{shown_by}
 use Rattle.snap_index.proofs.Numbers.{nth_update, no_update_zero, update_count_is}
 
 -- a call number fits, and there is a call at each below the count
-pub calls_few : (es : List Event) → IsBoundedHistory es → length (calls_of es) ≤ event_limit
+pub calls_few : (es : List Event) → IsBoundedHistory es → length (calls_of es) ≤ event_cap
 calls_few es h = omega (arith, call_count_within es, h.short)
 
 pub call_within : (calls : List Call) (c : ℕ) → c < length calls → slice_get calls c ≡ Some (call_numbered calls c)

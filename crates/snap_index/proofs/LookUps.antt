@@ -6,7 +6,7 @@ use Rattle.std.proofs.lemmas.List.{length-map}
 use Rattle.std.proofs.lemmas.List.Sums.{count_by-le-length}
 use Rattle.std.proofs.lemmas.Option.{slice_get-map}
 use Rattle.snap_core.specs.declared.event.Event.{Event}
-use Rattle.snap_core.specs.Events.{IsHistory, IsBoundedHistory, event_limit}
+use Rattle.snap_core.specs.Events.{IsHistory, IsBoundedHistory, event_cap}
 use Rattle.snap_core.specs.Calls.{calls_of, views_of, is_update_numbered}
 use Rattle.snap_core.specs.Calls.{Call as SpecCall}
 use Rattle.snap_index.specs.declared.call.Call.{Call}
@@ -22,7 +22,7 @@ use Rattle.snap_index.proofs.Numbers.{nth_update, no_update_zero, update_count_i
 pub seen : (inside es : List Event) (calls : List Call) (views : List ℕ) (updates : List (List ℕ)) (writes : List (List Write)) (pending : ℕ) → inside ≡ es → IsIndex inside calls views updates writes pending → IsIndex es calls views updates writes pending
 seen inside es calls views updates writes pending e i = subst (λ z. IsIndex z calls views updates writes pending) e i
 
-pub views_few : (es : List Event) (calls : List Call) (views : List ℕ) (updates : List (List ℕ)) (writes : List (List Write)) (pending : ℕ) → IsIndex es calls views updates writes pending → length views ≤ event_limit
+pub views_few : (es : List Event) (calls : List Call) (views : List ℕ) (updates : List (List ℕ)) (writes : List (List Write)) (pending : ℕ) → IsIndex es calls views updates writes pending → length views ≤ event_cap
 views_few es calls views updates writes pending i =
     let l = ap length i.tables.of_views ∙ length-map (views_of (calls_of es)) number_of in
     omega (arith, l, view_count_within (calls_of es), call_count_within es, i.kept.short)
@@ -30,7 +30,7 @@ views_few es calls views updates writes pending i =
 pub row_is : (k : ℕ) (calls : List SpecCall) → length (map number_of (updates_of k calls)) ≡ count_by (is_update_of k) calls
 row_is k calls = length-map (updates_of k calls) number_of ∙ update_count_is k calls
 
-pub row_few : (es : List Event) → IsBoundedHistory es → (k : ℕ) → length (map number_of (updates_of k (calls_of es))) ≤ event_limit
+pub row_few : (es : List Event) → IsBoundedHistory es → (k : ℕ) → length (map number_of (updates_of k (calls_of es))) ≤ event_cap
 row_few es h k = omega (arith, row_is k (calls_of es), count_by-le-length (is_update_of k) (calls_of es), call_count_within es, h.short)
 
 -- what is kept of the n-th of the updates of a component

@@ -2,7 +2,7 @@
 ghost use Rattle.std.specs.Prelude.{◌≡◌, ◌≤◌, ◌<◌, ℕ, length, get_or, map, IfOk};
 ghost use Rattle.snap_core.specs.Calls.{calls_of};
 ghost use Rattle.snap_core.specs.declared.event.Event.{Event};
-ghost use Rattle.snap_core.specs.Events.{event_limit, process_of};
+ghost use Rattle.snap_core.specs.Events.{event_cap, process_of};
 ghost use Rattle.snap_index.specs.IndexedCalls.{as_indexed, begun_by as spec_begun_by};
 
 use crate::call::{Call, CallOp};
@@ -32,7 +32,7 @@ fn process_limit(events: &[Event]) -> usize
 
 // The calls in the order of their begins, by one pass from the end.
 pub(crate) fn list_calls(alloc: Global, events: &[Event]) -> Result<Vec<Call>, AllocError>
-    requires { length events.now ≤ event_limit }
+    requires { length events.now ≤ event_cap }
     ensures { IfOk result (λ calls. calls.items ≡ map as_indexed (calls_of events.now)) }
 {
     // the place of each process's next event

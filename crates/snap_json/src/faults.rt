@@ -5,7 +5,7 @@ ghost use Rattle.json.specs.Json.{Json};
 ghost use Rattle.json.specs.Token as token;
 ghost use Rattle.json.specs.Tree.{json_tokens};
 ghost use Rattle.snap_core.specs.Calls.{Call, calls_of, views_of};
-ghost use Rattle.snap_core.specs.Events.{event_limit};
+ghost use Rattle.snap_core.specs.Events.{event_cap};
 ghost use Rattle.snap_conditions.specs.Tally.{tally_of};
 ghost use Rattle.snap_report.specs.Faults.{side_word};
 ghost use Rattle.snap_witness.specs.Places.{IsViewAt};
@@ -97,7 +97,7 @@ fn word_of(side: Side) -> &'static str
 impl Told for ProximityFault {
     ghost json = { proximity_json };
 
-    ghost is_named = { λ calls f. IsViewAt calls f.view × (f.number ≤ event_limit) };
+    ghost is_named = { λ calls f. IsViewAt calls f.view × (f.number ≤ event_cap) };
 
     fn put(
         &self,

@@ -11,8 +11,8 @@ ghost use Rattle.snap_picture.specs.Drawing.{DrawsHistory, IsDrawing, IsDrawn};
 use crate::markup::Markup;
 use snap_check::RunFault;
 use snap_conditions::{Tally, is_atomic};
-use snap_core::{Counted, History, OpenGate};
-use snap_csv::{ReadRefusal, read_records};
+use snap_core::{Counted, History, Limit, OpenGate};
+use snap_csv::{ReadRefusal, read_records_within};
 use snap_draw::{Picture, shapes_of};
 use snap_explain::explain;
 use snap_index::Index;
@@ -115,12 +115,13 @@ fn draw_input<Rt: Threads + Sync, R: Read, M: Markup>(
     alloc: Global,
     markup: &M,
     reader: &mut Counted<R>,
+    limit: Limit,
 ) -> Result<(Status, Vec<u8>), RunFault>
-    ensures answer { JudgesBy (IsDrawn M.calls M.writes) (R.remaining (inner_of reader.old)) result }
+    ensures answer { JudgesBy (IsDrawn limit.events M.calls M.writes) (R.remaining (inner_of reader.old)) result }
     ensures counts { JudgeCounts (failures_in reader.old) (failures_in reader.new) result }
 {
     let mut room = Vec::new(alloc);
-    match read_records(alloc, reader, &mut room) {
+    match read_records_within(alloc, reader, &mut room, limit) {
         Ok((history, records)) => Ok(drawn(rt, alloc, markup, &history, &records)?),
         Err(ReadRefusal::Text { place, fault }) => {
             let line = refusal_text(alloc, place, fault)?;
@@ -133,6 +134,7 @@ fn draw_input<Rt: Threads + Sync, R: Read, M: Markup>(
 
 /// Reads a history, and writes its picture in a markup. Of a text that is no history the line of its first fault goes out. The
 /// status is that of `check_run`.
+/// A history may have as many events as the limit says, and its text 1,024 times as many bytes.
 ///
 /// Nothing is written until the whole text is built: after `Read` or `Memory` nothing went out, after `Write` a front of the
 /// text, perhaps all of it. The writer is flushed once at the end. The run returns where the reader and the writer do.
@@ -142,11 +144,12 @@ pub fn draw_run<Rt: Threads + Sync, R: Read, W: Write, M: Markup>(
     markup: &M,
     reader: &mut Counted<R>,
     writer: &mut Counted<W>,
+    limit: Limit,
 ) -> Result<Status, RunFault>
-    ensures wrote { WroteBy (IsDrawn M.calls M.writes) (R.remaining (inner_of reader.old)) (W.contents (inner_of writer.old)) (W.contents (inner_of writer.new)) result }
+    ensures wrote { WroteBy (IsDrawn limit.events M.calls M.writes) (R.remaining (inner_of reader.old)) (W.contents (inner_of writer.old)) (W.contents (inner_of writer.new)) result }
     ensures counts { RunCounts (failures_in reader.old) (failures_in reader.new) (failures_in writer.old) (failures_in writer.new) result }
 {
-    let (status, text) = draw_input(rt, alloc, markup, reader)?;
+    let (status, text) = draw_input(rt, alloc, markup, reader, limit)?;
     match writer.send(&text) {
         Ok(()) => Ok(status),
         Err(_) => Err(RunFault::Write),

@@ -4,7 +4,7 @@ use native.Mathlib.Decide.{dec_le}
 use Rattle.std.proofs.Math.Nat.{suc-mul, mul-le-mul_right}
 use Rattle.std.proofs.lemmas.Bool.{le-leb, ltb-false}
 use Rattle.snap_core.specs.declared.event.Event.{Event}
-use Rattle.snap_core.specs.Events.{event_limit, events_of}
+use Rattle.snap_core.specs.Events.{event_cap, events_of}
 use Rattle.snap_record.specs.declared.plan.Step.{Step}
 use Rattle.snap_record.specs.declared.plan.Step.TheVariants.{Store, View, Scan}
 use Rattle.snap_record.specs.declared.plan.PlanRefusal.{PlanRefusal}
@@ -59,7 +59,7 @@ round_draws scan w (suc r) rest room le e =
         let last = draws_more (room - 68 * suc r) (room - 68 * r - 2 - 66) rest (omega arith) e in
         λ k. one k && (other k && last k)
 
-round_within : (scan : Bool) (w r : ℕ) → r ≤ 2048 → draws_within tick_limit (round_script scan w r) ≡ true
+round_within : (scan : Bool) (w r : ℕ) → r ≤ 32768 → draws_within tick_limit (round_script scan w r) ≡ true
 round_within scan w r le = ap (draws_within tick_limit) (sym (append-nil (round_script scan w r))) ∙ round_draws scan w r [] tick_limit (omega arith) refl
 
 rounds_length : (scan : Bool) (w r : ℕ) → length (rounds_scripts scan w r) ≡ w
@@ -76,7 +76,7 @@ rounds_steps scan (suc w) r =
     let l = steps_append (rounds_scripts scan w r) (round_script scan w r ∷ []) in let i = rounds_steps scan w r in
     let o = round_length scan w r in let m = suc-mul w (4 * r) in omega (arith, l, i, o, m)
 
-rounds_draw : (scan : Bool) (w r : ℕ) → r ≤ 2048 → (rest : List (List Step)) → each_draws rest ≡ true → each_draws (rounds_scripts scan w r ++ rest) ≡ true
+rounds_draw : (scan : Bool) (w r : ℕ) → r ≤ 32768 → (rest : List (List Step)) → each_draws rest ≡ true → each_draws (rounds_scripts scan w r ++ rest) ≡ true
 rounds_draw scan zero r le rest e = e
 rounds_draw scan (suc w) r le rest e =
     ap each_draws (append_assoc (rounds_scripts scan w r) (round_script scan w r ∷ []) rest)
@@ -91,7 +91,7 @@ rounds_fit scan w r few le =
     let most = mul-le-mul_right (4 * r) few.1 in
     let low = le-leb 2 (length (rounds_scripts scan w r)) (omega (arith, few.0, lists)) in
     let high = le-leb (length (rounds_scripts scan w r)) worker_limit (omega (arith, few.1, lists)) in
-    let fits = le-ltb event_limit (2 * steps_in (rounds_scripts scan w r)) (omega (arith, steps, most, le.1)) in
+    let fits = le-ltb event_cap (2 * steps_in (rounds_scripts scan w r)) (omega (arith, steps, most, le.1)) in
     λ k. if not (low k && high k) then Some Workers else if fits k then Some TooLong else if draws k then None else Some TooLong
 
 accepted_by : (few long draws : Bool) → (if not few then Some Workers else if long then Some TooLong else if draws then None else Some TooLong) ≡ None → (long ≡ false) × (draws ≡ true)
@@ -101,8 +101,8 @@ accepted_by true false true e = (refl, refl)
 accepted_by true false false e = absurd (none_some TooLong (sym e))
 
 -- a plan's scripts are short, and each draws few ticks
-pub accepted : (ss : List (List Step)) → plan_refusal ss ≡ None → (2 * steps_in ss ≤ event_limit) × (each_draws ss ≡ true)
-accepted ss e = let a = accepted_by (are_workers (length ss)) (nat_lt event_limit (2 * steps_in ss)) (each_draws ss) e in (ltb-false event_limit (2 * steps_in ss) a.0, a.1)
+pub accepted : (ss : List (List Step)) → plan_refusal ss ≡ None → (2 * steps_in ss ≤ event_cap) × (each_draws ss ≡ true)
+accepted ss e = let a = accepted_by (are_workers (length ss)) (nat_lt event_cap (2 * steps_in ss)) (each_draws ss) e in (ltb-false event_cap (2 * steps_in ss) a.0, a.1)
 
 pub script_short : (ss : List (List Step)) (w : ℕ) → length (get_or ss w []) ≤ steps_in ss
 script_short [] w = omega arith
@@ -278,11 +278,11 @@ steps_each [] = refl
 steps_each (s ∷ ss) = let r = steps_each ss in let f = total_first (length ss) (λ p. length (get_or (s ∷ ss) p [])) in omega (arith, r, f)
 
 -- there are no more records than steps
-pub all_short : (scripts : List (List Step)) (rs : List Record) (interfered : ℕ) → DidScripts scripts rs interfered → 2 * steps_in scripts ≤ event_limit → 2 * length rs ≤ event_limit
-all_short scripts rs interfered did short =
+pub few_records : (scripts : List (List Step)) (rs : List Record) (interfered : ℕ) → DidScripts scripts rs interfered → length rs ≤ steps_in scripts
+few_records scripts rs interfered did =
     let c = counted (length scripts) rs did.no_other in
     let b = total_below (length scripts) (λ p. length (of_worker p rs)) (λ p. length (get_or scripts p [])) few in
-    let s = steps_each scripts in omega (arith, short, c, b, s)
+    let s = steps_each scripts in omega (arith, c, b, s)
   where
     few : (p : ℕ) → p < length scripts → length (of_worker p rs) ≤ length (get_or scripts p [])
     few p lt =

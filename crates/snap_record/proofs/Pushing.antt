@@ -1,7 +1,7 @@
 -- Each event of a history can be pushed behind those before it.
 use Rattle.std.proofs.Common.{◌≡◌, ◌≤◌, List, [], ◌∷◌, ◌++◌, length, None, sym, ap, ◌∙◌, subst, arith, append-nil, append_assoc, length-append}
 use Rattle.snap_core.specs.declared.event.Event.{Event}
-use Rattle.snap_core.specs.Events.{IsHistory, event_limit}
+use Rattle.snap_core.specs.Events.{IsHistory, event_cap}
 use Rattle.snap_core.specs.Refusals.{refusal_of}
 use Rattle.snap_core.proofs.Pushes.{history_back}
 use Rattle.snap_core.proofs.Picks.{picked, is_short}
@@ -10,7 +10,7 @@ history_front : (ys xs : List Event) → IsHistory (xs ++ ys) → IsHistory xs
 history_front [] xs h = subst IsHistory (append-nil xs) h
 history_front (y ∷ ys) xs h = (history_back xs y (history_front ys (xs ++ y ∷ []) (subst IsHistory (sym (append_assoc xs (y ∷ []) ys)) h))).0
 
-pub accepted : (xs : List Event) (e : Event) (rest whole : List Event) → xs ++ e ∷ rest ≡ whole → IsHistory whole → length whole ≤ event_limit → refusal_of xs e ≡ None
+pub accepted : (xs : List Event) (e : Event) (rest whole : List Event) → xs ++ e ∷ rest ≡ whole → IsHistory whole → length whole ≤ event_cap → refusal_of xs e ≡ None
 accepted xs e rest whole is h short =
     let front = history_front rest (xs ++ e ∷ []) (subst IsHistory (sym (append_assoc xs (e ∷ []) rest ∙ is)) h) in
     let a = (history_back xs e front).1 in

@@ -3,7 +3,7 @@ use Rattle.std.specs.Prelude.{◌≡◌, ℕ, zero, suc, ◌+◌, ◌-◌, ◌*�
 use Rattle.std.specs.declared.alloc.Global.{Global}
 use Rattle.snap_core.specs.declared.event.Event.{Event}
 use Rattle.snap_core.specs.declared.event.Event.TheVariants.{BeginUpdate, BeginView, EndUpdate, EndView}
-use Rattle.snap_core.specs.Events.{events_of, event_limit}
+use Rattle.snap_core.specs.Events.{events_of, event_cap}
 use Rattle.snap_core.specs.Sums.{total}
 use Rattle.snap_board.specs.Settled.{falling}
 use Rattle.snap_account.specs.Rule.{tick_limit}
@@ -52,7 +52,7 @@ are_workers n = nat_le LEAST_WORKERS n && nat_le n worker_limit
 
 -- the first refusal that applies
 abbrev pub plan_refusal : List (List Step) → Option PlanRefusal
-plan_refusal ss = if not (are_workers (length ss)) then Some Workers else if nat_lt event_limit (2 * steps_in ss) then Some TooLong else if each_draws ss then None else Some TooLong
+plan_refusal ss = if not (are_workers (length ss)) then Some Workers else if nat_lt event_cap (2 * steps_in ss) then Some TooLong else if each_draws ss then None else Some TooLong
 
 -- how a round ends
 abbrev pub last_step : Bool → Step

@@ -1,11 +1,11 @@
 //! Plans: a script of steps for each worker.
 ghost use Rattle.std.specs.Prelude.{◌≡◌, ◌*◌, ◌<◌, ◌≤◌, [], Some, None, IfOk, IfErr, OnOk, IsTrue, ◌↔◌, length, slice_index_or, nat_le, true};
-ghost use Rattle.snap_core.specs.Events.{event_limit};
+ghost use Rattle.snap_core.specs.Events.{event_cap};
 ghost use Rattle.snap_record.specs.Plans.{lists_of, steps_in, plan_refusal, worker_limit, round_limit, are_workers, each_draws, draws_within, round_script, rounds_scripts, AreWorkers, AreRounds, IsRoundsRefusal};
 ghost use Rattle.snap_account.specs.Rule.{tick_limit};
 
 use snap_board::{DESK_LIMIT, TICK_LIMIT};
-use snap_core::EVENT_LIMIT;
+use snap_core::EVENT_CAP;
 use std::alloc::{AllocError, Global};
 use std::marker::Model;
 
@@ -18,8 +18,9 @@ pub const WORKER_LIMIT: u32 = DESK_LIMIT as u32;
 /// How many tries a plan's scan has at most.
 pub const TRY_LIMIT: u32 = 1024;
 
-/// How many rounds `rounds_plan` gives a worker at most: two calls of each worker in each, so four events, fit into a history.
-pub const ROUND_LIMIT: u32 = (EVENT_LIMIT / (4 * DESK_LIMIT)) as u32;
+/// How many rounds `rounds_plan` gives a worker at most: two calls of each worker in each, so four events, fit into the longest
+/// history.
+pub const ROUND_LIMIT: u32 = (EVENT_CAP / (4 * DESK_LIMIT)) as u32;
 
 /// How many tries the scans of `rounds_plan` have.
 const ROUND_TRIES: u32 = 64;
@@ -43,14 +44,14 @@ pub enum Step {
 pub enum PlanRefusal {
     /// There are not `LEAST_WORKERS` to `WORKER_LIMIT` lists.
     Workers,
-    /// The steps have more events than a history may have, two for each step; or a script could draw more ticks than a
+    /// The steps have more events than the longest history, two for each step; or a script could draw more ticks than a
     /// desk may; or a scan has not 1 to `TRY_LIMIT` tries.
     TooLong,
     /// Memory ran out.
     Memory,
 }
 
-/// A script for each of `LEAST_WORKERS` to `WORKER_LIMIT` workers, together no longer than a history may be.
+/// A script for each of `LEAST_WORKERS` to `WORKER_LIMIT` workers, together no longer than the longest history.
 #[derive(Drop)]
 pub struct Plan {
     scripts: Vec<Vec<Step>>,
@@ -78,9 +79,9 @@ fn are_workers(count: usize) -> bool
 
 // Whether the scripts have together no more steps than a history has calls.
 fn are_short(scripts: &[Vec<Step>]) -> bool
-    ensures { result ≡ nat_le (2 * steps_in (lists_of scripts.now)) event_limit }
+    ensures { result ≡ nat_le (2 * steps_in (lists_of scripts.now)) event_cap }
 {
-    let mut room = EVENT_LIMIT / 2;
+    let mut room = EVENT_CAP / 2;
     'scripts: for k in 0..scripts.len() {
         let steps = scripts[k].len();
         if steps > room {
@@ -146,7 +147,7 @@ impl Plan {
     pub(crate) fn workers(&self) -> u8
         ensures workers { result ≡ length self.now }
         ensures range { AreWorkers result }
-        ensures short { 2 * steps_in self.now ≤ event_limit }
+        ensures short { 2 * steps_in self.now ≤ event_cap }
     {
         self.scripts.len() as u8
     }
@@ -155,7 +156,7 @@ impl Plan {
     pub(crate) fn script(&self, worker: u16) -> &[Step]
         requires { worker < length self.now }
         ensures script { result.now ≡ slice_index_or self.now worker [] }
-        ensures short { 2 * length result.now ≤ event_limit }
+        ensures short { 2 * length result.now ≤ event_cap }
         ensures room { draws_within tick_limit result.now ≡ true }
     {
         self.scripts[usize::from(worker)].as_slice()

@@ -1,7 +1,7 @@
 //! A run of a plan on a new board, and the history that it leaves.
 ghost use Rattle.std.specs.Prelude.{◌≡◌, ◌*◌, ◌≤◌, [], IfOk, OnOk, length, true, ◌<◌, All, slice_index_or};
 ghost use Rattle.std.specs.List.Sorted.{IsStrictlyIncreasing};
-ghost use Rattle.snap_core.specs.Events.{event_limit};
+ghost use Rattle.snap_core.specs.Events.{event_cap};
 ghost use Rattle.snap_core.specs.Calls.{calls_of};
 ghost use Rattle.snap_core.specs.Monotone.{IsMonotone};
 ghost use Rattle.snap_core.specs.Regular.{IsRegular};
@@ -159,7 +159,7 @@ fn close_all(
     requires board { (recorder.board.desks ≡ length plan.now) × IsGatheredOf recorder.board gathered × (accounts gathered ≡ []) }
     requires count { length rans.items ≡ length plan.now }
     requires ran { HaveRun recorder plan.now rans.items }
-    requires short { 2 * steps_in plan.now ≤ event_limit }
+    requires short { 2 * steps_in plan.now ≤ event_cap }
     ensures relay { IfOk result (λ r. r.0 ≡ recorder.relay) }
     ensures senders { IfOk result (λ r. All (IsSenderOf recorder.relay) r.1.items) }
     ensures closed { IfOk result (λ r. HaveClosed plan.now r.1.items r.2) }
@@ -189,7 +189,8 @@ fn run_plan<R: Threads + Wait + Sync, G: Gate>(
 ) -> Result<(Vec<Record>, u32), AllocError>
     ensures workers { OnOk result (AreWorkers (length plan.now)) }
     ensures did { IfOk result (λ r. DidScripts plan.now r.0.items r.1) }
-    ensures short { IfOk result (λ r. 2 * length r.0.items ≤ event_limit) }
+    ensures few { IfOk result (λ r. length r.0.items ≤ steps_in plan.now) }
+    ensures short { IfOk result (λ r. 2 * length r.0.items ≤ event_cap) }
 {
     let (recorder, gathered, workers, taker) = start_workers(alloc, plan.workers())?;
     let (rans, taken) = run_all(rt, alloc, &recorder, plan, workers, taker, gate)?;
@@ -229,6 +230,7 @@ pub fn record_plan<R: Threads + Wait + Sync, G: Gate>(
     ensures rising { IfOk result (λ r. IsStrictlyIncreasing r.stamps.items) }
     ensures places { HasNoScans plan.now → IfOk result (λ r. ArePlaces r.stamps.items) }
     ensures each_stamp { IfOk result (λ r. length r.stamps.items ≡ length r.history) }
+    ensures few { IfOk result (λ r. length r.history ≤ 2 * steps_in plan.now) }
 {
     let (all, interfered) = run_plan(rt, alloc, plan, gate)?;
     let events = in_order(alloc, all)?;

@@ -1,6 +1,6 @@
 //! The records of all workers, put in order by their stamps.
 ghost use Rattle.std.specs.Prelude.{◌≡◌, ◌≤◌, IfOk, length};
-ghost use Rattle.snap_core.specs.Events.{IsHistory, event_limit};
+ghost use Rattle.snap_core.specs.Events.{IsHistory, event_cap};
 ghost use Rattle.snap_board.specs.History.{begin_of, end_of, stamped_events, events_in, event_stamps, Merged, AreApart};
 
 use snap_board::{Record, RecordedOp};
@@ -73,7 +73,7 @@ pub(crate) fn stamps_of(alloc: Global, events: &[(u64, Event)]) -> Result<Vec<u6
 /// The history of these events.
 pub(crate) fn history_of(alloc: Global, events: Vec<(u64, Event)>) -> Result<History, AllocError>
     requires history { IsHistory (events_in events.items) }
-    requires short { length events.items ≤ event_limit }
+    requires short { length events.items ≤ event_cap }
     ensures { IfOk result (λ history. history ≡ events_in events.items) }
 {
     let mut history = History::new(alloc);

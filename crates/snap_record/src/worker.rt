@@ -1,6 +1,6 @@
 //! What one worker does with its script.
 ghost use Rattle.std.specs.Prelude.{◌≡◌, ◌+◌, ◌*◌, ◌<◌, ◌≤◌, ◌++◌, ◌∷◌, [], IfOk, IfSome, IfNone, OnOk, MatchOption, length, slice_index_or, true};
-ghost use Rattle.snap_core.specs.Events.{event_limit};
+ghost use Rattle.snap_core.specs.Events.{event_cap};
 ghost use Rattle.snap_board.specs.Desks.{records, ticks, lost, collects, IsDeskOf};
 ghost use Rattle.snap_record.specs.Scripts.{AreCallsOf, DidSome, IsCallOf, IsStepOf};
 ghost use Rattle.snap_board.specs.LastCall.{HasCalled};
@@ -86,7 +86,7 @@ fn run_steps<R: Wait, G: Gate>(
     gate: &G,
 ) -> Result<u32, AllocError>
     requires worker { IsWorkerOf recorder.now worker.old × IsUnused worker.old }
-    requires short { 2 * (length script.now) ≤ event_limit }
+    requires short { 2 * (length script.now) ≤ event_cap }
     requires room { draws_within tick_limit script.now ≡ true }
     ensures worker { IsWorkerOf recorder.now worker.new × (worker.new.desk.desk ≡ worker.old.desk.desk) }
     ensures sent { OnOk result (records worker.new.desk ≡ worker.new.sender.sent) }

@@ -1,6 +1,6 @@
 //! What worked texts are explained by.
 use super::checks::{end_of, history, same, written};
-use snap_core::Counted;
+use snap_core::{Counted, Limit};
 use snap_runs::explain_run;
 use snap_testing::{Cup, Drip};
 use std::alloc::Global;
@@ -16,7 +16,7 @@ fn explained<Rt: Threads + Sync>(
 ) -> Result<(&'static str, String), Fail> {
     let mut reader = Counted::new(text);
     let mut writer = Counted::new(Vec::new(alloc));
-    let answer = explain_run(rt, alloc, &mut reader, &mut writer);
+    let answer = explain_run(rt, alloc, &mut reader, &mut writer, Limit::usual());
     written(alloc, answer, writer)
 }
 
@@ -106,7 +106,7 @@ fn explain_over<Rt: Threads + Sync, R: Read + Drop, W: Write + Drop>(
 ) -> (&'static str, u64, u64) {
     let mut reader = Counted::new(reader);
     let mut writer = Counted::new(writer);
-    let end = end_of(explain_run(rt, alloc, &mut reader, &mut writer));
+    let end = end_of(explain_run(rt, alloc, &mut reader, &mut writer, Limit::usual()));
     (end, reader.failures(), writer.failures())
 }
 

@@ -3,7 +3,7 @@ ghost use Rattle.std.specs.Prelude.{⊤};
 
 use super::checks::same;
 use snap_check::{CheckOptions, RunFault};
-use snap_core::{Counted, OpenGate};
+use snap_core::{Counted, Limit, OpenGate};
 use snap_files::{FileOptions, Format, Opener, Trouble, check_all};
 use snap_testing::{Cup, Drip};
 use snap_threads::Cutting;
@@ -74,7 +74,11 @@ fn check<Rt: Threads + Sync, W: Write>(
     let mut errors = Counted::new(Vec::new(alloc));
     let options = FileOptions {
         format,
-        check: CheckOptions { quiet: true, views },
+        check: CheckOptions {
+            quiet: true,
+            views,
+            limit: Limit::usual(),
+        },
     };
     let answer = check_all(
         rt,

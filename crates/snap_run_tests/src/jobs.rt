@@ -12,14 +12,14 @@ fn words(alloc: Global, line: &str) -> Result<Vec<String>, AllocError> {
     Ok(words)
 }
 
-// Whether a check is quiet, how many views it asks for, and whether it answers with an object.
-type Asked = (bool, u32, bool);
+// Whether a check is quiet, how many views it asks for, whether it answers with an object, and its limit of events.
+type Asked = (bool, u32, bool, u32);
 
-const NO_OPTIONS: Asked = (false, 0, false);
+const NO_OPTIONS: Asked = (false, 0, false, 65536);
 
-const QUIET: Asked = (true, 0, false);
+const QUIET: Asked = (true, 0, false, 65536);
 
-const OBJECT: Asked = (false, 0, true);
+const OBJECT: Asked = (false, 0, true, 65536);
 
 // The pieces and workers of the check that each line asks for, and its options.
 const CHECKS: &[(&str, u32, u32, Asked)] = &[
@@ -35,12 +35,12 @@ const CHECKS: &[(&str, u32, u32, Asked)] = &[
     ("snapjudge check --quiet", 8, 2, QUIET),
     ("snapjudge check --workers 3 --quiet", 8, 3, QUIET),
     ("snapjudge check --views 0", 8, 2, NO_OPTIONS),
-    ("snapjudge check --views 5", 8, 2, (false, 5, false)),
+    ("snapjudge check --views 5", 8, 2, (false, 5, false, 65536)),
     (
         "snapjudge check --views=32768 --pieces 7 --quiet",
         7,
         2,
-        (true, 32768, false),
+        (true, 32768, false, 65536),
     ),
     ("snapjudge check --format json", 8, 2, OBJECT),
     ("snapjudge check --format=plain --quiet", 8, 2, QUIET),
@@ -48,7 +48,14 @@ const CHECKS: &[(&str, u32, u32, Asked)] = &[
         "snapjudge check --views 5 --format=json --pieces 7",
         7,
         2,
-        (false, 5, true),
+        (false, 5, true, 65536),
+    ),
+    ("snapjudge check --events 1", 8, 2, (false, 0, false, 1)),
+    (
+        "snapjudge check --events=1048576 --views 524288",
+        8,
+        2,
+        (false, 524288, false, 1048576),
     ),
 ];
 
@@ -82,9 +89,11 @@ fn check_of(alloc: Global, line: &str) -> Result<(u32, u32, Asked), Fail> {
                 quiet,
                 views,
                 json,
+                events,
                 ..
             } = options;
-            Ok((cutting.pieces(), cutting.workers(), (quiet, views, json)))
+            let asked = (quiet, views, json, events);
+            Ok((cutting.pieces(), cutting.workers(), asked))
         }
         _ => Err(Fail::from(line)),
     }
@@ -166,6 +175,9 @@ const LINES_WITH_FILES: &[(&str, &[&str])] = &[
     ("snapjudge draw a.csv --text", &["a.csv"]),
     ("snapjudge shrink --draw a.csv", &["a.csv"]),
     ("snapjudge explain - --draw", &["-"]),
+    ("snapjudge shrink --events 1048576 a.csv", &["a.csv"]),
+    ("snapjudge explain --events 1048576 --draw -", &["-"]),
+    ("snapjudge draw a.csv --text --events 1048576", &["a.csv"]),
 ];
 
 // The form of picture that the flags of a line name.
@@ -179,19 +191,34 @@ fn form_named(line: &str) -> Form {
     }
 }
 
+// The limit of events that a line names.
+fn events_named(line: &str) -> u32 {
+    if line.contains(" --events 1048576") {
+        1048576
+    } else {
+        65536
+    }
+}
+
 #[test]
 fn files_are_those_of_the_words(rt: HostRuntime) -> Result<(), Fail> {
     for (line, files) in LINES_WITH_FILES {
         let job = job_on(rt.alloc(), line, files)?;
         let is_its_command = match job {
             Job::Check { .. } => line.contains(" check"),
-            Job::Shrink { drawn } => {
-                line.contains(" shrink") && drawn == line.contains(" --draw")
+            Job::Shrink { drawn, events } => {
+                line.contains(" shrink")
+                    && drawn == line.contains(" --draw")
+                    && events == events_named(line)
             }
-            Job::Explain { drawn } => {
-                line.contains(" explain") && drawn == line.contains(" --draw")
+            Job::Explain { drawn, events } => {
+                line.contains(" explain")
+                    && drawn == line.contains(" --draw")
+                    && events == events_named(line)
             }
-            Job::Draw { form } => line.contains(" draw") && form == form_named(line),
+            Job::Draw { form, events } => {
+                line.contains(" draw") && form == form_named(line) && events == events_named(line)
+            }
             Job::Record { .. } => false,
         };
         assert!(rt; is_its_command, "{line}");
@@ -246,6 +273,13 @@ const RECORDS: &[(&str, u32, u32, Flags)] = &[
         7,
         (false, true, true),
     ),
+    (
+        "snapjudge record --events 1048576 --rounds 32768",
+        2,
+        32768,
+        NO_FLAGS,
+    ),
+    ("snapjudge record --events 32 --rounds 1", 2, 1, NO_FLAGS),
 ];
 
 // The workers, the rounds and the flags of the recording that a line asks for.
@@ -285,6 +319,11 @@ const OTHER_LINES: &[&str] = &[
     "snapjudge record --workers 9",
     "snapjudge record --rounds 0",
     "snapjudge record --rounds 2049",
+    "snapjudge record --rounds 2048 --events 65535",
+    "snapjudge record --rounds 1 --events 31",
+    "snapjudge record --rounds 32769 --events 1048576",
+    "snapjudge record --events 0",
+    "snapjudge record --events 1048577",
     "snapjudge record a.csv",
     "snapjudge record --pieces 8",
     "snapjudge record --judge=yes",
@@ -296,6 +335,13 @@ const OTHER_LINES: &[&str] = &[
     "snapjudge check --scan",
     "snapjudge check --views",
     "snapjudge check --views 32769",
+    "snapjudge check --views 3 --events 5",
+    "snapjudge check --events 0",
+    "snapjudge check --events 1048577",
+    "snapjudge check --events",
+    "snapjudge shrink --events 0",
+    "snapjudge explain --events x",
+    "snapjudge draw --events 1048577",
     "snapjudge check --views -1",
     "snapjudge check --quiet=yes",
     "snapjudge check --format",
@@ -342,6 +388,43 @@ fn other_words_get_the_usage(rt: HostRuntime) -> Result<(), Fail> {
     for line in OTHER_LINES {
         if !gets_usage(rt.alloc(), line)? {
             return Err(Fail::from(*line));
+        }
+    }
+    Ok(())
+}
+
+// Lines with a number beyond the limit of events, and what is said of it: as of a number that the parser refuses.
+const BEYOND: &[(&str, &str)] = &[
+    (
+        "snapjudge record --rounds 2049",
+        "error: invalid value '2049' for '--rounds <R>': 2049 is not in 1..=2048\n\nFor more information, try '--help'.\n",
+    ),
+    (
+        "snapjudge record --rounds 0",
+        "error: invalid value '0' for '--rounds <R>': 0 is not in 1..=2048\n\nFor more information, try '--help'.\n",
+    ),
+    (
+        "snapjudge record --events 1048576 --rounds 32769",
+        "error: invalid value '32769' for '--rounds <R>': 32769 is not in 1..=32768\n\nFor more information, try '--help'.\n",
+    ),
+    (
+        "snapjudge check --views 32769",
+        "error: invalid value '32769' for '--views <N>': 32769 is not in 0..=32768\n\nFor more information, try '--help'.\n",
+    ),
+    (
+        "snapjudge check --events 7 --views 4",
+        "error: invalid value '4' for '--views <N>': 4 is not in 0..=3\n\nFor more information, try '--help'.\n",
+    ),
+];
+
+#[test]
+fn a_number_beyond_the_limit_of_events_is_refused_as_the_parser_does(
+    rt: HostRuntime,
+) -> Result<(), Fail> {
+    for (line, text) in BEYOND {
+        match job_of(rt.alloc(), words(rt.alloc(), line)?) {
+            Err(JobFault::Usage(said)) => assert_eq!(rt; said.as_str(), *text),
+            _ => return Err(Fail::from(*line)),
         }
     }
     Ok(())

@@ -1,7 +1,7 @@
 //! Checks that are quiet, or that ask for a number of completed views.
 use super::checks::{STALE_REPORT, STALE_VIEW, cutting, end_of, history, same};
 use snap_check::{CheckOptions, RunFault, Status, check_run_with};
-use snap_core::{Counted, OpenGate};
+use snap_core::{Counted, Limit, OpenGate};
 use snap_testing::{Cup, Drip};
 use std::alloc::Global;
 use std::io::{Read, Write};
@@ -22,10 +22,14 @@ const HALF_PENDING: &str = "begin,0,view,\nbegin,1,view,\nend,1,view,\n";
 
 const BUSY: &str = "begin,0,view,\nbegin,0,view,\n";
 
-const QUIET: CheckOptions = CheckOptions {
-    quiet: true,
-    views: 0,
-};
+// A check that is quiet, of a history of so many events at most.
+fn quiet(limit: Limit) -> CheckOptions {
+    CheckOptions {
+        quiet: true,
+        views: 0,
+        limit,
+    }
+}
 
 // Records under the header, whether the check is quiet and of how many views, how it ends, and what it writes.
 const WORKED: &[(&str, bool, u32, &str, &str)] = &[
@@ -103,6 +107,7 @@ fn what_is_asked_for_is_written(rt: HostRuntime) -> Result<(), Fail> {
         let options = CheckOptions {
             quiet: *quiet,
             views: *views,
+            limit: Limit::usual(),
         };
         let text = history(alloc, records)?;
         let mut reader = Counted::new(text.as_bytes());
@@ -125,7 +130,7 @@ fn a_read_that_fails_ends_a_quiet_check_before_anything_is_written(
     let mut reader = Counted::new(Drip::new(text.as_bytes(), 40));
     let mut writer = Counted::new(Vec::new(alloc));
     same(
-        run_with(&rt, alloc, &mut reader, &mut writer, QUIET)?,
+        run_with(&rt, alloc, &mut reader, &mut writer, quiet(Limit::usual()))?,
         "read failed",
     )?;
     same(reader.failures(), 1)?;
@@ -139,11 +144,68 @@ fn a_writer_that_fails_has_a_front_of_the_verdicts(rt: HostRuntime) -> Result<()
     let mut reader = Counted::new(text.as_bytes());
     let mut writer = Counted::new(Cup::new(alloc, 15, 4, true, false));
     same(
-        run_with(&rt, alloc, &mut reader, &mut writer, QUIET)?,
+        run_with(&rt, alloc, &mut reader, &mut writer, quiet(Limit::usual()))?,
         "write failed",
     )?;
     same(
         str::from_utf8(&writer.into_inner().held)?,
         "regular no\nmono",
     )
+}
+
+// Limits of events, and how a quiet check of four events ends within them.
+const LIMITS: &[(u32, &str, &str)] = &[
+    (1, "refused", "refused record 3: toomany\n"),
+    (3, "refused", "refused record 5: toomany\n"),
+    (4, "irregular", "regular no\nmonotone yes\natomic no\n"),
+    (
+        1_048_576,
+        "irregular",
+        "regular no\nmonotone yes\natomic no\n",
+    ),
+];
+
+#[test]
+fn a_history_has_at_most_as_many_events_as_are_asked_for(rt: HostRuntime) -> Result<(), Fail> {
+    let alloc = rt.alloc();
+    let text = history(alloc, STALE_VIEW)?;
+    for (events, end, report) in LIMITS {
+        let limit = Limit::new(*events).ok_or("a limit")?;
+        let mut reader = Counted::new(text.as_bytes());
+        let mut writer = Counted::new(Vec::new(alloc));
+        same(
+            run_with(&rt, alloc, &mut reader, &mut writer, quiet(limit))?,
+            *end,
+        )?;
+        same(str::from_utf8(&writer.into_inner())?, *report)?;
+    }
+    Ok(())
+}
+
+#[test]
+fn a_text_has_1024_bytes_for_each_event(rt: HostRuntime) -> Result<(), Fail> {
+    let alloc = rt.alloc();
+    let limit = Limit::new(2).ok_or("a limit")?;
+    for (bytes, report) in [
+        (2048, "refused record 1: header\n"),
+        (2049, "refused record 0: toolong\n"),
+    ] {
+        let text = vec![in alloc; b'\n'; bytes]?;
+        let mut reader = Counted::new(text.as_slice());
+        let mut writer = Counted::new(Vec::new(alloc));
+        let end = run_with(&rt, alloc, &mut reader, &mut writer, quiet(limit))?;
+        same(end, "refused")?;
+        same(str::from_utf8(&writer.into_inner())?, report)?;
+    }
+    Ok(())
+}
+
+#[test]
+fn limits_are_1_to_1048576(rt: HostRuntime) {
+    for events in [0, 1_048_577, u32::MAX] {
+        assert!(rt; Limit::new(events).is_none());
+    }
+    for events in [1, 65_536, 1_048_576] {
+        assert!(rt; Limit::new(events).is_some_and(|limit| limit.events() == events as usize));
+    }
 }

@@ -1,6 +1,6 @@
 //! What worked histories are cut down to.
 use super::checks::{end_of, history, same, written};
-use snap_core::Counted;
+use snap_core::{Counted, Limit};
 use snap_runs::shrink_run;
 use snap_testing::{Cup, Drip};
 use std::alloc::Global;
@@ -71,7 +71,7 @@ fn shrink<Rt: Threads + Sync>(
 ) -> Result<(&'static str, String), Fail> {
     let mut reader = Counted::new(text);
     let mut writer = Counted::new(Vec::new(alloc));
-    let answer = shrink_run(rt, alloc, &mut reader, &mut writer);
+    let answer = shrink_run(rt, alloc, &mut reader, &mut writer, Limit::usual());
     written(alloc, answer, writer)
 }
 
@@ -126,7 +126,7 @@ fn shrink_over<Rt: Threads + Sync, R: Read + Drop, W: Write + Drop>(
 ) -> (&'static str, u64, u64) {
     let mut reader = Counted::new(reader);
     let mut writer = Counted::new(writer);
-    let end = end_of(shrink_run(rt, alloc, &mut reader, &mut writer));
+    let end = end_of(shrink_run(rt, alloc, &mut reader, &mut writer, Limit::usual()));
     (end, reader.failures(), writer.failures())
 }
 

@@ -1,6 +1,6 @@
 //! The objects of worked texts.
 use super::checks::{end_of, history, same, written};
-use snap_core::{Counted, OpenGate};
+use snap_core::{Counted, Limit, OpenGate};
 use snap_tell::tell_run;
 use snap_testing::{Cup, Drip};
 use snap_threads::Cutting;
@@ -29,6 +29,7 @@ fn told<Rt: Threads + Sync>(
         cutting,
         &OpenGate,
         least,
+        Limit::usual(),
     );
     written(alloc, answer, writer)
 }
@@ -129,6 +130,7 @@ fn tell_over<Rt: Threads + Sync, R: Read + Drop, W: Write + Drop>(
         cutting,
         &OpenGate,
         0,
+        Limit::usual(),
     ));
     (end, reader.failures(), writer.failures())
 }

@@ -8,7 +8,7 @@ use Rattle.snap_core.specs.declared.event.Event.TheVariants.{BeginUpdate, BeginV
 use Rattle.snap_core.specs.Events.{IsBoundedHistory}
 use Rattle.snap_csv.specs.Laws.{ListsAtMost}
 use Rattle.snap_csv.specs.Layout.{history_text}
-use Rattle.snap_csv.specs.Texts.{byte_limit}
+use Rattle.snap_csv.specs.Texts.{bytes_within}
 use Rattle.snap_csv.proofs.LengthFacts.{narrow_text_short}
 use Rattle.snap_record.specs.Calls.{Mem}
 use Rattle.snap_record.specs.declared.plan.Step.{Step}
@@ -26,6 +26,7 @@ all_list n (x ∷ xs) h = All-cons (ListsAtMost n) x xs (one x (λ p es e. h p e
     one (EndView p es) g = g p es refl
 
 -- a board has at most eight desks
-pub recording_short : (scripts : List (List Step)) (events : List Event) (stamps : List ℕ) → IsBoundedHistory events → length scripts ≤ 8 → AreStamped scripts events stamps → length (history_text events) ≤ byte_limit
-recording_short scripts events stamps k few s =
-    narrow_text_short events k (all_list 36 events (λ p es m. let l = shows_few scripts events stamps s p es m in omega arith))
+pub recording_short : (limit : ℕ) (scripts : List (List Step)) (events : List Event) (stamps : List ℕ) → 1 ≤ limit → IsBoundedHistory events → length events ≤ limit → length scripts ≤ 8 → AreStamped scripts events stamps →
+    length (history_text events) ≤ bytes_within limit
+recording_short limit scripts events stamps some k short few s =
+    narrow_text_short limit events some k short (all_list 36 events (λ p es m. let l = shows_few scripts events stamps s p es m in omega arith))

@@ -1,13 +1,14 @@
 -- What a recording writes and answers.
-use Rattle.std.proofs.Common.{◌≡◌, ◌⊎◌, ◌∙◌, ◌≤◌, ℕ, Bool, true, false, List, length, Option, Result, Ok, Err, ap, inl, inr}
+use Rattle.std.proofs.Common.{◌≡◌, ◌⊎◌, ◌∙◌, ◌≤◌, ◌*◌, ℕ, Bool, true, false, List, length, Option, Result, Ok, Err, ap, arith, inl, inr}
 use Rattle.std.specs.Prelude.{IfOk}
 use Rattle.snap_core.specs.declared.event.Event.{Event}
 use Rattle.snap_core.specs.Calls.{calls_of}
 use Rattle.snap_core.specs.Orders.{IsAtomic}
 use Rattle.snap_csv.specs.Layout.{history_text, stamped_text}
-use Rattle.snap_csv.specs.Texts.{byte_limit}
+use Rattle.snap_csv.specs.Texts.{bytes_within}
 use Rattle.snap_csv.proofs.TextFacts.{text_reads}
 use Rattle.snap_record.specs.declared.plan.Step.{Step}
+use Rattle.snap_record.specs.Plans.{steps_in}
 use Rattle.snap_check.specs.declared.fault.RunFault.{RunFault}
 use Rattle.snap_check.specs.declared.fault.RunFault.TheVariants as faults
 use Rattle.snap_verdict.specs.declared.status.Status.{Status}
@@ -27,13 +28,14 @@ regular_status : (regular atomic : Bool) (status : Status) → regular ≡ true 
 regular_status regular true status is_true e = inl e
 regular_status regular false status is_true e = inr (e ∙ ap (λ b. status_of b false) is_true)
 
-report_of : (scripts : List (List Step)) (events : List Event) → IsRecordingOf scripts events → length (history_text events) ≤ byte_limit → (status : Status) (out : List ℕ) → IsVerdict events status out → IsRecordingReport scripts status out
+report_of : (scripts : List (List Step)) (events : List Event) → IsRecordingOf scripts events → ((limit : ℕ) → 1 ≤ limit → 2 * steps_in scripts ≤ limit → length (history_text events) ≤ bytes_within limit) → (status : Status) (out : List ℕ) → IsVerdict events status out → IsRecordingReport scripts status out
 report_of scripts events recording short status out v =
     record {
       events = events;
       recording = recording;
       answers = regular_status v.regular v.atomic status (v.regular_exactly.1 recording.regular) v.answers;
-      report = inr (record { events = events; history = text_reads events recording.kept short; verdict = v });
+      report = λ limit some within.
+          inr (record { events = events; history = text_reads limit events recording.kept (omega (arith, recording.few, within)) (short limit some within); verdict = v });
     }
 
 pub text_written : (scripts : List (List Step)) (events : List Event) → IsRecordingOf scripts events → (old new : Option (List ℕ)) (answer : Result Status RunFault) →
@@ -51,7 +53,7 @@ stamped_written scripts events stamps recording has_stamps old new answer h =
 pub report_written : (scripts : List (List Step)) (events : List Event) (stamps : List ℕ) → length scripts ≤ 8 → IsRecordingOf scripts events → HasStamps scripts events stamps → (old new : Option (List ℕ)) (answer : Result Status RunFault) →
     WroteAs (IsVerdict events) old new answer → WroteAs (IsRecorded true scripts) old new answer
 report_written scripts events stamps few recording has_stamps old new answer h =
-    wrote_also (IsVerdict events) (IsRecorded true scripts) (report_of scripts events recording (recording_short scripts events stamps recording.kept few has_stamps.stamped)) old new answer h
+    wrote_also (IsVerdict events) (IsRecorded true scripts) (report_of scripts events recording (λ limit some within. recording_short limit scripts events stamps some recording.kept (omega (arith, recording.few, within)) few has_stamps.stamped)) old new answer h
 
 -- the verdict on an atomic history
 pub atomic_status : (events : List Event) (status : Status) (out : List ℕ) → IsAtomic (calls_of events) → IsVerdict events status out → status ≡ Atomic

@@ -6,7 +6,7 @@ use Rattle.snap_core.specs.Calls.{calls_of}
 use Rattle.snap_core.specs.Orders.{IsAtomic}
 use Rattle.snap_core.specs.Regular.{IsRegular}
 use Rattle.snap_csv.specs.Layout.{history_text}
-use Rattle.snap_csv.specs.Texts.{IsText}
+use Rattle.snap_csv.specs.Texts.{IsTextWithin}
 use Rattle.snap_verdict.specs.declared.status.Status.{Status}
 use Rattle.snap_verdict.specs.Verdicts.{HasStatus}
 use Rattle.snap_theory.specs.First.{AreWholeCalls, HasFirstFault}
@@ -28,14 +28,14 @@ first_witness_is es status (Some w) s none calls few_calls few_events fault not_
   record { calls = calls; few_calls = few_calls; few_events = few_events; fault = fault; not_atomic = not_atomic; regular = regular },
 )
 
-cut_text : (text : List ℕ) (es left : List Event) (status answer : Status) (out : List ℕ) → IsText text es → IsCutTo es status left → answer ≡ status → out ≡ history_text left → IsShrunk text answer out
-cut_text text es left status answer out reads cut same e = inr (record { events = es; left = left; history = reads; cut = subst (λ t. IsCutTo es t left) (sym same) cut; writes = e })
+cut_text : (limit : ℕ) (text : List ℕ) (es left : List Event) (status answer : Status) (out : List ℕ) → IsTextWithin limit text es → IsCutTo es status left → answer ≡ status → out ≡ history_text left → IsShrunk limit text answer out
+cut_text limit text es left status answer out reads cut same e = inr (record { events = es; left = left; history = reads; cut = subst (λ t. IsCutTo es t left) (sym same) cut; writes = e })
 
-pub cut_written : (known : Option (List ℕ)) (es left : List Event) (status : Status) (held new : Option (List ℕ)) (answer : Result Status RunFault) → IfSome known (λ text. IsText text es) → IsCutTo es status left →
-    WroteAs (λ answer out. (answer ≡ status) × (out ≡ history_text left)) held new answer → WroteBy IsShrunk known held new answer
-cut_written known es left status held new (Ok s) reads cut w =
-    with_text _ _ known reads (λ text is. (w.0, cut_text text es left status s w.0 is cut w.1.0 w.1.1, w.2))
-cut_written known es left status held new (Err faults.Read) reads cut w = absurd w
-cut_written known es left status held new (Err faults.Write) reads cut w =
-    with_text _ _ known reads (λ text is. (w.0, w.1, cut_text text es left status w.0 w.1 is cut w.2.0 w.2.1, w.3))
-cut_written known es left status held new (Err faults.Memory) reads cut w = w
+pub cut_written : (limit : ℕ) (known : Option (List ℕ)) (es left : List Event) (status : Status) (held new : Option (List ℕ)) (answer : Result Status RunFault) → IfSome known (λ text. IsTextWithin limit text es) → IsCutTo es status left →
+    WroteAs (λ answer out. (answer ≡ status) × (out ≡ history_text left)) held new answer → WroteBy (IsShrunk limit) known held new answer
+cut_written limit known es left status held new (Ok s) reads cut w =
+    with_text _ _ known reads (λ text is. (w.0, cut_text limit text es left status s w.0 is cut w.1.0 w.1.1, w.2))
+cut_written limit known es left status held new (Err faults.Read) reads cut w = absurd w
+cut_written limit known es left status held new (Err faults.Write) reads cut w =
+    with_text _ _ known reads (λ text is. (w.0, w.1, cut_text limit text es left status w.0 w.1 is cut w.2.0 w.2.1, w.3))
+cut_written limit known es left status held new (Err faults.Memory) reads cut w = w

@@ -3,8 +3,8 @@ use Rattle.std.specs.Prelude.{◌≡◌, ◌⊎◌, ℕ, List}
 use Rattle.snap_core.specs.declared.event.Event.{Event}
 use Rattle.snap_core.specs.Calls.{calls_of}
 use Rattle.snap_text.specs.declared.fault.TextFault.{TextFault}
-use Rattle.snap_csv.specs.Records.{HaveRecords}
-use Rattle.snap_csv.specs.Texts.{HasFault}
+use Rattle.snap_csv.specs.Records.{HaveRecordsWithin}
+use Rattle.snap_csv.specs.Texts.{HasFaultWithin}
 use Rattle.snap_verdict.specs.declared.status.Status.{Status}
 use Rattle.snap_verdict.specs.declared.status.Status.TheVariants.{Refused}
 use Rattle.snap_verdict.specs.Verdicts.{HasStatus}
@@ -15,21 +15,21 @@ use Rattle.snap_explain.specs.Refusals.{IsRefusalExplanation}
 abbrev pub ExplainsHistory : List Event → List ℕ → Status → List ℕ → Type 0
 ExplainsHistory events records status out = HasStatus events status × IsExplanation records (calls_of events) out
 
--- the same of a text
-pub record IsExplainedText (text : List ℕ) (status : Status) (out : List ℕ) : Type 0 where
+-- the same of a text, where a history may have so many events
+pub record IsExplainedText (limit : ℕ) (text : List ℕ) (status : Status) (out : List ℕ) : Type 0 where
   pub events : List Event
   pub records : List ℕ
-  pub history : HaveRecords text events records
+  pub history : HaveRecordsWithin limit text events records
   pub explained : ExplainsHistory events records status out
 
 -- a text with a fault is refused: its first fault is explained, and the place of that
-pub record IsExplainedRefusal (text : List ℕ) (status : Status) (out : List ℕ) : Type 0 where
+pub record IsExplainedRefusal (limit : ℕ) (text : List ℕ) (status : Status) (out : List ℕ) : Type 0 where
   pub place : ℕ
   pub fault : TextFault
-  pub first : HasFault text place fault
+  pub first : HasFaultWithin limit text place fault
   pub answers : status ≡ Refused
-  pub explained : IsRefusalExplanation text place fault out
+  pub explained : IsRefusalExplanation limit text place fault out
 
--- the status and what is written
-abbrev pub IsExplained : List ℕ → Status → List ℕ → Type 0
-IsExplained text status out = IsExplainedRefusal text status out ⊎ IsExplainedText text status out
+-- the status and what is written, where a history may have so many events
+abbrev pub IsExplained : ℕ → List ℕ → Status → List ℕ → Type 0
+IsExplained limit text status out = IsExplainedRefusal limit text status out ⊎ IsExplainedText limit text status out

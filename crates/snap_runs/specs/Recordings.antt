@@ -1,5 +1,5 @@
 -- What a recording answers, writes and counts.
-use Rattle.std.specs.Prelude.{◌≡◌, ◌⊎◌, ℕ, Bool, true, false, List, length, Option, Result, Ok, Err}
+use Rattle.std.specs.Prelude.{◌≡◌, ◌≤◌, ◌*◌, ◌⊎◌, ℕ, Bool, true, false, List, length, Option, Result, Ok, Err}
 use Rattle.std.specs.List.Sorted.{IsStrictlyIncreasing}
 use Rattle.std.specs.Io.KnownBytes.{Keeps}
 use Rattle.snap_core.specs.declared.event.Event.{Event}
@@ -12,20 +12,21 @@ use Rattle.snap_core.specs.Regular.{IsRegular}
 use Rattle.snap_csv.specs.Layout.{history_text, stamped_text}
 use Rattle.snap_record.specs.declared.plan.Step.{Step}
 use Rattle.snap_record.specs.History.{AllCompleted}
-use Rattle.snap_record.specs.Plans.{HasScripts, HasWholeScripts, HasNoScans, HasNoViews}
+use Rattle.snap_record.specs.Plans.{HasScripts, HasWholeScripts, HasNoScans, HasNoViews, steps_in}
 use Rattle.snap_record.specs.Recording.{ArePlaces, AreStamped}
 use Rattle.snap_check.specs.Runs.{WroteFront, WroteWhole}
 use Rattle.snap_check.specs.declared.fault.RunFault.{RunFault}
 use Rattle.snap_check.specs.declared.fault.RunFault.TheVariants as faults
 use Rattle.snap_verdict.specs.declared.status.Status.{Status}
 use Rattle.snap_verdict.specs.declared.status.Status.TheVariants.{Atomic, Recorded, Regular}
-use Rattle.snap_verdict.specs.Reports.{IsReport}
+use Rattle.snap_verdict.specs.Reports.{IsReportWithin}
 
 -- a history that a board's run of these scripts has: regular and monotone, atomic where no script has a collect, without a pending call, and
 -- with the calls of each worker's script but for scans that were interfered with, as the process of its number, in their order, each once,
--- and no other
+-- and no other, so with two events for a step at most
 pub record IsRecordingOf (scripts : List (List Step)) (events : List Event) : Type 0 where
   pub kept : IsBoundedHistory events
+  pub few : length events ≤ 2 * steps_in scripts
   pub regular : IsRegular (calls_of events)
   pub monotone : IsMonotone (calls_of events)
   pub completed : AllCompleted (calls_of events)
@@ -58,12 +59,12 @@ pub record IsStampedRecording (scripts : List (List Step)) (status : Status) (ou
   pub answers : status ≡ Recorded
   pub writes : out ≡ stamped_text stamps events
 
--- the report of such a history's text without stamps
+-- the report of such a history's text without stamps, within each limit of events that its scripts keep
 pub record IsRecordingReport (scripts : List (List Step)) (status : Status) (out : List ℕ) : Type 0 where
   pub events : List Event
   pub recording : IsRecordingOf scripts events
   pub answers : (status ≡ Atomic) ⊎ (status ≡ Regular)
-  pub report : IsReport (history_text events) status out
+  pub report : (limit : ℕ) → 1 ≤ limit → 2 * steps_in scripts ≤ limit → IsReportWithin limit (history_text events) status out
 
 -- the status and the text of a recording, or where it is judged its status and report
 abbrev pub IsRecorded : Bool → List (List Step) → Status → List ℕ → Type 0

@@ -5,9 +5,9 @@ use Rattle.snap_core.specs.Calls.{calls_of}
 use Rattle.snap_core.specs.Orders.{IsAtomic}
 use Rattle.snap_core.specs.Regular.{IsRegular}
 use Rattle.snap_csv.specs.Layout.{history_text}
-use Rattle.snap_csv.specs.Texts.{IsText}
+use Rattle.snap_csv.specs.Texts.{IsTextWithin}
 use Rattle.snap_verdict.specs.declared.status.Status.{Status}
-use Rattle.snap_verdict.specs.Reports.{IsRefused}
+use Rattle.snap_verdict.specs.Reports.{IsRefusedWithin}
 use Rattle.snap_verdict.specs.Verdicts.{HasStatus}
 use Rattle.snap_theory.specs.First.{AreWholeCalls, HasFirstFault}
 
@@ -32,14 +32,14 @@ pub record IsCutTo (events : List Event) (status : Status) (left : List Event) :
   pub atomic : IsAtomic (calls_of events) → left ≡ events
   pub not_atomic : (IsAtomic (calls_of events) → ⊥) → IsWitnessOf events left
 
--- the same of a text
-pub record IsCutText (text : List ℕ) (status : Status) (out : List ℕ) : Type 0 where
+-- the same of a text, where a history may have so many events
+pub record IsCutText (limit : ℕ) (text : List ℕ) (status : Status) (out : List ℕ) : Type 0 where
   pub events : List Event
   pub left : List Event
-  pub history : IsText text events
+  pub history : IsTextWithin limit text events
   pub cut : IsCutTo events status left
   pub writes : out ≡ history_text left
 
 -- the status and what is written: a text with a fault is refused
-abbrev pub IsShrunk : List ℕ → Status → List ℕ → Type 0
-IsShrunk text status out = IsRefused text status out ⊎ IsCutText text status out
+abbrev pub IsShrunk : ℕ → List ℕ → Status → List ℕ → Type 0
+IsShrunk limit text status out = IsRefusedWithin limit text status out ⊎ IsCutText limit text status out

@@ -8,8 +8,8 @@ ghost use Rattle.snap_check.specs.Runs.{JudgeCounts, JudgesBy, RunCounts, WroteB
 
 use snap_check::RunFault;
 use snap_conditions::{Tally, is_atomic};
-use snap_core::{Counted, History, OpenGate};
-use snap_csv::{ReadRefusal, read_records};
+use snap_core::{Counted, History, Limit, OpenGate};
+use snap_csv::{ReadRefusal, read_records_within};
 use snap_explain::{explain, explain_refusal};
 use snap_index::Index;
 use snap_order::build;
@@ -61,15 +61,16 @@ fn explain_input<Rt: Threads + Sync, R: Read>(
     rt: &Rt,
     alloc: Global,
     reader: &mut Counted<R>,
+    limit: Limit,
 ) -> Result<(Status, Vec<u8>), RunFault>
-    ensures answer { JudgesBy IsExplained (R.remaining (inner_of reader.old)) result }
+    ensures answer { JudgesBy (IsExplained limit.events) (R.remaining (inner_of reader.old)) result }
     ensures counts { JudgeCounts (failures_in reader.old) (failures_in reader.new) result }
 {
     let mut room = Vec::new(alloc);
-    match read_records(alloc, reader, &mut room) {
+    match read_records_within(alloc, reader, &mut room, limit) {
         Ok((history, records)) => Ok(explained(rt, alloc, &history, &records)?),
         Err(ReadRefusal::Text { place, fault }) => {
-            let text = explain_refusal(alloc, &room, place, fault)?;
+            let text = explain_refusal(alloc, &room, place, fault, limit)?;
             Ok((Status::Refused, text))
         }
         Err(ReadRefusal::Device) => Err(RunFault::Read),
@@ -80,7 +81,7 @@ fn explain_input<Rt: Threads + Sync, R: Read>(
 /// Reads a history, and writes its explanation: an order of its calls where it is atomic, and otherwise of each kind of fault
 /// that it has the first, as a sentence, with each call concerned and the records of its begin and its end. Of a text that is
 /// no history the line of its first fault goes out, the rule that is broken, and the record at fault as it stands in the text.
-/// The status is that of `check_run`.
+/// The status is that of `check_run`. A history may have as many events as the limit says, and its text 1,024 times as many bytes.
 ///
 /// Nothing is written until the whole text is built: after `Read` or `Memory` nothing went out, after `Write` a front of the
 /// text, perhaps all of it. The writer is flushed once at the end. The run returns where the reader and the writer do.
@@ -89,11 +90,12 @@ pub fn explain_run<Rt: Threads + Sync, R: Read, W: Write>(
     alloc: Global,
     reader: &mut Counted<R>,
     writer: &mut Counted<W>,
+    limit: Limit,
 ) -> Result<Status, RunFault>
-    ensures wrote { WroteBy IsExplained (R.remaining (inner_of reader.old)) (W.contents (inner_of writer.old)) (W.contents (inner_of writer.new)) result }
+    ensures wrote { WroteBy (IsExplained limit.events) (R.remaining (inner_of reader.old)) (W.contents (inner_of writer.old)) (W.contents (inner_of writer.new)) result }
     ensures counts { RunCounts (failures_in reader.old) (failures_in reader.new) (failures_in writer.old) (failures_in writer.new) result }
 {
-    let (status, text) = explain_input(rt, alloc, reader)?;
+    let (status, text) = explain_input(rt, alloc, reader, limit)?;
     match writer.send(&text) {
         Ok(()) => Ok(status),
         Err(_) => Err(RunFault::Write),

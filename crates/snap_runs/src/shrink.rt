@@ -5,7 +5,7 @@ ghost use Rattle.snap_runs.specs.Shrinking.{IsCutTo, IsFirstWitness, IsShrunk};
 
 use crate::recording::write_text;
 use snap_check::{Reading, RunFault, read_in};
-use snap_core::{Counted, History, OpenGate};
+use snap_core::{Counted, History, Limit, OpenGate};
 use snap_index::Index;
 use snap_pairs::tally;
 use snap_threads::Cutting;
@@ -45,7 +45,8 @@ pub fn cut<Rt: Threads + Sync>(
 
 /// Reads a history, and writes a witness of its first fault: the text of a history of at most four of its calls, in at most
 /// eight events, that has the same fault. An atomic history is written as it is, without stamps; of a text that is no history
-/// the line of its first fault goes out. The status is that of `check_run`.
+/// the line of its first fault goes out. The status is that of `check_run`. A history may have as many events as the limit says,
+/// and its text 1,024 times as many bytes.
 ///
 /// Nothing is written until the whole text is built: after `Read` or `Memory` nothing went out, after `Write` a front of the
 /// text, perhaps all of it. The writer is flushed once at the end. The run returns where the reader and the writer do.
@@ -54,11 +55,12 @@ pub fn shrink_run<Rt: Threads + Sync, R: Read, W: Write>(
     alloc: Global,
     reader: &mut Counted<R>,
     writer: &mut Counted<W>,
+    limit: Limit,
 ) -> Result<Status, RunFault>
-    ensures wrote { WroteBy IsShrunk (R.remaining (inner_of reader.old)) (W.contents (inner_of writer.old)) (W.contents (inner_of writer.new)) result }
+    ensures wrote { WroteBy (IsShrunk limit.events) (R.remaining (inner_of reader.old)) (W.contents (inner_of writer.old)) (W.contents (inner_of writer.new)) result }
     ensures counts { RunCounts (failures_in reader.old) (failures_in reader.new) (failures_in writer.old) (failures_in writer.new) result }
 {
-    match read_in(alloc, reader, &mut Vec::new(alloc))? {
+    match read_in(alloc, reader, &mut Vec::new(alloc), limit)? {
         Reading::History(history) => {
             let (status, left) = cut(rt, alloc, history)?;
             write_text(alloc, &left, status, writer)

@@ -5,8 +5,8 @@ use Rattle.snap_core.specs.Calls.{calls_of, views_of}
 use Rattle.snap_conditions.specs.declared.tally.Tally.{Tally}
 use Rattle.snap_conditions.specs.Tally.{tally_of}
 use Rattle.snap_text.specs.declared.fault.TextFault.{TextFault}
-use Rattle.snap_csv.specs.Records.{HaveRecords}
-use Rattle.snap_csv.specs.Texts.{HasFault}
+use Rattle.snap_csv.specs.Records.{HaveRecordsWithin}
+use Rattle.snap_csv.specs.Texts.{HasFaultWithin}
 use Rattle.snap_verdict.specs.declared.status.Status.{Status}
 use Rattle.snap_verdict.specs.declared.status.Status.TheVariants.{Refused}
 use Rattle.snap_verdict.specs.Statuses.{code_of}
@@ -33,21 +33,22 @@ abbrev pub TellsHistory : List ℕ → ℕ → List Event → List ℕ → Statu
 TellsHistory name least events records status out =
     IsToldFew name least events status out ⊎ ((least ≤ length (views_of (calls_of events))) × IsToldHistory name events records status out)
 
--- the same of a text
-pub record IsToldText (name : List ℕ) (least : ℕ) (text : List ℕ) (status : Status) (out : List ℕ) : Type 0 where
+-- the same of a text, where a history may have so many events
+pub record IsToldText (limit : ℕ) (name : List ℕ) (least : ℕ) (text : List ℕ) (status : Status) (out : List ℕ) : Type 0 where
   pub events : List Event
   pub records : List ℕ
-  pub history : HaveRecords text events records
+  pub history : HaveRecordsWithin limit text events records
   pub told : TellsHistory name least events records status out
 
 -- a text with a fault is refused: the object names its first fault and the place of that
-pub record IsToldRefusal (name : List ℕ) (text : List ℕ) (status : Status) (out : List ℕ) : Type 0 where
+pub record IsToldRefusal (limit : ℕ) (name : List ℕ) (text : List ℕ) (status : Status) (out : List ℕ) : Type 0 where
   pub place : ℕ
   pub fault : TextFault
-  pub first : HasFault text place fault
+  pub first : HasFaultWithin limit text place fault
   pub answers : status ≡ Refused
   pub line : IsLineOf (refusal_json name (code_of status) place fault) out
 
--- the status and the object of a text with a name, of which so many completed views are asked for
-abbrev pub IsTold : List ℕ → ℕ → List ℕ → Status → List ℕ → Type 0
-IsTold name least text status out = IsToldRefusal name text status out ⊎ IsToldText name least text status out
+-- the status and the object of a text with a name, of which so many completed views are asked for, where a history may have so many
+-- events
+abbrev pub IsTold : ℕ → List ℕ → ℕ → List ℕ → Status → List ℕ → Type 0
+IsTold limit name least text status out = IsToldRefusal limit name text status out ⊎ IsToldText limit name least text status out

@@ -8,8 +8,8 @@ ghost use Rattle.snap_verdict.specs.declared.status.Status.TheVariants.{Refused}
 ghost use Rattle.snap_tell.specs.Telling.{IsTold, IsToldHistory, TellsHistory};
 
 use snap_check::RunFault;
-use snap_core::{Counted, Gate, History};
-use snap_csv::{ReadRefusal, read_records};
+use snap_core::{Counted, Gate, History, Limit};
+use snap_csv::{ReadRefusal, read_records_within};
 use snap_index::Index;
 use snap_json::{few_views_line, history_line, refusal_line};
 use snap_pairs::tally;
@@ -78,12 +78,13 @@ fn tell_input<Rt: Threads + Sync, R: Read, G: Gate>(
     cutting: Cutting,
     gate: &G,
     least: u32,
+    limit: Limit,
 ) -> Result<(Status, Vec<u8>), RunFault>
-    ensures answer { JudgesBy (IsTold name.now least) (R.remaining (inner_of reader.old)) result }
+    ensures answer { JudgesBy (IsTold limit.events name.now least) (R.remaining (inner_of reader.old)) result }
     ensures counts { JudgeCounts (failures_in reader.old) (failures_in reader.new) result }
 {
     let mut room = Vec::new(alloc);
-    match read_records(alloc, reader, &mut room) {
+    match read_records_within(alloc, reader, &mut room, limit) {
         Ok((history, records)) => Ok(told_of(
             rt, alloc, name, &history, &records, cutting, gate, least,
         )?),
@@ -98,7 +99,8 @@ fn tell_input<Rt: Threads + Sync, R: Read, G: Gate>(
 
 /// Reads a history and writes its answer as a JSON object on a line, with a name for the text: its numbers, its verdicts and of
 /// each kind of fault the first, with its calls and their records. Of a text that is no history, and of a history with fewer
-/// completed views than are asked for, the object says so; the status is then `Refused`, and otherwise that of `check_run`.
+/// completed views than are asked for, the object says so; the status is then `Refused`, and otherwise that of `check_run`. A
+/// history may have as many events as the limit says, and its text 1,024 times as many bytes.
 ///
 /// Nothing is written until the whole line is built: after `Read` or `Memory` nothing went out, after `Write` a front of the
 /// line, perhaps all of it. The writer is flushed once at the end. The run returns where the reader and the writer do, and the
@@ -112,11 +114,12 @@ pub fn tell_run<Rt: Threads + Sync, R: Read, W: Write, G: Gate>(
     cutting: Cutting,
     gate: &G,
     least: u32,
+    limit: Limit,
 ) -> Result<Status, RunFault>
-    ensures wrote { WroteBy (IsTold name.now least) (R.remaining (inner_of reader.old)) (W.contents (inner_of writer.old)) (W.contents (inner_of writer.new)) result }
+    ensures wrote { WroteBy (IsTold limit.events name.now least) (R.remaining (inner_of reader.old)) (W.contents (inner_of writer.old)) (W.contents (inner_of writer.new)) result }
     ensures counts { RunCounts (failures_in reader.old) (failures_in reader.new) (failures_in writer.old) (failures_in writer.new) result }
 {
-    let (status, line) = tell_input(rt, alloc, name, reader, cutting, gate, least)?;
+    let (status, line) = tell_input(rt, alloc, name, reader, cutting, gate, least, limit)?;
     match writer.send(&line) {
         Ok(()) => Ok(status),
         Err(_) => Err(RunFault::Write),

@@ -4,7 +4,7 @@ ghost use Rattle.snap_core.specs.Calls.{calls_of, views_of};
 ghost use Rattle.snap_conditions.specs.Tally.{tally_of};
 
 use snap_conditions::{Tally, is_atomic, tally_range};
-use snap_core::History;
+use snap_core::{History, Limit};
 use snap_explain::{explain, explain_refusal};
 use snap_index::Index;
 use snap_order::build_alone;
@@ -207,8 +207,24 @@ const REFUSED: &[(u32, TextFault, &str)] = &[
 fn a_fault_of_a_text_has_its_rule_and_the_record_of_its_place(rt: HostRuntime) -> Result<(), Fail> {
     let text = b"event,process,op\nend,1,view,0:1:7  1:1:8\n".as_slice();
     for (place, fault, known) in REFUSED {
-        let said = explain_refusal(rt.alloc(), text, *place, *fault)?;
+        let said = explain_refusal(rt.alloc(), text, *place, *fault, Limit::usual())?;
         assert_eq!(rt; said.as_slice(), known.as_bytes());
+    }
+    Ok(())
+}
+
+#[test]
+fn a_rule_names_the_limit_that_holds(rt: HostRuntime) -> Result<(), Fail> {
+    let limit = Limit::new(131_072).ok_or("a limit")?;
+    for (fault, rule) in [
+        (
+            TextFault::TooMany,
+            "\na history has at most 131072 events\n",
+        ),
+        (TextFault::TooLong, "\na text has at most 134217728 bytes\n"),
+    ] {
+        let said = explain_refusal(rt.alloc(), b"", 0, fault, limit)?;
+        assert!(rt; str::from_utf8(&said)?.contains(rule));
     }
     Ok(())
 }

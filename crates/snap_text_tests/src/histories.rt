@@ -114,10 +114,10 @@ fn a_second_writer_is_refused_before_a_wrong_number(rt: HostRuntime) -> Result<(
     expect_turns(&rt, rt.alloc(), SECOND_WRITER)
 }
 
-// A history of as many updates as it may have, all ended.
+// A history of as many updates as the longest has, all ended.
 fn full(alloc: Global) -> Result<History, Fail> {
     let mut history = History::new(alloc);
-    for number in 1..=32768 {
+    for number in 1..=524288 {
         history.push(event_of(alloc, Update(65535, (0, number, 1)))?)?;
         history.push(Event::EndUpdate { process: 65535 })?;
     }
@@ -125,14 +125,14 @@ fn full(alloc: Global) -> Result<History, Fail> {
 }
 
 #[test]
-fn the_65537th_event_is_too_many(rt: HostRuntime) -> Result<(), Fail> {
+fn the_1048577th_event_is_too_many(rt: HostRuntime) -> Result<(), Fail> {
     let mut history = full(rt.alloc())?;
-    assert_eq!(rt; history.len(), 65536);
+    assert_eq!(rt; history.len(), 1048576);
     for step in [View(0), Updated(0)] {
         let found = refusal(rt.alloc(), &mut history, step)?;
         assert_eq!(rt; found, Some(EventRefusal::TooMany));
     }
-    assert_eq!(rt; history.len(), 65536);
+    assert_eq!(rt; history.len(), 1048576);
     Ok(())
 }
 

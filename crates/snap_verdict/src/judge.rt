@@ -7,12 +7,12 @@ ghost use Rattle.snap_conditions.specs.Tally.{tally_of};
 ghost use Rattle.snap_theory.specs.Levels.{printed_order};
 ghost use Rattle.snap_report.specs.Reports.{has_no_fault};
 ghost use Rattle.snap_verdict.specs.Verdicts.{HasStatus, IsBriefVerdict, IsVerdict};
-ghost use Rattle.snap_verdict.specs.Reports.{IsReport};
+ghost use Rattle.snap_verdict.specs.Reports.{IsReport, IsReportWithin};
 
 use crate::status::{Status, status_by};
 use snap_conditions::{Tally, ViewChain, is_atomic, tally_and_chain_alone};
-use snap_core::History;
-use snap_csv::{ReadRefusal, read_text};
+use snap_core::{History, Limit};
+use snap_csv::{ReadRefusal, read_text_within};
 use snap_index::Index;
 use snap_order::build_along;
 use snap_report::{refusal_text, report_in, verdict_text};
@@ -115,7 +115,18 @@ pub fn verdict_alone(alloc: Global, history: &History) -> Result<(Status, Vec<u8
 pub fn judge_text(alloc: Global, text: &[u8]) -> Result<(Status, Vec<u8>), AllocError>
     ensures { IfOk result (λ answer. IsReport text.now answer.0 answer.1.items) }
 {
-    match read_text(alloc, text) {
+    judge_text_within(alloc, text, Limit::usual())
+}
+
+/// As `judge_text`, where a history may have so many events, and its text 1,024 times as many bytes.
+pub fn judge_text_within(
+    alloc: Global,
+    text: &[u8],
+    limit: Limit,
+) -> Result<(Status, Vec<u8>), AllocError>
+    ensures { IfOk result (λ answer. IsReportWithin limit.events text.now answer.0 answer.1.items) }
+{
+    match read_text_within(alloc, text, limit) {
         // a call's line is no longer than the records that it is read from
         Ok(history) => verdict_in(alloc, &history, text.len() + FRONT_SIZE),
         Err(ReadRefusal::Text { place, fault }) => {

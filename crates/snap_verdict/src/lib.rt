@@ -6,7 +6,8 @@ mod law;
 mod status;
 
 pub use judge::{
-    brief_verdict_of, judge_text, status_of, verdict_alone, verdict_along, verdict_of,
+    brief_verdict_of, judge_text, judge_text_within, status_of, verdict_alone, verdict_along,
+    verdict_of,
 };
 pub use law::one_report;
 pub use status::Status;

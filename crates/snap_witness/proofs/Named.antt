@@ -5,7 +5,7 @@ use Rattle.std.specs.Option.{option_map}
 use Rattle.std.proofs.lemmas.Bool.{and_parts}
 use Rattle.std.proofs.lemmas.List.Sums.{count_by-le-length}
 use Rattle.snap_core.specs.declared.event.Event.{Event}
-use Rattle.snap_core.specs.Events.{IsBoundedHistory, event_limit}
+use Rattle.snap_core.specs.Events.{IsBoundedHistory, event_cap}
 use Rattle.snap_core.specs.Calls.{Call, calls_of, views_of, call_numbered, is_view, precedes, shown_number, is_update_numbered}
 use Rattle.snap_core.specs.Regular.{IsViewOf}
 use Rattle.snap_core.proofs.Lists.{In, In-from_Contains, any_to}
@@ -81,7 +81,7 @@ integrity_named es h fault e =
     (names es h (first_integrity (calls_of es)) (Integrity m.from.0 m.from.1) (m.from.0.number ∷ []) f i (one_within es m.from.0 i.0) (one_call es m.from.0 i.0))
 
 -- the number of an update that there is
-few_updates : (es : List Event) → IsBoundedHistory es → (k n : ℕ) (c : Call) → In c (calls_of es) → is_update_numbered k n c ≡ true → n ≤ event_limit
+few_updates : (es : List Event) → IsBoundedHistory es → (k n : ℕ) (c : Call) → In c (calls_of es) → is_update_numbered k n c ≡ true → n ≤ event_cap
 few_updates es h k n c i t =
     let f = find_there (is_update_numbered k n) (calls_of es) c i t in
     let b = update_bounds es h.history k n f.0 f.1 in
@@ -90,7 +90,7 @@ few_updates es h k n c i t =
 -- what a proximity fault names
 pub record NamesProximity (es : List Event) (fault : ProximityFault) : Type 0 where
   pub view : IsViewAt (calls_of es) fault.view
-  pub small : fault.number ≤ event_limit
+  pub small : fault.number ≤ event_cap
   pub named : Names es (first_proximity (calls_of es)) (fault.view ∷ []) ((fault.component, side_number fault.side fault.number) ∷ [])
 
 pub proximity_named : (es : List Event) → IsBoundedHistory es → (fault : ProximityFault) → option_map (reported_proximity (calls_of es)) (first_of (proximity_faults (calls_of es) (views_of (calls_of es)))) ≡ Some fault → NamesProximity es fault

@@ -3,7 +3,7 @@ use Rattle.std.proofs.Common.{◌≡◌, ◌∙◌, ◌≤◌, ℕ, List, Option
 use Rattle.std.specs.Option.{ForSome, option_map}
 use Rattle.snap_core.specs.declared.event.Event.{Event}
 use Rattle.snap_core.specs.Calls.{Call, calls_of, views_of}
-use Rattle.snap_core.specs.Events.{IsBoundedHistory, event_limit}
+use Rattle.snap_core.specs.Events.{IsBoundedHistory, event_cap}
 use Rattle.snap_conditions.specs.declared.fault.IntegrityFault.{IntegrityFault}
 use Rattle.snap_conditions.specs.declared.fault.ProximityFault.{ProximityFault}
 use Rattle.snap_conditions.specs.declared.fault.ReadFault.{ReadFault}
@@ -26,7 +26,7 @@ integrity_is_named es h t whole first e = λ f is.
     let there = integrity_is (calls_of es) (Integrity m.from.0 m.from.1) (ap (option_map (λ (f : Call × ℕ). Integrity f.0 f.1)) m.is) in
     subst (λ (z : IntegrityFault). IsViewAt (calls_of es) z.view) m.to (view_at es m.from.0 there.0.0)
 
-pub proximity_is_named : (es : List Event) → IsBoundedHistory es → (t : Tally) → t ≡ tally_of (calls_of es) (views_of (calls_of es)) → (first : Option ProximityFault) → first ≡ t.proximity.first → ForSome first (λ f. IsViewAt (calls_of es) f.view × (f.number ≤ event_limit))
+pub proximity_is_named : (es : List Event) → IsBoundedHistory es → (t : Tally) → t ≡ tally_of (calls_of es) (views_of (calls_of es)) → (first : Option ProximityFault) → first ≡ t.proximity.first → ForSome first (λ f. IsViewAt (calls_of es) f.view × (f.number ≤ event_cap))
 proximity_is_named es h t whole first e = λ f is.
     let named = proximity_named es h f (sym (proximity_told (calls_of es) t whole) ∙ sym e ∙ is) in
     (named.view, named.small)

@@ -8,7 +8,7 @@ use Rattle.snap_core.specs.declared.event.Event.{Event}
 use Rattle.snap_core.specs.declared.view.ViewRefusal.TheVariants.{NotRising, ZeroNumber}
 use Rattle.snap_core.specs.Entries.{AreEntries, rises, has_zero, view_refusal}
 use Rattle.snap_core.proofs.Lists.{In}
-use Rattle.snap_core.specs.Events.{IsHistory, event_limit}
+use Rattle.snap_core.specs.Events.{IsHistory, event_cap}
 use Rattle.snap_core.specs.Refusals.{refusal_of}
 use Rattle.snap_core.proofs.Pushes.{history_back}
 use Rattle.snap_core.proofs.Picks.{picked, is_short}
@@ -109,7 +109,7 @@ kept_short keeps numbers place (x ∷ xs) = go (keeps place) (kept_short keeps n
     go false r = omega (arith, r)
 
 -- no event that is kept is refused
-pub none_refused : (keeps : ℕ → Bool) (numbers : ℕ → ℕ) (es : List Event) (i : ℕ) (d : Event) → IsHistory (kept_from keeps numbers 0 es) → length es ≤ event_limit → i < length es → keeps i ≡ true →
+pub none_refused : (keeps : ℕ → Bool) (numbers : ℕ → ℕ) (es : List Event) (i : ℕ) (d : Event) → IsHistory (kept_from keeps numbers 0 es) → length es ≤ event_cap → i < length es → keeps i ≡ true →
     refusal_of (kept_from keeps numbers 0 (take i es)) (kept_event numbers (get_or es i d)) ≡ None
 none_refused keeps numbers es i d h s l t =
     let K = kept_from keeps numbers 0 (take i es) in

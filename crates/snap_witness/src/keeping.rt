@@ -1,5 +1,5 @@
 ghost use Rattle.std.specs.Prelude.{◌≡◌, ◌≤◌, ◌++◌, ◌∷◌, [], None, length, IfOk, OnOk};
-ghost use Rattle.snap_core.specs.Events.{IsHistory, event_limit};
+ghost use Rattle.snap_core.specs.Events.{IsHistory, event_cap};
 ghost use Rattle.snap_core.specs.Refusals.{refusal_of};
 ghost use Rattle.snap_theory.specs.Kept.{kept_entries as spec_kept_entries, kept_event as spec_kept_event, kept_from, is_among as spec_is_among};
 ghost use Rattle.snap_theory.specs.Witness.{numbers_of};
@@ -111,7 +111,7 @@ pub(crate) fn keep(
     pairs: &[(u8, u32)],
 ) -> Result<History, AllocError>
     requires history { IsHistory (kept_from (spec_is_among places.now) (numbers_of pairs.now) 0 events.now) }
-    requires short { length events.now ≤ event_limit }
+    requires short { length events.now ≤ event_cap }
     ensures { IfOk result (λ kept. kept ≡ kept_from (spec_is_among places.now) (numbers_of pairs.now) 0 events.now) }
 {
     let mut history = History::new(alloc);

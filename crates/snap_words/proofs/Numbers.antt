@@ -1,6 +1,7 @@
 -- What a getter reads of the text of a number, and the texts of the numbers that are spelled out.
 use Rattle.std.proofs.Common.{◌≡◌, ℕ, ◌<◌, ◌^◌, ◌++◌, List, Option, Some, None, Result, Ok, Err, [], ◌∷◌, codes, refl, ap, arith, ◌∙◌}
 use Rattle.std.specs.Prelude.{decimal}
+use Rattle.std.specs.Fmt.{digits}
 use Rattle.std.specs.Str.Parse.{ParsesUnsigned}
 use Rattle.std.proofs.lemmas.Fmt.{decimal_digit, decimal_step, parse-decimal}
 use Rattle.clap.specs.Words.{ReadsOne}
@@ -35,3 +36,15 @@ eight_text = decimal_digit 8 (omega arith)
 
 pub sixteen_text : decimal 16 ≡ codes "16"
 sixteen_text = decimal_step 16 (omega arith) (omega arith) ∙ ap (λ (t : List ℕ). t ++ (54 ∷ [])) (decimal_digit 1 (omega arith))
+
+pub usual_text : decimal 65536 ≡ codes "65536"
+unfolding digits
+usual_text = refl
+
+pub million_text : decimal 1048576 ≡ codes "1048576"
+unfolding digits
+million_text = refl
+
+pub rounds_text : decimal 32768 ≡ codes "32768"
+unfolding digits
+rounds_text = refl

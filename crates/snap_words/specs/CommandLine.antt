@@ -3,10 +3,11 @@ use Rattle.std.specs.Prelude.{Some, true, codes, pos, [], ◌∷◌}
 use Rattle.clap.specs.Words.{App, Rule, new_app, new_rule}
 use Rattle.clap.specs.declared.builder.action.ArgAction.TheVariants.{Append, SetTrue}
 use Rattle.clap.specs.declared.builder.value_parser.ValueParser.TheVariants.{Signed}
-use Rattle.snap_record.specs.Plans.{round_limit, worker_limit}
+use Rattle.snap_core.specs.Events.{event_cap}
+use Rattle.snap_record.specs.Plans.{worker_limit}
 use Rattle.snap_record.specs.declared.plan.TheConstants.{LEAST_WORKERS}
 use Rattle.snap_threads.specs.declared.cutting.TheConstants.{PIECE_LIMIT, WORKER_LIMIT}
-use Rattle.snap_words.specs.declared.check_command.TheConstants.{VIEW_LIMIT}
+use Rattle.snap_words.specs.declared.word.TheConstants.{NUMBER_LIMIT}
 use Rattle.snap_words.specs.declared.command.Kind.{Kind}
 use Rattle.snap_words.specs.declared.command.Kind.TheVariants.{Check, Draw, Explain, Record, Shrink}
 use Rattle.snap_words.specs.Tables.{with_apps, with_rules}
@@ -23,9 +24,13 @@ workers_rule = record (new_rule (codes "workers")) { long = Some (codes "workers
 abbrev pub quiet_rule : Rule
 quiet_rule = record (new_rule (codes "quiet")) { long = Some (codes "quiet"); action = Some SetTrue }
 
--- --views N, 0 where it is not given
+-- --views N, 0 where it is not given; any number of 32 bits is taken here
 abbrev pub views_rule : Rule
-views_rule = record (new_rule (codes "views")) { long = Some (codes "views"); value_names = 1; parser = Some (Signed (pos 0) (pos VIEW_LIMIT)); defaults = codes "0" ∷ [] }
+views_rule = record (new_rule (codes "views")) { long = Some (codes "views"); value_names = 1; parser = Some (Signed (pos 0) (pos NUMBER_LIMIT)); defaults = codes "0" ∷ [] }
+
+-- --events N, 65536 where it is not given
+abbrev pub events_rule : Rule
+events_rule = record (new_rule (codes "events")) { long = Some (codes "events"); value_names = 1; parser = Some (Signed (pos 1) (pos event_cap)); defaults = codes "65536" ∷ [] }
 
 -- --format FORMAT, plain where it is not given; any text is taken here
 abbrev pub format_rule : Rule
@@ -63,24 +68,24 @@ null_rule = record (new_rule (codes "null")) { long = Some (codes "null"); short
 abbrev pub folder_rule : Rule
 folder_rule = record (new_rule (codes "folder")) { long = Some (codes "recursive"); short = Some 114; value_names = 1 }
 
--- check [--pieces P] [--workers W] [--files-from LIST [--null]] [--recursive FOLDER] [--quiet] [--views N] [--format FORMAT]
--- [--summary] [--no-progress] [--color WHEN] [FILE ..]
+-- check [--pieces P] [--workers W] [--files-from LIST [--null]] [--recursive FOLDER] [--quiet] [--views N] [--events N]
+-- [--format FORMAT] [--summary] [--no-progress] [--color WHEN] [FILE ..]
 abbrev pub check_app : App
 check_app = with_rules (new_app (codes "check"))
-    (pieces_rule ∷ workers_rule ∷ list_rule ∷ null_rule ∷ folder_rule ∷ quiet_rule ∷ views_rule ∷ format_rule ∷ summary_rule
+    (pieces_rule ∷ workers_rule ∷ list_rule ∷ null_rule ∷ folder_rule ∷ quiet_rule ∷ views_rule ∷ events_rule ∷ format_rule ∷ summary_rule
     ∷ no_progress_rule ∷ color_rule ∷ files_rule ∷ [])
 
 -- --draw
 abbrev pub draw_rule : Rule
 draw_rule = record (new_rule (codes "draw")) { long = Some (codes "draw"); action = Some SetTrue }
 
--- shrink [--draw] [FILE]
+-- shrink [--draw] [--events N] [FILE]
 abbrev pub shrink_app : App
-shrink_app = with_rules (new_app (codes "shrink")) (draw_rule ∷ file_rule ∷ [])
+shrink_app = with_rules (new_app (codes "shrink")) (draw_rule ∷ events_rule ∷ file_rule ∷ [])
 
--- explain [--draw] [FILE]
+-- explain [--draw] [--events N] [FILE]
 abbrev pub explain_app : App
-explain_app = with_rules (new_app (codes "explain")) (draw_rule ∷ file_rule ∷ [])
+explain_app = with_rules (new_app (codes "explain")) (draw_rule ∷ events_rule ∷ file_rule ∷ [])
 
 -- --svg
 abbrev pub svg_rule : Rule
@@ -90,17 +95,17 @@ svg_rule = record (new_rule (codes "svg")) { long = Some (codes "svg"); action =
 abbrev pub text_rule : Rule
 text_rule = record (new_rule (codes "text")) { long = Some (codes "text"); action = Some SetTrue }
 
--- draw [--svg] [--text] [FILE]
+-- draw [--svg] [--text] [--events N] [FILE]
 abbrev pub draw_app : App
-draw_app = with_rules (new_app (codes "draw")) (svg_rule ∷ text_rule ∷ file_rule ∷ [])
+draw_app = with_rules (new_app (codes "draw")) (svg_rule ∷ text_rule ∷ events_rule ∷ file_rule ∷ [])
 
 -- --workers W, 2 where it is not given
 abbrev pub recorders_rule : Rule
 recorders_rule = record (new_rule (codes "workers")) { long = Some (codes "workers"); value_names = 1; parser = Some (Signed (pos LEAST_WORKERS) (pos worker_limit)); defaults = codes "2" ∷ [] }
 
--- --rounds R, 16 where it is not given
+-- --rounds R, 16 where it is not given; any number of 32 bits is taken here
 abbrev pub rounds_rule : Rule
-rounds_rule = record (new_rule (codes "rounds")) { long = Some (codes "rounds"); value_names = 1; parser = Some (Signed (pos 1) (pos round_limit)); defaults = codes "16" ∷ [] }
+rounds_rule = record (new_rule (codes "rounds")) { long = Some (codes "rounds"); value_names = 1; parser = Some (Signed (pos 0) (pos NUMBER_LIMIT)); defaults = codes "16" ∷ [] }
 
 -- --judge
 abbrev pub judge_rule : Rule
@@ -114,9 +119,9 @@ scan_rule = record (new_rule (codes "scan")) { long = Some (codes "scan"); actio
 abbrev pub stamped_rule : Rule
 stamped_rule = record (new_rule (codes "stamped")) { long = Some (codes "stamped"); action = Some SetTrue }
 
--- record [--workers W] [--rounds R] [--judge] [--scan] [--stamped]
+-- record [--workers W] [--rounds R] [--events N] [--judge] [--scan] [--stamped]
 abbrev pub record_app : App
-record_app = with_rules (new_app (codes "record")) (recorders_rule ∷ rounds_rule ∷ judge_rule ∷ scan_rule ∷ stamped_rule ∷ [])
+record_app = with_rules (new_app (codes "record")) (recorders_rule ∷ rounds_rule ∷ events_rule ∷ judge_rule ∷ scan_rule ∷ stamped_rule ∷ [])
 
 -- the command of a kind
 abbrev pub app_for : Kind → App

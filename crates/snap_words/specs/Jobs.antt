@@ -1,8 +1,8 @@
 -- What the words of a command line ask for.
-use Rattle.std.specs.Prelude.{◌≡◌, ◌*◌, ◌≤◌, ℕ, Bool, true, false, List, [], Option, Some, None, codes, decimal, map, string_bytes}
+use Rattle.std.specs.Prelude.{◌≡◌, ◌*◌, ◌<◌, ◌≤◌, ℕ, Bool, true, false, List, [], Option, Some, None, codes, decimal, map, string_bytes}
 use Rattle.clap.specs.Words.{Row, Text, all_of, first_of, one_of}
-use Rattle.snap_core.specs.Events.{event_limit}
-use Rattle.snap_record.specs.Plans.{AreWorkers, AreRounds}
+use Rattle.snap_core.specs.Limits.{IsLimit, event_limit}
+use Rattle.snap_record.specs.Plans.{AreWorkers, AreRounds, worker_limit}
 use Rattle.snap_threads.specs.Cuttings.{IsPieces, IsWorkers}
 use Rattle.snap_words.specs.declared.drawing.Form.{Form}
 use Rattle.snap_words.specs.declared.job.Asked.{Asked}
@@ -12,9 +12,13 @@ use Rattle.snap_words.specs.declared.color.Color.{Color}
 use Rattle.snap_words.specs.declared.color.Color.TheVariants.{Auto, Always, Never}
 use Rattle.snap_words.specs.declared.job.Options.{Options}
 
--- as many completed views, of two events each, as a history can have
-abbrev pub AreViews : ℕ → Type 0
-AreViews n = 2 * n ≤ event_limit
+-- as many completed views, of two events each, as a history of so many events can have
+abbrev pub AreViews : ℕ → ℕ → Type 0
+AreViews events n = 2 * n ≤ events
+
+-- as many rounds, of two calls of each worker, as a history of so many events can have
+abbrev pub AreRoundsWithin : ℕ → ℕ → Type 0
+AreRoundsWithin events rounds = (0 < rounds) × (4 * worker_limit * rounds ≤ events)
 
 -- one form of answer is asked for: no object of the verdicts' lines alone, and no sums of either
 pub record IsOneForm (options : Options) : Type 0 where
@@ -23,50 +27,51 @@ pub record IsOneForm (options : Options) : Type 0 where
 
 -- the numbers of a job are in their ranges; one form of answer is asked for, and no report with stamps
 abbrev pub IsInRange : Job → Type 0
-IsInRange (Check cutting options) = IsPieces cutting.pieces × IsWorkers cutting.workers × AreViews options.views × IsOneForm options
-IsInRange (Shrink drawn) = Unit {0}
-IsInRange (Explain drawn) = Unit {0}
-IsInRange (Draw form) = Unit {0}
+IsInRange (Check cutting options) =
+    IsPieces cutting.pieces × IsWorkers cutting.workers × IsLimit options.events × AreViews options.events options.views × IsOneForm options
+IsInRange (Shrink drawn events) = IsLimit events
+IsInRange (Explain drawn events) = IsLimit events
+IsInRange (Draw form events) = IsLimit events
 IsInRange (Record workers rounds judge scan stamped) = AreWorkers workers × AreRounds rounds × (judge ≡ true → stamped ≡ false)
 
 -- a check with so many pieces and workers, and with these options
 abbrev pub IsCheckWith : ℕ → ℕ → Options → Job → Type 0
 IsCheckWith pieces workers options (Check cutting asked) = (cutting.pieces ≡ pieces) × (cutting.workers ≡ workers) × (asked ≡ options)
-IsCheckWith pieces workers options (Shrink drawn) = ⊥
-IsCheckWith pieces workers options (Explain drawn) = ⊥
-IsCheckWith pieces workers options (Draw form) = ⊥
+IsCheckWith pieces workers options (Shrink drawn within) = ⊥
+IsCheckWith pieces workers options (Explain drawn within) = ⊥
+IsCheckWith pieces workers options (Draw form within) = ⊥
 IsCheckWith pieces workers options (Record w rounds judge scan stamped) = ⊥
 
--- the whole report, of any number of completed views
+-- the whole report, of any number of completed views, within the usual limit of events
 abbrev pub no_options : Options
-no_options = record { quiet = false; views = 0; json = false; summary = false; no_progress = false; color = Auto }
+no_options = record { quiet = false; views = 0; events = event_limit; json = false; summary = false; no_progress = false; color = Auto }
 
 abbrev pub IsCheck : ℕ → ℕ → Job → Type 0
 IsCheck pieces workers = IsCheckWith pieces workers no_options
 
--- a history that is to be cut down, to a text or to its picture
-abbrev pub IsShrink : Bool → Job → Type 0
-IsShrink drawn (Check cutting options) = ⊥
-IsShrink drawn (Shrink asked) = asked ≡ drawn
-IsShrink drawn (Explain asked) = ⊥
-IsShrink drawn (Draw form) = ⊥
-IsShrink drawn (Record w rounds judge scan stamped) = ⊥
+-- a history of so many events at most that is to be cut down, to a text or to its picture
+abbrev pub IsShrink : ℕ → Bool → Job → Type 0
+IsShrink events drawn (Check cutting options) = ⊥
+IsShrink events drawn (Shrink asked within) = (asked ≡ drawn) × (within ≡ events)
+IsShrink events drawn (Explain asked within) = ⊥
+IsShrink events drawn (Draw form within) = ⊥
+IsShrink events drawn (Record w rounds judge scan stamped) = ⊥
 
--- a history that is to be explained, with a picture or without
-abbrev pub IsExplain : Bool → Job → Type 0
-IsExplain drawn (Check cutting options) = ⊥
-IsExplain drawn (Shrink asked) = ⊥
-IsExplain drawn (Explain asked) = asked ≡ drawn
-IsExplain drawn (Draw form) = ⊥
-IsExplain drawn (Record w rounds judge scan stamped) = ⊥
+-- a history of so many events at most that is to be explained, with a picture or without
+abbrev pub IsExplain : ℕ → Bool → Job → Type 0
+IsExplain events drawn (Check cutting options) = ⊥
+IsExplain events drawn (Shrink asked within) = ⊥
+IsExplain events drawn (Explain asked within) = (asked ≡ drawn) × (within ≡ events)
+IsExplain events drawn (Draw form within) = ⊥
+IsExplain events drawn (Record w rounds judge scan stamped) = ⊥
 
--- a history that is to be drawn in a form
-abbrev pub IsDraw : Form → Job → Type 0
-IsDraw form (Check cutting options) = ⊥
-IsDraw form (Shrink drawn) = ⊥
-IsDraw form (Explain drawn) = ⊥
-IsDraw form (Draw asked) = asked ≡ form
-IsDraw form (Record w rounds judge scan stamped) = ⊥
+-- a history of so many events at most that is to be drawn in a form
+abbrev pub IsDraw : ℕ → Form → Job → Type 0
+IsDraw events form (Check cutting options) = ⊥
+IsDraw events form (Shrink drawn within) = ⊥
+IsDraw events form (Explain drawn within) = ⊥
+IsDraw events form (Draw asked within) = (asked ≡ form) × (within ≡ events)
+IsDraw events form (Record w rounds judge scan stamped) = ⊥
 
 -- the flags of a recording: its report in place of its history, scans in place of views, and the stamps of its events
 pub record Flags : Type 0 where
@@ -80,9 +85,9 @@ no_flags = record { judge = false; scan = false; stamped = false }
 -- a recording of so many workers and rounds with these flags
 abbrev pub IsRecord : ℕ → ℕ → Flags → Job → Type 0
 IsRecord workers rounds flags (Check cutting options) = ⊥
-IsRecord workers rounds flags (Shrink drawn) = ⊥
-IsRecord workers rounds flags (Explain drawn) = ⊥
-IsRecord workers rounds flags (Draw form) = ⊥
+IsRecord workers rounds flags (Shrink drawn within) = ⊥
+IsRecord workers rounds flags (Explain drawn within) = ⊥
+IsRecord workers rounds flags (Draw form within) = ⊥
 IsRecord workers rounds flags (Record w r judge scan stamped) =
     (w ≡ workers) × (r ≡ rounds) × (judge ≡ flags.judge) × (scan ≡ flags.scan) × (stamped ≡ flags.stamped)
 
@@ -91,9 +96,19 @@ abbrev pub flag_text : Bool → List ℕ
 flag_text true = codes "true"
 flag_text false = codes "false"
 
--- whether a picture is asked for, by --draw
+-- the limit of events that is chosen, by --events, or the usual one
+pub record AsksLimit (events : ℕ) (rows : List Row) : Type 0 where
+  pub events_fit : IsLimit events
+  pub events_are : one_of (codes "events") rows ≡ Some (decimal events)
+
+-- whether a picture is asked for, by --draw, and the limit of events
+pub record AsksPictureWithin (events : ℕ) (drawn : Bool) (rows : List Row) : Type 0 where
+  pub drawn_is : one_of (codes "draw") rows ≡ Some (flag_text drawn)
+  pub limit : AsksLimit events rows
+
+-- the same where no limit is chosen
 abbrev pub AsksPicture : Bool → List Row → Type 0
-AsksPicture drawn rows = one_of (codes "draw") rows ≡ Some (flag_text drawn)
+AsksPicture = AsksPictureWithin event_limit
 
 -- the word of a format
 abbrev pub format_text : Bool → List ℕ
@@ -111,7 +126,8 @@ color_text Never = codes "never"
 pub record AsksCheck (rows : List Row) (pieces : ℕ) (workers : ℕ) (options : Options) : Type 0 where
   pub pieces_fit : IsPieces pieces
   pub workers_fit : IsWorkers workers
-  pub views_fit : AreViews options.views
+  pub limit : AsksLimit options.events rows
+  pub views_fit : AreViews options.events options.views
   pub one_form : IsOneForm options
   pub pieces_are : one_of (codes "pieces") rows ≡ Some (decimal pieces)
   pub workers_are : one_of (codes "workers") rows ≡ Some (decimal workers)
@@ -122,17 +138,22 @@ pub record AsksCheck (rows : List Row) (pieces : ℕ) (workers : ℕ) (options :
   pub no_progress_is : one_of (codes "no-progress") rows ≡ Some (flag_text options.no_progress)
   pub color_is : first_of (codes "color") rows ≡ Some (color_text options.color)
 
--- the options of `record` have these numbers of workers and rounds, which are in their ranges, and each flag is given or not, but
--- not a report with stamps
-pub record AsksRecord (rows : List Row) (workers rounds : ℕ) (flags : Flags) : Type 0 where
+-- the options of `record` have these numbers of workers and rounds, which are in their ranges for the limit of events, and each flag is
+-- given or not, but not a report with stamps
+pub record AsksRecordWithin (events : ℕ) (rows : List Row) (workers rounds : ℕ) (flags : Flags) : Type 0 where
+  pub limit : AsksLimit events rows
   pub workers_fit : AreWorkers workers
-  pub rounds_fit : AreRounds rounds
+  pub rounds_fit : AreRoundsWithin events rounds
   pub one_output : flags.judge ≡ true → flags.stamped ≡ false
   pub workers_are : one_of (codes "workers") rows ≡ Some (decimal workers)
   pub rounds_are : one_of (codes "rounds") rows ≡ Some (decimal rounds)
   pub judge_is : one_of (codes "judge") rows ≡ Some (flag_text flags.judge)
   pub scan_is : one_of (codes "scan") rows ≡ Some (flag_text flags.scan)
   pub stamped_is : one_of (codes "stamped") rows ≡ Some (flag_text flags.stamped)
+
+-- the same where no limit of events is chosen
+abbrev pub AsksRecord : List Row → ℕ → ℕ → Flags → Type 0
+AsksRecord = AsksRecordWithin event_limit
 
 -- the files that are named, none where the word is absent
 abbrev pub given_or_none : Option (List Text) → List Text

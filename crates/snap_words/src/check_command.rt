@@ -5,14 +5,10 @@ ghost use Rattle.clap.specs.declared.builder.command.Command.TheViews.{out-Comma
 ghost use Rattle.snap_words.specs.CommandLine.{check_app};
 
 use crate::command::command_of;
-use crate::word::{Takes, Word};
+use crate::word::{EVENTS, NUMBER_LIMIT, Takes, Word};
 use clap::Command;
-use snap_core::EVENT_LIMIT;
 use snap_threads::{PIECE_LIMIT, WORKER_LIMIT};
 use std::alloc::{AllocError, Global};
-
-/// How many completed views a history has at most, each of two events.
-pub(crate) const VIEW_LIMIT: u32 = (EVENT_LIMIT / 2) as u32;
 
 const ABOUT: &str =
     "Reads a history from a file or standard input and writes its report to standard output";
@@ -46,6 +42,9 @@ With --quiet only the lines of the three verdicts are printed; the line of a tex
 no history is printed all the same. With --views N a history with fewer than N completed
 views has status 3: nothing is printed, and standard error says so. So a script that judges
 runs does not take an empty recording for a good one.
+
+A history has at most 65,536 events, and its text 67,108,864 bytes. With --events N it may have N
+events, up to 1,048,576, and its text N times 1,024 bytes. Memory and time rise with them.
 
 Of several files the reports stand in the order of the names. Each line has the file's name and
 a colon before it, and the status is the greatest. A file that can't be opened or read counts
@@ -131,11 +130,12 @@ const WORDS: &[Word<'static>] = &[
         takes: Takes::Number {
             name: "N",
             least: 0,
-            most: VIEW_LIMIT as i64,
+            most: NUMBER_LIMIT as i64,
             usual: "0",
         },
-        help: "How many completed views the history must have, from 0 to 32768",
+        help: "How many completed views the history must have, from 0 to half of its events: 32768",
     },
+    EVENTS,
     Word {
         id: "format",
         long: Some("format"),

@@ -5,7 +5,7 @@ ghost use Rattle.clap.specs.declared.builder.command.Command.TheViews.{out-Comma
 ghost use Rattle.snap_words.specs.CommandLine.{draw_app};
 
 use crate::command::command_of;
-use crate::word::{FILE, Takes, Word};
+use crate::word::{EVENTS, FILE, Takes, Word};
 use clap::Command;
 use std::alloc::{AllocError, Global};
 
@@ -55,6 +55,7 @@ const WORDS: &[Word<'static>] = &[
         takes: Takes::Nothing,
         help: "Write the picture as lines of characters; not with --svg",
     },
+    EVENTS,
     FILE,
 ];
 

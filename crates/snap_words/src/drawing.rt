@@ -1,7 +1,7 @@
 //! The forms of a picture, and the words that ask for one.
-ghost use Rattle.std.specs.Prelude.{◌≡◌, Some};
+ghost use Rattle.std.specs.Prelude.{◌≡◌, ℕ, Some};
 ghost use Rattle.clap.specs.Words.{found_of, rows_of};
-ghost use Rattle.snap_words.specs.Drawing.{AsksDraw};
+ghost use Rattle.snap_words.specs.Drawing.{AsksDrawWithin};
 ghost use Rattle.snap_words.specs.declared.drawing.Form.{Form};
 
 use crate::job::flag_in;
@@ -20,7 +20,7 @@ pub enum Form {
 
 /// The form that the flags of `draw` ask for; none where they ask for two.
 pub(crate) fn form_in(matches: &ArgMatches<'_>) -> Option<Form>
-    ensures { (form : Form) → AsksDraw (rows_of (found_of matches.now)) form → result ≡ Some form }
+    ensures { (events : ℕ) (form : Form) → AsksDrawWithin events (rows_of (found_of matches.now)) form → result ≡ Some form }
 {
     let svg = flag_in(matches, "svg");
     let text = flag_in(matches, "text");

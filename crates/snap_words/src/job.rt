@@ -3,17 +3,18 @@ ghost use Rattle.std.specs.Prelude.{◌≡◌, ◌<◌, ◌^◌, ℕ, Bool, List
 ghost use Rattle.clap.specs.Words.{Row, Text, first_of, found_of, kind_of, one_of, rows_of, subcommand_rows_of};
 ghost use Rattle.snap_words.specs.Lines.{Means};
 ghost use Rattle.snap_words.specs.Sources.{AreSources, NamesSources};
-ghost use Rattle.snap_words.specs.Jobs.{AsksCheck, AsksPicture, AsksRecord, Flags, IsCheckWith, IsDraw, IsExplain, IsInRange, IsOn, IsRecord, IsShrink, files_of, flag_text, format_text, IsOneForm, color_text};
-ghost use Rattle.snap_words.specs.Drawing.{AsksDraw};
+ghost use Rattle.snap_core.specs.Limits.{IsLimit};
+ghost use Rattle.snap_words.specs.Jobs.{AreRoundsWithin, AreViews, AsksCheck, AsksLimit, AsksPictureWithin, AsksRecordWithin, Flags, IsCheckWith, IsDraw, IsExplain, IsInRange, IsOn, IsRecord, IsShrink, files_of, flag_text, format_text, IsOneForm, color_text};
+ghost use Rattle.snap_words.specs.Drawing.{AsksDrawWithin};
 
-use crate::check_command::VIEW_LIMIT;
 use crate::color::Color;
 use crate::command::program;
 use crate::drawing::{Form, form_in};
 use crate::sources::{Sources, sources_named};
 use clap::error::ErrorKind;
 use clap::{ArgMatches, Error};
-use snap_record::{LEAST_WORKERS, ROUND_LIMIT, WORKER_LIMIT};
+use snap_core::EVENT_CAP;
+use snap_record::{LEAST_WORKERS, WORKER_LIMIT};
 use snap_threads::Cutting;
 use std::alloc::{AllocError, Global};
 
@@ -24,6 +25,8 @@ pub struct Options {
     pub quiet: bool,
     /// How many completed views a history must have.
     pub views: u32,
+    /// How many events a history may have, 1 to `EVENT_CAP`.
+    pub events: u32,
     /// A JSON object in place of the report.
     pub json: bool,
     /// The sums of all files in place of reports; not with `quiet` or `json`.
@@ -34,7 +37,7 @@ pub struct Options {
     pub color: Color,
 }
 
-/// What the program is asked to do.
+/// What the program is asked to do. A history may have so many events, where it is read.
 #[derive(Clone, Copy)]
 pub enum Job {
     /// Judge a history.
@@ -45,14 +48,17 @@ pub enum Job {
     /// Cut a history down to a witness, or draw that.
     Shrink {
         drawn: bool,
+        events: u32,
     },
     /// Explain a history, with a picture or without.
     Explain {
         drawn: bool,
+        events: u32,
     },
     /// Draw a history.
     Draw {
         form: Form,
+        events: u32,
     },
     /// Record so many workers in so many rounds of a store and a view, or a scan in place of the view, and judge the
     /// history where that is asked for, or write it with the stamps of its events; not both.
@@ -139,6 +145,42 @@ fn color_in(matches: &ArgMatches<'_>) -> Option<Color>
     }
 }
 
+// Whether there is such a limit of events.
+fn is_limit(events: u32) -> bool
+    ensures one { result ≡ true → IsLimit events }
+    ensures asked { IsLimit events → result ≡ true }
+{
+    1 <= events && events <= EVENT_CAP as u32
+}
+
+// The limit of events that is asked for.
+fn events_in(matches: &ArgMatches<'_>) -> Option<u32>
+    ensures limit { IfSome result IsLimit }
+    ensures asked { (events : ℕ) → AsksLimit events (rows_of (found_of matches.now)) → result ≡ Some events }
+{
+    let events = number_in(matches, "events")?;
+    if !is_limit(events) {
+        return None;
+    }
+    Some(events)
+}
+
+// Whether a history of so many events can have so many completed views.
+fn are_views(events: u32, views: u32) -> bool
+    ensures one { result ≡ true → AreViews events views }
+    ensures asked { AreViews events views → result ≡ true }
+{
+    2 * u64::from(views) <= u64::from(events)
+}
+
+// Whether a recording of so many events may have so many rounds, of two calls of each worker.
+fn are_rounds(events: u32, rounds: u32) -> bool
+    ensures one { result ≡ true → AreRoundsWithin events rounds }
+    ensures asked { AreRoundsWithin events rounds → result ≡ true }
+{
+    0 < rounds && u64::from(4 * WORKER_LIMIT) * u64::from(rounds) <= u64::from(events)
+}
+
 // Whether one form of answer is asked for.
 fn is_one_form(options: Options) -> bool
     ensures one { result ≡ true → IsOneForm options }
@@ -157,6 +199,7 @@ fn options_in(matches: &ArgMatches<'_>) -> Option<Options>
 {
     let quiet = flag_in(matches, "quiet");
     let views = number_in(matches, "views")?;
+    let events = number_in(matches, "events")?;
     let json = json_in(matches)?;
     let summary = flag_in(matches, "summary");
     let no_progress = flag_in(matches, "no-progress");
@@ -164,6 +207,7 @@ fn options_in(matches: &ArgMatches<'_>) -> Option<Options>
     Some(Options {
         quiet,
         views,
+        events,
         json,
         summary,
         no_progress,
@@ -179,7 +223,10 @@ fn check_in(matches: &ArgMatches<'_>) -> Option<Job>
     let pieces = number_in(matches, "pieces")?;
     let workers = number_in(matches, "workers")?;
     let options = options_in(matches)?;
-    if options.views > VIEW_LIMIT || !is_one_form(options) {
+    if !is_limit(options.events)
+        || !are_views(options.events, options.views)
+        || !is_one_form(options)
+    {
         return None;
     }
     let cutting = Cutting::new(pieces, workers).ok()?;
@@ -189,8 +236,9 @@ fn check_in(matches: &ArgMatches<'_>) -> Option<Job>
 // The recording that the options of `record` ask for.
 fn record_in(matches: &ArgMatches<'_>) -> Option<Job>
     ensures job { IfSome result IsInRange }
-    ensures asked { (workers rounds : ℕ) (flags : Flags) → AsksRecord (rows_of (found_of matches.now)) workers rounds flags → IsSomeAnd result (IsRecord workers rounds flags) }
+    ensures asked { (events workers rounds : ℕ) (flags : Flags) → AsksRecordWithin events (rows_of (found_of matches.now)) workers rounds flags → IsSomeAnd result (IsRecord workers rounds flags) }
 {
+    let events = events_in(matches)?;
     let workers = number_in(matches, "workers")?;
     let rounds = number_in(matches, "rounds")?;
     let judge = flag_in(matches, "judge");
@@ -199,7 +247,7 @@ fn record_in(matches: &ArgMatches<'_>) -> Option<Job>
     if judge && stamped {
         return None;
     }
-    if !(LEAST_WORKERS..=WORKER_LIMIT).contains(&workers) || !(1..=ROUND_LIMIT).contains(&rounds) {
+    if !(LEAST_WORKERS..=WORKER_LIMIT).contains(&workers) || !are_rounds(events, rounds) {
         return None;
     }
     Some(Job::Record {
@@ -211,13 +259,34 @@ fn record_in(matches: &ArgMatches<'_>) -> Option<Job>
     })
 }
 
-// The drawing that the flags of `draw` ask for.
+// The drawing that the options of `draw` ask for.
 fn draw_in(matches: &ArgMatches<'_>) -> Option<Job>
     ensures job { IfSome result IsInRange }
-    ensures asked { (form : Form) → AsksDraw (rows_of (found_of matches.now)) form → IsSomeAnd result (IsDraw form) }
+    ensures asked { (events : ℕ) (form : Form) → AsksDrawWithin events (rows_of (found_of matches.now)) form → IsSomeAnd result (IsDraw events form) }
 {
     let form = form_in(matches)?;
-    Some(Job::Draw { form })
+    let events = events_in(matches)?;
+    Some(Job::Draw { form, events })
+}
+
+// The witness that the options of `shrink` ask for.
+fn shrink_in(matches: &ArgMatches<'_>) -> Option<Job>
+    ensures job { IfSome result IsInRange }
+    ensures asked { (events : ℕ) (drawn : Bool) → AsksPictureWithin events drawn (rows_of (found_of matches.now)) → IsSomeAnd result (IsShrink events drawn) }
+{
+    let drawn = flag_in(matches, "draw");
+    let events = events_in(matches)?;
+    Some(Job::Shrink { drawn, events })
+}
+
+// The explanation that the options of `explain` ask for.
+fn explain_in(matches: &ArgMatches<'_>) -> Option<Job>
+    ensures job { IfSome result IsInRange }
+    ensures asked { (events : ℕ) (drawn : Bool) → AsksPictureWithin events drawn (rows_of (found_of matches.now)) → IsSomeAnd result (IsExplain events drawn) }
+{
+    let drawn = flag_in(matches, "draw");
+    let events = events_in(matches)?;
+    Some(Job::Explain { drawn, events })
 }
 
 // The job that the words ask for, where each number is there and in its range.
@@ -225,24 +294,22 @@ fn job_in(matches: &ArgMatches<'_>) -> Option<Job>
     ensures job { IfSome result IsInRange }
     ensures check { (rows : List Row) (pieces workers : ℕ) (options : Options) → subcommand_rows_of matches.now ≡ Some (codes "check", rows)
         → AsksCheck rows pieces workers options → IsSomeAnd result (IsCheckWith pieces workers options) }
-    ensures shrink { (rows : List Row) (drawn : Bool) → subcommand_rows_of matches.now ≡ Some (codes "shrink", rows)
-        → AsksPicture drawn rows → IsSomeAnd result (IsShrink drawn) }
-    ensures explain { (rows : List Row) (drawn : Bool) → subcommand_rows_of matches.now ≡ Some (codes "explain", rows)
-        → AsksPicture drawn rows → IsSomeAnd result (IsExplain drawn) }
-    ensures draw { (rows : List Row) (form : Form) → subcommand_rows_of matches.now ≡ Some (codes "draw", rows)
-        → AsksDraw rows form → IsSomeAnd result (IsDraw form) }
-    ensures recording { (rows : List Row) (workers rounds : ℕ) (flags : Flags) → subcommand_rows_of matches.now ≡ Some (codes "record", rows)
-        → AsksRecord rows workers rounds flags → IsSomeAnd result (IsRecord workers rounds flags) }
+    ensures shrink { (rows : List Row) (events : ℕ) (drawn : Bool) → subcommand_rows_of matches.now ≡ Some (codes "shrink", rows)
+        → AsksPictureWithin events drawn rows → IsSomeAnd result (IsShrink events drawn) }
+    ensures explain { (rows : List Row) (events : ℕ) (drawn : Bool) → subcommand_rows_of matches.now ≡ Some (codes "explain", rows)
+        → AsksPictureWithin events drawn rows → IsSomeAnd result (IsExplain events drawn) }
+    ensures draw { (rows : List Row) (events : ℕ) (form : Form) → subcommand_rows_of matches.now ≡ Some (codes "draw", rows)
+        → AsksDrawWithin events rows form → IsSomeAnd result (IsDraw events form) }
+    ensures recording { (rows : List Row) (events workers rounds : ℕ) (flags : Flags) → subcommand_rows_of matches.now ≡ Some (codes "record", rows)
+        → AsksRecordWithin events rows workers rounds flags → IsSomeAnd result (IsRecord workers rounds flags) }
 {
     let (name, inner) = matches.subcommand()?;
     if name == "check" {
         check_in(inner)
     } else if name == "shrink" {
-        let drawn = flag_in(inner, "draw");
-        Some(Job::Shrink { drawn })
+        shrink_in(inner)
     } else if name == "explain" {
-        let drawn = flag_in(inner, "draw");
-        Some(Job::Explain { drawn })
+        explain_in(inner)
     } else if name == "draw" {
         draw_in(inner)
     } else {
@@ -316,6 +383,56 @@ fn refusal_of(matches: &ArgMatches<'_>) -> &'static str {
     }
 }
 
+// That a number is not from the least to the most, as the parser says it.
+fn range_refusal(
+    alloc: Global,
+    option: &str,
+    number: u32,
+    least: u32,
+    most: u32,
+) -> Result<String, AllocError> {
+    format!(in alloc;
+        "error: invalid value '{number}' for '{option}': {number} is not in {least}..={most}\n\nFor more information, try '--help'.\n"
+    )
+}
+
+// The number that an option has, and the limit of events.
+fn number_and_events(matches: &ArgMatches<'_>, id: &str) -> Option<(u32, u32)> {
+    Some((number_in(matches, id)?, number_in(matches, "events")?))
+}
+
+// That there are more completed views than a history can have, or more rounds: the parser does not know that.
+fn number_refusal(alloc: Global, matches: &ArgMatches<'_>) -> Result<Option<String>, AllocError> {
+    if let Some(inner) = matches.subcommand_matches("check") {
+        let Some((views, events)) = number_and_events(inner, "views") else {
+            return Ok(None);
+        };
+        if !are_views(events, views) {
+            let text = range_refusal(alloc, "--views <N>", views, 0, events / 2)?;
+            return Ok(Some(text));
+        }
+    }
+    if let Some(inner) = matches.subcommand_matches("record") {
+        let Some((rounds, events)) = number_and_events(inner, "rounds") else {
+            return Ok(None);
+        };
+        if !are_rounds(events, rounds) {
+            let most = events / (4 * WORKER_LIMIT);
+            let text = range_refusal(alloc, "--rounds <R>", rounds, 1, most)?;
+            return Ok(Some(text));
+        }
+    }
+    Ok(None)
+}
+
+// Why words that the parser takes ask for no job, for the user.
+fn usage_of(alloc: Global, matches: &ArgMatches<'_>) -> Result<String, AllocError> {
+    match number_refusal(alloc, matches)? {
+        Some(text) => Ok(text),
+        None => String::from_str(alloc, refusal_of(matches)),
+    }
+}
+
 /// The job that the words of a command line ask for, and its files; the program's name comes first. What the parser makes of
 /// words is the kit's: `Means` says it of [`program`], and the laws of this crate say it of whole lines.
 pub fn job_of(alloc: Global, words: Vec<String>) -> Result<Asked, JobFault>
@@ -326,17 +443,17 @@ pub fn job_of(alloc: Global, words: Vec<String>) -> Result<Asked, JobFault>
     ensures sources { (list folder : Option Text) (null : Bool) (files : List Text)
         → Means (map string_bytes words.items) (codes "check") (λ rows. NamesSources rows list null folder) files
         → IfOk result (λ asked. AreSources list null folder asked.sources) }
-    ensures shrink { (drawn : Bool) (files : List Text)
-        → Means (map string_bytes words.items) (codes "shrink") (AsksPicture drawn) files
-        → MatchResult result (IsOn files (IsShrink drawn)) (λ fault. fault ≡ JobFault.Memory) }
-    ensures explain { (drawn : Bool) (files : List Text)
-        → Means (map string_bytes words.items) (codes "explain") (AsksPicture drawn) files
-        → MatchResult result (IsOn files (IsExplain drawn)) (λ fault. fault ≡ JobFault.Memory) }
-    ensures draw { (form : Form) (files : List Text)
-        → Means (map string_bytes words.items) (codes "draw") (λ rows. AsksDraw rows form) files
-        → MatchResult result (IsOn files (IsDraw form)) (λ fault. fault ≡ JobFault.Memory) }
-    ensures recording { (workers rounds : ℕ) (flags : Flags) (files : List Text)
-        → Means (map string_bytes words.items) (codes "record") (λ rows. AsksRecord rows workers rounds flags) files
+    ensures shrink { (events : ℕ) (drawn : Bool) (files : List Text)
+        → Means (map string_bytes words.items) (codes "shrink") (AsksPictureWithin events drawn) files
+        → MatchResult result (IsOn files (IsShrink events drawn)) (λ fault. fault ≡ JobFault.Memory) }
+    ensures explain { (events : ℕ) (drawn : Bool) (files : List Text)
+        → Means (map string_bytes words.items) (codes "explain") (AsksPictureWithin events drawn) files
+        → MatchResult result (IsOn files (IsExplain events drawn)) (λ fault. fault ≡ JobFault.Memory) }
+    ensures draw { (events : ℕ) (form : Form) (files : List Text)
+        → Means (map string_bytes words.items) (codes "draw") (λ rows. AsksDrawWithin events rows form) files
+        → MatchResult result (IsOn files (IsDraw events form)) (λ fault. fault ≡ JobFault.Memory) }
+    ensures recording { (events workers rounds : ℕ) (flags : Flags) (files : List Text)
+        → Means (map string_bytes words.items) (codes "record") (λ rows. AsksRecordWithin events rows workers rounds flags) files
         → MatchResult result (IsOn files (IsRecord workers rounds flags)) (λ fault. fault ≡ JobFault.Memory) }
 {
     let command = program(alloc)?;
@@ -348,7 +465,7 @@ pub fn job_of(alloc: Global, words: Vec<String>) -> Result<Asked, JobFault>
                 files: files_named(alloc, &matches)?,
                 sources: sources_named(alloc, &matches)?,
             }),
-            None => Err(JobFault::Usage(String::from_str(alloc, refusal_of(&matches))?)),
+            None => Err(JobFault::Usage(usage_of(alloc, &matches)?)),
         },
     }
 }

@@ -1,8 +1,8 @@
 //! What whole lines of words mean. Each law names lines by their words behind the program's name, which may be any.
 ghost use Rattle.std.specs.Prelude.{◌∷◌, [], Some, None, codes, false, true};
 ghost use Rattle.clap.specs.Words.{Text};
-ghost use Rattle.snap_words.specs.Drawing.{AsksDraw};
-ghost use Rattle.snap_words.specs.Jobs.{AsksCheck, AsksPicture, AsksRecord, no_flags, no_options};
+ghost use Rattle.snap_words.specs.Drawing.{AsksDraw, AsksDrawWithin};
+ghost use Rattle.snap_words.specs.Jobs.{AsksCheck, AsksPicture, AsksPictureWithin, AsksRecord, AsksRecordWithin, no_flags, no_options};
 ghost use Rattle.snap_words.specs.Lines.{Means};
 ghost use Rattle.snap_words.specs.Sources.{NamesSources};
 ghost use Rattle.snap_words.specs.declared.color.Color.TheVariants.{Never};
@@ -17,6 +17,7 @@ pub fn check_lines()
     ensures json { (name : Text) → Means (name ∷ codes "check" ∷ codes "--format" ∷ codes "json" ∷ []) (codes "check") (λ rows. AsksCheck rows 8 2 (record no_options { json = true })) [] }
     ensures summary { (name : Text) → Means (name ∷ codes "check" ∷ codes "--summary" ∷ []) (codes "check") (λ rows. AsksCheck rows 8 2 (record no_options { summary = true })) [] }
     ensures color { (name : Text) → Means (name ∷ codes "check" ∷ codes "--color" ∷ codes "never" ∷ []) (codes "check") (λ rows. AsksCheck rows 8 2 (record no_options { color = Never })) [] }
+    ensures events { (name : Text) → Means (name ∷ codes "check" ∷ codes "--events" ∷ codes "1048576" ∷ []) (codes "check") (λ rows. AsksCheck rows 8 2 (record no_options { events = 1048576 })) [] }
     ensures files { (name : Text) → Means (name ∷ codes "check" ∷ codes "a.csv" ∷ codes "-" ∷ []) (codes "check") (λ rows. AsksCheck rows 8 2 no_options) (codes "a.csv" ∷ codes "-" ∷ []) }
 {}
 
@@ -35,6 +36,9 @@ pub fn picture_lines()
     ensures draw_alone { (name : Text) → Means (name ∷ codes "draw" ∷ []) (codes "draw") (λ rows. AsksDraw rows Page) [] }
     ensures draw_svg { (name : Text) → Means (name ∷ codes "draw" ∷ codes "--svg" ∷ []) (codes "draw") (λ rows. AsksDraw rows Svg) [] }
     ensures draw_text { (name : Text) → Means (name ∷ codes "draw" ∷ codes "--text" ∷ []) (codes "draw") (λ rows. AsksDraw rows Lines) [] }
+    ensures shrink_events { (name : Text) → Means (name ∷ codes "shrink" ∷ codes "--events" ∷ codes "1048576" ∷ []) (codes "shrink") (AsksPictureWithin 1048576 false) [] }
+    ensures explain_events { (name : Text) → Means (name ∷ codes "explain" ∷ codes "--events" ∷ codes "1048576" ∷ []) (codes "explain") (AsksPictureWithin 1048576 false) [] }
+    ensures draw_events { (name : Text) → Means (name ∷ codes "draw" ∷ codes "--events" ∷ codes "1048576" ∷ []) (codes "draw") (λ rows. AsksDrawWithin 1048576 rows Page) [] }
 {}
 
 /// What lines of `record` ask for: 2 workers and 16 rounds of views where nothing else is said.
@@ -43,4 +47,5 @@ pub fn record_lines()
     ensures judged { (name : Text) → Means (name ∷ codes "record" ∷ codes "--rounds" ∷ codes "5" ∷ codes "--judge" ∷ []) (codes "record") (λ rows. AsksRecord rows 2 5 (record no_flags { judge = true })) [] }
     ensures scanned { (name : Text) → Means (name ∷ codes "record" ∷ codes "--scan" ∷ []) (codes "record") (λ rows. AsksRecord rows 2 16 (record no_flags { scan = true })) [] }
     ensures stamped { (name : Text) → Means (name ∷ codes "record" ∷ codes "--stamped" ∷ []) (codes "record") (λ rows. AsksRecord rows 2 16 (record no_flags { stamped = true })) [] }
+    ensures events { (name : Text) → Means (name ∷ codes "record" ∷ codes "--events" ∷ codes "1048576" ∷ codes "--rounds" ∷ codes "32768" ∷ []) (codes "record") (λ rows. AsksRecordWithin 1048576 rows 2 32768 no_flags) [] }
 {}

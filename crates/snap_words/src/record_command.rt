@@ -5,9 +5,9 @@ ghost use Rattle.clap.specs.declared.builder.command.Command.TheViews.{out-Comma
 ghost use Rattle.snap_words.specs.CommandLine.{record_app};
 
 use crate::command::command_of;
-use crate::word::{Takes, Word};
+use crate::word::{EVENTS, NUMBER_LIMIT, Takes, Word};
 use clap::Command;
-use snap_record::{LEAST_WORKERS, ROUND_LIMIT, WORKER_LIMIT};
+use snap_record::{LEAST_WORKERS, WORKER_LIMIT};
 use std::alloc::{AllocError, Global};
 
 const ABOUT: &str =
@@ -39,6 +39,9 @@ With --judge it prints the history's report in place of the history: see
 `snapjudge check --help`. With --stamped each record has its event's stamp before the other
 fields, and the header the word at. Not both can be asked for.
 
+There are at most 2,048 rounds, of four events for each of eight workers. With --events N there
+may be N / 32 rounds. To judge such a history, give `snapjudge check` the same N.
+
 Exit status:
     0  the history was written, or with --judge it is atomic
     1  with --judge: it is regular, and not atomic
@@ -64,12 +67,13 @@ const WORDS: &[Word<'static>] = &[
         short: None,
         takes: Takes::Number {
             name: "R",
-            least: 1,
-            most: ROUND_LIMIT as i64,
+            least: 0,
+            most: NUMBER_LIMIT as i64,
             usual: "16",
         },
-        help: "In how many rounds each of them stores and views, from 1 to 2048",
+        help: "In how many rounds each of them stores and views, from 1 to a 32nd of the events: 2048",
     },
+    EVENTS,
     Word {
         id: "judge",
         long: Some("judge"),

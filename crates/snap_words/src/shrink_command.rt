@@ -5,7 +5,7 @@ ghost use Rattle.clap.specs.declared.builder.command.Command.TheViews.{out-Comma
 ghost use Rattle.snap_words.specs.CommandLine.{shrink_app};
 
 use crate::command::command_of;
-use crate::word::{FILE, Takes, Word};
+use crate::word::{EVENTS, FILE, Takes, Word};
 use clap::Command;
 use std::alloc::{AllocError, Global};
 
@@ -60,6 +60,7 @@ const WORDS: &[Word<'static>] = &[
         takes: Takes::Nothing,
         help: "Write the picture of the witness in its place",
     },
+    EVENTS,
     FILE,
 ];
 

@@ -5,6 +5,7 @@ ghost use Rattle.snap_words.specs.Tables.{named_rule, number_between, rule_in};
 
 use clap::builder::ValueParser;
 use clap::{Arg, ArgAction};
+use snap_core::EVENT_CAP;
 use std::alloc::Global;
 
 /// What stands behind a word. The help has a name for it.
@@ -46,6 +47,23 @@ pub(crate) struct Word<'a> {
     pub(crate) takes: Takes<'a>,
     pub(crate) help: &'a str,
 }
+
+/// The greatest number that a word can have.
+pub(crate) const NUMBER_LIMIT: u32 = 4_294_967_295;
+
+/// The limit of events of a command.
+pub(crate) const EVENTS: Word<'static> = Word {
+    id: "events",
+    long: Some("events"),
+    short: None,
+    takes: Takes::Number {
+        name: "N",
+        least: 1,
+        most: EVENT_CAP as i64,
+        usual: "65536",
+    },
+    help: "How many events a history may have, from 1 to 1048576, of 1024 bytes of text each",
+};
 
 /// The file of a command that takes one.
 pub(crate) const FILE: Word<'static> = Word {

@@ -7,6 +7,7 @@ mod version;
 mod words;
 
 ghost use Rattle.std.specs.Prelude.{◌≡◌, MatchBool};
+ghost use Rattle.snap_core.specs.Limits.{IsLimit};
 ghost use Rattle.snap_words.specs.Jobs.{IsInRange};
 
 use crate::names::names_of;
@@ -14,7 +15,7 @@ use crate::streams::held_place;
 use crate::version::{asks_version, write_version};
 use crate::words::{Places, Wanted, wanted_by, words_of};
 use snap_check::{CheckOptions, RunFault, Status, check_run_with};
-use snap_core::{Counted, OpenGate};
+use snap_core::{Counted, Limit, OpenGate};
 use snap_files::{
     FileOptions, Format, Opener, System, SystemText, check_all, sum_all, trouble_line,
 };
@@ -118,10 +119,22 @@ fn check_text<Rt: Threads + Sync, R: Read + Drop, W: Write>(
     }
 }
 
+// The limit of so many events.
+fn limit_of(events: u32) -> Limit
+    requires { IsLimit events }
+    ensures { result.events ≡ events }
+{
+    let Some(limit) = Limit::new(events) else {
+        unreachable!()
+    };
+    limit
+}
+
 // The check of each file that a check of these options asks for.
 fn file_options(asked: Options) -> FileOptions
+    requires { IsLimit asked.events }
     ensures format { MatchBool asked.json (result.format ≡ Format.Json) (result.format ≡ Format.Plain) }
-    ensures check { result.check ≡ record { quiet = asked.quiet; views = asked.views } }
+    ensures check { (result.check.quiet ≡ asked.quiet) × (result.check.views ≡ asked.views) × (result.check.limit.events ≡ asked.events) }
 {
     FileOptions {
         format: if asked.json {
@@ -132,6 +145,7 @@ fn file_options(asked: Options) -> FileOptions
         check: CheckOptions {
             quiet: asked.quiet,
             views: asked.views,
+            limit: limit_of(asked.events),
         },
     }
 }
@@ -179,7 +193,9 @@ fn check_files<Rt: Threads + Sync>(
     files: &[Vec<u8>],
     cutting: Cutting,
     asked: Options,
-) -> Result<u8, RunFault> {
+) -> Result<u8, RunFault>
+    requires { IsLimit asked.events }
+{
     let input = [Vec::from_slice(host.alloc(), b"-")?];
     let names = if files.is_empty() { &input } else { files };
     check_names(rt, host, names, cutting, asked)
@@ -192,7 +208,9 @@ fn check_names<Rt: Threads + Sync>(
     names: &[Vec<u8>],
     cutting: Cutting,
     asked: Options,
-) -> Result<u8, RunFault> {
+) -> Result<u8, RunFault>
+    requires { IsLimit asked.events }
+{
     let alloc = host.alloc();
     let line = progress_of(host, names.len(), asked);
     let progress = line.as_ref();
@@ -219,6 +237,7 @@ fn check_names<Rt: Threads + Sync>(
             &mut errors,
             cutting,
             &OpenGate,
+            limit_of(asked.events),
             asked.views,
         )
     } else {
@@ -247,7 +266,9 @@ fn check<Rt: Threads + Sync>(
     files: &[Vec<u8>],
     cutting: Cutting,
     asked: Options,
-) -> Result<u8, Failure> {
+) -> Result<u8, Failure>
+    requires { IsLimit asked.events }
+{
     if has_names(files, asked) {
         return Ok(check_files(rt, host, files, cutting, asked)?);
     }
@@ -271,28 +292,43 @@ fn done<Rt: Threads + Wait + Sync>(
     let mut writer = Counted::new(host.stdout());
     let status = match job {
         Job::Check { cutting, options } => return check(rt, host, files, cutting, options),
-        Job::Shrink { drawn } => {
+        Job::Shrink { drawn, events } => {
             let mut reader = Counted::new(open_only(host, files)?);
             if drawn {
-                draw_witness_run(rt, alloc, &Lines, &mut reader, &mut writer)?
+                draw_witness_run(
+                    rt,
+                    alloc,
+                    &Lines,
+                    &mut reader,
+                    &mut writer,
+                    limit_of(events),
+                )?
             } else {
-                shrink_run(rt, alloc, &mut reader, &mut writer)?
+                shrink_run(rt, alloc, &mut reader, &mut writer, limit_of(events))?
             }
         }
-        Job::Explain { drawn } => {
+        Job::Explain { drawn, events } => {
             let mut reader = Counted::new(open_only(host, files)?);
             if drawn {
-                draw_explained_run(rt, alloc, &Explained, &mut reader, &mut writer)?
+                draw_explained_run(
+                    rt,
+                    alloc,
+                    &Explained,
+                    &mut reader,
+                    &mut writer,
+                    limit_of(events),
+                )?
             } else {
-                explain_run(rt, alloc, &mut reader, &mut writer)?
+                explain_run(rt, alloc, &mut reader, &mut writer, limit_of(events))?
             }
         }
-        Job::Draw { form } => {
+        Job::Draw { form, events } => {
             let mut reader = Counted::new(open_only(host, files)?);
+            let limit = limit_of(events);
             match form {
-                Form::Page => draw_run(rt, alloc, &Page, &mut reader, &mut writer)?,
-                Form::Svg => draw_run(rt, alloc, &Svg, &mut reader, &mut writer)?,
-                Form::Lines => draw_run(rt, alloc, &Lines, &mut reader, &mut writer)?,
+                Form::Page => draw_run(rt, alloc, &Page, &mut reader, &mut writer, limit)?,
+                Form::Svg => draw_run(rt, alloc, &Svg, &mut reader, &mut writer, limit)?,
+                Form::Lines => draw_run(rt, alloc, &Lines, &mut reader, &mut writer, limit)?,
             }
         }
         Job::Record {
@@ -320,7 +356,9 @@ fn check_places<Rt: Threads + Sync>(
     places: &Places,
     cutting: Cutting,
     asked: Options,
-) -> Result<u8, Failure> {
+) -> Result<u8, Failure>
+    requires { IsLimit asked.events }
+{
     let names = names_of(host, files, places)?;
     Ok(check_names(rt, host, &names, cutting, asked)?)
 }

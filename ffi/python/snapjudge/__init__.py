@@ -12,11 +12,14 @@ import functools
 import os
 from dataclasses import dataclass
 
-__all__ = ["Refused", "TooLittleRoom", "Judged", "Counts", "Entry", "Step", "Fault", "check", "report", "report_into"]
+__all__ = ["Refused", "TooLittleRoom", "NoLimit", "Judged", "Counts", "Entry", "Step", "Fault", "check", "report", "report_into"]
 
 VERSION = 1
 STATUSES = ("atomic", "regular", "irregular", "refused")
 NO_ROOM = 5
+NO_LIMIT = 6
+# The numbers that the call can be handed as a limit; the library says which of them it takes.
+MOST = 2**32 - 1
 
 _HERE = os.path.dirname(os.path.abspath(__file__))
 _PLACES = (os.environ.get("SNAPJUDGE_LIBRARY"), os.path.join(_HERE, "libsnapjudge.so"),
@@ -36,6 +39,9 @@ def _library():
     library.snapjudge_check.restype = ctypes.c_uint32
     library.snapjudge_check.argtypes = [
         ctypes.c_char_p, ctypes.c_size_t, ctypes.c_void_p, ctypes.c_size_t, ctypes.POINTER(ctypes.c_size_t)]
+    library.snapjudge_check_limit.restype = ctypes.c_uint32
+    library.snapjudge_check_limit.argtypes = [
+        ctypes.c_char_p, ctypes.c_size_t, ctypes.c_uint32, ctypes.c_void_p, ctypes.c_size_t, ctypes.POINTER(ctypes.c_size_t)]
     return library
 
 
@@ -54,6 +60,14 @@ class TooLittleRoom(ValueError):
     def __init__(self, length):
         self.length = length
         super().__init__(f"the report has {length} bytes")
+
+
+class NoLimit(ValueError):
+    """There is no such limit of events."""
+
+    def __init__(self, events):
+        self.events = events
+        super().__init__(f"a limit of events is from 1 to 1,048,576, and not {events}")
 
 
 @dataclass(frozen=True)
@@ -109,23 +123,33 @@ class Judged:
         return self.status != "irregular"
 
 
-def report_into(text, room):
+def report_into(text, room, events=None):
     """The status of a text, of STATUSES, and the length of its report, which is written to the front of a bytearray.
 
-    Raises TooLittleRoom, and MemoryError; the bytearray is then unchanged."""
+    A history has at most so many events: 65,536, if not said. Raises NoLimit, TooLittleRoom and MemoryError; the bytearray is then
+    unchanged."""
     length = ctypes.c_size_t()
     # a bytearray of no bytes has no place of its own
     place = (ctypes.c_char * len(room)).from_buffer(room) if room else ctypes.create_string_buffer(1)
-    answer = _library().snapjudge_check(text, len(text), place, len(room), ctypes.byref(length))
+    behind = (place, len(room), ctypes.byref(length))
+    if events is None:
+        answer = _library().snapjudge_check(text, len(text), *behind)
+    elif 0 <= events <= MOST:
+        answer = _library().snapjudge_check_limit(text, len(text), events, *behind)
+    else:
+        answer = NO_LIMIT
     if answer < len(STATUSES):
         return STATUSES[answer], length.value
     if answer == NO_ROOM:
         raise TooLittleRoom(length.value)
+    if answer == NO_LIMIT:
+        raise NoLimit(events)
     raise MemoryError("snapjudge: out of memory")
 
 
-def report(text):
-    """The status of a text, of STATUSES, and its report, as the program `snapjudge check` gives it."""
+def report(text, events=None):
+    """The status of a text, of STATUSES, and its report, as the program `snapjudge check` gives it; of so many events at most, from 1
+    to 1,048,576, or of 65,536, if not said."""
     try:
         data = text.encode() if isinstance(text, str) else bytes(memoryview(text))
     except TypeError:
@@ -134,7 +158,7 @@ def report(text):
     while True:
         room = bytearray(size)
         try:
-            status, length = report_into(data, room)
+            status, length = report_into(data, room, events)
             return status, room[:length].decode("ascii")
         except TooLittleRoom as needed:
             size = needed.length
@@ -166,9 +190,10 @@ def _step(words):
     return Step(int(words[0]), int(words[1][1:]), words[2], tuple(map(_entry, words[3:])))
 
 
-def check(text):
-    """The verdict on a history. Raises Refused for a text that is none, and MemoryError."""
-    status, out = report(text)
+def check(text, events=None):
+    """The verdict on a history of so many events at most, from 1 to 1,048,576, or of 65,536, if not said. Raises Refused for a text
+    that is none, NoLimit, and MemoryError."""
+    status, out = report(text, events)
     if status == "refused":
         raise Refused(out)
     lines = [line.split(" ") for line in out.splitlines()]

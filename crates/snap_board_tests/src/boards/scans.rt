@@ -25,11 +25,11 @@ fn a_scan_ends_behind_its_middle_tick(rt: HostRuntime) -> Result<(), Fail> {
 fn a_scan_is_spent_by_its_tries(rt: HostRuntime) -> Result<(), Fail> {
     let alloc = rt.alloc();
     let (board, _gathered, mut desk) = opened(alloc, 1)?;
-    let refused = board.scan(alloc, &mut desk, 1_048_575).err();
+    let refused = board.scan(alloc, &mut desk, 4_194_303).err();
     assert!(rt; refused == Some(ScanRefusal::Spent));
-    let scanned = board.scan(alloc, &mut desk, 1_048_574)?;
+    let scanned = board.scan(alloc, &mut desk, 4_194_302)?;
     assert!(rt; is_of(&scanned, 0, 0, 2));
-    let refused = board.scan(alloc, &mut desk, 1_048_574).err();
+    let refused = board.scan(alloc, &mut desk, 4_194_302).err();
     assert!(rt; refused == Some(ScanRefusal::Spent));
     let viewed = board.collect(alloc, &mut desk)?;
     assert!(rt; is_of(&viewed, 0, 3, 4));

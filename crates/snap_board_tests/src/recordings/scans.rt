@@ -15,8 +15,8 @@ fn scans_of_a_plan_are_limited(rt: HostRuntime) -> Result<(), Fail> {
     for (steps, tries, known) in [
         (1, 0, refused),
         (1, 1025, refused),
-        (1022, 1024, None),
-        (1023, 1024, refused),
+        (4088, 1024, None),
+        (4089, 1024, refused),
     ] {
         let lists = scans(rt.alloc(), steps, tries)?;
         assert!(rt;

@@ -14,11 +14,16 @@ use std::fmt;
 const VERSION: u32 = 1;
 
 const NO_ROOM: u32 = 5;
+const NO_LIMIT: u32 = 6;
+
+/// How many events a history has at most, where a call does not say it.
+pub const USUAL_LIMIT: u32 = 65_536;
 
 extern "C" {
-    fn snapjudge_check(
+    fn snapjudge_check_limit(
         text: *const u8,
         text_length: usize,
+        events: u32,
         report: *mut u8,
         room: usize,
         report_length: *mut usize,
@@ -77,6 +82,8 @@ impl Judged {
 pub enum Error {
     /// The text is no history.
     Refused(Refusal),
+    /// There is no such limit of events.
+    NoLimit(u32),
     /// Memory ran out.
     OutOfMemory,
 }
@@ -85,6 +92,7 @@ impl fmt::Display for Error {
     fn fmt(&self, f: &mut fmt::Formatter<'_>) -> fmt::Result {
         match self {
             Error::Refused(refusal) => write!(f, "no history: record {}: {}", refusal.record, refusal.word),
+            Error::NoLimit(events) => write!(f, "a limit of events is from 1 to 1,048,576, and not {events}"),
             Error::OutOfMemory => f.write_str("out of memory"),
         }
     }
@@ -97,19 +105,26 @@ impl std::error::Error for Error {}
 pub enum RoomError {
     /// The report has so many bytes.
     TooLittle(usize),
+    /// There is no such limit of events.
+    NoLimit(u32),
     /// Memory ran out.
     OutOfMemory,
 }
 
 /// The status of a text and the length of its report, which is written to the front of the room.
 pub fn report_into(text: &[u8], room: &mut [u8]) -> Result<(Status, usize), RoomError> {
+    report_into_within(text, USUAL_LIMIT, room)
+}
+
+/// As [`report_into`], of a history of so many events at most, from 1 to 1,048,576.
+pub fn report_into_within(text: &[u8], events: u32, room: &mut [u8]) -> Result<(Status, usize), RoomError> {
     let mut length = 0;
     // SAFETY: the pointers and lengths are those of a `&[u8]`, a `&mut [u8]` and a `&mut usize`, which are never null, lie
     // apart, are initialized, and are borrowed for the call. The library's memory is the C library's, as is Rust's `System`.
     let (version, answer) = unsafe {
         (
             snapjudge_version(),
-            snapjudge_check(text.as_ptr(), text.len(), room.as_mut_ptr(), room.len(), &mut length),
+            snapjudge_check_limit(text.as_ptr(), text.len(), events, room.as_mut_ptr(), room.len(), &mut length),
         )
     };
     assert_eq!(version, VERSION, "libsnapjudge.a is of another version");
@@ -119,6 +134,7 @@ pub fn report_into(text: &[u8], room: &mut [u8]) -> Result<(Status, usize), Room
         2 => Ok((Status::Irregular, length)),
         3 => Ok((Status::Refused, length)),
         NO_ROOM => Err(RoomError::TooLittle(length)),
+        NO_LIMIT => Err(RoomError::NoLimit(events)),
         _ => Err(RoomError::OutOfMemory),
     }
 }
@@ -133,15 +149,21 @@ fn room_of(size: usize) -> Result<Vec<u8>, Error> {
 
 /// The status and the report of a text.
 pub fn report(text: &[u8]) -> Result<(Status, String), Error> {
+    report_within(text, USUAL_LIMIT)
+}
+
+/// As [`report`], of a history of so many events at most, from 1 to 1,048,576.
+pub fn report_within(text: &[u8], events: u32) -> Result<(Status, String), Error> {
     let mut size = text.len() + text.len() / 4 + 256;
     loop {
         let mut room = room_of(size)?;
-        match report_into(text, &mut room) {
+        match report_into_within(text, events, &mut room) {
             Ok((status, length)) => {
                 room.truncate(length);
                 return Ok((status, String::from_utf8(room).expect("a report is ASCII")));
             }
             Err(RoomError::TooLittle(length)) => size = length,
+            Err(RoomError::NoLimit(events)) => return Err(Error::NoLimit(events)),
             Err(RoomError::OutOfMemory) => return Err(Error::OutOfMemory),
         }
     }
@@ -149,7 +171,12 @@ pub fn report(text: &[u8]) -> Result<(Status, String), Error> {
 
 /// Judges a history, in the format of `snapjudge check`.
 pub fn check(text: &str) -> Result<Judged, Error> {
-    let (status, report) = report(text.as_bytes())?;
+    check_within(text, USUAL_LIMIT)
+}
+
+/// As [`check`], of a history of so many events at most, from 1 to 1,048,576.
+pub fn check_within(text: &str, events: u32) -> Result<Judged, Error> {
+    let (status, report) = report_within(text.as_bytes(), events)?;
     if status == Status::Refused {
         return Err(Error::Refused(report::refusal(&report).expect("the report of a refused text")));
     }

@@ -1,5 +1,6 @@
 //! The examples of the project, by their reports.
-use snapjudge::{check, report, report_into, Entry, Error, Fault, Op, RoomError, Side, Status, Step, Verdict};
+use snapjudge::{check, check_within, report, report_into, report_into_within};
+use snapjudge::{Counts, Entry, Error, Fault, Op, Refusal, RoomError, Side, Status, Step, Verdict};
 use std::path::Path;
 use std::{fs, thread};
 
@@ -79,6 +80,28 @@ fn too_little_room_is_told_and_stays_as_it_was() {
         let found = report_into(example.text.as_bytes(), &mut room[..length]);
         assert_eq!(found, Ok((status_of(&example.report), length)));
         assert_eq!((&room[..length], room[length]), (example.report.as_bytes(), 0xEE));
+    }
+}
+
+#[test]
+fn the_caller_chooses_the_limit_of_events() {
+    let view = "event,process,op,data\nbegin,0,view,\nend,0,view,\n";
+    assert_eq!(check_within(view, 1), Err(Error::Refused(Refusal { record: 3, word: "toomany".into() })));
+    assert_eq!(check_within(view, 2).unwrap().counts, Counts { events: 2, calls: 1, pending: 0, views: 1 });
+    let updates: String = (1..=32_769).map(|n| format!("begin,0,update,0:{n}:0\nend,0,update,\n")).collect();
+    let updates = format!("event,process,op,data\n{updates}");
+    assert_eq!(check(&updates), Err(Error::Refused(Refusal { record: 65_538, word: "toomany".into() })));
+    assert_eq!(check_within(&updates, 65_538).unwrap().counts.events, 65_538);
+}
+
+#[test]
+fn a_limit_that_there_is_not_is_told_and_the_room_stays_as_it_was() {
+    for events in [0, (1 << 20) + 1, u32::MAX] {
+        let mut room = [0xEE; 100];
+        let found = report_into_within(b"event,process,op,data\n", events, &mut room);
+        assert_eq!(found, Err(RoomError::NoLimit(events)));
+        assert_eq!(room, [0xEE; 100]);
+        assert_eq!(check_within("event,process,op,data\n", events), Err(Error::NoLimit(events)));
     }
 }
 

@@ -9,24 +9,24 @@ loop-i-init c = record {
   seen = none_seen _ _ c.new-seen.ensures.empty c.new-stamped.ensures.items;
   count = ap length c.new-stamped.ensures.items;
   room = omega arith;
-  midway = λ rows s. begun rows c.args.reader.now c.new-stamped.result.items s c.new-stamped.ensures.items;
+  midway = λ rows s. begun c.args.limit.events rows c.args.reader.now c.new-stamped.result.items s c.new-stamped.ensures.items;
 }
 
 pub returns-then-not-branch-clause-reads : goal.returns-then-not-branch-clause-reads
 returns-then-not-branch-clause-reads c = λ rows s.
     let m = c.loop-i.invariant.midway rows s in
-    done rows c.loop-i.reader c.loop-i.stamped.items c.loop-i.i m (rw c.if-not-branch.true at (c.in_ok-next_row.ensures _ m.stands))
+    done c.args.limit.events rows c.loop-i.reader c.loop-i.stamped.items c.loop-i.i m (rw c.if-not-branch.true at (c.in_ok-next_row.ensures _ m.stands))
 
 pub returns-in_err-take_stamped-clause-reads : goal.returns-in_err-take_stamped-clause-reads
 returns-in_err-take_stamped-clause-reads c = λ rows s.
     let m = c.loop-i.invariant.midway rows s in
     let p = err_from_is_err_and c.from_residual-in_err-take_stamped.result c.from_residual-in_err-take_stamped.ensures.1 in
     let found = rw c.if-not-branch.false at (c.in_ok-next_row.ensures _ m.stands) in
-    rw (p.1, p.2) (stopped rows c.loop-i.reader c.loop-i.stamped.items c.loop-i.i m (fields_of c.next_row.new.row) found.0 c.in_err-take_stamped.field-0.0 found.1 c.in_err-take_stamped.ensures.row)
+    rw (p.1, p.2) (stopped c.args.limit.events rows c.loop-i.reader c.loop-i.stamped.items c.loop-i.i m (fields_of c.next_row.new.row) found.0 c.in_err-take_stamped.field-0.0 found.1 c.in_err-take_stamped.ensures.row)
 
 pub loop-i-preserved : goal.loop-i-preserved
 loop-i-preserved c =
-    let one = one_longer (c.loop-i.i + 2) c.loop-i.stamped.items c.take_stamped.new.stamped.items (fields_of c.next_row.new.row) c.in_ok-take_stamped.ensures.row in
+    let one = one_longer c.args.limit.events (c.loop-i.i + 2) c.loop-i.stamped.items c.take_stamped.new.stamped.items (fields_of c.next_row.new.row) c.in_ok-take_stamped.ensures.row in
     record {
       seen = c.in_ok-take_stamped.ensures.seen;
       count = omega (arith, one.1, c.loop-i.invariant.count);
@@ -34,5 +34,5 @@ loop-i-preserved c =
       midway = λ rows s.
           let m = c.loop-i.invariant.midway rows s in
           let found = rw c.if-not-branch.false at (c.in_ok-next_row.ensures _ m.stands) in
-          more rows c.loop-i.reader c.next_row.new.reader c.loop-i.stamped.items c.take_stamped.new.stamped.items c.loop-i.i m (fields_of c.next_row.new.row) found c.in_ok-take_stamped.ensures.row;
+          more c.args.limit.events rows c.loop-i.reader c.next_row.new.reader c.loop-i.stamped.items c.take_stamped.new.stamped.items c.loop-i.i m (fields_of c.next_row.new.row) found c.in_ok-take_stamped.ensures.row;
     }

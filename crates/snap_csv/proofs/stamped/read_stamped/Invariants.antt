@@ -1,5 +1,4 @@
 use Rattle.std.proofs.Common.{◌≡◌, ◌≤◌, List, length}
-use Rattle.snap_core.specs.Events.{event_limit}
 use Rattle.snap_csv.specs.Answers.{HasSeen}
 use Rattle.snap_text.specs.Fields.{Fields}
 use Rattle.snap_csv.specs.Rows.{Stands}
@@ -10,6 +9,6 @@ abbrev pub invariant-loop-i : goal.invariant-loop-i
 invariant-loop-i l = record {
   seen : HasSeen l.seen l.stamped.items;
   count : length l.stamped.items ≡ l.i;
-  room : l.i ≤ event_limit;
-  midway : (rows : List Fields) → Stands l.fn.reader rows → MidStamped rows l.reader l.stamped.items l.i;
+  room : l.i ≤ l.limit.events;
+  midway : (rows : List Fields) → Stands l.fn.reader rows → MidStamped l.limit.events rows l.reader l.stamped.items l.i;
 }

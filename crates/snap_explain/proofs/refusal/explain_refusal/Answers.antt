@@ -5,4 +5,4 @@ use Rattle.snap_explain.proofs.refusal.explain_refusal.Goals as goal
 pub returns : goal.returns
 unfolding refusal_explanation
 returns c =
-    rw (c.in_ok-put_record.ensures, c.in_ok-extend_from_slice.ensures.items, c.as_bytes.ensures.value, c.rule_of.ensures, c.in_ok-out.ensures) (simp append_assoc)
+    rw (c.in_ok-put_record.ensures, c.in_ok-put_limit.ensures, c.in_ok-extend_from_slice.ensures.items, c.as_bytes.ensures.value, c.rule_of.ensures, c.in_ok-out.ensures) (simp append_assoc)

@@ -1,6 +1,6 @@
 use Rattle.std.proofs.Common.{inr, refl}
 use Rattle.snap_core.specs.Counting.{inner_of}
-use Rattle.snap_csv.specs.Records.{HaveRecords}
+use Rattle.snap_csv.specs.Records.{HaveRecordsWithin}
 use Rattle.snap_check.proofs.Runs.{with_text}
 use Rattle.snap_picture.proofs.Drawings.{drawn_refusal, drawn_text}
 use Rattle.snap_picture.proofs.draw.draw_input.Goals as goal
@@ -9,11 +9,11 @@ pub returns-in-Ok-clause-answer : goal.returns-in-Ok-clause-answer
 returns-in-Ok-clause-answer g c =
     let es = c.in-Ok.history in
     let records = c.in-Ok.records.items in
-    with_text (λ text. HaveRecords text es records) _ (g.R.Read.remaining (inner_of c.args.reader.now)) c.in-Ok.ensures.text
-    (λ text have. inr (drawn_text _ _ text es records c.deref.result.now _ _ have c.deref.ensures.value c.in_ok-drawn-in-Ok.ensures))
+    with_text (λ text. HaveRecordsWithin c.args.limit.events text es records) _ (g.R.Read.remaining (inner_of c.args.reader.now)) c.in-Ok.ensures.text
+    (λ text have. inr (drawn_text c.args.limit.events _ _ text es records c.deref.result.now _ _ have c.deref.ensures.value c.in_ok-drawn-in-Ok.ensures))
 
 pub returns-in-Err-Text-clause-answer : goal.returns-in-Err-Text-clause-answer
 returns-in-Err-Text-clause-answer g c =
     let read = c.in-Err-Text in
-    drawn_refusal _ _ (g.R.Read.remaining (inner_of c.args.reader.now)) read.field-0 _ _ c.in_ok-line-in-Err-Text.line.items
+    drawn_refusal c.args.limit.events _ _ (g.R.Read.remaining (inner_of c.args.reader.now)) read.field-0 _ _ c.in_ok-line-in-Err-Text.line.items
     c.in_ok-line-in-Err-Text.ensures (rw read.field-0-is refl) read.ensures.text

@@ -5,7 +5,7 @@ use Rattle.snap_picture.proofs.shrink.shrink_input.Goals as goal
 
 pub returns-in-History-clause-answer : goal.returns-in-History-clause-answer
 returns-in-History-clause-answer g c =
-    from_history _ (g.R.Read.remaining (inner_of c.args.reader.now)) c.in_ok-history.field-0 c.in-History.history c.in_ok-history.ensures.text c.in-History.is
+    from_history c.args.limit.events _ (g.R.Read.remaining (inner_of c.args.reader.now)) c.in_ok-history.field-0 c.in-History.history c.in_ok-history.ensures.text c.in-History.is
     (λ text reads. inr (record {
       events = c.in-History.history;
       left = c.in_ok-status-in-History.left;

@@ -69,3 +69,8 @@ returns-clause-each_stamp g c =
 
 pub returns-clause-places : goal.returns-clause-places
 returns-clause-places g c none = places c.args.plan.now c.in_ok-history.history c.in_ok-stamps.stamps.items (returns-clause-stamps g c) none
+
+pub returns-clause-few : goal.returns-clause-few
+returns-clause-few g c =
+    let same = ap length c.in_ok-history.ensures ∙ length-map c.in_ok-events.events.items (λ (x : Stamp). x.1) in
+    omega (arith, same, c.in_ok-events.ensures.len, c.in_ok-all.ensures.few, stamped_length c.in_ok-all.all.items)

@@ -1,7 +1,7 @@
-use Rattle.std.proofs.Common.{◌∙◌, ap, subst}
+use Rattle.std.proofs.Common.{arith, ◌∙◌, ap, subst}
 use Rattle.snap_record.specs.Plans.{AreWorkers}
 use Rattle.snap_record.specs.Relays.{RelayView}
-use Rattle.snap_record.proofs.Planning.{all_short}
+use Rattle.snap_record.proofs.Planning.{few_records}
 use Rattle.snap_record.proofs.Running.{all_places, did_scripts}
 use Rattle.snap_record.proofs.recorder.run_plan.Goals as goal
 
@@ -18,5 +18,8 @@ returns-clause-did g c =
     did_scripts c.in_ok-relay.relay.queue c.args.plan.now c.in_ok-relay.senders.items c.in_ok-all.all.items c.in_ok-relay.interfered c.in_ok-relay.relay.workers
     (ap (λ (r : RelayView). r.workers) c.in_ok-relay.ensures.relay ∙ c.in_ok-recorder.ensures.relay ∙ c.workers.ensures.workers) c.in_ok-relay.ensures.closed c.in_ok-all.ensures
 
+pub returns-clause-few : goal.returns-clause-few
+returns-clause-few g c = few_records c.args.plan.now c.in_ok-all.all.items c.in_ok-relay.interfered (returns-clause-did g c)
+
 pub returns-clause-short : goal.returns-clause-short
-returns-clause-short g c = all_short c.args.plan.now c.in_ok-all.all.items c.in_ok-relay.interfered (returns-clause-did g c) c.workers.ensures.short
+returns-clause-short g c = omega (arith, returns-clause-few g c, c.workers.ensures.short)

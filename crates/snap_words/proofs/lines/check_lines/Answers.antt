@@ -4,7 +4,7 @@ use Rattle.clap.specs.Words.{subcommand_of}
 use Rattle.clap.proofs.OnLiterals.{clap_on_literals}
 use Rattle.snap_words.specs.CommandLine.{program_app}
 use Rattle.snap_words.proofs.Rows.{rows_in}
-use Rattle.snap_words.proofs.Numbers.{eight_text, five_text, four_text, three_text, two_text, zero_text}
+use Rattle.snap_words.proofs.Numbers.{eight_text, five_text, four_text, million_text, three_text, two_text, usual_text, zero_text}
 use Rattle.snap_words.proofs.lines.check_lines.Goals as goal
 
 pub returns-clause-alone : goal.returns-clause-alone
@@ -16,6 +16,7 @@ returns-clause-alone c = λ name. record {
   asks = record {
     pieces_fit = (omega arith, omega arith);
     workers_fit = (omega arith, omega arith);
+    limit = record { events_fit = (omega arith, omega arith); events_are = ap Some (sym usual_text) };
     views_fit = omega arith;
     one_form = record { object = λ _. refl; sums = λ summary. absurd (false≢true summary) };
     pieces_are = ap Some (sym eight_text);
@@ -39,6 +40,7 @@ returns-clause-cut c = λ name. record {
   asks = record {
     pieces_fit = (omega arith, omega arith);
     workers_fit = (omega arith, omega arith);
+    limit = record { events_fit = (omega arith, omega arith); events_are = ap Some (sym usual_text) };
     views_fit = omega arith;
     one_form = record { object = λ _. refl; sums = λ summary. absurd (false≢true summary) };
     pieces_are = ap Some (sym three_text);
@@ -62,6 +64,7 @@ returns-clause-quiet c = λ name. record {
   asks = record {
     pieces_fit = (omega arith, omega arith);
     workers_fit = (omega arith, omega arith);
+    limit = record { events_fit = (omega arith, omega arith); events_are = ap Some (sym usual_text) };
     views_fit = omega arith;
     one_form = record { object = λ json. absurd (false≢true json); sums = λ summary. absurd (false≢true summary) };
     pieces_are = ap Some (sym eight_text);
@@ -85,6 +88,7 @@ returns-clause-views c = λ name. record {
   asks = record {
     pieces_fit = (omega arith, omega arith);
     workers_fit = (omega arith, omega arith);
+    limit = record { events_fit = (omega arith, omega arith); events_are = ap Some (sym usual_text) };
     views_fit = omega arith;
     one_form = record { object = λ _. refl; sums = λ summary. absurd (false≢true summary) };
     pieces_are = ap Some (sym eight_text);
@@ -108,6 +112,7 @@ returns-clause-json c = λ name. record {
   asks = record {
     pieces_fit = (omega arith, omega arith);
     workers_fit = (omega arith, omega arith);
+    limit = record { events_fit = (omega arith, omega arith); events_are = ap Some (sym usual_text) };
     views_fit = omega arith;
     one_form = record { object = λ _. refl; sums = λ summary. absurd (false≢true summary) };
     pieces_are = ap Some (sym eight_text);
@@ -131,6 +136,7 @@ returns-clause-summary c = λ name. record {
   asks = record {
     pieces_fit = (omega arith, omega arith);
     workers_fit = (omega arith, omega arith);
+    limit = record { events_fit = (omega arith, omega arith); events_are = ap Some (sym usual_text) };
     views_fit = omega arith;
     one_form = record { object = λ _. refl; sums = λ _. (refl, refl) };
     pieces_are = ap Some (sym eight_text);
@@ -154,6 +160,7 @@ returns-clause-color c = λ name. record {
   asks = record {
     pieces_fit = (omega arith, omega arith);
     workers_fit = (omega arith, omega arith);
+    limit = record { events_fit = (omega arith, omega arith); events_are = ap Some (sym usual_text) };
     views_fit = omega arith;
     one_form = record { object = λ _. refl; sums = λ summary. absurd (false≢true summary) };
     pieces_are = ap Some (sym eight_text);
@@ -177,6 +184,31 @@ returns-clause-files c = λ name. record {
   asks = record {
     pieces_fit = (omega arith, omega arith);
     workers_fit = (omega arith, omega arith);
+    limit = record { events_fit = (omega arith, omega arith); events_are = ap Some (sym usual_text) };
+    views_fit = omega arith;
+    one_form = record { object = λ _. refl; sums = λ summary. absurd (false≢true summary) };
+    pieces_are = ap Some (sym eight_text);
+    workers_are = ap Some (sym two_text);
+    views_are = ap Some (sym zero_text);
+    quiet_is = refl;
+    format_is = refl;
+    summary_is = refl;
+    no_progress_is = refl;
+    color_is = refl;
+  };
+  files_are = refl;
+}
+
+pub returns-clause-events : goal.returns-clause-events
+unfolding clap_on_literals
+returns-clause-events c = λ name. record {
+  rows = rows_in (subcommand_of program_app (name ∷ codes "check" ∷ codes "--events" ∷ codes "1048576" ∷ []));
+  taken = refl;
+  rows_are = refl;
+  asks = record {
+    pieces_fit = (omega arith, omega arith);
+    workers_fit = (omega arith, omega arith);
+    limit = record { events_fit = (omega arith, omega arith); events_are = ap Some (sym million_text) };
     views_fit = omega arith;
     one_form = record { object = λ _. refl; sums = λ summary. absurd (false≢true summary) };
     pieces_are = ap Some (sym eight_text);

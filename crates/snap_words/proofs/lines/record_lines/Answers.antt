@@ -4,7 +4,7 @@ use Rattle.clap.specs.Words.{subcommand_of}
 use Rattle.clap.proofs.OnLiterals.{clap_on_literals}
 use Rattle.snap_words.specs.CommandLine.{program_app}
 use Rattle.snap_words.proofs.Rows.{rows_in}
-use Rattle.snap_words.proofs.Numbers.{five_text, sixteen_text, two_text}
+use Rattle.snap_words.proofs.Numbers.{five_text, million_text, rounds_text, sixteen_text, two_text, usual_text}
 use Rattle.snap_words.proofs.lines.record_lines.Goals as goal
 
 pub returns-clause-alone : goal.returns-clause-alone
@@ -14,6 +14,7 @@ returns-clause-alone c = λ name. record {
   taken = refl;
   rows_are = refl;
   asks = record {
+    limit = record { events_fit = (omega arith, omega arith); events_are = ap Some (sym usual_text) };
     workers_fit = (omega arith, omega arith);
     rounds_fit = (omega arith, omega arith);
     one_output = λ judged. absurd (false≢true judged);
@@ -33,6 +34,7 @@ returns-clause-judged c = λ name. record {
   taken = refl;
   rows_are = refl;
   asks = record {
+    limit = record { events_fit = (omega arith, omega arith); events_are = ap Some (sym usual_text) };
     workers_fit = (omega arith, omega arith);
     rounds_fit = (omega arith, omega arith);
     one_output = λ _. refl;
@@ -52,6 +54,7 @@ returns-clause-scanned c = λ name. record {
   taken = refl;
   rows_are = refl;
   asks = record {
+    limit = record { events_fit = (omega arith, omega arith); events_are = ap Some (sym usual_text) };
     workers_fit = (omega arith, omega arith);
     rounds_fit = (omega arith, omega arith);
     one_output = λ judged. absurd (false≢true judged);
@@ -71,11 +74,32 @@ returns-clause-stamped c = λ name. record {
   taken = refl;
   rows_are = refl;
   asks = record {
+    limit = record { events_fit = (omega arith, omega arith); events_are = ap Some (sym usual_text) };
     workers_fit = (omega arith, omega arith);
     rounds_fit = (omega arith, omega arith);
     one_output = λ judged. absurd (false≢true judged);
     workers_are = ap Some (sym two_text);
     rounds_are = ap Some (sym sixteen_text);
+    judge_is = refl;
+    scan_is = refl;
+    stamped_is = refl;
+  };
+  files_are = refl;
+}
+
+pub returns-clause-events : goal.returns-clause-events
+unfolding clap_on_literals
+returns-clause-events c = λ name. record {
+  rows = rows_in (subcommand_of program_app (name ∷ codes "record" ∷ codes "--events" ∷ codes "1048576" ∷ codes "--rounds" ∷ codes "32768" ∷ []));
+  taken = refl;
+  rows_are = refl;
+  asks = record {
+    limit = record { events_fit = (omega arith, omega arith); events_are = ap Some (sym million_text) };
+    workers_fit = (omega arith, omega arith);
+    rounds_fit = (omega arith, omega arith);
+    one_output = λ judged. absurd (false≢true judged);
+    workers_are = ap Some (sym two_text);
+    rounds_are = ap Some (sym rounds_text);
     judge_is = refl;
     scan_is = refl;
     stamped_is = refl;

@@ -4,7 +4,7 @@ use Rattle.clap.specs.Words.{subcommand_of}
 use Rattle.clap.proofs.OnLiterals.{clap_on_literals}
 use Rattle.snap_words.specs.CommandLine.{program_app}
 use Rattle.snap_words.proofs.Rows.{rows_in}
-use Rattle.snap_words.proofs.Numbers.{eight_text, two_text, zero_text}
+use Rattle.snap_words.proofs.Numbers.{eight_text, two_text, usual_text, zero_text}
 use Rattle.snap_words.proofs.lines.source_lines.Goals as goal
 
 pub returns-clause-without : goal.returns-clause-without
@@ -27,6 +27,7 @@ returns-clause-named c = λ name. record {
     record {
       pieces_fit = (omega arith, omega arith);
       workers_fit = (omega arith, omega arith);
+      limit = record { events_fit = (omega arith, omega arith); events_are = ap Some (sym usual_text) };
       views_fit = omega arith;
       one_form = record { object = λ _. refl; sums = λ summary. absurd (false≢true summary) };
       pieces_are = ap Some (sym eight_text);

@@ -3,8 +3,8 @@ use Rattle.snap_core.specs.Refusals.{refusal_of}
 use Rattle.snap_core.proofs.Picks.{picked, is_long, is_short}
 use Rattle.snap_core.proofs.history.History.refusal.Goals as goal
 
-pub returns-then-len-ge-EVENT_LIMIT : goal.returns-then-len-ge-EVENT_LIMIT
-returns-then-len-ge-EVENT_LIMIT c =
+pub returns-then-len-ge-EVENT_CAP : goal.returns-then-len-ge-EVENT_CAP
+returns-then-len-ge-EVENT_CAP c =
     let es = c.self.inside.events.items in
     let e = c.args.event.now in
     sym (picked es e true _ _ _ _ _ (is_long es (omega arith)) refl refl refl refl refl) ∙ ap (λ z. refusal_of z e) c.self.view_is

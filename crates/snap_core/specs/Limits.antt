@@ -1,0 +1,12 @@
+-- How many events a history may have, by the choice of a caller.
+use Rattle.std.specs.Prelude.{ℕ, ◌≤◌}
+use Rattle.snap_core.specs.declared.limit.TheConstants.{EVENT_LIMIT}
+use Rattle.snap_core.specs.Events.{event_cap}
+
+-- how many events a history may have where no limit is chosen
+abbrev pub event_limit : ℕ
+event_limit = EVENT_LIMIT
+
+-- a limit that may be chosen
+abbrev pub IsLimit : ℕ → Type 0
+IsLimit n = (1 ≤ n) × (n ≤ event_cap)
