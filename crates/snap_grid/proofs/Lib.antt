@@ -6,3 +6,4 @@ pub mod Faces
 pub mod Joining
 pub mod Kindred
 pub mod Ranking
+pub mod Trees

@@ -7,3 +7,4 @@ pub mod Kept
 pub mod Kinds
 pub mod Facing
 pub mod Clashes
+pub mod Trees

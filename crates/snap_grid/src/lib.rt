@@ -11,6 +11,7 @@ mod kinds;
 mod mask;
 mod masks;
 mod ranked;
+mod tree;
 
 pub use bounds::Bounds;
 pub use column::{Column, ROW_LIMIT, TABLE_LIMIT, by_ranks};
