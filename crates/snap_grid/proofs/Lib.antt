@@ -7,3 +7,4 @@ pub mod Joining
 pub mod Kindred
 pub mod Ranking
 pub mod Trees
+pub mod Sweeps

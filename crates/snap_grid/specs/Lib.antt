@@ -8,3 +8,4 @@ pub mod Kinds
 pub mod Facing
 pub mod Clashes
 pub mod Trees
+pub mod Sweeps

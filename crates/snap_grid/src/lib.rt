@@ -11,6 +11,7 @@ mod kinds;
 mod mask;
 mod masks;
 mod ranked;
+mod sweep;
 mod tree;
 
 pub use bounds::Bounds;
