@@ -8,3 +8,4 @@ pub mod Kindred
 pub mod Ranking
 pub mod Trees
 pub mod Sweeps
+pub mod OneColumn

@@ -1,8 +1,11 @@
 -- Rows of a block that have the same numbers.
-use Rattle.std.specs.Prelude.{ℕ, ◌+◌, ◌*◌, ◌-◌, ◌<◌, ◌≡◌, List, [], length, get_or, min, sum_by}
+use Rattle.std.specs.Prelude.{ℕ, ◌+◌, ◌*◌, ◌-◌, ◌<◌, ◌≡◌, List, [], length, get_or, min, sum_by, Option, IfSome}
 use Rattle.std.specs.List.{range_with_len}
 use Rattle.snap_grid.specs.declared.kind.Kind.{Kind}
+use Rattle.std.specs.declared.alloc.Global.{Global}
+use Rattle.std.specs.declared.vec.Vec.{Vec}
 use Rattle.snap_grid.specs.Columns.{HaveSameRows, number}
+use Rattle.snap_grid.specs.Sweeps.{AreDropsOfOne}
 
 -- two rows have the same number in each column
 abbrev pub AreAlike : List (List ℕ) → ℕ → ℕ → Type 0
@@ -27,6 +30,7 @@ pub record HaveKinds (columns : List (List ℕ)) (rows : ℕ) (kinds : List (Lis
   pub each : (block : ℕ) (some : List Kind) → block < length kinds → AreKinds columns (block * 512) (min 512 (rows - block * 512)) (get_or kinds block some)
 
 -- what a grid keeps
-pub record IsGrid (columns : List (List ℕ)) (begins ends : List ℕ) (kinds : List (List Kind)) : Type 0 where
+pub record IsGrid (columns : List (List ℕ)) (begins ends : List ℕ) (kinds : List (List Kind)) (drops : Option (Vec ℕ Global)) : Type 0 where
   pub same : HaveSameRows columns begins ends
   pub kinds_are : HaveKinds columns (length begins) kinds
+  pub dropping : IfSome drops (λ counts. AreDropsOfOne columns begins ends counts.items)

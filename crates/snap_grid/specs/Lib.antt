@@ -4,8 +4,8 @@ pub mod Masks
 pub mod Tables
 pub mod Ranked
 pub mod Kept
-pub mod Kinds
 pub mod Facing
 pub mod Clashes
 pub mod Trees
 pub mod Sweeps
+pub mod Kinds

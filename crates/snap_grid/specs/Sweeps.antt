@@ -1,5 +1,5 @@
 -- How often rows of one column drop, by a sweep over their ends from the last to the first.
-use Rattle.std.specs.Prelude.{ℕ, ◌+◌, ◌-◌, ◌<◌, ◌≤◌, ◌≡◌, ◌&&◌, List, length, get_or, nat_lt}
+use Rattle.std.specs.Prelude.{ℕ, ◌+◌, ◌-◌, ◌<◌, ◌≤◌, ◌≡◌, ◌&&◌, List, [], length, get_or, nat_lt}
 use Rattle.std.specs.List.{count_by, range_with_len}
 use Rattle.snap_grid.specs.Columns.{number}
 use Rattle.snap_grid.specs.Trees.{IsTree, sum_below_place}
@@ -16,6 +16,11 @@ drops_from numbers begins ends a = count_by (λ b. nat_lt (number numbers b) (nu
 pub record AreDrops (numbers begins ends counts : List ℕ) : Type 0 where
   pub count : length counts ≡ length begins
   pub each : (a : ℕ) → a < length begins → number counts a ≡ drops_from numbers begins ends a
+
+-- there is one column, and of each row it is known how often it drops
+pub record AreDropsOfOne (columns : List (List ℕ)) (begins ends counts : List ℕ) : Type 0 where
+  pub one : length columns ≡ 1
+  pub drops : AreDrops (get_or columns 0 []) begins ends counts
 
 -- the end and the number of each row, by their ends
 pub record AreEndsInOrder (ends : List ℕ) (keys : List (ℕ × ℕ)) : Type 0 where

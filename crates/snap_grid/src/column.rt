@@ -120,6 +120,13 @@ impl Column {
         self.numbers[place]
     }
 
+    // The numbers of all rows.
+    pub(crate) fn numbers(&self) -> &[u32]
+        ensures { result.now ≡ self.now }
+    {
+        &self.numbers
+    }
+
     // The numbers of some rows.
     pub(crate) fn rows(&self, from: usize, to: usize) -> &[u32]
         requires order { from ≤ to }

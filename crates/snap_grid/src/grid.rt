@@ -14,6 +14,7 @@ use crate::kind::Kind;
 use crate::kinds::Kinds;
 use crate::mask::{Mask, WIDTH};
 use crate::masks::Masks;
+use crate::one_column::{clashes_of_one, drops_of_one};
 use std::alloc::{AllocError, Global};
 use std::marker::Model;
 
@@ -25,6 +26,8 @@ pub struct Grid {
     ends: Vec<u32>,
     // of each block of rows
     kinds: Vec<Kinds>,
+    // in a single column, where begins rise, how often each row drops
+    drops: Option<Vec<u32>>,
 }
 
 impl Model for Grid {
@@ -35,7 +38,7 @@ impl Model for Grid {
 
     ghost view = { λ g. record { columns = g.columns.items; begins = g.begins; ends = g.ends.items } };
 
-    ghost invariant = { λ g. IsGrid g.columns.items g.begins g.ends.items g.kinds.items };
+    ghost invariant = { λ g. IsGrid g.columns.items g.begins g.ends.items g.kinds.items g.drops };
 }
 
 /// How many clashes there are, how many drops, and the first row that has a clash.
@@ -89,12 +92,14 @@ impl Grid {
             kinds.push(Kinds::of(alloc, &columns, start, count)?)?;
             start += WIDTH;
         }
+        let drops = drops_of_one(alloc, &columns, &begins, &ends)?;
         let begins = Column::new(alloc, begins, 0)?;
         Ok(Grid {
             columns,
             begins,
             ends,
             kinds,
+            drops,
         })
     }
 
@@ -329,6 +334,9 @@ impl Grid {
     {
         // that there are few rows
         let _rows = self.ends.len();
+        if let Some(drops) = &self.drops {
+            return Ok(clashes_of_one(&drops[from..to], from));
+        }
         let mut count = 0;
         let mut drops = 0;
         let mut first = None;

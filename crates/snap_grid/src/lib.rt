@@ -10,6 +10,7 @@ mod kind;
 mod kinds;
 mod mask;
 mod masks;
+mod one_column;
 mod ranked;
 mod sweep;
 mod tree;

@@ -1,10 +1,12 @@
-use Rattle.std.proofs.Common.{◌≡◌, ◌≤◌, ◌+◌, ◌-◌, ℕ, sym, ap, ◌∙◌, arith}
-use Rattle.std.specs.Prelude.{find, sum_by}
+use Rattle.std.proofs.Common.{◌≡◌, ◌≤◌, ◌+◌, ◌-◌, ℕ, Option, Some, Vec, Global, sym, ap, subst, ◌∙◌, arith}
+use Rattle.std.specs.Prelude.{find, nat_lt, sum_by, IfSome}
 use Rattle.std.specs.List.{range_with_len}
 use Rattle.std.specs.Option.{option_or}
 use Rattle.std.proofs.lemmas.List.Sums.{sum_by-append}
-use Rattle.snap_grid.specs.Columns.{clash_count, drop_count, has_clash}
+use Rattle.snap_grid.specs.Columns.{GridValue, clash_count, drop_count, has_clash}
+use Rattle.snap_grid.specs.Sweeps.{AreDropsOfOne}
 use Rattle.snap_grid.proofs.Clashing.{find_both, range-append}
+use Rattle.snap_grid.proofs.OneColumn.{clash_counted, clash_found, drop_counted, slice_at}
 use Rattle.snap_grid.proofs.grid.Grid.clashes.Goals as goal
 
 -- a sum over the rows of two ranges that adjoin
@@ -33,3 +35,32 @@ loop-start-preserved c =
           ∙ ap (option_or (find (has_clash g) (range_with_len from m))) (c.first_row.ensures k (has_clash g) c.in_ok-more.ensures.rows)
           ∙ sym (find_both (has_clash g) from m k c.loop-start.start next) ∙ ap (λ z. find (has_clash g) (range_with_len from z)) (sym size);
     }
+
+-- the rows of a single column by how often they drop
+known : (inside g : GridValue) (drops : Option (Vec ℕ Global)) (counts : Vec ℕ Global) → inside ≡ g → drops ≡ Some counts → IfSome drops (λ counts. AreDropsOfOne inside.columns inside.begins inside.ends counts.items) → AreDropsOfOne g.columns g.begins g.ends counts.items
+known inside g drops counts view is h = subst (λ (z : GridValue). AreDropsOfOne z.columns z.begins z.ends counts.items) view (subst (λ z. IfSome z (λ counts. AreDropsOfOne inside.columns inside.begins inside.ends counts.items)) is h)
+
+pub returns-in-Some-clause-count : goal.returns-in-Some-clause-count
+returns-in-Some-clause-count c =
+    let g = c.args.self.now in
+    let drops = known _ g c.self.inside.drops c.in-Some.drops c.self.view_is c.in-Some.is c.self.invariant.dropping in
+    let slice = slice_at c.in-Some.drops.items c.deref.result.now c.deref.ensures.value c.args.from c.args.to c.requires.order (omega (arith, drops.drops.count, c.requires.within)) in
+    c.clashes_of_one.ensures.count (clash_count g) (λ i l. let at = slice.1 i l in clash_counted g c.in-Some.drops.items drops (c.args.from + i) (omega (arith, at.1, c.requires.within)) ∙ sym at.0)
+    ∙ ap (λ z. sum_by (clash_count g) (range_with_len c.args.from z)) slice.0
+
+pub returns-in-Some-clause-drops : goal.returns-in-Some-clause-drops
+returns-in-Some-clause-drops c =
+    let g = c.args.self.now in
+    let drops = known _ g c.self.inside.drops c.in-Some.drops c.self.view_is c.in-Some.is c.self.invariant.dropping in
+    let slice = slice_at c.in-Some.drops.items c.deref.result.now c.deref.ensures.value c.args.from c.args.to c.requires.order (omega (arith, drops.drops.count, c.requires.within)) in
+    c.clashes_of_one.ensures.drops
+    ∙ c.clashes_of_one.ensures.count (drop_count g) (λ i l. let at = slice.1 i l in drop_counted g c.in-Some.drops.items drops (c.args.from + i) (omega (arith, at.1, c.requires.within)) ∙ sym at.0)
+    ∙ ap (λ z. sum_by (drop_count g) (range_with_len c.args.from z)) slice.0
+
+pub returns-in-Some-clause-first : goal.returns-in-Some-clause-first
+returns-in-Some-clause-first c =
+    let g = c.args.self.now in
+    let drops = known _ g c.self.inside.drops c.in-Some.drops c.self.view_is c.in-Some.is c.self.invariant.dropping in
+    let slice = slice_at c.in-Some.drops.items c.deref.result.now c.deref.ensures.value c.args.from c.args.to c.requires.order (omega (arith, drops.drops.count, c.requires.within)) in
+    c.clashes_of_one.ensures.first (has_clash g) (λ i l. let at = slice.1 i l in clash_found g c.in-Some.drops.items drops (c.args.from + i) (omega (arith, at.1, c.requires.within)) ∙ ap (nat_lt 0) (sym at.0))
+    ∙ ap (λ z. find (has_clash g) (range_with_len c.args.from z)) slice.0
