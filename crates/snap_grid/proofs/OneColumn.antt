@@ -1,12 +1,12 @@
 -- The clashes of rows in a single column are their drops.
-use Rattle.std.proofs.Common.{◌≡◌, ℕ, zero, suc, ◌+◌, ◌<◌, ◌≤◌, Bool, true, false, cond, ◌&&◌, ◌||◌, ◌-◌, List, [], ◌∷◌, Some, None, take, drop, length, get_or, refl, sym, ap, ◌∙◌, inl, inr, arith}
+use Rattle.std.proofs.Common.{◌≡◌, ℕ, ◌+◌, ◌<◌, ◌≤◌, Bool, true, false, cond, ◌&&◌, ◌||◌, ◌-◌, List, [], ◌∷◌, Some, None, take, drop, length, get_or, refl, sym, ap, ◌∙◌, inl, inr, arith}
 use Rattle.std.specs.Prelude.{nat_lt, find}
 use Rattle.std.specs.Bool.{then_some}
-use Rattle.std.specs.List.{count_by, list_any, range_with_len, sum_by}
+use Rattle.std.specs.List.{count_by, list_any}
 use Rattle.std.proofs.lemmas.Bool.{cases_lt, lt-ltb, le-ltb}
 use Rattle.std.proofs.lemmas.List.Sums.{sum_by-cons}
 use Rattle.snap_grid.specs.Columns.{GridValue, any_passes, clash_count, clashes, drop_count, drops, has_clash, number, passes, rows_of}
-use Rattle.snap_grid.specs.Sweeps.{AreDropsOfOne, drops_from}
+use Rattle.snap_grid.specs.Sweeps.{AreDropsOfOne}
 use Rattle.snap_grid.proofs.Passing.{row_at, row_count}
 use Rattle.snap_grid.proofs.Sweeps.{count_same}
 

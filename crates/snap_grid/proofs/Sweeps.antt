@@ -1,9 +1,9 @@
 -- What a sweep over the ends of rows has counted.
-use Rattle.std.proofs.Common.{◌≡◌, ◌≢◌, ℕ, zero, suc, ◌+◌, ◌-◌, ◌<◌, ◌≤◌, Bool, true, false, cond, ◌&&◌, List, [], ◌∷◌, ◌++◌, length, get_or, refl, sym, ap, subst, ◌∙◌, inl, inr, arith}
-use Rattle.std.specs.Prelude.{nat_lt, sum_by, if◌then◌else◌}
+use Rattle.std.proofs.Common.{◌≡◌, ℕ, zero, suc, ◌+◌, ◌-◌, ◌<◌, ◌≤◌, Bool, true, false, cond, ◌&&◌, List, length, get_or, refl, sym, ap, subst, ◌∙◌, arith}
+use Rattle.std.specs.Prelude.{nat_lt, if◌then◌else◌}
 use Rattle.std.specs.List.{All, Contains, count_by, range_with_len}
 use Rattle.std.specs.List.Sorted.{IsNonDecreasingBy, IsPermutation}
-use Rattle.std.proofs.lemmas.Bool.{cases_lt, cases_eq, lt-ltb, le-ltb}
+use Rattle.std.proofs.lemmas.Bool.{lt-ltb, le-ltb}
 use Rattle.std.proofs.lemmas.List.{get_or_default}
 use Rattle.std.proofs.lemmas.List.Elements.{All-from_get_or, All-get_or, Contains-get_or}
 use Rattle.std.proofs.lemmas.List.FromFn.{length-range_with_len}
@@ -45,8 +45,13 @@ in_order ends keys sorted size each moved same up = record {
 pub count_same : (p q : ℕ → Bool) (n a : ℕ) → ((i : ℕ) → a ≤ i → i < a + n → p i ≡ q i) → count_by p (range_with_len a n) ≡ count_by q (range_with_len a n)
 count_same p q zero a h = refl
 count_same p q (suc n) a h =
-    omega (arith, sum_by-cons (λ x. cond (p x) 1 0) a (range_with_len (a + 1) n), sum_by-cons (λ x. cond (q x) 1 0) a (range_with_len (a + 1) n), ap {B = ℕ} (λ b. cond b 1 0) (h a (omega arith) (omega arith)),
-    count_same p q n (a + 1) (λ i l m. h i (omega (arith, l)) (omega (arith, m))))
+    omega (
+      arith,
+      sum_by-cons (λ x. cond (p x) 1 0) a (range_with_len (a + 1) n),
+      sum_by-cons (λ x. cond (q x) 1 0) a (range_with_len (a + 1) n),
+      ap {B = ℕ} (λ b. cond b 1 0) (h a (omega arith) (omega arith)),
+      count_same p q n (a + 1) (λ i l m. h i (omega (arith, l)) (omega (arith, m))),
+    )
 
 pub count_none : (p : ℕ → Bool) (n a : ℕ) → ((i : ℕ) → a ≤ i → i < a + n → p i ≡ false) → count_by p (range_with_len a n) ≡ 0
 count_none p zero a h = refl
@@ -133,8 +138,14 @@ swept size numbers ranks begins ends nodes from a end h same rows l e behind bef
     all : count_by drops (range_with_len from n) ≡ drops_from numbers begins ends a
     all =
         let start : 0 + from ≡ from = omega arith in
-        omega (arith, ap (λ z. count_by drops (range_with_len 0 z)) whole, ap (count_by drops) (range-append 0 from n), sum_by-append (λ x. cond (drops x) 1 0) (range_with_len 0 from) (range_with_len (0 + from) n), ap (λ z. count_by drops (range_with_len z n)) start,
-        count_none drops from 0 (λ b m k. never b k))
+        omega (
+          arith,
+          ap (λ z. count_by drops (range_with_len 0 z)) whole,
+          ap (count_by drops) (range-append 0 from n),
+          sum_by-append (λ x. cond (drops x) 1 0) (range_with_len 0 from) (range_with_len (0 + from) n),
+          ap (λ z. count_by drops (range_with_len z n)) start,
+          count_none drops from 0 (λ b m k. never b k),
+        )
 
 -- there are no more than rows
 pub few_counted : (size : ℕ) (ranks nodes : List ℕ) (from rank : ℕ) → HasCounted size ranks from nodes → sum_below_place size nodes rank ≤ length ranks

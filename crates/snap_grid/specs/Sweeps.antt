@@ -1,5 +1,5 @@
 -- How often rows of one column drop, by a sweep over their ends from the last to the first.
-use Rattle.std.specs.Prelude.{ℕ, ◌+◌, ◌-◌, ◌<◌, ◌≤◌, ◌≡◌, ◌&&◌, List, [], length, get_or, nat_lt}
+use Rattle.std.specs.Prelude.{ℕ, ◌-◌, ◌<◌, ◌≤◌, ◌≡◌, ◌&&◌, List, [], length, get_or, nat_lt}
 use Rattle.std.specs.List.{count_by, range_with_len}
 use Rattle.snap_grid.specs.Columns.{number}
 use Rattle.snap_grid.specs.Trees.{IsTree, sum_below_place}

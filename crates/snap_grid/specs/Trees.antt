@@ -1,6 +1,6 @@
 -- Sums of counts in a tree, kept in a list of nodes. Node i stands above the nodes 2 i and 2 i + 1, and the second half of the list
 -- has the counts: the iterative form of what is known as a segment tree.
-use Rattle.std.specs.Prelude.{ℕ, ◌+◌, ◌-◌, ◌<◌, ◌≤◌, ◌≡◌, List, length, get_or, sum_by}
+use Rattle.std.specs.Prelude.{ℕ, ◌+◌, ◌<◌, ◌≤◌, ◌≡◌, List, length, get_or, sum_by}
 use Rattle.std.specs.List.{range_with_len}
 
 -- the sum of m nodes, from one on

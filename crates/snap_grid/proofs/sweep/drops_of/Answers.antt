@@ -1,9 +1,9 @@
-use Rattle.std.proofs.Common.{rules, ◌≡◌, ◌≤◌, ◌<◌, ◌+◌, ◌-◌, ℕ, List, length, get_or, set, replicate, length-set, get_or-set_same, get_or-set_other, refl, sym, ap, subst, ◌∙◌, inl, inr, arith}
+use Rattle.std.proofs.Common.{◌≡◌, ◌≤◌, ◌<◌, ◌+◌, ◌-◌, ℕ, List, length, get_or, set, length-set, get_or-set_same, get_or-set_other, sym, ap, subst, ◌∙◌, inl, inr, arith}
 use Rattle.std.proofs.lemmas.Bool.{cases_lt, cases_eq}
 use Rattle.std.proofs.lemmas.List.{get_or_default}
 use Rattle.snap_grid.specs.Columns.{IsOrderedAs, number}
 use Rattle.snap_grid.specs.Ranked.{AreDistinct, AreRanks}
-use Rattle.snap_grid.specs.Sweeps.{AreEndsInOrder, HasCounted, drops_from}
+use Rattle.snap_grid.specs.Sweeps.{HasCounted, drops_from}
 use Rattle.snap_grid.specs.Trees.{IsTree, sum_below_place}
 use Rattle.snap_grid.proofs.Ranking.{ordered}
 use Rattle.snap_grid.proofs.Sweeps.{counted_none, few_counted, none_behind, swept}

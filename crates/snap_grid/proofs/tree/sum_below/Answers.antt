@@ -1,5 +1,4 @@
-use Rattle.std.proofs.Common.{◌≡◌, ◌+◌, ◌-◌, ◌/◌, arith}
-use Rattle.snap_grid.specs.Trees.{node_sum}
+use Rattle.std.proofs.Common.{arith}
 use Rattle.snap_grid.proofs.Trees.{step}
 use Rattle.snap_grid.proofs.tree.sum_below.Goals as goal
 
