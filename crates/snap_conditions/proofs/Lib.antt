@@ -20,6 +20,7 @@ pub mod StaleViews
 pub mod Limits
 pub mod SortedKeys
 pub mod Chains
+pub mod Ranked
 pub mod Climbing
 pub mod Ordering
 mod Worked

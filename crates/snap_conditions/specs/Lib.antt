@@ -10,5 +10,6 @@ pub mod Tally
 pub mod ShownAndNext
 pub mod Limits
 pub mod Chains
+pub mod Orders
 pub mod Sweeps
 pub mod NumberTables

@@ -2,6 +2,7 @@
 #![tactic(auto)]
 
 mod columns;
+mod comparison;
 mod fault;
 mod integrity;
 mod law;
@@ -10,6 +11,7 @@ mod part;
 mod proximity;
 mod quick_test;
 mod range;
+mod ranks;
 mod read;
 mod row;
 mod seen;
@@ -23,6 +25,7 @@ mod whole;
 mod write;
 
 pub use columns::columns_between;
+pub use comparison::{ViewOrder, faultless_chain, view_order};
 pub use fault::{IntegrityFault, ProximityFault, ReadFault, Side, WriteFault};
 pub use law::{
     conditions_by_tally, monotone_by_tally, no_read_fault_by_sums, regular_by_tally, tallies_join,
@@ -34,4 +37,4 @@ pub use sweep::ordered;
 pub use tally::{Tally, is_atomic, is_monotone, is_regular, merge};
 pub use view_chain::{ViewChain, chain};
 pub use view_grid::ViewGrid;
-pub use whole::{faultless_chain, tally_alone, tally_and_chain_alone};
+pub use whole::{tally_alone, tally_and_chain_alone};

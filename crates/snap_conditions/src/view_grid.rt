@@ -2,18 +2,22 @@ ghost use Rattle.std.specs.Prelude.{◌≡◌, ◌≤◌, length, IfOk};
 ghost use Rattle.snap_core.specs.Calls.{calls_of, views_of};
 ghost use Rattle.snap_core.specs.Events.{IsBoundedHistory};
 ghost use Rattle.snap_core.specs.Entries.{component_count};
-ghost use Rattle.snap_conditions.specs.Grids.{AreColumnsOf, ArePlacesOf};
+ghost use Rattle.snap_conditions.specs.Chains.{IsViewChain};
+ghost use Rattle.snap_conditions.specs.Grids.{AreColumnsOf, ArePlacesOf, ShowAll};
 ghost use Rattle.snap_theory.specs.Faults.{read_faults, stale_count};
 ghost use Rattle.snap_conditions.specs.Parts.{part_of};
+ghost use Rattle.snap_conditions.specs.Quick.{AreComparable};
 ghost use Rattle.snap_conditions.specs.Tally.{reported_read, tally_of, views_between};
 
 use crate::columns::columns_between;
 use crate::fault::ReadFault;
 use crate::part::Part;
 use crate::range::tally_without_read;
+use crate::ranks::ranks;
 use crate::read::first_read_fault;
 use crate::seen::view_at;
 use crate::tally::Tally;
+use crate::view_chain::ViewChain;
 use snap_core::COMPONENT_COUNT;
 use snap_grid::{Column, Grid, by_ranks};
 use snap_index::Index;
@@ -77,6 +81,37 @@ impl<'i, 'h> ViewGrid<'i, 'h> {
         // what is known of the history that the index is of
         let _events = index.event_count();
         let keys = by_ranks(alloc, columns)?;
+        ViewGrid::of_keys(alloc, index, keys)
+    }
+
+    /// The same grid by one column, the ranks of the views, where of any two views one shows no component above the other's.
+    /// The error is want of memory.
+    pub fn of_chain(
+        alloc: Global,
+        index: &'i Index<'h>,
+        chain: &ViewChain,
+    ) -> Result<ViewGrid<'i, 'h>, AllocError>
+        requires chain { IsViewChain (calls_of index.now) chain.now }
+        requires comparable { AreComparable (calls_of index.now) }
+        ensures { IfOk result (λ grid. grid ≡ index.now) }
+    {
+        // what is known of the history that the index is of
+        let _events = index.event_count();
+        let ranks = ranks(alloc, index, chain)?;
+        let keys = vec![in alloc; Column::new(alloc, ranks, 0)?]?;
+        ViewGrid::of_keys(alloc, index, keys)
+    }
+
+    // The grid of columns that show of any two views whether one shows more of some component than the other.
+    fn of_keys(
+        alloc: Global,
+        index: &'i Index<'h>,
+        keys: Vec<Column>,
+    ) -> Result<ViewGrid<'i, 'h>, AllocError>
+        requires kept { IsBoundedHistory index.now }
+        requires keys { ShowAll (calls_of index.now) keys.items }
+        ensures { IfOk result (λ grid. grid ≡ index.now) }
+    {
         let (begins, ends) = places_of(alloc, index)?;
         Ok(ViewGrid {
             index,

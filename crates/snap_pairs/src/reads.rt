@@ -12,7 +12,8 @@ ghost use Rattle.snap_pairs.specs.Reads.{AreParts, IsGridFor, part_start};
 
 use rayon::prelude::*;
 use snap_conditions::{
-    Tally, ViewChain, ViewGrid, columns_between, faultless_chain, tally_without_read, view_sum,
+    Tally, ViewChain, ViewGrid, ViewOrder, columns_between, tally_without_read, view_order,
+    view_sum,
 };
 use snap_core::COMPONENT_COUNT;
 use snap_grid::Column;
@@ -39,12 +40,16 @@ pub(crate) fn grid_or_chain<'i, 'h, R: Threads + Sync>(
     ensures found { IfOk result (λ found. IsSome found.1 ↔ (read_faults (calls_of index.entry.now) (views_of (calls_of index.entry.now)) ≡ [])) }
 {
     let sums = view_sums(rt, alloc, index)?;
-    let chain = faultless_chain(alloc, index, sums)?;
-    if chain.is_some() {
-        return Ok((None, chain));
+    match view_order(alloc, index, sums)? {
+        ViewOrder::Faultless(chain) => Ok((None, Some(chain))),
+        ViewOrder::Comparable(chain) => {
+            Ok((Some(ViewGrid::of_chain(alloc, index, &chain)?), None))
+        }
+        ViewOrder::Crossing => {
+            let columns = view_columns(rt, alloc, index, cutting)?;
+            Ok((Some(ViewGrid::of_columns(alloc, index, columns)?), None))
+        }
     }
-    let columns = view_columns(rt, alloc, index, cutting)?;
-    Ok((Some(ViewGrid::of_columns(alloc, index, columns)?), None))
 }
 
 // The tally of the views from one place to before another.
