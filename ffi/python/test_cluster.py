@@ -105,17 +105,29 @@ class OneMachine(Recordings):
         self.assertIn(b"stale-view.csv: refused: fewer than 2 views\n", said)
         self.assertIn(b"none.csv: no such file\n", said)
         with mock.patch("snapjudge.bags.report", side_effect=MemoryError):
-            self.assertEqual(bags.judge_file(self.paths[0], 0), (4, "out of memory"))
+            self.assertEqual(bags.judge_file(self.paths[0], bags.Limits()), (4, "out of memory"))
         with mock.patch("snapjudge.bags.read_text", side_effect=OSError):
-            self.assertEqual(bags.judge_file(self.paths[0], 0), (4, "read failed"))
-        self.assertEqual(bags.judge_file(self.room, 0), (4, "is a directory"))
-        self.assertEqual(bags.judge_file("a\0b", 0), (4, "can't be opened"))
-        self.assertEqual(bags.judge_file("a" * 300, 0), (4, "can't be opened"))
+            self.assertEqual(bags.judge_file(self.paths[0], bags.Limits()), (4, "read failed"))
+        self.assertEqual(bags.judge_file(self.room, bags.Limits()), (4, "is a directory"))
+        self.assertEqual(bags.judge_file("a\0b", bags.Limits()), (4, "can't be opened"))
+        self.assertEqual(bags.judge_file("a" * 300, bags.Limits()), (4, "can't be opened"))
+
+    def test_a_long_recording_is_judged_where_its_events_are_allowed(self):
+        updates = 32_769
+        with tempfile.TemporaryDirectory() as room:
+            with open(os.path.join(room, "long.csv"), "w", encoding="ascii") as file:
+                file.write("event,process,op,data\n")
+                file.writelines(f"begin,0,update,0:{number}:1\nend,0,update,\n" for number in range(1, updates + 1))
+            self.assertEqual(self.ran(room)[0], 3)
+            self.assertEqual(self.ran("--events", str(2 * updates - 1), room)[0], 3)
+            status, out, said = self.ran("--events", str(2 * updates), room)
+            self.assertEqual((status, out.splitlines()[:2], said), (0, [b"files 1", b"atomic 1 first " + os.fsencode(room) + b"/long.csv"], b""))
 
     def test_no_status_of_a_verdict_comes_without_sums(self):
         for words, status, told in ((["--scheduler"], 5, b"expected one argument"), ([], 5, b"there is no recording"),
                                     (["--help"], 5, b""), (["--views", "-1", "."], 5, b"--views"), (["--scheduler", "", "."], 5, b"no address"),
                                     (["--workers", "0", "."], 5, b"invalid positive value"),
+                                    (["--events", "0", "."], 5, b"invalid limit value"), (["--events", "1048577", "."], 5, b"invalid limit value"),
                                     (["--files-from", "none"], 4, b"none: No such file"), (["--files-from", "-"], 4, b"there are no recordings")):
             found = self.ran(*words)
             self.assertEqual((found[0], b"files" in found[1].splitlines()[:1]), (status, False))
@@ -177,7 +189,7 @@ class Deadly:
     def __init__(self, deadly, error):
         self.deadly, self.error, self.bags = deadly, error, []
 
-    def submit(self, paths, views):
+    def submit(self, paths, limits):
         self.bags.append(paths)
         future = concurrent.futures.Future()
         if self.deadly in paths:
@@ -222,7 +234,7 @@ class ManyMachines(Recordings):
         with scheduler(2) as (address, workers):
             engine = cluster.Cluster(address)
             ended = queue.SimpleQueue()
-            future = engine.submit(self.paths[:3], 0)
+            future = engine.submit(self.paths[:3], bags.Limits())
             future.add_done_callback(ended.put)
             self.assertIs(ended.get(timeout=60), future)
             (keeper,) = engine.client.who_has(future)[future.key]

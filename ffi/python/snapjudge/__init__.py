@@ -18,6 +18,8 @@ VERSION = 1
 STATUSES = ("atomic", "regular", "irregular", "refused")
 NO_ROOM = 5
 NO_LIMIT = 6
+# The greatest limit of events.
+MOST_EVENTS = 1_048_576
 # The numbers that the call can be handed as a limit; the library says which of them it takes.
 MOST = 2**32 - 1
 
@@ -67,7 +69,7 @@ class NoLimit(ValueError):
 
     def __init__(self, events):
         self.events = events
-        super().__init__(f"a limit of events is from 1 to 1,048,576, and not {events}")
+        super().__init__(f"a limit of events is from 1 to {MOST_EVENTS:,}, and not {events}")
 
 
 @dataclass(frozen=True)

@@ -1,10 +1,15 @@
 """What a worker does: it reads and judges each recording of a bag, as `snapjudge check` does."""
 import errno
+import typing
 
 from snapjudge import STATUSES, report
 
-# The most bytes that a history may have, and how many are read at once.
-LONGEST = 64 * 1024 * 1024
+# How many bytes a history may have for each event that it may have.
+BYTES_AN_EVENT = 1024
+# The most events and bytes that a history may have, if not said.
+USUAL = 65_536
+LONGEST = USUAL * BYTES_AN_EVENT
+# How many bytes are read at once.
 PIECE = 256 * 1024
 # The exit statuses of the program that are no verdict.
 REFUSED, FAILED = STATUSES.index("refused"), 4
@@ -13,39 +18,46 @@ REFUSED, FAILED = STATUSES.index("refused"), 4
 UNOPENED = {errno.ENOENT: "no such file", errno.ENOTDIR: "no such file", errno.EISDIR: "is a directory", errno.ENOMEM: "out of memory"}
 
 
-def read_text(file):
+class Limits(typing.NamedTuple):
+    """How many completed views a history has at least, and how many events at most."""
+
+    views: int = 0
+    events: int = USUAL
+
+
+def read_text(file, longest):
     """The bytes of a file. Of one that is too long for a history, one byte more than a history may have."""
-    pieces, room = [], LONGEST + 1
+    pieces, room = [], longest + 1
     while room and (piece := file.read(min(room, PIECE))):
         pieces.append(piece)
         room -= len(piece)
     return b"".join(pieces)
 
 
-def judge_text(text, views):
+def judge_text(text, limits):
     """The answer for a text: its exit status, and why there is no verdict where the report does not say it."""
-    status, told = report(text)
+    status, told = report(text, limits.events)
     code = STATUSES.index(status)
-    if code != REFUSED and int(told.partition("\n")[0].rpartition(" ")[2]) < views:
-        return REFUSED, f"refused: fewer than {views} views"
+    if code != REFUSED and int(told.partition("\n")[0].rpartition(" ")[2]) < limits.views:
+        return REFUSED, f"refused: fewer than {limits.views} views"
     return code, ""
 
 
-def judge_file(path, views):
+def judge_file(path, limits):
     """The answer for a file, which is opened by its path."""
     try:
         with open(path, "rb", buffering=0) as file:
             try:
-                text = read_text(file)
+                text = read_text(file, limits.events * BYTES_AN_EVENT)
             except OSError:
                 return FAILED, "read failed"
-            return judge_text(text, views)
+            return judge_text(text, limits)
     except MemoryError:
         return FAILED, "out of memory"
     except (OSError, ValueError) as error:
         return FAILED, UNOPENED.get(getattr(error, "errno", None), "can't be opened")
 
 
-def judge_bag(paths, views):
+def judge_bag(paths, limits):
     """The answers for some files, in their order."""
-    return [judge_file(path, views) for path in paths]
+    return [judge_file(path, limits) for path in paths]

@@ -18,7 +18,8 @@ import sys
 import time
 import traceback
 
-from snapjudge.bags import FAILED, judge_bag
+from snapjudge import MOST_EVENTS
+from snapjudge.bags import FAILED, USUAL, Limits, judge_bag
 
 # The lines of the sums, by the exit status.
 KINDS = ("atomic", "only-regular", "not-regular", "refused", "failed")
@@ -68,15 +69,15 @@ class Processes:
         self._started[process] = process.submit(os.getpid)
         return process
 
-    def submit(self, paths, views):
+    def submit(self, paths, limits):
         process = self._idle.pop() or self._start()
         try:
-            future = process.submit(judge_bag, paths, views)
+            future = process.submit(judge_bag, paths, limits)
         except concurrent.futures.BrokenExecutor:
             # it died while it had no bag
             self._started.pop(process)
             process = self._start()
-            future = process.submit(judge_bag, paths, views)
+            future = process.submit(judge_bag, paths, limits)
         future.add_done_callback(lambda done: self._take_back(process, done.exception()))
         return future
 
@@ -132,8 +133,8 @@ class Cluster:
             raise Unable(f"{address}: the scheduler has no worker") from None
         self.workers = sum(self.client.nthreads().values())
 
-    def submit(self, paths, views):
-        return self.client.submit(judge_bag, paths, views, pure=False)
+    def submit(self, paths, limits):
+        return self.client.submit(judge_bag, paths, limits, pure=False)
 
     def answers(self, future):
         """What a worker answered for a bag. Where that worker has died since, the bag is judged once more."""
@@ -151,7 +152,7 @@ def bag_size(files, workers):
     return max(1, min(MOST_IN_BAG, files // (workers * BAGS_EACH)))
 
 
-def judge_all(engine, paths, views=0, size=None, tell=lambda judged: None):
+def judge_all(engine, paths, limits=Limits(), size=None, tell=lambda judged: None):
     """The answer for each path, in their order: its exit status, and a reason or nothing. `tell` is told how many there are."""
     size = size or bag_size(len(paths), engine.workers)
     answers, judged = [None] * len(paths), 0
@@ -160,7 +161,7 @@ def judge_all(engine, paths, views=0, size=None, tell=lambda judged: None):
     while waiting or sent:
         while waiting and len(sent) < engine.room:
             places, deaths = waiting.popleft()
-            future = engine.submit([paths[place] for place in places], views)
+            future = engine.submit([paths[place] for place in places], limits)
             sent[future] = places, deaths
             future.add_done_callback(ended.put)
         future = next_of(ended, engine)
@@ -274,12 +275,20 @@ def positive(word):
     return number
 
 
+def limit(word):
+    number = positive(word)
+    if number > MOST_EVENTS:
+        raise ValueError(word)
+    return number
+
+
 def words_of(arguments):
     words = Words(prog="python3 -m snapjudge.cluster", description="Judges many recordings, and writes the sums of their verdicts.")
     where = words.add_mutually_exclusive_group()
     where.add_argument("--scheduler", metavar="ADDRESS", help="judge by the workers of this Dask scheduler")
     where.add_argument("--workers", metavar="N", type=positive, help="judge by N processes of this machine, as many as processors if not said")
     words.add_argument("--views", metavar="N", type=natural, default=0, help="refuse a history of fewer than N completed views")
+    words.add_argument("--events", metavar="N", type=limit, default=USUAL, help=f"allow a history N events, {USUAL:,} if not said")
     words.add_argument("--bag", metavar="N", type=positive, help="give a worker N files at a time")
     words.add_argument("--files-from", metavar="LIST", help="take the names in this file too, one a line; - is standard input")
     words.add_argument("-0", "--null", action="store_true", help="the names in the list end with a zero byte")
@@ -345,7 +354,7 @@ def run(words):
     progress = Progress(len(names), not words.no_progress and sys.stderr is not None and sys.stderr.isatty())
     try:
         here = os.getcwdb()
-        answers = judge_all(engine, [os.path.join(here, name) for name in names], words.views, words.bag, progress.tell)
+        answers = judge_all(engine, [os.path.join(here, name) for name in names], Limits(words.views, words.events), words.bag, progress.tell)
     finally:
         progress.end()
         engine.close()
