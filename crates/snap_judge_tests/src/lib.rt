@@ -4,6 +4,8 @@
 #[cfg(test)]
 mod chains;
 #[cfg(test)]
+mod comparable;
+#[cfg(test)]
 mod grids;
 #[cfg(test)]
 mod indexes;
