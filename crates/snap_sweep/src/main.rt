@@ -34,6 +34,7 @@ fn main(rt: HostRuntime) {
         ("chains", views::chains(alloc)),
         ("grids", views::grids(alloc)),
         ("columns", views::columns(alloc)),
+        ("grid of a chain", views::grid_of_chain(alloc)),
         (
             "tally and chain on one thread",
             views::tallies_and_chains(alloc),

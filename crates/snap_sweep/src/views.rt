@@ -1,8 +1,8 @@
 //! The sums, the chains and the grids of views.
 use crate::fault::{Fault, expect};
 use snap_conditions::{
-    Tally, ViewGrid, chain, columns_between, faultless_chain, ordered, tally_alone,
-    tally_and_chain_alone, view_sums,
+    Tally, ViewGrid, ViewOrder, chain, columns_between, faultless_chain, ordered, tally_alone,
+    tally_and_chain_alone, view_order, view_sums,
 };
 use snap_core::COMPONENT_COUNT;
 use snap_index::Index;
@@ -173,6 +173,27 @@ pub fn columns(alloc: Global) -> Result<(), Fault> {
     let found = match tally_by_columns(alloc, &index) {
         Ok(tally) => tally,
         Err(_refused) => tally_by_columns(alloc, &index)?,
+    };
+    expect_faults(&found, 7, 7)
+}
+
+// The tally of an index by the grid of the chain of its views, of which some two are a read fault.
+fn tally_by_chain(alloc: Global, index: &Index<'_>) -> Result<Tally, Fault> {
+    let sums = view_sums(alloc, index)?;
+    let ViewOrder::Comparable(chain) = view_order(alloc, index, sums)? else {
+        return Err(Fault::Wrong);
+    };
+    let grid = ViewGrid::of_chain(alloc, index, &chain)?;
+    Ok(grid.tally(alloc, 0, index.view_count())?)
+}
+
+/// A grid of the chain of views. Where memory is refused it is made once more.
+pub fn grid_of_chain(alloc: Global) -> Result<(), Fault> {
+    let history = history_of(alloc, SEVEN_NEW_THEN_OLD)?;
+    let index = Index::build(alloc, &history)?;
+    let found = match tally_by_chain(alloc, &index) {
+        Err(Fault::Memory) => tally_by_chain(alloc, &index)?,
+        answer => answer?,
     };
     expect_faults(&found, 7, 7)
 }
