@@ -98,7 +98,6 @@ impl<'i, 'h> ViewGrid<'i, 'h> {
         // what is known of the history that the index is of
         let _events = index.event_count();
         let ranks = ranks(alloc, index, chain)?;
-        // the limit decides only how soon rows are compared
         let keys = vec![in alloc; Column::new(alloc, ranks, 0)?]?;
         ViewGrid::of_keys(alloc, index, keys)
     }
