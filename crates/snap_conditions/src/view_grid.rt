@@ -98,7 +98,7 @@ impl<'i, 'h> ViewGrid<'i, 'h> {
         // what is known of the history that the index is of
         let _events = index.event_count();
         let ranks = ranks(alloc, index, chain)?;
-        let keys = vec![in alloc; Column::new(alloc, ranks, 0)?]?;
+        let keys = vec![in alloc; Column::alone(alloc, ranks)?]?;
         ViewGrid::of_keys(alloc, index, keys)
     }
 

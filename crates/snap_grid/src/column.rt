@@ -1,6 +1,8 @@
 //! Columns of numbers, and their ranks.
 ghost use Rattle.std.specs.Prelude.{◌≡◌, ◌≤◌, ◌<◌, ◌+◌, ◌*◌, ◌-◌, ℕ, length, get_or, take, drop, min, IfOk};
+ghost use Rattle.snap_grid.specs.declared.bounds.Bounds.{Bounds};
 ghost use Rattle.snap_grid.specs.Columns.{AreOrderedAs, IsOrderedAs};
+ghost use Rattle.snap_grid.specs.Kept.{IsBounded};
 ghost use Rattle.snap_grid.specs.Limits.{row_limit, table_limit};
 
 use crate::bounds::Bounds;
@@ -26,6 +28,22 @@ pub struct Column {
     limit: u32,
     // the ranks of the numbers, where they are farther apart
     ranks: Vec<u32>,
+}
+
+// The bounds of each block of some numbers.
+fn bounds_of(alloc: Global, numbers: &[u32]) -> Result<Vec<Bounds>, AllocError>
+    requires few { length numbers.now ≤ row_limit }
+    ensures blocks { IfOk result (λ bounds. (block : ℕ) → block * 512 < length numbers.now → block < length bounds.items) }
+    ensures bounded { IfOk result (λ bounds. (block : ℕ) (b : Bounds) → block * 512 < length numbers.now → IsBounded numbers.now block (get_or bounds.items block b)) }
+{
+    let mut bounds = Vec::new(alloc);
+    let mut start = 0;
+    while start < numbers.len() {
+        let end = numbers.len().min(start + WIDTH);
+        bounds.push(Bounds::of(&numbers[start..end]))?;
+        start += WIDTH;
+    }
+    Ok(bounds)
 }
 
 // The ranks of some numbers, where they are farther apart than a limit; else none.
@@ -76,19 +94,27 @@ impl Column {
         requires limit { limit ≤ table_limit }
         ensures { IfOk result (λ column. column ≡ numbers.items) }
     {
-        let mut bounds = Vec::new(alloc);
-        let mut start = 0;
-        while start < numbers.len() {
-            let end = numbers.len().min(start + WIDTH);
-            bounds.push(Bounds::of(&numbers[start..end]))?;
-            start += WIDTH;
-        }
+        let bounds = bounds_of(alloc, &numbers)?;
         let ranks = ranks_beyond(alloc, &numbers, limit)?;
         Ok(Column {
             numbers,
             bounds,
             limit,
             ranks,
+        })
+    }
+
+    /// The column of some numbers that need no ranks, as the only one of a grid does.
+    pub fn alone(alloc: Global, numbers: Vec<u32>) -> Result<Column, AllocError>
+        requires few { length numbers.items ≤ row_limit }
+        ensures { IfOk result (λ column. column ≡ numbers.items) }
+    {
+        let bounds = bounds_of(alloc, &numbers)?;
+        Ok(Column {
+            numbers,
+            bounds,
+            limit: 0,
+            ranks: Vec::new(alloc),
         })
     }
 

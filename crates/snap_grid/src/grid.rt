@@ -93,7 +93,7 @@ impl Grid {
             start += WIDTH;
         }
         let drops = drops_of_one(alloc, &columns, &begins, &ends)?;
-        let begins = Column::new(alloc, begins, 0)?;
+        let begins = Column::alone(alloc, begins)?;
         Ok(Grid {
             columns,
             begins,

@@ -1,9 +1,10 @@
 //! How often the rows of one column drop, by a sweep over their ends and a tree of their ranks.
 ghost use Rattle.std.specs.Prelude.{◌≡◌, ◌≤◌, ◌<◌, ◌-◌, ◌+◌, ℕ, length, get_or, IfOk, IsTrue};
-ghost use Rattle.snap_grid.specs.Columns.{number};
+ghost use Rattle.snap_grid.specs.Columns.{IsOrderedAs, number};
 ghost use Rattle.snap_grid.specs.Limits.{row_limit};
 ghost use Rattle.snap_grid.specs.Sweeps.{AreDrops, AreEndsInOrder, HasCounted, Rises};
 
+use crate::bounds::Bounds;
 use crate::ranked::{distinct_of, ranks_of};
 use crate::tree::{empty_tree, raise, sum_below};
 use std::alloc::{AllocError, Global};
@@ -63,6 +64,20 @@ fn count_behind(
     first
 }
 
+// Numbers that compare as these do and are at most their count: these, where they are so small, or else their ranks.
+fn small_ranks(alloc: Global, numbers: &[u32]) -> Result<Vec<u32>, AllocError>
+    requires few { length numbers.now ≤ row_limit }
+    ensures order { IfOk result (λ ranks. IsOrderedAs numbers.now ranks.items) }
+    ensures small { IfOk result (λ ranks. (i : ℕ) → i < length ranks.items → number ranks.items i ≤ length numbers.now) }
+{
+    if Bounds::of(numbers).greatest as usize <= numbers.len() {
+        return numbers.to_vec(alloc);
+    }
+    let distinct = distinct_of(alloc, numbers)?;
+    let ranks = ranks_of(alloc, numbers, &distinct)?;
+    Ok(ranks)
+}
+
 // Of each row how many rows have a lesser number and begin behind its end. The begins rise. The sweep goes from the last end to the
 // first: the rows that begin behind one are counted in a tree, by the ranks of their numbers.
 pub(crate) fn drops_of(
@@ -76,9 +91,8 @@ pub(crate) fn drops_of(
     requires rising { Rises begins.now }
     ensures { IfOk result (λ counts. AreDrops numbers.now begins.now ends.now counts.items) }
 {
-    let distinct = distinct_of(alloc, numbers)?;
-    let ranks = ranks_of(alloc, numbers, &distinct)?;
-    let size = distinct.len() + 1;
+    let ranks = small_ranks(alloc, numbers)?;
+    let size = numbers.len() + 1;
     let mut tree = empty_tree(alloc, size)?;
     let nodes = tree.as_mut_slice();
     let keys = ends_in_order(alloc, ends)?;
