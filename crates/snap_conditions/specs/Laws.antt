@@ -1,5 +1,5 @@
 -- What a tally says of a history, whatever its length, and how tallies of ranges add up.
-use Rattle.std.specs.Prelude.{◌≤◌, ◌+◌, ℕ, List, [], length, ◌++◌, ◌≡◌, ◌↔◌}
+use Rattle.std.specs.Prelude.{◌≤◌, ℕ, List, [], length, ◌++◌, ◌≡◌, ◌↔◌}
 use Rattle.snap_core.specs.declared.event.Event.{Event}
 use Rattle.snap_core.specs.Events.{IsHistory, HasByteComponents, IsBoundedHistory}
 use Rattle.snap_core.specs.Calls.{Call, calls_of, views_of}

@@ -6,8 +6,8 @@ use Rattle.snap_conditions.proofs.Ranges.{few_views}
 use Rattle.snap_conditions.proofs.Ranked.{show_ranks}
 use Rattle.snap_conditions.proofs.view_grid.ViewGrid.of_chain.Goals as goal
 
-pub new-requires-clause-few : goal.new-requires-clause-few
-new-requires-clause-few c =
+pub alone-requires : goal.alone-requires
+alone-requires c =
     let es = c.args.index.now in
     omega (arith, c.in_ok-ranks.ensures.count, sums_count (calls_of es) c.args.chain.now.sums.items c.requires.chain.sums, few_views es c.event_count-events.ensures.kept)
 
@@ -15,5 +15,5 @@ pub of_keys-requires-clause-keys : goal.of_keys-requires-clause-keys
 of_keys-requires-clause-keys c =
     let es = c.args.index.now in
     let ranks = c.in_ok-ranks.ranks.items in
-    let is : c.in_ok-keys.keys.items ≡ ranks ∷ [] = c.in_ok-keys.ensures.items ∙ ap (λ z. z ∷ []) c.in_ok-new.ensures in
+    let is : c.in_ok-keys.keys.items ≡ ranks ∷ [] = c.in_ok-keys.ensures.items ∙ ap (λ z. z ∷ []) c.in_ok-alone.ensures in
     subst (ShowAll (calls_of es)) (sym is) (show_ranks es c.event_count-events.ensures.kept c.requires.comparable c.args.chain.now.sums.items ranks c.requires.chain.sums c.in_ok-ranks.ensures)
