@@ -1,6 +1,6 @@
 -- What `csv` reads of a plain text, field by field.
-use Rattle.std.proofs.Common.{codes, cond, drop, take, ◌≡◌, ◌<◌, ◌≤◌, ◌==◌, ◌+◌, ◌++◌, ◌⊎◌, inl, inr, ℕ, zero, suc, Bool, true, false, List, [], ◌∷◌, length, get_or, All, Option, Some, None, refl, sym, ap, ◌∙◌, subst, arith, append-nil, append_assoc}
-use Rattle.std.specs.Prelude.{◌≢◌, ◌↔◌, ◌&&◌, IsTrue, MatchOption, is_none, slice_index}
+use Rattle.std.proofs.Common.{Bor, codes, cond, drop, take, ◌≡◌, ◌<◌, ◌≤◌, ◌==◌, ◌+◌, ◌++◌, ◌⊎◌, inl, inr, ℕ, zero, suc, Bool, true, false, List, [], ◌∷◌, length, get_or, All, Option, Some, None, refl, sym, ap, ◌∙◌, subst, arith, append-nil, append_assoc}
+use Rattle.std.specs.Prelude.{◌≢◌, ◌↔◌, ◌&&◌, IfSome, IsTrue, MatchOption, is_none, slice_index}
 use Rattle.memchr.specs.Find.{IsFirstByte, is_byte2}
 use Rattle.std.proofs.lemmas.Bool.Decides.{nat_tests}
 use Rattle.std.proofs.lemmas.List.{length-append}
@@ -10,8 +10,8 @@ use Rattle.csv.specs.Reading.{default_config, records, records_from, strip_bom}
 use Rattle.csv.specs.declared.parser.State.{State}
 use Rattle.csv.specs.declared.parser.State.TheVariants as st
 use Rattle.csv.specs.declared.parser.Action.TheVariants as act
-use Rattle.snap_csv.specs.Lines.{FieldGoesOn, FieldIsLast, FourThen, HasRows, IsInner, IsPlain, NotFour}
-use Rattle.snap_csv.specs.Layout.{header}
+use Rattle.snap_csv.specs.Lines.{EndsWith, EndsWithOthers, FieldGoesOn, FieldIsLast, HasRows, IsInner, IsPlain}
+use Rattle.snap_csv.specs.Layout.{header, stamped_header}
 use Rattle.snap_text.specs.Fields.{Fields}
 use Rattle.snap_csv.specs.Rows.{rows_of}
 use Rattle.snap_csv.proofs.RowFacts.{records_step, records_stop, some_fuel}
@@ -213,49 +213,94 @@ some_more s fs p (c ∷ text) line end plain =
 
 -- ---- a record
 
--- these fields of a text's first record are read, and the next begins with this rest
+-- these fields of a line are read, and the next begins with this rest
 pub record Upto (fs : Fields) (rest text : List ℕ) : Type 0 where
   pub plain : All IsPlain rest
   pub shorter : length rest + length fs ≤ length text
-  pub reads : next_record default_config st.StartRecord [] [] text ≡ next_record default_config st.StartField fs [] rest
+  pub reads : (before : Fields) → next_record default_config st.StartField before [] text ≡ next_record default_config st.StartField (before ++ fs) [] rest
 
-pub upto_first : (text : List ℕ) → 0 < length text → get_or text 0 0 ≢ 10 → All IsPlain text → Upto [] text text
-upto_first [] some line plain = absurd (omega arith)
-upto_first (c ∷ text) some line plain = record { plain = plain; shorter = omega arith; reads = begun c text (All-head IsPlain c text plain) line }
+pub upto_first : (text : List ℕ) → All IsPlain text → Upto [] text text
+upto_first text plain = record { plain = plain; shorter = omega arith; reads = λ before. ap (λ (q : Fields). next_record default_config st.StartField q [] text) (sym (append-nil before)) }
 
 pub upto_next : (fs : Fields) (f rest left text : List ℕ) → Upto fs left text → FieldGoesOn f rest left → Upto (fs ++ f ∷ []) rest text
 upto_next fs f rest left text h field =
-    let goes = goes_on fs f rest left h.plain field in
-    record { plain = goes.plain; shorter = omega (arith, h.shorter, goes.shorter, length-append fs (f ∷ [])); reads = h.reads ∙ goes.reads }
+    let goes = λ (before : Fields). goes_on (before ++ fs) f rest left h.plain field in
+    record {
+      plain = (goes []).plain;
+      shorter = omega (arith, h.shorter, (goes []).shorter, length-append fs (f ∷ []));
+      reads = λ before. h.reads before ∙ (goes before).reads ∙ ap (λ (q : Fields). next_record default_config st.StartField q [] rest) (append_assoc before fs (f ∷ []));
+    }
 
-first_row : (text : List ℕ) (rows : List Fields) (h : HasRows text rows) (r : Read) → next_record default_config st.StartRecord [] [] text ≡ Some r
-    → (m : ℕ) × (h.fuel ≡ suc m) × (rows ≡ r.0 ∷ records_from default_config m r.1 r.2)
-first_row text rows h r e =
-    let (m, fuel) = some_fuel text h.fuel h.enough in
-    (m, fuel, sym (rw fuel at h.gives) ∙ records_step m st.StartRecord text r e)
+pub too_few : (count : ℕ) (text : List ℕ) (fs : Fields) (left f rest : List ℕ) → (All IsPlain text → Upto fs left text) → FieldIsLast f rest left → length fs + 1 < count → EndsWithOthers count text
+too_few count text fs left f rest upto field few plain before =
+    let u = upto plain in (
+      ((before ++ fs) ++ f ∷ [], st.StartRecord, rest),
+      u.reads before ∙ (is_last (before ++ fs) f rest left u.plain field).reads,
+      λ same. omega (arith, same, length-append (before ++ fs) (f ∷ []), length-append before fs),
+    )
 
-pub too_few : (text : List ℕ) (fs : Fields) (left f rest : List ℕ) → (All IsPlain text → Upto fs left text) → FieldIsLast f rest left → length fs < 3 → NotFour text
-too_few text fs left f rest upto field few rows h =
-    let u = upto h.plain in
-    let (m, fuel, e) = first_row text rows h (fs ++ f ∷ [], st.StartRecord, rest) (u.reads ∙ (is_last fs f rest left u.plain field).reads) in
-    (fs ++ f ∷ [], records_from default_config m st.StartRecord rest, e, λ four. omega (arith, length-append fs (f ∷ [])))
-
-pub too_many : (text : List ℕ) (fs : Fields) (left : List ℕ) → (All IsPlain text → Upto fs left text) → length fs ≡ 4 → NotFour text
+pub too_many : (text : List ℕ) (fs : Fields) (left : List ℕ) → (All IsPlain text → Upto fs left text) → EndsWithOthers (length fs) text
 unfolding More
-too_many text fs left upto four rows h = go (next_record default_config st.StartField fs [] left) refl (some_more st.StartField fs [] left start_line refl (upto h.plain).plain)
+too_many text fs left upto plain before = go (next_record default_config st.StartField (before ++ fs) [] left) refl (some_more st.StartField (before ++ fs) [] left start_line refl (upto plain).plain)
   where
-    go : (o : Option Read) → next_record default_config st.StartField fs [] left ≡ o → More fs o → (row : Fields) × (later : List Fields) × (rows ≡ row ∷ later) × (length row ≢ 4)
+    go : (o : Option Read) → next_record default_config st.StartField (before ++ fs) [] left ≡ o → More (before ++ fs) o
+        → (r : Read) × (next_record default_config st.StartField before [] text ≡ Some r) × (length r.0 ≢ length before + length fs)
     go None e more = absurd more
-    go (Some r) e more =
-        let (m, fuel, is) = first_row text rows h r ((upto h.plain).reads ∙ e) in
-        (r.0, records_from default_config m r.1 r.2, is, λ same. omega (arith, more))
+    go (Some r) e more = (r, (upto plain).reads before ∙ e, λ same. omega (arith, more, same, length-append before fs))
 
-pub just_four : (text : List ℕ) (a p o left d rest : List ℕ) → (All IsPlain text → Upto (a ∷ p ∷ o ∷ []) left text) → FieldIsLast d rest left → FourThen a p o d rest text
-just_four text a p o left d rest upto field rows h =
-    let u = upto h.plain in
-    let last = is_last (a ∷ p ∷ o ∷ []) d rest left u.plain field in
-    let (m, fuel, e) = first_row text rows h (a ∷ p ∷ o ∷ d ∷ [], st.StartRecord, rest) (u.reads ∙ last.reads) in
-    (records_from default_config m st.StartRecord rest, e, record { plain = last.plain; fuel = m; enough = omega (arith, h.enough, u.shorter, last.shorter, fuel); gives = refl })
+pub just_these : (text : List ℕ) (fs : Fields) (left f rest : List ℕ) → (All IsPlain text → Upto fs left text) → FieldIsLast f rest left → 0 < length fs → EndsWith (fs ++ f ∷ []) rest text
+just_these text fs left f rest upto field some plain =
+    let u = upto plain in
+    let last = λ (before : Fields). is_last (before ++ fs) f rest left u.plain field in
+    record {
+      plain = (last []).plain;
+      shorter = omega (arith, u.shorter, (last []).shorter, some);
+      reads = λ before. u.reads before ∙ (last before).reads ∙ ap (λ (q : Fields). Some (q, st.StartRecord, rest)) (append_assoc before fs (f ∷ []));
+    }
+
+-- one field more in front
+
+pub one_more : (f left text rest : List ℕ) (fs : Fields) → FieldGoesOn f left text → EndsWith fs rest left → EndsWith (f ∷ fs) rest text
+one_more f left text rest fs field ends plain =
+    let goes = λ (before : Fields). goes_on before f left text plain field in
+    let h = ends (goes []).plain in
+    record {
+      plain = h.plain;
+      shorter = omega (arith, (goes []).shorter, h.shorter);
+      reads = λ before. (goes before).reads ∙ h.reads (before ++ f ∷ []) ∙ ap (λ (q : Fields). Some (q, st.StartRecord, rest)) (append_assoc before (f ∷ []) fs);
+    }
+
+pub others_too : (f left text : List ℕ) (count : ℕ) → FieldGoesOn f left text → EndsWithOthers count left → EndsWithOthers (count + 1) text
+others_too f left text count field ends plain before =
+    let goes = goes_on before f left text plain field in
+    let (r, e, other) = ends goes.plain (before ++ f ∷ []) in
+    (r, goes.reads ∙ e, λ same. other (omega (arith, same, length-append before (f ∷ []))))
+
+-- the first record of a text
+
+first_read : (text : List ℕ) (r : Read) → 0 < length text → get_or text 0 0 ≢ 10 → All IsPlain text → next_record default_config st.StartField [] [] text ≡ Some r → next_record default_config st.StartRecord [] [] text ≡ Some r
+first_read [] r some line plain e = absurd (omega arith)
+first_read (c ∷ text) r some line plain e = begun c text (All-head IsPlain c text plain) line ∙ e
+
+first_row : (text : List ℕ) (rows : List Fields) (h : HasRows text rows) (r : Read) → 0 < length text → get_or text 0 0 ≢ 10 → next_record default_config st.StartField [] [] text ≡ Some r
+    → (m : ℕ) × (h.fuel ≡ suc m) × (rows ≡ r.0 ∷ records_from default_config m r.1 r.2)
+first_row text rows h r some line e =
+    let (m, fuel) = some_fuel text h.fuel h.enough in
+    (m, fuel, sym (rw fuel at h.gives) ∙ records_step m st.StartRecord text r (first_read text r some line h.plain e))
+
+pub row_of_fields : (text rest : List ℕ) (fs : Fields) (rows : List Fields) → 0 < length text → get_or text 0 0 ≢ 10 → EndsWith fs rest text → HasRows text rows
+    → (later : List Fields) × (rows ≡ fs ∷ later) × HasRows rest later
+row_of_fields text rest fs rows some line ends h =
+    let has = ends h.plain in
+    let (m, fuel, e) = first_row text rows h (fs, st.StartRecord, rest) some line (has.reads []) in
+    (records_from default_config m st.StartRecord rest, e, record { plain = has.plain; fuel = m; enough = omega (arith, h.enough, has.shorter, fuel); gives = refl })
+
+pub row_of_others : (text : List ℕ) (count : ℕ) (rows : List Fields) → 0 < length text → get_or text 0 0 ≢ 10 → EndsWithOthers count text → HasRows text rows
+    → (row : Fields) × (later : List Fields) × (rows ≡ row ∷ later) × (length row ≢ count)
+row_of_others text count rows some line ends h =
+    let (r, reads, other) = ends h.plain [] in
+    let (m, fuel, e) = first_row text rows h r some line reads in
+    (r.0, records_from default_config m r.1 r.2, e, λ same. other (omega (arith, same)))
 
 -- ---- lines
 
@@ -279,24 +324,29 @@ behind_newline (c ∷ text) rows some line h = record {
 
 -- ---- the header
 
-abbrev line : List ℕ
-line = codes "event,process,op,data\n"
+-- a line has the fields of a header, and is no mark of a byte order
+pub record Heads (head : Fields) (line : List ℕ) : Type 0 where
+  pub some : 0 < length line
+  pub no_mark : (lines : List ℕ) → strip_bom (line ++ lines) ≡ line ++ lines
+  pub first : (lines : List ℕ) → next_record default_config st.StartRecord [] [] (line ++ lines) ≡ Some (head, st.StartRecord, lines)
 
-no_mark : (lines : List ℕ) → strip_bom (line ++ lines) ≡ line ++ lines
-unfolding strip_bom
-no_mark lines = refl
+pub header_line : Heads header (codes "event,process,op,data\n")
+unfolding strip_bom next_record
+header_line = record { some = omega arith; no_mark = λ lines. refl; first = λ lines. refl }
 
-header_first : (lines : List ℕ) → next_record default_config st.StartRecord [] [] (line ++ lines) ≡ Some (header, st.StartRecord, lines)
-unfolding next_record
-header_first lines = refl
+pub stamped_header_line : Heads stamped_header (codes "at,event,process,op,data\n")
+unfolding strip_bom next_record
+stamped_header_line = record { some = omega arith; no_mark = λ lines. refl; first = λ lines. refl }
 
-under : (lines : List ℕ) → All IsPlain (line ++ lines) → (later : List Fields) × (rows_of (line ++ lines) ≡ header ∷ later) × HasRows lines later
-under lines plain =
+under : (head : Fields) (line lines : List ℕ) → Heads head line → All IsPlain (line ++ lines) → (later : List Fields) × (rows_of (line ++ lines) ≡ head ∷ later) × HasRows lines later
+under head line lines h plain =
     let (m, fuel) = some_fuel (line ++ lines) (length (line ++ lines) + 1) (omega arith) in (
       records_from default_config m st.StartRecord lines,
-      ap (records default_config) (no_mark lines) ∙ ap (λ (n : ℕ). records_from default_config n st.StartRecord (line ++ lines)) fuel ∙ records_step m st.StartRecord (line ++ lines) (header, st.StartRecord, lines) (header_first lines),
-      record { plain = plain_rest line lines plain; fuel = m; enough = omega (arith, fuel, length-append line lines); gives = refl },
+      ap (records default_config) (h.no_mark lines) ∙ ap (λ (n : ℕ). records_from default_config n st.StartRecord (line ++ lines)) fuel ∙ records_step m st.StartRecord (line ++ lines) (head, st.StartRecord, lines) (h.first lines),
+      record { plain = plain_rest line lines plain; fuel = m; enough = omega (arith, fuel, h.some, length-append line lines); gives = refl },
     )
 
-pub under_header : (text lines : List ℕ) → text ≡ codes "event,process,op,data\n" ++ lines → All IsPlain text → (later : List Fields) × (rows_of text ≡ header ∷ later) × HasRows lines later
-under_header text lines is plain = rw is (under lines (subst (All IsPlain) is plain))
+pub lines_under : (head : Fields) (line text : List ℕ) (found : Option (Bor (List ℕ))) → Heads head line → IfSome found (λ lines. (text ≡ line ++ lines.now) × All IsPlain text)
+    → IfSome found (λ lines. (later : List Fields) × (rows_of text ≡ head ∷ later) × HasRows lines.now later)
+lines_under head line text None h found = found
+lines_under head line text (Some lines) h (is, plain) = rw is (under head line lines.now h (subst (All IsPlain) is plain))

@@ -1,5 +1,5 @@
 -- Reading the records of a text with stamps, and their events in turn.
-use Rattle.std.proofs.Common.{Bor, ◌≡◌, ◌<◌, ◌≤◌, ◌+◌, ◌^◌, ◌++◌, ◌||◌, cond, eqb, inl, inr, ℕ, suc, Bool, true, false, not, List, [], ◌∷◌, length, get_or, take, drop, Option, Some, None, Result, Ok, Err, refl, arith, ◌∙◌, sym, ap, subst, add-one}
+use Rattle.std.proofs.Common.{◌≡◌, ◌<◌, ◌≤◌, ◌+◌, ◌^◌, ◌++◌, ◌||◌, cond, eqb, inl, inr, ℕ, suc, Bool, true, false, not, List, [], ◌∷◌, length, get_or, take, drop, Some, None, Result, Ok, Err, refl, arith, ◌∙◌, sym, ap, subst, add-one}
 use Rattle.std.specs.Prelude.{◌==◌, ◌≢◌, nat_le}
 use Rattle.std.specs.BTreeSet.{BTreeSet, Updates, contains}
 use Rattle.std.specs.Global.{Vec}
@@ -16,7 +16,6 @@ use Rattle.std.proofs.lemmas.List.Folds.{list_any-append}
 use Rattle.std.proofs.lemmas.List.Sorted.{IsPermutation-map}
 use Rattle.std.proofs.lemmas.Map.Keys.{IsDistinct-IsPermutation, IsDistinct-push, IsStrictlyIncreasing-from_distinct}
 use Rattle.std.proofs.Math.Seq.{drop-cons, take-suc}
-use Rattle.csv.specs.declared.reader.Reader.{Reader}
 use Rattle.snap_core.specs.declared.event.Event.{Event}
 use Rattle.snap_text.specs.declared.fault.TextFault.{TextFault}
 use Rattle.snap_text.specs.declared.fault.TextFault.TheVariants as faults
@@ -24,7 +23,6 @@ use Rattle.snap_csv.specs.declared.refusal.ReadRefusal.{ReadRefusal}
 use Rattle.snap_csv.specs.declared.refusal.ReadRefusal.TheVariants as refusals
 use Rattle.snap_csv.specs.declared.stamped.Stamped.{Stamped}
 use Rattle.snap_text.specs.Fields.{Fields, event_of, number_at}
-use Rattle.snap_csv.specs.Rows.{Stands}
 use Rattle.snap_csv.specs.Stamps.{InOrder, NoneOf, events_of, nothing, order_at, places_of, repeat_fault, shape_at, shape_fault, stamped_from, stamped_in, stamped_row, stamps_of, with_stamped}
 use Rattle.snap_csv.specs.Answers.{AnswersStamps, FailsEvent, HasSeen, RefusesShapes, RefusesStamped, RefusesStamps, RefusesTurns, TakesEvent, TakesStamped, TakesTurns}
 use Rattle.snap_csv.proofs.ReadFacts.{at_drop, full_fails}
@@ -160,9 +158,9 @@ none_seen seen xs e f = record { has = λ q. rw (e, f) refl; distinct = rw f tt 
 
 -- ---- one record after the other
 
--- the reader stands before the record at place i under the header, and the stamped events are those of the records before it
-pub record MidStamped (limit : ℕ) (rows : List Fields) (r : Reader (Bor (List ℕ))) (xs : List Stamped) (i : ℕ) : Type 0 where
-  pub stands : Stands r (drop i rows)
+-- what is left to be read is the records from place i under the header on, and the stamped events are those of the records before it
+pub record MidStamped (limit : ℕ) (rows : List Fields) (Left : List Fields → Type 0) (xs : List Stamped) (i : ℕ) : Type 0 where
+  pub left : Left (drop i rows)
   pub within : i ≤ length rows
   pub fine : NoneOf (shape_at limit rows) i
   pub stamped : xs ≡ stamped_in (take i rows)
@@ -180,36 +178,36 @@ from_append place (r ∷ rs) qs =
     along (Ok x) us vs = refl
     along (Err f) us vs = refl
 
-pub begun : (limit : ℕ) (rows : List Fields) (r : Reader (Bor (List ℕ))) (xs : List Stamped) → Stands r rows → xs ≡ [] → MidStamped limit rows r xs 0
-begun limit rows r xs s none = record {
-  stands = s;
+pub begun : (limit : ℕ) (rows : List Fields) (Left : List Fields → Type 0) (xs : List Stamped) → Left rows → xs ≡ [] → MidStamped limit rows Left xs 0
+begun limit rows Left xs s none = record {
+  left = s;
   within = omega arith;
   fine = λ j lt. absurd (omega arith);
   stamped = none;
   count = rw none refl;
 }
 
-pub done : (limit : ℕ) (rows : List Fields) (r : Reader (Bor (List ℕ))) (xs : List Stamped) (i : ℕ) (m : MidStamped limit rows r xs i) → drop i rows ≡ [] → NoneOf (shape_at limit rows) (length rows) × (xs ≡ stamped_in rows)
-done limit rows r xs i m e =
+pub done : (limit : ℕ) (rows : List Fields) (Left : List Fields → Type 0) (xs : List Stamped) (i : ℕ) (m : MidStamped limit rows Left xs i) → drop i rows ≡ [] → NoneOf (shape_at limit rows) (length rows) × (xs ≡ stamped_in rows)
+done limit rows Left xs i m e =
     let len : length rows ≤ i = omega (arith, length-drop i rows, ap length e) in
     let all : take i rows ≡ rows = take_all i rows len in
     (λ j lt. m.fine j (omega (arith, m.within)), m.stamped ∙ ap stamped_in all)
 
-fault_here : (limit : ℕ) (rows : List Fields) (r : Reader (Bor (List ℕ))) (xs : List Stamped) (i : ℕ) (m : MidStamped limit rows r xs i) (row : Fields) → get_or rows i [] ≡ row
+fault_here : (limit : ℕ) (rows : List Fields) (Left : List Fields → Type 0) (xs : List Stamped) (i : ℕ) (m : MidStamped limit rows Left xs i) (row : Fields) → get_or rows i [] ≡ row
     → shape_at limit rows i ≡ shape_fault limit (length xs) (stamps_of xs) row
-fault_here limit rows r xs i m row e = rw (e, m.count, ← m.stamped) refl
+fault_here limit rows Left xs i m row e = rw (e, m.count, ← m.stamped) refl
 
-pub stopped : (limit : ℕ) (rows : List Fields) (r : Reader (Bor (List ℕ))) (xs : List Stamped) (i : ℕ) (m : MidStamped limit rows r xs i) (row : Fields) (rest : List Fields) (e : ReadRefusal)
+pub stopped : (limit : ℕ) (rows : List Fields) (Left : List Fields → Type 0) (xs : List Stamped) (i : ℕ) (m : MidStamped limit rows Left xs i) (row : Fields) (rest : List Fields) (e : ReadRefusal)
     → drop i rows ≡ row ∷ rest → RefusesStamped limit (i + 2) xs row e → RefusesShapes limit rows e
-stopped limit rows r xs i m row rest (refusals.Text p f) d t =
+stopped limit rows Left xs i m row rest (refusals.Text p f) d t =
     let (lt, here, next) = at_drop rows i row rest d in
-    record { i = i; record_is = t.0; first = record { below = lt; here = fault_here limit rows r xs i m row here ∙ t.1; first = m.fine } }
-stopped limit rows r xs i m row rest refusals.Device d t = t
-stopped limit rows r xs i m row rest refusals.Memory d t = tt
+    record { i = i; record_is = t.0; first = record { below = lt; here = fault_here limit rows Left xs i m row here ∙ t.1; first = m.fine } }
+stopped limit rows Left xs i m row rest refusals.Device d t = t
+stopped limit rows Left xs i m row rest refusals.Memory d t = tt
 
-pub more : (limit : ℕ) (rows : List Fields) (a b : Reader (Bor (List ℕ))) (old new : List Stamped) (i : ℕ) (m : MidStamped limit rows a old i) (row : Fields)
-    → (rest : List Fields) × (drop i rows ≡ row ∷ rest) × Stands b rest → TakesStamped limit (i + 2) old new row (Ok tt) → MidStamped limit rows b new (i + 1)
-more limit rows a b old new i m row (rest, d, s) (none, x, is, longer) =
+pub more : (limit : ℕ) (rows : List Fields) (A B : List Fields → Type 0) (old new : List Stamped) (i : ℕ) (m : MidStamped limit rows A old i) (row : Fields)
+    → (rest : List Fields) × (drop i rows ≡ row ∷ rest) × B rest → TakesStamped limit (i + 2) old new row (Ok tt) → MidStamped limit rows B new (i + 1)
+more limit rows A B old new i m row (rest, d, s) (none, x, is, longer) =
     let (lt, here, next) = at_drop rows i row rest d in
     let taken : take (i + 1) rows ≡ take i rows ++ row ∷ [] = rw (add-one, take-suc rows i [] lt, here) refl in
     let size : length (take i rows) ≡ i = length-take-le i rows m.within in
@@ -219,9 +217,9 @@ more limit rows a b old new i m row (rest, d, s) (none, x, is, longer) =
     longer ∙ ap (λ (t : List Stamped). old ++ t) (sym one) ∙ ap (λ (t : List Stamped). t ++ stamped_from (i + 2) (row ∷ [])) m.stamped
     ∙ ap (λ n. stamped_in (take i rows) ++ stamped_from n (row ∷ [])) (sym number) ∙ sym (from_append 2 (take i rows) (row ∷ [])) ∙ ap stamped_in (sym taken) in
     record {
-      stands = rw next s;
+      left = rw next s;
       within = omega arith;
-      fine = below_more (λ j. shape_at limit rows j ≡ None) i m.fine (fault_here limit rows a old i m row here ∙ none);
+      fine = below_more (λ j. shape_at limit rows j ≡ None) i m.fine (fault_here limit rows A old i m row here ∙ none);
       stamped = stamped;
       count = rw longer (omega (arith, length-append old (record { at = x.0; place = i + 2; event = x.1 } ∷ []), m.count));
     }

@@ -1,6 +1,7 @@
 -- Plain texts: without a quote or a carriage return each record is a line, cut at its commas.
-use Rattle.std.specs.Prelude.{◌≡◌, ◌≢◌, ◌<◌, ◌⊎◌, ◌++◌, ⊤, ℕ, List, [], ◌∷◌, length}
+use Rattle.std.specs.Prelude.{◌≡◌, ◌≢◌, ◌<◌, ◌+◌, ◌⊎◌, ◌++◌, ⊤, ℕ, List, [], ◌∷◌, length, Some}
 use Rattle.std.specs.List.{All}
+use Rattle.csv.specs.Machine.{Read, next_record}
 use Rattle.csv.specs.Reading.{default_config, records_from}
 use Rattle.csv.specs.declared.parser.State.TheVariants as st
 use Rattle.snap_text.specs.Fields.{Fields}
@@ -35,10 +36,17 @@ pub record FieldIsLast (f rest text : List ℕ) : Type 0 where
   pub inner : All IsInner f
   pub whole : (text ≡ f ++ 10 ∷ rest) ⊎ ((text ≡ f) × (rest ≡ []))
 
--- the first record of a text has these four fields, and the others are those of a rest
-abbrev pub FourThen : List ℕ → List ℕ → List ℕ → List ℕ → List ℕ → List ℕ → Type 0
-FourThen a p o d rest text = (rows : List Fields) → HasRows text rows → (later : List Fields) × (rows ≡ (a ∷ p ∷ o ∷ d ∷ []) ∷ later) × HasRows rest later
+-- a line, or what is left of one behind some fields of its record, ends with these fields, and behind it is a rest
+pub record HasFields (fields : Fields) (rest text : List ℕ) : Type 0 where
+  pub plain : All IsPlain rest
+  pub shorter : length rest < length text
+  pub reads : (before : Fields) → next_record default_config st.StartField before [] text ≡ Some (before ++ fields, st.StartRecord, rest)
 
--- the first record of a text has not four fields
-abbrev pub NotFour : List ℕ → Type 0
-NotFour text = (rows : List Fields) → HasRows text rows → (row : Fields) × (later : List Fields) × (rows ≡ row ∷ later) × (length row ≢ 4)
+abbrev pub EndsWith : Fields → List ℕ → List ℕ → Type 0
+EndsWith fields rest text = All IsPlain text → HasFields fields rest text
+
+-- it ends with more fields than so many, or with fewer
+abbrev pub EndsWithOthers : ℕ → List ℕ → Type 0
+EndsWithOthers count text =
+    All IsPlain text → (before : Fields)
+    → (r : Read) × (next_record default_config st.StartField before [] text ≡ Some r) × (length r.0 ≢ length before + count)

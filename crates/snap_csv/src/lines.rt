@@ -1,20 +1,26 @@
 //! Histories in plain texts. Without quotes and carriage returns a record is a line and a field ends at a comma, so that such a
 //! text is cut by a search for these two marks. Any other text is read byte by byte, by `csv`.
-ghost use Rattle.std.specs.Prelude.{◌≡◌, ◌≢◌, ◌↔◌, ◌<◌, ◌≤◌, take, drop, ◌∷◌, ◌++◌, [], List, ℕ, All, IsTrue, MatchOption, IfSome, get_or, length};
-ghost use Rattle.snap_csv.specs.Answers.{AnswersNumbered};
-ghost use Rattle.snap_csv.specs.Layout.{header};
-ghost use Rattle.snap_csv.specs.Lines.{EndsField, FieldGoesOn, FieldIsLast, FourThen, HasRows, IsInner, IsPlain, NotFour};
+ghost use Rattle.std.specs.Prelude.{◌≡◌, ◌≢◌, ◌==◌, ◌↔◌, ◌<◌, ◌≤◌, take, drop, ◌∷◌, ◌++◌, [], List, ℕ, All, IfOk, IsTrue, MatchOption, IfSome, get_or, length};
+ghost use Rattle.std.specs.List.{IsDistinct};
+ghost use Rattle.snap_csv.specs.Answers.{AnswersNumbered, AnswersStamps, ReadsStamped};
+ghost use Rattle.snap_csv.specs.Layout.{header, stamped_header};
+ghost use Rattle.snap_csv.specs.Lines.{EndsField, EndsWith, EndsWithOthers, FieldGoesOn, FieldIsLast, HasRows, IsInner, IsPlain};
+ghost use Rattle.snap_csv.specs.Stamps.{stamps_of};
 ghost use Rattle.snap_text.specs.Fields.{Fields};
 ghost use Rattle.snap_csv.specs.Rows.{rows_of};
 
 use crate::read::{row_limit, take_fields};
 use crate::refusal::ReadRefusal;
+use crate::stamped::{Stamped, history_by_stamps, take_stamped};
 use memchr::memchr2;
 use snap_core::{History, Limit};
 use snap_text::{Known, TextFault};
 use std::alloc::Global;
+use std::collections::BTreeSet;
 
 const HEADER: &[u8] = b"event,process,op,data\n";
+
+const STAMPED_HEADER: &[u8] = b"at,event,process,op,data\n";
 
 /// Whether a text is plain: it has no quote and no carriage return.
 pub fn is_plain(text: &[u8]) -> bool
@@ -23,15 +29,31 @@ pub fn is_plain(text: &[u8]) -> bool
     memchr2(b'"', b'\r', text).is_none()
 }
 
+// What stands behind a text's first line, where the text is known to be plain and begins with this line.
+fn lines_behind<'a>(first: &[u8], text: &'a [u8], plain: bool) -> Option<&'a [u8]>
+    requires { IsTrue plain → All IsPlain text.now }
+    ensures { IfSome result (λ lines. (text.now ≡ first.now ++ lines.now) × All IsPlain text.now) }
+{
+    if !plain || !text.starts_with(first) {
+        return None;
+    }
+    Some(&text[first.len()..])
+}
+
 /// What stands under the header, where a text is known to be plain and begins with its line.
 pub fn lines_under_header(text: &[u8], plain: bool) -> Option<&[u8]>
     requires { IsTrue plain → All IsPlain text.now }
     ensures { IfSome result (λ lines. (later : List Fields) × (rows_of text.now ≡ header ∷ later) × HasRows lines.now later) }
 {
-    if !plain || !text.starts_with(HEADER) {
-        return None;
-    }
-    Some(&text[HEADER.len()..])
+    lines_behind(HEADER, text, plain)
+}
+
+/// The same of the header of texts with stamps.
+pub fn lines_under_stamped_header(text: &[u8], plain: bool) -> Option<&[u8]>
+    requires { IsTrue plain → All IsPlain text.now }
+    ensures { IfSome result (λ lines. (later : List Fields) × (rows_of text.now ≡ stamped_header ∷ later) × HasRows lines.now later) }
+{
+    lines_behind(STAMPED_HEADER, text, plain)
 }
 
 // Most fields end among so many bytes, so that these are looked at one by one before a search begins.
@@ -98,17 +120,24 @@ fn last_field(text: &[u8]) -> Option<(&[u8], &[u8])>
     }
 }
 
-// The fields of the line that a text begins with, where it has four, and the lines behind it.
+// The fields that a line has left, where these are four, and the lines behind it.
 fn four_first(text: &[u8]) -> Option<((&[u8], &[u8], &[u8], &[u8]), &[u8])>
-    requires some { 0 < length text.now }
-    requires begins { get_or text.now 0 0 ≢ 10 }
-    ensures { MatchOption result (NotFour text.now) (λ x. FourThen x.0.0.now x.0.1.now x.0.2.now x.0.3.now x.1.now text.now) }
+    ensures { MatchOption result (EndsWithOthers 4 text.now) (λ x. EndsWith (x.0.0.now ∷ x.0.1.now ∷ x.0.2.now ∷ x.0.3.now ∷ []) x.1.now text.now) }
 {
     let (event, rest) = field_and_comma(text)?;
     let (process, rest) = field_and_comma(rest)?;
     let (op, rest) = field_and_comma(rest)?;
     let (data, rest) = last_field(rest)?;
     Some(((event, process, op, data), rest))
+}
+
+// The fields that a line has left, where these are five, and the lines behind it.
+fn five_first(text: &[u8]) -> Option<((&[u8], &[u8], &[u8], &[u8], &[u8]), &[u8])>
+    ensures { MatchOption result (EndsWithOthers 5 text.now) (λ x. EndsWith (x.0.0.now ∷ x.0.1.now ∷ x.0.2.now ∷ x.0.3.now ∷ x.0.4.now ∷ []) x.1.now text.now) }
+{
+    let (at, rest) = field_and_comma(text)?;
+    let ((event, process, op, data), rest) = four_first(rest)?;
+    Some(((at, event, process, op, data), rest))
 }
 
 // A text behind the empty lines at its front, which are no records.
@@ -149,4 +178,53 @@ pub fn lines_history(
         left = rest;
     }
     unreachable!()
+}
+
+// The stamped events of the lines under the header.
+fn read_stamped_lines(
+    alloc: Global,
+    lines: &[u8],
+    limit: Limit,
+) -> Result<Vec<Stamped>, ReadRefusal>
+    ensures reads { (rows : List Fields) → HasRows lines.now rows → ReadsStamped limit.events rows result }
+    ensures distinct { IfOk result (λ stamped. IsDistinct (λ (a : ℕ) (b : ℕ). a == b) (stamps_of stamped.items)) }
+{
+    let mut known = Known::new(alloc);
+    let mut seen = BTreeSet::new(alloc);
+    let mut stamped = Vec::new(alloc);
+    let mut left = lines;
+    for i in 0..row_limit(limit) {
+        let line = behind_newlines(left);
+        if line.is_empty() {
+            return Ok(stamped);
+        }
+        let Some((fields, rest)) = five_first(line) else {
+            return Err(ReadRefusal::Text {
+                place: i + 2,
+                fault: TextFault::Fields,
+            });
+        };
+        take_stamped(
+            alloc,
+            &mut known,
+            &mut seen,
+            &mut stamped,
+            limit,
+            i + 2,
+            fields,
+        )?;
+        left = rest;
+    }
+    unreachable!()
+}
+
+/// The history of the lines under the header, each with a stamp, and the number of each event's record; or the first fault.
+pub fn stamped_lines_history(
+    alloc: Global,
+    lines: &[u8],
+    limit: Limit,
+) -> Result<(History, Vec<u32>), ReadRefusal>
+    ensures { (rows : List Fields) → HasRows lines.now rows → AnswersStamps limit.events rows result }
+{
+    history_by_stamps(alloc, read_stamped_lines(alloc, lines, limit)?)
 }

@@ -1,4 +1,4 @@
-ghost use Rattle.std.specs.Prelude.{◌≡◌, ◌==◌, List, ℕ, IfOk, OnOk};
+ghost use Rattle.std.specs.Prelude.{◌≡◌, ◌==◌, ◌∷◌, [], List, ℕ, IfOk, Ok, OnOk};
 ghost use Rattle.std.specs.List.{IsDistinct};
 ghost use Rattle.std.specs.List.Sorted.{IsPermutation, IsStrictlyIncreasing};
 ghost use Rattle.csv.specs.Records.{fields_of};
@@ -25,32 +25,27 @@ pub struct Stamped {
     pub event: Event,
 }
 
-// Adds the stamped event of a record to those before it.
-fn take_stamped(
+/// Adds the stamped event of a record to those before it, by the record's five fields.
+pub fn take_stamped(
     alloc: Global,
     known: &mut Known,
     seen: &mut BTreeSet<u64>,
     stamped: &mut Vec<Stamped>,
     limit: Limit,
     place: u32,
-    row: &ByteRecord,
+    fields: (&[u8], &[u8], &[u8], &[u8], &[u8]),
 ) -> Result<(), ReadRefusal>
     requires { HasSeen seen.old stamped.old.items }
-    ensures row { TakesStamped limit.events place stamped.old.items stamped.new.items (fields_of row.now) result }
+    ensures row { TakesStamped limit.events place stamped.old.items stamped.new.items (fields.entry.0.now ∷ fields.entry.1.now ∷ fields.entry.2.now ∷ fields.entry.3.now ∷ fields.entry.4.now ∷ []) result }
     ensures seen { OnOk result (HasSeen seen.new stamped.new.items) }
 {
-    let Some((at, event, process, op, entries)) = five_fields(row) else {
-        return Err(ReadRefusal::Text {
-            place,
-            fault: TextFault::Fields,
-        });
-    };
     if stamped.len() >= limit.events() {
         return Err(ReadRefusal::Text {
             place,
             fault: TextFault::TooMany,
         });
     }
+    let (at, event, process, op, entries) = fields;
     let Some(at) = stamp_of(at) else {
         return Err(ReadRefusal::Text {
             place,
@@ -66,6 +61,29 @@ fn take_stamped(
     }
     stamped.push(Stamped { at, place, event })?;
     Ok(())
+}
+
+// Adds the stamped event of a record of `csv` to those before it.
+fn take_stamped_row(
+    alloc: Global,
+    known: &mut Known,
+    seen: &mut BTreeSet<u64>,
+    stamped: &mut Vec<Stamped>,
+    limit: Limit,
+    place: u32,
+    row: &ByteRecord,
+) -> Result<(), ReadRefusal>
+    requires { HasSeen seen.old stamped.old.items }
+    ensures row { TakesStamped limit.events place stamped.old.items stamped.new.items (fields_of row.now) result }
+    ensures seen { OnOk result (HasSeen seen.new stamped.new.items) }
+{
+    let Some(fields) = five_fields(row) else {
+        return Err(ReadRefusal::Text {
+            place,
+            fault: TextFault::Fields,
+        });
+    };
+    take_stamped(alloc, known, seen, stamped, limit, place, fields)
 }
 
 // The stamped events of the records that are left.
@@ -85,7 +103,7 @@ fn read_stamped(
         if !next_row(reader, row)? {
             return Ok(stamped);
         }
-        take_stamped(
+        take_stamped_row(
             alloc,
             &mut known,
             &mut seen,
@@ -133,6 +151,19 @@ fn take_turns(alloc: Global, stamped: Vec<Stamped>) -> Result<History, ReadRefus
     Ok(history)
 }
 
+/// The history of stamped events in the order of their stamps, and the number of each event's record; or the first fault.
+pub fn history_by_stamps(
+    alloc: Global,
+    mut stamped: Vec<Stamped>,
+) -> Result<(History, Vec<u32>), ReadRefusal>
+    requires { IsDistinct (λ (a : ℕ) (b : ℕ). a == b) (stamps_of stamped.items) }
+    ensures { (limit : ℕ) (rows : List Fields) → ReadsStamped limit rows (Ok stamped) → AnswersStamps limit rows result }
+{
+    sort_by_stamp(&mut stamped);
+    let places = places_in(alloc, &stamped)?;
+    Ok((take_turns(alloc, stamped)?, places))
+}
+
 /// The history of the records that a reader has left, each with a stamp, and the number of each event's record; or the
 /// first fault.
 pub fn stamped_history(
@@ -143,8 +174,5 @@ pub fn stamped_history(
 ) -> Result<(History, Vec<u32>), ReadRefusal>
     ensures { (rows : List Fields) → Stands reader.old rows → AnswersStamps limit.events rows result }
 {
-    let mut stamped = read_stamped(alloc, reader, row, limit)?;
-    sort_by_stamp(&mut stamped);
-    let places = places_in(alloc, &stamped)?;
-    Ok((take_turns(alloc, stamped)?, places))
+    history_by_stamps(alloc, read_stamped(alloc, reader, row, limit)?)
 }

@@ -10,5 +10,5 @@ invariant-loop-i l = record {
   seen : HasSeen l.seen l.stamped.items;
   count : length l.stamped.items ≡ l.i;
   room : l.i ≤ l.limit.events;
-  midway : (rows : List Fields) → Stands l.fn.reader rows → MidStamped l.limit.events rows l.reader l.stamped.items l.i;
+  midway : (rows : List Fields) → Stands l.fn.reader rows → MidStamped l.limit.events rows (Stands l.reader) l.stamped.items l.i;
 }

@@ -1,0 +1,7 @@
+use Rattle.std.proofs.Common.{refl}
+use Rattle.csv.specs.Records.{fields_of}
+use Rattle.snap_csv.proofs.StampFacts.{row_short}
+use Rattle.snap_csv.proofs.stamped.take_stamped_row.Goals as goal
+
+pub returns-in_default-clause-row : goal.returns-in_default-clause-row
+returns-in_default-clause-row c = (refl, row_short c.args.limit.events _ _ (fields_of c.args.row.now) c.in_default.ensures)
