@@ -6,6 +6,7 @@ pub mod LineFacts
 pub mod TextFacts
 pub mod StampOnce
 pub mod StampFacts
+pub mod RepeatFacts
 pub mod Exclusive
 pub mod StampText
 pub mod LengthFacts

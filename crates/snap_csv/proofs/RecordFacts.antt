@@ -24,7 +24,7 @@ use Rattle.snap_csv.specs.Records.{HaveRecordsWithin, RowsNumbered, SpellEvents,
 use Rattle.snap_csv.proofs.Exclusive.{one_header}
 use Rattle.snap_text.proofs.GrammarFacts.{bind_ok, record_is, some_or}
 use Rattle.snap_text.proofs.NumberFacts.{number_is}
-use Rattle.snap_csv.proofs.StampFacts.{flips}
+use Rattle.snap_csv.proofs.RepeatFacts.{flips}
 use Rattle.snap_csv.proofs.StampOnce.{one_sort}
 
 -- ---- records without a fault have the fields of an event

@@ -8,6 +8,7 @@ mod lines;
 mod read;
 mod records;
 mod refusal;
+mod repeats;
 mod rows;
 mod stamped;
 mod writing;

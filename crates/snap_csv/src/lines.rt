@@ -1,11 +1,9 @@
 //! Histories in plain texts. Without quotes and carriage returns a record is a line and a field ends at a comma, so that such a
 //! text is cut by a search for these two marks. Any other text is read byte by byte, by `csv`.
-ghost use Rattle.std.specs.Prelude.{◌≡◌, ◌≢◌, ◌==◌, ◌↔◌, ◌<◌, ◌≤◌, take, drop, ◌∷◌, ◌++◌, [], List, ℕ, All, IfOk, IsTrue, MatchOption, IfSome, get_or, length};
-ghost use Rattle.std.specs.List.{IsDistinct};
+ghost use Rattle.std.specs.Prelude.{◌≡◌, ◌≢◌, ◌↔◌, ◌<◌, ◌≤◌, take, drop, ◌∷◌, ◌++◌, [], List, ℕ, All, IsTrue, MatchOption, IfSome, get_or, length};
 ghost use Rattle.snap_csv.specs.Answers.{AnswersNumbered, AnswersStamps, ReadsStamped};
 ghost use Rattle.snap_csv.specs.Layout.{header, stamped_header};
 ghost use Rattle.snap_csv.specs.Lines.{EndsField, EndsWith, EndsWithOthers, FieldGoesOn, FieldIsLast, HasRows, IsInner, IsPlain};
-ghost use Rattle.snap_csv.specs.Stamps.{stamps_of};
 ghost use Rattle.snap_text.specs.Fields.{Fields};
 ghost use Rattle.snap_csv.specs.Rows.{rows_of};
 
@@ -16,7 +14,6 @@ use memchr::memchr2;
 use snap_core::{History, Limit};
 use snap_text::{Known, TextFault};
 use std::alloc::Global;
-use std::collections::BTreeSet;
 
 const HEADER: &[u8] = b"event,process,op,data\n";
 
@@ -180,23 +177,22 @@ pub fn lines_history(
     unreachable!()
 }
 
-// The stamped events of the lines under the header.
+// Takes the stamped events of the lines under the header, up to the first with a fault other than a repeated stamp.
 fn read_stamped_lines(
     alloc: Global,
     lines: &[u8],
     limit: Limit,
-) -> Result<Vec<Stamped>, ReadRefusal>
-    ensures reads { (rows : List Fields) → HasRows lines.now rows → ReadsStamped limit.events rows result }
-    ensures distinct { IfOk result (λ stamped. IsDistinct (λ (a : ℕ) (b : ℕ). a == b) (stamps_of stamped.items)) }
+    stamped: &mut Vec<Stamped>,
+) -> Result<(), ReadRefusal>
+    requires { stamped.old.items ≡ [] }
+    ensures { (rows : List Fields) → HasRows lines.now rows → ReadsStamped limit.events rows stamped.new.items result }
 {
     let mut known = Known::new(alloc);
-    let mut seen = BTreeSet::new(alloc);
-    let mut stamped = Vec::new(alloc);
     let mut left = lines;
     for i in 0..row_limit(limit) {
         let line = behind_newlines(left);
         if line.is_empty() {
-            return Ok(stamped);
+            return Ok(());
         }
         let Some((fields, rest)) = five_first(line) else {
             return Err(ReadRefusal::Text {
@@ -204,15 +200,7 @@ fn read_stamped_lines(
                 fault: TextFault::Fields,
             });
         };
-        take_stamped(
-            alloc,
-            &mut known,
-            &mut seen,
-            &mut stamped,
-            limit,
-            i + 2,
-            fields,
-        )?;
+        take_stamped(alloc, &mut known, stamped, limit, i + 2, fields)?;
         left = rest;
     }
     unreachable!()
@@ -226,5 +214,7 @@ pub fn stamped_lines_history(
 ) -> Result<(History, Vec<u32>), ReadRefusal>
     ensures { (rows : List Fields) → HasRows lines.now rows → AnswersStamps limit.events rows result }
 {
-    history_by_stamps(alloc, read_stamped_lines(alloc, lines, limit)?)
+    let mut stamped = Vec::new(alloc);
+    let read = read_stamped_lines(alloc, lines, limit, &mut stamped);
+    history_by_stamps(alloc, stamped, read)
 }

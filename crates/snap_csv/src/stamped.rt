@@ -1,21 +1,19 @@
-ghost use Rattle.std.specs.Prelude.{◌≡◌, ◌==◌, ◌∷◌, [], List, ℕ, IfOk, Ok, OnOk};
-ghost use Rattle.std.specs.List.{IsDistinct};
-ghost use Rattle.std.specs.List.Sorted.{IsPermutation, IsStrictlyIncreasing};
+ghost use Rattle.std.specs.Prelude.{◌≡◌, ◌∷◌, [], List, ℕ, IfOk};
 ghost use Rattle.csv.specs.Records.{fields_of};
-ghost use Rattle.snap_csv.specs.Answers.{AnswersStamps, HasSeen, ReadsStamped, TakesStamped, TakesTurns};
+ghost use Rattle.snap_csv.specs.Answers.{AnswersStamps, ReadsStamped, TakesStamped, TakesTurns};
 ghost use Rattle.snap_text.specs.Fields.{Fields};
 ghost use Rattle.snap_csv.specs.Rows.{Stands};
-ghost use Rattle.snap_csv.specs.Stamps.{places_of, stamps_of};
+ghost use Rattle.snap_csv.specs.Stamps.{places_of};
 
 use crate::fields::{event_of_record, five_fields};
 use crate::read::{push_event, row_limit};
 use crate::refusal::ReadRefusal;
+use crate::repeats::{are_rising, repeated_place, sort_by_stamp};
 use crate::rows::next_row;
 use csv::{ByteRecord, Reader};
 use snap_core::{Event, History, Limit};
 use snap_text::{Known, TextFault, stamp_of};
 use std::alloc::{AllocError, Global};
-use std::collections::BTreeSet;
 
 /// An event with its stamp and the number of its record.
 #[derive(Drop)]
@@ -25,19 +23,16 @@ pub struct Stamped {
     pub event: Event,
 }
 
-/// Adds the stamped event of a record to those before it, by the record's five fields.
+/// Adds the stamped event of a record to those before it, by the record's five fields. Whether its stamp is new is not asked.
 pub fn take_stamped(
     alloc: Global,
     known: &mut Known,
-    seen: &mut BTreeSet<u64>,
     stamped: &mut Vec<Stamped>,
     limit: Limit,
     place: u32,
     fields: (&[u8], &[u8], &[u8], &[u8], &[u8]),
 ) -> Result<(), ReadRefusal>
-    requires { HasSeen seen.old stamped.old.items }
-    ensures row { TakesStamped limit.events place stamped.old.items stamped.new.items (fields.entry.0.now ∷ fields.entry.1.now ∷ fields.entry.2.now ∷ fields.entry.3.now ∷ fields.entry.4.now ∷ []) result }
-    ensures seen { OnOk result (HasSeen seen.new stamped.new.items) }
+    ensures { TakesStamped limit.events place stamped.old.items stamped.new.items (fields.entry.0.now ∷ fields.entry.1.now ∷ fields.entry.2.now ∷ fields.entry.3.now ∷ fields.entry.4.now ∷ []) result }
 {
     if stamped.len() >= limit.events() {
         return Err(ReadRefusal::Text {
@@ -53,12 +48,6 @@ pub fn take_stamped(
         });
     };
     let event = event_of_record(alloc, known, place, event, process, op, entries)?;
-    if !seen.insert(at)? {
-        return Err(ReadRefusal::Text {
-            place,
-            fault: TextFault::Repeated,
-        });
-    }
     stamped.push(Stamped { at, place, event })?;
     Ok(())
 }
@@ -67,15 +56,12 @@ pub fn take_stamped(
 fn take_stamped_row(
     alloc: Global,
     known: &mut Known,
-    seen: &mut BTreeSet<u64>,
     stamped: &mut Vec<Stamped>,
     limit: Limit,
     place: u32,
     row: &ByteRecord,
 ) -> Result<(), ReadRefusal>
-    requires { HasSeen seen.old stamped.old.items }
-    ensures row { TakesStamped limit.events place stamped.old.items stamped.new.items (fields_of row.now) result }
-    ensures seen { OnOk result (HasSeen seen.new stamped.new.items) }
+    ensures { TakesStamped limit.events place stamped.old.items stamped.new.items (fields_of row.now) result }
 {
     let Some(fields) = five_fields(row) else {
         return Err(ReadRefusal::Text {
@@ -83,50 +69,28 @@ fn take_stamped_row(
             fault: TextFault::Fields,
         });
     };
-    take_stamped(alloc, known, seen, stamped, limit, place, fields)
+    take_stamped(alloc, known, stamped, limit, place, fields)
 }
 
-// The stamped events of the records that are left.
+// Takes the stamped events of the records that are left, up to the first with a fault other than a repeated stamp.
 fn read_stamped(
     alloc: Global,
     reader: &mut Reader<&[u8]>,
     row: &mut ByteRecord,
     limit: Limit,
-) -> Result<Vec<Stamped>, ReadRefusal>
-    ensures reads { (rows : List Fields) → Stands reader.old rows → ReadsStamped limit.events rows result }
-    ensures distinct { IfOk result (λ stamped. IsDistinct (λ (a : ℕ) (b : ℕ). a == b) (stamps_of stamped.items)) }
+    stamped: &mut Vec<Stamped>,
+) -> Result<(), ReadRefusal>
+    requires { stamped.old.items ≡ [] }
+    ensures { (rows : List Fields) → Stands reader.old rows → ReadsStamped limit.events rows stamped.new.items result }
 {
     let mut known = Known::new(alloc);
-    let mut seen = BTreeSet::new(alloc);
-    let mut stamped = Vec::new(alloc);
     for i in 0..row_limit(limit) {
         if !next_row(reader, row)? {
-            return Ok(stamped);
+            return Ok(());
         }
-        take_stamped_row(
-            alloc,
-            &mut known,
-            &mut seen,
-            &mut stamped,
-            limit,
-            i + 2,
-            row,
-        )?;
+        take_stamped_row(alloc, &mut known, stamped, limit, i + 2, row)?;
     }
     unreachable!()
-}
-
-// Sorts events by their stamps.
-fn sort_by_stamp(stamped: &mut Vec<Stamped>)
-    requires { IsDistinct (λ (a : ℕ) (b : ℕ). a == b) (stamps_of stamped.old.items) }
-    ensures same { IsPermutation stamped.old.items stamped.new.items }
-    ensures rising { IsStrictlyIncreasing (stamps_of stamped.new.items) }
-{
-    stamped.sort_unstable_by_key(
-        |event| -> u64
-            ensures { result ≡ event.now.at }
-        { event.at },
-    );
 }
 
 // The numbers of the records of events.
@@ -152,14 +116,23 @@ fn take_turns(alloc: Global, stamped: Vec<Stamped>) -> Result<History, ReadRefus
 }
 
 /// The history of stamped events in the order of their stamps, and the number of each event's record; or the first fault.
+/// The events were taken from records, up to the first with a fault other than a repeated stamp. Sorted by stamps, they show
+/// whether one repeats.
 pub fn history_by_stamps(
     alloc: Global,
     mut stamped: Vec<Stamped>,
+    read: Result<(), ReadRefusal>,
 ) -> Result<(History, Vec<u32>), ReadRefusal>
-    requires { IsDistinct (λ (a : ℕ) (b : ℕ). a == b) (stamps_of stamped.items) }
-    ensures { (limit : ℕ) (rows : List Fields) → ReadsStamped limit rows (Ok stamped) → AnswersStamps limit rows result }
+    ensures { (limit : ℕ) (rows : List Fields) → ReadsStamped limit rows stamped.items read → AnswersStamps limit rows result }
 {
     sort_by_stamp(&mut stamped);
+    if !are_rising(&stamped) {
+        return Err(ReadRefusal::Text {
+            place: repeated_place(alloc, stamped)?,
+            fault: TextFault::Repeated,
+        });
+    }
+    read?;
     let places = places_in(alloc, &stamped)?;
     Ok((take_turns(alloc, stamped)?, places))
 }
@@ -174,5 +147,7 @@ pub fn stamped_history(
 ) -> Result<(History, Vec<u32>), ReadRefusal>
     ensures { (rows : List Fields) → Stands reader.old rows → AnswersStamps limit.events rows result }
 {
-    history_by_stamps(alloc, read_stamped(alloc, reader, row, limit)?)
+    let mut stamped = Vec::new(alloc);
+    let read = read_stamped(alloc, reader, row, limit, &mut stamped);
+    history_by_stamps(alloc, stamped, read)
 }

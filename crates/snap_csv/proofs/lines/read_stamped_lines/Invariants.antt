@@ -1,5 +1,4 @@
 use Rattle.std.proofs.Common.{◌≡◌, ◌≤◌, List, length}
-use Rattle.snap_csv.specs.Answers.{HasSeen}
 use Rattle.snap_csv.specs.Lines.{HasRows}
 use Rattle.snap_text.specs.Fields.{Fields}
 use Rattle.snap_csv.proofs.StampFacts.{MidStamped}
@@ -7,7 +6,6 @@ use Rattle.snap_csv.proofs.lines.read_stamped_lines.Given as goal
 
 abbrev pub invariant-loop-i : goal.invariant-loop-i
 invariant-loop-i l = record {
-  seen : HasSeen l.seen l.stamped.items;
   count : length l.stamped.items ≡ l.i;
   room : l.i ≤ l.limit.events;
   midway : (rows : List Fields) → HasRows l.lines rows → MidStamped l.limit.events rows (HasRows l.left) l.stamped.items l.i;

@@ -1,5 +1,4 @@
 use Rattle.std.proofs.Common.{◌≡◌, ◌≤◌, List, length}
-use Rattle.snap_csv.specs.Answers.{HasSeen}
 use Rattle.snap_text.specs.Fields.{Fields}
 use Rattle.snap_csv.specs.Rows.{Stands}
 use Rattle.snap_csv.proofs.StampFacts.{MidStamped}
@@ -7,7 +6,6 @@ use Rattle.snap_csv.proofs.stamped.read_stamped.Given as goal
 
 abbrev pub invariant-loop-i : goal.invariant-loop-i
 invariant-loop-i l = record {
-  seen : HasSeen l.seen l.stamped.items;
   count : length l.stamped.items ≡ l.i;
   room : l.i ≤ l.limit.events;
   midway : (rows : List Fields) → Stands l.fn.reader rows → MidStamped l.limit.events rows (Stands l.reader) l.stamped.items l.i;

@@ -1,11 +1,4 @@
-use Rattle.std.proofs.lemmas.Result.{err_from_is_err_and}
-use Rattle.snap_csv.proofs.StampFacts.{shapes_stop}
 use Rattle.snap_csv.proofs.stamped.stamped_history.Goals as goal
 
-pub returns-in_err-read_stamped : goal.returns-in_err-read_stamped
-returns-in_err-read_stamped c = λ rows s.
-    let p = err_from_is_err_and c.from_residual.result c.from_residual.ensures.1 in
-    rw (p.1, p.2) (shapes_stop c.args.limit.events rows c.in_err-read_stamped.field-0.0 (c.in_err-read_stamped.ensures.reads rows s))
-
 pub returns : goal.returns
-returns c = λ rows s. c.history_by_stamps.ensures c.args.limit.events rows (c.in_ok-read_stamped.ensures.reads rows s)
+returns c = λ rows s. c.history_by_stamps.ensures c.args.limit.events rows (c.read_stamped-read.ensures rows s)

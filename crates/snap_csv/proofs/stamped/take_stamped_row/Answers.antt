@@ -3,5 +3,5 @@ use Rattle.csv.specs.Records.{fields_of}
 use Rattle.snap_csv.proofs.StampFacts.{row_short}
 use Rattle.snap_csv.proofs.stamped.take_stamped_row.Goals as goal
 
-pub returns-in_default-clause-row : goal.returns-in_default-clause-row
-returns-in_default-clause-row c = (refl, row_short c.args.limit.events _ _ (fields_of c.args.row.now) c.in_default.ensures)
+pub returns-in_default : goal.returns-in_default
+returns-in_default c = (refl, (refl, row_short c.args.limit.events _ _ (fields_of c.args.row.now) c.in_default.ensures))
