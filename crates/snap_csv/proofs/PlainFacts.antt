@@ -1,20 +1,18 @@
 -- What `csv` reads of a plain text, field by field.
-use Rattle.std.proofs.Common.{Bor, codes, cond, drop, take, ◌≡◌, ◌<◌, ◌≤◌, ◌==◌, ◌+◌, ◌++◌, ◌⊎◌, inl, inr, ℕ, zero, suc, Bool, true, false, List, [], ◌∷◌, length, get_or, All, Option, Some, None, refl, sym, ap, ◌∙◌, subst, arith, append-nil, append_assoc}
-use Rattle.std.specs.Prelude.{◌≢◌, ◌↔◌, ◌&&◌, IfSome, IsTrue, MatchOption, is_none, slice_index}
+use Rattle.std.proofs.Common.{cond, drop, take, ◌≡◌, ◌<◌, ◌≤◌, ◌==◌, ◌+◌, ◌++◌, ◌⊎◌, inl, inr, ℕ, zero, suc, Bool, true, false, List, [], ◌∷◌, length, get_or, All, Option, Some, None, refl, sym, ap, ◌∙◌, subst, arith, append-nil, append_assoc}
+use Rattle.std.specs.Prelude.{◌≢◌, ◌↔◌, ◌&&◌, IsTrue, MatchOption, is_none, slice_index}
 use Rattle.memchr.specs.Find.{IsFirstByte, is_byte2}
 use Rattle.std.proofs.lemmas.Bool.Decides.{nat_tests}
 use Rattle.std.proofs.lemmas.List.{length-append}
 use Rattle.std.proofs.lemmas.List.Elements.{All-append, All-cons, All-from_get_or, All-get_or, All-head, All-nil, All-tail}
 use Rattle.csv.specs.Machine.{Read, ends_at_end, field_after, fields_after, in_field, is_end, next_record, step}
-use Rattle.csv.specs.Reading.{default_config, records, records_from, strip_bom}
+use Rattle.csv.specs.Reading.{default_config, records_from}
 use Rattle.csv.specs.declared.parser.State.{State}
 use Rattle.csv.specs.declared.parser.State.TheVariants as st
 use Rattle.csv.specs.declared.parser.Action.TheVariants as act
 use Rattle.snap_csv.specs.Lines.{EndsWith, EndsWithOthers, FieldGoesOn, FieldIsLast, HasRows, IsInner, IsPlain}
-use Rattle.snap_csv.specs.Layout.{header, stamped_header}
 use Rattle.snap_text.specs.Fields.{Fields}
-use Rattle.snap_csv.specs.Rows.{rows_of}
-use Rattle.snap_csv.proofs.RowFacts.{records_step, records_stop, some_fuel}
+use Rattle.snap_csv.proofs.RowFacts.{records_step, some_fuel}
 
 -- ---- one byte
 
@@ -301,52 +299,3 @@ row_of_others text count rows some line ends h =
     let (r, reads, other) = ends h.plain [] in
     let (m, fuel, e) = first_row text rows h r some line reads in
     (r.0, records_from default_config m r.1 r.2, e, λ same. other (omega (arith, same)))
-
--- ---- lines
-
-pub no_line : (rows : List Fields) → HasRows [] rows → rows ≡ []
-unfolding next_record
-no_line rows h = sym h.gives ∙ records_stop h.fuel st.StartRecord [] refl
-
-empty_line : (n : ℕ) (text : List ℕ) → 0 < n → records_from default_config n st.StartRecord (10 ∷ text) ≡ records_from default_config n st.StartRecord text
-unfolding next_record records_from
-empty_line zero text some = absurd (omega arith)
-empty_line (suc n) text some = refl
-
-pub behind_newline : (text : List ℕ) (rows : List Fields) → 0 < length text → get_or text 0 0 ≡ 10 → HasRows text rows → HasRows (drop 1 text) rows
-behind_newline [] rows some line h = absurd (omega arith)
-behind_newline (c ∷ text) rows some line h = record {
-  plain = All-tail IsPlain c text h.plain;
-  fuel = h.fuel;
-  enough = omega (arith, h.enough);
-  gives = sym (empty_line h.fuel text (omega (arith, h.enough))) ∙ ap (λ (b : ℕ). records_from default_config h.fuel st.StartRecord (b ∷ text)) (sym line) ∙ h.gives;
-}
-
--- ---- the header
-
--- a line has the fields of a header, and is no mark of a byte order
-pub record Heads (head : Fields) (line : List ℕ) : Type 0 where
-  pub some : 0 < length line
-  pub no_mark : (lines : List ℕ) → strip_bom (line ++ lines) ≡ line ++ lines
-  pub first : (lines : List ℕ) → next_record default_config st.StartRecord [] [] (line ++ lines) ≡ Some (head, st.StartRecord, lines)
-
-pub header_line : Heads header (codes "event,process,op,data\n")
-unfolding strip_bom next_record
-header_line = record { some = omega arith; no_mark = λ lines. refl; first = λ lines. refl }
-
-pub stamped_header_line : Heads stamped_header (codes "at,event,process,op,data\n")
-unfolding strip_bom next_record
-stamped_header_line = record { some = omega arith; no_mark = λ lines. refl; first = λ lines. refl }
-
-under : (head : Fields) (line lines : List ℕ) → Heads head line → All IsPlain (line ++ lines) → (later : List Fields) × (rows_of (line ++ lines) ≡ head ∷ later) × HasRows lines later
-under head line lines h plain =
-    let (m, fuel) = some_fuel (line ++ lines) (length (line ++ lines) + 1) (omega arith) in (
-      records_from default_config m st.StartRecord lines,
-      ap (records default_config) (h.no_mark lines) ∙ ap (λ (n : ℕ). records_from default_config n st.StartRecord (line ++ lines)) fuel ∙ records_step m st.StartRecord (line ++ lines) (head, st.StartRecord, lines) (h.first lines),
-      record { plain = plain_rest line lines plain; fuel = m; enough = omega (arith, fuel, h.some, length-append line lines); gives = refl },
-    )
-
-pub lines_under : (head : Fields) (line text : List ℕ) (found : Option (Bor (List ℕ))) → Heads head line → IfSome found (λ lines. (text ≡ line ++ lines.now) × All IsPlain text)
-    → IfSome found (λ lines. (later : List Fields) × (rows_of text ≡ head ∷ later) × HasRows lines.now later)
-lines_under head line text None h found = found
-lines_under head line text (Some lines) h (is, plain) = rw is (under head line lines.now h (subst (All IsPlain) is plain))

@@ -1,5 +1,5 @@
 -- Plain texts: without a quote or a carriage return each record is a line, cut at its commas.
-use Rattle.std.specs.Prelude.{◌≡◌, ◌≢◌, ◌<◌, ◌+◌, ◌⊎◌, ◌++◌, ⊤, ℕ, List, [], ◌∷◌, length, Some}
+use Rattle.std.specs.Prelude.{◌≡◌, ◌≢◌, ◌<◌, ◌+◌, ◌⊎◌, ◌++◌, ⊤, ℕ, Bool, true, false, List, [], ◌∷◌, length, Some}
 use Rattle.std.specs.List.{All}
 use Rattle.csv.specs.Machine.{Read, next_record}
 use Rattle.csv.specs.Reading.{default_config, records_from}
@@ -50,3 +50,11 @@ abbrev pub EndsWithOthers : ℕ → List ℕ → Type 0
 EndsWithOthers count text =
     All IsPlain text → (before : Fields)
     → (r : Read) × (next_record default_config st.StartField before [] text ≡ Some r) × (length r.0 ≢ length before + count)
+
+-- the first record of a text passes a test, and a rest has the records behind it
+abbrev pub BeginsWith : (Fields → Bool) → List ℕ → List ℕ → Type 0
+BeginsWith test rest text = (rows : List Fields) → HasRows text rows → (first : Fields) × (later : List Fields) × (rows ≡ first ∷ later) × (test first ≡ true) × HasRows rest later
+
+-- it does not pass, or there is none
+abbrev pub BeginsOtherwise : (Fields → Bool) → List ℕ → Type 0
+BeginsOtherwise test text = (rows : List Fields) → HasRows text rows → (first : Fields) (later : List Fields) → rows ≡ first ∷ later → test first ≡ false

@@ -36,31 +36,43 @@ pub fn five_fields(row: &ByteRecord) -> Option<(&[u8], &[u8], &[u8], &[u8], &[u8
     ))
 }
 
-/// Whether a record is the header.
-pub fn is_header(row: &ByteRecord) -> bool
-    ensures { result ≡ is_header_row (fields_of row.now) }
+/// Whether four fields are those of the header.
+pub fn are_header(fields: (&[u8], &[u8], &[u8], &[u8])) -> bool
+    ensures { result ≡ is_header_row (fields.entry.0.now ∷ fields.entry.1.now ∷ fields.entry.2.now ∷ fields.entry.3.now ∷ []) }
 {
-    let Some((a, b, c, d)) = four_fields(row) else {
-        return false;
-    };
+    let (a, b, c, d) = fields;
     a == b"event".as_slice()
         && b == b"process".as_slice()
         && c == b"op".as_slice()
         && d == b"data".as_slice()
 }
 
+/// Whether five fields are those of the header of a text whose records have stamps.
+pub fn are_stamped_header(fields: (&[u8], &[u8], &[u8], &[u8], &[u8])) -> bool
+    ensures { result ≡ is_stamped_header_row (fields.entry.0.now ∷ fields.entry.1.now ∷ fields.entry.2.now ∷ fields.entry.3.now ∷ fields.entry.4.now ∷ []) }
+{
+    let (t, a, b, c, d) = fields;
+    t == b"at".as_slice() && are_header((a, b, c, d))
+}
+
+/// Whether a record is the header.
+pub fn is_header(row: &ByteRecord) -> bool
+    ensures { result ≡ is_header_row (fields_of row.now) }
+{
+    match four_fields(row) {
+        Some(fields) => are_header(fields),
+        None => false,
+    }
+}
+
 /// Whether a record is the header of a text whose records have stamps.
 pub fn is_stamped_header(row: &ByteRecord) -> bool
     ensures { result ≡ is_stamped_header_row (fields_of row.now) }
 {
-    let Some((t, a, b, c, d)) = five_fields(row) else {
-        return false;
-    };
-    t == b"at".as_slice()
-        && a == b"event".as_slice()
-        && b == b"process".as_slice()
-        && c == b"op".as_slice()
-        && d == b"data".as_slice()
+    match five_fields(row) {
+        Some(fields) => are_stamped_header(fields),
+        None => false,
+    }
 }
 
 /// The event that the four fields of a record at a place spell, or the first fault in them.

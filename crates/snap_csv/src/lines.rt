@@ -1,12 +1,14 @@
 //! Histories in plain texts. Without quotes and carriage returns a record is a line and a field ends at a comma, so that such a
 //! text is cut by a search for these two marks. Any other text is read byte by byte, by `csv`.
-ghost use Rattle.std.specs.Prelude.{◌≡◌, ◌≢◌, ◌↔◌, ◌<◌, ◌≤◌, take, drop, ◌∷◌, ◌++◌, [], List, ℕ, All, IsTrue, MatchOption, IfSome, get_or, length};
+ghost use Rattle.std.specs.Prelude.{◌≡◌, ◌≢◌, ◌↔◌, ◌<◌, ◌≤◌, take, drop, ◌∷◌, ◌++◌, [], List, ℕ, true, All, IsTrue, MatchOption, get_or, length};
 ghost use Rattle.snap_csv.specs.Answers.{AnswersNumbered, AnswersStamps, ReadsStamped};
-ghost use Rattle.snap_csv.specs.Layout.{header, stamped_header};
-ghost use Rattle.snap_csv.specs.Lines.{EndsField, EndsWith, EndsWithOthers, FieldGoesOn, FieldIsLast, HasRows, IsInner, IsPlain};
+ghost use Rattle.csv.specs.Reading.{strip_bom};
+ghost use Rattle.snap_csv.specs.Layout.{is_header_row, is_stamped_header_row};
+ghost use Rattle.snap_csv.specs.Lines.{BeginsOtherwise, BeginsWith, EndsField, EndsWith, EndsWithOthers, FieldGoesOn, FieldIsLast, HasRows, IsInner, IsPlain};
 ghost use Rattle.snap_text.specs.Fields.{Fields};
 ghost use Rattle.snap_csv.specs.Rows.{rows_of};
 
+use crate::fields::{are_header, are_stamped_header};
 use crate::read::{row_limit, take_fields};
 use crate::refusal::ReadRefusal;
 use crate::stamped::{Stamped, history_by_stamps, take_stamped};
@@ -14,43 +16,15 @@ use memchr::memchr2;
 use snap_core::{History, Limit};
 use snap_text::{Known, TextFault};
 use std::alloc::Global;
+use std::simd::prelude::*;
 
-const HEADER: &[u8] = b"event,process,op,data\n";
-
-const STAMPED_HEADER: &[u8] = b"at,event,process,op,data\n";
+const ORDER_MARK: &[u8] = b"\xEF\xBB\xBF";
 
 /// Whether a text is plain: it has no quote and no carriage return.
 pub fn is_plain(text: &[u8]) -> bool
     ensures { IsTrue result ↔ All IsPlain text.now }
 {
     memchr2(b'"', b'\r', text).is_none()
-}
-
-// What stands behind a text's first line, where the text is known to be plain and begins with this line.
-fn lines_behind<'a>(first: &[u8], text: &'a [u8], plain: bool) -> Option<&'a [u8]>
-    requires { IsTrue plain → All IsPlain text.now }
-    ensures { IfSome result (λ lines. (text.now ≡ first.now ++ lines.now) × All IsPlain text.now) }
-{
-    if !plain || !text.starts_with(first) {
-        return None;
-    }
-    Some(&text[first.len()..])
-}
-
-/// What stands under the header, where a text is known to be plain and begins with its line.
-pub fn lines_under_header(text: &[u8], plain: bool) -> Option<&[u8]>
-    requires { IsTrue plain → All IsPlain text.now }
-    ensures { IfSome result (λ lines. (later : List Fields) × (rows_of text.now ≡ header ∷ later) × HasRows lines.now later) }
-{
-    lines_behind(HEADER, text, plain)
-}
-
-/// The same of the header of texts with stamps.
-pub fn lines_under_stamped_header(text: &[u8], plain: bool) -> Option<&[u8]>
-    requires { IsTrue plain → All IsPlain text.now }
-    ensures { IfSome result (λ lines. (later : List Fields) × (rows_of text.now ≡ stamped_header ∷ later) × HasRows lines.now later) }
-{
-    lines_behind(STAMPED_HEADER, text, plain)
 }
 
 // Most fields end among so many bytes, so that these are looked at one by one before a search begins.
@@ -137,25 +111,93 @@ fn five_first(text: &[u8]) -> Option<((&[u8], &[u8], &[u8], &[u8], &[u8]), &[u8]
     Some(((at, event, process, op, data), rest))
 }
 
-// A text behind the empty lines at its front, which are no records.
-fn behind_newlines(text: &[u8]) -> &[u8]
+// A text behind the byte order mark at its front, which is no part of its records.
+fn behind_order_mark(text: &[u8]) -> &[u8]
+    ensures { result.now ≡ strip_bom text.now }
+{
+    if text.starts_with(ORDER_MARK) {
+        &text[ORDER_MARK.len()..]
+    } else {
+        text
+    }
+}
+
+// How many bytes are compared with newlines at a time.
+const LANES: usize = 32;
+
+// Whether so many bytes at the front of a text are newlines.
+#[inline(always)]
+fn begins_blank(text: &[u8]) -> bool
+    requires { 32 ≤ length text.now }
+    ensures { IsTrue result → (k : ℕ) → k < 32 → get_or text.now k 0 ≡ 10 }
+{
+    u8x32::from_slice(text)
+        .simd_ne(u8x32::splat(b'\n'))
+        .to_bitmask()
+        == 0
+}
+
+// A text behind the empty lines at its front, of which it has one at least.
+#[inline(never)]
+fn behind_blank(text: &[u8]) -> &[u8]
     ensures same { (rows : List Fields) → HasRows text.now rows → HasRows result.now rows }
     ensures begins { 0 < length result.now → get_or result.now 0 0 ≢ 10 }
 {
     let mut left = text;
+    while left.len() >= LANES && begins_blank(left) {
+        left = &left[LANES..];
+    }
     while !left.is_empty() && left[0] == b'\n' {
         left = &left[1..];
     }
     left
 }
 
-/// The history of the lines under the header, or the first fault.
-pub fn lines_history(
+// A text behind the empty lines at its front, which are no records.
+#[inline(always)]
+fn behind_newlines(text: &[u8]) -> &[u8]
+    ensures same { (rows : List Fields) → HasRows text.now rows → HasRows result.now rows }
+    ensures begins { 0 < length result.now → get_or result.now 0 0 ≢ 10 }
+{
+    if text.is_empty() || text[0] != b'\n' {
+        return text;
+    }
+    behind_blank(text)
+}
+
+// What stands under the header, where the text begins with it.
+fn lines_under_header(text: &[u8]) -> Option<&[u8]>
+    requires { 0 < length text.now → get_or text.now 0 0 ≢ 10 }
+    ensures { MatchOption result (BeginsOtherwise is_header_row text.now) (λ lines. BeginsWith is_header_row lines.now text.now) }
+{
+    let (fields, lines) = four_first(text)?;
+    if are_header(fields) {
+        Some(lines)
+    } else {
+        None
+    }
+}
+
+// The same of the header of texts with stamps.
+fn lines_under_stamped_header(text: &[u8]) -> Option<&[u8]>
+    requires { 0 < length text.now → get_or text.now 0 0 ≢ 10 }
+    ensures { MatchOption result (BeginsOtherwise is_stamped_header_row text.now) (λ lines. BeginsWith is_stamped_header_row lines.now text.now) }
+{
+    let (fields, lines) = five_first(text)?;
+    if are_stamped_header(fields) {
+        Some(lines)
+    } else {
+        None
+    }
+}
+
+// The history of the lines under the header, or the first fault.
+fn lines_history(
     alloc: Global,
     lines: &[u8],
     limit: Limit,
 ) -> Result<(History, Option<Vec<u32>>), ReadRefusal>
-    ensures { (later : List Fields) → HasRows lines.now later → AnswersNumbered limit.events (header ∷ later) result }
+    ensures { (head : Fields) (later : List Fields) → is_header_row head ≡ true → HasRows lines.now later → AnswersNumbered limit.events (head ∷ later) result }
 {
     let mut known = Known::new(alloc);
     let mut history = History::new(alloc);
@@ -206,8 +248,8 @@ fn read_stamped_lines(
     unreachable!()
 }
 
-/// The history of the lines under the header, each with a stamp, and the number of each event's record; or the first fault.
-pub fn stamped_lines_history(
+// The history of the lines under the header, each with a stamp, and the number of each event's record; or the first fault.
+fn stamped_lines_history(
     alloc: Global,
     lines: &[u8],
     limit: Limit,
@@ -217,4 +259,27 @@ pub fn stamped_lines_history(
     let mut stamped = Vec::new(alloc);
     let read = read_stamped_lines(alloc, lines, limit, &mut stamped);
     history_by_stamps(alloc, stamped, read)
+}
+
+/// The history of a plain text, or its first fault; and the numbers of its events' records where these have stamps.
+pub fn plain_history(
+    alloc: Global,
+    text: &[u8],
+    limit: Limit,
+) -> Result<(History, Option<Vec<u32>>), ReadRefusal>
+    requires { All IsPlain text.now }
+    ensures { AnswersNumbered limit.events (rows_of text.now) result }
+{
+    let line = behind_newlines(behind_order_mark(text));
+    if let Some(lines) = lines_under_header(line) {
+        return lines_history(alloc, lines, limit);
+    }
+    if let Some(lines) = lines_under_stamped_header(line) {
+        let (history, records) = stamped_lines_history(alloc, lines, limit)?;
+        return Ok((history, Some(records)));
+    }
+    Err(ReadRefusal::Text {
+        place: 1,
+        fault: TextFault::Header,
+    })
 }

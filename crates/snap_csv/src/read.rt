@@ -9,9 +9,7 @@ ghost use Rattle.csv.specs.Records.{fields_of};
 
 use crate::fields::{event_of_record, four_fields, is_header, is_stamped_header};
 use crate::intake::{Taken, bytes_within, take_in};
-use crate::lines::{
-    is_plain, lines_history, lines_under_header, lines_under_stamped_header, stamped_lines_history,
-};
+use crate::lines::{is_plain, plain_history};
 use crate::refusal::ReadRefusal;
 use crate::rows::{next_row, reader_of};
 use crate::stamped::stamped_history;
@@ -111,14 +109,11 @@ pub fn numbered_history(
     requires { IsTrue plain → All IsPlain text.now }
     ensures { AnswersNumbered limit.events (rows_of text.now) result }
 {
-    if let Some(lines) = lines_under_header(text, plain) {
-        return lines_history(alloc, lines, limit);
+    if plain {
+        plain_history(alloc, text, limit)
+    } else {
+        rows_history(alloc, text, limit)
     }
-    if let Some(lines) = lines_under_stamped_header(text, plain) {
-        let (history, records) = stamped_lines_history(alloc, lines, limit)?;
-        return Ok((history, Some(records)));
-    }
-    rows_history(alloc, text, limit)
 }
 
 // The same of any text, by `csv`.
