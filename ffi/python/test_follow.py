@@ -16,6 +16,7 @@ from unittest import mock
 
 import snapjudge
 from snapjudge import follow, windows
+from snapjudge.bags import USUAL
 
 HERE = os.path.dirname(os.path.abspath(__file__))
 TOP = os.path.join(HERE, "..", "..")
@@ -121,10 +122,10 @@ def events_of(rows):
     return [windows.event_of(row.encode().split(b","), windows.Place(None, at), len(row) + 1) for at, row in enumerate(rows, 2)]
 
 
-def windows_of(rows, least=1):
+def windows_of(rows, least=1, most=USUAL):
     """The windows of a history: how many events each has, its text, and what its first view at fault misses."""
     found = []
-    cutter = windows.Cutter(lambda events, left: found.append((len(events), *windows.window_of(events, left))), least)
+    cutter = windows.Cutter(lambda events, left: found.append((len(events), *windows.window_of(events, left))), least, most)
     for event in events_of(rows):
         cutter.take(event)
     cutter.end()
@@ -161,8 +162,10 @@ class Windows(unittest.TestCase):
         views = [f"{event},{process},view," for event in ("begin", "end") for process in range(32767)]
         self.assertEqual([window[0] for window in windows_of(["begin,1,view,", "end,1,view,"] + views, 100)], [65536])
         self.assertEqual([window[0] for window in windows_of(CALM + views, 100)], [4, 65534])
-        with mock.patch("snapjudge.windows.LONGEST", 180):
-            self.assertEqual([window[0] for window in windows_of(CALM + LATER, 100)], [8, 2])
+        self.assertEqual([window[0] for window in windows_of(["begin,1,view,", "end,1,view,"] + views, 100, 65536 + 2)], [65536])
+        self.assertEqual([window[0] for window in windows_of(CALM + views, 100, 65536 + 2)], [65538])
+        with mock.patch("snapjudge.windows.BYTES_AN_EVENT", 10):
+            self.assertEqual([window[0] for window in windows_of(CALM + LATER, 100, 18)], [8, 2])
 
     def test_too_many_events_without_such_a_moment_are_refused_with_the_open_call(self):
         rows = ["begin,3,view,", "end,3,view,", "begin,3,view,"] + ["begin,4,view,", "end,4,view,"] * 32768
@@ -170,8 +173,8 @@ class Windows(unittest.TestCase):
             windows_of(rows)
         self.assertEqual((refused.exception.word, refused.exception.place.record), ("toomany", 65540))
         self.assertEqual((refused.exception.call.process, refused.exception.call.place.record), (3, 4))
-        with mock.patch("snapjudge.windows.LONGEST", 80), self.assertRaises(windows.Refusal) as refused:
-            windows_of(["begin,1,view,", "begin,0,update,0:1:8", "end,1,view,0:1:8", "end,0,update,"])
+        with mock.patch("snapjudge.windows.BYTES_AN_EVENT", 10), self.assertRaises(windows.Refusal) as refused:
+            windows_of(["begin,1,view,", "begin,0,update,0:1:8", "end,1,view,0:1:8", "end,0,update,"], 1, 8)
         self.assertEqual((refused.exception.word, refused.exception.place.record, refused.exception.call.process), ("toolong", 5, 0))
 
     def test_a_component_keeps_its_process_and_its_numbers_across_a_cut(self):
@@ -207,7 +210,7 @@ class Differential(unittest.TestCase):
 
     def test_the_judge_finds_the_same_in_long_histories(self):
         for name in ("none overlaps, width 8", "atomic, width 8", "any numbers, width 2", "toggling views", "wrong values, the last view"):
-            rows = shapes_of(name, follow.MOST)[1].splitlines()[1:]
+            rows = shapes_of(name, USUAL)[1].splitlines()[1:]
             whole = judged(text_of(rows))
             for least in (1, 1000):
                 codes = [2 if missed else judged(text) for _, text, missed in windows_of(rows, least)]
@@ -216,7 +219,7 @@ class Differential(unittest.TestCase):
     def test_a_fault_of_a_long_history_is_in_its_window_alone(self):
         draw = random.Random(19)
         for _ in range(3):
-            rows = shapes_of("none overlaps, width 8", follow.MOST)[1].splitlines()[1:]
+            rows = shapes_of("none overlaps, width 8", USUAL)[1].splitlines()[1:]
             views = [place for place, row in enumerate(rows) if row.startswith("end") and " 7:" in row and " 7:1:" not in row]
             at = draw.choice(views)
             component, count, value = map(int, rows[at].rpartition(" ")[2].split(":"))
@@ -405,6 +408,18 @@ failed 0
         self.assertEqual((status, out.splitlines()[0]), (3, "window 1 refused record 65538: toomany"))
         self.assertEqual(said, "snapjudge: run.csv: toomany: more than 65536 events without a moment at which no call is open; let the recorder work "
                                "in rounds: a barrier, at which all threads wait until no call is open. Open: the view of process 3, begun by record 2\n")
+        status, out, said = self.ran("--once", "--most", "65537", "run.csv")
+        self.assertEqual((status, out.splitlines()[0], said), (0, "window 1 events 65537 atomic from 2 to 65538", ""))
+        status, out, said = self.ran("--once", "--most", "100", "--events", "100", "run.csv")
+        self.assertEqual((status, out.splitlines()[0]), (3, "window 1 refused record 102: toomany"))
+        self.assertIn("more than 100 events without a moment", said)
+
+    def test_a_window_has_no_more_events_than_is_said(self):
+        self.put("run.csv", CALM + LATER)
+        status, out, _ = self.ran("--once", "--most", "4", "--events", "4", "run.csv")
+        self.assertEqual((status, [line.split()[3] for line in out.splitlines()[:3]]), (0, ["4", "4", "2"]))
+        for words in (["--most", "0"], ["--most", "1048577"], ["--most", "999", "--events", "1000"], ["--events", "65537"]):
+            self.assertEqual(self.ran("--once", *words, "run.csv")[0], 5, words)
 
     def test_a_file_is_followed_while_it_grows(self):
         self.put("run.csv", CALM[:3])

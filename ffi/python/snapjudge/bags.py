@@ -6,9 +6,8 @@ from snapjudge import STATUSES, report
 
 # How many bytes a history may have for each event that it may have.
 BYTES_AN_EVENT = 1024
-# The most events and bytes that a history may have, if not said.
+# The most events that a history may have, if not said.
 USUAL = 65_536
-LONGEST = USUAL * BYTES_AN_EVENT
 # How many bytes are read at once.
 PIECE = 256 * 1024
 # The exit statuses of the program that are no verdict.

@@ -13,10 +13,10 @@ import sys
 import time
 import traceback
 
-from snapjudge import STATUSES, report
-from snapjudge.bags import FAILED, LONGEST, PIECE, REFUSED, UNOPENED
+from snapjudge import MOST_EVENTS, STATUSES, report
+from snapjudge.bags import BYTES_AN_EVENT, FAILED, PIECE, REFUSED, UNOPENED, USUAL
 from snapjudge.cluster import INTERRUPTED, KINDS, Unable, Words, names_below, natural, positive, say, shown, write
-from snapjudge.windows import HEADER, MOST, PLAIN, RECORD, STAMPED, Cutter, Reader, Refusal, Waiting, require, window_of
+from snapjudge.windows import HEADER, PLAIN, RECORD, STAMPED, Cutter, Reader, Refusal, Waiting, require, window_of
 
 # Of how many events a window is at least, if not said.
 LEAST = 1000
@@ -27,8 +27,8 @@ TAIL = 256
 # What a refusal means and what to do, where the word is of this module.
 TOO_LONG = "let the recorder work in rounds: a barrier, at which all threads wait until no call is open"
 ADVICE = {
-    "toomany": f"more than {MOST} events without a moment at which no call is open; {TOO_LONG}",
-    "toolong": f"more than {LONGEST} bytes without a moment at which no call is open, or more than {RECORD} in a record; {TOO_LONG}",
+    "toomany": f"more than {{most}} events without a moment at which no call is open; {TOO_LONG}",
+    "toolong": f"more than {{longest}} bytes without a moment at which no call is open, or more than {RECORD} in a record; {TOO_LONG}",
     "late": "its stamp is not after that of a record that was taken; write records sooner, or raise --interval",
     "open": "a file may not end here, since this call is open; let each round end when all its calls have ended",
 }
@@ -148,7 +148,7 @@ class Follow:
     def __init__(self, path, words, is_asked):
         self._files, self._words, self._is_asked = Files(path), words, is_asked
         self._file = self._reader = None
-        self._waiting, self._cutter = Waiting(), Cutter(self._judge, words.events)
+        self._waiting, self._cutter = Waiting(), Cutter(self._judge, words.events, words.most)
         self._passed, self._windows, self._events, self._views = time.monotonic(), 0, 0, 0
         # of each status how many windows have it, and the first
         self._counts, self._firsts = [0] * len(KINDS), [None] * len(KINDS)
@@ -257,7 +257,7 @@ class Follow:
         text, missed = window_of(events, left)
         more, number = b"", self._windows + 1
         try:
-            status, told = report(text)
+            status, told = report(text, self._words.most)
             code = STATUSES.index(status)
         except MemoryError:
             code = FAILED
@@ -296,7 +296,8 @@ class Follow:
             call, more = refusal.call, ""
             if call:
                 more = f". Open: the {call.op.decode()} of process {call.process}, begun by record {os.fsdecode(told_place(call.place))}"
-            self._say(f"{refusal.word}: {ADVICE[refusal.word]}{more}", self._file.path)
+            advice = ADVICE[refusal.word].format(most=self._words.most, longest=self._words.most * BYTES_AN_EVENT)
+            self._say(f"{refusal.word}: {advice}{more}", self._file.path)
 
     def fail(self, trouble):
         """The rest of the recording can't be judged."""
@@ -327,7 +328,7 @@ def seconds(word):
 
 def window_length(word):
     number = positive(word)
-    if number > MOST:
+    if number > MOST_EVENTS:
         raise ValueError(word)
     return number
 
@@ -341,13 +342,19 @@ def words_of(arguments):
     when.add_argument("--idle", metavar="SECONDS", type=seconds, help="end if nothing has come for so long")
     when.add_argument("--pid", metavar="PID", type=positive, help="end when this process, which records, is gone")
     words.add_argument("-s", "--interval", metavar="SECONDS", type=seconds, default=1.0, help="look for more so often; 1 if not said")
-    words.add_argument("--events", metavar="N", type=window_length, default=LEAST,
+    words.add_argument("--events", metavar="N", type=window_length,
                        help=f"end a window at the first such moment from N events on; {LEAST} if not said")
+    words.add_argument("--most", metavar="N", type=window_length, default=USUAL,
+                       help=f"let a window have so many events; {USUAL} if not said, and {MOST_EVENTS} at most")
     words.add_argument("--rounds", action="store_true", help="each file of the folder is a round, whose numbers begin at 1")
     words.add_argument("--keep", metavar="FOLDER", help="write each window that is not atomic into this folder")
     words.add_argument("--views", metavar="N", type=natural, default=0, help="refuse a recording of fewer than N completed views")
     words.add_argument("path", metavar="PATH", help="a recording, - for standard input, or a folder: all *.csv below it are one recording")
     found = words.parse_args(arguments)
+    if found.events is None:
+        found.events = min(LEAST, found.most)
+    if found.events > found.most:
+        words.error(f"--events: a window has {found.most} events at most; --most allows more")
     if found.keep is not None and not os.path.isdir(found.keep):
         words.error(f"--keep: {found.keep} is no folder")
     if found.rounds and not os.path.isdir(found.path):

@@ -8,14 +8,12 @@ import collections
 import heapq
 import re
 
-from snapjudge.bags import LONGEST
+from snapjudge.bags import BYTES_AN_EVENT, USUAL
 
 # The headers of a recording, without and with stamps.
 PLAIN, STAMPED = [b"event", b"process", b"op", b"data"], [b"at", b"event", b"process", b"op", b"data"]
 # The first line of each window.
 HEADER = b",".join(PLAIN) + b"\n"
-# The most events that a history may have.
-MOST = 65536
 # The greatest process, component, number or value, and stamp.
 PROCESS, COMPONENT, GREATEST, STAMP = 2**16 - 1, 255, 2**32 - 1, 2**64 - 1
 # The most bytes of a record, which is far more than a record of a history can have.
@@ -234,18 +232,19 @@ def window_of(events, left):
 class Cutter:
     """Takes the events of a recording, and cuts them into windows at moments at which no call is open.
 
-    A window ends at the first such moment from `least` events on. If it would be too long for a history, it ends at the last such
-    moment in it. Each window goes to `emit`: its events, and what was left before it.
+    A window ends at the first such moment from `least` events on. If it would have more than `most`, or more bytes than a history of
+    so many events may have, it ends at the last such moment in it. Each window goes to `emit`: its events, and what was left before
+    it.
     """
 
-    def __init__(self, emit, least):
-        self._emit, self._least = emit, least
+    def __init__(self, emit, least, most=USUAL):
+        self._emit, self._least, self._most, self._longest = emit, least, most, most * BYTES_AN_EVENT
         # of each process its open call, in the order of their begins; of each component its process, its last number, and what was left
         self._open, self._writers, self._numbers, self._left = {}, {}, {}, {}
         self._events, self._bytes, self._free = [], len(HEADER), 0
 
     def take(self, event):
-        while len(self._events) == MOST or self._bytes + event.size > LONGEST:
+        while len(self._events) == self._most or self._bytes + event.size > self._longest:
             self._make_room(event)
         self._obey(event)
         self._events.append(event)
@@ -273,7 +272,7 @@ class Cutter:
 
     def _make_room(self, event):
         if not self._free:
-            word = "toomany" if len(self._events) == MOST else "toolong"
+            word = "toomany" if len(self._events) == self._most else "toolong"
             # the calls are in the order of their begins
             raise Refusal(event.place, word, next(iter(self._open.values()), None))
         self._cut(self._free)
