@@ -24,7 +24,7 @@ HISTORIES = [
 # by part: the outermost functions, which do not call one another
 PARTS = [
     ("tally", [r"snap_pairs::whole::tally_and_chain"]),
-    ("order", [r"snap_order::printing::build_along"]),
+    ("order", [r"snap_order::printing::build"]),
     ("report", [r"snap_report::text::report_in"]),
 ]
 

@@ -1,4 +1,4 @@
-// What a seat of the board knows: accounts of desks. No value of these types is made.
+//! What a seat of the board knows: accounts of desks. No value of these types is made.
 use std::collections::LinkedList;
 
 /// What an answered call did, numbers and values alone: a collect has one pair for each component, with number 0 for the

@@ -1,4 +1,4 @@
-// The rule of the board's table, and the kinds of step on its words.
+//! The rule of the board's table, and the kinds of step on its words.
 use crate::account::Accounts;
 use atomic_table::{Join, Play, Split, TableRule};
 

@@ -21,7 +21,7 @@ use Rattle.snap_account.specs.Calls.{Mem, ViewRecord, Write, Mark, view_record, 
 use Rattle.snap_account.specs.Rule.{clock}
 use Rattle.snap_board.specs.Settled.{Settled, ScansSettled}
 use Rattle.snap_board.specs.Desks.{listed}
-use Rattle.snap_board.specs.Placed.{At, IsSpan}
+use Rattle.snap_board.specs.inside.Placed.{At, IsSpan}
 use Rattle.snap_board.specs.History.{events_in, in_order, stamped_events, all_records}
 use Rattle.snap_board.specs.Scans.{without_collects, scan_history}
 use Rattle.snap_board.proofs.Keeping.{look_mark, settled_kept, scans_kept}

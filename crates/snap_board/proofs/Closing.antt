@@ -13,11 +13,11 @@ use Rattle.snap_account.specs.declared.account.Doing.{Doing}
 use Rattle.snap_account.specs.declared.account.Doing.TheVariants.{Idle, Begun, Written, Viewing, Scanning}
 use Rattle.snap_board.specs.declared.desk_state.DeskState.{DeskState}
 use Rattle.snap_core.specs.Sums.{once_below, one_if, times, total}
-use Rattle.snap_account.specs.Calls.{Mem, Write, ViewRecord, Mark, mark, op_marks, open_marks, open_writes, marks_in, marks_of, all_stamps, all_stamps_in, writes_in, view_records_in, stamps_in, writes_of, view_records_of, stamps_of, latest, in_word}
-use Rattle.snap_account.specs.Rule.{Numbered, Own, Rising, Boarded, clock, code, of_desk, newcomer, newcomers}
+use Rattle.snap_account.specs.Calls.{Mem, Write, ViewRecord, Mark, mark, op_marks, marks_in, all_stamps_in, writes_in, view_records_in, stamps_in, open_marks, open_writes, marks_of, all_stamps, writes_of, view_records_of, stamps_of, latest, in_word}
+use Rattle.snap_account.specs.Rule.{Numbered, Rising, clock, newcomer, newcomers, Own, Boarded, code, of_desk}
 use Rattle.snap_account.specs.Marks.{Climbs}
 use Rattle.snap_account.specs.Seats.{Brief, brief, is_idle}
-use Rattle.snap_board.specs.Slots.{desks_in, slot_brief, brief_of, AllIn}
+use Rattle.snap_board.specs.inside.Slots.{desks_in, slot_brief, brief_of, AllIn}
 use Rattle.snap_account.specs.Drawn.{drawn, drawn_in, drawn_open}
 use Rattle.snap_board.specs.Settled.{falling, Settled, ScansSettled, TicksSettled}
 use Rattle.snap_account.proofs.Lists.{mem_split, mem_left, mem_one}

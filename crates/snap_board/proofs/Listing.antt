@@ -12,7 +12,7 @@ use Rattle.snap_account.specs.declared.account.Answered.{Answered}
 use Rattle.snap_account.specs.declared.account.Answer.{Answer}
 use Rattle.snap_account.specs.declared.account.Answer.TheVariants.{Stored, Viewed, Scanned, Interfered}
 use Rattle.snap_board.specs.declared.record.Record.{Record}
-use Rattle.snap_account.specs.Calls.{Mem, ViewRecord, write, view_record, AllNumbered, op_view_records, writes_in, view_records_in, stamps_in, op_entry, latest}
+use Rattle.snap_account.specs.Calls.{Mem, ViewRecord, write, view_record, op_view_records, writes_in, view_records_in, stamps_in, AllNumbered, op_entry, latest}
 use Rattle.snap_account.specs.Seats.{IsUpToDate}
 use Rattle.snap_board.specs.Desks.{listed, shown_entry, op_records, records_at, IsLater, last_stored, number_shown, op_lost, lost_in, op_collects, collects_in}
 use Rattle.snap_core.proofs.Sums.{total-append}

@@ -24,7 +24,7 @@ use Rattle.snap_account.specs.declared.account.Answer.TheVariants.{Stored, Viewe
 use Rattle.snap_account.specs.Calls.{Mem, Write, write, view_record, writes_in, view_records_in, stamps_in}
 use Rattle.snap_board.specs.Settled.{Settled}
 use Rattle.snap_board.specs.Desks.{listed}
-use Rattle.snap_board.specs.Placed.{At, IsSpan, IsRegularByPlaces}
+use Rattle.snap_board.specs.inside.Placed.{At, IsSpan, IsRegularByPlaces}
 use Rattle.snap_board.specs.History.{Stamped, events_in, AllCompleted}
 use Rattle.snap_account.proofs.Lists.{mem_at, mem_left, mem_right}
 use Rattle.snap_board.proofs.Placed.{regular_by_places}

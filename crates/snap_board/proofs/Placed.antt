@@ -16,7 +16,7 @@ use Rattle.snap_core.proofs.Lists.{In, Contains-from_In}
 use Rattle.snap_core.proofs.Facts.{precedes_to}
 use Rattle.snap_core.proofs.Begun.{Next, nothing, found, next, ends_it, operation_at, call_at, Begun}
 use Rattle.snap_core.proofs.Histories.{begun_of, are_calls}
-use Rattle.snap_board.specs.Placed.{At, IsSpan, IsRegularByPlaces}
+use Rattle.snap_board.specs.inside.Placed.{At, IsSpan, IsRegularByPlaces}
 
 -- the element behind a front
 pub at_split : (xs : List Event) (x : Event) (ys : List Event) → At (xs ++ x ∷ ys) (length xs) x

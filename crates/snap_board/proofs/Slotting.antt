@@ -8,9 +8,9 @@ use Rattle.snap_account.specs.declared.account.Doing.TheVariants.{Idle}
 use Rattle.snap_board.specs.declared.desk_state.DeskState.{DeskState}
 use Rattle.snap_account.specs.Calls.{Mem, writes_in, latest}
 use Rattle.snap_account.specs.Rule.{tick_limit, newcomers, of_desk}
-use Rattle.snap_account.specs.Plays.{Seated, insert, merge, only_first, but_first}
+use Rattle.snap_account.specs.Plays.{Seated, merge, insert, only_first, but_first}
 use Rattle.snap_account.specs.Seats.{Brief, brief, idle, answered_of}
-use Rattle.snap_board.specs.Slots.{desks_in, slot_brief, brief_of, AreSmall, AllIn, NoneFrom, Fresh, no_calls, kept_entry, HasLast}
+use Rattle.snap_board.specs.inside.Slots.{desks_in, slot_brief, brief_of, AreSmall, AllIn, NoneFrom, Fresh, no_calls, kept_entry, HasLast}
 use Rattle.snap_board.specs.Settled.{AreUpTo, Settled, LastStores}
 use Rattle.snap_account.proofs.Lists.{mem_split, mem_right, mem_one, numbered_positive}
 use Rattle.snap_account.proofs.Seats.{mem_count}

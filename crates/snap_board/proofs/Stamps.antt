@@ -5,7 +5,7 @@ use native.Mathlib.Decide.{dec_le, ℕ_discrete}
 use lib.ListN.{get_elem?}
 use Rattle.snap_core.specs.declared.event.Event.{Event}
 use Rattle.snap_core.specs.Events.{process_of, events_of}
-use Rattle.snap_board.specs.Placed.{At}
+use Rattle.snap_board.specs.inside.Placed.{At}
 use Rattle.snap_account.specs.Calls.{Mem}
 use Rattle.snap_board.specs.History.{Stamped, events_in}
 use Rattle.snap_account.proofs.Lists.{mem_at}

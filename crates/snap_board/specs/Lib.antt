@@ -3,10 +3,9 @@ pub use Rattle.snap_account.specs.Plays
 pub mod Boards
 pub mod Desks
 pub mod LastCall
-pub mod Slots
 pub mod Fields
 pub mod Settled
 pub mod History
 pub mod Refusals
 pub mod Scans
-pub mod Placed
+pub mod inside

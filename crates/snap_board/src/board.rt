@@ -43,7 +43,8 @@ impl Model for Board {
 
     ghost Value = { BoardView };
 
-    ghost use Rattle.snap_board.specs.Fields.{IsBoard, board_view};
+    ghost use Rattle.snap_board.specs.inside.Fields.{IsBoard};
+    ghost use Rattle.snap_board.specs.Fields.{board_view};
 
     ghost view = { board_view };
 
@@ -191,7 +192,8 @@ impl Model for Desk {
 
     ghost Value = { DeskView };
 
-    ghost use Rattle.snap_board.specs.Fields.{IsDesk, desk_view};
+    ghost use Rattle.snap_board.specs.inside.Fields.{IsDesk};
+    ghost use Rattle.snap_board.specs.Fields.{desk_view};
 
     ghost view = { desk_view };
 
@@ -220,7 +222,8 @@ impl Model for Gathered {
 
     ghost Value = { GatheredView };
 
-    ghost use Rattle.snap_board.specs.Fields.{IsGathered, gathered_view};
+    ghost use Rattle.snap_board.specs.inside.Fields.{IsGathered};
+    ghost use Rattle.snap_board.specs.Fields.{gathered_view};
 
     ghost view = { gathered_view };
 
@@ -254,7 +257,8 @@ impl Model for Closed {
 
     ghost Value = { ClosedView };
 
-    ghost use Rattle.snap_board.specs.Fields.{IsClosed, closed_view};
+    ghost use Rattle.snap_board.specs.inside.Fields.{IsClosed};
+    ghost use Rattle.snap_board.specs.Fields.{closed_view};
 
     ghost view = { closed_view };
 

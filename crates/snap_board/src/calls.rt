@@ -5,7 +5,7 @@ ghost use Rattle.snap_account.specs.Rule.{tick_limit};
 ghost use Rattle.snap_board.specs.Refusals.{IsNotCollected, desk_limit};
 ghost use Rattle.snap_board.specs.LastCall.{HasCalled, IsStore, IsCollect};
 ghost use Rattle.snap_board.specs.Desks.{records, ticks, collects, lost, IsDeskOf, listed, IsLater, last_stored, shown_by, IsNoOlder, ShowsOwnLast};
-ghost use Rattle.snap_account.specs.Seats.{has_read, doing_of, desk_of, answered_of, pairs, IsUpToDate};
+ghost use Rattle.snap_account.specs.Seats.{has_read, doing_of, desk_of, pairs, IsUpToDate, answered_of};
 ghost use Rattle.snap_account.specs.Plays.{HasRead};
 
 use crate::board::{Board, Desk};

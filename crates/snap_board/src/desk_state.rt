@@ -1,3 +1,4 @@
+//! What a running program keeps of a desk.
 /// What the running program keeps of a desk.
 #[derive(Clone, Copy, Debug)]
 pub struct DeskState {

@@ -1,7 +1,7 @@
 //! What is kept of the desks that are in, by their numbers.
 ghost use Rattle.std.specs.Prelude.{◌≡◌, ◌+◌, ◌<◌, ◌≤◌, ◌↔◌, Some, None, MatchOption, IsTrue, slice_index_or, length};
 ghost use Rattle.snap_board.specs.Refusals.{desk_limit};
-ghost use Rattle.snap_board.specs.Slots.{AllIn, Fresh, NoneFrom, HasLast, kept_entry};
+ghost use Rattle.snap_board.specs.inside.Slots.{AllIn, Fresh, NoneFrom, HasLast, kept_entry};
 
 use crate::board::DESK_LIMIT;
 use crate::desk_state::DeskState;

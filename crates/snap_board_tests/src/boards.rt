@@ -1,3 +1,4 @@
+//! Stores, collects and the closing of a board, each call with what it must answer.
 ghost use Rattle.snap_board.specs.Desks.{IsDeskOf, IsGatheredOf};
 ghost use Rattle.std.specs.Prelude.{◌≡◌, IfOk};
 

@@ -1,3 +1,4 @@
+//! Recordings of plans by workers.
 use snap_core::{Entry, Event, Gate, OpenGate};
 use snap_record::{Plan, PlanRefusal, Recording, Step, record_plan, rounds_plan};
 use snap_testing::{Meeting, entry};

@@ -1,3 +1,4 @@
+//! A relay, its senders and its taker.
 ghost use Rattle.std.specs.Prelude.{◌≡◌, IfOk, IfSome};
 ghost use Rattle.snap_record.specs.Relays.{IsSenderOf, IsTakerOf};
 

@@ -1,2 +1,3 @@
+//! The version of the library.
 /// The version of the calls and of what they answer: it rises where either changes.
 pub const VERSION: u32 = 1;

@@ -2,14 +2,13 @@
 use Rattle.std.proofs.Common.{◌≡◌, inl, inr, ℕ, List, Option, Some, None, refl, subst}
 use Rattle.std.specs.Global.{Vec}
 use Rattle.std.specs.Prelude.{IfSome}
-use Rattle.std.specs.Io.KnownBytes.{Appends, Keeps}
+use Rattle.std.specs.Io.KnownBytes.{Appends}
 use Rattle.snap_core.specs.declared.event.Event.{Event}
 use Rattle.snap_core.specs.Sending.{SendsFront}
 use Rattle.snap_text.specs.declared.fault.TextFault.{TextFault}
 use Rattle.snap_csv.specs.Texts.{HasFaultWithin, IsTextWithin}
 use Rattle.snap_report.specs.Lines.{line_text}
 use Rattle.snap_report.specs.Refusals.{refusal_line}
-use Rattle.snap_check.specs.declared.fault.RunFault.{RunFault}
 use Rattle.snap_check.specs.declared.fault.RunFault.TheVariants as faults
 use Rattle.snap_verdict.specs.declared.status.Status.{Status}
 use Rattle.snap_verdict.specs.declared.status.Status.TheVariants.{Refused}
@@ -17,7 +16,7 @@ use Rattle.snap_verdict.specs.Verdicts.{IsVerdict}
 use Rattle.snap_verdict.specs.Reports.{IsRefusedWithin, IsReportWithin}
 use Rattle.snap_check.specs.declared.reading.Reading.{Reading}
 use Rattle.snap_check.specs.declared.reading.Reading.TheVariants.{History, Refusal}
-use Rattle.snap_check.specs.Runs.{FailedBy, FaultCounts, JudgeFaultCounts, Reads, WroteFront, WroteWhole}
+use Rattle.snap_check.specs.Runs.{Reads, WroteFront, WroteWhole}
 
 -- what follows of a known text from what it was read as
 
@@ -41,20 +40,6 @@ refused limit (Some text) place fault out first e = record { place = place; faul
 pub reported : (limit : ℕ) (known : Option (List ℕ)) (out : List ℕ) → IfSome known (λ text. IsRefusedWithin limit text Refused out) → IfSome known (λ text. IsReportWithin limit text Refused out)
 reported limit None out h = tt
 reported limit (Some text) out h = inl h
-
-keeps_itself : (known : Option (List ℕ)) → Keeps known known
-keeps_itself None = tt
-keeps_itself (Some xs) = refl
-
-pub not_sent : {A : Type 0} (Is : List ℕ → A → List ℕ → Type 0) (known held : Option (List ℕ)) (old new : ℕ) (fault : RunFault) → JudgeFaultCounts old new fault → FailedBy Is known held held fault
-not_sent Is known held old new faults.Read h = keeps_itself held
-not_sent Is known held old new faults.Write h = absurd h
-not_sent Is known held old new faults.Memory h = keeps_itself held
-
-pub not_sent_counts : (old new writer : ℕ) (fault : RunFault) → JudgeFaultCounts old new fault → FaultCounts old new writer writer fault
-not_sent_counts old new writer faults.Read h = (h, refl)
-not_sent_counts old new writer faults.Write h = absurd h
-not_sent_counts old new writer faults.Memory h = (h, refl)
 
 pub sent : {A : Type 0} (Is : List ℕ → A → List ℕ → Type 0) (known held new : Option (List ℕ)) (answer : A) (out : List ℕ) → IfSome known (λ text. Is text answer out) → Appends held new out → IfSome known (λ text. WroteWhole (Is text) held new answer)
 sent Is None held new answer out h a = tt

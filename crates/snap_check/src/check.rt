@@ -1,7 +1,8 @@
+//! A check, from a reader to a writer.
 ghost use Rattle.std.specs.Prelude.{◌≡◌, [], IfOk, IfSome, IsSome};
 ghost use Rattle.snap_core.specs.Calls.{calls_of, views_of};
 ghost use Rattle.snap_core.specs.Counting.{failures_in, inner_of};
-ghost use Rattle.snap_conditions.specs.Chains.{IsViewChain};
+ghost use Rattle.snap_views.specs.Chains.{IsViewChain};
 ghost use Rattle.snap_theory.specs.Faults.{read_faults};
 ghost use Rattle.snap_conditions.specs.Tally.{tally_of};
 ghost use Rattle.snap_check.specs.Options.{IsReportWith, IsVerdictWith, IsWritten};
@@ -10,12 +11,13 @@ ghost use Rattle.snap_check.specs.Runs.{JudgeCounts, JudgesBy, RunCounts, Wrote,
 use crate::fault::RunFault;
 use crate::options::CheckOptions;
 use crate::reading::{Reading, read_in};
-use snap_conditions::{Tally, ViewChain};
+use snap_conditions::Tally;
 use snap_core::{Counted, Gate, History};
 use snap_index::Index;
 use snap_pairs::tally_and_chain;
 use snap_threads::Cutting;
 use snap_verdict::{Status, brief_verdict_of, verdict_along};
+use snap_views::ViewChain;
 use std::alloc::{AllocError, Global};
 use std::io::{Read, Write};
 use std::thread::Threads;

@@ -1,3 +1,4 @@
+//! Why a run did not finish.
 ghost use Rattle.std.specs.Prelude.{◌≡◌, ◌⊎◌};
 ghost use Rattle.snap_csv.specs.declared.refusal.WriteRefusal.TheVariants as refusals;
 ghost use Rattle.snap_check.specs.declared.fault.RunFault.TheVariants.{Memory, Write};

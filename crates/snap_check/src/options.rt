@@ -1,3 +1,4 @@
+//! What a check is asked for besides.
 ghost use Rattle.std.specs.Prelude.{◌≡◌, false};
 ghost use Rattle.snap_core.specs.Limits.{event_limit};
 

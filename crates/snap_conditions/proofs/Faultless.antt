@@ -1,4 +1,4 @@
--- What the quick test tells of read faults, and what their absence tells of a range of views.
+-- What the absence of read faults tells of a range of views.
 use Rattle.std.proofs.Common.{◌≡◌, ℕ, ◌-◌, List, [], ◌∷◌, ◌++◌, length, take, drop, refl, sym, ap, subst, ◌∙◌, arith}
 use Rattle.std.proofs.lemmas.List.{take-append-drop, take_all}
 use Rattle.snap_core.specs.declared.event.Event.{Event}
@@ -8,18 +8,13 @@ use Rattle.snap_core.proofs.Fits.{bytes_of_events}
 use Rattle.snap_conditions.specs.declared.tally.Tally.{Tally}
 use Rattle.snap_theory.specs.Faults.{read_faults, stale_count}
 use Rattle.snap_conditions.specs.Parts.{part_of}
-use Rattle.snap_conditions.specs.Quick.{AreComparable, AreOrdered}
-use Rattle.snap_conditions.specs.Tally.{tally_of, without_read, reported_read, views_between}
-use Rattle.snap_conditions.proofs.Quick.{no_read_fault_exactly}
+use Rattle.snap_views.specs.Quick.{AreComparable, AreOrdered}
+use Rattle.snap_conditions.specs.Tally.{tally_of, without_read, reported_read}
+use Rattle.snap_views.specs.Seen.{views_between}
+use Rattle.snap_views.proofs.Quick.{no_read_fault_exactly}
 use Rattle.snap_conditions.proofs.Ranges.{tally_is}
 use Rattle.snap_theory.proofs.Components.{faults_join}
 use Rattle.snap_theory.proofs.StaleViews.{none_stale_alone, stale_joined}
-
-pub none_by_test : (es : List Event) → IsBoundedHistory es → AreComparable (calls_of es) → AreOrdered (calls_of es) → read_faults (calls_of es) (views_of (calls_of es)) ≡ []
-none_by_test es kept c o = (no_read_fault_exactly es (bytes_of_events es kept.fit)).1 (record { comparable = c; ordered = o })
-
-pub test_by_none : (es : List Event) → IsBoundedHistory es → read_faults (calls_of es) (views_of (calls_of es)) ≡ [] → AreComparable (calls_of es) × AreOrdered (calls_of es)
-test_by_none es kept e = let t = (no_read_fault_exactly es (bytes_of_events es kept.fit)).0 e in (t.comparable, t.ordered)
 
 nil_left : {X : Type 0} (xs ys : List X) → xs ++ ys ≡ [] → xs ≡ []
 nil_left [] ys e = refl

@@ -16,20 +16,22 @@ use Rattle.snap_conditions.specs.declared.fault.IntegrityFault.{IntegrityFault}
 use Rattle.snap_conditions.specs.declared.fault.ProximityFault.{ProximityFault}
 use Rattle.snap_conditions.specs.declared.fault.Side.{Side}
 use Rattle.snap_conditions.specs.declared.fault.Side.TheVariants.{Old, Early}
-use Rattle.snap_conditions.specs.Rows.{IsLessSomewhere, first_less}
+use Rattle.snap_views.specs.Rows.{IsLessSomewhere}
+use Rattle.snap_conditions.specs.Rows.{first_less}
 use Rattle.snap_theory.specs.Faults.{integrity_fault, old_fault, early_fault, read_fault, write_fault, listed, missed_at, exceeds, least_exceeding}
 use Rattle.snap_conditions.specs.Parts.{no_part, part_of, found_at}
-use Rattle.snap_conditions.specs.Places.{end_of, begin_of, begins_behind, begin_of_shown, is_written, IsNoLater}
+use Rattle.snap_conditions.specs.inside.Places.{end_of, begin_of, begins_behind, begin_of_shown, is_written, IsNoLater}
 use Rattle.snap_theory.specs.Updates.{update_of}
 use Rattle.snap_conditions.specs.Tally.{reported_integrity, reported_proximity, reported_write}
 use Rattle.snap_theory.proofs.Entries.{sorted, nothing}
-use Rattle.snap_conditions.proofs.Compared.{is_listed}
+use Rattle.snap_views.proofs.Compared.{is_listed}
 use Rattle.snap_theory.proofs.Exceeding.{exceeds_from, exceeds_to}
 use Rattle.snap_conditions.proofs.Leasts.{find_same}
 use Rattle.snap_conditions.proofs.Places.{integrity_by_update, old_by_place, early_by_place, write_by_place, behind_none}
 use Rattle.snap_conditions.proofs.OneView.{missed_part}
 use Rattle.snap_theory.proofs.FaultLists.{filter_none}
-use Rattle.snap_conditions.proofs.Rows.{entry_at, among_is_shown}
+use Rattle.snap_views.proofs.Grids.{small}
+use Rattle.snap_views.proofs.Rows.{entry_at, among_is_shown}
 
 -- what a view shows of a component that it lists
 pub shown_at : (r : Call) (i : ℕ) (x : Entry) → AreEntries (entries_of r.operation) → i < length (entries_of r.operation) → shown r (get_or (entries_of r.operation) i x).component ≡ Some (get_or (entries_of r.operation) i x)
@@ -75,10 +77,6 @@ pub neither_found : (es : List Event) → IsBoundedHistory es → (r : Call) (k 
 neither_found es kept r k n s f g = found_neither (calls_of es) r k (old_here es kept r k n s ∙ f) (early_here es kept r k n s ∙ g)
 
 -- a view against another
-
--- a component of which a view shows a number
-pub small : (r : Call) (k : ℕ) → AreEntries (entries_of r.operation) → 0 < shown_number r k → k < 256
-small r k h l = let d = is_listed (entries_of r.operation) h k (omega (arith, l, among_is_shown r k)) in omega (arith, d.component, d.fits.0)
 
 pub exceeds_by_number : (r s : Call) (b : Bool) → AreEntries (entries_of r.operation) → IsTrue b ↔ IsLessSomewhere (shown_number s) (shown_number r) → exceeds r s ≡ b
 exceeds_by_number r s true h d = let m = d.0 refl in exceeds_from r s m.0 m.2

@@ -8,14 +8,14 @@ use Rattle.snap_core.specs.Events.{IsBoundedHistory}
 use Rattle.snap_core.specs.Calls.{Call, calls_of, shown_number, is_before}
 use Rattle.snap_index.specs.Updates.{is_update_of}
 use Rattle.snap_theory.specs.Faults.{components, missed_at, old_fault, early_fault}
-use Rattle.snap_conditions.specs.Limits.{IsLimit}
+use Rattle.snap_conditions.specs.inside.Limits.{IsLimit}
 use Rattle.snap_conditions.specs.Parts.{no_part, part_of, merged_part}
-use Rattle.snap_conditions.specs.Places.{end_of, begin_of, begins_behind}
+use Rattle.snap_conditions.specs.inside.Places.{end_of, begin_of, begins_behind}
 use Rattle.snap_theory.specs.Updates.{update_of}
 use Rattle.snap_conditions.specs.Tally.{reported_proximity, reported_write}
 use Rattle.snap_conditions.proofs.Finds.{none_missed, neither_found, proximity_at}
 use Rattle.snap_conditions.proofs.Parts.{merge_step, merged_none, next_noted}
-use Rattle.snap_conditions.proofs.Viewed.{none_of_none}
+use Rattle.snap_conditions.proofs.NoUpdates.{none_of_none}
 
 at_place : (k : ℕ) → k < 256 → get_or components k 0 ≡ k
 at_place k l = omega (arith, get_or-range_with_len 0 256 k 0 l)

@@ -17,7 +17,7 @@ use Rattle.snap_conditions.specs.Parts.{part_of, no_part}
 use Rattle.snap_conditions.specs.PartValue.{PartValue}
 use Rattle.snap_conditions.proofs.OneView.{missed_part}
 use Rattle.snap_conditions.proofs.Parts.{part_is}
-use Rattle.snap_conditions.specs.Places.{end_of, begin_of, begins_behind, begin_of_shown, begin_or_0}
+use Rattle.snap_conditions.specs.inside.Places.{end_of, begin_of, begins_behind, begin_of_shown, begin_or_0}
 use Rattle.snap_theory.specs.Updates.{update_of}
 use Rattle.snap_conditions.specs.Tally.{reported_write}
 use Rattle.snap_theory.proofs.Entries.{nothing}

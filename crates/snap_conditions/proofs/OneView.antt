@@ -9,7 +9,8 @@ use Rattle.snap_core.proofs.Lists.{In}
 use Rattle.snap_theory.specs.Faults.{integrity_fault, old_fault, early_fault, read_fault, write_fault, components, listed, integrity_faults, proximity_faults, read_faults, write_faults, missed_at}
 use Rattle.snap_conditions.specs.Parts.{part_of}
 use Rattle.snap_conditions.specs.Tally.{reported_integrity, reported_proximity, reported_read, reported_write}
-use Rattle.snap_conditions.proofs.Parts.{part-map, filter_short, flat_map_short}
+use Rattle.snap_conditions.proofs.Parts.{part-map, flat_map_short}
+use Rattle.snap_views.proofs.Sizes.{filter_short}
 use Rattle.snap_conditions.proofs.Ranges.{few_listed}
 
 append_none : {X : Type 0} (xs : List X) → xs ++ [] ≡ xs

@@ -59,14 +59,6 @@ merge_step f g xs i d l =
     append_none [] = refl
     append_none (y ∷ ys) = ap (λ z. y ∷ z) (append_none ys)
 
-pub filter_short : {X : Type 0} (p : X → Bool) (xs : List X) → length (filter p xs) ≤ length xs
-filter_short p [] = omega arith
-filter_short p (x ∷ xs) = shorter (p x) (filter_short p xs)
-  where
-    shorter : (b : Bool) → length (filter p xs) ≤ length xs → length (cond b (x ∷ filter p xs) (filter p xs)) ≤ suc (length xs)
-    shorter true h = omega (arith, h)
-    shorter false h = omega (arith, h)
-
 -- a flat_map of short lists
 pub flat_map_short : {X Y : Type 0} (g : X → List Y) (n : ℕ) (xs : List X) → ((x : X) → In x xs → length (g x) ≤ n) → length (flat_map g xs) ≤ length xs * n
 flat_map_short g n [] h = omega arith

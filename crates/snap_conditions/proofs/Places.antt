@@ -8,7 +8,7 @@ use Rattle.snap_core.specs.Calls.{Call, Operation, Updates, Views, is_update_num
 use Rattle.snap_core.proofs.Lists.{In, any_to}
 use Rattle.snap_core.proofs.Facts.{AreCalls}
 use Rattle.snap_theory.specs.Faults.{writes_entry, is_unwritten, integrity_fault, old_fault, early_fault, write_fault}
-use Rattle.snap_conditions.specs.Places.{end_of, begin_of, begins_behind, begin_or_0, is_written, IsNoLater}
+use Rattle.snap_conditions.specs.inside.Places.{end_of, begin_of, begins_behind, begin_or_0, is_written, IsNoLater}
 use Rattle.snap_theory.specs.Updates.{update_of}
 use Rattle.snap_theory.proofs.Local.{numbered_to}
 
@@ -108,12 +108,6 @@ unfolding integrity_fault
 integrity_by_update calls f r k e s = ap (is_unwritten calls) s ∙ ap not (any_written calls f e)
 
 -- begins in their order
-
-pub no_later_through : (a b c : Option ℕ) → IsNoLater a b → IsNoLater b c → IsNoLater a c
-no_later_through None b c h k = tt
-no_later_through (Some x) None c h k = absurd h
-no_later_through (Some x) (Some y) None h k = absurd k
-no_later_through (Some x) (Some y) (Some z) h k = omega (arith, h, k)
 
 -- a begin by the number that stands for it
 pub behind_begin : (ended o : Option ℕ) → begins_behind ended o ≡ is_before ended (begin_or_0 o)

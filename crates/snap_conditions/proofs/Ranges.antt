@@ -1,26 +1,23 @@
 -- Tallies of ranges of views: how they join, that their counts fit, and what no fault in them says.
-use Rattle.std.proofs.Common.{◌≡◌, ℕ, zero, suc, ◌+◌, ◌-◌, ◌*◌, ◌<◌, ◌≤◌, true, List, [], ◌∷◌, ◌++◌, take, drop, length, get_or, refl, ap, ◌∙◌, subst, inl, inr, arith}
-use Rattle.std.specs.Prelude.{◌^◌, ◌||◌, nat_lt, filter}
-use Rattle.std.specs.List.{All, flat_map}
+use Rattle.std.proofs.Common.{◌≡◌, ℕ, zero, suc, ◌+◌, ◌-◌, ◌*◌, ◌<◌, ◌≤◌, List, [], ◌∷◌, ◌++◌, take, drop, length, get_or, refl, ap, ◌∙◌, inl, inr, arith}
+use Rattle.std.specs.Prelude.{◌^◌, ◌||◌, filter}
+use Rattle.std.specs.List.{flat_map}
 use Rattle.std.proofs.lemmas.List.{take_all, length-take, drop-drop, drop_more, length-map}
-use Rattle.std.proofs.lemmas.List.Elements.{All-head, All-tail}
 use Rattle.std.proofs.Math.Seq.{take-add}
-use Rattle.std.proofs.lemmas.Bool.{and_parts, ltb-true}
-use Rattle.snap_core.specs.declared.entry.Entry.{Entry}
 use Rattle.snap_core.specs.declared.event.Event.{Event}
-use Rattle.snap_core.specs.Entries.{HasByteComponent, rises}
 use Rattle.snap_core.specs.Events.{IsBoundedHistory, event_cap}
-use Rattle.snap_core.specs.declared.event.Event.TheVariants.{BeginUpdate, BeginView, EndUpdate, EndView}
-use Rattle.snap_core.specs.Calls.{Call, calls_of, calls_from, is_view, entries_of, views_of, nobody}
+use Rattle.snap_core.specs.Calls.{Call, calls_of, entries_of, views_of, nobody}
 use Rattle.snap_core.proofs.Lists.{In}
 use Rattle.snap_conditions.specs.declared.tally.Tally.{Tally}
 use Rattle.snap_conditions.specs.Parts.{part_of, merged_part}
 use Rattle.snap_conditions.specs.PartValue.{PartValue}
 use Rattle.snap_theory.specs.Faults.{integrity_fault, old_fault, early_fault, read_fault, write_fault, components, listed, integrity_faults, proximity_faults, read_faults, write_faults, stale_count, missed_at, HasNoLocalFault}
-use Rattle.snap_conditions.specs.Tally.{tally_of, reported_integrity, reported_proximity, reported_read, reported_write, merged, no_fault, views_between, SumsFit, CountsNoLocalFault}
+use Rattle.snap_conditions.specs.Tally.{tally_of, reported_integrity, reported_proximity, reported_read, reported_write, merged, no_fault, CountsNoLocalFault}
+use Rattle.snap_views.specs.Seen.{views_between}
 use Rattle.snap_conditions.specs.Laws.{TalliesJoin, TalliesFit, RegularByTally, ConditionsByTally, NoFaultByTally}
 use Rattle.snap_theory.proofs.FaultLaws.{regular_exactly, conditions_exactly}
-use Rattle.snap_conditions.proofs.Parts.{part-append, filter_short, flat_map_short}
+use Rattle.snap_conditions.proofs.Parts.{part-append, flat_map_short}
+use Rattle.snap_views.proofs.Sizes.{few_views, filter_short, rising_few}
 use Rattle.snap_theory.proofs.Components.{faults_join, fit_views}
 use Rattle.snap_theory.proofs.StaleViews.{stale_few}
 use Rattle.snap_theory.proofs.FaultLists.{from_views}
@@ -73,18 +70,6 @@ one_between calls place l =
     let one : (place + 1) - place ≡ 1 = omega arith in
     ap (λ n. take n (drop place (views_of calls))) one ∙ ap (take 1) (drop_more (views_of calls) place nobody l)
 
--- a view lists no more than 256 components
-
-rising_short : (d : Entry) (es : List Entry) (n : ℕ) → rises (d ∷ es) ≡ true → All HasByteComponent (d ∷ es) → n ≤ d.component → length (d ∷ es) + n ≤ 256
-rising_short d [] n r b l = omega (arith, All-head HasByteComponent d [] b)
-rising_short d (e ∷ es) n r b l =
-    let p = and_parts (nat_lt d.component e.component) (rises (e ∷ es)) r in
-    omega (arith, rising_short e es (n + 1) p.1 (All-tail HasByteComponent d (e ∷ es) b) (omega (arith, ltb-true _ _ p.0)))
-
-pub rising_few : (es : List Entry) → rises es ≡ true → All HasByteComponent es → length es ≤ 256
-rising_few [] r b = omega arith
-rising_few (d ∷ es) r b = omega (arith, rising_short d es 0 r b (omega arith))
-
 -- a part of the views
 abbrev pub Within : {X : Type 0} → List X → List X → Type 0
 Within {X} rs xs = (r : X) → In r rs → In r xs
@@ -112,17 +97,6 @@ pub few_listed : (es : List Event) → IsBoundedHistory es → (r : Call) → In
 few_listed es k r i =
     let f = fit_views es k.fit r (from_views (calls_of es) r i).there in
     omega (arith, length-map (entries_of r.operation) (λ e. e.component), rising_few (entries_of r.operation) f.rising (λ j d l. (f.fit j d l).0))
-
-pub few_views : (es : List Event) → IsBoundedHistory es → length (views_of (calls_of es)) ≤ event_cap
-unfolding views_of calls_of
-few_views es k = omega (arith, filter_short is_view (calls_of es), few_calls 0 0 es, k.short)
-  where
-    few_calls : (n place : ℕ) (es : List Event) → length (calls_from n place es) ≤ length es
-    few_calls n place [] = omega arith
-    few_calls n place (BeginUpdate p e ∷ es) = omega (arith, few_calls (suc n) (suc place) es)
-    few_calls n place (BeginView p ∷ es) = omega (arith, few_calls (suc n) (suc place) es)
-    few_calls n place (EndUpdate p ∷ es) = omega (arith, few_calls n (suc place) es)
-    few_calls n place (EndView p s ∷ es) = omega (arith, few_calls n (suc place) es)
 
 pub tally_small : (es : List Event) → IsBoundedHistory es → (rs : List Call) → Within rs (views_of (calls_of es)) → IsSmall (length rs) (tally_of (calls_of es) rs)
 unfolding tally_of integrity_faults proximity_faults read_faults write_faults
@@ -161,36 +135,6 @@ ranges_fit es k from middle to l m n =
 pub record Grows {F : Type 0} (more part one : PartValue F) : Type 0 where
   pub fit : part.count + one.count < 2 ^ 64
   pub joined : more ≡ merged_part part one
-
-pub record CountGrows (more count one : ℕ) : Type 0 where
-  pub fit : count + one < 2 ^ 64
-  pub joined : more ≡ count + one
-
-pub record RangeGrows (more range one : Tally) : Type 0 where
-  pub integrity : Grows more.integrity range.integrity one.integrity
-  pub proximity : Grows more.proximity range.proximity one.proximity
-  pub read : Grows more.read range.read one.read
-  pub write : Grows more.write range.write one.write
-  pub stale : CountGrows more.stale range.stale one.stale
-
-pub range_grows : (es : List Event) → IsBoundedHistory es → (from place : ℕ) → from ≤ place → place < length (views_of (calls_of es)) →
-    RangeGrows (tally_of (calls_of es) (views_between (calls_of es) from (place + 1))) (tally_of (calls_of es) (views_between (calls_of es) from place)) (tally_of (calls_of es) (get_or (views_of (calls_of es)) place nobody ∷ []))
-range_grows es k from place l m =
-    let calls = calls_of es in
-    let range = tally_of calls (views_between calls from place) in
-    let here = ap (tally_of calls) (one_between calls place m) in
-    let joined = (tallies_join calls).adjoining from place (place + 1) l (omega arith) ∙ ap (merged range) here in
-    let fit = subst (SumsFit range) here (ranges_fit es k from place (place + 1) l (omega arith) (omega (arith, m))) in
-    record {
-      integrity = record { fit = fit.integrity; joined = ap (λ (t : Tally). t.integrity) joined };
-      proximity = record { fit = fit.proximity; joined = ap (λ (t : Tally). t.proximity) joined };
-      read = record { fit = fit.read; joined = ap (λ (t : Tally). t.read) joined };
-      write = record { fit = fit.write; joined = ap (λ (t : Tally). t.write) joined };
-      stale = record { fit = fit.stale; joined = ap (λ (t : Tally). t.stale) joined };
-    }
-
-pub range_starts : (calls : List Call) (from : ℕ) → tally_of calls (views_between calls from from) ≡ no_fault
-range_starts calls from = ap (tally_of calls) (empty_between calls from) ∙ (tallies_join calls).nothing
 
 -- no fault by the counts, and by the lists
 

@@ -3,12 +3,12 @@ use Rattle.std.proofs.Common.{◌≡◌, ◌<◌, ◌↔◌, ◌&&◌, ℕ, Bool
 use Rattle.std.specs.Prelude.{IsTrue}
 use Rattle.snap_core.specs.Calls.{Call, is_before, precedes, shown_number}
 use Rattle.snap_index.specs.declared.call.Call.{Call as IndexedCall}
-use Rattle.snap_conditions.specs.declared.seen.SeenView.{SeenView}
+use Rattle.snap_views.specs.declared.seen.SeenView.{SeenView}
 use Rattle.snap_theory.specs.Faults.{exceeds, is_stale}
-use Rattle.snap_conditions.specs.Rows.{AreNumbersOf, IsLessSomewhere, number_among, row_number}
-use Rattle.snap_conditions.specs.Seen.{IsSeen}
+use Rattle.snap_views.specs.Rows.{AreNumbersOf, IsLessSomewhere, number_among, row_number}
+use Rattle.snap_views.specs.Seen.{IsSeen}
 use Rattle.snap_conditions.proofs.Finds.{exceeds_by_number}
-use Rattle.snap_conditions.proofs.Rows.{among_is_shown}
+use Rattle.snap_views.proofs.Rows.{among_is_shown}
 
 pub same_before : (r s : Call) (view other : SeenView) → IsSeen r view → IsSeen s other → is_before view.call.ended other.call.begun ≡ is_before r.ended s.begun
 same_before r s view other v w = ap (λ (z : IndexedCall). is_before z.ended other.call.begun) v.call ∙ ap (λ (z : IndexedCall). is_before r.ended z.begun) w.call

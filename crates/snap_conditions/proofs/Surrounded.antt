@@ -14,21 +14,22 @@ use Rattle.snap_core.proofs.Lists.{In}
 use Rattle.snap_index.specs.IndexedCalls.{value_written}
 use Rattle.snap_index.proofs.Known.{update_found}
 use Rattle.snap_conditions.specs.declared.shown_and_next.ShownAndNext.{ShownAndNext}
-use Rattle.snap_conditions.specs.ShownAndNext.{IsOfEntries, IsOfView, begin_shown, end_next}
+use Rattle.snap_conditions.specs.inside.ShownAndNext.{IsOfEntries, IsOfView, begin_shown, end_next}
 use Rattle.snap_theory.specs.Faults.{components, old_fault, early_fault, proximity_faults, write_faults, missed_at, writes_entry}
 use Rattle.snap_conditions.specs.Parts.{no_part, part_of}
 use Rattle.snap_conditions.specs.PartValue.{PartValue}
-use Rattle.snap_conditions.specs.Places.{value_of, end_of, begin_of, begin_of_shown, is_written, value_or_none, begin_or_0, end_or_never, IsNoLater}
+use Rattle.snap_conditions.specs.inside.Places.{value_of, end_of, begin_of, begin_of_shown, is_written, value_or_none, begin_or_0, IsNoLater}
+use Rattle.snap_views.specs.Seen.{end_or_never}
 use Rattle.snap_theory.specs.Updates.{update_of}
-use Rattle.snap_conditions.specs.Rows.{number_among}
+use Rattle.snap_views.specs.Rows.{number_among}
 use Rattle.snap_conditions.specs.Tally.{reported_proximity, reported_write}
 use Rattle.snap_theory.proofs.Entries.{nothing}
 use Rattle.snap_conditions.proofs.Finds.{shown_at, none_behind}
 use Rattle.snap_conditions.proofs.OneView.{proximity_alone, write_alone}
 use Rattle.snap_conditions.proofs.Places.{old_by_place, early_by_place, behind_begin}
-use Rattle.snap_conditions.proofs.Rows.{among_is_shown}
+use Rattle.snap_views.proofs.Rows.{among_is_shown}
 use Rattle.snap_theory.proofs.FaultLists.{filter_none, flat_map_none}
-use Rattle.snap_conditions.proofs.Viewed.{no_update_past}
+use Rattle.snap_conditions.proofs.NoUpdates.{no_update_past}
 
 -- an end by the number that stands for it
 

@@ -5,7 +5,8 @@ use Rattle.snap_core.specs.Calls.{calls_of, precedes, is_view, shown, shown_numb
 use Rattle.snap_theory.specs.Faults.{exceeds, integrity_fault, old_fault, early_fault, read_fault, write_fault, integrity_faults, proximity_faults, read_faults, write_faults, is_stale, stale_count}
 use Rattle.snap_conditions.specs.declared.tally.Tally.{Tally}
 use Rattle.snap_conditions.specs.declared.fault.Side.TheVariants.{Old}
-use Rattle.snap_conditions.specs.Tally.{tally_of, no_fault, views_between}
+use Rattle.snap_conditions.specs.Tally.{tally_of, no_fault}
+use Rattle.snap_views.specs.Seen.{views_between}
 use Rattle.snap_theory.specs.Faults.{least_exceeding}
 use Rattle.snap_core.proofs.Worked as worked
 

@@ -7,7 +7,8 @@ use Rattle.snap_core.specs.Monotone.{IsMonotone}
 use Rattle.snap_core.specs.Regular.{IsRegular}
 use Rattle.snap_theory.specs.Conditions.{MeetsConditions}
 use Rattle.snap_theory.specs.Faults.{HasNoFault}
-use Rattle.snap_conditions.specs.Tally.{tally_of, no_fault, merged, views_between, SumsFit, CountsNoLocalFault, CountsNoFault}
+use Rattle.snap_conditions.specs.Tally.{tally_of, no_fault, merged, SumsFit, CountsNoLocalFault, CountsNoFault}
+use Rattle.snap_views.specs.Seen.{views_between}
 
 -- the tally of no view has no fault, and that of two ranges of views of which the second follows the first is both merged
 pub record TalliesJoin (calls : List Call) : Type 0 where

@@ -1,15 +1,6 @@
-pub mod Grids
 pub mod Laws
 pub mod PartValue
 pub mod Parts
-pub mod Places
-pub mod Quick
 pub mod Rows
-pub mod Seen
 pub mod Tally
-pub mod ShownAndNext
-pub mod Limits
-pub mod Chains
-pub mod Orders
-pub mod Sweeps
-pub mod NumberTables
+pub mod inside

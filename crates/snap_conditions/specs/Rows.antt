@@ -1,32 +1,12 @@
--- The numbers that entries show of all components, in a row.
-use Rattle.std.specs.Prelude.{ℕ, zero, suc, ◌+◌, ◌≡◌, ◌<◌, nat_lt, List, Option, find, get_or}
-use Rattle.snap_core.specs.declared.entry.Entry.{Entry}
-use Rattle.snap_core.specs.Entries.{component_count, entry_of, number_in}
+-- How the numbers of two views compare, component by component.
+use Rattle.std.specs.Prelude.{ℕ, ◌+◌, ◌≡◌, ◌<◌, nat_lt, List, Option, find, get_or}
+use Rattle.snap_core.specs.Entries.{component_count}
 use Rattle.snap_theory.specs.Faults.{components}
-
--- the number that entries show of a component, 0 where they list none
-abbrev pub number_among : List Entry → ℕ → ℕ
-number_among es k = number_in (entry_of k es)
-
--- the number of a component in a row
-abbrev pub row_number : List ℕ → ℕ → ℕ
-row_number numbers k = get_or numbers k 0
-
-abbrev pub AreNumbersOf : List Entry → List ℕ → Type 0
-AreNumbersOf es numbers = (k : ℕ) → k < component_count → row_number numbers k ≡ number_among es k
-
--- the first numbers are less than the second at some component
-abbrev pub IsLessSomewhere : (ℕ → ℕ) → (ℕ → ℕ) → Type 0
-IsLessSomewhere f g = (k : ℕ) × (k < component_count) × (f k < g k)
+use Rattle.snap_views.specs.Rows.{row_number, sum_below}
 
 -- the least component of which the first numbers are less than the second
 unfoldable pub first_less : (ℕ → ℕ) → (ℕ → ℕ) → Option ℕ
 first_less f g = find (λ k. nat_lt (f k) (g k)) components
-
--- the sum of the first n numbers
-unfoldable pub sum_below : (ℕ → ℕ) → ℕ → ℕ
-sum_below f zero = 0
-sum_below f (suc n) = sum_below f n + f n
 
 -- the sums of the number of each component and of those below it
 abbrev pub AreSums : List ℕ → List ℕ → Type 0

@@ -50,10 +50,6 @@ tally_of calls rs =
       stale = stale_count calls rs;
     }
 
--- the completed views from one place to before another
-abbrev pub views_between : List Call → ℕ → ℕ → List Call
-views_between calls from to = take (to - from) (drop from (views_of calls))
-
 abbrev pub no_fault : Tally
 no_fault = record { integrity = no_part; proximity = no_part; read = no_part; write = no_part; stale = 0 }
 

@@ -1,3 +1,4 @@
+//! The faults of each kind, as they are reported: by call numbers.
 use snap_core::Entry;
 
 /// A view lists a component, and no update of that component has the number and the value that it shows.

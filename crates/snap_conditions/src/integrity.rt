@@ -1,23 +1,24 @@
+//! The integrity faults of one view.
 ghost use Rattle.std.specs.Prelude.{◌≡◌, ◌<◌, ◌∷◌, [], List, Some, not, length};
 ghost use Rattle.std.specs.Bool.{then_some};
 ghost use Rattle.snap_core.specs.Calls.{Call as SpecCall, calls_of, shown, views_of};
 ghost use Rattle.snap_core.specs.Entries.{EntryFits};
 ghost use Rattle.snap_core.specs.Events.{IsBoundedHistory};
 ghost use Rattle.snap_core.specs.declared.event.Event.{Event};
-ghost use Rattle.snap_conditions.specs.ShownAndNext.{IsOfView};
+ghost use Rattle.snap_conditions.specs.inside.ShownAndNext.{IsOfView};
 ghost use Rattle.snap_theory.specs.Faults.{integrity_faults};
 ghost use Rattle.snap_conditions.specs.Parts.{part_of};
-ghost use Rattle.snap_conditions.specs.Places.{is_written as spec_is_written};
+ghost use Rattle.snap_conditions.specs.inside.Places.{is_written as spec_is_written};
 ghost use Rattle.snap_theory.specs.Updates.{update_of};
-ghost use Rattle.snap_conditions.specs.Seen.{IsSeen, view_in};
+ghost use Rattle.snap_views.specs.Seen.{IsSeen, view_in};
 ghost use Rattle.snap_conditions.specs.Tally.{reported_integrity};
 
 use crate::fault::IntegrityFault;
 use crate::part::Part;
-use crate::seen::SeenView;
 use crate::shown_and_next::ShownAndNext;
 use snap_core::Entry;
 use snap_index::Index;
+use snap_views::SeenView;
 
 // Whether an entry of a view is the number and the value of an update of its component.
 fn is_written(updates: &ShownAndNext<'_>, entry: Entry) -> bool

@@ -1,6 +1,6 @@
+//! Laws of tallies.
 ghost use Rattle.std.specs.Prelude.{List};
 ghost use Rattle.snap_core.specs.Calls.{Call};
-ghost use Rattle.snap_conditions.specs.Quick.{NoReadFaultExactly};
 ghost use Rattle.snap_conditions.specs.Laws.{TalliesJoin, TalliesFit, RegularByTally, ConditionsByTally, NoFaultByTally, MonotoneByTally};
 
 /// The tally of no view has no fault; that of two adjoining ranges is both merged, and their counts fit.
@@ -23,10 +23,4 @@ pub fn conditions_by_tally()
 /// A history is monotone exactly where the tally of all its completed views has no stale view.
 pub fn monotone_by_tally()
     ensures { MonotoneByTally }
-{}
-
-/// There is no read fault exactly where of any two completed views one shows no component above the other's, and none
-/// precedes one with a smaller sum.
-pub fn no_read_fault_by_sums()
-    ensures { NoReadFaultExactly }
 {}

@@ -1,4 +1,5 @@
-ghost use Rattle.std.specs.Prelude.{◌≡◌, ◌+◌, ◌<◌, ◌^◌, ◌↔◌, IsTrue, IsSome};
+//! How many faults of one kind there are, and the first of them.
+ghost use Rattle.std.specs.Prelude.{◌≡◌, ◌+◌, ◌<◌, ◌^◌, ◌↔◌, Some, IsTrue, IsSome};
 ghost use Rattle.snap_conditions.specs.Parts.{no_part, noted, merged_part};
 
 use std::marker::Model;
@@ -31,6 +32,17 @@ impl<F> Part<F> {
         Part {
             count: 0,
             first: None,
+        }
+    }
+
+    // So many faults, of which this is the first.
+    pub(crate) fn of(count: u64, first: F) -> Part<F>
+        requires { 0 < count }
+        ensures { result ≡ record { count = count; first = Some first } }
+    {
+        Part {
+            count,
+            first: Some(first),
         }
     }
 
@@ -74,18 +86,6 @@ impl<F: Copy> Part<F> {
         Part {
             count: self.count + second.count,
             first: self.first.or(second.first),
-        }
-    }
-
-    // As many faults, of which the first is the same.
-    pub(crate) fn counted(self, count: u64) -> Part<F>
-        requires some { 0 < self.count }
-        requires count { 0 < count }
-        ensures { result ≡ record { count = count; first = self.first } }
-    {
-        Part {
-            count,
-            first: self.first,
         }
     }
 }

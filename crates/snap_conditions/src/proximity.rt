@@ -1,19 +1,21 @@
+//! The proximity faults of one view.
 ghost use Rattle.std.specs.Prelude.{◌≡◌, ◌<◌, ◌∷◌, [], ◌||◌, List, length};
 ghost use Rattle.snap_core.specs.Calls.{Call as SpecCall, calls_of, views_of};
 ghost use Rattle.snap_core.specs.Events.{IsBoundedHistory};
 ghost use Rattle.snap_core.specs.declared.event.Event.{Event};
-ghost use Rattle.snap_conditions.specs.ShownAndNext.{IsOfView};
+ghost use Rattle.snap_conditions.specs.inside.ShownAndNext.{IsOfView};
 ghost use Rattle.snap_theory.specs.Faults.{proximity_faults, old_fault, early_fault};
-ghost use Rattle.snap_conditions.specs.Limits.{IsLimit};
+ghost use Rattle.snap_conditions.specs.inside.Limits.{IsLimit};
 ghost use Rattle.snap_conditions.specs.Parts.{part_of, found_at};
-ghost use Rattle.snap_conditions.specs.Seen.{IsSeen, view_in};
+ghost use Rattle.snap_views.specs.Seen.{IsSeen, view_in};
 ghost use Rattle.snap_conditions.specs.Tally.{reported_proximity};
 
 use crate::fault::{ProximityFault, Side};
 use crate::part::Part;
-use crate::seen::{SeenView, is_before};
 use crate::shown_and_next::ShownAndNext;
+use crate::updates::is_before;
 use snap_index::Index;
+use snap_views::SeenView;
 
 // The proximity fault of a view at component k.
 fn proximity_fault(view: &SeenView<'_>, updates: &ShownAndNext<'_>, k: u8) -> Option<ProximityFault>

@@ -1,21 +1,22 @@
+//! The tally of a range of views, by pairs of views.
 ghost use Rattle.std.specs.Prelude.{◌≡◌, ◌<◌, ◌≤◌, ◌-◌, ◌∷◌, [], length, take, drop};
 ghost use Rattle.snap_core.specs.Calls.{calls_of, views_of};
 ghost use Rattle.snap_core.specs.Events.{IsBoundedHistory};
-ghost use Rattle.snap_conditions.specs.ShownAndNext.{IsOfEntries};
-ghost use Rattle.snap_conditions.specs.Limits.{IsLimit};
-ghost use Rattle.snap_conditions.specs.Seen.{view_in};
+ghost use Rattle.snap_conditions.specs.inside.ShownAndNext.{IsOfEntries};
+ghost use Rattle.snap_conditions.specs.inside.Limits.{IsLimit};
+ghost use Rattle.snap_views.specs.Seen.{view_in};
 ghost use Rattle.snap_conditions.specs.Tally.{tally_of, without_read};
 
 use crate::integrity::integrity_part;
 use crate::part::Part;
 use crate::proximity::proximity_part;
 use crate::read::read_part;
-use crate::seen::view_at;
 use crate::shown_and_next::ShownAndNext;
 use crate::stale::stale_beside;
 use crate::tally::{Tally, merge};
 use crate::write::write_part;
 use snap_index::Index;
+use snap_views::view_at;
 
 // A component from which on no component has an update.
 fn component_limit(index: &Index<'_>) -> usize

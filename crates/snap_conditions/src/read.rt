@@ -1,19 +1,20 @@
+//! The read faults of one view.
 ghost use Rattle.std.specs.Prelude.{◌≡◌, ◌<◌, ◌∷◌, [], ◌+◌, ◌^◌, Some, IfSome, length, option_map};
 ghost use Rattle.snap_core.specs.Calls.{Call as SpecCall, calls_of, views_of};
 ghost use Rattle.snap_core.specs.Entries.{AreEntries};
 ghost use Rattle.snap_core.specs.Events.{IsBoundedHistory};
-ghost use Rattle.snap_conditions.specs.Rows.{AreNumbersOf};
-ghost use Rattle.snap_theory.specs.Faults.{read_faults, read_fault, first_of};
-ghost use Rattle.snap_conditions.specs.Grids.{faults_at};
+ghost use Rattle.snap_views.specs.Rows.{AreNumbersOf};
+ghost use Rattle.snap_theory.specs.Faults.{read_faults, read_fault};
 ghost use Rattle.snap_conditions.specs.Parts.{noted, part_of};
-ghost use Rattle.snap_conditions.specs.Seen.{IsSeen, view_in};
+ghost use Rattle.snap_views.specs.Seen.{AreViewPlaces, IsSeen, view_in, views_at};
 ghost use Rattle.snap_conditions.specs.Tally.{reported_read};
 
 use crate::fault::ReadFault;
 use crate::part::Part;
 use crate::row::Row;
-use crate::seen::{SeenView, is_before, view_at};
+use crate::updates::is_before;
 use snap_index::Index;
+use snap_views::{SeenView, view_at};
 
 // Whether a view, which has this row, and another are a read fault.
 fn is_read_fault(view: &SeenView<'_>, row: &Row, other: &SeenView<'_>) -> bool
@@ -24,6 +25,19 @@ fn is_read_fault(view: &SeenView<'_>, row: &Row, other: &SeenView<'_>) -> bool
 {
     let excess = row.compare(other.entries);
     excess.first && (excess.second || is_before(view.call.ended, other.call.begun))
+}
+
+// The read fault of a view, which has this row, and another: of the least component of which the first shows more.
+fn fault_of(view: &SeenView<'_>, row: &Row, other: &SeenView<'_>) -> ReadFault
+    requires row { AreNumbersOf view.now.entries.now row.now }
+    requires other { AreEntries other.now.entries.now }
+    ensures { (r s : SpecCall) → IsSeen r view.now → IsSeen s other.now → result ≡ reported_read (r, s) }
+{
+    ReadFault {
+        view: view.call_number,
+        other: other.call_number,
+        component: row.first_excess(other.entries).unwrap_or(0),
+    }
 }
 
 // The part with the read fault of a view, which has this row, and another behind the others. The component is looked for
@@ -41,11 +55,7 @@ fn note_fault(
 {
     let first = match part.first() {
         Some(first) => first,
-        None => ReadFault {
-            view: view.call_number,
-            other: other.call_number,
-            component: row.first_excess(other.entries).unwrap_or(0),
-        },
+        None => fault_of(view, row, other),
     };
     part.note(Some(first))
 }
@@ -68,20 +78,13 @@ pub(crate) fn read_part(index: &Index<'_>, place: u32) -> Part<ReadFault>
     part
 }
 
-// The first read fault whose first view is the one at a place, where it is known of which view that one is a read fault first.
-pub(crate) fn first_read_fault(
-    index: &Index<'_>,
-    place: u32,
-    other: Option<usize>,
-) -> Option<ReadFault>
-    requires place { place < length (views_of (calls_of index.now)) }
-    requires within { IfSome other (λ other. other < length (views_of (calls_of index.now))) }
-    requires first { option_map (view_in (calls_of index.now)) other ≡ first_of (faults_at (calls_of index.now) place) }
+// The read fault of the completed views at two places.
+pub(crate) fn read_fault_of(index: &Index<'_>, place: u32, other: u32) -> ReadFault
+    requires places { AreViewPlaces (calls_of index.now) (place, other) }
     requires kept { IsBoundedHistory index.now }
-    ensures { result ≡ option_map reported_read (first_of (read_faults (calls_of index.now) (view_in (calls_of index.now) place ∷ []))) }
+    ensures { result ≡ reported_read (views_at (calls_of index.now) (place, other)) }
 {
-    let other = view_at(index, other? as u32);
     let view = view_at(index, place);
-    let row = Row::of(view.entries);
-    note_fault(Part::none(), &view, &row, &other).first()
+    let other = view_at(index, other);
+    fault_of(&view, &Row::of(view.entries), &other)
 }

@@ -1,6 +1,8 @@
+//! The numbers that a view shows, in a row that other views are compared with.
 ghost use Rattle.std.specs.Prelude.{◌≡◌, ◌↔◌, IsTrue};
 ghost use Rattle.snap_core.specs.Entries.{AreEntries};
-ghost use Rattle.snap_conditions.specs.Rows.{AreNumbersOf, IsLessSomewhere, first_less, number_among, row_number};
+ghost use Rattle.snap_views.specs.Rows.{AreNumbersOf, IsLessSomewhere, number_among, row_number};
+ghost use Rattle.snap_conditions.specs.Rows.{first_less};
 
 use snap_core::{COMPONENT_COUNT, Entry};
 use std::marker::Model;

@@ -1,16 +1,18 @@
+//! The updates that a view shows and those after them, kept from view to view.
 ghost use Rattle.std.specs.Prelude.{◌≡◌, ◌≤◌, ◌<◌, ℕ, length, get_or};
 ghost use Rattle.snap_core.specs.Calls.{Call as SpecCall, calls_of};
 ghost use Rattle.snap_core.specs.Entries.{AreEntries};
 ghost use Rattle.snap_core.specs.Events.{IsBoundedHistory};
-ghost use Rattle.snap_conditions.specs.ShownAndNext.{IsOfEntries, IsOfView};
-ghost use Rattle.snap_conditions.specs.Limits.{IsLimit};
-ghost use Rattle.snap_conditions.specs.Places.{value_or_none as spec_value_or_none};
-ghost use Rattle.snap_conditions.specs.Seen.{IsSeen};
+ghost use Rattle.snap_conditions.specs.inside.ShownAndNext.{IsOfEntries, IsOfView};
+ghost use Rattle.snap_conditions.specs.inside.Limits.{IsLimit};
+ghost use Rattle.snap_conditions.specs.inside.Places.{value_or_none as spec_value_or_none};
+ghost use Rattle.snap_views.specs.Seen.{IsSeen};
 
 use crate::row::numbers_of;
-use crate::seen::{SeenView, begin_of_update, end_of_next, value_of_update};
+use crate::updates::{begin_of_update, end_of_next, value_of_update};
 use snap_core::{COMPONENT_COUNT, Entry, are_same};
 use snap_index::Index;
+use snap_views::SeenView;
 
 // A place behind all events.
 pub(crate) const NEVER: u32 = u32::MAX;

@@ -1,18 +1,20 @@
+//! The views that are stale to one view.
 ghost use Rattle.std.specs.Prelude.{◌≡◌, ◌<◌, ◌∷◌, [], length};
 ghost use Rattle.snap_core.specs.Calls.{Call as SpecCall, calls_of, views_of};
 ghost use Rattle.snap_core.specs.Entries.{AreEntries};
 ghost use Rattle.snap_core.specs.Events.{IsBoundedHistory};
 ghost use Rattle.snap_theory.specs.Faults.{is_stale as is_stale_view, read_faults, stale_count as stale_views};
 ghost use Rattle.snap_conditions.specs.Parts.{part_of};
-ghost use Rattle.snap_conditions.specs.Rows.{AreNumbersOf};
-ghost use Rattle.snap_conditions.specs.Seen.{IsSeen, view_in};
+ghost use Rattle.snap_views.specs.Rows.{AreNumbersOf};
+ghost use Rattle.snap_views.specs.Seen.{IsSeen, view_in};
 ghost use Rattle.snap_conditions.specs.Tally.{reported_read};
 
 use crate::fault::ReadFault;
 use crate::part::Part;
 use crate::row::Row;
-use crate::seen::{SeenView, is_before, view_at};
+use crate::updates::is_before;
 use snap_index::Index;
+use snap_views::{SeenView, view_at};
 
 // Whether a view, which has this row, precedes another and shows more of some component.
 fn is_stale(view: &SeenView<'_>, row: &Row, other: &SeenView<'_>) -> bool

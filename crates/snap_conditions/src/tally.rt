@@ -1,3 +1,4 @@
+//! Tallies: how two are merged, and the verdicts by one.
 ghost use Rattle.std.specs.Prelude.{◌≡◌, ◌↔◌, IsTrue};
 ghost use Rattle.snap_conditions.specs.Tally.{no_fault, merged, SumsFit, CountsNoLocalFault, CountsNoFault};
 

@@ -1,17 +1,15 @@
 //! The tally of all completed views, on the calling thread.
 ghost use Rattle.std.specs.Prelude.{◌≡◌, ◌↔◌, [], IfOk, IfSome, IsSome};
 ghost use Rattle.snap_core.specs.Calls.{calls_of, views_of};
-ghost use Rattle.snap_conditions.specs.Chains.{IsViewChain};
+ghost use Rattle.snap_views.specs.Chains.{IsViewChain};
 ghost use Rattle.snap_theory.specs.Faults.{read_faults};
 ghost use Rattle.snap_conditions.specs.Tally.{tally_of};
 
-use crate::comparison::{ViewOrder, view_order};
-use crate::quick_test::view_sums;
+use crate::by_grid::tally_by_grid;
 use crate::range::tally_without_read;
 use crate::tally::Tally;
-use crate::view_chain::ViewChain;
-use crate::view_grid::ViewGrid;
 use snap_index::Index;
+use snap_views::{ViewChain, ViewGrid, ViewOrder, view_order, view_sums};
 use std::alloc::{AllocError, Global};
 
 /// The tally of all completed views, and these as a chain exactly where no two of them are a read fault. Then no grid of the
@@ -30,19 +28,11 @@ pub fn tally_and_chain_alone(
         ViewOrder::Faultless(chain) => Ok((tally_without_read(index, 0, views), Some(chain))),
         ViewOrder::Comparable(chain) => {
             let grid = ViewGrid::of_chain(alloc, index, &chain)?;
-            Ok((grid.tally(alloc, 0, views)?, None))
+            Ok((tally_by_grid(alloc, &grid, 0, views)?, None))
         }
         ViewOrder::Crossing => {
             let grid = ViewGrid::build(alloc, index)?;
-            Ok((grid.tally(alloc, 0, views)?, None))
+            Ok((tally_by_grid(alloc, &grid, 0, views)?, None))
         }
     }
-}
-
-/// The tally of all completed views. The error is want of memory.
-pub fn tally_alone(alloc: Global, index: &Index<'_>) -> Result<Tally, AllocError>
-    ensures { IfOk result (λ tally. tally ≡ tally_of (calls_of index.now) (views_of (calls_of index.now))) }
-{
-    let (tally, _chain) = tally_and_chain_alone(alloc, index)?;
-    Ok(tally)
 }

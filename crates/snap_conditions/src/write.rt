@@ -1,24 +1,25 @@
+//! The write faults of one view.
 ghost use Rattle.std.specs.Prelude.{◌≡◌, ◌<◌, ◌∷◌, [], ◌≤◌, ℕ, suc, Some, length, get_or, nat_lt, count_by};
 ghost use Rattle.std.specs.List.{position_or_len};
 ghost use Rattle.snap_core.specs.Calls.{calls_of, views_of, shown_number};
 ghost use Rattle.snap_core.specs.Entries.{component_count};
 ghost use Rattle.snap_core.specs.Events.{IsBoundedHistory};
 ghost use Rattle.snap_core.specs.declared.entry.Entry.{Entry};
-ghost use Rattle.snap_conditions.specs.ShownAndNext.{IsOfView};
+ghost use Rattle.snap_conditions.specs.inside.ShownAndNext.{IsOfView};
 ghost use Rattle.snap_theory.specs.Faults.{write_faults, missed_at};
-ghost use Rattle.snap_conditions.specs.Limits.{IsLimit};
+ghost use Rattle.snap_conditions.specs.inside.Limits.{IsLimit};
 ghost use Rattle.snap_conditions.specs.Parts.{part_of};
-ghost use Rattle.snap_conditions.specs.Places.{end_of, begin_of_shown, begin_or_0};
+ghost use Rattle.snap_conditions.specs.inside.Places.{end_of, begin_of_shown, begin_or_0};
 ghost use Rattle.snap_theory.specs.Updates.{update_of};
-ghost use Rattle.snap_conditions.specs.Seen.{IsSeen, view_in};
+ghost use Rattle.snap_views.specs.Seen.{IsSeen, view_in};
 ghost use Rattle.snap_conditions.specs.Tally.{reported_write};
 
 use crate::fault::WriteFault;
 use crate::part::Part;
-use crate::seen::SeenView;
 use crate::shown_and_next::ShownAndNext;
 use snap_core::{COMPONENT_COUNT, Entry};
 use snap_index::Index;
+use snap_views::SeenView;
 
 // Where the updates that entries show begin, entry by entry: at place 0, where there is none, nothing begins behind an end.
 fn begins_of(updates: &ShownAndNext<'_>, entries: &[Entry]) -> [u32; COMPONENT_COUNT]
@@ -77,11 +78,10 @@ fn missed_part(
     requires begins { (i : ℕ) → i < length view.now.entries.now → get_or begins.now i 0 ≡ begin_or_0 (begin_of_shown (calls_of index.now) view.now.entries.now i) }
     ensures { result ≡ part_of reported_write (missed_at (calls_of index.now) (view_in (calls_of index.now) place) j) }
 {
-    let part = Part::none();
     let count = count_behind(begins, ended);
     let first = first_behind(begins, ended);
     if first == begins.len() {
-        return part;
+        return Part::none();
     }
     let entry = view.entries[first];
     let fault = WriteFault {
@@ -91,7 +91,7 @@ fn missed_part(
         shown_component: entry.component,
         shown_number: entry.number,
     };
-    part.note(Some(fault)).counted(count)
+    Part::of(count, fault)
 }
 
 // The write faults of the view at a place, where no component from a limit on has an update.

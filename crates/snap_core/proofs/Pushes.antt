@@ -88,9 +88,6 @@ last_is p o (e ∷ es) = go (process_of e == p) (last_is p (Some e) es) (last_is
 pub count_is : (p : ℕ) (es : List Event) → length (events_of p es) ≡ count_by (λ e. process_of e == p) es
 count_is p es = length-filter (λ e. process_of e == p) es
 
-open_odd : (p : ℕ) (es : List Event) → has_open p es ≡ true → length (events_of p es) % 2 ≡ 1
-open_odd p es h = ap (λ n. n % 2) (count_is p es) ∙ eqb-true (count_by (λ e. process_of e == p) es % 2) 1 h
-
 odd_open : (p : ℕ) (es : List Event) → length (events_of p es) % 2 ≡ 1 → has_open p es ≡ true
 odd_open p es h = eq-eqb (count_by (λ e. process_of e == p) es % 2) 1 (sym (ap (λ n. n % 2) (count_is p es)) ∙ h)
 

@@ -1,6 +1,6 @@
 -- What the tables say of a history, and of one with one event more.
 use Rattle.std.proofs.Common.{◌≡◌, ℕ, suc, ◌+◌, ◌%◌, Bool, true, false, cond, not, ◌&&◌, ◌||◌, List, [], ◌∷◌, ◌++◌, length, Option, Some, None, refl, sym, ap, ◌∙◌, arith}
-use Rattle.std.specs.Prelude.{◌==◌, is_some, slice_index_or}
+use Rattle.std.specs.Prelude.{◌==◌, is_some}
 use Rattle.std.specs.List.{count_by, list_any}
 use Rattle.std.proofs.lemmas.Bool.{eqb-true, not-false}
 use Rattle.std.proofs.lemmas.List.Folds.{list_any-append}
@@ -8,7 +8,7 @@ use Rattle.snap_core.specs.declared.tables.Tables.{Tables}
 use Rattle.snap_core.specs.declared.tables.Writer.{Writer}
 use Rattle.snap_core.specs.Events.{Event, BeginUpdate, BeginView, EndUpdate, EndView, process_of, IsBegin, Ends, TakeTurns, events_of, begins_update_of, EventFits}
 use Rattle.snap_core.specs.Refusals.{has_open, last_event, is_by_other, is_busy, is_idle, has_other_writer, has_other_number, is_begin, IsAccepted, refusal_of}
-use Rattle.snap_core.specs.Tables.{begun_by, begun_in, call_in, writer_in, count_in, is_written_by_other, Recalls, IsRecalled, writer_by}
+use Rattle.snap_core.specs.inside.Tables.{begun_by, begun_in, call_in, writer_in, count_in, is_written_by_other, Recalls, IsRecalled, writer_by}
 use Rattle.snap_core.proofs.Begun.{count-append}
 use Rattle.snap_core.proofs.Lists.{count-cons}
 use Rattle.snap_core.proofs.Picks.{accepted_none, kept_push}
@@ -58,13 +58,6 @@ pub idle_is : (t : Tables) (es : List Event) (e : Event) → IsRecalled t es →
 idle_is t es e r = ap (λ b. not (is_begin e) && not b) (open_is t es (process_of e) r)
 
 -- the tables of the history without events
-
-pub recalls_nil : (t : Tables) → t.calls.items ≡ [] → t.writers.items ≡ [] → Recalls t []
-recalls_nil t a b = record {
-  calls = λ p. ap (λ xs. slice_index_or xs p None) a;
-  counts = λ k. ap (λ xs. count_in (slice_index_or xs k None)) b;
-  writers = λ k p. ap (λ xs. is_written_by_other p (slice_index_or xs k None)) b;
-}
 
 -- tables that say the same
 

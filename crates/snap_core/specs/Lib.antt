@@ -5,9 +5,9 @@ pub mod Orders
 pub mod Regular
 pub mod Monotone
 pub mod Refusals
-pub mod Tables
 pub mod Laws
 pub mod Counting
 pub mod Sending
 pub mod Sums
 pub mod Limits
+pub mod inside

@@ -2,7 +2,7 @@
 ghost use Rattle.std.specs.Prelude.{◌≡◌};
 ghost use Rattle.snap_core.specs.Events.{process_of};
 ghost use Rattle.snap_core.specs.Refusals.{is_begin as spec_is_begin};
-ghost use Rattle.snap_core.specs.Tables.{begun_by};
+ghost use Rattle.snap_core.specs.inside.Tables.{begun_by};
 
 use crate::entry::Entry;
 use crate::view::View;

@@ -1,3 +1,4 @@
+//! Gates, at which workers may be held up.
 /// A place where workers may be held up. A gate changes no answer.
 pub trait Gate: Sync {
     /// The worker of this number comes to this turn, counted from 0. It goes on when the call returns.

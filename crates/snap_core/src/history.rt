@@ -62,7 +62,7 @@ impl Model for History {
 
     ghost Value = { List Event };
 
-    ghost use Rattle.snap_core.specs.Tables.{IsRecalled};
+    ghost use Rattle.snap_core.specs.inside.Tables.{IsRecalled};
 
     ghost view = { λ h. h.events.items };
 

@@ -2,7 +2,7 @@
 ghost use Rattle.std.specs.Prelude.{◌≡◌, ◌<◌, ℕ, List, [], OnOk, None, slice_index_or, vec_len, if◌then◌else◌, ◌==◌};
 ghost use Rattle.snap_core.specs.Events.{Event};
 ghost use Rattle.snap_core.specs.Refusals.{is_busy as spec_is_busy, is_idle as spec_is_idle, is_other as spec_is_other, has_other_writer as spec_has_other_writer, has_other_number as spec_has_other_number};
-ghost use Rattle.snap_core.specs.Tables.{ends_begun, HasRoom, call_in, IsRecalled, Recalls, writer_by, writer_in};
+ghost use Rattle.snap_core.specs.inside.Tables.{ends_begun, HasRoom, call_in, IsRecalled, Recalls, writer_by, writer_in};
 
 use crate::event::{Begun, Event};
 use std::alloc::{AllocError, Global};

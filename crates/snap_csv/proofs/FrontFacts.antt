@@ -6,7 +6,7 @@ use Rattle.std.proofs.lemmas.List.Elements.{All-tail}
 use Rattle.csv.specs.Machine.{next_record}
 use Rattle.csv.specs.Reading.{default_config, is_bom, records_from, strip_bom}
 use Rattle.csv.specs.declared.parser.State.TheVariants as st
-use Rattle.snap_csv.specs.Lines.{BeginsOtherwise, BeginsWith, EndsWith, EndsWithOthers, HasRows, IsPlain}
+use Rattle.snap_csv.specs.inside.Lines.{BeginsOtherwise, BeginsWith, EndsWith, EndsWithOthers, HasRows, IsPlain}
 use Rattle.snap_csv.specs.Layout.{is_header_row, is_stamped_header_row}
 use Rattle.snap_text.specs.Fields.{Fields}
 use Rattle.snap_csv.specs.Rows.{rows_of}

@@ -10,7 +10,7 @@ use Rattle.csv.specs.Reading.{default_config, records_from}
 use Rattle.csv.specs.declared.parser.State.{State}
 use Rattle.csv.specs.declared.parser.State.TheVariants as st
 use Rattle.csv.specs.declared.parser.Action.TheVariants as act
-use Rattle.snap_csv.specs.Lines.{EndsWith, EndsWithOthers, FieldGoesOn, FieldIsLast, HasRows, IsInner, IsPlain}
+use Rattle.snap_csv.specs.inside.Lines.{EndsWith, EndsWithOthers, FieldGoesOn, FieldIsLast, HasRows, IsInner, IsPlain}
 use Rattle.snap_text.specs.Fields.{Fields}
 use Rattle.snap_csv.proofs.RowFacts.{records_step, some_fuel}
 

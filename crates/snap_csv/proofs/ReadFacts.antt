@@ -18,7 +18,7 @@ use Rattle.snap_text.specs.Fields.{Fields, event_of, row_event}
 use Rattle.snap_csv.specs.Layout.{is_header_row, is_stamped_header_row}
 use Rattle.snap_csv.specs.Faults.{event_in, events_in, fault_with, fault_at, row_fault}
 use Rattle.snap_csv.specs.Texts.{RowsFault}
-use Rattle.snap_csv.specs.Answers.{AnswersNumbered, AnswersStamps, FailsEvent, RefusesRow, RefusesRows, RefusesStamps, TakesEvent, TakesRow}
+use Rattle.snap_csv.specs.inside.Answers.{AnswersNumbered, AnswersStamps, FailsEvent, RefusesRow, RefusesRows, RefusesStamps, TakesEvent, TakesRow}
 
 -- what is left to be read is the records from place i under the header on, and the history is that of those before it
 pub record Midway (limit : ℕ) (rows : List Fields) (Left : List Fields → Type 0) (events : List Event) (i : ℕ) : Type 0 where

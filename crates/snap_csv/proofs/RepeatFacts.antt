@@ -24,7 +24,7 @@ use Rattle.snap_csv.specs.declared.refusal.ReadRefusal.TheVariants as refusals
 use Rattle.snap_csv.specs.declared.stamped.Stamped.{Stamped}
 use Rattle.snap_text.specs.Fields.{Fields}
 use Rattle.snap_csv.specs.Stamps.{NoneOf, nothing, places_of, repeat_fault, shape_at, shape_fault, stamped_from, stamped_in, stamped_row, stamps_of}
-use Rattle.snap_csv.specs.Answers.{FirstRecords, FirstRepeat, HasSeen, ReadsStamped, RefusesStamps, repeats_at}
+use Rattle.snap_csv.specs.inside.Answers.{FirstRecords, FirstRepeat, HasSeen, ReadsStamped, RefusesStamps, repeats_at}
 use Rattle.snap_csv.proofs.StampOnce.{one_by_key}
 
 -- ---- a sort

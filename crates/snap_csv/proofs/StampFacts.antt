@@ -6,7 +6,7 @@ use Rattle.std.specs.List.Sorted.{IsPermutation, IsStrictlyIncreasing}
 use borrow.Author.Count.{below_more}
 use Rattle.std.proofs.lemmas.Bool.{cases_lt, le-leb}
 use Rattle.std.proofs.lemmas.Bool.Decides.{nat_tests}
-use Rattle.std.proofs.lemmas.List.{drop_all, get_or_append_left, length-append, length-drop, map-append, take_all}
+use Rattle.std.proofs.lemmas.List.{drop_all, get_or_append_left, length-append, length-drop, map-append}
 use Rattle.std.proofs.Math.Seq.{drop-cons, get_or-append_seam, take-suc}
 use Rattle.snap_core.specs.declared.event.Event.{Event}
 use Rattle.snap_text.specs.declared.fault.TextFault.{TextFault}
@@ -16,7 +16,7 @@ use Rattle.snap_csv.specs.declared.refusal.ReadRefusal.TheVariants as refusals
 use Rattle.snap_csv.specs.declared.stamped.Stamped.{Stamped}
 use Rattle.snap_text.specs.Fields.{Fields, event_of, number_at}
 use Rattle.snap_csv.specs.Stamps.{InOrder, NoneOf, events_of, nothing, order_at, places_of, repeat_fault, shape_at, shape_fault, stamped_in, stamped_row, stamps_of}
-use Rattle.snap_csv.specs.Answers.{AnswersStamps, FailsEvent, FirstRecords, IsRecord, ReadsStamped, RefusesNext, RefusesStamped, RefusesStamps, RefusesTurns, TakesEvent, TakesStamped, TakesTurns}
+use Rattle.snap_csv.specs.inside.Answers.{AnswersStamps, FailsEvent, FirstRecords, IsRecord, ReadsStamped, RefusesNext, RefusesStamped, RefusesStamps, RefusesTurns, TakesEvent, TakesStamped, TakesTurns}
 use Rattle.snap_csv.proofs.ReadFacts.{at_drop, full_fails}
 
 -- ---- one record
@@ -143,15 +143,6 @@ turn_drop xs i y rest e = elim (cases_lt i (length xs)) [
       (lt, cc, next)
   | inr le ↦ let none = drop_all i xs le in absurd (cc)
 ]
-
-pub turns_begun : (xs : List Stamped) (events : List Event) → events ≡ [] → MidTurns xs xs events
-turns_begun xs events none = rw none (record { within = omega arith; left_is = refl; history = refl; fine = λ j lt. absurd (omega arith) })
-
-pub turns_done : (xs left : List Stamped) (events : List Event) → MidTurns xs left events → left ≡ [] → NoneOf (order_at xs) (length xs) × (events ≡ events_of xs)
-turns_done xs left events m e =
-    let len : length xs ≤ length events = omega (arith, length-drop (length events) xs, ap length (sym m.left_is ∙ e)) in
-    let all : take (length events) xs ≡ xs = take_all (length events) xs len in
-    (λ j lt. m.fine j (omega arith), m.history ∙ ap events_of all)
 
 pub turns_stopped : (xs left rest : List Stamped) (events : List Event) (y : Stamped) (place : ℕ) (x : Event) (e : ReadRefusal) → MidTurns xs left events → left ≡ y ∷ rest → y.place ≡ place → y.event ≡ x
     → TakesEvent place events events x (Err e) → RefusesTurns xs e

@@ -1,5 +1,4 @@
 pub mod Rows
-pub mod Lines
 pub mod Layout
 pub mod Faults
 pub mod Stamps
@@ -8,3 +7,4 @@ pub mod Records
 pub mod Answers
 pub mod Writing
 pub mod Laws
+pub mod inside

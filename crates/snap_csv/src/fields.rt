@@ -1,8 +1,9 @@
+//! The fields of one record, and the events that they spell.
 ghost use Rattle.std.specs.Prelude.{◌≡◌, ◌≢◌, ◌∷◌, [], length, MatchOption, Ok, Err, Some, None};
 ghost use Rattle.csv.specs.Records.{fields_of};
 ghost use Rattle.snap_text.specs.Fields.{event_of};
 ghost use Rattle.snap_csv.specs.Layout.{is_header_row, is_stamped_header_row};
-ghost use Rattle.snap_csv.specs.Answers.{GivesEvent};
+ghost use Rattle.snap_csv.specs.inside.Answers.{GivesEvent};
 
 use crate::refusal::ReadRefusal;
 use csv::ByteRecord;

@@ -1,9 +1,11 @@
+//! The whole text of a reader, read straight into the memory that keeps it.
 ghost use Rattle.std.specs.Prelude.{◌≡◌, ◌≤◌, ◌<◌, ◌↔◌, IfOk, IsTrue, All, OnOk, drop, is_err, length, take};
 ghost use Rattle.std.specs.Io.{ReadsAtMost};
 ghost use Rattle.std.specs.Io.KnownBytes.{ReadConsumes};
 ghost use Rattle.snap_core.specs.Counting.{counted, inner_of, failures_in};
-ghost use Rattle.snap_csv.specs.Answers.{Counts, TakesIn};
-ghost use Rattle.snap_csv.specs.Lines.{IsPlain};
+ghost use Rattle.snap_csv.specs.Answers.{Counts};
+ghost use Rattle.snap_csv.specs.inside.Answers.{TakesIn};
+ghost use Rattle.snap_csv.specs.inside.Lines.{IsPlain};
 ghost use Rattle.snap_core.specs.Events.{event_cap};
 ghost use Rattle.snap_csv.specs.Texts.{bytes_within};
 

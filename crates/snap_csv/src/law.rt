@@ -1,3 +1,4 @@
+//! Laws of texts.
 ghost use Rattle.snap_csv.specs.Laws.{HeadersDiffer, NarrowTextsAreShort, RecordsSpellEvents, StampedTextsReadBack, TextsAreShort, TextsHaveNoFault, TextsHaveOneFault, TextsHaveOneReading, TextsReadBack};
 
 /// The text of a history has no fault and is that of this history, within every limit of events and its limit of bytes.

@@ -1,10 +1,10 @@
 //! Histories in plain texts. Without quotes and carriage returns a record is a line and a field ends at a comma, so that such a
 //! text is cut by a search for these two marks. Any other text is read byte by byte, by `csv`.
 ghost use Rattle.std.specs.Prelude.{◌≡◌, ◌≢◌, ◌↔◌, ◌<◌, ◌≤◌, take, drop, ◌∷◌, ◌++◌, [], List, ℕ, true, All, IsTrue, MatchOption, get_or, length};
-ghost use Rattle.snap_csv.specs.Answers.{AnswersNumbered, AnswersStamps, ReadsStamped};
+ghost use Rattle.snap_csv.specs.inside.Answers.{AnswersNumbered, AnswersStamps, ReadsStamped};
 ghost use Rattle.csv.specs.Reading.{strip_bom};
 ghost use Rattle.snap_csv.specs.Layout.{is_header_row, is_stamped_header_row};
-ghost use Rattle.snap_csv.specs.Lines.{BeginsOtherwise, BeginsWith, EndsField, EndsWith, EndsWithOthers, FieldGoesOn, FieldIsLast, HasRows, IsInner, IsPlain};
+ghost use Rattle.snap_csv.specs.inside.Lines.{BeginsOtherwise, BeginsWith, EndsField, EndsWith, EndsWithOthers, FieldGoesOn, FieldIsLast, HasRows, IsInner, IsPlain};
 ghost use Rattle.snap_text.specs.Fields.{Fields};
 ghost use Rattle.snap_csv.specs.Rows.{rows_of};
 

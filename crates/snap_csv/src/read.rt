@@ -1,9 +1,11 @@
+//! The history of a text, or the first fault.
 ghost use Rattle.std.specs.Prelude.{◌≡◌, ◌≤◌, ◌+◌, ◌∷◌, [], All, IfSome, IsTrue};
 ghost use Rattle.snap_core.specs.Counting.{inner_of, failures_in};
 ghost use Rattle.snap_core.specs.Events.{event_cap};
-ghost use Rattle.snap_csv.specs.Answers.{AnswersNumbered, AnswersRows, AnswersText, AnswersTextWithin, AnswersWhole, AnswersWholeWithin, Counts, Leaves, TakesEvent, TakesRow};
+ghost use Rattle.snap_csv.specs.inside.Answers.{AnswersNumbered, AnswersRows, TakesEvent, TakesRow};
+ghost use Rattle.snap_csv.specs.Answers.{AnswersText, AnswersTextWithin, AnswersWhole, AnswersWholeWithin, Counts, Leaves};
 ghost use Rattle.snap_csv.specs.Faults.{fault_of};
-ghost use Rattle.snap_csv.specs.Lines.{IsPlain};
+ghost use Rattle.snap_csv.specs.inside.Lines.{IsPlain};
 ghost use Rattle.snap_csv.specs.Rows.{rows_of};
 ghost use Rattle.csv.specs.Records.{fields_of};
 

@@ -1,3 +1,4 @@
+//! Histories with the numbers of their records, and records by number.
 ghost use Rattle.std.specs.Prelude.{◌≡◌, ◌≤◌, IfOk, IfSome, length, map, option_map};
 ghost use Rattle.std.specs.List.{range_with_len};
 ghost use Rattle.csv.specs.Records.{fields_of};

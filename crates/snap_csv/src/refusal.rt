@@ -1,3 +1,4 @@
+//! Why a text was not read, or not written.
 ghost use Rattle.std.specs.Prelude.{◌≡◌};
 ghost use Rattle.snap_csv.specs.declared.refusal.ReadRefusal.TheVariants as read;
 ghost use Rattle.snap_csv.specs.declared.refusal.WriteRefusal.TheVariants as write;

@@ -4,7 +4,7 @@ ghost use Rattle.std.specs.Prelude.{◌≡◌, ◌==◌, ◌↔◌, List, ℕ, I
 ghost use Rattle.std.specs.List.{IsDistinct};
 ghost use Rattle.std.specs.List.Sorted.{IsNonDecreasingBy, IsPermutation, IsStrictlyIncreasing};
 ghost use Rattle.snap_csv.specs.declared.stamped.Stamped.{Stamped};
-ghost use Rattle.snap_csv.specs.Answers.{FirstRepeat};
+ghost use Rattle.snap_csv.specs.inside.Answers.{FirstRepeat};
 ghost use Rattle.snap_csv.specs.Stamps.{places_of, stamps_of};
 
 use crate::stamped::Stamped;

@@ -1,6 +1,7 @@
+//! Histories in texts whose records have stamps.
 ghost use Rattle.std.specs.Prelude.{◌≡◌, ◌∷◌, [], List, ℕ, IfOk};
 ghost use Rattle.csv.specs.Records.{fields_of};
-ghost use Rattle.snap_csv.specs.Answers.{AnswersStamps, ReadsStamped, TakesStamped, TakesTurns};
+ghost use Rattle.snap_csv.specs.inside.Answers.{AnswersStamps, ReadsStamped, TakesStamped, TakesTurns};
 ghost use Rattle.snap_text.specs.Fields.{Fields};
 ghost use Rattle.snap_csv.specs.Rows.{Stands};
 ghost use Rattle.snap_csv.specs.Stamps.{places_of};

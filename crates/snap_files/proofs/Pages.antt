@@ -14,7 +14,8 @@ use Rattle.std.proofs.lemmas.List.Concat.{flat_map-append}
 use Rattle.std.proofs.lemmas.Slice.Zip.{all_zipped_more}
 use Rattle.snap_core.specs.Sending.{CountsSend, Sends, SendsFront}
 use Rattle.snap_files.specs.declared.format.FileOptions.{FileOptions}
-use Rattle.snap_files.specs.Files.{Answer, AreAnswered, ArePages, ChecksAll, ChecksSome, IsPage, Opens, Page, Told, WritesAll, answer_code, greatest_code, paged, told_text, written}
+use Rattle.snap_files.specs.Files.{Answer, ArePages, ChecksAll, ChecksSome, IsPage, Opens, Page, Told, answer_code, greatest_code, told_text, written}
+use Rattle.snap_files.specs.inside.Files.{AreAnswered, WritesAll, paged}
 
 greatest_push : (pages : List Page) (page : Page) → greatest_code (pages ++ page ∷ []) ≡ max (answer_code page.answer) (greatest_code pages)
 greatest_push [] page = refl

@@ -9,8 +9,10 @@ use Rattle.std.proofs.lemmas.List.Sums.{sum_by-append}
 use Rattle.std.proofs.lemmas.List.Concat.{flat_map-append}
 use Rattle.snap_files.specs.declared.format.FileOptions.{FileOptions}
 use Rattle.snap_files.specs.declared.sums.Sums.{Sums}
-use Rattle.snap_files.specs.Files.{Answer, AreAnswered, ArePages, Opens, Page, Told, answer_code, greatest_code, paged, said, told_text}
-use Rattle.snap_files.specs.Sums.{AreSums, IsFirst, Judged, counting, greatest_of, has_code, judged_of, with_code}
+use Rattle.snap_files.specs.Files.{Answer, ArePages, Opens, Page, Told, answer_code, greatest_code, said, told_text}
+use Rattle.snap_files.specs.inside.Files.{AreAnswered, paged}
+use Rattle.snap_files.specs.inside.Sums.{AreSums, IsFirst, greatest_of}
+use Rattle.snap_files.specs.Sums.{Judged, counting, has_code, judged_of, with_code}
 use Rattle.snap_files.proofs.Pages.{are_pages, flat_push, page_of, paged_next, round_joined, told_more, zip_append}
 use Rattle.snap_core.specs.declared.limit.Limit.{Limit}
 

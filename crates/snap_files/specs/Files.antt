@@ -6,7 +6,6 @@ use Rattle.std.specs.List.{AllZip}
 use Rattle.std.specs.Io.KnownBytes.{Appends}
 use Rattle.snap_core.specs.Sending.{SendsFront}
 use Rattle.snap_check.specs.declared.options.CheckOptions.{CheckOptions}
-use Rattle.snap_check.specs.declared.fault.RunFault.{RunFault}
 use Rattle.snap_check.specs.declared.fault.RunFault.TheVariants as faults
 use Rattle.snap_check.specs.Options.{IsReportWith}
 use Rattle.snap_verdict.specs.declared.status.Status.{Status}
@@ -57,12 +56,6 @@ answer_code (Ok (Some status)) = code_of status
 answer_code (Ok None) = 3
 answer_code (Err trouble) = 4
 
--- why a text that was opened has no status, by the fault of its check; what fails there as a write is in memory
-abbrev pub trouble_by : RunFault → Trouble
-trouble_by faults.Read = Unread
-trouble_by faults.Write = Memory
-trouble_by faults.Memory = Memory
-
 -- a trouble in words
 abbrev pub trouble_text : Trouble → List ℕ
 trouble_text Missing = codes "no such file"
@@ -83,10 +76,6 @@ abbrev pub IsPage : Opens → FileOptions → List ℕ → Answer → List ℕ �
 IsPage opens options name (Ok status) out =
     (known : Option (List ℕ)) × opens name (Ok known) × IfSome known (λ text. IsTextPage options.format options.check name text status out)
 IsPage opens options name (Err trouble) out = (met : Trouble) × IsTroubled opens name met × IsTroublePage options.format name met trouble out
-
--- what is answered and written of each of some names, in the order of the names
-abbrev pub AreAnswered : Opens → FileOptions → List (Vec ℕ) → List (Answer × Vec ℕ) → Type 0
-AreAnswered opens options names pages = AllZip (λ name page. IsPage opens options (name.items) page.0 page.1.items) names pages
 
 -- what is said of a name with a trouble, and of one whose history has fewer views than are asked for
 abbrev pub trouble_line_text : List ℕ → Trouble → List ℕ
@@ -112,12 +101,6 @@ pub record Page : Type 0 where
   pub answer : Answer
   pub out : List ℕ
 
--- the names with what is answered and written of each
-abbrev pub paged : List (Vec ℕ) → List (Answer × Vec ℕ) → List Page
-paged [] pages = []
-paged (name ∷ names) [] = []
-paged (name ∷ names) (page ∷ pages) = record { name = name.items; answer = page.0; out = page.1.items } ∷ paged names pages
-
 -- the pages of some names, in the order of the names, each name once
 abbrev pub ArePages : Opens → FileOptions → List (Vec ℕ) → List Page → Type 0
 ArePages opens options names pages = AllZip (λ name page. (page.name ≡ name.items) × IsPage opens options page.name page.answer page.out) names pages
@@ -133,12 +116,6 @@ said options pages = flat_map (λ page. told_text options page.name page.answer)
 abbrev pub greatest_code : List Page → ℕ
 greatest_code [] = 0
 greatest_code (page ∷ pages) = max (answer_code page.answer) (greatest_code pages)
-
--- some pages were written: the greatest status, what was written, and what was said
-pub record WritesAll (options : FileOptions) (pages : List Page) (old new : Option (List ℕ)) (told_old told_new : Option (List ℕ)) (failures_old failures_new : ℕ) (code : ℕ) : Type 0 where
-  pub greatest : code ≡ greatest_code pages
-  pub wrote : Appends old new (written pages)
-  pub told : Told told_old told_new failures_old failures_new (said options pages)
 
 -- the names were all checked: the greatest status, what was written, and what was said
 pub record ChecksAll (opens : Opens) (options : FileOptions) (names : List (Vec ℕ)) (old new : Option (List ℕ)) (told_old told_new : Option (List ℕ)) (failures_old failures_new : ℕ) (code : ℕ) : Type 0 where

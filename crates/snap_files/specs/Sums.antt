@@ -1,5 +1,5 @@
 -- How many files have each status, and which is the first of them.
-use Rattle.std.specs.Prelude.{◌≡◌, ◌==◌, ◌++◌, ◌⊎◌, ℕ, Bool, true, max, List, [], ◌∷◌, length, map, Option, Some, None, codes, count_by, decimal, find, slice_get}
+use Rattle.std.specs.Prelude.{◌≡◌, ◌==◌, ◌++◌, ◌⊎◌, ℕ, Bool, true, List, [], length, map, Option, Some, None, codes, count_by, decimal, find}
 use Rattle.std.specs.Global.{Vec}
 use Rattle.std.specs.Io.KnownBytes.{Appends}
 use Rattle.snap_core.specs.Sending.{SendsFront}
@@ -8,8 +8,6 @@ use Rattle.snap_files.specs.Names.{shown}
 use Rattle.snap_files.specs.Files.{ArePages, Opens, Page, Told, answer_code, greatest_code, said}
 use Rattle.snap_files.specs.declared.format.FileOptions.{FileOptions}
 use Rattle.snap_files.specs.declared.format.Format.TheVariants.{Plain}
-use Rattle.snap_files.specs.declared.sums.Kind.{Kind}
-use Rattle.snap_files.specs.declared.sums.Sums.{Sums}
 
 -- a name with its exit status
 pub record Judged : Type 0 where
@@ -26,11 +24,6 @@ judged_of pages = map (λ page. with_code page.name (answer_code page.answer)) p
 abbrev pub has_code : ℕ → Judged → Bool
 has_code code file = file.code == code
 
--- the greatest exit status
-abbrev pub greatest_of : List Judged → ℕ
-greatest_of [] = 0
-greatest_of (file ∷ files) = max file.code (greatest_of files)
-
 -- what is shown of the first file of a kind
 abbrev pub first_text : Option Judged → List ℕ
 first_text None = []
@@ -45,26 +38,6 @@ abbrev pub sums_text : List Judged → List ℕ
 sums_text files =
     codes "files " ++ decimal (length files) ++ codes "\n" ++ kind_text (codes "atomic ") 0 files ++ kind_text (codes "only-regular ") 1 files
     ++ kind_text (codes "not-regular ") 2 files ++ kind_text (codes "refused ") 3 files ++ kind_text (codes "failed ") 4 files
-
--- the place of the first file that has this status, if there is one
-abbrev pub IsFirst : ℕ → List Judged → Option ℕ → Type 0
-IsFirst code files None = find (has_code code) files ≡ None
-IsFirst code files (Some place) = (first : Judged) × (find (has_code code) files ≡ Some first) × (slice_get files place ≡ Some first)
-
--- how many files have the status of a kind, and the first of them
-pub record IsKind (code : ℕ) (files : List Judged) (kind : Kind) : Type 0 where
-  pub code_is : kind.code ≡ code
-  pub counts : kind.files ≡ count_by (has_code code) files
-  pub first : IsFirst code files kind.first
-
-pub record AreSums (files : List Judged) (sums : Sums) : Type 0 where
-  pub counts : sums.files ≡ length files
-  pub greatest : sums.greatest ≡ greatest_of files
-  pub atomic : IsKind 0 files sums.atomic
-  pub only_regular : IsKind 1 files sums.only_regular
-  pub not_regular : IsKind 2 files sums.not_regular
-  pub refused : IsKind 3 files sums.refused
-  pub failed : IsKind 4 files sums.failed
 
 -- what is asked of each text of which only the status is counted
 abbrev pub counting : Limit → ℕ → FileOptions

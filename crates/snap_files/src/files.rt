@@ -2,7 +2,8 @@
 ghost use Rattle.std.specs.Prelude.{◌≡◌, IfOk, IfErr, length};
 ghost use Rattle.snap_core.specs.Counting.{failures_in, inner_of};
 ghost use Rattle.snap_core.specs.Sending.{SendsFront};
-ghost use Rattle.snap_files.specs.Files.{ChecksAll, ChecksSome, WritesAll, paged, written};
+ghost use Rattle.snap_files.specs.Files.{ChecksAll, ChecksSome, written};
+ghost use Rattle.snap_files.specs.inside.Files.{WritesAll, paged};
 ghost use Rattle.snap_check.specs.Runs.{RunCounts};
 
 use crate::format::FileOptions;

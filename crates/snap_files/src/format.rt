@@ -1,3 +1,4 @@
+//! What a check of several texts is asked for.
 use snap_check::CheckOptions;
 
 /// In which form the answer on a text is written.

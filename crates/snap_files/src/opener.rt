@@ -1,3 +1,4 @@
+//! Who opens a text by its name, and why a name has no status.
 ghost use Rattle.std.specs.Prelude.{ℕ, List, Option, Result, Ok, Err, MatchResult};
 
 use std::io::Read;

@@ -2,7 +2,8 @@
 ghost use Rattle.std.specs.Prelude.{◌≡◌, ◌++◌, ◌⊎◌, IfOk, IfSome, MatchResult, Ok, Err, string_bytes};
 ghost use Rattle.snap_json.specs.Objects.{trouble_json};
 ghost use Rattle.snap_json.specs.Values.{IsLineOf};
-ghost use Rattle.snap_files.specs.Files.{IsNamedReport, IsObject, IsPage, IsTextPage, IsTroublePage, answer_code, object_name, refusal_line_text, told_text, trouble_by, trouble_line_text, trouble_text};
+ghost use Rattle.snap_files.specs.Files.{IsNamedReport, IsObject, IsPage, IsTextPage, IsTroublePage, answer_code, object_name, refusal_line_text, told_text, trouble_line_text, trouble_text};
+ghost use Rattle.snap_files.specs.inside.Files.{trouble_by};
 ghost use Rattle.snap_files.specs.Names.{named_lines};
 ghost use Rattle.snap_files.specs.declared.opener.Trouble.TheVariants as troubles;
 

@@ -1,6 +1,6 @@
 //! Rounds of names: the workers judge the texts of a round side by side, and memory holds the reports of one round.
 ghost use Rattle.std.specs.Prelude.{◌≡◌, ◌≤◌, ◌<◌, ◌+◌, ◌-◌, ◌*◌, IfOk, length, min, take, drop};
-ghost use Rattle.snap_files.specs.Files.{AreAnswered};
+ghost use Rattle.snap_files.specs.inside.Files.{AreAnswered};
 
 use crate::format::FileOptions;
 use crate::opener::Opener;

@@ -2,8 +2,10 @@
 ghost use Rattle.std.specs.Prelude.{◌≡◌, ◌++◌, ◌+◌, ◌<◌, ◌^◌, List, IfErr, IfOk, OnOk, length};
 ghost use Rattle.snap_core.specs.Counting.{failures_in, inner_of};
 ghost use Rattle.snap_check.specs.Runs.{RunCounts};
-ghost use Rattle.snap_files.specs.Files.{Told, paged, said};
-ghost use Rattle.snap_files.specs.Sums.{AreSums, Judged, SumsAll, SumsSome, counting, judged_of};
+ghost use Rattle.snap_files.specs.Files.{Told, said};
+ghost use Rattle.snap_files.specs.inside.Files.{paged};
+ghost use Rattle.snap_files.specs.inside.Sums.{AreSums};
+ghost use Rattle.snap_files.specs.Sums.{Judged, SumsAll, SumsSome, counting, judged_of};
 
 use crate::format::{FileOptions, Format};
 use crate::opener::Opener;

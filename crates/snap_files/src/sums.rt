@@ -1,6 +1,7 @@
 //! How many files have each exit status, and the first of them.
 ghost use Rattle.std.specs.Prelude.{◌≡◌, ◌++◌, ◌+◌, ◌<◌, ◌^◌, ◌∷◌, [], ℕ, List, IfOk, OnOk, find, map, length, vec_items};
-ghost use Rattle.snap_files.specs.Sums.{AreSums, IsFirst, IsKind, Judged, first_text, greatest_of, has_code, kind_text, sums_text, with_code};
+ghost use Rattle.snap_files.specs.inside.Sums.{AreSums, IsFirst, IsKind, greatest_of};
+ghost use Rattle.snap_files.specs.Sums.{Judged, first_text, has_code, kind_text, sums_text, with_code};
 
 use crate::name::put_shown;
 use snap_report::put_number;

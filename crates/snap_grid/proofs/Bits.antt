@@ -11,7 +11,7 @@ use Rattle.std.proofs.lemmas.Grind.{pow_more}
 use Rattle.std.proofs.lemmas.Bool.{cases_lt, cases_order, lt-ltb, le-ltb, eq-eqb, ne_eqb}
 use Rattle.std.proofs.lemmas.List.{length-map, length-take}
 use Rattle.std.proofs.lemmas.List.FromFn.{length-range_with_len, get_or-range_with_len}
-use Rattle.snap_grid.specs.Masks.{mask_by, mask_below}
+use Rattle.snap_grid.specs.inside.Masks.{mask_by, mask_below}
 
 -- the bit of a place
 pub bit_by : (p : ℕ → Bool) (xs : List ℕ) (i : ℕ) → i < length xs → bit_at (mask_by p xs) i ≡ cond (p (get_or xs i 0)) 1 0

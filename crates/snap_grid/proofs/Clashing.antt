@@ -11,8 +11,8 @@ use Rattle.std.proofs.lemmas.List.Folds.{list_any-append, find-append}
 use Rattle.std.specs.Option.{is_some, option_or}
 use Rattle.std.proofs.lemmas.List.FromFn.{length-range_with_len}
 use Rattle.snap_grid.specs.Columns.{GridValue, number, any_passes, clashes, clash_count, drops, drop_count, has_clash, rows_of}
-use Rattle.snap_grid.specs.Masks.{mask_by, mask_below}
-use Rattle.snap_grid.specs.Clashes.{AreApart, ClashesWith, pair_count}
+use Rattle.snap_grid.specs.inside.Masks.{mask_by, mask_below}
+use Rattle.snap_grid.specs.inside.Clashes.{AreApart, ClashesWith, pair_count}
 use Rattle.snap_grid.proofs.Bits.{bit_by, bit_past, bit_below, bit_not_below, mask_from_bits, ones_below}
 use Rattle.snap_grid.proofs.Passing.{row_at, row_count}
 use Rattle.snap_grid.specs.Limits.{row_limit}

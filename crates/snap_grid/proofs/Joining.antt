@@ -5,7 +5,7 @@ use Rattle.std.proofs.lemmas.List.{get_or_append_left, length-append}
 use Rattle.std.proofs.lemmas.List.Sums.{sum_by-append, sum_by-cons, sum_by-set, get_or-le-sum_by}
 use Rattle.std.proofs.Math.Seq.{get_or-append_seam}
 use Rattle.snap_grid.specs.declared.kind.Kind.{Kind}
-use Rattle.snap_grid.specs.Kinds.{AreAlike, AreKinds}
+use Rattle.snap_grid.specs.inside.Kinds.{AreAlike, AreKinds}
 use Rattle.snap_grid.proofs.Clashing.{sum_more, sum_small}
 
 -- what holds of each element, and of one more

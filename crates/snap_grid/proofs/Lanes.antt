@@ -12,7 +12,7 @@ use Rattle.std.proofs.Math.Pow.{pow-lt}
 use Rattle.std.proofs.lemmas.Nat.{or_lt, xor_lt}
 use lib.Count.{ones_step, ones-le}
 use Rattle.std.proofs.lemmas.Bool.{cases_lt, cases_eq}
-use Rattle.snap_grid.specs.Masks.{number_of_lanes, AreLanes}
+use Rattle.snap_grid.specs.inside.Masks.{number_of_lanes, AreLanes}
 
 -- the first lane stands lowest
 joined : (x : ℕ) (xs : List ℕ) → number_of_lanes (x ∷ xs) ≡ number_of_lanes xs * 2 ^ 64 + x

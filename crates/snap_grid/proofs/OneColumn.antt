@@ -6,7 +6,7 @@ use Rattle.std.specs.List.{count_by, list_any}
 use Rattle.std.proofs.lemmas.Bool.{cases_lt, lt-ltb, le-ltb}
 use Rattle.std.proofs.lemmas.List.Sums.{sum_by-cons}
 use Rattle.snap_grid.specs.Columns.{GridValue, any_passes, clash_count, clashes, drop_count, drops, has_clash, number, passes, rows_of}
-use Rattle.snap_grid.specs.Sweeps.{AreDropsOfOne}
+use Rattle.snap_grid.specs.inside.Sweeps.{AreDropsOfOne}
 use Rattle.snap_grid.proofs.Passing.{row_at, row_count}
 use Rattle.snap_grid.proofs.Sweeps.{count_same}
 

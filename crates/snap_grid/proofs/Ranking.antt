@@ -8,8 +8,8 @@ use Rattle.std.proofs.lemmas.List.{get_or_default}
 use Rattle.std.proofs.lemmas.List.Elements.{Contains-get_or}
 use Rattle.std.proofs.lemmas.List.Kept.{AllPairs-from_increasing}
 use Rattle.snap_grid.specs.Columns.{IsOrderedAs}
-use Rattle.snap_grid.specs.Masks.{mask_by}
-use Rattle.snap_grid.specs.Ranked.{IsRank, AreDistinct, AreRanks}
+use Rattle.snap_grid.specs.inside.Masks.{mask_by}
+use Rattle.snap_grid.specs.inside.Ranked.{IsRank, AreDistinct, AreRanks}
 use Rattle.snap_grid.proofs.Bits.{mask_places, mask_below_same}
 
 pub no_falls : (distinct : List ℕ) → IsStrictlyIncreasing distinct → IsNonDecreasing distinct

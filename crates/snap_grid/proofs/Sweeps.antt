@@ -10,8 +10,8 @@ use Rattle.std.proofs.lemmas.List.FromFn.{length-range_with_len}
 use Rattle.std.proofs.lemmas.List.Sorted.{All-permutation, Contains-permutation}
 use Rattle.std.proofs.lemmas.List.Sums.{count_by-le-length, sum_by-append, sum_by-cons}
 use Rattle.snap_grid.specs.Columns.{IsOrderedAs, number}
-use Rattle.snap_grid.specs.Sweeps.{AreEndsInOrder, HasCounted, Rises, drops_from}
-use Rattle.snap_grid.specs.Trees.{IsTree, node_sum, sum_below_place}
+use Rattle.snap_grid.specs.inside.Sweeps.{AreEndsInOrder, HasCounted, Rises, drops_from}
+use Rattle.snap_grid.specs.inside.Trees.{IsTree, node_sum, sum_below_place}
 use Rattle.snap_grid.proofs.Clashing.{range-append}
 use Rattle.snap_grid.proofs.Trees.{one_below}
 

@@ -4,7 +4,7 @@ use Rattle.std.specs.Prelude.{nat_lt, ◌==◌, if◌then◌else◌}
 use Rattle.std.specs.List.{range_with_len}
 use Rattle.std.proofs.lemmas.Bool.{cases_lt, cases_eq, lt-ltb, le-ltb, eq-eqb, ne_eqb}
 use Rattle.std.proofs.lemmas.List.Sums.{sum_by-cons}
-use Rattle.snap_grid.specs.Trees.{IsTree, node_sum, sum_below_place}
+use Rattle.snap_grid.specs.inside.Trees.{IsTree, node_sum, sum_below_place}
 use Rattle.snap_grid.proofs.Clashing.{sum_more}
 
 abbrev pub one_below : ℕ → ℕ → ℕ

@@ -1,11 +1,3 @@
 pub mod Limits
 pub mod Columns
-pub mod Masks
-pub mod Tables
-pub mod Ranked
-pub mod Kept
-pub mod Facing
-pub mod Clashes
-pub mod Trees
-pub mod Sweeps
-pub mod Kinds
+pub mod inside

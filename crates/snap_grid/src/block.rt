@@ -1,9 +1,9 @@
 //! Blocks of rows, and which rows of a block pass or clash with another row.
 ghost use Rattle.std.specs.Prelude.{◌≡◌, ◌≤◌, ◌<◌, ◌+◌, ◌*◌, ◌-◌, ◌&&◌, ◌||◌, true, false, not, [], Bool, ℕ, cond, length, get_or, nat_lt, IsTrue, IfOk};
 ghost use Rattle.snap_grid.specs.Columns.{any_passes};
-ghost use Rattle.snap_grid.specs.Masks.{mask_below};
-ghost use Rattle.snap_grid.specs.Kept.{AreRows, HaveRows};
-ghost use Rattle.snap_grid.specs.Facing.{AreFacing, AreFar, AreTabled, IsWhole, any_faces, faces};
+ghost use Rattle.snap_grid.specs.inside.Masks.{mask_below};
+ghost use Rattle.snap_grid.specs.inside.Kept.{AreRows, HaveRows};
+ghost use Rattle.snap_grid.specs.inside.Facing.{AreFacing, AreFar, AreTabled, IsWhole, any_faces, faces};
 ghost use Rattle.snap_grid.specs.Limits.{row_limit};
 
 use crate::bounds::Bounds;

@@ -2,7 +2,7 @@
 ghost use Rattle.std.specs.Prelude.{◌≡◌, ◌≤◌, ◌<◌, ◌+◌, ◌*◌, ◌-◌, ℕ, length, get_or, take, drop, min, IfOk};
 ghost use Rattle.snap_grid.specs.declared.bounds.Bounds.{Bounds};
 ghost use Rattle.snap_grid.specs.Columns.{AreOrderedAs, IsOrderedAs};
-ghost use Rattle.snap_grid.specs.Kept.{IsBounded};
+ghost use Rattle.snap_grid.specs.inside.Kept.{IsBounded};
 ghost use Rattle.snap_grid.specs.Limits.{row_limit, table_limit};
 
 use crate::bounds::Bounds;
@@ -77,7 +77,7 @@ pub fn by_ranks(alloc: Global, mut columns: Vec<Column>) -> Result<Vec<Column>, 
 
 impl Model for Column {
     ghost use Rattle.std.specs.Prelude.{ℕ, List};
-    ghost use Rattle.snap_grid.specs.Kept.{IsColumn};
+    ghost use Rattle.snap_grid.specs.inside.Kept.{IsColumn};
 
     ghost Value = { List ℕ };
 

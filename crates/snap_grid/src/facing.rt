@@ -1,8 +1,8 @@
 //! A block's numbers of one column, against those of another block.
 ghost use Rattle.std.specs.Prelude.{◌≡◌, ◌<◌, ◌+◌, length, nat_lt};
 ghost use Rattle.snap_grid.specs.Columns.{number};
-ghost use Rattle.snap_grid.specs.Masks.{mask_by};
-ghost use Rattle.snap_grid.specs.Tables.{AreRankedElse, AreUnder};
+ghost use Rattle.snap_grid.specs.inside.Masks.{mask_by};
+ghost use Rattle.snap_grid.specs.inside.Tables.{AreRankedElse, AreUnder};
 
 use crate::bounds::Bounds;
 use crate::mask::Mask;

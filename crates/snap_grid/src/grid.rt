@@ -2,10 +2,10 @@
 ghost use Rattle.std.specs.Prelude.{◌≡◌, ◌≤◌, ◌<◌, ◌+◌, ◌*◌, ◌-◌, true, false, ℕ, Bool, [], length, get_or, min, nat_lt, take, drop, sum_by, count_by, find, IfOk, IsTrue};
 ghost use Rattle.std.specs.List.{range_with_len, list_any};
 ghost use Rattle.snap_grid.specs.Columns.{GridValue, any_passes, clashes, number, passes as spec_passes, rows_of, clash_count, drop_count, has_clash, HaveSameRows};
-ghost use Rattle.snap_grid.specs.Facing.{faces};
-ghost use Rattle.snap_grid.specs.Kinds.{AreKinds};
-ghost use Rattle.snap_grid.specs.Masks.{mask_below};
-ghost use Rattle.snap_grid.specs.Clashes.{AreApart, ClashesWith};
+ghost use Rattle.snap_grid.specs.inside.Facing.{faces};
+ghost use Rattle.snap_grid.specs.inside.Kinds.{AreKinds};
+ghost use Rattle.snap_grid.specs.inside.Masks.{mask_below};
+ghost use Rattle.snap_grid.specs.inside.Clashes.{AreApart, ClashesWith};
 ghost use Rattle.snap_grid.specs.Limits.{row_limit};
 
 use crate::block::{Against, Block};
@@ -32,7 +32,7 @@ pub struct Grid {
 
 impl Model for Grid {
     ghost use Rattle.snap_grid.specs.Columns.{GridValue};
-    ghost use Rattle.snap_grid.specs.Kinds.{IsGrid};
+    ghost use Rattle.snap_grid.specs.inside.Kinds.{IsGrid};
 
     ghost Value = { GridValue };
 

@@ -1,7 +1,7 @@
 //! The kinds of a block's rows: rows with the same numbers, found by a hash of these.
 ghost use Rattle.std.specs.Prelude.{◌≡◌, ◌≤◌, ◌<◌, ◌+◌, IsTrue, IfOk};
-ghost use Rattle.snap_grid.specs.Kept.{HaveRows};
-ghost use Rattle.snap_grid.specs.Kinds.{AreAlike, AreKinds};
+ghost use Rattle.snap_grid.specs.inside.Kept.{HaveRows};
+ghost use Rattle.snap_grid.specs.inside.Kinds.{AreAlike, AreKinds};
 ghost use Rattle.snap_grid.specs.Limits.{row_limit};
 
 use crate::column::Column;

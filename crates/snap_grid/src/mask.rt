@@ -1,6 +1,6 @@
 //! Masks: sets of up to 512 rows, a bit for each.
 ghost use Rattle.std.specs.Prelude.{◌≡◌, ◌≤◌, ◌<◌, true, ◌^◌, ℕ, bit_or, bit_and, bit_xor, count_ones, IsTrue};
-ghost use Rattle.snap_grid.specs.Masks.{IsFirstBit, mask_below};
+ghost use Rattle.snap_grid.specs.inside.Masks.{IsFirstBit, mask_below};
 
 use std::marker::Model;
 use std::simd::prelude::*;
@@ -19,7 +19,7 @@ pub(crate) struct Mask {
 
 impl Model for Mask {
     ghost use Rattle.std.specs.Prelude.{ℕ};
-    ghost use Rattle.snap_grid.specs.Masks.{number_of_lanes, AreLanes};
+    ghost use Rattle.snap_grid.specs.inside.Masks.{number_of_lanes, AreLanes};
 
     ghost Value = { ℕ };
 

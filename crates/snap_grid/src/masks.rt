@@ -1,6 +1,6 @@
 //! The masks of a block's numbers of one column, by a table of what is below each number.
 ghost use Rattle.std.specs.Prelude.{◌≡◌, ◌≤◌, ◌<◌, ◌+◌, ◌-◌, ℕ, length, get_or, nat_lt, IfOk};
-ghost use Rattle.snap_grid.specs.Masks.{mask_by};
+ghost use Rattle.snap_grid.specs.inside.Masks.{mask_by};
 ghost use Rattle.snap_grid.specs.Limits.{table_limit};
 
 use crate::bounds::Bounds;
@@ -56,7 +56,7 @@ pub(crate) struct Masks<'c> {
 
 impl<'c> Model for Masks<'c> {
     ghost use Rattle.std.specs.Prelude.{ℕ, List};
-    ghost use Rattle.snap_grid.specs.Tables.{AreTables};
+    ghost use Rattle.snap_grid.specs.inside.Tables.{AreTables};
 
     ghost Value = { List ℕ };
 

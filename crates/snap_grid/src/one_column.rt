@@ -3,7 +3,7 @@ ghost use Rattle.std.specs.Prelude.{◌≡◌, ◌≤◌, ◌<◌, ◌+◌, ℕ,
 ghost use Rattle.std.specs.List.{range_with_len};
 ghost use Rattle.snap_grid.specs.Columns.{HaveSameRows, number};
 ghost use Rattle.snap_grid.specs.Limits.{row_limit};
-ghost use Rattle.snap_grid.specs.Sweeps.{AreDropsOfOne};
+ghost use Rattle.snap_grid.specs.inside.Sweeps.{AreDropsOfOne};
 
 use crate::column::Column;
 use crate::grid::Clashes;

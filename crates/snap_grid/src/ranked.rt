@@ -1,8 +1,8 @@
 //! The masks of a block's numbers of one column, by their ranks.
 ghost use Rattle.std.specs.Prelude.{◌≡◌, ◌≤◌, ◌<◌, ◌+◌, ℕ, length, get_or, nat_lt, IfOk, IsTrue};
 ghost use Rattle.std.specs.List.Sorted.{IsStrictlyIncreasing};
-ghost use Rattle.snap_grid.specs.Masks.{mask_by};
-ghost use Rattle.snap_grid.specs.Ranked.{AreDistinct, AreRanks, IsRank};
+ghost use Rattle.snap_grid.specs.inside.Masks.{mask_by};
+ghost use Rattle.snap_grid.specs.inside.Ranked.{AreDistinct, AreRanks, IsRank};
 ghost use Rattle.snap_grid.specs.Limits.{row_limit};
 
 use crate::bounds::Bounds;
@@ -92,28 +92,55 @@ fn is_rank(distinct: &[u32], x: u32, rank: usize) -> bool
     true
 }
 
-// How many of some distinct numbers are below x. Where a guess is right no search is needed.
+// How many of some distinct numbers are below x. Where that is a guess, or one more, no search is needed.
 #[inline]
 fn rank_by(distinct: &[u32], x: u32, guess: usize) -> usize
     requires { IsStrictlyIncreasing distinct.now }
     ensures { IsRank distinct.now x result }
 {
     if is_rank(distinct, x, guess) {
-        guess
-    } else {
-        rank_of(distinct, x)
+        return guess;
     }
+    let next = guess.saturating_add(1);
+    if is_rank(distinct, x, next) {
+        return next;
+    }
+    rank_of(distinct, x)
 }
 
-// How many different ones of some ranks are below each, up to one more than the greatest.
-fn guesses_of(alloc: Global, ranks: &[u32]) -> Result<Vec<u16>, AllocError> {
-    let greatest = Bounds::of(ranks).greatest;
-    let mut guesses = vec![in alloc; 0u16; greatest as usize + 2]?;
-    for i in 0..ranks.len() {
-        guesses[ranks[i] as usize + 1] = 1;
+// The ranks of a column fall into so many parts, two to the 12th, so that the guesses stay in a fast memory.
+const PARTS: usize = 4096;
+
+const PART_BITS: u32 = 12;
+
+// By how many bits the ranks of a column, of which this is the greatest, are shifted to a part.
+fn shift_for(greatest: u32) -> u32 {
+    (u32::BITS - greatest.leading_zeros()).saturating_sub(PART_BITS)
+}
+
+// By parts how many different ones of some numbers have a rank in a part before. Each number has its rank in the whole column and
+// the one among the different numbers, of which there are so many.
+fn guesses_of(
+    alloc: Global,
+    places: &[u32],
+    ranks: &[u32],
+    count: usize,
+    shift: u32,
+) -> Result<Vec<u16>, AllocError> {
+    if places.is_empty() {
+        return Ok(Vec::new(alloc));
     }
-    for at in 1..guesses.len() {
-        guesses[at] = guesses[at].wrapping_add(guesses[at - 1]);
+    let all = u16::try_from(count).unwrap_or(u16::MAX);
+    let mut guesses = vec![in alloc; all; PARTS]?;
+    for (place, rank) in places.iter().zip(ranks) {
+        if let Some(guess) = guesses.get_mut(place.wrapping_shr(shift) as usize) {
+            *guess = (*guess).min(u16::try_from(*rank).unwrap_or(all));
+        }
+    }
+    let mut least = all;
+    for guess in guesses.iter_mut().rev() {
+        least = least.min(*guess);
+        *guess = least;
     }
     Ok(guesses)
 }
@@ -124,15 +151,18 @@ pub(crate) struct Ranked<'c> {
     numbers: &'c [u32],
     // the different ones of them, from the least on
     distinct: Vec<u32>,
-    // by the rank of a number in the whole column how many of the distinct ones are below it; each is tested before it is used
+    // by the part of a number's rank in the whole column about how many of the distinct ones are below it; each is tested before
+    // it is used
     guesses: Vec<u16>,
+    // by how many bits a rank in the whole column is shifted to its part
+    shift: u32,
     // the masks of the numbers below each rank, and of all
     under: Vec<Mask>,
 }
 
 impl<'c> Model for Ranked<'c> {
     ghost use Rattle.std.specs.Prelude.{ℕ, List};
-    ghost use Rattle.snap_grid.specs.Ranked.{IsRanked};
+    ghost use Rattle.snap_grid.specs.inside.Ranked.{IsRanked};
 
     ghost Value = { List ℕ };
 
@@ -155,19 +185,21 @@ impl<'c> Ranked<'c> {
         let distinct = distinct_of(alloc, numbers)?;
         let ranks = ranks_of(alloc, numbers, &distinct)?;
         let under = masks_of(alloc, &ranks, distinct.len())?;
-        let guesses = guesses_of(alloc, places)?;
+        let shift = shift_for(Bounds::of(places).greatest);
+        let guesses = guesses_of(alloc, places, &ranks, distinct.len(), shift)?;
         Ok(Ranked {
             numbers,
             distinct,
             guesses,
+            shift,
             under,
         })
     }
 
-    // How many of the distinct numbers may be below one, by its rank in the column.
+    // About how many of the distinct numbers are below one, by its rank in the column.
     #[inline]
     pub(crate) fn guess(&self, place: u32) -> usize {
-        match self.guesses.get(place as usize) {
+        match self.guesses.get(place.wrapping_shr(self.shift) as usize) {
             Some(guess) => usize::from(*guess),
             None => self.distinct.len(),
         }

@@ -2,7 +2,7 @@
 ghost use Rattle.std.specs.Prelude.{◌≡◌, ◌≤◌, ◌<◌, ◌-◌, ◌+◌, ℕ, length, get_or, IfOk, IsTrue};
 ghost use Rattle.snap_grid.specs.Columns.{IsOrderedAs, number};
 ghost use Rattle.snap_grid.specs.Limits.{row_limit};
-ghost use Rattle.snap_grid.specs.Sweeps.{AreDrops, AreEndsInOrder, HasCounted, Rises};
+ghost use Rattle.snap_grid.specs.inside.Sweeps.{AreDrops, AreEndsInOrder, HasCounted, Rises};
 
 use crate::bounds::Bounds;
 use crate::ranked::{distinct_of, ranks_of};

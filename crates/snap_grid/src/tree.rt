@@ -1,6 +1,6 @@
 //! Sums of counts in a tree: a count is raised, and the counts below a place are added up, in as many steps as their number has bits.
 ghost use Rattle.std.specs.Prelude.{◌≡◌, ◌≤◌, ◌<◌, ◌+◌, ◌^◌, ℕ, get_or, nat_lt, length, if◌then◌else◌, IfOk};
-ghost use Rattle.snap_grid.specs.Trees.{IsTree, sum_below_place};
+ghost use Rattle.snap_grid.specs.inside.Trees.{IsTree, sum_below_place};
 
 use std::alloc::{AllocError, Global};
 

@@ -1,5 +1,5 @@
 -- What follows from the answers of an index: where calls stand, which updates there are, and what views show.
-use Rattle.std.proofs.Common.{◌≡◌, ◌<◌, ◌≤◌, ◌-◌, ◌&&◌, ℕ, suc, Bool, true, false, List, length, find, slice_get, Some, None, refl, sym, ap, ◌∙◌, subst, inl, inr, arith}
+use Rattle.std.proofs.Common.{◌≡◌, ◌<◌, ◌≤◌, ◌-◌, ◌&&◌, ℕ, Bool, true, false, List, length, find, slice_get, Some, None, refl, sym, ap, ◌∙◌, subst, inl, inr, arith}
 use Rattle.std.specs.Prelude.{filter, ◌==◌}
 use Rattle.std.specs.List.{count_by}
 use Rattle.std.specs.Option.{option_map, option_and_then}
@@ -10,21 +10,17 @@ use Rattle.snap_core.specs.declared.entry.Entry.{Entry}
 use Rattle.snap_core.specs.declared.event.Event.{Event}
 use Rattle.snap_core.specs.declared.event.Event.TheVariants.{BeginUpdate, BeginView, EndUpdate, EndView}
 use Rattle.snap_core.specs.Entries.{AreEntries}
-use Rattle.snap_core.specs.Events.{IsHistory, IsBoundedHistory, EventFits, event_cap}
+use Rattle.snap_core.specs.Events.{IsHistory, IsBoundedHistory, EventFits}
 use Rattle.snap_core.specs.Calls.{Call, Operation, Updates, Views, calls_of, views_of, nobody, call_numbered, is_view, is_answer, is_update_numbered, writes_number, entries_of}
 use Rattle.snap_core.specs.Regular.{IsUpdateOf}
 use Rattle.snap_core.proofs.Lists.{In, Contains-from_In, In-get_or, In-from_filter}
 use Rattle.snap_core.proofs.Histories.{IsEndOf, call_end, answered_part}
 use Rattle.snap_index.specs.IndexedCalls.{as_indexed, answer_of}
 use Rattle.snap_index.specs.Updates.{is_update_of, updates_of}
-use Rattle.snap_index.proofs.IndexedCalls.{call_count_within, at_own_number}
+use Rattle.snap_index.proofs.IndexedCalls.{at_own_number}
 use Rattle.snap_core.proofs.Members.{In-find, In-slice_get}
 use Rattle.snap_index.proofs.Ends.{shown_by}
 use Rattle.snap_index.proofs.Numbers.{nth_update, no_update_zero, update_count_is}
-
--- a call number fits, and there is a call at each below the count
-pub calls_few : (es : List Event) → IsBoundedHistory es → length (calls_of es) ≤ event_cap
-calls_few es h = omega (arith, call_count_within es, h.short)
 
 pub call_within : (calls : List Call) (c : ℕ) → c < length calls → slice_get calls c ≡ Some (call_numbered calls c)
 call_within calls c l = slice_get-get_or calls c nobody l
@@ -120,11 +116,6 @@ update_found es k n c h =
         }
     go i (Views a) w t = absurd (let g : false ≡ true = sym (ap (λ z. writes_number z k n) w) ∙ t in cc)
 
--- update (k, n) is there exactly for n from 1 to the count of the updates of k
-pub update_within : (es : List Event) → IsHistory es → (k n : ℕ) → 0 < n → n ≤ count_by (is_update_of k) (calls_of es) → find (is_update_numbered k n) (calls_of es) ≡ Some (call_numbered (updates_of k (calls_of es)) (n - 1))
-update_within es h k n l m =
-    nth_update es h k (n - 1) n (omega arith) ∙ slice_get-get_or (updates_of k (calls_of es)) (n - 1) nobody (omega (arith, update_count_is k (calls_of es)))
-
 pub update_beyond : (es : List Event) → IsHistory es → (k n : ℕ) → count_by (is_update_of k) (calls_of es) < n → find (is_update_numbered k n) (calls_of es) ≡ None
 update_beyond es h k n l =
     nth_update es h k (n - 1) n (omega arith) ∙ slice_get_past (updates_of k (calls_of es)) (n - 1) (omega (arith, update_count_is k (calls_of es)))
@@ -148,9 +139,3 @@ update_bounds es h k n c e = (positive, few)
       | inr (inl z) ↦ omega arith
       | inr (inr z) ↦ absurd (let g : None ≡ Some c = sym (update_beyond es h k n z) ∙ e in cc)
     ]
-
--- the updates of a component as a list: each is one of the calls, and its place tells its number
-pub nth_of_updates : (es : List Event) → IsHistory es → (k i : ℕ) → i < length (updates_of k (calls_of es)) → IsUpdateAt es k (suc i) (call_numbered (updates_of k (calls_of es)) i)
-nth_of_updates es h k i l =
-    update_found es k (suc i) (call_numbered (updates_of k (calls_of es)) i)
-    (nth_update es h k i (suc i) refl ∙ slice_get-get_or (updates_of k (calls_of es)) i nobody l)

@@ -13,7 +13,7 @@ use Rattle.snap_index.specs.declared.call.Call.{Call}
 use Rattle.snap_index.specs.declared.call.Write.{Write}
 use Rattle.snap_index.specs.IndexedCalls.{as_indexed, number_of}
 use Rattle.snap_index.specs.Updates.{is_update_of, updates_of}
-use Rattle.snap_index.specs.Tables.{IsIndex}
+use Rattle.snap_index.specs.inside.Tables.{IsIndex}
 use Rattle.snap_index.proofs.IndexedCalls.{call_count_within, view_count_within, at_own_number, mapped_some}
 use Rattle.snap_core.proofs.Members.{In-find}
 use Rattle.snap_index.proofs.Numbers.{nth_update, no_update_zero, update_count_is}

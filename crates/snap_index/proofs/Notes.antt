@@ -21,7 +21,7 @@ use Rattle.snap_index.specs.declared.call.Call.{Call}
 use Rattle.snap_index.specs.declared.call.Write.{Write}
 use Rattle.snap_index.specs.IndexedCalls.{as_indexed, indexed_op, number_of, write_of, value_written}
 use Rattle.snap_index.specs.Updates.{is_update_of, updates_of, is_pending}
-use Rattle.snap_index.specs.Tables.{AreTables}
+use Rattle.snap_index.specs.inside.Tables.{AreTables}
 use Rattle.snap_index.proofs.IndexedCalls.{numbered_there, view_of_update, update_from}
 use Rattle.snap_index.proofs.Ends.{view_of_view}
 

@@ -3,7 +3,8 @@ use Rattle.std.proofs.Common.{inl, inr, ◌⊎◌, ◌≡◌, ◌<◌, ◌≤◌
 use Rattle.std.proofs.lemmas.List.{map-append, map-set, length-map, length-append, get_or-append_right, get_or-map, get_or-replicate, get_or_append_left, set-append_left}
 use Rattle.std.proofs.Common.{length-set}
 use Rattle.std.proofs.lemmas.Bool.{cases_lt}
-use Rattle.snap_index.specs.Tables.{padded, rows}
+use Rattle.snap_index.specs.Rows.{rows}
+use Rattle.snap_index.specs.inside.Tables.{padded}
 
 padded_more : {A : Type 0} (table : List (List A)) → length table < 256 → padded (table ++ [] ∷ []) ≡ padded table
 padded_more table small =

@@ -1,3 +1,4 @@
 pub mod IndexedCalls
+pub mod Rows
 pub mod Updates
-pub mod Tables
+pub mod inside

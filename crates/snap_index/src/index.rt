@@ -33,7 +33,7 @@ impl<'h> Model for Index<'h> {
 
     ghost Value = { List Event };
 
-    ghost use Rattle.snap_index.specs.Tables.{IsIndex};
+    ghost use Rattle.snap_index.specs.inside.Tables.{IsIndex};
 
     ghost view = { λ a. a.history.now };
 

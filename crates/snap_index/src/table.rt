@@ -1,7 +1,8 @@
 //! Lists of updates, one for each component.
 ghost use Rattle.std.specs.Prelude.{◌≡◌, ◌≤◌, ◌<◌, ◌+◌, ℕ, [], ◌∷◌, ◌++◌, OnOk, get_or, length, replicate, slice_set};
 ghost use Rattle.snap_core.specs.Entries.{component_count};
-ghost use Rattle.snap_index.specs.Tables.{padded, rows};
+ghost use Rattle.snap_index.specs.Rows.{rows};
+ghost use Rattle.snap_index.specs.inside.Tables.{padded};
 
 use std::alloc::{AllocError, Global};
 use std::marker::Model;
@@ -18,7 +19,8 @@ impl<T> Model for UpdateTable<T> {
 
     ghost Value = { List (List T) };
 
-    ghost use Rattle.snap_index.specs.Tables.{padded, rows};
+    ghost use Rattle.snap_index.specs.Rows.{rows};
+    ghost use Rattle.snap_index.specs.inside.Tables.{padded};
 
     ghost view = { λ t. padded (rows t.by_component.items) };
 

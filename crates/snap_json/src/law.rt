@@ -1,3 +1,4 @@
+//! A law of names.
 ghost use Rattle.snap_json.specs.Laws.{HasOneName};
 
 /// No two names have one line: the escapes of a name can be undone.

@@ -1,8 +1,9 @@
 //! The sums, the chains and the order of the views of worked histories.
-use snap_conditions::{chain, ordered, tally_without_read, view_sums};
+use snap_conditions::tally_without_read;
 use snap_index::Index;
 use snap_testing::worked::{ATOMIC_RUN, CROSSED_VIEWS, MISSED_UPDATE, NEW_THEN_OLD, NOTHING};
 use snap_testing::{Step, history_of};
+use snap_views::{chain, ordered, view_sums};
 use std::alloc::Global;
 use std::process::Abort;
 use std::test::Fail;

@@ -1,14 +1,12 @@
 //! The tallies of histories of which any two views are comparable.
-use snap_conditions::{
-    ReadFault, Tally, ViewGrid, ViewOrder, tally_and_chain_alone, tally_range, view_order,
-    view_sums,
-};
+use snap_conditions::{ReadFault, Tally, tally_and_chain_alone, tally_by_grid, tally_range};
 use snap_core::OpenGate;
 use snap_index::Index;
-use snap_pairs::tally;
+use snap_pairs::tally_and_chain;
 use snap_testing::Step::{Update, Updated, View, Viewed};
 use snap_testing::{Step, history_of};
 use snap_threads::Cutting;
+use snap_views::{ViewGrid, ViewOrder, view_order, view_sums};
 use std::alloc::Global;
 use std::process::Abort;
 use std::test::Fail;
@@ -77,8 +75,14 @@ fn expect_by_chain(rt: &impl Abort, alloc: Global, index: &Index<'_>) -> Result<
     assert!(rt; chain.places.as_slice() == [5, 2, 3, 0, 4, 1].as_slice());
     assert!(rt; index.view_count() == 6);
     let grid = ViewGrid::of_chain(alloc, index, &chain)?;
-    assert!(rt; are_reads(&grid.tally(alloc, 0, 6)?, ALL_FAULTS, Some(FIRST_FAULT)));
-    assert!(rt; are_reads(&grid.tally(alloc, 1, 3)?, 5, Some(FIRST_FAULT)));
+    assert!(rt;
+        are_reads(
+            &tally_by_grid(alloc, &grid, 0, 6)?,
+            ALL_FAULTS,
+            Some(FIRST_FAULT)
+        )
+    );
+    assert!(rt; are_reads(&tally_by_grid(alloc, &grid, 1, 3)?, 5, Some(FIRST_FAULT)));
     Ok(())
 }
 
@@ -89,7 +93,7 @@ fn comparable_views_have_the_read_faults_counted_by_hand(rt: HostRuntime) -> Res
     let index = Index::build(alloc, &history)?;
     let (found, chain) = tally_and_chain_alone(alloc, &index)?;
     assert!(rt; chain.is_none() && are_reads(&found, ALL_FAULTS, Some(FIRST_FAULT)));
-    let found = tally(&rt, alloc, &index, Cutting::new(3, 2)?, &OpenGate)?;
+    let (found, _chain) = tally_and_chain(&rt, alloc, &index, Cutting::new(3, 2)?, &OpenGate)?;
     assert!(rt; are_reads(&found, ALL_FAULTS, Some(FIRST_FAULT)));
     expect_by_chain(&rt, alloc, &index)
 }

@@ -3,26 +3,30 @@ use snap_index::Index;
 use snap_order::{build, check_order};
 use snap_testing::worked::{ATOMIC_RUN, SEEN_PENDING, VIEW_BESIDE_UPDATE};
 use snap_testing::{Step, history_of};
+use snap_views::{ViewOrder, view_order, view_sums};
 use std::alloc::Global;
 use std::process::Abort;
 use std::test::Fail;
-use std::thread::Threads;
 
 // The list is a legal order, and the one that is printed.
-fn expect_printed<R: Abort + Threads + Sync>(
-    rt: &R,
+fn expect_printed(
+    rt: &impl Abort,
     alloc: Global,
     index: &Index<'_>,
     order: &[u32],
 ) -> Result<(), Fail> {
     assert!(rt; check_order(alloc, index, order)?);
-    assert!(rt; build(rt, alloc, index)?.as_slice() == order);
+    let sums = view_sums(alloc, index)?;
+    let ViewOrder::Faultless(chain) = view_order(alloc, index, sums)? else {
+        panic!(rt; "two views are a read fault");
+    };
+    assert!(rt; build(alloc, index, chain)?.as_slice() == order);
     Ok(())
 }
 
 // A history's printed order is this list.
-fn expect_order<R: Abort + Threads + Sync>(
-    rt: &R,
+fn expect_order(
+    rt: &impl Abort,
     alloc: Global,
     steps: &[Step<'_>],
     order: &[u32],

@@ -1,10 +1,11 @@
+//! Tallies by several workers, and the claims of pieces.
 ghost use Rattle.std.specs.Prelude.{◌≡◌, All, IfOk};
 ghost use Rattle.snap_pairs.specs.Claiming.{IsClaimOf};
 
 use snap_conditions::{IntegrityFault, ProximityFault, ReadFault, Side, Tally};
 use snap_core::{Gate, OpenGate};
 use snap_index::Index;
-use snap_pairs::{Claim, Claims, tally};
+use snap_pairs::{Claim, Claims, tally_and_chain};
 use snap_testing::worked::{ATOMIC_RUN, CROSSED_VIEWS, FOUR_WAYS, STALE_AND_WRONG};
 use snap_testing::{Arrivals, Meeting, Step, entry, history_of};
 use snap_threads::{Cutting, CuttingRefusal};
@@ -37,7 +38,8 @@ fn tally_cut<R: Threads + Sync, G: Gate>(
 ) -> Result<Tally, Fail> {
     let history = history_of(alloc, steps)?;
     let index = Index::build(alloc, &history)?;
-    Ok(tally(rt, alloc, &index, cutting, gate)?)
+    let (tally, _chain) = tally_and_chain(rt, alloc, &index, cutting, gate)?;
+    Ok(tally)
 }
 
 // What so many workers tally of a history in so many pieces.

@@ -1,8 +1,8 @@
 //! The tallies of worked histories, against faults known from outside.
 use histories::WORKED;
 use snap_conditions::{
-    IntegrityFault, ProximityFault, ReadFault, Side, Tally, ViewGrid, WriteFault, is_atomic,
-    is_monotone, is_regular, merge, tally_range,
+    IntegrityFault, ProximityFault, ReadFault, Side, Tally, WriteFault, is_atomic, is_monotone,
+    is_regular, merge, tally_by_grid, tally_range,
 };
 use snap_index::Index;
 use snap_testing::worked::{
@@ -10,6 +10,7 @@ use snap_testing::worked::{
     SHOWN_TOO_EARLY, STALE_AND_WRONG, STALE_VIEW, WRONG_VALUE,
 };
 use snap_testing::{Step, entry, history_of};
+use snap_views::ViewGrid;
 use std::alloc::Global;
 use std::process::Abort;
 use std::test::Fail;
@@ -90,7 +91,7 @@ fn expect_ranges_by_grid(
     for &(from, to, known) in known {
         assert!(rt; from <= to && to <= index.view_count());
         assert!(rt;
-            found(&grid.tally(alloc, from, to)?) == known,
+            found(&tally_by_grid(alloc, &grid, from, to)?) == known,
             "{from}..{to}"
         );
     }

@@ -2,7 +2,7 @@
 ghost use Rattle.std.specs.Prelude.{◌≡◌, IfOk, length, map};
 ghost use Rattle.std.specs.List.{range_with_len};
 ghost use Rattle.snap_lines.specs.declared.layout.Line.{Line};
-ghost use Rattle.snap_lines.specs.Layout.{character_of as spec_character_of, end_character as spec_end_character, span_of as spec_span_of, spans_in as spec_spans_in};
+ghost use Rattle.snap_lines.specs.inside.Layout.{character_of as spec_character_of, end_character as spec_end_character, span_of as spec_span_of, spans_in as spec_spans_in};
 
 use snap_draw::{Bar, Shapes};
 use std::alloc::{AllocError, Global};

@@ -10,7 +10,7 @@ use Rattle.memchr.specs.Find.{IsFirstByte, is_byte}
 use Rattle.snap_names.specs.declared.fault.NamesFault.{NamesFault}
 use Rattle.snap_names.specs.declared.fault.NamesFault.TheVariants.{Unread, TooLong, Empty, TooManyFolders, Memory}
 use Rattle.snap_names.specs.declared.list.TheConstants.{LIST_LIMIT}
-use Rattle.snap_names.specs.Lists.{AnswersList, AreNamesOf, CutsList, IsName, LacksName, ended}
+use Rattle.snap_names.specs.Lists.{AnswersList, AreNamesOf, CutsList, IsName, ended}
 
 -- a byte that is not found to be an end is none
 no_end : (end : ℕ) (text : List ℕ) (i : ℕ) → ((is_byte end (slice_index text i) ≡ true) → ⊥) → get_or text i 0 ≢ end
@@ -51,16 +51,6 @@ cut_more end k text names rest some found cut =
           cut.spelled ∙ ap (λ t. ended end names ++ t) (cut_at end k rest found)
           ∙ sym (ap (λ t. t ++ drop (k + 1) rest) (ended_more end names (take k rest)) ∙ simp append_assoc);
     }
-
--- an end stands where a name should
-pub lacks_name : (end : ℕ) (text : List ℕ) (names : List (List ℕ)) (rest : List ℕ) → IsFirstByte (is_byte end) rest (Some 0) → Cut end text names rest → LacksName end text (length names + 1)
-lacks_name end text names rest found cut = record {
-  before = names;
-  each = cut.each;
-  count = refl;
-  behind = drop 1 rest;
-  spelled = cut.spelled ∙ ap (λ t. ended end names ++ t) (cut_at end 0 rest found);
-}
 
 -- nothing is left, or a last name without its end
 pub whole_list : (end : ℕ) (text : List ℕ) (names : List (List ℕ)) (rest : List ℕ) → rest ≡ [] → Cut end text names rest → AreNamesOf end text names

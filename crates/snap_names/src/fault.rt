@@ -1,3 +1,4 @@
+//! Why there are no names.
 ghost use Rattle.std.specs.Prelude.{◌≡◌};
 ghost use Rattle.snap_names.specs.declared.fault.NamesFault.TheVariants.{Memory};
 

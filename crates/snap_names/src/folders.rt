@@ -1,3 +1,4 @@
+//! What stands in a folder, as a walk asks for it.
 ghost use Rattle.std.specs.Prelude.{ℕ, List, Option, IfOk, option_map};
 ghost use Rattle.std.specs.Global.{Global, Vec};
 

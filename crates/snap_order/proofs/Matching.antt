@@ -9,7 +9,7 @@ use Rattle.snap_core.specs.declared.entry.Entry.{Entry}
 use Rattle.snap_core.specs.Entries.{HasByteComponent, entry_of, rises}
 use Rattle.snap_core.proofs.Lists.{In, In-get_or, Contains-from_In, count-cons}
 use Rattle.snap_theory.proofs.Renumbered.{rises_tail}
-use Rattle.snap_order.specs.Shown.{IsLast, ShowsLast, AreCounted}
+use Rattle.snap_order.specs.inside.Shown.{IsLast, ShowsLast, AreCounted}
 
 -- each entry is the last of its component
 abbrev pub AreLast : List (Option Entry) → List Entry → Type 0

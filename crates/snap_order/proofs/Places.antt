@@ -11,7 +11,7 @@ use Rattle.snap_core.specs.Calls.{Call, call_numbered, is_view, views_of, nobody
 use Rattle.snap_core.proofs.Lists.{count-cons}
 use Rattle.snap_index.specs.IndexedCalls.{entries_shown, answer_of}
 use Rattle.snap_index.proofs.Known.{call_within}
-use Rattle.snap_conditions.specs.Seen.{view_in}
+use Rattle.snap_views.specs.Seen.{view_in}
 
 pub found : {X Y : Type 0} (f : X → Y) (xs : List X) (place : ℕ) (d : X) (y : Y) → place < length xs → Some y ≡ option_map f (slice_get xs place) → y ≡ f (get_or xs place d)
 found f xs place d y l h = let e : Some y ≡ Some (f (get_or xs place d)) = h ∙ ap (option_map f) (slice_get-get_or xs place d l) in cc

@@ -7,7 +7,7 @@ use Rattle.snap_core.specs.declared.entry.Entry.{Entry}
 use Rattle.snap_core.specs.declared.event.Event.{Event}
 use Rattle.snap_core.specs.Calls.{Call, Views, calls_of, views_of, shown_number}
 use Rattle.snap_core.specs.Events.{IsBoundedHistory, event_cap}
-use Rattle.snap_conditions.proofs.Ranges.{few_views}
+use Rattle.snap_views.proofs.Sizes.{few_views}
 use Rattle.snap_index.specs.IndexedCalls.{indexed_op, answered_by, answer_of}
 use Rattle.snap_index.specs.declared.call.CallOp.TheVariants.{Update, View}
 use Rattle.snap_index.proofs.IndexedCalls.{update_from, view_from}

@@ -19,17 +19,17 @@ use Rattle.snap_index.proofs.Known.{view_within}
 use Rattle.snap_core.specs.Regular.{IsViewOf}
 use Rattle.snap_core.proofs.Fits.{bytes_of_events}
 use Rattle.snap_core.proofs.Lists.{Contains-from_In}
-use Rattle.snap_conditions.specs.Chains.{AreViewSums, IsChain}
+use Rattle.snap_views.specs.Chains.{AreViewSums, IsChain}
 use Rattle.snap_theory.specs.Faults.{HasNoFault, exceeds}
-use Rattle.snap_conditions.specs.Quick.{shown_sum, entry_sum, AreComparable}
-use Rattle.snap_conditions.specs.Seen.{view_in}
-use Rattle.snap_conditions.proofs.Chains.{sum_in, no_more_by_sum, view_is}
-use Rattle.snap_conditions.proofs.EntrySums.{sum_is}
+use Rattle.snap_views.specs.Quick.{shown_sum, entry_sum, AreComparable}
+use Rattle.snap_views.specs.Seen.{view_in}
+use Rattle.snap_views.proofs.Chains.{sum_in, no_more_by_sum, view_is}
+use Rattle.snap_views.proofs.EntrySums.{sum_is}
 use Rattle.snap_theory.proofs.Exceeding.{exceeds_not}
 use Rattle.snap_theory.proofs.FaultLaws.{meets_from_none}
 use Rattle.snap_theory.proofs.Components.{byte_views, fit_views}
 use Rattle.snap_theory.proofs.FaultLists.{from_views}
-use Rattle.snap_order.specs.Chains.{IsSummedChain}
+use Rattle.snap_order.specs.inside.Chains.{IsSummedChain}
 use Rattle.snap_theory.specs.Levels.{update_level, view_level}
 use Rattle.snap_theory.proofs.Chain.{chain}
 use Rattle.snap_order.proofs.Counts.{count-map, count_same, any_by_count}

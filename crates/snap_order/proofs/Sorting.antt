@@ -8,7 +8,7 @@ use Rattle.std.proofs.lemmas.Map.Keys.{IsDistinct-from_apart}
 use Rattle.snap_core.specs.Calls.{Call}
 use Rattle.snap_core.proofs.Lists.{Pairs, Pairs-filter, AllPairs-from_Pairs}
 use Rattle.snap_core.proofs.Facts.{AreCalls}
-use Rattle.snap_conditions.proofs.SortedKeys.{key_cmp, seconds, keys_rise}
+use Rattle.snap_views.proofs.SortedKeys.{key_cmp, seconds, keys_rise}
 use Rattle.snap_theory.specs.Levels.{is_printed}
 use Rattle.snap_theory.specs.Keys.{key_of, printed_keys, AreSortedKeys}
 use Rattle.snap_core.proofs.Members.{Pairs-map}

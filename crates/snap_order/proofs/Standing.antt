@@ -11,8 +11,8 @@ use Rattle.snap_core.proofs.Histories.{are_calls}
 use Rattle.snap_index.specs.IndexedCalls.{indexed_op, answer_of, answered_by}
 use Rattle.snap_index.specs.declared.call.CallOp.TheVariants.{Update, View}
 use Rattle.snap_index.proofs.IndexedCalls.{update_from, view_from}
-use Rattle.snap_order.specs.Shown.{ShowsLast}
-use Rattle.snap_order.specs.Stands.{MayStand}
+use Rattle.snap_order.specs.inside.Shown.{ShowsLast}
+use Rattle.snap_order.specs.inside.Stands.{MayStand}
 
 pub update_stands : (c : Call) (e : Entry) (last : List (Option Entry)) (latest : ℕ) → indexed_op c.operation ≡ Update e → is_before c.ended latest ≡ false → MayStand c last latest
 unfolding is_update is_view

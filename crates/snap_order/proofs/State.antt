@@ -13,7 +13,7 @@ use Rattle.snap_core.proofs.Lists.{In, In-from_Contains, Contains-from_In, In-ap
 use Rattle.snap_core.proofs.Facts.{precedes_to, precedes_from, shown_in}
 use Rattle.snap_theory.specs.Starts.{IsLegalStart, MayFollow}
 use Rattle.snap_order.specs.Numbers.{IsLegalList, picked}
-use Rattle.snap_order.specs.Stands.{MayStand, SeesCompleted}
+use Rattle.snap_order.specs.inside.Stands.{MayStand, SeesCompleted}
 use Rattle.snap_theory.proofs.LastWritten.{Writes, last_written-append, last_written_none}
 use Rattle.snap_theory.proofs.Starts.{start_push, start_nil}
 use Rattle.snap_core.proofs.Members.{Origin, In-from_map}

@@ -6,8 +6,8 @@ use Rattle.std.proofs.lemmas.Bool.{lt-ltb, le-ltb}
 use Rattle.snap_core.specs.Entries.{HasByteComponent}
 use Rattle.snap_core.specs.Calls.{Call, entries_of}
 use Rattle.snap_theory.specs.Faults.{exceeds}
-use Rattle.snap_conditions.specs.Quick.{shown_sum}
-use Rattle.snap_conditions.proofs.Quick.{no_greater, smaller}
+use Rattle.snap_views.specs.Quick.{shown_sum}
+use Rattle.snap_views.proofs.Quick.{no_greater, smaller}
 
 -- where one of two views shows no more than the other, sums tell which
 pub below_by_sum : (r s : Call) → All HasByteComponent (entries_of r.operation) → (exceeds r s ≡ true → exceeds s r ≡ false) → (exceeds r s && not (exceeds s r)) ≡ nat_lt (shown_sum s) (shown_sum r)

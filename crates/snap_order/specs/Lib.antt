@@ -1,5 +1,2 @@
-pub mod Near
 pub mod Numbers
-pub mod Shown
-pub mod Stands
-pub mod Chains
+pub mod inside

@@ -1,10 +1,11 @@
+//! The check of an order.
 ghost use Rattle.std.specs.Prelude.{◌≡◌, ◌<◌, ◌↔◌, length, IfOk, IsTrue};
 ghost use Rattle.snap_core.specs.Events.{IsHistory};
 ghost use Rattle.snap_core.specs.Calls.{calls_of, call_numbered, is_before};
 ghost use Rattle.snap_core.specs.Orders.{is_completed as spec_is_completed};
 ghost use Rattle.snap_theory.specs.Faults.{HasNoFault};
 ghost use Rattle.snap_order.specs.Numbers.{IsLegalList};
-ghost use Rattle.snap_order.specs.Stands.{MayStand, SeesCompleted};
+ghost use Rattle.snap_order.specs.inside.Stands.{MayStand, SeesCompleted};
 
 use crate::last_entries::LastEntries;
 use snap_index::{CallOp, Index};

@@ -1,6 +1,7 @@
+//! The last entry of each component, where updates run one after another.
 ghost use Rattle.std.specs.Prelude.{◌≡◌, ◌↔◌, None, Some, All, IfOk, IsTrue, replicate, slice_set};
 ghost use Rattle.snap_core.specs.Entries.{component_count};
-ghost use Rattle.snap_order.specs.Shown.{IsLast, ShowsLast};
+ghost use Rattle.snap_order.specs.inside.Shown.{IsLast, ShowsLast};
 
 use snap_core::{COMPONENT_COUNT, Entry, View};
 use std::alloc::{AllocError, Global};
@@ -17,7 +18,7 @@ pub(crate) struct LastEntries {
 impl Model for LastEntries {
     ghost use Rattle.std.specs.Prelude.{List, Option};
     ghost use Rattle.snap_core.specs.declared.entry.Entry.{Entry};
-    ghost use Rattle.snap_order.specs.Shown.{AreCounted};
+    ghost use Rattle.snap_order.specs.inside.Shown.{AreCounted};
 
     ghost Value = { List (Option Entry) };
 

@@ -2,18 +2,18 @@
 ghost use Rattle.std.specs.Prelude.{◌≡◌, ◌<◌, ◌≤◌, ◌↔◌, length, get_or, nat_lt, count_by, slice_get, Some, IfOk, IsTrue};
 ghost use Rattle.std.specs.Option.{option_map};
 ghost use Rattle.snap_core.specs.Calls.{calls_of, call_numbered, views_of, shown_number};
-ghost use Rattle.snap_conditions.specs.Chains.{IsViewChain};
+ghost use Rattle.snap_views.specs.Chains.{IsViewChain};
 ghost use Rattle.snap_theory.specs.Faults.{HasNoFault};
-ghost use Rattle.snap_conditions.specs.Quick.{entry_sum, shown_sum};
-ghost use Rattle.snap_conditions.specs.Seen.{view_in};
+ghost use Rattle.snap_views.specs.Quick.{entry_sum, shown_sum};
+ghost use Rattle.snap_views.specs.Seen.{view_in};
 ghost use Rattle.snap_index.specs.IndexedCalls.{answer_of, number_of};
 ghost use Rattle.snap_theory.specs.Keys.{printed_keys, rank_of};
 ghost use Rattle.snap_theory.specs.Levels.{update_level as spec_update_level};
 
 use crate::near::partition_near;
-use snap_conditions::{ViewChain, entries_sum};
 use snap_core::{Entry, View};
 use snap_index::{CallOp, Index};
+use snap_views::{ViewChain, entries_sum};
 use std::alloc::{AllocError, Global};
 use std::marker::Model;
 
@@ -30,7 +30,7 @@ pub(crate) struct Levels<'i, 'h> {
 impl<'i, 'h> Model for Levels<'i, 'h> {
     ghost use Rattle.std.specs.Prelude.{List};
     ghost use Rattle.snap_core.specs.declared.event.Event.{Event};
-    ghost use Rattle.snap_order.specs.Chains.{IsSummedChain};
+    ghost use Rattle.snap_order.specs.inside.Chains.{IsSummedChain};
 
     ghost Value = { List Event };
 

@@ -1,6 +1,6 @@
 //! A search that begins where its answer is likely to be.
 ghost use Rattle.std.specs.Prelude.{◌≤◌, length};
-ghost use Rattle.snap_order.specs.Near.{PartsAt};
+ghost use Rattle.snap_order.specs.inside.Near.{PartsAt};
 
 // How many places pass a test, where those that pass stand before those that do not. The search begins near a number: the
 // closer the answer is to it, the fewer places are looked at, and any number will do.

@@ -1,56 +1,24 @@
+//! The printed order.
 ghost use Rattle.std.specs.Prelude.{◌≡◌, map, IfOk};
 ghost use Rattle.snap_core.specs.Calls.{calls_of};
-ghost use Rattle.snap_conditions.specs.Chains.{IsViewChain};
+ghost use Rattle.snap_views.specs.Chains.{IsViewChain};
 ghost use Rattle.snap_theory.specs.Faults.{HasNoFault};
 ghost use Rattle.snap_theory.specs.Levels.{printed_order};
 ghost use Rattle.snap_order.specs.Numbers.{IsLegalList};
 
 use crate::levels::Levels;
-use snap_conditions::{ViewChain, faultless_chain, view_sums};
 use snap_index::Index;
+use snap_views::ViewChain;
 use std::alloc::{AllocError, Global};
-use std::thread::Threads;
 
 /// The printed order of a history without a fault, by call numbers from 0: all completed calls, and of the pending
 /// updates those of which some completed view shows the number or a later one. It is sorted by level; within a level
-/// updates come before views, and then calls by their numbers. It is a legal order.
+/// updates come before views, and then calls by their numbers. It is a legal order. The completed views are given as a chain.
+/// The error is want of memory.
 ///
-/// The views are sorted once; then each level is a search among them, which begins near the level of the call before. All of
-/// it is done on the calling thread: at no length of a history do the searches take so long that the start of threads would
-/// pay.
-pub fn build<R: Threads + Sync>(
-    _rt: &R,
-    alloc: Global,
-    index: &Index<'_>,
-) -> Result<Vec<u32>, AllocError>
-    requires { HasNoFault (calls_of index.now) }
-    ensures printed { IfOk result
-        (λ order. order.items ≡ map (λ c. c.number) (printed_order (calls_of index.now))) }
-    ensures legal { IfOk result (λ order. IsLegalList (calls_of index.now) order.items) }
-{
-    build_alone(alloc, index)
-}
-
-/// The same order, for a caller without a runtime.
-pub fn build_alone(alloc: Global, index: &Index<'_>) -> Result<Vec<u32>, AllocError>
-    requires { HasNoFault (calls_of index.now) }
-    ensures printed { IfOk result
-        (λ order. order.items ≡ map (λ c. c.number) (printed_order (calls_of index.now))) }
-    ensures legal { IfOk result (λ order. IsLegalList (calls_of index.now) order.items) }
-{
-    let sums = view_sums(alloc, index)?;
-    let Some(chain) = faultless_chain(alloc, index, sums)? else {
-        unreachable!()
-    };
-    build_along(alloc, index, chain)
-}
-
-/// The same order, where the completed views are known as a chain.
-pub fn build_along(
-    alloc: Global,
-    index: &Index<'_>,
-    chain: ViewChain,
-) -> Result<Vec<u32>, AllocError>
+/// Each level is a search among the views, which begins near the level of the call before. All of it is done on the calling
+/// thread: at no length of a history do the searches take so long that the start of threads would pay.
+pub fn build(alloc: Global, index: &Index<'_>, chain: ViewChain) -> Result<Vec<u32>, AllocError>
     requires fault { HasNoFault (calls_of index.now) }
     requires chain { IsViewChain (calls_of index.now) chain }
     ensures printed { IfOk result

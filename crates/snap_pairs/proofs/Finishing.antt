@@ -4,7 +4,7 @@ use Rattle.std.specs.Prelude.{Any, filter}
 use Rattle.std.proofs.lemmas.Bool.{cases_lt}
 use Rattle.std.proofs.lemmas.Bool.Decides.{nat_tests}
 use Rattle.snap_core.specs.Sums.{one_if}
-use Rattle.snap_pairs.specs.Draws.{past}
+use Rattle.snap_pairs.specs.inside.Draws.{past}
 use Rattle.snap_pairs.proofs.Totals.{none_low, one_high}
 
 pub any_past : (p : ℕ) (xs : List ℕ) → 0 < past p xs → Any (λ n. p ≤ n) xs

@@ -9,7 +9,7 @@ use Rattle.snap_core.specs.Calls.{Call}
 use Rattle.snap_conditions.specs.declared.tally.Tally.{Tally}
 use Rattle.snap_core.specs.Sums.{one_if, times, total}
 use Rattle.snap_pairs.specs.Claiming.{ClaimView, CounterView, IsClaimOf, IsFinished, pieces_of}
-use Rattle.snap_pairs.specs.Pieces.{IsPieceTally, FitSlots, IsFull, IsAnswer}
+use Rattle.snap_pairs.specs.inside.Pieces.{IsPieceTally, FitSlots, IsFull, IsAnswer}
 use Rattle.snap_pairs.specs.declared.worker.Answer.{Answer}
 use Rattle.snap_pairs.specs.declared.worker.Drawn.{Drawn}
 

@@ -7,7 +7,8 @@ use Rattle.atomic_table.specs.Table.{State, Me, step, keeps, stepped, opening, A
 use Rattle.atomic_table.proofs.Lists.{at_set, at_snoc}
 use Rattle.snap_core.specs.Sums.{once_below, times, total}
 use Rattle.snap_core.proofs.Sums.{total-append, total-at, total-le, total-set}
-use Rattle.snap_pairs.specs.Draws.{past, Hand, empties, IsDrawn, first_of, only_first, but_first, add_first, DrawsFound}
+use Rattle.snap_pairs.specs.inside.Draws.{past, empties, IsDrawn, only_first, but_first, add_first, DrawsFound}
+use Rattle.snap_pairs.specs.Draws.{Hand, first_of}
 use Rattle.snap_pairs.proofs.Totals.{few, alone, past-push, times-push, once_more, above_more, at_most_one, none_low, one_high, once_low, never_below}
 
 abbrev St : Type 0

@@ -6,7 +6,7 @@ use Rattle.std.proofs.lemmas.Bool.Decides.{nat_tests}
 use Rattle.std.proofs.lemmas.Bool.{cases_eq, ne_eqb}
 use Rattle.snap_core.specs.Sums.{once_below, one_if, times, total}
 use Rattle.snap_core.proofs.Sums.{total-append, total-at}
-use Rattle.snap_pairs.specs.Draws.{past}
+use Rattle.snap_pairs.specs.inside.Draws.{past}
 
 module _ {A : Type 0} where
   -- where all that g counts is in one element, so is all that f counts

@@ -1,5 +1,4 @@
 pub mod Claiming
 pub mod Draws
-pub mod Inside
-pub mod Pieces
-pub mod Reads
+pub mod Counters
+pub mod inside

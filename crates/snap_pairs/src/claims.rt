@@ -20,7 +20,8 @@ impl Model for Claims {
 
     ghost Value = { CounterView };
 
-    ghost use Rattle.snap_pairs.specs.Inside.{counter_view, IsCounter};
+    ghost use Rattle.snap_pairs.specs.Counters.{counter_view};
+    ghost use Rattle.snap_pairs.specs.inside.Counters.{IsCounter};
 
     ghost view = { counter_view };
 
@@ -41,7 +42,8 @@ impl Model for Claim {
 
     ghost Value = { ClaimView };
 
-    ghost use Rattle.snap_pairs.specs.Inside.{claim_view, IsClaim};
+    ghost use Rattle.snap_pairs.specs.Counters.{claim_view};
+    ghost use Rattle.snap_pairs.specs.inside.Counters.{IsClaim};
 
     ghost view = { claim_view };
 

@@ -10,7 +10,7 @@ pub type Hand = LinkedList<LinkedList<u64>>;
 pub struct Draws;
 
 impl TableRule<(), Hand, Cutting> for Draws {
-    ghost use Rattle.snap_pairs.specs.Draws.{IsDrawn, empties};
+    ghost use Rattle.snap_pairs.specs.inside.Draws.{IsDrawn, empties};
 
     ghost holds = { λ cutting state. IsDrawn cutting.pieces cutting.workers state };
 
@@ -21,7 +21,7 @@ impl TableRule<(), Hand, Cutting> for Draws {
 pub struct Draw;
 
 impl Play<(), Hand> for Draw {
-    ghost use Rattle.snap_pairs.specs.Draws.{DrawsFound};
+    ghost use Rattle.snap_pairs.specs.inside.Draws.{DrawsFound};
 
     ghost then = { DrawsFound };
 }
@@ -30,7 +30,7 @@ impl Play<(), Hand> for Draw {
 pub struct Deal;
 
 impl Split<Hand> for Deal {
-    ghost use Rattle.snap_pairs.specs.Draws.{but_first, only_first};
+    ghost use Rattle.snap_pairs.specs.inside.Draws.{but_first, only_first};
 
     ghost left = { but_first };
 

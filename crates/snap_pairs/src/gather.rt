@@ -3,7 +3,7 @@ ghost use Rattle.std.specs.Prelude.{◌≡◌, ◌<◌, ℕ, length, All, IfOk, 
 ghost use Rattle.snap_core.specs.Calls.{calls_of, views_of};
 ghost use Rattle.snap_conditions.specs.Tally.{tally_of};
 ghost use Rattle.snap_pairs.specs.Claiming.{IsClaimOf, IsFinished, pieces_of};
-ghost use Rattle.snap_pairs.specs.Pieces.{AreAnswers, AreTallied, FitSlots, IsFull};
+ghost use Rattle.snap_pairs.specs.inside.Pieces.{AreAnswers, AreTallied, FitSlots, IsFull};
 
 use crate::claims::{Claim, Claims};
 use crate::worker::{Answer, Drawn};

@@ -10,4 +10,4 @@ mod whole;
 mod worker;
 
 pub use claims::{Claim, Claims};
-pub use whole::{tally, tally_and_chain};
+pub use whole::tally_and_chain;

@@ -1,6 +1,6 @@
 //! The pieces into which the views are cut.
 ghost use Rattle.std.specs.Prelude.{◌≡◌, ◌≤◌};
-ghost use Rattle.snap_pairs.specs.Pieces.{piece_start};
+ghost use Rattle.snap_pairs.specs.inside.Pieces.{piece_start};
 
 use snap_threads::Cutting;
 

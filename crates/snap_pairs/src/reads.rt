@@ -1,24 +1,23 @@
 //! The read faults of the pieces: none where the quick test passes, else by a grid of the views.
 ghost use Rattle.std.specs.Prelude.{◌≡◌, ◌<◌, ◌≤◌, ◌+◌, ◌↔◌, [], ℕ, length, get_or, IfOk, IfSome, IsSome};
 ghost use Rattle.snap_core.specs.Calls.{calls_of, views_of};
-ghost use Rattle.snap_conditions.specs.Chains.{AreViewSums, IsViewChain};
+ghost use Rattle.snap_views.specs.Chains.{AreViewSums, IsViewChain};
 ghost use Rattle.snap_core.specs.Entries.{component_count};
 ghost use Rattle.snap_theory.specs.Faults.{read_faults};
-ghost use Rattle.snap_conditions.specs.Grids.{AreColumnsOf};
-ghost use Rattle.snap_conditions.specs.Quick.{shown_sum};
-ghost use Rattle.snap_conditions.specs.Seen.{view_in};
-ghost use Rattle.snap_conditions.specs.Tally.{tally_of, views_between};
-ghost use Rattle.snap_pairs.specs.Reads.{AreParts, IsGridFor, part_start};
+ghost use Rattle.snap_views.specs.Grids.{AreColumnsOf};
+ghost use Rattle.snap_views.specs.Quick.{shown_sum};
+ghost use Rattle.snap_views.specs.Seen.{view_in};
+ghost use Rattle.snap_conditions.specs.Tally.{tally_of};
+ghost use Rattle.snap_views.specs.Seen.{views_between};
+ghost use Rattle.snap_pairs.specs.inside.Reads.{AreParts, IsGridFor, part_start};
 
 use rayon::prelude::*;
-use snap_conditions::{
-    Tally, ViewChain, ViewGrid, ViewOrder, columns_between, tally_without_read, view_order,
-    view_sum,
-};
+use snap_conditions::{Tally, tally_by_grid, tally_without_read};
 use snap_core::COMPONENT_COUNT;
 use snap_grid::Column;
 use snap_index::Index;
 use snap_threads::{Cutting, each_job};
+use snap_views::{ViewChain, ViewGrid, ViewOrder, columns_between, view_order, view_sum};
 use std::alloc::{AllocError, Global};
 use std::thread::Threads;
 
@@ -66,7 +65,7 @@ pub(crate) fn piece_tally(
     ensures { IfOk result (λ tally. tally ≡ tally_of (calls_of index.now) (views_between (calls_of index.now) from to)) }
 {
     match grid {
-        Some(grid) => grid.tally(alloc, from, to),
+        Some(grid) => tally_by_grid(alloc, grid, from, to),
         None => Ok(tally_without_read(index, from, to)),
     }
 }

@@ -1,26 +1,30 @@
 //! The tally of all views, from the workers' start to their end.
 ghost use Rattle.std.specs.Prelude.{◌≡◌, ◌↔◌, [], IfOk, IfSome, IsSome};
 ghost use Rattle.snap_core.specs.Calls.{calls_of, views_of};
-ghost use Rattle.snap_conditions.specs.Chains.{IsViewChain};
+ghost use Rattle.snap_views.specs.Chains.{IsViewChain};
 ghost use Rattle.snap_theory.specs.Faults.{read_faults};
 ghost use Rattle.snap_conditions.specs.Tally.{tally_of};
 ghost use Rattle.snap_pairs.specs.Claiming.{IsClaimOf};
-ghost use Rattle.snap_pairs.specs.Pieces.{IsAnswer};
-ghost use Rattle.snap_pairs.specs.Reads.{IsGridFor};
+ghost use Rattle.snap_pairs.specs.inside.Pieces.{IsAnswer};
+ghost use Rattle.snap_pairs.specs.inside.Reads.{IsGridFor};
 
 use crate::claims::{Claim, Claims};
 use crate::gather::{gather, merge_slots};
 use crate::reads::grid_or_chain;
 use crate::worker::{Answer, draw_all};
-use snap_conditions::{Tally, ViewChain, ViewGrid};
+use snap_conditions::Tally;
 use snap_core::Gate;
 use snap_index::Index;
 use snap_threads::{Cutting, each_job};
+use snap_views::{ViewChain, ViewGrid};
 use std::alloc::{AllocError, Global};
 use std::thread::Threads;
 
-/// The tally of all completed views, as `tally` gives it, and these views as a chain exactly where no two of them are a read
-/// fault, so that an order can be built along it.
+/// The tally of all completed views, whatever the cutting and the gate are, and these views as a chain exactly where no two of
+/// them are a read fault, so that an order can be built along it. The workers draw pieces of the views from one counter until
+/// all are drawn. A worker calls `gate.at` with its own number, from 0, and the count of pieces that it got before, when it has
+/// got a piece and before it works on it. The work of a worker that cannot be started is done on the calling thread under that
+/// worker's number. It waits for the workers, and so for the gate. The error is want of memory.
 pub fn tally_and_chain<R: Threads + Sync, G: Gate>(
     rt: &R,
     alloc: Global,
@@ -35,23 +39,6 @@ pub fn tally_and_chain<R: Threads + Sync, G: Gate>(
     let (grid, chain) = grid_or_chain(rt, alloc, index, cutting)?;
     let tally = tally_by(rt, alloc, index, &grid, cutting, gate)?;
     Ok((tally, chain))
-}
-
-/// The tally of all completed views, whatever the cutting and the gate are. The workers draw pieces of the views from
-/// one counter until all are drawn. A worker calls `gate.at` with its own number, from 0, and the count of pieces that
-/// it got before, when it has got a piece and before it works on it. The work of a worker that cannot be started is
-/// done on the calling thread under that worker's number. It waits for the workers, and so for the gate.
-pub fn tally<R: Threads + Sync, G: Gate>(
-    rt: &R,
-    alloc: Global,
-    index: &Index<'_>,
-    cutting: Cutting,
-    gate: &G,
-) -> Result<Tally, AllocError>
-    ensures { IfOk result (λ all. all ≡ tally_of (calls_of index.now) (views_of (calls_of index.now))) }
-{
-    let (tally, _chain) = tally_and_chain(rt, alloc, index, cutting, gate)?;
-    Ok(tally)
 }
 
 // The tally of all completed views, by a grid of them where they have a read fault.

@@ -2,16 +2,17 @@
 ghost use Rattle.std.specs.Prelude.{◌≡◌, [], IfOk};
 ghost use Rattle.snap_core.specs.Calls.{calls_of};
 ghost use Rattle.snap_pairs.specs.Claiming.{IsClaimOf};
-ghost use Rattle.snap_pairs.specs.Pieces.{IsAnswer};
-ghost use Rattle.snap_pairs.specs.Reads.{IsGridFor};
+ghost use Rattle.snap_pairs.specs.inside.Pieces.{IsAnswer};
+ghost use Rattle.snap_pairs.specs.inside.Reads.{IsGridFor};
 
 use crate::claims::{Claim, Claims};
 use crate::pieces::start_of;
 use crate::reads::piece_tally;
-use snap_conditions::{Tally, ViewGrid};
+use snap_conditions::Tally;
 use snap_core::Gate;
 use snap_index::Index;
 use snap_threads::Cutting;
+use snap_views::ViewGrid;
 use std::alloc::{AllocError, Global};
 
 /// A piece that was drawn, and its tally.

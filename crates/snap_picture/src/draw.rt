@@ -1,3 +1,4 @@
+//! The picture of a history.
 ghost use Rattle.std.specs.Prelude.{◌≡◌, [], IfOk, is_some, length, map};
 ghost use Rattle.std.specs.Option.{ForSome, option_map_or};
 ghost use Rattle.snap_core.specs.Calls.{calls_of, views_of};
@@ -10,17 +11,16 @@ ghost use Rattle.snap_picture.specs.Drawing.{DrawsHistory, IsDrawing, IsDrawn};
 
 use crate::markup::Markup;
 use snap_check::RunFault;
-use snap_conditions::{Tally, is_atomic};
+use snap_conditions::Tally;
 use snap_core::{Counted, History, Limit, OpenGate};
 use snap_csv::{ReadRefusal, read_records_within};
 use snap_draw::{Picture, shapes_of};
 use snap_explain::explain;
 use snap_index::Index;
-use snap_order::build;
-use snap_pairs::tally;
+use snap_pairs::tally_and_chain;
 use snap_report::refusal_text;
 use snap_threads::Cutting;
-use snap_verdict::{Status, status_of};
+use snap_verdict::{Status, order_by, status_of};
 use std::alloc::{AllocError, Global};
 use std::io::{Read, Write};
 use std::thread::Threads;
@@ -66,27 +66,6 @@ fn picture_of<'x, M: Markup>(
     )
 }
 
-// The same, with the order where there is one.
-fn text_of<Rt: Threads + Sync, M: Markup>(
-    rt: &Rt,
-    alloc: Global,
-    markup: &M,
-    index: &Index<'_>,
-    tally: &Tally,
-    records: &[u32],
-) -> Result<Vec<u8>, AllocError>
-    requires tally { tally.now ≡ tally_of (calls_of index.now) (views_of (calls_of index.now)) }
-    requires each { length records.now ≡ length index.now }
-    ensures { IfOk result (λ text. IsDrawing M.calls M.writes index.now records.now text.items) }
-{
-    if is_atomic(tally) {
-        let order = build(rt, alloc, index)?;
-        picture_of(alloc, markup, index, tally, records, Some(&order))
-    } else {
-        picture_of(alloc, markup, index, tally, records, None)
-    }
-}
-
 // How the faults of a picture are looked for. Who waits for a picture waits for one alone, so more workers share the pieces.
 fn cutting() -> Cutting {
     Cutting::new(8, 4).unwrap_or(Cutting::usual())
@@ -104,8 +83,9 @@ pub(crate) fn drawn<Rt: Threads + Sync, M: Markup>(
     ensures { IfOk result (λ answer. DrawsHistory M.calls M.writes history.now records.now answer.0 answer.1.items) }
 {
     let index = Index::build(alloc, history)?;
-    let tally = tally(rt, alloc, &index, cutting(), &OpenGate)?;
-    let text = text_of(rt, alloc, markup, &index, &tally, records)?;
+    let (tally, chain) = tally_and_chain(rt, alloc, &index, cutting(), &OpenGate)?;
+    let order = order_by(alloc, &index, &tally, chain)?;
+    let text = picture_of(alloc, markup, &index, &tally, records, order.as_deref())?;
     Ok((status_of(&index, &tally), text))
 }
 

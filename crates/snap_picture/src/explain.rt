@@ -1,3 +1,4 @@
+//! The picture of a history's explanation.
 ghost use Rattle.snap_core.specs.Counting.{failures_in, inner_of};
 ghost use Rattle.snap_check.specs.Runs.{JudgeCounts, JudgesBy, RunCounts, WroteBy};
 ghost use Rattle.snap_picture.specs.Explaining.{IsExplainedDrawn};

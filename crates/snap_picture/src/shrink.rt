@@ -1,3 +1,4 @@
+//! The picture of what a history is cut down to.
 ghost use Rattle.std.specs.Prelude.{◌≡◌, ◌≤◌, IfOk, length};
 ghost use Rattle.std.specs.List.{range_with_len};
 ghost use Rattle.snap_core.specs.Counting.{failures_in, inner_of};

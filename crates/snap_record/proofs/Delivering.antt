@@ -12,7 +12,8 @@ use Rattle.snap_board.specs.declared.record.Record.{Record}
 use Rattle.snap_record.specs.declared.delivery.Ended.{Ended}
 use Rattle.snap_record.specs.declared.delivery.Role.{Role}
 use Rattle.snap_record.specs.declared.delivery.Role.TheVariants.{Sends, Takes, Spent}
-use Rattle.snap_record.specs.Delivery.{of_worker, new_taker, one_made, next_sender, taken_in, after_push, after_pop, DidSend, HasEnded, Fits, Delivers, AddsUp}
+use Rattle.snap_record.specs.Delivery.{of_worker}
+use Rattle.snap_record.specs.inside.Delivery.{new_taker, one_made, next_sender, taken_in, after_push, after_pop, DidSend, HasEnded, Fits, Delivers, AddsUp}
 use Rattle.snap_account.proofs.Lists.{at_push}
 use Rattle.snap_record.proofs.ByWorker.{of_worker-same, of_worker-other}
 

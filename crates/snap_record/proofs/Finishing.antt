@@ -10,9 +10,11 @@ use Rattle.snap_record.specs.declared.delivery.Role.{Role}
 use Rattle.snap_record.specs.declared.delivery.Role.TheVariants.{Sends, Takes}
 use Rattle.snap_core.specs.Sums.{total}
 use Rattle.snap_board.specs.Settled.{falling}
-use Rattle.snap_record.specs.Delivery.{of_worker, taken_in, DidSend, AddsUp}
+use Rattle.snap_record.specs.Delivery.{of_worker}
+use Rattle.snap_record.specs.inside.Delivery.{taken_in, DidSend, AddsUp}
 use Rattle.snap_record.specs.Relays.{SenderView, sender_at, count_in, count_sent, HasPlaces, TookAll}
-use Rattle.snap_record.specs.Ends.{TookIn, taken_of, made_of}
+use Rattle.snap_record.specs.inside.Ends.{TookIn, made_of}
+use Rattle.snap_record.specs.Ends.{taken_of}
 use Rattle.snap_record.proofs.ByWorker.{counted}
 
 -- one more sender is taken in

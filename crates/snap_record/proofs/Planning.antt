@@ -24,10 +24,10 @@ use Rattle.snap_board.proofs.Climbing.{few_tries}
 use Rattle.snap_board.specs.Settled.{falling}
 use Rattle.snap_account.specs.Rule.{tick_limit}
 use Rattle.snap_record.specs.Plans.{steps_in, plan_refusal, worker_limit, are_workers, each_draws, draws_within, last_step, round_script, rounds_scripts, AreWorkers, AreRounds, IsRun, HasScripts}
-use Rattle.snap_record.specs.Scripts.{IsOpOf, DidScript, DidSome}
+use Rattle.snap_record.specs.inside.Scripts.{IsOpOf, DidScript, DidSome}
 use Rattle.snap_board.specs.History.{stamped_events, events_in, begin_of, end_of}
 use Rattle.snap_record.specs.Delivery.{of_worker}
-use Rattle.snap_record.specs.Recording.{DidScripts, IsTold}
+use Rattle.snap_record.specs.inside.Recording.{DidScripts, IsTold}
 use Rattle.snap_record.proofs.ByDesk.{total_desks, total_below, total_first}
 use Rattle.snap_board.proofs.Accounts.{hand_low, hand_one, hand_there}
 use Rattle.snap_record.proofs.ByWorker.{counted}

@@ -17,12 +17,13 @@ use Rattle.snap_board.specs.Desks.{account, records, records_in, records_at, tic
 use Rattle.snap_account.specs.Seats.{answered_of, desk_of, ticks_of}
 use Rattle.snap_record.specs.Plans.{steps_in}
 use Rattle.snap_account.specs.Plays.{only_first}
-use Rattle.snap_record.specs.Recording.{DidScripts}
+use Rattle.snap_record.specs.inside.Recording.{DidScripts}
 use Rattle.snap_board.specs.Settled.{falling}
 use Rattle.snap_record.specs.Relays.{SenderView, AreNew, HasPlaces, TookAll}
 use Rattle.snap_account.specs.Rule.{newcomers}
-use Rattle.snap_record.specs.Scripts.{AreCallsOf, DidSome}
-use Rattle.snap_record.specs.Workers.{EachAt, IsWorkerOf, IsUnused, AreUnused, HasRun, HaveRun, HaveDone, HaveClosed}
+use Rattle.snap_record.specs.Scripts.{AreCallsOf}
+use Rattle.snap_record.specs.inside.Scripts.{DidSome}
+use Rattle.snap_record.specs.inside.Workers.{EachAt, IsWorkerOf, IsUnused, AreUnused, HasRun, HaveRun, HaveDone, HaveClosed}
 use Rattle.snap_record.specs.declared.worker.Recorder.{Recorder}
 use Rattle.snap_record.specs.declared.worker.Worker.{Worker}
 use Rattle.snap_record.specs.declared.worker.Ran.{Ran}

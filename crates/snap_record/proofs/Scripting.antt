@@ -7,7 +7,8 @@ use Rattle.snap_record.specs.declared.plan.Step.{Step}
 use Rattle.snap_board.specs.declared.record.Record.{Record}
 use Rattle.snap_record.specs.Choices.{chosen, left_out, LeavesScans, IsScan, tries_of, one_view, views_in}
 use Rattle.snap_record.specs.Plans.{has_tries, step_ticks, draws_within}
-use Rattle.snap_record.specs.Scripts.{IsStepOf, DidScript, DidSome, IsCallOf, AreCallsOf}
+use Rattle.snap_record.specs.inside.Scripts.{IsStepOf, DidScript, DidSome}
+use Rattle.snap_record.specs.Scripts.{IsCallOf, AreCallsOf}
 use Rattle.snap_account.specs.declared.account.Answered.{Answered}
 use Rattle.snap_board.specs.Boards.{DeskView}
 use Rattle.snap_board.specs.LastCall.{HasCalled}

@@ -19,7 +19,8 @@ use Rattle.snap_account.specs.Calls.{Mem}
 use Rattle.snap_board.specs.Desks.{records_in, collects_in}
 use Rattle.snap_record.specs.declared.plan.Step.{Step}
 use Rattle.snap_record.specs.Plans.{HasNoViews}
-use Rattle.snap_record.specs.Recording.{AreStamped, DidScripts, IsTold}
+use Rattle.snap_record.specs.Recording.{AreStamped}
+use Rattle.snap_record.specs.inside.Recording.{DidScripts, IsTold}
 use Rattle.snap_board.specs.Settled.{falling}
 use Rattle.snap_record.proofs.ByDesk.{first_desk}
 use Rattle.snap_board.proofs.Accounts.{hand_there}

@@ -14,4 +14,4 @@ pub mod Choices
 pub mod Plans
 pub mod Scripts
 pub mod Recording
-pub mod Workers
+pub mod inside

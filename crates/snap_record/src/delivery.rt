@@ -1,4 +1,4 @@
-// The rule of the queue of records, and what each of its passes knows.
+//! The rule of the queue of records, and what each of its passes knows.
 use crossbeam_queue::protocol::{Join, Lesson, Outcome, Protocol, Split};
 use crossbeam_queue::{RuledSegQueue, SegPass};
 use snap_board::Record;
@@ -24,7 +24,7 @@ pub enum Role {
 pub struct InOrder;
 
 impl Protocol<Record, Role> for InOrder {
-    ghost use Rattle.snap_record.specs.Delivery.{Delivers, new_taker};
+    ghost use Rattle.snap_record.specs.inside.Delivery.{Delivers, new_taker};
 
     ghost holds = { Delivers };
 
@@ -35,7 +35,7 @@ impl Protocol<Record, Role> for InOrder {
 pub struct MakeSender;
 
 impl Split<Role> for MakeSender {
-    ghost use Rattle.snap_record.specs.Delivery.{one_made, next_sender};
+    ghost use Rattle.snap_record.specs.inside.Delivery.{one_made, next_sender};
 
     ghost left = { one_made };
 
@@ -46,7 +46,7 @@ impl Split<Role> for MakeSender {
 pub struct TakeIn;
 
 impl Join<Role> for TakeIn {
-    ghost use Rattle.snap_record.specs.Delivery.{taken_in};
+    ghost use Rattle.snap_record.specs.inside.Delivery.{taken_in};
     ghost use Rattle.snap_record.specs.declared.delivery.Role.TheVariants.{Spent};
 
     ghost both = { taken_in };
@@ -59,7 +59,7 @@ pub struct PushRecord;
 
 impl Outcome<Record, Role> for PushRecord {
     ghost use Rattle.std.specs.Prelude.{◌≡◌};
-    ghost use Rattle.snap_record.specs.Delivery.{after_push};
+    ghost use Rattle.snap_record.specs.inside.Delivery.{after_push};
 
     ghost then = { λ v x w. w ≡ after_push v x };
 }
@@ -69,7 +69,7 @@ pub struct PopRecord;
 
 impl Outcome<Record, Role> for PopRecord {
     ghost use Rattle.std.specs.Prelude.{◌≡◌};
-    ghost use Rattle.snap_record.specs.Delivery.{after_pop};
+    ghost use Rattle.snap_record.specs.inside.Delivery.{after_pop};
 
     ghost then = { λ v x w. w ≡ after_pop v x };
 }
@@ -84,7 +84,7 @@ impl Lesson<Record, Role> for PopRecord {
 pub struct SumUp;
 
 impl Lesson<Record, Role> for SumUp {
-    ghost use Rattle.snap_record.specs.Delivery.{AddsUp};
+    ghost use Rattle.snap_record.specs.inside.Delivery.{AddsUp};
 
     ghost fact = { AddsUp };
 }

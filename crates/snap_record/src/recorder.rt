@@ -9,9 +9,10 @@ ghost use Rattle.snap_board.specs.Desks.{accounts, IsGatheredOf};
 ghost use Rattle.snap_board.specs.History.{AllCompleted};
 ghost use Rattle.snap_record.specs.Plans.{HasScripts, HasWholeScripts, HasNoScans, HasNoViews, AreWorkers, steps_in};
 ghost use Rattle.snap_core.specs.Orders.{IsAtomic};
-ghost use Rattle.snap_record.specs.Recording.{ArePlaces, AreStamped, DidScripts};
+ghost use Rattle.snap_record.specs.Recording.{ArePlaces, AreStamped};
+ghost use Rattle.snap_record.specs.inside.Recording.{DidScripts};
 ghost use Rattle.snap_record.specs.Relays.{IsSenderOf, IsTakerOf};
-ghost use Rattle.snap_record.specs.Workers.{IsWorkerOf, IsUnused, AreUnused, HasRun, HaveRun, HaveClosed, IsTakenOf};
+ghost use Rattle.snap_record.specs.inside.Workers.{IsWorkerOf, IsUnused, AreUnused, HasRun, HaveRun, HaveClosed, IsTakenOf};
 
 use crate::plan::Plan;
 use crate::relay::{Relay, Sender, Taker};

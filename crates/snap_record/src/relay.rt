@@ -2,10 +2,11 @@
 ghost use Rattle.std.specs.Prelude.{◌≡◌, ℕ, ◌≤◌, ◌↔◌, [], IfErr, IfOk, OnOk, IsOk, IsTrue, MatchOption, MatchResult, option_map, All, length};
 ghost use Rattle.crossbeam_queue.specs.SegTies.{IsSegPassOf};
 ghost use Rattle.snap_record.specs.declared.delivery.Role.TheVariants.{Takes};
-ghost use Rattle.snap_record.specs.Delivery.{new_taker};
+ghost use Rattle.snap_record.specs.inside.Delivery.{new_taker};
 ghost use Rattle.snap_record.specs.Plans.{worker_limit};
 ghost use Rattle.snap_record.specs.Relays.{IsSenderOf, IsTakerOf, sent_more, taken_more, AreNew, HasPlaces, IsDone, TookAll, count_sent, sender_at};
-ghost use Rattle.snap_record.specs.Ends.{TookIn, made_of, taken_of};
+ghost use Rattle.snap_record.specs.inside.Ends.{TookIn, made_of};
+ghost use Rattle.snap_record.specs.Ends.{taken_of};
 
 use crate::delivery::{MakeSender, Pass, PopRecord, PushRecord, Queue, SumUp, TakeIn};
 use snap_board::Record;
@@ -85,7 +86,8 @@ impl Model for Taker {
 
     ghost Value = { TakerView };
 
-    ghost use Rattle.snap_record.specs.Ends.{IsTaker, taker_view};
+    ghost use Rattle.snap_record.specs.inside.Ends.{IsTaker};
+    ghost use Rattle.snap_record.specs.Ends.{taker_view};
 
     ghost view = { taker_view };
 

@@ -1,7 +1,7 @@
 //! How the calling thread takes the records of all workers.
 ghost use Rattle.std.specs.Prelude.{◌≡◌, [], IfOk, OnOk, All, length};
 ghost use Rattle.snap_record.specs.Relays.{IsSenderOf, IsTakerOf, HasPlaces, TookAll};
-ghost use Rattle.snap_record.specs.Workers.{IsTakenOf};
+ghost use Rattle.snap_record.specs.inside.Workers.{IsTakenOf};
 
 use crate::relay::{Relay, Sender, Taker, count_all};
 use snap_board::Record;

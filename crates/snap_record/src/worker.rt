@@ -2,12 +2,13 @@
 ghost use Rattle.std.specs.Prelude.{◌≡◌, ◌+◌, ◌*◌, ◌<◌, ◌≤◌, ◌++◌, ◌∷◌, [], IfOk, IfSome, IfNone, OnOk, MatchOption, length, slice_index_or, true};
 ghost use Rattle.snap_core.specs.Events.{event_cap};
 ghost use Rattle.snap_board.specs.Desks.{records, ticks, lost, collects, IsDeskOf};
-ghost use Rattle.snap_record.specs.Scripts.{AreCallsOf, DidSome, IsCallOf, IsStepOf};
+ghost use Rattle.snap_record.specs.Scripts.{AreCallsOf, IsCallOf};
+ghost use Rattle.snap_record.specs.inside.Scripts.{DidSome, IsStepOf};
 ghost use Rattle.snap_board.specs.LastCall.{HasCalled};
 ghost use Rattle.snap_record.specs.Choices.{tries_of, IsScan, one_view, views_in};
 ghost use Rattle.snap_record.specs.Plans.{has_tries, step_ticks, draws_within};
 ghost use Rattle.snap_account.specs.Rule.{tick_limit};
-ghost use Rattle.snap_record.specs.Workers.{IsWorkerOf, IsUnused, HasRun};
+ghost use Rattle.snap_record.specs.inside.Workers.{IsWorkerOf, IsUnused, HasRun};
 
 use crate::plan::{Plan, Step};
 use crate::relay::{Relay, Sender};

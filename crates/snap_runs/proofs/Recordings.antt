@@ -38,12 +38,6 @@ report_of scripts events recording short status out v =
           inr (record { events = events; history = text_reads limit events recording.kept (omega (arith, recording.few, within)) (short limit some within); verdict = v });
     }
 
-pub text_written : (scripts : List (List Step)) (events : List Event) → IsRecordingOf scripts events → (old new : Option (List ℕ)) (answer : Result Status RunFault) →
-    WroteAs (λ status out. (status ≡ Recorded) × (out ≡ history_text events)) old new answer → WroteAs (IsRecorded false scripts) old new answer
-text_written scripts events recording old new answer h =
-    wrote_also (λ status out. (status ≡ Recorded) × (out ≡ history_text events)) (IsRecorded false scripts)
-    (λ status out w. record { events = events; recording = recording; answers = w.0; writes = w.1 }) old new answer h
-
 pub stamped_written : (scripts : List (List Step)) (events : List Event) (stamps : List ℕ) → IsRecordingOf scripts events → HasStamps scripts events stamps → (old new : Option (List ℕ)) (answer : Result Status RunFault) →
     WroteAs (λ status out. (status ≡ Recorded) × (out ≡ stamped_text stamps events)) old new answer → WroteAs (IsStampedRecording scripts) old new answer
 stamped_written scripts events stamps recording has_stamps old new answer h =

@@ -1,3 +1,4 @@
+//! The run that explains a history.
 ghost use Rattle.std.specs.Prelude.{◌≡◌, IfOk, length};
 ghost use Rattle.snap_core.specs.Calls.{calls_of, views_of};
 ghost use Rattle.snap_core.specs.Counting.{failures_in, inner_of};
@@ -7,38 +8,16 @@ ghost use Rattle.snap_runs.specs.Explaining.{ExplainsHistory, IsExplained};
 ghost use Rattle.snap_check.specs.Runs.{JudgeCounts, JudgesBy, RunCounts, WroteBy};
 
 use snap_check::RunFault;
-use snap_conditions::{Tally, is_atomic};
 use snap_core::{Counted, History, Limit, OpenGate};
 use snap_csv::{ReadRefusal, read_records_within};
 use snap_explain::{explain, explain_refusal};
 use snap_index::Index;
-use snap_order::build;
-use snap_pairs::tally;
+use snap_pairs::tally_and_chain;
 use snap_threads::Cutting;
-use snap_verdict::{Status, status_of};
+use snap_verdict::{Status, order_by, status_of};
 use std::alloc::{AllocError, Global};
 use std::io::{Read, Write};
 use std::thread::Threads;
-
-// The explanation of a history by its index, the tally of all its completed views, and the records of its events.
-fn explanation_of<Rt: Threads + Sync>(
-    rt: &Rt,
-    alloc: Global,
-    index: &Index<'_>,
-    tally: &Tally,
-    records: &[u32],
-) -> Result<Vec<u8>, AllocError>
-    requires tally { tally.now ≡ tally_of (calls_of index.now) (views_of (calls_of index.now)) }
-    requires each { length records.now ≡ length index.now }
-    ensures { IfOk result (λ text. IsExplanation records.now (calls_of index.now) text.items) }
-{
-    if is_atomic(tally) {
-        let order = build(rt, alloc, index)?;
-        explain(alloc, index, tally, records, Some(&order))
-    } else {
-        explain(alloc, index, tally, records, None)
-    }
-}
 
 // The status of a history, and its explanation by the records of its events.
 fn explained<Rt: Threads + Sync>(
@@ -51,8 +30,9 @@ fn explained<Rt: Threads + Sync>(
     ensures { IfOk result (λ answer. ExplainsHistory history.now records.now answer.0 answer.1.items) }
 {
     let index = Index::build(alloc, history)?;
-    let tally = tally(rt, alloc, &index, Cutting::usual(), &OpenGate)?;
-    let text = explanation_of(rt, alloc, &index, &tally, records)?;
+    let (tally, chain) = tally_and_chain(rt, alloc, &index, Cutting::usual(), &OpenGate)?;
+    let order = order_by(alloc, &index, &tally, chain)?;
+    let text = explain(alloc, &index, &tally, records, order.as_deref())?;
     Ok((status_of(&index, &tally), text))
 }
 

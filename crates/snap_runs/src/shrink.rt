@@ -1,3 +1,4 @@
+//! The run that cuts a history down to a witness.
 ghost use Rattle.std.specs.Prelude.{IfOk};
 ghost use Rattle.snap_core.specs.Counting.{failures_in, inner_of};
 ghost use Rattle.snap_check.specs.Runs.{RunCounts, WroteBy};
@@ -7,7 +8,7 @@ use crate::recording::write_text;
 use snap_check::{Reading, RunFault, read_in};
 use snap_core::{Counted, History, Limit, OpenGate};
 use snap_index::Index;
-use snap_pairs::tally;
+use snap_pairs::tally_and_chain;
 use snap_threads::Cutting;
 use snap_verdict::{Status, status_of};
 use snap_witness::witness;
@@ -24,7 +25,7 @@ fn first_witness<Rt: Threads + Sync>(
     ensures { IfOk result (λ answer. IsFirstWitness history.now answer.0 answer.1) }
 {
     let index = Index::build(alloc, history)?;
-    let tally = tally(rt, alloc, &index, Cutting::usual(), &OpenGate)?;
+    let (tally, _chain) = tally_and_chain(rt, alloc, &index, Cutting::usual(), &OpenGate)?;
     Ok((status_of(&index, &tally), witness(alloc, &index, &tally)?))
 }
 

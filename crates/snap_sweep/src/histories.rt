@@ -3,14 +3,14 @@ ghost use Rattle.snap_core.specs.Calls.{calls_of};
 ghost use Rattle.snap_theory.specs.Faults.{HasNoFault};
 
 use crate::fault::{Fault, expect};
-use snap_conditions::{faultless_chain, view_sums};
 use snap_core::{Event, EventRefusal, History, OpenGate, View};
 use snap_index::Index;
-use snap_order::{build, build_along, check_order};
-use snap_pairs::{Claims, tally, tally_and_chain};
+use snap_order::{build, check_order};
+use snap_pairs::{Claims, tally_and_chain};
 use snap_testing::worked::{ATOMIC_RUN, CROSSED_VIEWS, FOUR_WAYS, SEEN_PENDING};
 use snap_testing::{Step, entry, history_of};
 use snap_threads::{Cutting, PIECE_LIMIT, WORKER_LIMIT};
+use snap_views::{ViewOrder, view_order, view_sums};
 use std::alloc::Global;
 use std::thread::Threads;
 
@@ -63,47 +63,28 @@ pub fn index(alloc: Global) -> Result<(), Fault> {
     expect(index.update_call(1, 1) == Some(1) && index.update_call(1, 2).is_none())
 }
 
-// The list is a legal order, and the one that is printed.
-fn expect_printed<R: Threads + Sync>(
-    rt: &R,
-    alloc: Global,
-    index: &Index<'_>,
-    order: &[u32],
-) -> Result<(), Fault> {
-    if !check_order(alloc, index, order)? {
-        return Err(Fault::Wrong);
-    }
-    expect(build(rt, alloc, index)?.as_slice() == order)
-}
-
-/// The update that was shown and then the view are a legal order, and the one that is printed.
-pub fn order<R: Threads + Sync>(rt: &R, alloc: Global) -> Result<(), Fault> {
-    let history = history_of(alloc, SEEN_PENDING)?;
-    let index = Index::build(alloc, &history)?;
-    expect(!check_order(alloc, &index, &[2, 0])?)?;
-    expect_printed(rt, alloc, &index, &[0, 2])
-}
-
-// The order of an index along the chain of its views.
-fn order_along(alloc: Global, index: &Index<'_>) -> Result<Vec<u32>, Fault>
+// The printed order of an index, along the chain of its views.
+fn printed(alloc: Global, index: &Index<'_>) -> Result<Vec<u32>, Fault>
     requires { HasNoFault (calls_of index.now) }
 {
     let sums = view_sums(alloc, index)?;
-    let Some(chain) = faultless_chain(alloc, index, sums)? else {
+    let ViewOrder::Faultless(chain) = view_order(alloc, index, sums)? else {
         return Err(Fault::Wrong);
     };
-    Ok(build_along(alloc, index, chain)?)
+    Ok(build(alloc, index, chain)?)
 }
 
-/// The same order along the chain of the views. Where memory is refused both are made once more.
-pub fn order_along_chain(alloc: Global) -> Result<(), Fault> {
+/// The update that was shown and then the view are a legal order, and the one that is printed. Where memory is refused the order
+/// is made once more.
+pub fn order(alloc: Global) -> Result<(), Fault> {
     let history = history_of(alloc, SEEN_PENDING)?;
     let index = Index::build(alloc, &history)?;
+    expect(!check_order(alloc, &index, &[2, 0])?)?;
     if !check_order(alloc, &index, &[0, 2])? {
         return Err(Fault::Wrong);
     }
-    let order = match order_along(alloc, &index) {
-        Err(Fault::Memory) => order_along(alloc, &index)?,
+    let order = match printed(alloc, &index) {
+        Err(Fault::Memory) => printed(alloc, &index)?,
         answer => answer?,
     };
     expect(order.as_slice() == [0, 2].as_slice())
@@ -119,7 +100,7 @@ fn expect_read_faults<R: Threads + Sync>(
 ) -> Result<(), Fault> {
     let history = history_of(alloc, steps)?;
     let index = Index::build(alloc, &history)?;
-    let found = tally(rt, alloc, &index, cutting, &OpenGate)?;
+    let (found, _chain) = tally_and_chain(rt, alloc, &index, cutting, &OpenGate)?;
     expect(found.integrity.count() == 0 && found.proximity.count() == 0)?;
     expect(found.read.count() == count && found.write.count() == 0)
 }

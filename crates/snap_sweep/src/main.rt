@@ -26,8 +26,7 @@ fn main(rt: HostRuntime) {
     let cases = [
         ("push", histories::push(alloc)),
         ("index", histories::index(alloc)),
-        ("order", histories::order(&rt, alloc)),
-        ("order along a chain", histories::order_along_chain(alloc)),
+        ("order", histories::order(alloc)),
         ("tally", histories::tally_of_pieces(&rt, alloc)),
         ("tally of parts", histories::tally_of_parts(&rt, alloc)),
         ("tally and chain", histories::tallies_and_chains(&rt, alloc)),
@@ -49,7 +48,6 @@ fn main(rt: HostRuntime) {
         ("fields", texts::fields(alloc)),
         ("report", texts::report_of_faults(alloc)),
         ("report in memory", texts::report_in_memory(alloc)),
-        ("verdict in memory", texts::verdict_in_memory(alloc)),
         ("verdict along a chain", texts::verdict_along_chain(alloc)),
         ("words", texts::words(alloc)),
         ("verdicts alone", texts::verdicts_alone(alloc)),

@@ -13,9 +13,7 @@ use snap_report::{
 use snap_testing::worked::{CROSSED_VIEWS, STALE_AND_WRONG, VIEW_BESIDE_UPDATE};
 use snap_testing::{Cup, entry, history_of};
 use snap_text::{TextFault, fields_of};
-use snap_verdict::{
-    Status, brief_verdict_of, judge_text, verdict_alone, verdict_along, verdict_of,
-};
+use snap_verdict::{Status, brief_verdict_of, judge_text, verdict_along};
 use snap_witness::witness;
 use std::alloc::{AllocError, Global};
 
@@ -181,19 +179,6 @@ pub fn report_in_memory(alloc: Global) -> Result<(), Fault> {
     expect_bytes(report_in(room, &index, &tally, None), CROSSED_VIEWS_REPORT)
 }
 
-/// The same with its status.
-pub fn verdict_in_memory(alloc: Global) -> Result<(), Fault> {
-    let history = history_of(alloc, CROSSED_VIEWS)?;
-    let index = Index::build(alloc, &history)?;
-    let tally = tally_range(&index, 0, index.view_count());
-    if is_atomic(&tally) {
-        return Err(Fault::Wrong);
-    }
-    let room = vec![in alloc; b'x']?;
-    let made = verdict_of(&index, &tally, None, room);
-    expect_verdict(made, Status::Regular, CROSSED_VIEWS_REPORT)
-}
-
 // The status and the report of an atomic history, along the chain of its views.
 fn report_along_chain(alloc: Global) -> Result<(Status, Vec<u8>), Fault> {
     let history = history_of(alloc, VIEW_BESIDE_UPDATE)?;
@@ -273,11 +258,8 @@ pub fn refusal(alloc: Global) -> Result<(), Fault> {
     )
 }
 
-/// The status and the report of a history, of its text, and of a text that is none.
+/// The status and the report of a text, and of one that is no history.
 pub fn verdict(alloc: Global) -> Result<(), Fault> {
-    let history = history_of(alloc, VIEW_BESIDE_UPDATE)?;
-    let made = verdict_alone(alloc, &history);
-    expect_verdict(made, Status::Atomic, VIEW_BESIDE_UPDATE_REPORT)?;
     let made = judge_text(alloc, VIEW_BESIDE_UPDATE_TEXT);
     expect_verdict(made, Status::Atomic, VIEW_BESIDE_UPDATE_REPORT)?;
     let made = judge_text(alloc, BUSY_TEXT);

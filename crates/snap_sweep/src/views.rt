@@ -1,14 +1,12 @@
 //! The sums, the chains and the grids of views.
 use crate::fault::{Fault, expect};
-use snap_conditions::{
-    Tally, ViewGrid, ViewOrder, chain, columns_between, faultless_chain, ordered, tally_alone,
-    tally_and_chain_alone, view_order, view_sums,
-};
+use snap_conditions::{Tally, tally_and_chain_alone, tally_by_grid};
 use snap_core::COMPONENT_COUNT;
 use snap_index::Index;
 use snap_testing::Step::{Update, Updated, View, Viewed};
 use snap_testing::worked::{ATOMIC_RUN, CROSSED_VIEWS, NEW_THEN_OLD};
 use snap_testing::{Step, history_of};
+use snap_views::{ViewGrid, ViewOrder, chain, columns_between, ordered, view_order, view_sums};
 use std::alloc::{AllocError, Global};
 
 // Beside an open update of component 1 seven views show it, one after another, and a later one does not.
@@ -65,19 +63,13 @@ fn expect_sorted(
     expect_places(chain(alloc, index, &sums)?, known_chain)
 }
 
-// By their sums the views of an index are in order or not, and the quick test passes or not.
-fn expect_passes(
-    alloc: Global,
-    index: &Index<'_>,
-    is_ordered: bool,
-    passes: bool,
-) -> Result<(), Fault> {
+// By their sums the views of an index are in order or not.
+fn expect_order(alloc: Global, index: &Index<'_>, is_ordered: bool) -> Result<(), Fault> {
     let sums = view_sums(alloc, index)?;
-    expect(ordered(alloc, index, &sums)? == is_ordered)?;
-    expect(faultless_chain(alloc, index, sums)?.is_some() == passes)
+    expect(ordered(alloc, index, &sums)? == is_ordered)
 }
 
-// The views of a history have these sums, this chain, and such an order, and have no read fault or have one.
+// The views of a history have these sums, this chain, and such an order.
 fn expect_chain(
     alloc: Global,
     steps: &[Step<'_>],
@@ -88,12 +80,7 @@ fn expect_chain(
     let history = history_of(alloc, steps)?;
     let index = Index::build(alloc, &history)?;
     expect_sorted(alloc, &index, known_sums, known_chain)?;
-    expect_passes(
-        alloc,
-        &index,
-        is_ordered,
-        is_ordered && known_chain.is_some(),
-    )
+    expect_order(alloc, &index, is_ordered)
 }
 
 /// Views that disagree are no chain, a view after a newer one is one out of order, and those of an atomic run are one in order.
@@ -109,18 +96,6 @@ fn expect_faults(found: &Tally, read: u64, stale: u64) -> Result<(), Fault> {
     expect(found.read.count() == read && found.write.count() == 0 && found.stale == stale)
 }
 
-// Without a grid, where that serves, a history has so many read faults and stale views.
-fn expect_tally_alone(
-    alloc: Global,
-    steps: &[Step<'_>],
-    read: u64,
-    stale: u64,
-) -> Result<(), Fault> {
-    let history = history_of(alloc, steps)?;
-    let index = Index::build(alloc, &history)?;
-    expect_faults(&tally_alone(alloc, &index)?, read, stale)
-}
-
 // By the grid of its views an index has so many of them.
 fn expect_tally_by_grid(
     alloc: Global,
@@ -129,7 +104,11 @@ fn expect_tally_by_grid(
     stale: u64,
 ) -> Result<(), Fault> {
     let grid = ViewGrid::build(alloc, index)?;
-    expect_faults(&grid.tally(alloc, 0, index.view_count())?, read, stale)
+    expect_faults(
+        &tally_by_grid(alloc, &grid, 0, index.view_count())?,
+        read,
+        stale,
+    )
 }
 
 // By the grid of its views a history has so many of them.
@@ -144,26 +123,24 @@ fn expect_far(alloc: Global, steps: &[Step<'_>], integrity: u64, read: u64) -> R
     let history = history_of(alloc, steps)?;
     let index = Index::build(alloc, &history)?;
     let grid = ViewGrid::build(alloc, &index)?;
-    let found = grid.tally(alloc, 0, index.view_count())?;
+    let found = tally_by_grid(alloc, &grid, 0, index.view_count())?;
     expect(found.integrity.count() == integrity && found.read.count() == read)
 }
 
-/// Grids of few views, of views most of which leave a component out, and of a number far off; and the tally without one.
+/// Grids of few views, of views most of which leave a component out, and of a number far off.
 pub fn grids(alloc: Global) -> Result<(), Fault> {
     expect_tally(alloc, CROSSED_VIEWS, 2, 0)?;
     expect_tally(alloc, NEW_THEN_OLD, 1, 1)?;
     expect_tally(alloc, ATOMIC_RUN, 0, 0)?;
     expect_tally(alloc, SEVEN_NEW_THEN_OLD, 7, 7)?;
-    expect_far(alloc, FAR_AND_CROSSED, 1, 2)?;
-    expect_tally_alone(alloc, ATOMIC_RUN, 0, 0)?;
-    expect_tally_alone(alloc, SEVEN_NEW_THEN_OLD, 7, 7)
+    expect_far(alloc, FAR_AND_CROSSED, 1, 2)
 }
 
 // The tally of an index by a grid of columns that are made before it.
 fn tally_by_columns(alloc: Global, index: &Index<'_>) -> Result<Tally, AllocError> {
     let columns = columns_between(alloc, index, 0, COMPONENT_COUNT)?;
     let grid = ViewGrid::of_columns(alloc, index, columns)?;
-    grid.tally(alloc, 0, index.view_count())
+    tally_by_grid(alloc, &grid, 0, index.view_count())
 }
 
 /// Columns, and a grid of them. Where memory is refused both are made once more.
@@ -184,7 +161,7 @@ fn tally_by_chain(alloc: Global, index: &Index<'_>) -> Result<Tally, Fault> {
         return Err(Fault::Wrong);
     };
     let grid = ViewGrid::of_chain(alloc, index, &chain)?;
-    Ok(grid.tally(alloc, 0, index.view_count())?)
+    Ok(tally_by_grid(alloc, &grid, 0, index.view_count())?)
 }
 
 /// A grid of the chain of views. Where memory is refused it is made once more.

@@ -1,3 +1,4 @@
+//! The run that answers with a JSON object.
 ghost use Rattle.std.specs.Prelude.{◌≡◌, IfOk, length};
 ghost use Rattle.snap_core.specs.Counting.{failures_in, inner_of};
 ghost use Rattle.snap_check.specs.Runs.{JudgeCounts, JudgesBy, RunCounts, WroteBy};
@@ -12,7 +13,7 @@ use snap_core::{Counted, Gate, History, Limit};
 use snap_csv::{ReadRefusal, read_records_within};
 use snap_index::Index;
 use snap_json::{few_views_line, history_line, refusal_line};
-use snap_pairs::tally;
+use snap_pairs::tally_and_chain;
 use snap_text::TextFault;
 use snap_threads::Cutting;
 use snap_verdict::{Status, status_of};
@@ -33,7 +34,7 @@ fn told<Rt: Threads + Sync, G: Gate>(
     requires { length records.now ≡ length index.now }
     ensures { IfOk result (λ answer. IsToldHistory name.now index.now records.now answer.0 answer.1.items) }
 {
-    let tally = tally(rt, alloc, index, cutting, gate)?;
+    let (tally, _chain) = tally_and_chain(rt, alloc, index, cutting, gate)?;
     let status = status_of(index, &tally);
     let line = history_line(alloc, name, status.code(), index, &tally, records)?;
     Ok((status, line))

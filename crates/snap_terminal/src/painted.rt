@@ -1,3 +1,4 @@
+//! A writer that paints verdicts.
 ghost use Rattle.std.specs.Prelude.{None, if◌then◌else◌};
 ghost use Rattle.snap_core.specs.Counting.{inner_of};
 

@@ -13,7 +13,7 @@ use Rattle.std.proofs.lemmas.Str.{digit_value_digit}
 use Rattle.std.proofs.lemmas.Str.Parse.{IsNumeralModel, digit_from_value, digits_value_short, numerals_by_value, tells_digits}
 use Rattle.snap_core.specs.declared.entry.Entry.{Entry}
 use Rattle.snap_text.specs.Fields.{entry_at, number_at}
-use Rattle.snap_text.specs.Fronts.{EndsEntry, EntryThen, NoDigitFirst, NumberThen}
+use Rattle.snap_text.specs.inside.Fronts.{EndsEntry, EntryThen, NoDigitFirst, NumberThen}
 use Rattle.snap_text.specs.Spelling.{entry_text}
 use Rattle.snap_text.proofs.BackFacts.{entry_back}
 use Rattle.snap_text.proofs.GrammarFacts.{entry_fits, entry_is}
@@ -26,9 +26,6 @@ own = numerals_by_value (AllDigits 10) tells_digits
 pub record Digits (text : List ℕ) (len number : ℕ) : Type 0 where
   pub all : AllDigits 10 (take len text)
   pub value : number ≡ digits_value 10 (take len text)
-
-pub no_digits : (text : List ℕ) → Digits text 0 0
-no_digits text = record { all = tt; value = refl }
 
 pub digits_small : (text : List ℕ) (len number : ℕ) → Digits text len number → len ≤ 10 → len ≤ length text → number < 10 ^ 10
 digits_small text len number h le in_text =
@@ -183,14 +180,6 @@ numbers_of e rest text h = record {
   component = record { small = omega (arith, h.fits.0); whole = h.whole ∙ entry_and e rest; ends = inr (omega arith) };
   number = record { small = h.fits.1; whole = refl; ends = inr (omega arith) };
   value = record { small = h.fits.2; whole = refl; ends = no_digit rest h.ends };
-}
-
-pub entry_then : (e : Entry) (rest text second third : List ℕ) → NumberThen e.component (58 ∷ second) text → NumberThen e.number (58 ∷ third) second → NumberThen e.value rest third
-    → e.component < 256 → EndsEntry rest → EntryThen e rest text
-entry_then e rest text second third k n v byte ends = record {
-  fits = (byte, n.small, v.small);
-  whole = k.whole ∙ ap (λ (t : List ℕ). decimal e.component ++ 58 ∷ t) (n.whole ∙ ap (λ (t : List ℕ). decimal e.number ++ 58 ∷ t) v.whole) ∙ sym (entry_and e rest);
-  ends = ends;
 }
 
 -- where a text begins with an entry, what was read of it is of that entry

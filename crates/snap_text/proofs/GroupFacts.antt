@@ -4,7 +4,7 @@ use Rattle.std.proofs.lemmas.List.Elements.{All-head, All-tail}
 use Rattle.snap_core.specs.declared.entry.Entry.{Entry}
 use Rattle.snap_core.specs.Entries.{EntryFits}
 use Rattle.snap_text.specs.Fields.{all_of, entry_at, parts}
-use Rattle.snap_text.specs.Fronts.{EntriesThen, EntryThen}
+use Rattle.snap_text.specs.inside.Fronts.{EntriesThen, EntryThen}
 use Rattle.snap_text.specs.Spelling.{entries_text, entry_text}
 use Rattle.snap_text.proofs.PartFacts.{AreRead}
 use Rattle.snap_text.proofs.ViewFacts.{last_read, one_read}

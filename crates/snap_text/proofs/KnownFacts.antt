@@ -12,7 +12,7 @@ use Rattle.std.proofs.lemmas.List.Splits.{join_with_byte-slice_split, length-sli
 use Rattle.snap_core.specs.declared.entry.Entry.{Entry}
 use Rattle.snap_core.specs.Entries.{EntryFits}
 use Rattle.snap_text.specs.Fields.{all_of, entries_at, entry_at, parts}
-use Rattle.snap_text.specs.Fronts.{AddsFront, AreSpelled, EndsEntry, EntriesThen}
+use Rattle.snap_text.specs.inside.Fronts.{AddsFront, AreSpelled, EndsEntry, EntriesThen}
 use Rattle.snap_text.specs.Spelling.{entries_text, entry_text}
 use Rattle.snap_text.proofs.BackFacts.{fit_each, words_of}
 use Rattle.snap_text.proofs.GrammarFacts.{entry_fits, view_is}

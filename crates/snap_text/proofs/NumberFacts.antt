@@ -57,20 +57,6 @@ number_never small f e le = number_none small f (λ m lt is.
     let again = number_some (2 ^ 32) m f (omega arith) (omega arith) is in
     cc)
 
--- a field that is no text, that does not parse, or that parses to a number with another decimal
-pub no_text : (f : List ℕ) → (IsUtf8 f → ⊥) → number_at (2 ^ 32) f ≡ None
-no_text f h = number_none (2 ^ 32) f (λ n lt is. h (subst (λ t. IsUtf8 t) (sym is) (IsUtf8-from_ascii (decimal n) (IsAscii-decimal n (omega arith)))))
-
-pub no_parse : {E : Type 0} (f t : List ℕ) (r : Result ℕ E) (e : E) → t ≡ f → ParsesUnsigned 32 10 t r → r ≡ Err e → number_at (2 ^ 32) f ≡ None
-no_parse f t r e same p is = number_none (2 ^ 32) f (λ n lt d. let ok = parse-decimal 32 n t r lt (omega arith) (same ∙ d) p in cc)
-
-pub other_text : {E : Type 0} (f t : List ℕ) (r : Result ℕ E) (n : ℕ) → t ≡ f → ParsesUnsigned 32 10 t r → r ≡ Ok n → bytes_eq (decimal n) f ≡ false → number_at (2 ^ 32) f ≡ None
-other_text f t r n same p is no_eq = number_none (2 ^ 32) f (λ m lt d.
-    let ok = parse-decimal 32 m t r lt (omega arith) (same ∙ d) p in
-    let nm : m ≡ n = cc in
-    let equal = (bytes_eq-Decides (decimal n) f).1 (ap decimal (sym nm) ∙ sym d) in
-    cc)
-
 pub same_text : (f : List ℕ) (n : ℕ) → n < 2 ^ 32 → bytes_eq (decimal n) f ≡ true → number_at (2 ^ 32) f ≡ Some n
 same_text f n lt e = number_some (2 ^ 32) n f lt (omega arith) (sym ((bytes_eq-Decides (decimal n) f).0 e))
 

@@ -11,10 +11,6 @@ behind front o = option_map (λ es. front ++ es) o
 abbrev pub AreRead : List Entry → List ℕ → List ℕ → Type 0
 AreRead entries left text = behind entries (all_of (map entry_at (parts 32 left))) ≡ all_of (map entry_at (parts 32 text))
 
-pub nothing_before : (o : Option (List Entry)) → behind [] o ≡ o
-nothing_before None = refl
-nothing_before (Some es) = refl
-
 pub join : (front : List Entry) (e : Entry) (o : Option (List Entry)) → behind front (option_map (λ es. e ∷ es) o) ≡ behind (front ++ e ∷ []) o
 join front e None = refl
 join front e (Some es) = ap (λ (t : List Entry). Some t) (sym (append_assoc front (e ∷ []) es))

@@ -3,12 +3,12 @@ use Rattle.std.proofs.Common.{◌≡◌, ◌==◌, ◌++◌, ℕ, Bool, true, fa
 use Rattle.std.proofs.lemmas.Bool.Decides.{nat_tests}
 use Rattle.snap_core.specs.declared.entry.Entry.{Entry}
 use Rattle.snap_text.specs.Fields.{all_of, entry_at, parts}
-use Rattle.snap_text.specs.Fronts.{EndsEntry, EntryThen}
+use Rattle.snap_text.specs.inside.Fronts.{EndsEntry, EntryThen}
 use Rattle.snap_text.specs.Spelling.{entry_text}
 use Rattle.snap_text.proofs.BackFacts.{entry_back, one_part, parts_at}
 use Rattle.snap_text.proofs.ByteFacts.{entry_lacks_space}
 use Rattle.snap_text.proofs.FrontFacts.{entry_missing}
-use Rattle.snap_text.proofs.PartFacts.{AreRead, join, nothing_before}
+use Rattle.snap_text.proofs.PartFacts.{AreRead, join}
 
 -- a text up to its first space
 record FirstPart (text : List ℕ) : Type 0 where
@@ -26,9 +26,6 @@ first_part (b ∷ bs) = go (b == 32) refl (first_part bs)
     go : (space : Bool) → (b == 32) ≡ space → FirstPart bs → FirstPart (b ∷ bs)
     go true e f = record { part = []; others = parts 32 bs; rest = b ∷ bs; cut = rw e refl; whole = refl; ends = grind (arith, nat_tests) }
     go false e f = record { part = b ∷ f.part; others = f.others; rest = f.rest; cut = rw (e, f.cut) refl; whole = ap (λ (t : List ℕ). b ∷ t) f.whole; ends = f.ends }
-
-pub none_read : (text : List ℕ) → AreRead [] text text
-none_read text = nothing_before _
 
 pub no_entry_left : (entries : List Entry) (left text : List ℕ) → AreRead entries left text → ((e : Entry) (rest : List ℕ) → EntryThen e rest left → ⊥)
     → all_of (map entry_at (parts 32 text)) ≡ None

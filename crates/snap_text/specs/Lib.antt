@@ -1,5 +1,5 @@
 pub mod Words
 pub mod Fields
 pub mod Spelling
-pub mod Fronts
 pub mod Laws
+pub mod inside

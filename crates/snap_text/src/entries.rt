@@ -2,7 +2,7 @@
 ghost use Rattle.std.specs.Prelude.{◌≡◌, ◌≤◌, ◌<◌, ◌∷◌, [], ◌+◌, ℕ, List, MatchOption, IfOk, IfSome, drop, get_or, length, option_map, take};
 ghost use Rattle.snap_core.specs.declared.entry.Entry.{Entry};
 ghost use Rattle.snap_text.specs.Fields.{entries_at, entry_at};
-ghost use Rattle.snap_text.specs.Fronts.{AddsFront, AreSpelled, EntriesThen, EntryThen, NumberThen};
+ghost use Rattle.snap_text.specs.inside.Fronts.{AddsFront, AreSpelled, EntriesThen, EntryThen, NumberThen};
 
 use crate::known::{Known, same_front, spaces};
 use crate::number::number_first;

@@ -1,3 +1,4 @@
+//! The faults of a text, and the word of each.
 ghost use Rattle.std.specs.Prelude.{◌≡◌};
 ghost use Rattle.snap_text.specs.Words.{word_of};
 

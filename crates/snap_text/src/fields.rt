@@ -1,3 +1,4 @@
+//! The event that four fields spell.
 ghost use Rattle.std.specs.Prelude.{◌≡◌, IfOk};
 ghost use Rattle.snap_text.specs.Fields.{event_of, update_at, view_at};
 

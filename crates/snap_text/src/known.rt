@@ -2,7 +2,7 @@
 //! with the one before it: where views have hundreds of entries, that spares nearly all of the reading.
 ghost use Rattle.std.specs.Prelude.{◌≡◌, ◌<◌, ◌≤◌, ◌==◌, Some, length, count_by, take};
 ghost use Rattle.snap_text.specs.Fields.{entries_at};
-ghost use Rattle.snap_text.specs.Fronts.{AreSpelled};
+ghost use Rattle.snap_text.specs.inside.Fronts.{AreSpelled};
 
 use snap_core::Entry;
 use std::alloc::{AllocError, Global};

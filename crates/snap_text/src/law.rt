@@ -1,3 +1,4 @@
+//! Laws of fields.
 ghost use Rattle.snap_text.specs.Laws.{FieldsAreOneEvents, FieldsReadBack, RecordsAreSpelled};
 
 /// No two events have the same four fields.

@@ -1,6 +1,7 @@
+//! Numbers and stamps in a text.
 ghost use Rattle.std.specs.Prelude.{◌≡◌, ◌^◌, ℕ, List, MatchOption};
 ghost use Rattle.snap_text.specs.Fields.{number_at};
-ghost use Rattle.snap_text.specs.Fronts.{NumberThen};
+ghost use Rattle.snap_text.specs.inside.Fronts.{NumberThen};
 
 use itoa::Buffer;
 

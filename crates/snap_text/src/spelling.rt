@@ -1,3 +1,4 @@
+//! The four fields of an event.
 ghost use Rattle.std.specs.Prelude.{◌≡◌, ◌==◌, ◌++◌, ◌∷◌, [], length, map, IfOk, OnOk, decimal};
 ghost use Rattle.snap_text.specs.Spelling.{entries_text, entry_text, spelled, with_next};
 

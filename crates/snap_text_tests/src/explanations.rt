@@ -1,13 +1,10 @@
 //! The explanations of worked histories, against texts written by hand.
 ghost use Rattle.std.specs.Prelude.{◌≡◌, length, IfOk};
-ghost use Rattle.snap_core.specs.Calls.{calls_of, views_of};
-ghost use Rattle.snap_conditions.specs.Tally.{tally_of};
 
-use snap_conditions::{Tally, is_atomic, tally_range};
+use snap_conditions::tally_and_chain_alone;
 use snap_core::{History, Limit};
 use snap_explain::{explain, explain_refusal};
 use snap_index::Index;
-use snap_order::build_alone;
 use snap_testing::Step::{Update, Updated, View, Viewed};
 use snap_testing::worked::{
     ATOMIC_RUN, CROSSED_VIEWS, MISSED_UPDATE, NEVER_WRITTEN, NEW_THEN_OLD, NOTHING, SEEN_PENDING,
@@ -15,6 +12,7 @@ use snap_testing::worked::{
 };
 use snap_testing::{Step, history_of};
 use snap_text::TextFault;
+use snap_verdict::order_by;
 use std::alloc::{AllocError, Global};
 use std::test::Fail;
 
@@ -29,30 +27,13 @@ fn records_from(alloc: Global, history: &History, first: u16) -> Result<Vec<u32>
     Ok(records)
 }
 
-// The explanation of an index by the tally of its views and the records of its events.
-fn explained_by(
-    alloc: Global,
-    index: &Index<'_>,
-    tally: &Tally,
-    records: &[u32],
-) -> Result<Vec<u8>, AllocError>
-    requires tally { tally.now ≡ tally_of (calls_of index.now) (views_of (calls_of index.now)) }
-    requires each { length records.now ≡ length index.now }
-{
-    if is_atomic(tally) {
-        let order = build_alone(alloc, index)?;
-        explain(alloc, index, tally, records, Some(&order))
-    } else {
-        explain(alloc, index, tally, records, None)
-    }
-}
-
 // The explanation of a history whose events stand in records from a number on.
 fn explained(alloc: Global, history: &History, first: u16) -> Result<Vec<u8>, Fail> {
     let index = Index::build(alloc, history)?;
-    let tally = tally_range(&index, 0, index.view_count());
+    let (tally, chain) = tally_and_chain_alone(alloc, &index)?;
     let records = records_from(alloc, history, first)?;
-    Ok(explained_by(alloc, &index, &tally, &records)?)
+    let order = order_by(alloc, &index, &tally, chain)?;
+    Ok(explain(alloc, &index, &tally, &records, order.as_deref())?)
 }
 
 // An update that is shown by a view that ends before it, and that never ends.

@@ -1,3 +1,4 @@
+//! Lines of reports that no example has.
 use snap_conditions::{is_atomic, tally_range};
 use snap_index::Index;
 use snap_report::{refusal_text, report, verdict_text};

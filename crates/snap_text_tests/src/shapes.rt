@@ -1,15 +1,11 @@
 //! What is drawn of worked histories, against shapes worked out by hand.
-ghost use Rattle.std.specs.Prelude.{◌≡◌};
-ghost use Rattle.snap_core.specs.Calls.{calls_of, views_of};
-ghost use Rattle.snap_conditions.specs.Tally.{tally_of};
-
-use snap_conditions::{Tally, is_atomic, tally_range};
+use snap_conditions::tally_and_chain_alone;
 use snap_draw::{Bar, Kind, LINE_CALLS, Mark, Shapes, shapes_of};
 use snap_index::Index;
-use snap_order::build_alone;
 use snap_testing::worked::{ATOMIC_RUN, MISSED_UPDATE, NEW_THEN_OLD, NOTHING, SEEN_PENDING};
 use snap_testing::{Step, history_of};
-use std::alloc::{AllocError, Global};
+use snap_verdict::order_by;
+use std::alloc::Global;
 use std::test::Fail;
 
 // A bar: the number of its call, its lane, the columns of its begin and its end, and its place in the printed order.
@@ -81,29 +77,13 @@ const WORKED: &[(&[Step<'static>], usize, Known)] = &[
     ),
 ];
 
-// The shapes of an index by the tally of its views, of which so many calls are drawn.
-fn drawn_by(
-    alloc: Global,
-    index: &Index<'_>,
-    tally: &Tally,
-    limit: usize,
-) -> Result<Shapes, AllocError>
-    requires tally { tally.now ≡ tally_of (calls_of index.now) (views_of (calls_of index.now)) }
-{
-    if is_atomic(tally) {
-        let order = build_alone(alloc, index)?;
-        shapes_of(alloc, index, tally, &order, limit)
-    } else {
-        shapes_of(alloc, index, tally, &[], limit)
-    }
-}
-
 // The shapes of a history of which so many calls are drawn.
 fn drawn(alloc: Global, steps: &[Step<'_>], limit: usize) -> Result<Shapes, Fail> {
     let history = history_of(alloc, steps)?;
     let index = Index::build(alloc, &history)?;
-    let tally = tally_range(&index, 0, index.view_count());
-    Ok(drawn_by(alloc, &index, &tally, limit)?)
+    let (tally, chain) = tally_and_chain_alone(alloc, &index)?;
+    let order = order_by(alloc, &index, &tally, chain)?.unwrap_or(Vec::new(alloc));
+    Ok(shapes_of(alloc, &index, &tally, &order, limit)?)
 }
 
 fn is_bar(bar: &Bar, known: &Drawn) -> bool {

@@ -1,3 +1,4 @@
+//! Texts that are read, refused and written.
 use snap_core::{Counted, Entry, Event, History, View};
 use snap_csv::{ReadRefusal, WriteRefusal, read_history, write_history};
 use snap_testing::{Cup, Drip, Newlines};

@@ -1,3 +1,4 @@
+//! Laws of faults.
 ghost use Rattle.std.specs.Prelude.{List};
 ghost use Rattle.snap_core.specs.Calls.{Call};
 ghost use Rattle.snap_theory.specs.FaultLaws.{RegularExactly, MonotoneExactly, ConditionsExactly, FaultsJoin, ReadFaultHasComponent, MonotoneWithoutReadFault};

@@ -1,3 +1,4 @@
+//! Laws of orders, the Shrinking Lemma among them.
 ghost use Rattle.snap_theory.specs.OrderLaws.{PrintsLegalOrder, LegalOrderHasNoFault, AtomicExactly, AtomicIsMonotone, PrintedOrderAlone, LegalStartGrows, KeysGiveOrder};
 
 /// The Shrinking Lemma: a history is atomic exactly where it has no fault, and then the printed order is a legal one.

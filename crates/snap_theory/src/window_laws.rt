@@ -1,3 +1,4 @@
+//! Laws of histories that are cut.
 ghost use Rattle.snap_theory.specs.WindowLaws.{RegularFromNothing, AtomicFromNothing, RegularJoins, MonotoneJoins, AtomicJoins, SidesAreHistories, RegularRenumbered, MonotoneRenumbered, AtomicRenumbered};
 
 /// Where nothing was left, regular and atomic from a beginning are regular and atomic.

@@ -1,3 +1,4 @@
+//! Laws of witnesses.
 ghost use Rattle.snap_theory.specs.Choices.{ChoiceKeepsCalls};
 ghost use Rattle.snap_theory.specs.FaultWitnesses.{EachFaultHasWitness, AtomicWithoutWitness};
 

@@ -1,7 +1,8 @@
+//! The status and the report of a history, and of a text.
 ghost use Rattle.std.specs.Prelude.{◌≡◌, [], IfOk, IfSome, IsSome, is_some, map};
 ghost use Rattle.std.specs.Option.{ForSome};
 ghost use Rattle.snap_core.specs.Calls.{calls_of, views_of};
-ghost use Rattle.snap_conditions.specs.Chains.{IsViewChain};
+ghost use Rattle.snap_views.specs.Chains.{IsViewChain};
 ghost use Rattle.snap_theory.specs.Faults.{read_faults};
 ghost use Rattle.snap_conditions.specs.Tally.{tally_of};
 ghost use Rattle.snap_theory.specs.Levels.{printed_order};
@@ -10,18 +11,19 @@ ghost use Rattle.snap_verdict.specs.Verdicts.{HasStatus, IsBriefVerdict, IsVerdi
 ghost use Rattle.snap_verdict.specs.Reports.{IsReport, IsReportWithin};
 
 use crate::status::{Status, status_by};
-use snap_conditions::{Tally, ViewChain, is_atomic, tally_and_chain_alone};
+use snap_conditions::{Tally, is_atomic, tally_and_chain_alone};
 use snap_core::{History, Limit};
 use snap_csv::{ReadRefusal, read_text_within};
 use snap_index::Index;
-use snap_order::build_along;
+use snap_order::build;
 use snap_report::{refusal_text, report_in, verdict_text};
+use snap_views::ViewChain;
 use std::alloc::{AllocError, Global};
 
-/// The status and the report of a history, by its index, the tally of all its completed views, and the numbers of its printed
-/// order, which is given exactly where the tally has no fault. The report takes the memory of a vector; what the vector had is
-/// lost.
-pub fn verdict_of(
+// The status and the report of a history, by its index, the tally of all its completed views, and the numbers of its printed
+// order, which is given exactly where the tally has no fault. The report takes the memory of a vector; what the vector had is
+// lost.
+fn verdict_of(
     index: &Index<'_>,
     tally: &Tally,
     order: Option<&[u32]>,
@@ -38,6 +40,27 @@ pub fn verdict_of(
     Ok((status_by(tally), text))
 }
 
+/// The numbers of a history's printed order, given exactly where it has no fault: by its index, the tally of all its completed
+/// views, and these as a chain, which is given where no two of them are a read fault. The error is want of memory.
+pub fn order_by(
+    alloc: Global,
+    index: &Index<'_>,
+    tally: &Tally,
+    chain: Option<ViewChain>,
+) -> Result<Option<Vec<u32>>, AllocError>
+    requires tally { tally.now ≡ tally_of (calls_of index.now) (views_of (calls_of index.now)) }
+    requires chain { IfSome chain (IsViewChain (calls_of index.now)) }
+    requires given { read_faults (calls_of index.now) (views_of (calls_of index.now)) ≡ [] → IsSome chain }
+    ensures given { IfOk result (λ order. is_some order ≡ has_no_fault tally.now) }
+    ensures order { IfOk result (λ order. ForSome order (λ numbers. numbers.items ≡ map (λ c. c.number) (printed_order (calls_of index.now)))) }
+{
+    if !is_atomic(tally) {
+        return Ok(None);
+    }
+    let Some(chain) = chain else { unreachable!() };
+    Ok(Some(build(alloc, index, chain)?))
+}
+
 /// The status and the report of a history, by its index, the tally of all its completed views, and these as a chain, which is given
 /// where no two of them are a read fault. The report takes the memory of a vector; what the vector had is lost.
 pub fn verdict_along(
@@ -52,12 +75,8 @@ pub fn verdict_along(
     requires given { read_faults (calls_of index.now) (views_of (calls_of index.now)) ≡ [] → IsSome chain }
     ensures { IfOk result (λ answer. IsVerdict index.now answer.0 answer.1.items) }
 {
-    if !is_atomic(tally) {
-        return verdict_of(index, tally, None, room);
-    }
-    let Some(chain) = chain else { unreachable!() };
-    let order = build_along(alloc, index, chain)?;
-    verdict_of(index, tally, Some(&order), room)
+    let order = order_by(alloc, index, tally, chain)?;
+    verdict_of(index, tally, order.as_deref(), room)
 }
 
 /// The status of a history, by its index and the tally of all its completed views.
@@ -101,13 +120,6 @@ fn verdict_in(
     let (tally, chain) = tally_and_chain_alone(alloc, &index)?;
     let room = Vec::with_capacity(alloc, size)?;
     verdict_along(alloc, &index, &tally, chain, room)
-}
-
-/// The status and the report of a history, without a runtime: on the calling thread alone.
-pub fn verdict_alone(alloc: Global, history: &History) -> Result<(Status, Vec<u8>), AllocError>
-    ensures { IfOk result (λ answer. IsVerdict history.now answer.0 answer.1.items) }
-{
-    verdict_in(alloc, history, FRONT_SIZE)
 }
 
 /// The status and the report of a text in memory, without a runtime: on the calling thread alone. A text that is no history is

@@ -6,8 +6,7 @@ mod law;
 mod status;
 
 pub use judge::{
-    brief_verdict_of, judge_text, judge_text_within, status_of, verdict_alone, verdict_along,
-    verdict_of,
+    brief_verdict_of, judge_text, judge_text_within, order_by, status_of, verdict_along,
 };
 pub use law::one_report;
 pub use status::Status;

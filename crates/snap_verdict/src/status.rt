@@ -1,3 +1,4 @@
+//! What a text comes to.
 ghost use Rattle.std.specs.Prelude.{◌≡◌};
 ghost use Rattle.snap_report.specs.Reports.{has_no_fault, has_no_local_fault};
 ghost use Rattle.snap_verdict.specs.Statuses.{code_of, status_of};

@@ -21,7 +21,8 @@ use Rattle.snap_conditions.specs.Tally.{reported_integrity, reported_proximity, 
 use Rattle.snap_index.proofs.IndexedCalls.{call_count_within, mapped_some}
 use Rattle.snap_theory.specs.FaultWitnesses.{Fault, Integrity, Old, Early, Read, Write, IsFaultOf, fault_views, fault_updates, fault_witness}
 use Rattle.snap_theory.specs.First.{proximity_of, first_integrity, first_proximity, first_read, first_write}
-use Rattle.snap_witness.specs.Places.{calls_numbered, side_number, IsViewAt}
+use Rattle.snap_witness.specs.inside.Places.{calls_numbered}
+use Rattle.snap_witness.specs.Places.{side_number, IsViewAt}
 use Rattle.snap_theory.specs.Witness.{witness_of, AreWitnesses}
 use Rattle.snap_theory.proofs.FaultWitnesses.{are_witnesses}
 use Rattle.snap_theory.proofs.First.{integrity_is, proximity_first, read_is, write_is}

@@ -11,7 +11,7 @@ use Rattle.snap_index.specs.IndexedCalls.{as_indexed}
 use Rattle.snap_index.specs.declared.call.Call.{Call as IndexedCall}
 use Rattle.snap_index.proofs.IndexedCalls.{mapped_some, mapped_none}
 use Rattle.snap_theory.specs.Kept.{ends_at, is_place_of, is_among, kept_event, kept_events, kept_from}
-use Rattle.snap_witness.specs.Places.{begin_and_end, call_places, places_of, calls_numbered}
+use Rattle.snap_witness.specs.inside.Places.{begin_and_end, call_places, places_of, calls_numbered}
 use Rattle.snap_theory.specs.Witness.{numbers_of, found_call, updates_kept, witness_calls, witness_of}
 use Rattle.snap_theory.specs.Updates.{update_of}
 

@@ -1,6 +1,7 @@
+//! The history of some calls of an index.
 ghost use Rattle.std.specs.Prelude.{◌≡◌, ◌<◌, ◌++◌, All, IfOk, OnOk, length};
 ghost use Rattle.snap_core.specs.Calls.{calls_of};
-ghost use Rattle.snap_witness.specs.Places.{begin_and_end, places_of, calls_numbered};
+ghost use Rattle.snap_witness.specs.inside.Places.{begin_and_end, places_of, calls_numbered};
 ghost use Rattle.snap_theory.specs.Witness.{updates_kept, witness_of, AreWitnesses};
 
 use crate::keeping::keep;

@@ -1,3 +1,4 @@
+//! The witness of the first fault.
 ghost use Rattle.std.specs.Prelude.{◌≡◌, ◌<◌, ◌≤◌, ◌↔◌, ◌++◌, ℕ, Some, IfOk, OnOk, IfSome, IsNone, length, option_map};
 ghost use Rattle.snap_core.specs.Calls.{calls_of, views_of, call_numbered, entries_of};
 ghost use Rattle.snap_core.specs.Entries.{entry_of, number_in};

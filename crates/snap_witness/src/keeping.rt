@@ -1,3 +1,4 @@
+//! What is left of the events of some calls.
 ghost use Rattle.std.specs.Prelude.{◌≡◌, ◌≤◌, ◌++◌, ◌∷◌, [], None, length, IfOk, OnOk};
 ghost use Rattle.snap_core.specs.Events.{IsHistory, event_cap};
 ghost use Rattle.snap_core.specs.Refusals.{refusal_of};

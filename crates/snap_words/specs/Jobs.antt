@@ -46,9 +46,6 @@ IsCheckWith pieces workers options (Record w rounds judge scan stamped) = ⊥
 abbrev pub no_options : Options
 no_options = record { quiet = false; views = 0; events = event_limit; json = false; summary = false; no_progress = false; color = Auto }
 
-abbrev pub IsCheck : ℕ → ℕ → Job → Type 0
-IsCheck pieces workers = IsCheckWith pieces workers no_options
-
 -- a history of so many events at most that is to be cut down, to a text or to its picture
 abbrev pub IsShrink : ℕ → Bool → Job → Type 0
 IsShrink events drawn (Check cutting options) = ⊥

@@ -4,3 +4,4 @@ pub mod Jobs
 pub mod Lines
 pub mod Sources
 pub mod Tables
+pub mod inside

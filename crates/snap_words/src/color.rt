@@ -1,3 +1,4 @@
+//! When verdicts have colours.
 /// When the verdicts of reports have colours.
 #[derive(Clone, Copy, Debug, PartialEq, Eq)]
 pub enum Color {

@@ -3,7 +3,8 @@ ghost use Rattle.std.specs.Prelude.{◌≡◌, IfOk, codes, false, map};
 ghost use Rattle.clap.specs.Words.{app_of, new_app};
 ghost use Rattle.clap.specs.declared.builder.command.Command.TheViews.{out-Command as fields_of};
 ghost use Rattle.snap_words.specs.CommandLine.{app_for, needs_subcommand, program_app};
-ghost use Rattle.snap_words.specs.Tables.{rule_in, with_rules};
+ghost use Rattle.snap_words.specs.inside.Tables.{rule_in};
+ghost use Rattle.snap_words.specs.Tables.{with_rules};
 
 use crate::check_command::check_command;
 use crate::draw_command::draw_command;

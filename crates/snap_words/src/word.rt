@@ -1,7 +1,7 @@
 //! A word that a command takes, and the parser's argument for it.
 ghost use Rattle.std.specs.Prelude.{◌≡◌, false};
 ghost use Rattle.clap.specs.Words.{rule_of};
-ghost use Rattle.snap_words.specs.Tables.{named_rule, number_between, rule_in};
+ghost use Rattle.snap_words.specs.inside.Tables.{named_rule, number_between, rule_in};
 
 use clap::builder::ValueParser;
 use clap::{Arg, ArgAction};

@@ -1,3 +1,4 @@
+//! Scans of a board.
 ghost use Rattle.snap_board.specs.Desks.{IsDeskOf};
 
 use super::{is_of, is_store, is_view, opened, taken};

@@ -1,3 +1,4 @@
+//! Recordings of plans that scan.
 use snap_core::OpenGate;
 use snap_record::{Plan, PlanRefusal, Step, record_plan};
 use snap_testing::Meeting;

@@ -53,11 +53,53 @@ const EACH_STAMPED_FAULT: &[(&[u8], u32, &str)] = &[
         3,
         "repeated",
     ),
+    (
+        b"at,event,process,op,data\n5,begin,0,view,\n7,end,0,view,\n7,begin,0,view,\n5,end,0,view,\n",
+        4,
+        "repeated",
+    ),
+    (
+        b"at,event,process,op,data\n9,begin,0,view,\n5,end,0,view,\n9,begin,0,view,\n5,end,0,view\n",
+        4,
+        "repeated",
+    ),
+    (
+        b"\n\nat,event,process,op,data\n\n5,begin,0,view,\n\n\n\n\n\n\n\n\n\n\n\n\n\n\n\n\n\n\n\n\n\n\n\n\n\n\n\n\n\n\n\n\n\n\n\n\n\n\n5,end,0,view,\n",
+        3,
+        "repeated",
+    ),
+    (b"\n\n\n", 1, "header"),
+    (
+        b"\xEF\xBB\xBF\n\nat,event,process,op,data\n5,begin,0,view\n",
+        2,
+        "fields",
+    ),
 ];
 
 #[test]
 fn refuses_each_fault_of_a_text_with_stamps(rt: HostRuntime) {
     expect_refusals(&rt, rt.alloc(), EACH_STAMPED_FAULT);
+}
+
+// A text whose lines end with CR LF, so that it is read byte by byte.
+fn with_cr_lf(alloc: Global, text: &[u8]) -> Result<Vec<u8>, AllocError> {
+    let mut lines = Vec::new(alloc);
+    for byte in text {
+        if *byte == b'\n' {
+            lines.push(b'\r')?;
+        }
+        lines.push(*byte)?;
+    }
+    Ok(lines)
+}
+
+#[test]
+fn refuses_the_same_of_lines_with_cr_lf(rt: HostRuntime) -> Result<(), Fail> {
+    for (text, place, word) in EACH_STAMPED_FAULT {
+        let lines = with_cr_lf(rt.alloc(), text)?;
+        assert_eq!(rt; refusal_of(rt.alloc(), lines.as_slice()), (*place, *word));
+    }
+    Ok(())
 }
 
 // What write_history writes of the history of a text with stamps.
@@ -75,6 +117,8 @@ fn reads_records_in_the_order_of_their_stamps(rt: HostRuntime) -> Result<(), Fai
     let text = b"at,event,process,op,data\n7,end,0,update,\n3,begin,0,update,0:1:7\n".as_slice();
     let plain = b"event,process,op,data\nbegin,0,update,0:1:7\nend,0,update,\n".as_slice();
     assert_eq!(rt; plain_text_of(rt.alloc(), text)?.as_slice(), plain);
+    let lines = with_cr_lf(rt.alloc(), text)?;
+    assert_eq!(rt; plain_text_of(rt.alloc(), &lines)?.as_slice(), plain);
     Ok(())
 }
 

@@ -1,5 +1,5 @@
 use Rattle.std.proofs.Common.{◌≤◌}
-use Rattle.snap_board.specs.Slots.{NoneFrom}
+use Rattle.snap_board.specs.inside.Slots.{NoneFrom}
 use Rattle.snap_board.proofs.slots.highest.Given as goal
 
 abbrev pub invariant-down : goal.invariant-down

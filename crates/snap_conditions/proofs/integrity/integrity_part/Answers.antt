@@ -8,16 +8,16 @@ use Rattle.snap_core.specs.Calls.{calls_of, entries_of, shown}
 use Rattle.snap_theory.specs.Faults.{integrity_fault, listed}
 use Rattle.snap_conditions.specs.Parts.{part_of, found_at}
 use Rattle.snap_conditions.specs.PartValue.{PartValue}
-use Rattle.snap_conditions.specs.Places.{is_written}
+use Rattle.snap_conditions.specs.inside.Places.{is_written}
 use Rattle.snap_theory.specs.Updates.{update_of}
 use Rattle.snap_conditions.specs.declared.fault.IntegrityFault.{IntegrityFault}
-use Rattle.snap_conditions.specs.Seen.{view_in}
+use Rattle.snap_views.specs.Seen.{view_in}
 use Rattle.snap_conditions.specs.Tally.{reported_integrity}
 use Rattle.snap_theory.proofs.Entries.{nothing}
 use Rattle.snap_conditions.proofs.Finds.{shown_at, integrity_found}
 use Rattle.snap_conditions.proofs.Parts.{next_noted}
 use Rattle.snap_conditions.proofs.Ranges.{few_listed}
-use Rattle.snap_conditions.proofs.Viewed.{view_there}
+use Rattle.snap_views.proofs.Viewed.{view_there}
 use Rattle.snap_conditions.proofs.OneView.{integrity_alone, found_few}
 use Rattle.snap_conditions.proofs.integrity.integrity_part.Goals as goal
 use Rattle.snap_conditions.proofs.integrity.integrity_part.Goals.{then-not-is_written, else-not-is_written}

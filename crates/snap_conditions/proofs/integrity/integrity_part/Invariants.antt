@@ -3,7 +3,7 @@ use Rattle.std.specs.Prelude.{filter}
 use Rattle.snap_core.specs.Calls.{calls_of}
 use Rattle.snap_theory.specs.Faults.{integrity_fault, listed}
 use Rattle.snap_conditions.specs.Parts.{part_of}
-use Rattle.snap_conditions.specs.Seen.{view_in}
+use Rattle.snap_views.specs.Seen.{view_in}
 use Rattle.snap_conditions.specs.Tally.{reported_integrity}
 use Rattle.snap_conditions.proofs.integrity.integrity_part.Given as goal
 

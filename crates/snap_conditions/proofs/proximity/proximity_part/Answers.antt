@@ -5,7 +5,7 @@ use Rattle.snap_core.specs.Calls.{calls_of}
 use Rattle.snap_theory.specs.Faults.{old_fault, early_fault, components}
 use Rattle.snap_conditions.specs.PartValue.{PartValue}
 use Rattle.snap_conditions.specs.declared.fault.ProximityFault.{ProximityFault}
-use Rattle.snap_conditions.specs.Seen.{view_in}
+use Rattle.snap_views.specs.Seen.{view_in}
 use Rattle.snap_conditions.specs.Tally.{reported_proximity}
 use Rattle.snap_conditions.proofs.Finds.{proximity_at}
 use Rattle.snap_conditions.proofs.Parts.{next_noted}

@@ -1,7 +1,8 @@
 use Rattle.std.proofs.Common.{◌+◌, sym, ap, ◌∙◌, subst, arith}
 use Rattle.snap_core.specs.Calls.{calls_of}
 use Rattle.snap_conditions.specs.declared.tally.Tally.{Tally}
-use Rattle.snap_conditions.specs.Tally.{tally_of, without_read, merged, views_between, SumsFit}
+use Rattle.snap_conditions.specs.Tally.{tally_of, without_read, merged, SumsFit}
+use Rattle.snap_views.specs.Seen.{views_between}
 use Rattle.snap_conditions.proofs.Ranges.{tallies_join, ranges_fit, one_between, empty_between}
 use Rattle.snap_conditions.proofs.range.tally_without_read.Goals as goal
 

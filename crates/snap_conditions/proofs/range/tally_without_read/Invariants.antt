@@ -1,7 +1,8 @@
 use Rattle.std.proofs.Common.{◌≡◌}
 use Rattle.snap_core.specs.Calls.{calls_of}
-use Rattle.snap_conditions.specs.ShownAndNext.{IsOfEntries}
-use Rattle.snap_conditions.specs.Tally.{tally_of, without_read, views_between}
+use Rattle.snap_conditions.specs.inside.ShownAndNext.{IsOfEntries}
+use Rattle.snap_conditions.specs.Tally.{tally_of, without_read}
+use Rattle.snap_views.specs.Seen.{views_between}
 use Rattle.snap_conditions.proofs.range.tally_without_read.Given as goal
 
 abbrev pub invariant-loop-place : goal.invariant-loop-place

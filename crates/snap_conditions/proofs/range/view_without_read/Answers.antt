@@ -1,6 +1,6 @@
 use Rattle.std.proofs.Common.{[], ◌∷◌, refl}
 use Rattle.snap_core.specs.Calls.{calls_of}
-use Rattle.snap_conditions.specs.Seen.{view_in}
+use Rattle.snap_views.specs.Seen.{view_in}
 use Rattle.snap_conditions.specs.Tally.{tally_of, without_read}
 use Rattle.snap_conditions.proofs.Ranges.{tally_is}
 use Rattle.snap_conditions.proofs.range.view_without_read.Goals as goal

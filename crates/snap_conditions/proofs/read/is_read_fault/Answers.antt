@@ -1,11 +1,11 @@
 use Rattle.std.proofs.Common.{◌≡◌, ◌↔◌, ◌&&◌, ◌||◌, ℕ, Bool, true, false, List, refl, sym, ap, ◌∙◌}
 use Rattle.std.specs.Prelude.{IsTrue}
 use Rattle.snap_core.specs.Calls.{Call, is_before}
-use Rattle.snap_conditions.specs.declared.seen.SeenView.{SeenView}
+use Rattle.snap_views.specs.declared.seen.SeenView.{SeenView}
 use Rattle.snap_conditions.specs.declared.row.Excess.{Excess}
 use Rattle.snap_theory.specs.Faults.{read_fault}
-use Rattle.snap_conditions.specs.Rows.{AreNumbersOf, IsLessSomewhere, number_among, row_number}
-use Rattle.snap_conditions.specs.Seen.{IsSeen}
+use Rattle.snap_views.specs.Rows.{AreNumbersOf, IsLessSomewhere, number_among, row_number}
+use Rattle.snap_views.specs.Seen.{IsSeen}
 use Rattle.snap_conditions.proofs.Finds.{read_fault_is}
 use Rattle.snap_conditions.proofs.SeenPairs.{less_seen, more_seen, same_before}
 use Rattle.snap_conditions.proofs.read.is_read_fault.Goals as goal

@@ -7,7 +7,7 @@ use Rattle.snap_theory.specs.Faults.{read_fault}
 use Rattle.snap_conditions.specs.Parts.{part_of}
 use Rattle.snap_conditions.specs.PartValue.{PartValue}
 use Rattle.snap_conditions.specs.declared.fault.ReadFault.{ReadFault}
-use Rattle.snap_conditions.specs.Seen.{view_in}
+use Rattle.snap_views.specs.Seen.{view_in}
 use Rattle.snap_conditions.specs.Tally.{reported_read}
 use Rattle.snap_conditions.proofs.OneView.{read_alone, found_few}
 use Rattle.snap_conditions.proofs.Parts.{next_noted}

@@ -3,7 +3,7 @@ use Rattle.std.specs.Prelude.{filter}
 use Rattle.snap_core.specs.Calls.{calls_of, views_of}
 use Rattle.snap_theory.specs.Faults.{read_fault}
 use Rattle.snap_conditions.specs.Parts.{part_of}
-use Rattle.snap_conditions.specs.Seen.{view_in}
+use Rattle.snap_views.specs.Seen.{view_in}
 use Rattle.snap_conditions.specs.Tally.{reported_read}
 use Rattle.snap_conditions.proofs.read.read_part.Given as goal
 

@@ -1,7 +1,7 @@
 use Rattle.std.proofs.Common.{ℕ, refl, arith}
 use Rattle.std.proofs.lemmas.List.{length-set}
 use Rattle.snap_theory.proofs.Entries.{sorted}
-use Rattle.snap_conditions.proofs.Rows.{row_started, row_step}
+use Rattle.snap_views.proofs.Rows.{row_started, row_step}
 use Rattle.snap_conditions.proofs.row.numbers_of.Goals as goal
 
 pub loop-entry-init : goal.loop-entry-init

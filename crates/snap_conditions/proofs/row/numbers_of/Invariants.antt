@@ -1,5 +1,5 @@
 use Rattle.std.proofs.Common.{◌≡◌, ◌<◌, ℕ, length, take, get_or}
-use Rattle.snap_conditions.specs.Rows.{number_among}
+use Rattle.snap_views.specs.Rows.{number_among}
 use Rattle.snap_conditions.proofs.row.numbers_of.Given as goal
 
 abbrev pub invariant-loop-entry : goal.invariant-loop-entry

@@ -2,7 +2,7 @@ use Rattle.std.proofs.Common.{sym, ap, ◌∙◌}
 use Rattle.snap_core.specs.Calls.{calls_of}
 use Rattle.snap_conditions.specs.declared.fault.ReadFault.{ReadFault}
 use Rattle.snap_conditions.specs.PartValue.{PartValue}
-use Rattle.snap_conditions.specs.Seen.{view_in}
+use Rattle.snap_views.specs.Seen.{view_in}
 use Rattle.snap_theory.proofs.StaleViews.{none_stale_alone}
 use Rattle.snap_conditions.proofs.stale.stale_beside.Goals as goal
 

@@ -4,7 +4,7 @@ use Rattle.std.proofs.lemmas.List.{length-take, take_all}
 use Rattle.std.proofs.lemmas.List.Sums.{count_by-le-length}
 use Rattle.snap_core.specs.Calls.{calls_of, views_of, nobody}
 use Rattle.snap_theory.specs.Faults.{is_stale}
-use Rattle.snap_conditions.specs.Seen.{view_in}
+use Rattle.snap_views.specs.Seen.{view_in}
 use Rattle.snap_conditions.proofs.StaleViews.{byte_small, counted_more}
 use Rattle.snap_theory.proofs.StaleViews.{stale_alone}
 use Rattle.snap_conditions.proofs.stale.stale_count.Goals as goal

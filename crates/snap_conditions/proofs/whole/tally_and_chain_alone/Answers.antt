@@ -1,6 +1,6 @@
 use Rattle.std.proofs.Common.{◌∙◌, refl, sym, subst}
 use Rattle.snap_core.specs.Calls.{calls_of}
-use Rattle.snap_conditions.specs.Orders.{IsFaultless}
+use Rattle.snap_views.specs.Orders.{IsFaultless}
 use Rattle.snap_conditions.proofs.Faultless.{faultless_tally, of_all_views}
 use Rattle.snap_conditions.proofs.whole.tally_and_chain_alone.Goals as goal
 

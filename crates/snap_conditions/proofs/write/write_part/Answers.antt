@@ -1,6 +1,6 @@
 use Rattle.snap_conditions.proofs.Limits.{none_step, missed_rest}
-use Rattle.snap_conditions.specs.ShownAndNext.{end_next}
-use Rattle.snap_conditions.specs.Places.{begin_or_0, begin_of_shown}
+use Rattle.snap_conditions.specs.inside.ShownAndNext.{end_next}
+use Rattle.snap_conditions.specs.inside.Places.{begin_or_0, begin_of_shown}
 use Rattle.snap_theory.specs.Updates.{update_of}
 use Rattle.snap_theory.proofs.Entries.{nothing}
 use Rattle.std.proofs.lemmas.List.{get_or-take}
@@ -14,16 +14,16 @@ use Rattle.snap_conditions.specs.declared.fault.WriteFault.{WriteFault}
 use Rattle.snap_theory.specs.Faults.{components, missed_at}
 use Rattle.snap_conditions.specs.Parts.{part_of, merged_part}
 use Rattle.snap_conditions.specs.PartValue.{PartValue}
-use Rattle.snap_conditions.specs.Seen.{view_in}
+use Rattle.snap_views.specs.Seen.{view_in}
 use Rattle.snap_conditions.specs.Tally.{reported_write}
 use Rattle.snap_conditions.proofs.OneView.{write_alone, missed_few, all_missed_few}
 use Rattle.snap_conditions.proofs.Parts.{merge_step}
-use Rattle.snap_conditions.proofs.Viewed.{view_there}
+use Rattle.snap_views.proofs.Viewed.{view_there}
 use Rattle.std.specs.Prelude.{length}
 use Rattle.std.proofs.lemmas.List.{length-take}
-use Rattle.snap_conditions.proofs.Ranges.{rising_few}
+use Rattle.snap_views.proofs.Sizes.{rising_few}
 use Rattle.snap_core.specs.Calls.{shown_number}
-use Rattle.snap_conditions.specs.Places.{end_of}
+use Rattle.snap_conditions.specs.inside.Places.{end_of}
 use Rattle.snap_conditions.proofs.write.write_part.Goals as goal
 use Rattle.snap_conditions.proofs.write.write_part.Goals.{then-ended-updates, else-ended-updates}
 

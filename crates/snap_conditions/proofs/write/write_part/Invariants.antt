@@ -3,7 +3,7 @@ use Rattle.std.specs.Prelude.{flat_map}
 use Rattle.snap_core.specs.Calls.{calls_of}
 use Rattle.snap_theory.specs.Faults.{components, missed_at}
 use Rattle.snap_conditions.specs.Parts.{part_of}
-use Rattle.snap_conditions.specs.Seen.{view_in}
+use Rattle.snap_views.specs.Seen.{view_in}
 use Rattle.snap_conditions.specs.Tally.{reported_write}
 use Rattle.snap_conditions.proofs.write.write_part.Given as goal
 

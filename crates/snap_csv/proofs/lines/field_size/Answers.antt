@@ -1,7 +1,7 @@
 use Rattle.std.proofs.Common.{◌≡◌, ◌+◌, All, Some, None, drop, length, take, refl, subst, arith}
 use Rattle.std.proofs.lemmas.List.{length-drop, take_rest}
 use Rattle.memchr.specs.Find.{IsFirstByte, is_byte2}
-use Rattle.snap_csv.specs.Lines.{IsInner}
+use Rattle.snap_csv.specs.inside.Lines.{IsInner}
 use Rattle.snap_csv.proofs.PlainFacts.{inner_by_search}
 use Rattle.snap_csv.proofs.lines.field_size.Goals as goal
 

@@ -1,6 +1,6 @@
 use Rattle.std.proofs.Common.{take}
 use Rattle.std.specs.List.{All}
-use Rattle.snap_csv.specs.Lines.{IsInner}
+use Rattle.snap_csv.specs.inside.Lines.{IsInner}
 use Rattle.snap_csv.proofs.lines.field_size.Given as goal
 
 abbrev pub invariant-loop-at : goal.invariant-loop-at

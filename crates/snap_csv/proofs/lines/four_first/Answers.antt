@@ -1,5 +1,5 @@
 use Rattle.std.proofs.Common.{[], All, arith}
-use Rattle.snap_csv.specs.Lines.{IsPlain}
+use Rattle.snap_csv.specs.inside.Lines.{IsPlain}
 use Rattle.snap_csv.proofs.PlainFacts.{just_these, too_few, too_many, upto_first, upto_next}
 use Rattle.snap_csv.proofs.lines.four_first.Goals as goal
 

@@ -1,6 +1,6 @@
 use Rattle.std.proofs.Common.{◌≡◌, ◌≤◌, ◌∷◌, true, List, length}
 use Rattle.snap_csv.specs.Layout.{is_header_row}
-use Rattle.snap_csv.specs.Lines.{HasRows}
+use Rattle.snap_csv.specs.inside.Lines.{HasRows}
 use Rattle.snap_text.specs.Fields.{Fields}
 use Rattle.snap_csv.proofs.ReadFacts.{Midway}
 use Rattle.snap_csv.proofs.lines.lines_history.Given as goal

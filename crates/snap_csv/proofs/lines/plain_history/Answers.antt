@@ -1,6 +1,6 @@
 use Rattle.std.proofs.Common.{subst, sym}
 use Rattle.std.proofs.lemmas.Result.{err_from_is_err_and}
-use Rattle.snap_csv.specs.Answers.{AnswersNumbered}
+use Rattle.snap_csv.specs.inside.Answers.{AnswersNumbered}
 use Rattle.snap_csv.specs.Rows.{rows_of}
 use Rattle.snap_csv.proofs.FrontFacts.{no_header_there, stripped_rows}
 use Rattle.snap_csv.proofs.ReadFacts.{with_stamps, without_stamps}

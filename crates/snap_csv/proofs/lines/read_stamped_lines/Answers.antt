@@ -3,7 +3,7 @@ use Rattle.std.proofs.lemmas.List.{nil_from_length}
 use Rattle.std.proofs.lemmas.Result.{err_from_is_err_and}
 use Rattle.snap_text.specs.declared.fault.TextFault.TheVariants as faults
 use Rattle.snap_csv.specs.declared.refusal.ReadRefusal.TheVariants as refusals
-use Rattle.snap_csv.specs.Lines.{HasRows}
+use Rattle.snap_csv.specs.inside.Lines.{HasRows}
 use Rattle.snap_csv.proofs.FrontFacts.{no_line}
 use Rattle.snap_csv.proofs.PlainFacts.{row_of_fields, row_of_others}
 use Rattle.snap_csv.proofs.StampFacts.{begun, done, more, one_longer, row_short, stopped}

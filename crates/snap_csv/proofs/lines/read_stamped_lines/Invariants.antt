@@ -1,5 +1,5 @@
 use Rattle.std.proofs.Common.{◌≡◌, ◌≤◌, List, length}
-use Rattle.snap_csv.specs.Lines.{HasRows}
+use Rattle.snap_csv.specs.inside.Lines.{HasRows}
 use Rattle.snap_text.specs.Fields.{Fields}
 use Rattle.snap_csv.proofs.StampFacts.{MidStamped}
 use Rattle.snap_csv.proofs.lines.read_stamped_lines.Given as goal

@@ -1,6 +1,6 @@
 use Rattle.std.proofs.Common.{◌∙◌, Vec, Global, ap, length, sym}
 use Rattle.std.proofs.lemmas.List.FromFn.{length-range_with_len}
-use Rattle.snap_csv.specs.Answers.{numbers_kept}
+use Rattle.snap_csv.specs.inside.Answers.{numbers_kept}
 use Rattle.snap_csv.specs.Rows.{rows_of}
 use Rattle.snap_csv.proofs.RecordFacts.{rows_spell}
 use Rattle.snap_csv.proofs.records.read_records_within.Goals as goal

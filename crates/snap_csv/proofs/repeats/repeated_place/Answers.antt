@@ -4,7 +4,7 @@ use Rattle.std.specs.List.{IsDistinct}
 use borrow.Author.Count.{below_more}
 use Rattle.std.proofs.lemmas.List.{take_all}
 use Rattle.snap_csv.specs.declared.stamped.Stamped.{Stamped}
-use Rattle.snap_csv.specs.Answers.{FirstRepeat, repeats_at}
+use Rattle.snap_csv.specs.inside.Answers.{FirstRepeat, repeats_at}
 use Rattle.snap_csv.specs.Stamps.{stamps_of}
 use Rattle.snap_csv.proofs.RepeatFacts.{apart_before, first_repeat, none_seen, seen_at, seen_next, text_order}
 use Rattle.snap_csv.proofs.repeats.repeated_place.Goals as goal

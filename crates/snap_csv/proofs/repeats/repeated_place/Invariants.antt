@@ -1,5 +1,5 @@
 use Rattle.std.proofs.Common.{◌≡◌, ◌<◌, ℕ, false, take}
-use Rattle.snap_csv.specs.Answers.{HasSeen, repeats_at}
+use Rattle.snap_csv.specs.inside.Answers.{HasSeen, repeats_at}
 use Rattle.snap_csv.proofs.repeats.repeated_place.Given as goal
 
 abbrev pub invariant-loop-i : goal.invariant-loop-i

@@ -1,6 +1,6 @@
 use Rattle.std.proofs.Common.{◌∙◌, ap, arith, length, rules, subst, sym}
 use Rattle.std.proofs.lemmas.Slice.Zip.{AllZip-long}
-use Rattle.snap_files.specs.Files.{AreAnswered}
+use Rattle.snap_files.specs.inside.Files.{AreAnswered}
 use Rattle.snap_files.proofs.Pages.{all_checked, round_checked, round_cut, round_written, some_checked, whatever_error}
 use Rattle.snap_files.proofs.files.check_all.Goals as goal
 

@@ -1,6 +1,6 @@
 use Rattle.std.proofs.Common.{◌≡◌, take}
 use Rattle.snap_core.specs.Counting.{failures_in, inner_of}
-use Rattle.snap_files.specs.Files.{WritesAll, paged}
+use Rattle.snap_files.specs.inside.Files.{WritesAll, paged}
 use Rattle.snap_files.proofs.files.write_round.Given as goal
 
 abbrev pub invariant-loop-place : goal.invariant-loop-place

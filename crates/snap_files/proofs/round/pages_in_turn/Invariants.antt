@@ -1,5 +1,5 @@
 use Rattle.std.proofs.Common.{take}
-use Rattle.snap_files.specs.Files.{AreAnswered}
+use Rattle.snap_files.specs.inside.Files.{AreAnswered}
 use Rattle.snap_files.proofs.round.pages_in_turn.Given as goal
 
 abbrev pub invariant-loop-name : goal.invariant-loop-name

@@ -3,7 +3,7 @@ use Rattle.std.specs.Global.{Vec}
 use Rattle.std.specs.Fork.{slice_chunk}
 use Rattle.std.proofs.Math.Nat.{zero-mul}
 use Rattle.std.proofs.lemmas.List.{drop_all}
-use Rattle.snap_files.specs.Files.{AreAnswered}
+use Rattle.snap_files.specs.inside.Files.{AreAnswered}
 use Rattle.snap_files.proofs.Pages.{AreShares, Answered, last_share, share_joined, shares_before, shares_cover}
 use Rattle.snap_files.proofs.round.pages_of.Goals as goal
 

@@ -1,5 +1,5 @@
 use Rattle.std.proofs.Common.{◌*◌, drop, length, vec_items, vec_len}
-use Rattle.snap_files.specs.Files.{AreAnswered}
+use Rattle.snap_files.specs.inside.Files.{AreAnswered}
 use Rattle.snap_files.proofs.Pages.{AreShares}
 use Rattle.snap_files.proofs.round.pages_of.Given as goal
 

@@ -1,7 +1,9 @@
 use Rattle.std.proofs.Common.{◌<◌, ◌+◌, ◌++◌, ◌∷◌, [], ◌∙◌, ap, arith, length, length-append, List, ℕ, subst, sym, take}
 use Rattle.snap_core.specs.Counting.{failures_in, inner_of}
-use Rattle.snap_files.specs.Files.{Told, paged, told_text}
-use Rattle.snap_files.specs.Sums.{AreSums, judged_of, with_code}
+use Rattle.snap_files.specs.Files.{Told, told_text}
+use Rattle.snap_files.specs.inside.Files.{paged}
+use Rattle.snap_files.specs.inside.Sums.{AreSums}
+use Rattle.snap_files.specs.Sums.{judged_of, with_code}
 use Rattle.snap_files.proofs.Pages.{told_by, told_more}
 use Rattle.snap_files.proofs.Summing.{file_more, paged_fits, said_next}
 use Rattle.snap_files.proofs.sum.count_round.Goals as goal

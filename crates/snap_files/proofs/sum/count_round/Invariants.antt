@@ -1,7 +1,9 @@
 use Rattle.std.proofs.Common.{◌<◌, ◌+◌, ◌++◌, ◌^◌, List, length, take}
 use Rattle.snap_core.specs.Counting.{failures_in, inner_of}
-use Rattle.snap_files.specs.Files.{Told, paged, said}
-use Rattle.snap_files.specs.Sums.{AreSums, Judged, judged_of}
+use Rattle.snap_files.specs.Files.{Told, said}
+use Rattle.snap_files.specs.inside.Files.{paged}
+use Rattle.snap_files.specs.inside.Sums.{AreSums}
+use Rattle.snap_files.specs.Sums.{Judged, judged_of}
 use Rattle.snap_files.proofs.sum.count_round.Given as goal
 
 abbrev pub invariant-loop-place : goal.invariant-loop-place

@@ -2,7 +2,8 @@ use Rattle.std.proofs.Common.{◌≡◌, ◌<◌, ◌+◌, ◌∙◌, ap, arith,
 use Rattle.std.proofs.lemmas.List.{length-take-le}
 use Rattle.std.proofs.lemmas.Slice.Zip.{AllZip-long}
 use Rattle.snap_core.specs.Counting.{failures_in, inner_of}
-use Rattle.snap_files.specs.Files.{AreAnswered, Told, paged, said}
+use Rattle.snap_files.specs.inside.Files.{AreAnswered, paged}
+use Rattle.snap_files.specs.Files.{Told, said}
 use Rattle.snap_files.specs.declared.format.FileOptions.{FileOptions}
 use Rattle.snap_files.specs.Sums.{counting, judged_of}
 use Rattle.snap_files.proofs.Pages.{sent_front, sent_whole}

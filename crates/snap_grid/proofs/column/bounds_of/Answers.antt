@@ -3,7 +3,7 @@ use Rattle.std.proofs.lemmas.Bool.{cases_lt}
 use Rattle.std.proofs.lemmas.List.{get_or-drop, get_or-take, length-take, length-drop, length-append, get_or_append_left}
 use Rattle.std.proofs.Math.Seq.{get_or-append_seam}
 use Rattle.snap_grid.specs.declared.bounds.Bounds.{Bounds}
-use Rattle.snap_grid.specs.Kept.{IsBounded}
+use Rattle.snap_grid.specs.inside.Kept.{IsBounded}
 use Rattle.snap_grid.proofs.column.bounds_of.Goals as goal
 
 -- bounds of a piece of the numbers are bounds of the rows of the piece

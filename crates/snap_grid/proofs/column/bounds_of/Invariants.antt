@@ -1,6 +1,6 @@
 use Rattle.std.proofs.Common.{◌≡◌, ◌<◌, ◌*◌, ◌-◌, ◌+◌, ℕ, length, get_or}
 use Rattle.snap_grid.specs.declared.bounds.Bounds.{Bounds}
-use Rattle.snap_grid.specs.Kept.{IsBounded}
+use Rattle.snap_grid.specs.inside.Kept.{IsBounded}
 use Rattle.snap_grid.proofs.column.bounds_of.Given as goal
 
 abbrev pub invariant-loop-start : goal.invariant-loop-start

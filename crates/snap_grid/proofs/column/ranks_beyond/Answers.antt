@@ -1,5 +1,5 @@
 use Rattle.std.proofs.Common.{subst}
-use Rattle.snap_grid.specs.Ranked.{AreRanks}
+use Rattle.snap_grid.specs.inside.Ranked.{AreRanks}
 use Rattle.snap_grid.proofs.Ranking.{ordered}
 use Rattle.snap_grid.proofs.column.ranks_beyond.Goals as goal
 

@@ -1,5 +1,5 @@
 use Rattle.std.proofs.Common.{◌≡◌, true}
-use Rattle.snap_grid.specs.Masks.{mask_below}
+use Rattle.snap_grid.specs.inside.Masks.{mask_below}
 use Rattle.snap_grid.proofs.mask.mask_of_all.Given as goal
 
 abbrev pub invariant-loop-row : goal.invariant-loop-row

@@ -2,7 +2,7 @@ use Rattle.std.proofs.Common.{◌≡◌, ◌≤◌, ◌<◌, ◌+◌, ◌-◌, �
 use Rattle.std.specs.Prelude.{nat_lt, ◌==◌, bit_or}
 use Rattle.std.proofs.lemmas.Bool.{cases_eq, eq-eqb, ne_eqb, le-ltb}
 use Rattle.std.proofs.lemmas.List.{take_all, get_or_default}
-use Rattle.snap_grid.specs.Masks.{mask_by}
+use Rattle.snap_grid.specs.inside.Masks.{mask_by}
 use Rattle.snap_grid.proofs.Bits.{mask_none, mask_set, mask_more_no, up_or}
 use Rattle.snap_grid.proofs.masks.fill.Goals as goal
 

@@ -1,6 +1,6 @@
 use Rattle.std.proofs.Common.{◌≡◌, ◌<◌, ◌≤◌, ◌+◌, ℕ, suc, length, take, get_or}
 use Rattle.std.specs.Prelude.{nat_lt, ◌==◌}
-use Rattle.snap_grid.specs.Masks.{mask_by}
+use Rattle.snap_grid.specs.inside.Masks.{mask_by}
 use Rattle.snap_grid.proofs.masks.fill.Given as goal
 
 abbrev pub invariant-loop-i : goal.invariant-loop-i

@@ -1,5 +1,5 @@
 use Rattle.std.proofs.Common.{◌≡◌, ◌<◌, ℕ, length, get_or}
-use Rattle.snap_grid.specs.Ranked.{IsRank}
+use Rattle.snap_grid.specs.inside.Ranked.{IsRank}
 use Rattle.snap_grid.proofs.ranked.ranks_of.Given as goal
 
 abbrev pub invariant-loop-i : goal.invariant-loop-i

@@ -1,6 +1,6 @@
 use Rattle.std.proofs.Common.{◌≤◌, ◌<◌, ℕ}
 use Rattle.snap_grid.specs.Columns.{number}
-use Rattle.snap_grid.specs.Sweeps.{HasCounted}
+use Rattle.snap_grid.specs.inside.Sweeps.{HasCounted}
 use Rattle.snap_grid.proofs.sweep.count_behind.Given as goal
 
 abbrev pub invariant-loop-first : goal.invariant-loop-first

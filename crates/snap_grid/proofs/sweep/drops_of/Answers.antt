@@ -2,8 +2,8 @@ use Rattle.std.proofs.Common.{◌≡◌, ◌≤◌, ◌<◌, ◌+◌, ◌-◌, �
 use Rattle.std.proofs.lemmas.Bool.{cases_lt, cases_eq}
 use Rattle.std.proofs.lemmas.List.{get_or_default}
 use Rattle.snap_grid.specs.Columns.{number}
-use Rattle.snap_grid.specs.Sweeps.{HasCounted, drops_from}
-use Rattle.snap_grid.specs.Trees.{IsTree, sum_below_place}
+use Rattle.snap_grid.specs.inside.Sweeps.{HasCounted, drops_from}
+use Rattle.snap_grid.specs.inside.Trees.{IsTree, sum_below_place}
 use Rattle.snap_grid.proofs.Sweeps.{counted_none, few_counted, none_behind, swept}
 use Rattle.snap_grid.proofs.sweep.drops_of.Goals as goal
 

@@ -1,6 +1,6 @@
 use Rattle.std.proofs.Common.{◌≡◌, ◌≤◌, ◌<◌, ℕ, length, get_or}
 use Rattle.snap_grid.specs.Columns.{number}
-use Rattle.snap_grid.specs.Sweeps.{HasCounted, drops_from}
+use Rattle.snap_grid.specs.inside.Sweeps.{HasCounted, drops_from}
 use Rattle.snap_grid.proofs.sweep.drops_of.Given as goal
 
 abbrev pub invariant-loop-left : goal.invariant-loop-left

@@ -1,5 +1,5 @@
 use Rattle.std.proofs.Common.{◌≡◌, ◌≤◌, ◌+◌, ◌-◌}
-use Rattle.snap_grid.specs.Trees.{node_sum, sum_below_place}
+use Rattle.snap_grid.specs.inside.Trees.{node_sum, sum_below_place}
 use Rattle.snap_grid.proofs.tree.sum_below.Given as goal
 
 abbrev pub invariant-loop-low : goal.invariant-loop-low

@@ -1,5 +1,5 @@
 use Rattle.std.proofs.Common.{◌≡◌, ◌≤◌, ◌<◌, [], ℕ, get_or, length}
-use Rattle.snap_index.specs.Tables.{rows}
+use Rattle.snap_index.specs.Rows.{rows}
 use Rattle.snap_index.proofs.table.filled.Given as goal
 
 abbrev pub invariant-loop-count : goal.invariant-loop-count

@@ -1,5 +1,6 @@
 use Rattle.std.proofs.Common.{◌<◌, ap, ◌∙◌, length, arith}
-use Rattle.snap_index.specs.Tables.{padded, rows}
+use Rattle.snap_index.specs.Rows.{rows}
+use Rattle.snap_index.specs.inside.Tables.{padded}
 use Rattle.snap_index.proofs.Padding.{room_made}
 use Rattle.snap_index.proofs.table.make_room.Goals as goal
 

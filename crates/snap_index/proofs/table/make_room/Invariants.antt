@@ -1,5 +1,6 @@
 use Rattle.std.proofs.Common.{◌≡◌, ◌≤◌, ◌-◌, length}
-use Rattle.snap_index.specs.Tables.{padded, rows}
+use Rattle.snap_index.specs.Rows.{rows}
+use Rattle.snap_index.specs.inside.Tables.{padded}
 use Rattle.snap_index.proofs.table.make_room.Given as goal
 
 abbrev pub invariant-loop-alloc : goal.invariant-loop-alloc

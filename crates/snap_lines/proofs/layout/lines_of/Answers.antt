@@ -1,6 +1,6 @@
 use Rattle.std.proofs.Common.{◌<◌, ◌∙◌, List, ap, arith, length}
 use Rattle.snap_draw.specs.declared.shapes.Bar.{Bar}
-use Rattle.snap_lines.specs.Layout.{spans_in}
+use Rattle.snap_lines.specs.inside.Layout.{spans_in}
 use Rattle.snap_lines.proofs.Lines.{more_processes, more_spans}
 use Rattle.snap_lines.proofs.layout.lines_of.Goals as goal
 

@@ -1,7 +1,7 @@
 use Rattle.std.proofs.Common.{◌≡◌, map, take}
 use Rattle.std.specs.List.{range_with_len}
 use Rattle.snap_lines.specs.declared.layout.Line.{Line}
-use Rattle.snap_lines.specs.Layout.{spans_in}
+use Rattle.snap_lines.specs.inside.Layout.{spans_in}
 use Rattle.snap_lines.proofs.layout.lines_of.Given as goal
 
 abbrev pub invariant-loop-lane : goal.invariant-loop-lane

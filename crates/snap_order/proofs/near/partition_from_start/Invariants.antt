@@ -1,7 +1,7 @@
 use Rattle.std.proofs.Common.{length, ◌-◌, ◌≤◌, ◌≡◌, ℕ, Bool, true}
 use Rattle.std.specs.List.{AllWithin}
 use Rattle.std.specs.List.Sorted.{IsPartitionedBy}
-use Rattle.snap_order.specs.Near.{Tests}
+use Rattle.snap_order.specs.inside.Near.{Tests}
 use Rattle.snap_order.proofs.near.partition_from_start.Given as goal
 
 abbrev pub invariant-loop-ahead : goal.invariant-loop-ahead

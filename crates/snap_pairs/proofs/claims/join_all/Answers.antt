@@ -1,6 +1,6 @@
 use Rattle.std.proofs.Common.{◌≡◌, ℕ, ◌<◌, ◌++◌, List, length, get_or, All, arith, sym, refl, ap, ◌∙◌, subst, length-append}
 use Rattle.snap_core.specs.Sums.{times, total}
-use Rattle.snap_pairs.specs.Draws.{past}
+use Rattle.snap_pairs.specs.inside.Draws.{past}
 use Rattle.snap_pairs.specs.Claiming.{ClaimView}
 use Rattle.snap_pairs.proofs.Keeps.{joins, settles}
 use Rattle.snap_pairs.proofs.Finishing.{past_any}

@@ -3,7 +3,7 @@ use Rattle.std.specs.Prelude.{IfOk, Result}
 use Rattle.std.specs.declared.alloc.AllocError.{AllocError}
 use Rattle.snap_core.specs.Calls.{calls_of}
 use Rattle.snap_conditions.specs.declared.tally.Tally.{Tally}
-use Rattle.snap_pairs.specs.Pieces.{IsAnswer, IsFull, FitSlots}
+use Rattle.snap_pairs.specs.inside.Pieces.{IsAnswer, IsFull, FitSlots}
 use Rattle.snap_pairs.specs.declared.worker.Answer.{Answer}
 use Rattle.snap_pairs.specs.declared.worker.Drawn.{Drawn}
 use Rattle.snap_pairs.proofs.Closing.{all_front, all_last}

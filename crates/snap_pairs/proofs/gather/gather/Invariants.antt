@@ -1,6 +1,6 @@
 use Rattle.std.proofs.Common.{◌≡◌, ◌+◌, length, vec_items, vec_len}
 use Rattle.snap_core.specs.Calls.{calls_of}
-use Rattle.snap_pairs.specs.Pieces.{AreAnswers}
+use Rattle.snap_pairs.specs.inside.Pieces.{AreAnswers}
 use Rattle.snap_pairs.proofs.Gathering.{AreGathered}
 use Rattle.snap_pairs.proofs.gather.gather.Given as goal
 

@@ -1,9 +1,10 @@
 use Rattle.std.proofs.Common.{◌≡◌, ◌<◌, ◌+◌, length, arith, sym, ap, ◌∙◌, subst}
 use Rattle.snap_core.specs.Calls.{calls_of, views_of}
 use Rattle.snap_conditions.specs.declared.tally.Tally.{Tally}
-use Rattle.snap_conditions.specs.Tally.{tally_of, views_between, merged, SumsFit}
+use Rattle.snap_conditions.specs.Tally.{tally_of, merged, SumsFit}
+use Rattle.snap_views.specs.Seen.{views_between}
 use Rattle.snap_conditions.proofs.Ranges.{tallies_join, ranges_fit}
-use Rattle.snap_pairs.specs.Pieces.{piece_start}
+use Rattle.snap_pairs.specs.inside.Pieces.{piece_start}
 use Rattle.snap_pairs.proofs.Gathering.{piece_of}
 use Rattle.snap_pairs.proofs.Starts.{starts_at_zero, starts_grow, starts_inside, ends_whole}
 use Rattle.snap_pairs.proofs.gather.merge_slots.Goals as goal

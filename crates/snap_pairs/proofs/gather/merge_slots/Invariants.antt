@@ -1,7 +1,8 @@
 use Rattle.std.proofs.Common.{◌≡◌, length}
 use Rattle.snap_core.specs.Calls.{calls_of, views_of}
-use Rattle.snap_conditions.specs.Tally.{tally_of, views_between}
-use Rattle.snap_pairs.specs.Pieces.{piece_start}
+use Rattle.snap_conditions.specs.Tally.{tally_of}
+use Rattle.snap_views.specs.Seen.{views_between}
+use Rattle.snap_pairs.specs.inside.Pieces.{piece_start}
 use Rattle.snap_pairs.proofs.gather.merge_slots.Given as goal
 
 abbrev pub invariant-loop-slot : goal.invariant-loop-slot

@@ -3,7 +3,7 @@ use Rattle.std.proofs.lemmas.List.{get_or_default}
 use Rattle.snap_core.specs.Calls.{calls_of}
 use Rattle.snap_pairs.proofs.Gathering.{fit_set, full_set, full_here}
 use Rattle.snap_pairs.specs.declared.worker.Drawn.{Drawn}
-use Rattle.snap_pairs.specs.Pieces.{IsPieceTally, IsFull}
+use Rattle.snap_pairs.specs.inside.Pieces.{IsPieceTally, IsFull}
 use Rattle.snap_pairs.proofs.gather.put_tallies.Goals as goal
 
 pub loop-pair-preserved : goal.loop-pair-preserved

@@ -1,7 +1,7 @@
 use Rattle.std.proofs.Common.{ℕ, ◌<◌, get_or}
 use Rattle.snap_core.specs.Calls.{calls_of}
 use Rattle.snap_pairs.specs.declared.worker.Drawn.{Drawn}
-use Rattle.snap_pairs.specs.Pieces.{FitSlots, IsFull}
+use Rattle.snap_pairs.specs.inside.Pieces.{FitSlots, IsFull}
 use Rattle.snap_pairs.proofs.gather.put_tallies.Given as goal
 
 abbrev pub invariant-loop-pair : goal.invariant-loop-pair

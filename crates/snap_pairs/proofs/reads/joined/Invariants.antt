@@ -1,7 +1,7 @@
 use Rattle.std.proofs.Common.{◌≤◌, length, vec_items, vec_len}
 use Rattle.snap_core.specs.Calls.{calls_of}
-use Rattle.snap_conditions.specs.Grids.{AreColumnsOf}
-use Rattle.snap_pairs.specs.Reads.{AreParts, part_start}
+use Rattle.snap_views.specs.Grids.{AreColumnsOf}
+use Rattle.snap_pairs.specs.inside.Reads.{AreParts, part_start}
 use Rattle.snap_pairs.proofs.reads.joined.Given as goal
 
 abbrev pub invariant-loop-part : goal.invariant-loop-part

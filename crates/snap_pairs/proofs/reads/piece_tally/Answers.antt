@@ -1,6 +1,6 @@
 use Rattle.std.proofs.Common.{◌∙◌, subst}
 use Rattle.snap_core.specs.Calls.{calls_of}
-use Rattle.snap_pairs.specs.Reads.{IsGridFor}
+use Rattle.snap_pairs.specs.inside.Reads.{IsGridFor}
 use Rattle.snap_conditions.proofs.Faultless.{faultless_tally}
 use Rattle.snap_pairs.proofs.reads.piece_tally.Goals as goal
 

@@ -7,8 +7,8 @@ use Rattle.rayon.specs.Numbers.{nat_range}
 use Rattle.rayon.proofs.ListFacts.{IfOk-then}
 use Rattle.rayon.proofs.ToStd.{nat_range-All}
 use Rattle.snap_core.specs.Calls.{Call, calls_of, views_of, nobody}
-use Rattle.snap_conditions.specs.Quick.{shown_sum}
-use Rattle.snap_conditions.specs.Seen.{view_in}
+use Rattle.snap_views.specs.Quick.{shown_sum}
+use Rattle.snap_views.specs.Seen.{view_in}
 use Rattle.snap_pairs.proofs.reads.view_sums.Goals as goal
 
 -- the sums by the places of the views

@@ -2,7 +2,7 @@ use Rattle.std.proofs.Common.{◌≡◌, ◌<◌, ◌+◌, ◌∙◌, List, leng
 use Rattle.std.proofs.lemmas.List.FromFn.{length-map-range_with_len, get_or-map-range_with_len}
 use Rattle.snap_pairs.specs.Claiming.{ClaimView, new_claim}
 use Rattle.snap_conditions.specs.declared.tally.Tally.{Tally}
-use Rattle.snap_pairs.specs.Pieces.{IsFull}
+use Rattle.snap_pairs.specs.inside.Pieces.{IsFull}
 use Rattle.snap_pairs.proofs.Gathering.{drawn_full, some_of_all}
 use Rattle.snap_pairs.proofs.whole.tally_by.Goals as goal
 

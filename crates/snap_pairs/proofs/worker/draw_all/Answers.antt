@@ -1,10 +1,11 @@
 use Rattle.std.proofs.Common.{◌≡◌, ◌+◌, ◌++◌, ◌∷◌, [], All, rules, arith, length, map, vec_items, sym, ap, ◌∙◌, subst}
 use Rattle.std.proofs.lemmas.List.{map_push, length-map}
 use Rattle.snap_core.specs.Calls.{calls_of, views_of}
-use Rattle.snap_conditions.specs.Tally.{tally_of, views_between}
+use Rattle.snap_conditions.specs.Tally.{tally_of}
+use Rattle.snap_views.specs.Seen.{views_between}
 use Rattle.std.proofs.lemmas.List.Elements.{All-push}
 use Rattle.snap_pairs.specs.Claiming.{pieces_of}
-use Rattle.snap_pairs.specs.Pieces.{IsPieceTally, piece_start, views_in_piece}
+use Rattle.snap_pairs.specs.inside.Pieces.{IsPieceTally, piece_start, views_in_piece}
 use Rattle.snap_pairs.specs.declared.worker.Drawn.{Drawn}
 use Rattle.snap_pairs.proofs.Finishing.{few_pieces, pieces_more}
 use Rattle.snap_pairs.proofs.worker.draw_all.Goals as goal

@@ -8,8 +8,8 @@ use Rattle.snap_board.specs.Boards.{BoardView}
 use Rattle.snap_board.specs.Fields.{board_view}
 use Rattle.snap_record.specs.Relays.{SenderView, IsSenderOf}
 use Rattle.snap_board.specs.declared.record.Record.{Record}
-use Rattle.snap_record.specs.Scripts.{DidSome}
-use Rattle.snap_record.specs.Workers.{HaveDone}
+use Rattle.snap_record.specs.inside.Scripts.{DidSome}
+use Rattle.snap_record.specs.inside.Workers.{HaveDone}
 use Rattle.snap_record.proofs.ByDesk.{insert_high}
 use Rattle.snap_record.proofs.Running.{run_last, run_front, one_done, few_left}
 use Rattle.snap_record.proofs.recorder.close_all.Goals as goal

@@ -2,7 +2,7 @@ use Rattle.std.proofs.Common.{◌≡◌, ◌+◌, All, length, vec_items, vec_le
 use Rattle.snap_board.specs.Desks.{accounts, IsGatheredOf}
 use Rattle.snap_board.specs.Fields.{board_view}
 use Rattle.snap_record.specs.Relays.{IsSenderOf}
-use Rattle.snap_record.specs.Workers.{HaveDone, HaveRun}
+use Rattle.snap_record.specs.inside.Workers.{HaveDone, HaveRun}
 use Rattle.snap_record.proofs.recorder.close_all.Given as goal
 
 abbrev pub invariant-each : goal.invariant-each

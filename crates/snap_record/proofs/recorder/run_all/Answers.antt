@@ -1,6 +1,6 @@
 use Rattle.std.proofs.Common.{◌≡◌, [], ◌∷◌, ◌++◌, length, rules, arith, sym, subst}
 use Rattle.std.proofs.lemmas.Result.{IfOk-at_ok}
-use Rattle.snap_record.specs.Workers.{HaveRun}
+use Rattle.snap_record.specs.inside.Workers.{HaveRun}
 use Rattle.snap_record.proofs.Running.{unused_last, unused_front, have_run, run_push}
 use Rattle.snap_record.proofs.recorder.run_all.Goals as goal
 

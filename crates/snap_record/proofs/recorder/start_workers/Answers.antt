@@ -5,7 +5,7 @@ use Rattle.snap_board.specs.Desks.{account, accounts, IsDeskOf}
 use Rattle.snap_account.specs.Plays.{only_first, but_first}
 use Rattle.snap_record.specs.Relays.{SenderView, AreNew}
 use Rattle.snap_account.specs.Rule.{newcomers}
-use Rattle.snap_record.specs.Workers.{AreUnused}
+use Rattle.snap_record.specs.inside.Workers.{AreUnused}
 use Rattle.snap_record.proofs.Running.{unused_push, new_front, none_new, new_desk}
 use Rattle.snap_record.proofs.recorder.start_workers.Goals as goal
 

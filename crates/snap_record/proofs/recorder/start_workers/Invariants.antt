@@ -2,7 +2,7 @@ use Rattle.std.proofs.Common.{◌≡◌, ◌+◌, vec_items, vec_len}
 use Rattle.snap_board.specs.Desks.{accounts, IsGatheredOf}
 use Rattle.snap_record.specs.Relays.{AreNew}
 use Rattle.snap_account.specs.Rule.{newcomers}
-use Rattle.snap_record.specs.Workers.{AreUnused}
+use Rattle.snap_record.specs.inside.Workers.{AreUnused}
 use Rattle.snap_record.proofs.recorder.start_workers.Given as goal
 
 abbrev pub invariant-places : goal.invariant-places

@@ -3,7 +3,8 @@ use Rattle.std.proofs.lemmas.List.Elements.{All-nil}
 use Rattle.snap_board.specs.declared.record.Record.{Record}
 use Rattle.snap_record.specs.declared.delivery.Role.TheVariants.{Takes}
 use Rattle.snap_record.specs.Relays.{TakerView}
-use Rattle.snap_record.specs.Ends.{taken_of, made_of}
+use Rattle.snap_record.specs.Ends.{taken_of}
+use Rattle.snap_record.specs.inside.Ends.{made_of}
 use Rattle.snap_record.proofs.Delivering.{learns_as}
 use Rattle.snap_record.proofs.Finishing.{settled}
 use Rattle.snap_record.proofs.relay.settle.Goals as goal

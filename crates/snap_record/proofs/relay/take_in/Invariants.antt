@@ -1,6 +1,6 @@
 use Rattle.std.proofs.Common.{◌≡◌, All, vec_items, vec_len}
 use Rattle.crossbeam_queue.specs.SegTies.{IsSegPassOf}
-use Rattle.snap_record.specs.Ends.{TookIn}
+use Rattle.snap_record.specs.inside.Ends.{TookIn}
 use Rattle.snap_record.proofs.relay.take_in.Given as goal
 
 abbrev pub invariant-each : goal.invariant-each

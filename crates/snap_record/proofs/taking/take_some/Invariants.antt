@@ -1,4 +1,4 @@
-use Rattle.snap_record.specs.Workers.{IsTakenOf}
+use Rattle.snap_record.specs.inside.Workers.{IsTakenOf}
 use Rattle.snap_record.proofs.taking.take_some.Given as goal
 
 abbrev pub invariant-turns : goal.invariant-turns

@@ -8,7 +8,8 @@ use Rattle.snap_board.specs.Desks.{records, ticks, lost}
 use Rattle.snap_record.specs.Plans.{step_ticks}
 use Rattle.snap_account.specs.Rule.{tick_limit}
 use Rattle.snap_record.specs.Relays.{SenderView}
-use Rattle.snap_record.specs.Scripts.{AreCallsOf, IsStepOf, DidSome}
+use Rattle.snap_record.specs.Scripts.{AreCallsOf}
+use Rattle.snap_record.specs.inside.Scripts.{IsStepOf, DidSome}
 use Rattle.snap_record.proofs.Scripting.{did_push, did_leave, calls_push, views-more, has_room, draws_more}
 use Rattle.snap_record.proofs.worker.run_steps.Goals as goal
 

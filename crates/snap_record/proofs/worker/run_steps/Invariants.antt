@@ -3,8 +3,9 @@ use Rattle.snap_record.specs.Choices.{views_in}
 use Rattle.snap_board.specs.Desks.{records, ticks, lost, collects}
 use Rattle.snap_record.specs.Plans.{draws_within}
 use Rattle.snap_account.specs.Rule.{tick_limit}
-use Rattle.snap_record.specs.Scripts.{AreCallsOf, DidSome}
-use Rattle.snap_record.specs.Workers.{IsWorkerOf}
+use Rattle.snap_record.specs.Scripts.{AreCallsOf}
+use Rattle.snap_record.specs.inside.Scripts.{DidSome}
+use Rattle.snap_record.specs.inside.Workers.{IsWorkerOf}
 use Rattle.snap_record.proofs.worker.run_steps.Given as goal
 
 abbrev pub invariant-steps : goal.invariant-steps

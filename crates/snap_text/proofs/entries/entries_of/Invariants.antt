@@ -1,5 +1,5 @@
 use Rattle.std.proofs.Common.{length}
-use Rattle.snap_text.specs.Fronts.{AreSpelled}
+use Rattle.snap_text.specs.inside.Fronts.{AreSpelled}
 use Rattle.snap_text.proofs.PartFacts.{AreRead}
 use Rattle.snap_text.proofs.entries.entries_of.Given as goal
 

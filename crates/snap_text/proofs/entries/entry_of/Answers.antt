@@ -1,5 +1,5 @@
 use Rattle.std.proofs.Common.{[], append-nil, sym, ◌∙◌, List, ℕ, subst}
-use Rattle.snap_text.specs.Fronts.{EntryThen}
+use Rattle.snap_text.specs.inside.Fronts.{EntryThen}
 use Rattle.snap_text.proofs.FrontFacts.{entry_goes_on, entry_missing, entry_whole}
 use Rattle.snap_text.proofs.entries.entry_of.Goals as goal
 

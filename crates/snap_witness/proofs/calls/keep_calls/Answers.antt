@@ -2,7 +2,7 @@ use Rattle.std.proofs.Common.{◌++◌, sym, ap, ◌∙◌, subst}
 use Rattle.snap_core.specs.Calls.{calls_of}
 use Rattle.snap_core.specs.Events.{IsHistory}
 use Rattle.snap_theory.specs.Kept.{kept_from, is_among}
-use Rattle.snap_witness.specs.Places.{places_of, calls_numbered}
+use Rattle.snap_witness.specs.inside.Places.{places_of, calls_numbered}
 use Rattle.snap_theory.specs.Witness.{numbers_of, updates_kept}
 use Rattle.snap_witness.proofs.Places.{places_join, kept_is_witness}
 use Rattle.snap_theory.proofs.Witnesses.{witness_history}

@@ -4,7 +4,7 @@ use Rattle.std.specs.declared.alloc.Global.{Global}
 use Rattle.std.specs.declared.vec.Vec.{Vec}
 use Rattle.snap_core.specs.Calls.{calls_of}
 use Rattle.snap_theory.specs.Updates.{update_of}
-use Rattle.snap_witness.specs.Places.{begin_and_end, places_of}
+use Rattle.snap_witness.specs.inside.Places.{begin_and_end, places_of}
 use Rattle.snap_theory.specs.Witness.{updates_kept}
 use Rattle.snap_witness.proofs.Places.{updates_more, found_places, none_places}
 use Rattle.snap_witness.proofs.calls.push_updates.Goals as goal

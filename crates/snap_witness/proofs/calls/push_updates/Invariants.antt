@@ -1,6 +1,6 @@
 use Rattle.std.proofs.Common.{◌≡◌, ◌++◌, take}
 use Rattle.snap_core.specs.Calls.{calls_of}
-use Rattle.snap_witness.specs.Places.{places_of}
+use Rattle.snap_witness.specs.inside.Places.{places_of}
 use Rattle.snap_theory.specs.Witness.{updates_kept}
 use Rattle.snap_witness.proofs.calls.push_updates.Given as goal
 

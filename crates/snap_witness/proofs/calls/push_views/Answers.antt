@@ -4,7 +4,7 @@ use Rattle.snap_core.specs.Calls.{calls_of, call_numbered}
 use Rattle.snap_index.specs.IndexedCalls.{as_indexed}
 use Rattle.snap_index.specs.declared.call.Call.{Call as IndexedCall}
 use Rattle.snap_index.proofs.Known.{indexed_within}
-use Rattle.snap_witness.specs.Places.{begin_and_end, places_of, calls_numbered}
+use Rattle.snap_witness.specs.inside.Places.{begin_and_end, places_of, calls_numbered}
 use Rattle.snap_witness.proofs.Places.{views_more}
 use Rattle.snap_witness.proofs.calls.push_views.Goals as goal
 

@@ -1,7 +1,8 @@
 use Rattle.std.proofs.Common.{rules, ◌≡◌, ◌++◌, ◌+◌, ◌∙◌, [], ◌∷◌, ap, map, sym, take}
 use Rattle.std.proofs.lemmas.List.{map_more}
 use Rattle.clap.specs.Words.{app_of, rule_of, with_rule}
-use Rattle.snap_words.specs.Tables.{rule_in, with_rules}
+use Rattle.snap_words.specs.inside.Tables.{rule_in}
+use Rattle.snap_words.specs.Tables.{with_rules}
 use Rattle.snap_words.proofs.Adding.{one_more_rule}
 use Rattle.snap_words.proofs.command.with_words.Goals as goal
 

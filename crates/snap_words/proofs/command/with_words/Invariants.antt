@@ -1,7 +1,8 @@
 use Rattle.std.proofs.Common.{◌≡◌, map, take, false}
 use Rattle.clap.specs.Words.{app_of}
 use Rattle.clap.specs.declared.builder.command.Command.TheViews.{out-Command as fields_of}
-use Rattle.snap_words.specs.Tables.{rule_in, with_rules}
+use Rattle.snap_words.specs.inside.Tables.{rule_in}
+use Rattle.snap_words.specs.Tables.{with_rules}
 use Rattle.snap_words.proofs.command.with_words.Given as goal
 
 abbrev pub invariant-loop-word : goal.invariant-loop-word

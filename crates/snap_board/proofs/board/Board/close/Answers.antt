@@ -3,7 +3,7 @@ use Rattle.snap_account.specs.Rule.{Boarded}
 use Rattle.snap_board.specs.Boards.{BoardView, GatheredView}
 use Rattle.snap_account.specs.Seats.{brief}
 use Rattle.snap_board.specs.Settled.{Settled, ScansSettled, TicksSettled}
-use Rattle.snap_board.specs.Slots.{desks_in, AllIn, HasLast}
+use Rattle.snap_board.specs.inside.Slots.{desks_in, AllIn, HasLast}
 use Rattle.snap_board.proofs.Closing.{settles, settles_scans, settles_ticks}
 use Rattle.snap_board.proofs.Ordering.{close_history, close_completed, close_regular}
 use Rattle.snap_board.proofs.Monotone.{close_monotone}

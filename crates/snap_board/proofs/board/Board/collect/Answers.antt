@@ -2,15 +2,14 @@ use Rattle.std.proofs.Common.{◌≡◌, ℕ, ◌+◌, ◌≤◌, List, [], ◌�
 use Rattle.snap_core.specs.declared.entry.Entry.{Entry}
 use Rattle.snap_core.specs.Entries.{number_in}
 use Rattle.snap_core.specs.Entries as entries
-use Rattle.snap_account.specs.Plays.{Seated, entry_of}
+use Rattle.snap_account.specs.Plays.{Seated, entry_of, Above, ReadAll}
 use Rattle.std.proofs.lemmas.List.{length-map}
 use Rattle.snap_board.specs.Desks.{number_shown}
 use Rattle.snap_account.specs.Seats.{answered_of, desk_of, has_read, pairs, IsUpToDate}
 use Rattle.snap_account.specs.Rule.{first_step}
-use Rattle.snap_account.specs.Plays.{Above, ReadAll}
 use Rattle.snap_board.specs.declared.board.Desk.TheInside as fields
 use Rattle.snap_board.specs.Boards.{BoardView}
-use Rattle.snap_board.specs.Fields.{IsDesk}
+use Rattle.snap_board.specs.inside.Fields.{IsDesk}
 use Rattle.snap_board.proofs.Fields.{desk_at}
 use Rattle.snap_board.specs.declared.record.RecordedOp.TheVariants as Kind
 use Rattle.snap_account.specs.Calls.{latest, begun_view, ended}

@@ -2,7 +2,7 @@ use Rattle.std.proofs.Common.{◌≡◌, ◌≤◌, refl, length, map, set, Some
 use Rattle.snap_account.specs.Seats.{brief}
 use Rattle.snap_account.specs.Rule.{of_desk}
 use Rattle.snap_account.specs.Plays.{Seated, merge}
-use Rattle.snap_board.specs.Slots.{desks_in, AreSmall}
+use Rattle.snap_board.specs.inside.Slots.{desks_in, AreSmall}
 use Rattle.snap_account.proofs.Seats.{joins, looks, none_there, length-insert}
 use Rattle.snap_board.proofs.Slotting.{put_in, free_slot, smalls_put}
 use Rattle.snap_board.proofs.Fields.{gathered_at, desk_at}

@@ -1,6 +1,6 @@
 use Rattle.std.proofs.Common.{ℕ, ◌+◌, List, [], length, sym, ap, ◌∙◌, subst, arith}
 use Rattle.std.proofs.lemmas.List.{length_push, length-map}
-use Rattle.snap_account.specs.Seats.{showing, pairs, doing_of, desk_of, answered_of, ticks_of, IsUpToDate}
+use Rattle.snap_account.specs.Seats.{showing, pairs, doing_of, desk_of, ticks_of, IsUpToDate, answered_of}
 use Rattle.snap_account.specs.Plays.{entry_of}
 use Rattle.snap_account.proofs.Moves.{loads_at}
 use Rattle.snap_board.specs.Boards.{BoardView}

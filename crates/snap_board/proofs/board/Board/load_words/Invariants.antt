@@ -1,5 +1,5 @@
 use Rattle.std.proofs.Common.{◌≡◌, ◌≤◌, length, vec_capacity}
-use Rattle.snap_account.specs.Seats.{has_read, pairs, desk_of, answered_of, IsUpToDate}
+use Rattle.snap_account.specs.Seats.{has_read, pairs, desk_of, IsUpToDate, answered_of}
 use Rattle.snap_board.proofs.board.Board.load_words.Given as goal
 
 abbrev pub invariant-words : goal.invariant-words

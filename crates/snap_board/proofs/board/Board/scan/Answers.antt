@@ -7,13 +7,13 @@ use Rattle.snap_account.specs.declared.account.Answer.TheVariants.{Scanned, Inte
 use Rattle.snap_account.specs.declared.account.Doing.TheVariants.{Viewing, Scanning}
 use Rattle.snap_board.specs.declared.board.Desk.TheInside as fields
 use Rattle.snap_board.specs.Boards.{BoardView}
-use Rattle.snap_board.specs.Fields.{IsDesk}
+use Rattle.snap_board.specs.inside.Fields.{IsDesk}
 use Rattle.snap_board.proofs.Fields.{desk_at}
 use Rattle.snap_board.specs.declared.record.RecordedOp.TheVariants as Kind
-use Rattle.snap_account.specs.Calls.{latest, begun_view, ended, gave_up}
+use Rattle.snap_account.specs.Calls.{latest, begun_view, gave_up, ended}
 use Rattle.snap_account.specs.Rule.{first_step}
 use Rattle.snap_board.specs.Desks.{records_at, lost_in, collects_in, number_shown}
-use Rattle.snap_account.specs.Seats.{idle, pairs, has_read, one_desk, answered_of, desk_of, doing_of, ticks_of, begun_of, IsUpToDate}
+use Rattle.snap_account.specs.Seats.{idle, answered_of, pairs, has_read, one_desk, desk_of, doing_of, ticks_of, begun_of, IsUpToDate}
 use Rattle.snap_account.specs.Plays.{Seated, entry_of, Above, ReadAll}
 use Rattle.snap_account.specs.Tries.{IsRead, IsTrying, HasAgreed, made_of, middle_in, middles_made}
 use Rattle.snap_account.proofs.Accounts.{rec_with, latest-push}

@@ -3,7 +3,7 @@ use Rattle.snap_account.specs.Rule.{code, first_step}
 use Rattle.snap_account.specs.Plays.{Seated, entry_of, Above, ReadAll}
 use Rattle.snap_board.specs.declared.board.Desk.TheInside as fields
 use Rattle.snap_board.specs.Boards.{BoardView}
-use Rattle.snap_board.specs.Fields.{IsDesk}
+use Rattle.snap_board.specs.inside.Fields.{IsDesk}
 use Rattle.snap_board.proofs.Fields.{desk_at}
 use Rattle.snap_board.specs.declared.record.RecordedOp.TheVariants as Kind
 use Rattle.snap_account.specs.Seats.{answered_of}

@@ -2,7 +2,7 @@ use Rattle.std.proofs.Common.{◌≡◌, map, set, Some, None, sym, ap, ◌∙�
 use Rattle.std.specs.Prelude.{slice_index_or}
 use Rattle.snap_account.specs.Seats.{brief}
 use Rattle.snap_account.specs.Plays.{Seated}
-use Rattle.snap_board.specs.Slots.{desks_in, brief_of, AreSmall}
+use Rattle.snap_board.specs.inside.Slots.{desks_in, brief_of, AreSmall}
 use Rattle.snap_account.proofs.Seats.{splits}
 use Rattle.snap_board.proofs.Slotting.{ins_top, ins_clear, smalls_clear, head_of, out_of, none_in, up_to}
 use Rattle.snap_board.proofs.Fields.{gathered_at}

@@ -3,7 +3,7 @@ use Rattle.std.proofs.lemmas.List.{length-map}
 use Rattle.std.proofs.lemmas.Bool.{false≢true}
 use Rattle.snap_account.specs.Calls.{middle_open}
 use Rattle.snap_account.specs.Plays.{Seated, entry_of}
-use Rattle.snap_account.specs.Seats.{pairs, desk_of, answered_of, doing_of, ticks_of, IsUpToDate}
+use Rattle.snap_account.specs.Seats.{pairs, desk_of, doing_of, ticks_of, IsUpToDate, answered_of}
 use Rattle.snap_account.specs.Tries.{IsTrying, HasAgreed}
 use Rattle.snap_board.specs.Boards.{BoardView}
 use Rattle.snap_account.proofs.Calling.{middled_after}

@@ -1,6 +1,6 @@
 use Rattle.std.proofs.Common.{ℕ, ◌+◌, List, vec_capacity, sym, ap, ◌∙◌, subst, arith}
 use Rattle.snap_account.specs.declared.account.Answered.{Answered}
-use Rattle.snap_account.specs.Seats.{pairs, desk_of, answered_of, doing_of}
+use Rattle.snap_account.specs.Seats.{pairs, desk_of, doing_of, answered_of}
 use Rattle.snap_account.specs.Tries.{IsRead, IsTrying}
 use Rattle.snap_board.proofs.board.Board.try_until.Goals as goal
 

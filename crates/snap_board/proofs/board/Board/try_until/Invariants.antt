@@ -1,5 +1,5 @@
 use Rattle.std.proofs.Common.{◌≡◌, ◌+◌, ◌≤◌, vec_capacity}
-use Rattle.snap_account.specs.Seats.{one_desk, pairs, doing_of, desk_of, answered_of, ticks_of, begun_of}
+use Rattle.snap_account.specs.Seats.{one_desk, pairs, doing_of, desk_of, ticks_of, begun_of, answered_of}
 use Rattle.snap_account.specs.Tries.{IsRead, IsTrying, made_of}
 use Rattle.snap_board.proofs.board.Board.try_until.Given as goal
 

@@ -1,5 +1,5 @@
 use Rattle.std.proofs.Common.{◌≡◌, ◌≤◌, length}
-use Rattle.snap_board.specs.Slots.{desks_in}
+use Rattle.snap_board.specs.inside.Slots.{desks_in}
 use Rattle.snap_board.proofs.board.Gathered.held.Given as goal
 
 abbrev pub invariant-each : goal.invariant-each

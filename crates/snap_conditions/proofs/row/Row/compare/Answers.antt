@@ -1,6 +1,8 @@
 use Rattle.std.proofs.Common.{rules, ◌+◌, ◌≤◌, ℕ, List, get_or, min, refl, ap, subst, ◌∙◌, arith, Fits, w64}
-use Rattle.snap_conditions.specs.Rows.{row_number, AreSums}
-use Rattle.snap_conditions.proofs.Compared.{not_compared, compared_next, compared_small, both_seen, are_whole, first_more, second_more}
+use Rattle.snap_views.specs.Rows.{row_number}
+use Rattle.snap_conditions.specs.Rows.{AreSums}
+use Rattle.snap_views.proofs.Compared.{not_compared, compared_next, compared_small, are_whole}
+use Rattle.snap_conditions.proofs.Compared.{both_seen, first_more, second_more}
 use Rattle.snap_theory.proofs.Entries.{nothing}
 use Rattle.snap_conditions.proofs.row.Row.compare.Goals as goal
 

@@ -1,5 +1,5 @@
 use Rattle.std.proofs.Common.{ℕ}
-use Rattle.snap_conditions.proofs.Compared.{IsCompared}
+use Rattle.snap_views.proofs.Compared.{IsCompared}
 use Rattle.snap_conditions.proofs.row.Row.compare.Given as goal
 
 abbrev pub invariant-loop-entry : goal.invariant-loop-entry

@@ -1,5 +1,5 @@
 use Rattle.std.proofs.Common.{sym, arith}
-use Rattle.snap_conditions.specs.Rows.{number_among, row_number}
+use Rattle.snap_views.specs.Rows.{number_among, row_number}
 use Rattle.snap_conditions.proofs.Leasts.{first_less_at, no_first_less}
 use Rattle.snap_conditions.proofs.row.Row.first_excess.Goals as goal
 

@@ -1,5 +1,5 @@
 use Rattle.std.proofs.Common.{◌≤◌, ◌<◌, ℕ}
-use Rattle.snap_conditions.specs.Rows.{number_among, row_number}
+use Rattle.snap_views.specs.Rows.{number_among, row_number}
 use Rattle.snap_conditions.proofs.row.Row.first_excess.Given as goal
 
 -- the view shows no more of the components so far

@@ -1,8 +1,8 @@
 use Rattle.std.proofs.Common.{◌≡◌, ◌+◌, ◌<◌, refl, sym, ap, ◌∙◌, inl, inr, arith, length, get_or, set, length-set, get_or-set_same, get_or-set_other}
 use Rattle.std.proofs.lemmas.Bool.{cases_eq}
-use Rattle.snap_conditions.specs.Rows.{row_number, sum_below}
-use Rattle.snap_conditions.proofs.Compared.{number_small}
-use Rattle.snap_conditions.proofs.Sums.{sum_none, sum_more}
+use Rattle.snap_views.specs.Rows.{row_number, sum_below}
+use Rattle.snap_views.proofs.Compared.{number_small}
+use Rattle.snap_views.proofs.Sums.{sum_none, sum_more}
 use Rattle.snap_conditions.proofs.row.Row.of.Goals as goal
 
 pub loop-k-init : goal.loop-k-init

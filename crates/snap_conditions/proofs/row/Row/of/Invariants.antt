@@ -1,5 +1,5 @@
 use Rattle.std.proofs.Common.{◌≡◌, ◌+◌, ◌*◌, ◌<◌, ◌≤◌, ℕ, get_or, length}
-use Rattle.snap_conditions.specs.Rows.{row_number, sum_below}
+use Rattle.snap_views.specs.Rows.{row_number, sum_below}
 use Rattle.snap_conditions.proofs.row.Row.of.Given as goal
 
 abbrev pub invariant-loop-k : goal.invariant-loop-k

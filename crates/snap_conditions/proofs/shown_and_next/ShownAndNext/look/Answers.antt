@@ -2,10 +2,11 @@ use Rattle.std.proofs.Common.{◌≡◌, ◌≤◌, ℕ, suc, ◌<◌, get_or, N
 use Rattle.std.proofs.lemmas.Bool.{cases_lt}
 use Rattle.std.proofs.lemmas.List.{get_or-take}
 use Rattle.snap_core.specs.Calls.{calls_of}
-use Rattle.snap_conditions.specs.Places.{value_of, begin_of, end_of, value_or_none, begin_or_0, end_or_never}
+use Rattle.snap_conditions.specs.inside.Places.{value_of, begin_of, end_of, value_or_none, begin_or_0}
+use Rattle.snap_views.specs.Seen.{end_or_never}
 use Rattle.snap_theory.specs.Updates.{update_of}
 use Rattle.snap_conditions.proofs.Surrounded.{around_seen}
-use Rattle.snap_conditions.proofs.Viewed.{none_of_none}
+use Rattle.snap_conditions.proofs.NoUpdates.{none_of_none}
 use Rattle.snap_conditions.proofs.shown_and_next.ShownAndNext.look.Goals as goal
 
 -- no update of a component from the limit on

@@ -1,6 +1,7 @@
 use Rattle.std.proofs.Common.{◌≡◌, ◌<◌, ◌≤◌, ℕ, suc, length, get_or}
 use Rattle.snap_core.specs.Calls.{calls_of}
-use Rattle.snap_conditions.specs.Places.{value_of, begin_of, end_of, value_or_none, begin_or_0, end_or_never}
+use Rattle.snap_conditions.specs.inside.Places.{value_of, begin_of, end_of, value_or_none, begin_or_0}
+use Rattle.snap_views.specs.Seen.{end_or_never}
 use Rattle.snap_theory.specs.Updates.{update_of}
 use Rattle.snap_conditions.proofs.shown_and_next.ShownAndNext.look.Given as goal
 

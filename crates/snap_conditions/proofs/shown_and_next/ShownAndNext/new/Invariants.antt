@@ -1,6 +1,7 @@
 use Rattle.std.proofs.Common.{◌≡◌, ◌<◌, ◌≤◌, ℕ, length, get_or}
 use Rattle.snap_core.specs.Calls.{calls_of}
-use Rattle.snap_conditions.specs.Places.{end_of, end_or_never}
+use Rattle.snap_conditions.specs.inside.Places.{end_of}
+use Rattle.snap_views.specs.Seen.{end_or_never}
 use Rattle.snap_theory.specs.Updates.{update_of}
 use Rattle.snap_conditions.proofs.shown_and_next.ShownAndNext.new.Given as goal
 

@@ -2,7 +2,7 @@ use Rattle.std.proofs.Common.{◌≡◌, ◌++◌, ◌∷◌, [], None, sym, sub
 use Rattle.std.specs.Prelude.{◌==◌}
 use Rattle.snap_core.specs.Events.{process_of}
 use Rattle.snap_core.specs.Refusals.{refusal_of}
-use Rattle.snap_core.specs.Tables.{begun_by, call_in, IsRecalled, writer_by, writer_in}
+use Rattle.snap_core.specs.inside.Tables.{begun_by, call_in, IsRecalled, writer_by, writer_in}
 use Rattle.snap_core.proofs.Recalled.{recalled_push}
 use Rattle.snap_core.proofs.history.History.push.Goals as goal
 

@@ -1,5 +1,5 @@
 use Rattle.std.proofs.Common.{ap, sym, ◌∙◌}
-use Rattle.snap_core.specs.Tables.{is_written_by_other}
+use Rattle.snap_core.specs.inside.Tables.{is_written_by_other}
 use Rattle.snap_core.proofs.tables.Tables.has_other_writer.Goals as goal
 
 pub returns-in-Some : goal.returns-in-Some

@@ -2,7 +2,8 @@ use Rattle.std.proofs.Common.{◌≡◌, ◌≤◌, ◌==◌, ◌∙◌, ℕ, ap
 use Rattle.std.specs.Prelude.{Some, count_by}
 use Rattle.std.specs.Option.{option_or}
 use Rattle.std.proofs.lemmas.List.Sums.{count_by-le-length}
-use Rattle.snap_files.specs.Sums.{IsFirst, has_code}
+use Rattle.snap_files.specs.inside.Sums.{IsFirst}
+use Rattle.snap_files.specs.Sums.{has_code}
 use Rattle.snap_files.proofs.Summing.{count_other, count_same, first_more, first_other}
 use Rattle.snap_files.proofs.sums.Kind.add.Goals as goal
 

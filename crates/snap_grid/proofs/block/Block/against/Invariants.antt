@@ -1,7 +1,7 @@
 use Rattle.std.proofs.Common.{◌≡◌, ◌<◌, ◌+◌, ◌*◌, ◌||◌, ℕ, take}
 use Rattle.std.specs.Prelude.{true, false}
 use Rattle.snap_grid.specs.Columns.{any_passes}
-use Rattle.snap_grid.specs.Facing.{AreFacing, AreFar, AreTabled, any_faces}
+use Rattle.snap_grid.specs.inside.Facing.{AreFacing, AreFar, AreTabled, any_faces}
 use Rattle.snap_grid.proofs.block.Block.against.Given as goal
 
 abbrev pub invariant-loop-j : goal.invariant-loop-j

@@ -1,6 +1,6 @@
 use Rattle.std.proofs.Common.{◌≡◌, ◌<◌, ◌≤◌, ◌+◌, ◌*◌, ℕ, false, take}
 use Rattle.snap_grid.specs.Columns.{any_passes}
-use Rattle.snap_grid.specs.Kept.{HaveRows}
+use Rattle.snap_grid.specs.inside.Kept.{HaveRows}
 use Rattle.snap_grid.proofs.block.Block.none_pass.Given as goal
 
 abbrev pub invariant-loop-j : goal.invariant-loop-j

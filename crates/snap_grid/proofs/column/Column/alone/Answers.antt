@@ -1,6 +1,6 @@
 use Rattle.std.proofs.Common.{◌<◌, ◌*◌, ℕ, List, length, get_or, ap, subst, arith}
 use Rattle.snap_grid.specs.declared.bounds.Bounds.{Bounds}
-use Rattle.snap_grid.specs.Kept.{IsBounded}
+use Rattle.snap_grid.specs.inside.Kept.{IsBounded}
 use Rattle.snap_grid.proofs.column.Column.alone.Goals as goal
 
 pub invariant_of-result : goal.invariant_of-result

@@ -1,5 +1,5 @@
 use Rattle.std.proofs.Common.{sym, subst, arith}
-use Rattle.snap_grid.specs.Kept.{IsBounded}
+use Rattle.snap_grid.specs.inside.Kept.{IsBounded}
 use Rattle.snap_grid.proofs.column.Column.bounds.Goals as goal
 
 pub index-requires : goal.index-requires

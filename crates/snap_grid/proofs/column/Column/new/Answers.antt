@@ -1,7 +1,7 @@
 use Rattle.std.proofs.Common.{◌<◌, ◌*◌, ℕ, List, length, get_or, subst}
 use Rattle.snap_grid.specs.declared.bounds.Bounds.{Bounds}
 use Rattle.snap_grid.specs.Columns.{IsOrderedAs}
-use Rattle.snap_grid.specs.Kept.{IsBounded}
+use Rattle.snap_grid.specs.inside.Kept.{IsBounded}
 use Rattle.snap_grid.proofs.column.Column.new.Goals as goal
 
 pub invariant_of-result : goal.invariant_of-result

@@ -4,8 +4,8 @@ use Rattle.std.proofs.lemmas.Bool.{cases_lt, cases_eq, lt-ltb, le-ltb}
 use Rattle.std.proofs.lemmas.List.{get_or_default}
 use Rattle.snap_grid.specs.declared.bounds.Bounds.{Bounds}
 use Rattle.snap_grid.specs.Columns.{number}
-use Rattle.snap_grid.specs.Masks.{mask_by}
-use Rattle.snap_grid.specs.Tables.{AreUnder}
+use Rattle.snap_grid.specs.inside.Masks.{mask_by}
+use Rattle.snap_grid.specs.inside.Tables.{AreUnder}
 use Rattle.snap_grid.proofs.Bits.{mask_none, mask_same}
 use Rattle.snap_grid.proofs.facing.Facing.around.Goals as goal
 

@@ -2,7 +2,7 @@ use Rattle.std.proofs.Common.{◌≡◌, ◌+◌, ◌∙◌, sym, ap}
 use Rattle.std.specs.Prelude.{nat_lt}
 use Rattle.std.proofs.lemmas.Option.{same_Some}
 use Rattle.snap_grid.specs.Columns.{number}
-use Rattle.snap_grid.specs.Masks.{mask_by}
+use Rattle.snap_grid.specs.inside.Masks.{mask_by}
 use Rattle.snap_grid.proofs.facing.Facing.around_far.Goals as goal
 
 pub returns-clause-below : goal.returns-clause-below

@@ -2,7 +2,7 @@ use Rattle.std.proofs.Common.{◌≡◌, ◌≤◌, ◌<◌, ◌+◌, ◌*◌, �
 use Rattle.std.specs.Prelude.{nat_lt}
 use Rattle.std.proofs.lemmas.Bool.{le-ltb}
 use Rattle.snap_grid.specs.Columns.{GridValue, HaveSameRows, any_passes, number}
-use Rattle.snap_grid.specs.Kept.{HaveRows}
+use Rattle.snap_grid.specs.inside.Kept.{HaveRows}
 use Rattle.snap_grid.proofs.Passing.{row_at, row_count}
 use Rattle.snap_grid.proofs.Clashing.{apart_by_less, apart_by_more, apart_by_one}
 use Rattle.snap_grid.proofs.grid.Grid.are_apart.Goals as goal

@@ -1,6 +1,6 @@
 use Rattle.std.proofs.Common.{◌≡◌, ◌*◌, length, ap, subst, arith}
 use Rattle.snap_grid.specs.Columns.{GridValue, HaveSameRows, clashes, drops}
-use Rattle.snap_grid.specs.Clashes.{ClashesWith}
+use Rattle.snap_grid.specs.inside.Clashes.{ClashesWith}
 use Rattle.snap_grid.proofs.Clashing.{counted, dropped, few_counted, few_dropped, few_pairs, marked, with_both, with_none}
 use Rattle.snap_grid.proofs.grid.Grid.block_clashing.Goals as goal
 

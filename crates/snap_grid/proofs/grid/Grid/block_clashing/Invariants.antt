@@ -1,5 +1,5 @@
 use Rattle.std.proofs.Common.{◌≡◌, ◌≤◌, ◌*◌, ◌-◌, min}
-use Rattle.snap_grid.specs.Clashes.{ClashesWith}
+use Rattle.snap_grid.specs.inside.Clashes.{ClashesWith}
 use Rattle.snap_grid.proofs.grid.Grid.block_clashing.Given as goal
 
 abbrev pub invariant-loop-done : goal.invariant-loop-done

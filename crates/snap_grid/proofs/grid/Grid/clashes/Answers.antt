@@ -4,7 +4,7 @@ use Rattle.std.specs.List.{range_with_len}
 use Rattle.std.specs.Option.{option_or}
 use Rattle.std.proofs.lemmas.List.Sums.{sum_by-append}
 use Rattle.snap_grid.specs.Columns.{GridValue, clash_count, drop_count, has_clash}
-use Rattle.snap_grid.specs.Sweeps.{AreDropsOfOne}
+use Rattle.snap_grid.specs.inside.Sweeps.{AreDropsOfOne}
 use Rattle.snap_grid.proofs.Clashing.{find_both, range-append}
 use Rattle.snap_grid.proofs.OneColumn.{clash_counted, clash_found, drop_counted, slice_at}
 use Rattle.snap_grid.proofs.grid.Grid.clashes.Goals as goal

@@ -1,5 +1,5 @@
 use Rattle.std.proofs.Common.{◌≤◌, ◌*◌}
-use Rattle.snap_grid.specs.Clashes.{ClashesWith}
+use Rattle.snap_grid.specs.inside.Clashes.{ClashesWith}
 use Rattle.snap_grid.proofs.grid.Grid.clashing.Given as goal
 
 abbrev pub invariant-loop-i : goal.invariant-loop-i

@@ -7,9 +7,9 @@ use Rattle.std.proofs.lemmas.List.Folds.{list_any_more}
 use Rattle.std.proofs.lemmas.List.Sums.{count_by-le-length, sum_by_more, sum_by_more_le}
 use Rattle.snap_grid.specs.declared.kind.Kind.{Kind}
 use Rattle.snap_grid.specs.Columns.{GridValue, any_passes}
-use Rattle.snap_grid.specs.Facing.{faces}
-use Rattle.snap_grid.specs.Kinds.{AreKinds, sum_of_kinds}
-use Rattle.snap_grid.specs.Masks.{mask_below}
+use Rattle.snap_grid.specs.inside.Facing.{faces}
+use Rattle.snap_grid.specs.inside.Kinds.{AreKinds, sum_of_kinds}
+use Rattle.snap_grid.specs.inside.Masks.{mask_below}
 use Rattle.std.proofs.lemmas.Nat.{mul-le}
 use Rattle.std.proofs.lemmas.Nat.Bits.{bit_at-zero}
 use Rattle.snap_grid.proofs.Bits.{mask_below_same, mask_from_bits, ones_below}

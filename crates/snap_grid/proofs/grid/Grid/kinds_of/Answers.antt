@@ -1,7 +1,7 @@
 use Rattle.std.proofs.Common.{◌*◌, ◌-◌, length, get_or, sym, ap, subst, ◌∙◌, arith}
 use Rattle.std.specs.Prelude.{min}
 use Rattle.snap_grid.specs.Columns.{GridValue}
-use Rattle.snap_grid.specs.Kinds.{AreKinds}
+use Rattle.snap_grid.specs.inside.Kinds.{AreKinds}
 use Rattle.snap_grid.proofs.grid.Grid.kinds_of.Goals as goal
 
 pub index-requires : goal.index-requires

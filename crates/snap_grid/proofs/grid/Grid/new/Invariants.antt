@@ -1,7 +1,7 @@
 use Rattle.std.proofs.Common.{◌≡◌, ◌<◌, ◌*◌, ◌-◌, ◌+◌, ℕ, List, length, get_or}
 use Rattle.std.specs.Prelude.{min}
 use Rattle.snap_grid.specs.declared.kind.Kind.{Kind}
-use Rattle.snap_grid.specs.Kinds.{AreKinds}
+use Rattle.snap_grid.specs.inside.Kinds.{AreKinds}
 use Rattle.snap_grid.proofs.grid.Grid.new.Given as goal
 
 abbrev pub invariant-loop-start : goal.invariant-loop-start

@@ -1,7 +1,7 @@
 use Rattle.std.proofs.Common.{◌≤◌, ◌<◌, ◌+◌, ◌++◌, ◌∷◌, [], ℕ, List, set, length, length-set, length-append, refl, sym, ap, subst, ◌∙◌, arith}
 use Rattle.std.proofs.lemmas.List.{get_or_default}
 use Rattle.snap_grid.specs.declared.kind.Kind.{Kind}
-use Rattle.snap_grid.specs.Kinds.{AreAlike}
+use Rattle.snap_grid.specs.inside.Kinds.{AreAlike}
 use Rattle.snap_grid.proofs.Joining.{few_times, kind_added, kind_joined}
 use Rattle.snap_grid.proofs.kinds.Kinds.of.Goals as goal
 use Rattle.snap_grid.proofs.kinds.Kinds.of.Goals.{then-known-len+then-are_alike, else-known-len+in_ok-push}

@@ -1,5 +1,5 @@
 use Rattle.std.proofs.Common.{◌≤◌, length}
-use Rattle.snap_grid.specs.Kinds.{AreKinds}
+use Rattle.snap_grid.specs.inside.Kinds.{AreKinds}
 use Rattle.snap_grid.proofs.kinds.Kinds.of.Given as goal
 
 abbrev pub invariant-loop-row : goal.invariant-loop-row

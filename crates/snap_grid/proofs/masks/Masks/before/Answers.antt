@@ -2,7 +2,7 @@ use Rattle.std.proofs.Common.{◌≡◌, ◌<◌, ◌+◌, ◌-◌, suc, length,
 use Rattle.std.specs.Prelude.{true, nat_lt}
 use Rattle.std.proofs.lemmas.Bool.{lt-ltb, le-ltb, eqb-false}
 use Rattle.std.proofs.lemmas.List.{get_or_default}
-use Rattle.snap_grid.specs.Masks.{mask_by}
+use Rattle.snap_grid.specs.inside.Masks.{mask_by}
 use Rattle.snap_grid.proofs.Bits.{mask_none, mask_below_same, mask_places}
 use Rattle.snap_grid.proofs.masks.Masks.before.Goals as goal
 

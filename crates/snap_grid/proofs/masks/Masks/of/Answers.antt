@@ -2,7 +2,7 @@ use Rattle.std.proofs.Common.{◌≡◌, ◌≤◌, ◌<◌, ◌+◌, ◌-◌, �
 use Rattle.std.specs.Prelude.{Some}
 use Rattle.std.proofs.lemmas.List.{nil_from_length, append-nil, with_items_is}
 use Rattle.snap_grid.specs.declared.bounds.Bounds.{Bounds}
-use Rattle.snap_grid.specs.Tables.{AreUnder}
+use Rattle.snap_grid.specs.inside.Tables.{AreUnder}
 use Rattle.snap_grid.proofs.masks.Masks.of.Goals as goal
 use Rattle.snap_grid.proofs.masks.Masks.of.Goals.{then-spread-limit+in_ok-under, else-spread-limit+in_ok-of}
 use borrow.Rule.Slice.PartMut.{post_of}

@@ -1,6 +1,6 @@
 use Rattle.std.proofs.Common.{◌+◌, ◌<◌, ◌∙◌, length, subst, arith}
 use Rattle.std.proofs.lemmas.List.{get_or_default}
-use Rattle.snap_grid.specs.Ranked.{IsRank}
+use Rattle.snap_grid.specs.inside.Ranked.{IsRank}
 use Rattle.snap_grid.proofs.ranked.Ranked.around.Goals as goal
 
 pub returns-clause-below : goal.returns-clause-below

@@ -1,8 +1,8 @@
 use Rattle.std.proofs.Common.{◌≡◌, ◌<◌, ℕ, List, length, get_or, sym, ap, subst, arith}
 use Rattle.std.specs.Prelude.{nat_lt}
 use Rattle.std.proofs.lemmas.List.Elements.{Contains-get_or}
-use Rattle.snap_grid.specs.Masks.{mask_by}
-use Rattle.snap_grid.specs.Ranked.{AreRanks}
+use Rattle.snap_grid.specs.inside.Masks.{mask_by}
+use Rattle.snap_grid.specs.inside.Ranked.{AreRanks}
 use Rattle.snap_grid.proofs.Ranking.{rank_small, ranked_mask}
 use Rattle.snap_grid.proofs.ranked.Ranked.of.Goals as goal
 

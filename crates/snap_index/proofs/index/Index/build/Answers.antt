@@ -4,7 +4,7 @@ use Rattle.snap_core.specs.Calls.{calls_of}
 use Rattle.snap_index.specs.declared.call.CallOp.TheVariants.{Update}
 use Rattle.snap_index.specs.declared.call.Call.{Call}
 use Rattle.snap_index.specs.IndexedCalls.{as_indexed}
-use Rattle.snap_index.specs.Tables.{AreTables}
+use Rattle.snap_index.specs.inside.Tables.{AreTables}
 use Rattle.snap_index.proofs.IndexedCalls.{call_count_within, count_is, indexed_read, word_fits}
 use Rattle.snap_index.proofs.Notes.{put_where, is_indexed_view, Puts, indexed_write, written, noted, none_noted, pending_few, pending_at, component_fits, views_of_update, views_of_view, updates_of_update, updates_of_view}
 use Rattle.snap_index.proofs.index.Index.build.Goals as goal

@@ -1,6 +1,6 @@
 use Rattle.std.proofs.Common.{take}
 use Rattle.snap_core.specs.Calls.{calls_of}
-use Rattle.snap_index.specs.Tables.{AreTables}
+use Rattle.snap_index.specs.inside.Tables.{AreTables}
 use Rattle.snap_index.proofs.index.Index.build.Given as goal
 
 abbrev pub invariant-loop-c : goal.invariant-loop-c

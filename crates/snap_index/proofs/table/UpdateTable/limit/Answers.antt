@@ -1,5 +1,6 @@
 use Rattle.std.proofs.Common.{ℕ, ◌≤◌, ◌≡◌, ◌<◌, sym, ap, ◌∙◌, List, length, get_or, [], arith}
-use Rattle.snap_index.specs.Tables.{padded, rows}
+use Rattle.snap_index.specs.Rows.{rows}
+use Rattle.snap_index.specs.inside.Tables.{padded}
 use Rattle.snap_index.proofs.Padding.{padded_row, row_empty}
 use Rattle.snap_index.proofs.table.UpdateTable.limit.Goals as goal
 

@@ -1,5 +1,6 @@
 use Rattle.std.proofs.Common.{◌≡◌, ◌++◌, ◌∷◌, [], Vec, Global, set, get_or, sym, ap, ◌∙◌}
-use Rattle.snap_index.specs.Tables.{padded, rows}
+use Rattle.snap_index.specs.Rows.{rows}
+use Rattle.snap_index.specs.inside.Tables.{padded}
 use Rattle.snap_index.proofs.Padding.{row_read, row_set}
 use Rattle.snap_index.proofs.table.UpdateTable.put.Goals as goal
 

@@ -1,7 +1,7 @@
 use Rattle.std.proofs.Common.{length, sym, ap, ◌∙◌, subst}
 use Rattle.std.specs.List.{All}
 use Rattle.std.proofs.lemmas.Bool.{eqb-true}
-use Rattle.snap_order.specs.Shown.{IsLast, AreCounted}
+use Rattle.snap_order.specs.inside.Shown.{IsLast, AreCounted}
 use Rattle.snap_order.proofs.Matching.{matching}
 use Rattle.snap_order.proofs.last_entries.LastEntries.are_shown_by.Goals as goal
 

@@ -8,7 +8,7 @@ use Rattle.snap_core.proofs.Histories.{numbered_calls}
 use Rattle.snap_theory.specs.Levels.{rank, is_printed}
 use Rattle.snap_theory.specs.Keys.{key_of, rank_of}
 use Rattle.snap_core.specs.Events.{IsBoundedHistory}
-use Rattle.snap_conditions.proofs.Ranges.{few_views}
+use Rattle.snap_views.proofs.Sizes.{few_views}
 use Rattle.snap_order.proofs.Ranking.{word_fits}
 use Rattle.snap_order.proofs.Searches.{view_of_number}
 use Rattle.snap_order.proofs.levels.Levels.keys.Goals as goal

@@ -4,7 +4,7 @@ use Rattle.std.specs.List.{list_any}
 use Rattle.snap_core.specs.declared.event.Event.{Event}
 use Rattle.snap_core.specs.Events.{IsBoundedHistory}
 use Rattle.snap_core.specs.Calls.{calls_of, call_numbered, views_of, shown_number, nobody}
-use Rattle.snap_conditions.specs.Quick.{AreComparable, shown_sum}
+use Rattle.snap_views.specs.Quick.{AreComparable, shown_sum}
 use Rattle.snap_index.specs.IndexedCalls.{as_indexed}
 use Rattle.snap_index.specs.declared.call.Call.{Call}
 use Rattle.snap_index.proofs.IndexedCalls.{numbered_there}

@@ -2,7 +2,7 @@ use Rattle.std.proofs.Common.{◌∙◌, List, get_or, ap, subst}
 use Rattle.snap_core.specs.declared.event.Event.{Event}
 use Rattle.snap_core.specs.Calls.{calls_of}
 use Rattle.snap_core.specs.Events.{IsBoundedHistory}
-use Rattle.snap_conditions.specs.Chains.{AreViewSums}
+use Rattle.snap_views.specs.Chains.{AreViewSums}
 use Rattle.snap_order.proofs.Searches.{sum_of_number}
 use Rattle.snap_order.proofs.levels.Levels.sum_of.Goals as goal
 

@@ -4,8 +4,8 @@ use Rattle.std.specs.List.Sorted.{IsPartitionedBy}
 use Rattle.std.proofs.lemmas.List.Sorted.{IsPartitionedBy-ltb}
 use Rattle.snap_core.specs.declared.event.Event.{Event}
 use Rattle.snap_core.specs.Calls.{calls_of, views_of, shown_number}
-use Rattle.snap_conditions.specs.Seen.{view_in}
-use Rattle.snap_conditions.proofs.Ranges.{few_views}
+use Rattle.snap_views.specs.Seen.{view_in}
+use Rattle.snap_views.proofs.Sizes.{few_views}
 use Rattle.snap_theory.specs.Levels.{update_level}
 use Rattle.snap_order.proofs.Counts.{point_counts}
 use Rattle.snap_order.proofs.Ranking.{word_fits}

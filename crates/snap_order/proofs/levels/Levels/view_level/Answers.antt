@@ -4,8 +4,8 @@ use Rattle.std.specs.List.Sorted.{IsPartitionedBy}
 use Rattle.std.proofs.lemmas.List.Sorted.{IsPartitionedBy-ltb}
 use Rattle.snap_core.specs.declared.event.Event.{Event}
 use Rattle.snap_core.specs.Calls.{calls_of, views_of}
-use Rattle.snap_conditions.specs.Quick.{shown_sum}
-use Rattle.snap_conditions.proofs.Ranges.{few_views}
+use Rattle.snap_views.specs.Quick.{shown_sum}
+use Rattle.snap_views.proofs.Sizes.{few_views}
 use Rattle.snap_order.proofs.Counts.{point_counts}
 use Rattle.snap_order.proofs.Ranking.{word_fits}
 use Rattle.snap_order.proofs.Searches.{chain_length, sums_rise_by, sum_place}

@@ -2,7 +2,8 @@ use Rattle.std.proofs.Common.{◌≡◌, ◌<◌, ◌≤◌, ◌+◌, sym, ap, s
 use Rattle.std.specs.Prelude.{filter, nat_lt}
 use Rattle.snap_pairs.specs.Claiming.{ClaimView, CounterView, IsFinished, pieces_of}
 use Rattle.snap_core.specs.Sums.{one_if}
-use Rattle.snap_pairs.specs.Draws.{past, first_of}
+use Rattle.snap_pairs.specs.inside.Draws.{past}
+use Rattle.snap_pairs.specs.Draws.{first_of}
 use Rattle.snap_pairs.proofs.Keeps.{draws, lone_after, past_low, past_high}
 use Rattle.snap_pairs.proofs.Finishing.{finished_to, finished_from, pieces_stay, any_past}
 use Rattle.snap_pairs.proofs.claims.Claims.draw.Goals as goal

@@ -1,6 +1,7 @@
 use Rattle.std.proofs.Common.{◌≡◌, ◌-◌, ◌+◌, [], ◌∷◌, ◌++◌, List, get_or, length, map, arith, sym, ap, ◌∙◌}
 use Rattle.std.proofs.lemmas.List.FromFn.{map-range_with_len_more, length-map-range_with_len, get_or-map-range_with_len}
-use Rattle.snap_pairs.specs.Draws.{empties, first_of, only_first, but_first, past}
+use Rattle.snap_pairs.specs.inside.Draws.{empties, only_first, but_first, past}
+use Rattle.snap_pairs.specs.Draws.{first_of}
 use Rattle.snap_pairs.specs.Claiming.{ClaimView, CounterView, new_claim}
 use Rattle.std.specs.List.{range_with_len}
 use Rattle.snap_pairs.proofs.Keeps.{begins, splits, next_list}

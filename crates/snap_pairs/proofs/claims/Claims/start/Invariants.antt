@@ -1,7 +1,7 @@
 use Rattle.std.proofs.Common.{◌≡◌, ◌-◌, [], map}
 use Rattle.std.specs.List.{range_with_len}
 use Rattle.snap_pairs.specs.Claiming.{new_claim}
-use Rattle.snap_pairs.specs.Draws.{empties}
+use Rattle.snap_pairs.specs.inside.Draws.{empties}
 use Rattle.snap_pairs.proofs.claims.Claims.start.Given as goal
 
 abbrev pub invariant-loop-worker : goal.invariant-loop-worker

@@ -1,5 +1,0 @@
-use Rattle.snap_conditions.proofs.Quick.{no_read_fault_exactly}
-use Rattle.snap_conditions.proofs.law.no_read_fault_by_sums.Goals as goal
-
-pub returns : goal.returns
-returns c = no_read_fault_exactly

@@ -1,5 +1,0 @@
-use Rattle.snap_conditions.proofs.Climbing.{IsTaken}
-use Rattle.snap_conditions.proofs.view_chain.climb.Given as goal
-
-abbrev pub invariant-loop-entry : goal.invariant-loop-entry
-invariant-loop-entry l = IsTaken l.fn.numbers l.numbers l.entries l.entry-index l.lesser

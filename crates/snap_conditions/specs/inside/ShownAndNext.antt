@@ -1,0 +1,38 @@
+-- Where the updates stand between which a view is by what it shows: at each component the one that it shows and the next.
+use Rattle.std.specs.Prelude.{ℕ, suc, ◌≡◌, ◌<◌, ◌≤◌, List, get_or}
+use Rattle.snap_core.specs.Calls.{Call, shown_number}
+use Rattle.snap_core.specs.Entries.{component_count}
+use Rattle.snap_conditions.specs.declared.shown_and_next.ShownAndNext.{ShownAndNext}
+use Rattle.snap_conditions.specs.inside.Places.{value_of, begin_of, end_of, value_or_none, begin_or_0}
+use Rattle.snap_views.specs.Seen.{end_or_never}
+use Rattle.snap_theory.specs.Updates.{update_of}
+use Rattle.snap_views.specs.Rows.{AreNumbersOf}
+
+-- the value of the update that a view shows of a component, one that is no update's where there is none
+abbrev pub value_shown : List Call → Call → ℕ → ℕ
+value_shown calls r k = value_or_none (value_of (update_of calls k (shown_number r k)))
+
+-- where the update that a view shows of a component begins, 0 where there is none
+abbrev pub begin_shown : List Call → Call → ℕ → ℕ
+begin_shown calls r k = begin_or_0 (begin_of (update_of calls k (shown_number r k)))
+
+-- where the update after it ends, a place behind all begins where there is none or it is pending
+abbrev pub end_next : List Call → Call → ℕ → ℕ
+end_next calls r k = end_or_never (end_of (update_of calls k (suc (shown_number r k))))
+
+pub record IsOfView (calls : List Call) (r : Call) (updates : ShownAndNext) : Type 0 where
+  pub numbers : (k : ℕ) → k < component_count → get_or updates.numbers k 0 ≡ shown_number r k
+  pub values : (k : ℕ) → k < component_count → get_or updates.values k 0 ≡ value_shown calls r k
+  pub begins : (k : ℕ) → k < component_count → get_or updates.begins k 0 ≡ begin_shown calls r k
+  pub ends : (k : ℕ) → k < component_count → get_or updates.ends k 0 ≡ end_next calls r k
+  pub latest : (k : ℕ) → k < component_count → begin_shown calls r k ≤ updates.latest
+  pub earliest : (k : ℕ) → k < component_count → updates.earliest ≤ end_next calls r k
+
+-- the same around the view that was looked at last, by its entries
+pub record IsOfEntries (calls : List Call) (updates : ShownAndNext) : Type 0 where
+  pub numbers : AreNumbersOf updates.entries.now updates.numbers
+  pub values : (k : ℕ) → k < component_count → get_or updates.values k 0 ≡ value_or_none (value_of (update_of calls k (get_or updates.numbers k 0)))
+  pub begins : (k : ℕ) → k < component_count → get_or updates.begins k 0 ≡ begin_or_0 (begin_of (update_of calls k (get_or updates.numbers k 0)))
+  pub ends : (k : ℕ) → k < component_count → get_or updates.ends k 0 ≡ end_or_never (end_of (update_of calls k (suc (get_or updates.numbers k 0))))
+  pub latest : (k : ℕ) → k < component_count → get_or updates.begins k 0 ≤ updates.latest
+  pub earliest : (k : ℕ) → k < component_count → updates.earliest ≤ get_or updates.ends k 0

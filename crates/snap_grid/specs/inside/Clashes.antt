@@ -1,0 +1,20 @@
+-- Clashes of rows with others.
+use Rattle.std.specs.Prelude.{ℕ, ◌+◌, ◌<◌, ◌≡◌, Bool, false, sum_by, count_by}
+use Rattle.std.specs.List.{range_with_len, list_any}
+use Rattle.snap_grid.specs.declared.grid.Clashing.{Clashing}
+use Rattle.snap_grid.specs.Columns.{GridValue, clashes, drops}
+use Rattle.snap_grid.specs.inside.Masks.{mask_below}
+
+-- how many pairs a test lets through, of n rows from one on and m rows from another on
+abbrev pub pair_count : (ℕ → ℕ → Bool) → ℕ → ℕ → ℕ → ℕ → ℕ
+pair_count p from n first m = sum_by (λ b. count_by (λ a. p (from + a) b) (range_with_len 0 n)) (range_with_len first m)
+
+-- none of n rows from one on clashes with one of m rows from another on, or drops to it
+abbrev pub AreApart : GridValue → ℕ → ℕ → ℕ → ℕ → Type 0
+AreApart g from n first m = (a b : ℕ) → a < n → b < m → (clashes g (from + a) (first + b) ≡ false) × (drops g (from + a) (first + b) ≡ false)
+
+-- of n rows from one on against m rows from another on
+pub record ClashesWith (g : GridValue) (from n first m : ℕ) (c : Clashing) : Type 0 where
+  pub count : c.count ≡ pair_count (clashes g) from n first m
+  pub drops : c.drops ≡ pair_count (drops g) from n first m
+  pub rows : c.rows ≡ mask_below (λ a. list_any (λ b. clashes g (from + a) b) (range_with_len first m)) n

@@ -1,0 +1,7 @@
+pub mod Seen
+pub mod Rows
+pub mod Quick
+pub mod Chains
+pub mod Orders
+pub mod Grids
+pub mod inside

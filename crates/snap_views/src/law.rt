@@ -1,0 +1,8 @@
+//! The law of the quick test.
+ghost use Rattle.snap_views.specs.Quick.{NoReadFaultExactly};
+
+/// There is no read fault exactly where of any two completed views one shows no component above the other's, and none
+/// precedes one with a smaller sum.
+pub fn no_read_fault_by_sums()
+    ensures { NoReadFaultExactly }
+{}

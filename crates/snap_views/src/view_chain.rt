@@ -1,0 +1,101 @@
+//! The completed views as a chain, in which each shows no less than those before it.
+ghost use Rattle.std.specs.Prelude.{◌≡◌, ◌<◌, ◌≤◌, ◌↔◌, ℕ, length, map, All, IfOk, IfSome, IsSome, IsTrue};
+ghost use Rattle.std.specs.List.Sorted.{IsPermutation};
+ghost use Rattle.snap_core.specs.Calls.{calls_of};
+ghost use Rattle.snap_core.specs.Entries.{AreEntries, component_count};
+ghost use Rattle.snap_core.specs.Events.{IsBoundedHistory};
+ghost use Rattle.snap_views.specs.Chains.{AreViewSums, IsChain};
+ghost use Rattle.snap_views.specs.inside.Chains.{IsSummed, Climbs, summed_views};
+ghost use Rattle.snap_views.specs.Quick.{AreComparable};
+ghost use Rattle.snap_views.specs.Rows.{AreNumbersOf, number_among, row_number, sum_below};
+
+use crate::seen::view_at;
+use snap_core::{COMPONENT_COUNT, Entry};
+use snap_index::Index;
+use std::alloc::{AllocError, Global};
+
+/// The completed views of a history as a chain, in which each shows no less than those before it.
+#[derive(Debug, Drop)]
+pub struct ViewChain {
+    /// The places of the views by call number, counted from 0, sorted by the sums of the numbers that they show and then by place.
+    pub places: Vec<u32>,
+    /// The sum of each view, by call number.
+    pub sums: Vec<u64>,
+}
+
+/// The places of the completed views by call number, counted from 0, sorted by the sums of the numbers that they show and
+/// then by place, where of any two of these views one shows no component above the other's; `None` exactly where two views
+/// are not so. `sums` has the sum of each completed view, by call number. The error is want of memory.
+pub fn chain(alloc: Global, index: &Index<'_>, sums: &[u64]) -> Result<Option<Vec<u32>>, AllocError>
+    requires { AreViewSums (calls_of index.now) sums.now }
+    ensures sorted { IfOk result (λ found. IfSome found (λ places. IsChain (calls_of index.now) places.items)) }
+    ensures comparable { IfOk result (λ found. IsSome found ↔ AreComparable (calls_of index.now)) }
+{
+    // what is known of the history that the index is of
+    let _events = index.event_count();
+    let mut keys = keys(alloc, index, sums)?;
+    keys.sort_unstable();
+    if !climbs(index, &keys) {
+        return Ok(None);
+    }
+    Ok(Some(places(alloc, &keys)?))
+}
+
+// The sum of each completed view, and its place.
+fn keys(alloc: Global, index: &Index<'_>, sums: &[u64]) -> Result<Vec<(u64, u32)>, AllocError>
+    requires { AreViewSums (calls_of index.now) sums.now }
+    ensures { IfOk result (λ keys. keys.items ≡ summed_views (calls_of index.now)) }
+{
+    let mut keys = Vec::with_capacity(alloc, index.view_count() as usize)?;
+    for place in 0..index.view_count() {
+        keys.push((sums[place as usize], place))?;
+    }
+    Ok(keys)
+}
+
+// The places of keys.
+fn places(alloc: Global, keys: &[(u64, u32)]) -> Result<Vec<u32>, AllocError>
+    ensures { IfOk result (λ places. places.items ≡ map (λ key. key.1) keys.now) }
+{
+    let mut places = Vec::with_capacity(alloc, keys.len())?;
+    for (_sum, place) in keys {
+        places.push(*place)?;
+    }
+    Ok(places)
+}
+
+// Whether each of these views shows no component above the next.
+fn climbs(index: &Index<'_>, keys: &[(u64, u32)]) -> bool
+    requires kept { IsBoundedHistory index.now }
+    requires keys { All (IsSummed (calls_of index.now)) keys.now }
+    ensures { IsTrue result ↔ Climbs (calls_of index.now) keys.now (length keys.now) }
+{
+    let mut numbers = [0; COMPONENT_COUNT];
+    let mut last = 0;
+    for (sum, place) in keys {
+        let view = view_at(index, *place);
+        if !climb(&mut numbers, last, view.entries) {
+            return false;
+        }
+        last = *sum;
+    }
+    true
+}
+
+// Takes the numbers of a view into a row, whose numbers have this sum. Whether the row showed no component above the view:
+// exactly then the lesser of both numbers of each component have the sum of the row. The row is the view's then.
+fn climb(numbers: &mut [u32; COMPONENT_COUNT], sum: u64, entries: &[Entry]) -> bool
+    requires entries { AreEntries entries.now }
+    requires sum { sum ≡ sum_below (row_number numbers.old) component_count }
+    ensures below { IsTrue result ↔ ((k : ℕ) → k < component_count → row_number numbers.old k ≤ number_among entries.now k) }
+    ensures taken { IsTrue result → AreNumbersOf entries.now numbers.new }
+    ensures size { length numbers.new ≡ component_count }
+{
+    let mut lesser = 0;
+    for entry in entries {
+        let k = entry.component as usize;
+        lesser += u64::from(entry.number.min(numbers[k]));
+        numbers[k] = entry.number;
+    }
+    lesser == sum
+}
