@@ -25,6 +25,7 @@ import sys
 import tempfile
 
 import graph
+import inside
 import pictures
 
 TOP = graph.TOP
@@ -36,6 +37,28 @@ README_LINES, CRATE_LINES = 110, 40
 WORDS, SAME_WORDS = 25, 4
 # So many words at least say what a picture shows.
 PICTURE_WORDS = 10
+# A file of code whose clauses cite what only proofs need: two for callers, and two others.
+CITING = """ghost use Rattle.snap_grid.specs.inside.Kept.{IsKept, Other};
+pub fn look(at: u32) -> u32
+    ensures { IsKept result }
+{
+}
+fn hidden(at: u32) -> u32
+    ensures { IsKept result }
+{
+}
+pub fn look(
+    at: u32,
+) -> u32 requires { at }
+    ensures { (n : ℕ)
+        → IsKept result }
+{
+    let kept = IsKept;
+}
+pub fn unseen() -> u32
+    ensures { IsKept result }
+{}
+"""
 # The pages whose commands are not run here, and the script that tries what they show.
 ELSEWHERE = {"docs/OWN-OBJECT.md": "ffi/record/test.sh", "docs/RECORDING.md": "ffi/record/test.sh", "docs/INSTALL.md": "share/test-package.sh"}
 # The files that repeat the number of VERSION, each with how it stands there.
@@ -264,6 +287,13 @@ def try_graph(count):
         count.expect((TOP / f"crates/{crate}/README.md").exists(), f"crates/{crate} has no README.md")
 
 
+def try_inside(count):
+    """What callers read cites no definition that only proofs need."""
+    for file, number, name in inside.all_cited():
+        count.expect(False, f"{file.relative_to(TOP)}:{number}: {name} is in specs/inside/, and callers read this")
+    count.expect(True, "")
+
+
 def try_version(count):
     version = (TOP / "VERSION").read_text(encoding="utf-8").strip()
     for name, form in VERSIONED.items():
@@ -359,6 +389,8 @@ def try_tests(count):
             for block in filter(lambda it: it.is_dialogue, page.blocks):
                 try_dialogue(found, block, room)
         count.expect(found.failed == 1, f"a page with {what} has {found.failed} failures")
+    count.expect(list(inside.cited_in(CITING, {"look"})) == [(3, "IsKept"), (14, "IsKept")], "inside.py overlooks a clause for callers")
+    count.expect(list(inside.imported_in(CITING)) == [(1, "IsKept, Other")], "inside.py overlooks an import")
 
 
 def main(words):
@@ -374,6 +406,7 @@ def main(words):
         try_links(count, page, pages)
         try_pictures(count, page)
     try_graph(count)
+    try_inside(count)
     try_version(count)
     try_sentences(count, chosen)
     if is_program_fresh():
