@@ -17,6 +17,7 @@ import contextlib
 import functools
 import hashlib
 import os
+import re
 import shutil
 import signal
 import subprocess
@@ -33,8 +34,9 @@ UNKNOWN = (60, 1500)
 # Further jobs serve crates over so few libraries. Over many, each job takes as long to load them as it then spares.
 FEW_BELOW = 1
 MOST_JOBS = 3
-# How many lines are told of what a failed check said, and how those begin that only count.
+# How many lines are told of what a failed check said: first those that name what was wrong. How those begin that only count.
 TOLD = 20
+WRONG = re.compile(r"\berror\b|not proved")
 COUNTS = ("statements ", "crate ", "rattle build: ")
 # How long standard error is silent at most, in seconds, where it is no terminal.
 SILENCE = 60
@@ -141,6 +143,7 @@ class Check:
             self.log.seek(0)
             said = [line for line in self.log.read().splitlines() if line and not line.startswith(COUNTS)]
         if self.run.returncode:
+            said.sort(key=lambda line: not WRONG.search(line))
             return "\n".join([f"{self.crate.name} was not proved", *said[:TOLD]])
         sum_of.cache_clear()
         if self.sum != sum_of(self.crate):
