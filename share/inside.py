@@ -12,7 +12,7 @@ import re
 import sys
 
 TOP = pathlib.Path(__file__).resolve().parent.parent
-INSIDE = re.compile(r"use Rattle\.\w+\.specs\.inside\.[\w.]+\.\{([^}]*)\}")
+INSIDE = re.compile(r"use Rattle\.\w+\.specs\.inside\b[\w.]*(?:\{([^}]*)\}| as (\w+))")
 HANDED_ON = re.compile(r"^pub use ([^;]*);", re.MULTILINE)
 FUNCTION = re.compile(r"^(\s*)(pub )?(?:const )?(?:unsafe )?(?:extern \"C\" )?fn (\w+)")
 CLAUSE = re.compile(r"^\s*(?:requires|ensures)\b")
@@ -26,7 +26,7 @@ def words(text):
 
 def names_inside(text):
     """What a file imports from specs/inside/, by the names that it has there."""
-    imported = (name for group in INSIDE.findall(text) for name in group.split(","))
+    imported = (name for names, alias in INSIDE.findall(text) for name in (names or alias).split(","))
     return {name.split(" as ")[-1].strip() for name in imported}
 
 
@@ -62,9 +62,8 @@ def cited_in(text, handed_on):
 
 def imported_in(text):
     """Where a file of definitions imports from what is inside."""
-    for number, line in enumerate(text.splitlines(), 1):
-        for names in INSIDE.findall(line):
-            yield number, names
+    for found in INSIDE.finditer(text):
+        yield text.count("\n", 0, found.start()) + 1, " ".join((found[1] or found[2]).split())
 
 
 def cited(crate):

@@ -38,7 +38,8 @@ WORDS, SAME_WORDS = 25, 4
 # So many words at least say what a picture shows.
 PICTURE_WORDS = 10
 # A file of code whose clauses cite what only proofs need: two for callers, and two others.
-CITING = """ghost use Rattle.snap_grid.specs.inside.Kept.{IsKept, Other};
+CITING = """ghost use Rattle.snap_grid.specs.inside.Kept.{IsKept,
+    Other};
 pub fn look(at: u32) -> u32
     ensures { IsKept result }
 {
@@ -389,7 +390,7 @@ def try_tests(count):
             for block in filter(lambda it: it.is_dialogue, page.blocks):
                 try_dialogue(found, block, room)
         count.expect(found.failed == 1, f"a page with {what} has {found.failed} failures")
-    count.expect(list(inside.cited_in(CITING, {"look"})) == [(3, "IsKept"), (14, "IsKept")], "inside.py overlooks a clause for callers")
+    count.expect(list(inside.cited_in(CITING, {"look"})) == [(4, "IsKept"), (15, "IsKept")], "inside.py overlooks a clause for callers")
     count.expect(list(inside.imported_in(CITING)) == [(1, "IsKept, Other")], "inside.py overlooks an import")
 
 
