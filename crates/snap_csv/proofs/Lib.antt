@@ -1,5 +1,6 @@
 pub mod RowFacts
 pub mod PlainFacts
+pub mod MarkFacts
 pub mod FrontFacts
 pub mod FieldFacts
 pub mod ReadFacts

@@ -98,26 +98,19 @@ pub plain_by_search : (text : List ℕ) (o : Option ℕ) → IsFirstByte (is_byt
 plain_by_search text None found = (λ none. All-from_get_or IsPlain text 0 (λ i lt. passes_not text i (found i (omega arith) lt)), λ plain. refl)
 plain_by_search text (Some k) found = (λ none. absurd cc, λ plain. absurd (marked_not (slice_index text k) (All-get_or IsPlain text k 0 found.0.high plain) found.1))
 
--- the bytes before the first mark that a search finds behind some inner ones are inner, too
+-- the bytes of two parts are inner where those of each are
 
-both_parts : (n m : ℕ) (xs : List ℕ) → All IsInner (take n xs) → All IsInner (take m (drop n xs)) → All IsInner (take (n + m) xs)
+pub both_parts : (n m : ℕ) (xs : List ℕ) → All IsInner (take n xs) → All IsInner (take m (drop n xs)) → All IsInner (take (n + m) xs)
 both_parts zero m xs a b = let e : m ≡ zero + m = omega arith in subst (λ z. All IsInner (take z xs)) e b
 both_parts (suc n) m [] a b = let e : suc (n + m) ≡ suc n + m = omega arith in subst (λ z. All IsInner (take z [])) e (All-nil IsInner)
 both_parts (suc n) m (x ∷ xs) a b =
     let e : suc (n + m) ≡ suc n + m = omega arith in
     subst (λ z. All IsInner (take z (x ∷ xs))) e (All-cons IsInner x (take (n + m) xs) (All-head IsInner x (take n xs) a) (both_parts n m xs (All-tail IsInner x (take n xs) a) b))
 
-inner_not : (text : List ℕ) (i : ℕ) → ((is_byte2 44 10 (slice_index text i) ≡ true) → ⊥) → IsInner (get_or text i 0)
-inner_not text i h = (λ comma. h (rw comma refl), λ newline. h (rw newline refl))
-
-inner_first : (m : ℕ) (xs : List ℕ) → ((i : ℕ) → i < m → IsInner (get_or xs i 0)) → All IsInner (take m xs)
+pub inner_first : (m : ℕ) (xs : List ℕ) → ((i : ℕ) → i < m → IsInner (get_or xs i 0)) → All IsInner (take m xs)
 inner_first zero xs h = All-nil IsInner
 inner_first (suc m) [] h = All-nil IsInner
 inner_first (suc m) (x ∷ xs) h = All-cons IsInner x (take m xs) (h zero (omega arith)) (inner_first m xs (λ i l. h (suc i) (omega (arith, l))))
-
-pub inner_by_search : (near : ℕ) (text : List ℕ) (o : Option ℕ) (m : ℕ) → All IsInner (take near text) → IsFirstByte (is_byte2 44 10) (drop near text) o → MatchOption o (m ≡ length (drop near text)) (λ at. m ≡ at) → All IsInner (take (near + m) text)
-inner_by_search near text None m a found is = both_parts near m text a (inner_first m (drop near text) (λ i l. inner_not (drop near text) i (found i (omega arith) (omega (arith, l, is)))))
-inner_by_search near text (Some at) m a found is = both_parts near m text a (inner_first m (drop near text) (λ i l. inner_not (drop near text) i (found.0.before i (omega arith) (omega (arith, l, is)))))
 
 -- the two parts of a plain text are plain
 plain_front : (f rest : List ℕ) → All IsPlain (f ++ rest) → All IsPlain f

@@ -1,6 +1,6 @@
 //! Histories in plain texts. Without quotes and carriage returns a record is a line and a field ends at a comma, so that such a
 //! text is cut by a search for these two marks. Any other text is read byte by byte, by `csv`.
-ghost use Rattle.std.specs.Prelude.{◌≡◌, ◌≢◌, ◌↔◌, ◌<◌, ◌≤◌, take, drop, ◌∷◌, ◌++◌, [], List, ℕ, true, All, IsTrue, MatchOption, get_or, length};
+ghost use Rattle.std.specs.Prelude.{◌≡◌, ◌≢◌, ◌↔◌, ◌<◌, ◌≤◌, ◌+◌, take, drop, ◌∷◌, ◌++◌, [], List, ℕ, true, All, IsTrue, MatchOption, get_or, length};
 ghost use Rattle.snap_csv.specs.inside.Answers.{AnswersNumbered, AnswersStamps, ReadsStamped};
 ghost use Rattle.csv.specs.Reading.{strip_bom};
 ghost use Rattle.snap_csv.specs.Layout.{is_header_row, is_stamped_header_row};
@@ -27,8 +27,38 @@ pub fn is_plain(text: &[u8]) -> bool
     memchr2(b'"', b'\r', text).is_none()
 }
 
-// Most fields end among so many bytes, so that these are looked at one by one before a search begins.
-const NEAR: usize = 12;
+// How many bytes are looked at together.
+const LANES: usize = 32;
+
+// How many bytes of a text, from a place on, come before the first that is a mark, as far as so many are looked at together.
+#[inline(always)]
+fn before_mark(text: &[u8], from: usize, mark: u8) -> u32
+    requires { from + 32 ≤ length text.now }
+    ensures before { (i : ℕ) → i < result → i < 32 → get_or text.now (from + i) 0 ≢ mark }
+    ensures here { result < 32 → get_or text.now (from + result) 0 ≡ mark }
+{
+    u8x32::from_slice(&text[from..])
+        .simd_eq(u8x32::splat(mark))
+        .to_bitmask()
+        .trailing_zeros()
+}
+
+// How many bytes the field has that a text begins with. So many at its front are inside it.
+#[inline(never)]
+fn field_size_from(text: &[u8], from: usize) -> usize
+    requires from { from ≤ length text.now }
+    requires inner { All IsInner (take from text.now) }
+    ensures within { result ≤ length text.now }
+    ensures inner { All IsInner (take result text.now) }
+    ensures ends { EndsField (drop result text.now) }
+{
+    for at in from..text.len() {
+        if text[at] == b',' || text[at] == b'\n' {
+            return at;
+        }
+    }
+    text.len()
+}
 
 // How many bytes the field has that a text begins with.
 #[inline(always)]
@@ -37,16 +67,15 @@ fn field_size(text: &[u8]) -> usize
     ensures inner { All IsInner (take result text.now) }
     ensures ends { EndsField (drop result text.now) }
 {
-    let near = text.len().min(NEAR);
-    for at in 0..near {
-        if text[at] == b',' || text[at] == b'\n' {
-            return at;
+    let mut at = 0;
+    while text.len() - at >= LANES {
+        let before = before_mark(text, at, b',').min(before_mark(text, at, b'\n')) as usize;
+        if before < LANES {
+            return at + before;
         }
+        at += LANES;
     }
-    match memchr2(b',', b'\n', &text[near..]) {
-        Some(at) => near + at,
-        None => text.len(),
-    }
+    field_size_from(text, at)
 }
 
 // The field that a text begins with, and what is behind it: nothing, or the mark that ends it and more.
@@ -121,9 +150,6 @@ fn behind_order_mark(text: &[u8]) -> &[u8]
         text
     }
 }
-
-// How many bytes are compared with newlines at a time.
-const LANES: usize = 32;
 
 // Whether so many bytes at the front of a text are newlines.
 #[inline(always)]

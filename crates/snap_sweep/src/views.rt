@@ -63,10 +63,20 @@ fn expect_sorted(
     expect_places(chain(alloc, index, &sums)?, known_chain)
 }
 
-// By their sums the views of an index are in order or not.
-fn expect_order(alloc: Global, index: &Index<'_>, is_ordered: bool) -> Result<(), Fault> {
+// The views of an index are a chain or not, and in order or not. So their sums say, and so does how they compare.
+fn expect_order(
+    alloc: Global,
+    index: &Index<'_>,
+    is_chain: bool,
+    is_ordered: bool,
+) -> Result<(), Fault> {
     let sums = view_sums(alloc, index)?;
-    expect(ordered(alloc, index, &sums)? == is_ordered)
+    expect(ordered(alloc, index, &sums)? == is_ordered)?;
+    expect(match view_order(alloc, index, sums)? {
+        ViewOrder::Faultless(_) => is_chain && is_ordered,
+        ViewOrder::Comparable(_) => is_chain && !is_ordered,
+        ViewOrder::Crossing => !is_chain,
+    })
 }
 
 // The views of a history have these sums, this chain, and such an order.
@@ -80,7 +90,7 @@ fn expect_chain(
     let history = history_of(alloc, steps)?;
     let index = Index::build(alloc, &history)?;
     expect_sorted(alloc, &index, known_sums, known_chain)?;
-    expect_order(alloc, &index, is_ordered)
+    expect_order(alloc, &index, known_chain.is_some(), is_ordered)
 }
 
 /// Views that disagree are no chain, a view after a newer one is one out of order, and those of an atomic run are one in order.

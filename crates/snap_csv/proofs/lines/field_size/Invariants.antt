@@ -1,7 +1,10 @@
-use Rattle.std.proofs.Common.{take}
+use Rattle.std.proofs.Common.{◌-◌, ◌≤◌, length, take}
 use Rattle.std.specs.List.{All}
 use Rattle.snap_csv.specs.inside.Lines.{IsInner}
 use Rattle.snap_csv.proofs.lines.field_size.Given as goal
 
 abbrev pub invariant-loop-at : goal.invariant-loop-at
-invariant-loop-at l = All IsInner (take l.at l.text)
+invariant-loop-at l = (l.at ≤ length l.text) × All IsInner (take l.at l.text)
+
+abbrev pub decreases-loop-at : goal.decreases-loop-at
+decreases-loop-at l = length l.text - l.at

@@ -1,0 +1,42 @@
+-- Where the first of some bytes that is a mark stands, by the lanes of a comparison.
+use Rattle.std.proofs.Common.{◌≡◌, ◌<◌, ◌≤◌, ◌+◌, ℕ, List, eqb, true, false, not, length, map, drop, take, get_or, inl, inr, sym, ap, ◌∙◌, subst, arith}
+use Rattle.std.specs.Prelude.{◌≢◌}
+use Rattle.std.specs.List.{All, prefix_len}
+use Rattle.std.proofs.lemmas.Bool.{both_ways, cases_eq, eq-eqb, eqb-true, not-false, not-true}
+use Rattle.std.proofs.lemmas.List.{get_or-drop}
+use Rattle.std.proofs.lemmas.List.Sums.{prefix_len_passes, prefix_len_stops}
+use Rattle.std.proofs.lemmas.Simd.{leading_from_mask_l, trailing_mask_l}
+use Rattle.std.specs.Int.Count.{trailing_of_zero}
+use lib.Count.{count_trailing_zeros}
+use lib.Lanes.{mask_l}
+use Rattle.snap_csv.specs.inside.Lines.{IsInner}
+use Rattle.snap_csv.proofs.PlainFacts.{both_parts, inner_first}
+
+-- so many bytes come before the first mark
+pub record IsBeforeMark (xs : List ℕ) (mark n : ℕ) : Type 0 where
+  pub before : (i : ℕ) → i < n → i < length xs → get_or xs i 0 ≢ mark
+  pub here : n < length xs → get_or xs n 0 ≡ mark
+
+not_mark : (mark x : ℕ) → not (eqb x mark) ≡ true → x ≢ mark
+not_mark mark x h = λ e. both_ways _ (not-true _ h) (eq-eqb x mark e)
+
+pub by_mask : (xs : List ℕ) (mark m : ℕ) → length xs ≤ 64 → m ≡ mask_l (map (λ x. eqb x mark) xs) → IsBeforeMark xs mark (count_trailing_zeros 64 m)
+by_mask xs mark m short is = elim (cases_eq m 0) [
+  | inl none ↦
+      let all = leading_from_mask_l (λ x. eqb x mark) xs (sym is ∙ none) in
+      let n : count_trailing_zeros 64 m ≡ 64 = ap (count_trailing_zeros 64) none ∙ trailing_of_zero 64 in
+      record {
+        before = λ i lt inside. not_mark mark _ (prefix_len_passes (λ x. not (eqb x mark)) xs i 0 (omega (arith, all, inside)));
+        here = λ lt. absurd (omega (arith, n, lt, short));
+      }
+  | inr some ↦
+      let n = ap (count_trailing_zeros 64) is ∙ trailing_mask_l (λ x. eqb x mark) 64 xs short (omega (arith, is, some)) in
+      record {
+        before = λ i lt inside. not_mark mark _ (prefix_len_passes (λ x. not (eqb x mark)) xs i 0 (omega (arith, n, lt)));
+        here = λ lt. subst (λ k. get_or xs k 0 ≡ mark) (sym n) (eqb-true _ mark (not-false _ (prefix_len_stops (λ x. not (eqb x mark)) xs 0 (omega (arith, n, lt)))));
+      }
+]
+
+-- behind some inner bytes of a text more are inner
+pub inner_more : (text : List ℕ) (n m : ℕ) → All IsInner (take n text) → ((i : ℕ) → i < m → IsInner (get_or text (n + i) 0)) → All IsInner (take (n + m) text)
+inner_more text n m before more = both_parts n m text before (inner_first m (drop n text) (λ i lt. subst IsInner (sym (get_or-drop n text i 0)) (more i lt)))
