@@ -1,5 +1,5 @@
 -- The stores and scans of a closed board have a legal order.
-use Rattle.std.proofs.Common.{◌≡◌, ◌≢◌, ℕ, suc, ◌+◌, ◌<◌, ◌≤◌, ◌⊎◌, ◌==◌, Bool, true, false, cond, if◌then◌else◌, List, [], ◌∷◌, ◌++◌, length, map, get_or, Option, Some, None, sym, refl, ap, ◌∙◌, subst, inl, inr, ⊎_elim, arith, eq-eqb, eqb-true}
+use Rattle.std.proofs.Common.{◌≡◌, ◌≢◌, ℕ, ◌+◌, ◌<◌, ◌≤◌, ◌⊎◌, ◌==◌, Bool, true, false, cond, if◌then◌else◌, List, [], ◌∷◌, ◌++◌, map, get_or, Option, Some, None, sym, refl, ap, ◌∙◌, subst, inl, inr, ⊎_elim, arith, eq-eqb, eqb-true}
 use Rattle.std.specs.List.{Contains}
 use Rattle.std.proofs.lemmas.Bool.{false≢true, false_from_ne_true}
 use native.Mathlib.Decide.{ℕ_discrete}
@@ -36,7 +36,7 @@ use Rattle.snap_board.proofs.DeskEvents.{entry, write_event}
 use Rattle.snap_board.proofs.Merging.{InOrder, the_view, the_update, history, completed}
 use Rattle.snap_board.proofs.ByKey as keys
 use Rattle.snap_core.proofs.Members.{In-map, In-from_map, Pairs-map, Pairs-from_map}
-use Rattle.snap_board.proofs.ScanOrder.{Key, Less, ScanAt, StoreAt, Given, scan_key, store_key, scan_at, store_at, scans_of, stores_of, scan_there, store_there, scan_scan, store_scan, scan_store, store_store, by_number, shown_before, before_shown, mark_whole, given}
+use Rattle.snap_board.proofs.ScanOrder.{Key, Less, scan_key, store_key, scan_at, store_at, scans_of, stores_of, scan_there, store_there, scan_scan, store_scan, scan_store, store_store, by_number, shown_before, before_shown, mark_whole, given}
 
 -- each view of the accounts is a scan
 abbrev pub AllScans : List Account → Type 0

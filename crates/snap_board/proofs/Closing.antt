@@ -1,5 +1,5 @@
 -- A board whose desks are all in is settled, and a board that is opened keeps the rule.
-use Rattle.std.proofs.Common.{◌≡◌, ℕ, zero, suc, ◌+◌, ◌<◌, ◌≤◌, ◌≢◌, ◌⊎◌, ◌==◌, Bool, true, false, true≢false, cond, nat_lt, List, [], ◌∷◌, ◌++◌, length, map, take, replicate, get_or, Option, Some, None, IsSome, sym, refl, ap, ◌∙◌, subst, inl, inr, ⊎_elim, arith, append-nil, take_all}
+use Rattle.std.proofs.Common.{◌≡◌, ℕ, zero, suc, ◌+◌, ◌<◌, ◌==◌, true, true≢false, List, [], ◌∷◌, ◌++◌, length, map, take, drop, replicate, Option, Some, None, IsSome, sym, refl, ap, ◌∙◌, subst, inl, inr, ⊎_elim, arith, append-nil, take_all}
 use mathlib.Core.Option.{some, some-injective, some-ne-none}
 use lib.ListN.{get_elem?}
 use Rattle.std.specs.Prelude.{slice_index_or}
@@ -13,7 +13,7 @@ use Rattle.snap_account.specs.declared.account.Doing.{Doing}
 use Rattle.snap_account.specs.declared.account.Doing.TheVariants.{Idle, Begun, Written, Viewing, Scanning}
 use Rattle.snap_board.specs.declared.desk_state.DeskState.{DeskState}
 use Rattle.snap_core.specs.Sums.{once_below, one_if, times, total}
-use Rattle.snap_account.specs.Calls.{Mem, Write, ViewRecord, Mark, mark, op_marks, marks_in, all_stamps_in, writes_in, view_records_in, stamps_in, open_marks, open_writes, marks_of, all_stamps, writes_of, view_records_of, stamps_of, latest, in_word}
+use Rattle.snap_account.specs.Calls.{Mem, Write, ViewRecord, Mark, write, mark, op_writes, op_marks, marks_in, all_stamps_in, writes_in, view_records_in, stamps_in, open_stamps, open_marks, open_writes, open_view_records, marks_of, all_stamps, writes_of, view_records_of, stamps_of, in_word}
 use Rattle.snap_account.specs.Rule.{Numbered, Rising, clock, newcomer, newcomers, Own, Boarded, code, of_desk}
 use Rattle.snap_account.specs.Marks.{Climbs}
 use Rattle.snap_account.specs.Seats.{Brief, brief, is_idle}
@@ -67,19 +67,19 @@ total-hand f b [] (suc m) e fits = absurd (cc)
 total-hand f b (h ∷ hand) zero e fits = absurd (cc)
 total-hand f b (h ∷ hand) (suc m) e fits =
     let first : h.desk ≡ m = some-injective _ _ (ap (λ (l : List ℕ). get_elem? l 0) e) in
-    let rest : map (λ (a : Account). a.desk) hand ≡ falling m = ap (λ (l : List ℕ). Rattle.std.proofs.Common.drop 1 l) e in
+    let rest : map (λ (a : Account). a.desk) hand ≡ falling m = ap (λ (l : List ℕ). drop 1 l) e in
     let r = total-hand f b hand m rest (λ a q. fits a (inr q)) in
     let t = total-take f b m h (ap (λ i. get_elem? b i) (sym first) ∙ fits h (inl refl)) in omega arith
 
 pub writes_over : (rs : List Answered) (w : Write) → Mem w (writes_in rs) → w.over ≡ true
 writes_over [] w m = absurd m
-writes_over (q ∷ rs) w m = ⊎_elim (λ x. one q.op x) (λ x. writes_over rs w x) (mem_split (Rattle.snap_account.specs.Calls.op_writes q.begun q.ended q.op) (writes_in rs) w m)
+writes_over (q ∷ rs) w m = ⊎_elim (λ x. one q.op x) (λ x. writes_over rs w x) (mem_split (op_writes q.begun q.ended q.op) (writes_in rs) w m)
   where
-    one : (o : Rattle.snap_account.specs.declared.account.Answer.Answer) → Mem w (Rattle.snap_account.specs.Calls.op_writes q.begun q.ended o) → w.over ≡ true
-    one (Rattle.snap_account.specs.declared.account.Answer.TheVariants.Stored i v) x = ap (λ (z : Write). z.over) (sym (mem_one w (Rattle.snap_account.specs.Calls.write i v q.begun q.ended true) x))
-    one (Rattle.snap_account.specs.declared.account.Answer.TheVariants.Viewed xs) x = absurd x
-    one (Rattle.snap_account.specs.declared.account.Answer.TheVariants.Scanned t xs) x = absurd x
-    one (Rattle.snap_account.specs.declared.account.Answer.TheVariants.Interfered i xs ys) x = absurd x
+    one : (o : Answer) → Mem w (op_writes q.begun q.ended o) → w.over ≡ true
+    one (Stored i v) x = ap (λ (z : Write). z.over) (sym (mem_one w (write i v q.begun q.ended true) x))
+    one (Viewed xs) x = absurd x
+    one (Scanned t xs) x = absurd x
+    one (Interfered i xs ys) x = absurd x
 
 same_total : (f g : Account → ℕ) (l : List Account) → ((c : Account) → Mem c l → f c ≡ g c) → total f l ≡ total g l
 same_total f g [] e = refl
@@ -93,12 +93,12 @@ settles n id hand slots s r at matches all =
     let whole : take n b ≡ b = take_all n b (omega (arith, h.size)) in
     let sums : (f : Account → ℕ) → total f hand ≡ total f b = λ f. total-hand f b hand n desks fits ∙ ap (total f) whole in
     let idle : (a : Account) → Mem a hand → a.doing ≡ Idle = λ a m. idle_doing a.doing (ins_idle n slots (brief a) (subst (λ (l : List Brief). Mem (brief a) l) matches (mem_map brief hand a m))) in
-    let stamps : (a : Account) → Mem a hand → stamps_of a ≡ stamps_in a.calls = λ a m. ap (λ o. stamps_in a.calls ++ Rattle.snap_account.specs.Calls.open_stamps o) (idle a m) ∙ append-nil (stamps_in a.calls) in
-    let writes : (a : Account) → Mem a hand → writes_of a ≡ writes_in a.calls = λ a m. ap (λ o. writes_in a.calls ++ Rattle.snap_account.specs.Calls.open_writes o) (idle a m) ∙ append-nil (writes_in a.calls) in
-    let marks : (a : Account) → Mem a hand → marks_of a ≡ marks_in a.calls = λ a m. ap (λ o. marks_in a.calls ++ Rattle.snap_account.specs.Calls.open_marks o) (idle a m) ∙ append-nil (marks_in a.calls) in
+    let stamps : (a : Account) → Mem a hand → stamps_of a ≡ stamps_in a.calls = λ a m. ap (λ o. stamps_in a.calls ++ open_stamps o) (idle a m) ∙ append-nil (stamps_in a.calls) in
+    let writes : (a : Account) → Mem a hand → writes_of a ≡ writes_in a.calls = λ a m. ap (λ o. writes_in a.calls ++ open_writes o) (idle a m) ∙ append-nil (writes_in a.calls) in
+    let marks : (a : Account) → Mem a hand → marks_of a ≡ marks_in a.calls = λ a m. ap (λ o. marks_in a.calls ++ open_marks o) (idle a m) ∙ append-nil (marks_in a.calls) in
     let every : (a : Account) → Mem a hand → all_stamps a ≡ all_stamps_in a.calls = λ a m i. stamps a m i ++ map (λ (z : Mark). z.middle) (marks a m i) in
-    let look_there : (a : Account) (v : ViewRecord) → Mem v (view_records_in a.calls) → Mem v (view_records_of a) = λ a v m. mem_left (view_records_in a.calls) (Rattle.snap_account.specs.Calls.open_view_records a.doing) v m in
-    let all_over : (a : Account) → Mem a hand → (w : Write) → Mem w (writes_in a.calls) → Mem w (writes_of a) = λ a m w q. mem_left (writes_in a.calls) (Rattle.snap_account.specs.Calls.open_writes a.doing) w q in
+    let look_there : (a : Account) (v : ViewRecord) → Mem v (view_records_in a.calls) → Mem v (view_records_of a) = λ a v m. mem_left (view_records_in a.calls) (open_view_records a.doing) v m in
+    let all_over : (a : Account) → Mem a hand → (w : Write) → Mem w (writes_in a.calls) → Mem w (writes_of a) = λ a m w q. mem_left (writes_in a.calls) (open_writes a.doing) w q in
     record {
       desks = desks;
       idle = idle;

@@ -118,6 +118,10 @@ kind_of (EndView p es) = 3
 kind_same : (x y : Stamp) → x ≡ y → kind_of x.1 ≡ kind_of y.1
 kind_same x y e = ap (λ (z : Stamp). kind_of z.1) e
 
+-- the call, answered so
+abbrev answered_as : Answered → Answer → Answered
+answered_as q o = record { begun = q.begun; middles = q.middles; ended = q.ended; op = o }
+
 -- the view that ends at an event of desk d
 pub record ViewEnded (d t : ℕ) (es : List Entry) (rs : List Answered) : Type 0 where
   pub begun : ℕ
@@ -146,35 +150,29 @@ view_of d (q ∷ rs) r t p es m = ⊎_elim
       quiet = quiet_later q rs o.begun t r (event_stamp d rs (o.begun, BeginView d) o.begins).0 o.quiet;
     }
 
-    mine : (o : Answer) → Mem (t, EndView p es) (op_events d q.begun q.ended o) → ViewEnded d t es (record { begun = q.begun; middles = q.middles; ended = q.ended; op = o } ∷ rs)
+    -- the view is this call, which reads
+    reads : (o : Answer) (ys : List (ℕ × ℕ)) → Mem (view_record q.begun t true ys) (view_records_in (answered_as q o ∷ rs)) → Mem (q.begun, BeginView d) (desk_events d (answered_as q o ∷ rs))
+        → ◌≡◌ {A = Stamp} (q.ended, EndView d (listed 0 ys)) (t, EndView p es) → ViewEnded d t es (answered_as q o ∷ rs)
+    reads o ys there begins e =
+        record {
+          begun = q.begun;
+          read = ys;
+          there = there;
+          lists = ap (λ (y : Stamp). entries_in_event y.1) e;
+          begins = begins;
+          order = (let l = rising_head q.begun (q.ended ∷ stamps_in rs) r q.ended (inl refl) in let at = ap (λ (y : Stamp). y.0) e in omega arith);
+          quiet = subst (λ (u : ℕ). Quiet q.begun u (answered_as q o ∷ rs)) (ap (λ (y : Stamp). y.0) e) (quiet_first (answered_as q o) rs r);
+        }
+
+    mine : (o : Answer) → Mem (t, EndView p es) (op_events d q.begun q.ended o) → ViewEnded d t es (answered_as q o ∷ rs)
     mine (Stored n v) (inl e) = let k : ◌≡◌ {A = ℕ} 0 3 = kind_same (q.begun, BeginUpdate d (entry d n v)) (t, EndView p es) e in absurd (omega arith)
     mine (Stored n v) (inr (inl e)) = let k : ◌≡◌ {A = ℕ} 2 3 = kind_same (q.ended, EndUpdate d) (t, EndView p es) e in absurd (omega arith)
     mine (Stored n v) (inr (inr z)) = absurd z
     mine (Viewed ys) (inl e) = let k : ◌≡◌ {A = ℕ} 1 3 = kind_same (q.begun, BeginView d) (t, EndView p es) e in absurd (omega arith)
-    mine (Viewed ys) (inr (inl e)) =
-        let at : q.ended ≡ t = ap (λ (y : Stamp). y.0) e in
-        record {
-          begun = q.begun;
-          read = ys;
-          there = inl (λ i. view_record q.begun (at i) true ys);
-          lists = ap (λ (y : Stamp). entries_in_event y.1) e;
-          begins = inl refl;
-          order = (let l = rising_head q.begun (q.ended ∷ stamps_in rs) r q.ended (inl refl) in omega arith);
-          quiet = subst (λ (u : ℕ). Quiet q.begun u (record { begun = q.begun; middles = q.middles; ended = q.ended; op = Viewed ys } ∷ rs)) at (quiet_first (record { begun = q.begun; middles = q.middles; ended = q.ended; op = Viewed ys }) rs r);
-        }
+    mine (Viewed ys) (inr (inl e)) = reads (Viewed ys) ys (inl (λ i. view_record q.begun ((e i).0) true ys)) (inl refl) e
     mine (Viewed ys) (inr (inr z)) = absurd z
     mine (Scanned mid ys) (inl e) = let k : ◌≡◌ {A = ℕ} 1 3 = kind_same (q.begun, BeginView d) (t, EndView p es) e in absurd (omega arith)
-    mine (Scanned mid ys) (inr (inl e)) =
-        let at : q.ended ≡ t = ap (λ (y : Stamp). y.0) e in
-        record {
-          begun = q.begun;
-          read = ys;
-          there = inl (λ i. view_record q.begun (at i) true ys);
-          lists = ap (λ (y : Stamp). entries_in_event y.1) e;
-          begins = inl refl;
-          order = (let l = rising_head q.begun (q.ended ∷ stamps_in rs) r q.ended (inl refl) in omega arith);
-          quiet = subst (λ (u : ℕ). Quiet q.begun u (record { begun = q.begun; middles = q.middles; ended = q.ended; op = Scanned mid ys } ∷ rs)) at (quiet_first (record { begun = q.begun; middles = q.middles; ended = q.ended; op = Scanned mid ys }) rs r);
-        }
+    mine (Scanned mid ys) (inr (inl e)) = reads (Scanned mid ys) ys (inl (λ i. view_record q.begun ((e i).0) true ys)) (inl refl) e
     mine (Scanned mid ys) (inr (inr z)) = absurd z
     mine (Interfered n ys zs) a = absurd a
 
@@ -206,7 +204,7 @@ update_of d (q ∷ rs) r t p m = ⊎_elim
       quiet = quiet_later q rs o.begun t r (event_stamp d rs (o.begun, BeginUpdate d (entry d o.number o.value)) o.begins).0 o.quiet;
     }
 
-    mine : (o : Answer) → Mem (t, EndUpdate p) (op_events d q.begun q.ended o) → StoreEnded d t (record { begun = q.begun; middles = q.middles; ended = q.ended; op = o } ∷ rs)
+    mine : (o : Answer) → Mem (t, EndUpdate p) (op_events d q.begun q.ended o) → StoreEnded d t (answered_as q o ∷ rs)
     mine (Viewed ys) (inl e) = let k : ◌≡◌ {A = ℕ} 1 2 = kind_same (q.begun, BeginView d) (t, EndUpdate p) e in absurd (omega arith)
     mine (Viewed ys) (inr (inl e)) = let k : ◌≡◌ {A = ℕ} 3 2 = kind_same (q.ended, EndView d (listed 0 ys)) (t, EndUpdate p) e in absurd (omega arith)
     mine (Viewed ys) (inr (inr z)) = absurd z
@@ -224,7 +222,7 @@ update_of d (q ∷ rs) r t p m = ⊎_elim
           there = inl (λ i. write n v q.begun (at i) true);
           begins = inl refl;
           order = (let l = rising_head q.begun (q.ended ∷ stamps_in rs) r q.ended (inl refl) in omega arith);
-          quiet = subst (λ (u : ℕ). Quiet q.begun u (record { begun = q.begun; middles = q.middles; ended = q.ended; op = Stored n v } ∷ rs)) at (quiet_first (record { begun = q.begun; middles = q.middles; ended = q.ended; op = Stored n v }) rs r);
+          quiet = subst (λ (u : ℕ). Quiet q.begun u (answered_as q (Stored n v) ∷ rs)) at (quiet_first (answered_as q (Stored n v)) rs r);
         }
     mine (Stored n v) (inr (inr z)) = absurd z
 
@@ -266,6 +264,21 @@ desk_numbered f d [] [] ys p e num is = absurd (cc)
 desk_numbered f d [] (x ∷ xs) ys p e num is = absurd (cc)
 desk_numbered f d (q ∷ rs) xs ys p e num is = go q.op num xs is (λ g zs n eq. desk_numbered g d rs zs ys p e n eq)
   where
+    -- a call that reads begins no update
+    reads : (xs : List (ℕ × ℕ)) → Numbered f (writes_in rs) → (us : List Event) → BeginView d ∷ EndView d (listed 0 xs) ∷ events_in (desk_events d rs) ≡ us ++ BeginUpdate p e ∷ ys
+        → ((g : ℕ) (zs : List Event) → Numbered g (writes_in rs) → events_in (desk_events d rs) ≡ zs ++ BeginUpdate p e ∷ ys → e.number ≡ g + count_by (begins_update_of d) zs) → e.number ≡ f + count_by (begins_update_of d) us
+    reads xs num [] eq rest = let same : BeginView d ≡ BeginUpdate p e = cc in let k : ◌≡◌ {A = ℕ} 1 0 = event_same (BeginView d) (BeginUpdate p e) same in absurd (omega arith)
+    reads xs num (u ∷ []) eq rest = let same : EndView d (listed 0 xs) ≡ BeginUpdate p e = cc in let k : ◌≡◌ {A = ℕ} 3 0 = event_same (EndView d (listed 0 xs)) (BeginUpdate p e) same in absurd (omega arith)
+    reads xs num (u ∷ w ∷ us) eq rest =
+        let first : BeginView d ≡ u = cc in
+        let second : EndView d (listed 0 xs) ≡ w = cc in
+        let tail : events_in (desk_events d rs) ≡ us ++ BeginUpdate p e ∷ ys = cc in
+        let r = rest f us num tail in
+        let steps =
+        count-cons (begins_update_of d) (BeginView d) (EndView d (listed 0 xs) ∷ us) ∙ (λ i. 0 + count-cons (begins_update_of d) (EndView d (listed 0 xs)) us i) in
+        let counts : count_by (begins_update_of d) (BeginView d ∷ EndView d (listed 0 xs) ∷ us) ≡ count_by (begins_update_of d) us = omega (arith, steps) in
+        let same : count_by (begins_update_of d) (u ∷ w ∷ us) ≡ count_by (begins_update_of d) us = (λ i. count_by (begins_update_of d) (sym first i ∷ sym second i ∷ us)) ∙ counts in omega arith
+
     go : (o : Answer) → Numbered f (op_writes q.begun q.ended o ++ writes_in rs) → (us : List Event) → events_in (op_events d q.begun q.ended o ++ desk_events d rs) ≡ us ++ BeginUpdate p e ∷ ys
         → ((g : ℕ) (zs : List Event) → Numbered g (writes_in rs) → events_in (desk_events d rs) ≡ zs ++ BeginUpdate p e ∷ ys → e.number ≡ g + count_by (begins_update_of d) zs) → e.number ≡ f + count_by (begins_update_of d) us
     go (Stored n v) num [] eq rest =
@@ -281,28 +294,8 @@ desk_numbered f d (q ∷ rs) xs ys p e num is = go q.op num xs is (λ g zs n eq.
         count-cons (begins_update_of d) (BeginUpdate d (entry d n v)) (EndUpdate d ∷ us) ∙ (λ i. cond (eq-eqb d d refl i) 1 0 + count-cons (begins_update_of d) (EndUpdate d) us i) in
         let counts : count_by (begins_update_of d) (BeginUpdate d (entry d n v) ∷ EndUpdate d ∷ us) ≡ suc (count_by (begins_update_of d) us) = omega (arith, steps) in
         let same : count_by (begins_update_of d) (u ∷ w ∷ us) ≡ suc (count_by (begins_update_of d) us) = (λ i. count_by (begins_update_of d) (sym first i ∷ sym second i ∷ us)) ∙ counts in omega arith
-    go (Viewed xs) num [] eq rest = let same : BeginView d ≡ BeginUpdate p e = cc in let k : ◌≡◌ {A = ℕ} 1 0 = event_same (BeginView d) (BeginUpdate p e) same in absurd (omega arith)
-    go (Viewed xs) num (u ∷ []) eq rest = let same : EndView d (listed 0 xs) ≡ BeginUpdate p e = cc in let k : ◌≡◌ {A = ℕ} 3 0 = event_same (EndView d (listed 0 xs)) (BeginUpdate p e) same in absurd (omega arith)
-    go (Viewed xs) num (u ∷ w ∷ us) eq rest =
-        let first : BeginView d ≡ u = cc in
-        let second : EndView d (listed 0 xs) ≡ w = cc in
-        let tail : events_in (desk_events d rs) ≡ us ++ BeginUpdate p e ∷ ys = cc in
-        let r = rest f us num tail in
-        let steps =
-        count-cons (begins_update_of d) (BeginView d) (EndView d (listed 0 xs) ∷ us) ∙ (λ i. 0 + count-cons (begins_update_of d) (EndView d (listed 0 xs)) us i) in
-        let counts : count_by (begins_update_of d) (BeginView d ∷ EndView d (listed 0 xs) ∷ us) ≡ count_by (begins_update_of d) us = omega (arith, steps) in
-        let same : count_by (begins_update_of d) (u ∷ w ∷ us) ≡ count_by (begins_update_of d) us = (λ i. count_by (begins_update_of d) (sym first i ∷ sym second i ∷ us)) ∙ counts in omega arith
-    go (Scanned mid xs) num [] eq rest = let same : BeginView d ≡ BeginUpdate p e = cc in let k : ◌≡◌ {A = ℕ} 1 0 = event_same (BeginView d) (BeginUpdate p e) same in absurd (omega arith)
-    go (Scanned mid xs) num (u ∷ []) eq rest = let same : EndView d (listed 0 xs) ≡ BeginUpdate p e = cc in let k : ◌≡◌ {A = ℕ} 3 0 = event_same (EndView d (listed 0 xs)) (BeginUpdate p e) same in absurd (omega arith)
-    go (Scanned mid xs) num (u ∷ w ∷ us) eq rest =
-        let first : BeginView d ≡ u = cc in
-        let second : EndView d (listed 0 xs) ≡ w = cc in
-        let tail : events_in (desk_events d rs) ≡ us ++ BeginUpdate p e ∷ ys = cc in
-        let r = rest f us num tail in
-        let steps =
-        count-cons (begins_update_of d) (BeginView d) (EndView d (listed 0 xs) ∷ us) ∙ (λ i. 0 + count-cons (begins_update_of d) (EndView d (listed 0 xs)) us i) in
-        let counts : count_by (begins_update_of d) (BeginView d ∷ EndView d (listed 0 xs) ∷ us) ≡ count_by (begins_update_of d) us = omega (arith, steps) in
-        let same : count_by (begins_update_of d) (u ∷ w ∷ us) ≡ count_by (begins_update_of d) us = (λ i. count_by (begins_update_of d) (sym first i ∷ sym second i ∷ us)) ∙ counts in omega arith
+    go (Viewed xs) num us eq rest = reads xs num us eq rest
+    go (Scanned mid xs) num us eq rest = reads xs num us eq rest
     go (Interfered n xs zs) num us eq rest = rest f us num eq
 
 -- the last event of a desk is an end

@@ -1,6 +1,6 @@
 -- What a view lists, and what the records of a desk say.
 use Rattle.std.proofs.Common.{◌≡◌, ℕ, zero, suc, ◌+◌, ◌<◌, ◌≤◌, ◌||◌, not, if◌then◌else◌, Bool, true, false, cond, nat_lt, List, [], ◌∷◌, ◌++◌, length, get_or, Option, Some, None, sym, refl, ap, ◌∙◌, subst, inl, inr, ⊎_elim, arith, append_assoc, append-nil, length-append, lt-ltb, le-ltb, ne_eqb, eq-eqb}
-use mathlib.Core.Option.{some, some-injective, some-ne-none}
+use mathlib.Core.Option.{some}
 use native.Mathlib.Decide.{dec_le}
 use lib.ListN.{get_elem?}
 use Rattle.std.specs.List.{Contains}
@@ -28,11 +28,6 @@ pub shown_some : (xs : List (ℕ × ℕ)) (k : ℕ) → k < length xs → get_el
 shown_some [] k lt = absurd (omega arith)
 shown_some (x ∷ xs) zero lt = refl
 shown_some (x ∷ xs) (suc k) lt = shown_some xs k (omega arith)
-
-pub shown_is : (xs : List (ℕ × ℕ)) (k : ℕ) (p : ℕ × ℕ) → get_elem? xs k ≡ some p → shown_at xs k ≡ p
-shown_is [] k p e = absurd (some-ne-none p (sym e))
-shown_is (x ∷ xs) zero p e = some-injective _ _ e
-shown_is (x ∷ xs) (suc k) p e = shown_is xs k p e
 
 pub shown_low : (xs : List (ℕ × ℕ)) (k : ℕ) → 0 < (shown_at xs k).0 → k < length xs
 shown_low [] k pos = absurd (omega arith)

@@ -15,7 +15,7 @@ use Rattle.snap_core.proofs.Sums.{total-append}
 use Rattle.snap_account.specs.Calls.{Mem, Mark, stamps_in, marks_in, all_stamps_in}
 use Rattle.snap_board.specs.Settled.{Settled}
 use Rattle.snap_board.specs.Desks.{records_in}
-use Rattle.snap_board.specs.History.{stamped_events, put, in_order, Stamped, Merged, all_records, events_in, history_of, AllCompleted}
+use Rattle.snap_board.specs.History.{stamped_events, put, in_order, Stamped, Merged, all_records, history_of, AllCompleted}
 use Rattle.snap_account.proofs.Lists.{mem_split, mem_left, mem_right, one_here}
 use Rattle.snap_board.proofs.Stamps.{Stamp}
 use Rattle.snap_board.proofs.DeskEvents.{op_events, desk_events, events_at}

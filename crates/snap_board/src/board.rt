@@ -14,6 +14,7 @@ ghost use Rattle.snap_board.specs.Settled.{AreUpTo, Settled, ScansSettled, Ticks
 ghost use Rattle.snap_board.specs.Scans.{scan_history};
 
 use crate::desk_state::DeskState;
+use crate::record::{Record, RecordedOp};
 use crate::refusals::OpenRefusal;
 use crate::slots::{all_in, fresh, highest, last_stores};
 use atomic_table::{Seat, Table};
@@ -206,6 +207,18 @@ impl Desk {
         ensures { result ≡ self.now.desk }
     {
         u16::from(self.desk)
+    }
+
+    // The record of a call of the desk, which store, collect and scan answer.
+    pub(crate) fn answer(&self, begun: u64, ended: u64, op: RecordedOp) -> Record
+        ensures { result ≡ record { process = self.now.desk; begun = begun; ended = ended; op = op } }
+    {
+        Record {
+            process: self.process(),
+            begun,
+            ended,
+            op,
+        }
     }
 }
 

@@ -87,17 +87,12 @@ impl Board {
             stores: number,
             value,
         };
-        let component = desk.desk;
-        Ok(Record {
-            process: u16::from(component),
-            begun,
-            ended,
-            op: RecordedOp::Stored(Entry {
-                component,
-                number,
-                value,
-            }),
-        })
+        let entry = Entry {
+            component: desk.desk,
+            number,
+            value,
+        };
+        Ok(desk.answer(begun, ended, RecordedOp::Stored(entry)))
     }
 
     // Loads the word of each component, from 0 on.
@@ -154,11 +149,7 @@ impl Board {
         self.load_words(&mut desk.seat, &mut words);
         let ended = shared.fetch_add::<EndCall>(&mut desk.seat, 0, 1);
         desk.kept.ticks += 2;
-        Ok(Record {
-            process: u16::from(desk.desk),
-            begun,
-            ended,
-            op: RecordedOp::Viewed(view_of(&words, entries)),
-        })
+        let view = view_of(&words, entries);
+        Ok(desk.answer(begun, ended, RecordedOp::Viewed(view)))
     }
 }

@@ -126,11 +126,7 @@ impl Board {
         };
         let ended = shared.fetch_add::<EndCall>(&mut desk.seat, 0, 1);
         desk.kept.ticks += made + 2;
-        Ok(Record {
-            process: u16::from(desk.desk),
-            begun,
-            ended,
-            op: RecordedOp::Viewed(view_of(&since, entries)),
-        })
+        let view = view_of(&since, entries);
+        Ok(desk.answer(begun, ended, RecordedOp::Viewed(view)))
     }
 }
