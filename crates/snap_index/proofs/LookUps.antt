@@ -11,7 +11,7 @@ use Rattle.snap_core.specs.Calls.{calls_of, views_of, is_update_numbered}
 use Rattle.snap_core.specs.Calls.{Call as SpecCall}
 use Rattle.snap_index.specs.declared.call.Call.{Call}
 use Rattle.snap_index.specs.declared.call.Write.{Write}
-use Rattle.snap_index.specs.IndexedCalls.{as_indexed, number_of}
+use Rattle.snap_index.specs.IndexedCalls.{as_indexed, number_of, write_of}
 use Rattle.snap_index.specs.Updates.{is_update_of, updates_of}
 use Rattle.snap_index.specs.inside.Tables.{IsIndex}
 use Rattle.snap_index.proofs.IndexedCalls.{call_count_within, view_count_within, at_own_number, mapped_some}
@@ -19,26 +19,26 @@ use Rattle.snap_core.proofs.Members.{In-find}
 use Rattle.snap_index.proofs.Numbers.{nth_update, no_update_zero, update_count_is}
 
 -- the fields of an index, by the history that a clause sees
-pub seen : (inside es : List Event) (calls : List Call) (views : List ℕ) (updates : List (List ℕ)) (writes : List (List Write)) (pending : ℕ) → inside ≡ es → IsIndex inside calls views updates writes pending → IsIndex es calls views updates writes pending
-seen inside es calls views updates writes pending e i = subst (λ z. IsIndex z calls views updates writes pending) e i
+pub seen : (inside es : List Event) (calls : List Call) (views : List ℕ) (updates : List (List Write)) (pending : ℕ) → inside ≡ es → IsIndex inside calls views updates pending → IsIndex es calls views updates pending
+seen inside es calls views updates pending e i = subst (λ z. IsIndex z calls views updates pending) e i
 
-pub views_few : (es : List Event) (calls : List Call) (views : List ℕ) (updates : List (List ℕ)) (writes : List (List Write)) (pending : ℕ) → IsIndex es calls views updates writes pending → length views ≤ event_cap
-views_few es calls views updates writes pending i =
+pub views_few : (es : List Event) (calls : List Call) (views : List ℕ) (updates : List (List Write)) (pending : ℕ) → IsIndex es calls views updates pending → length views ≤ event_cap
+views_few es calls views updates pending i =
     let l = ap length i.tables.of_views ∙ length-map (views_of (calls_of es)) number_of in
     omega (arith, l, view_count_within (calls_of es), call_count_within es, i.kept.short)
 
-pub row_is : (k : ℕ) (calls : List SpecCall) → length (map number_of (updates_of k calls)) ≡ count_by (is_update_of k) calls
-row_is k calls = length-map (updates_of k calls) number_of ∙ update_count_is k calls
+pub row_is : (k : ℕ) (calls : List SpecCall) → length (map write_of (updates_of k calls)) ≡ count_by (is_update_of k) calls
+row_is k calls = length-map (updates_of k calls) write_of ∙ update_count_is k calls
 
-pub row_few : (es : List Event) → IsBoundedHistory es → (k : ℕ) → length (map number_of (updates_of k (calls_of es))) ≤ event_cap
+pub row_few : (es : List Event) → IsBoundedHistory es → (k : ℕ) → length (map write_of (updates_of k (calls_of es))) ≤ event_cap
 row_few es h k = omega (arith, row_is k (calls_of es), count_by-le-length (is_update_of k) (calls_of es), call_count_within es, h.short)
 
--- what is kept of the n-th of the updates of a component
-pub update_in_row : {X : Type 0} (f : SpecCall → X) (es : List Event) → IsHistory es → (k n place : ℕ) → n ≡ suc place → slice_get (map f (updates_of k (calls_of es))) place ≡ option_map f (find (is_update_numbered k n) (calls_of es))
-update_in_row f es h k n place e = slice_get-map f (updates_of k (calls_of es)) place ∙ ap (option_map f) (sym (nth_update es h k place n e))
+-- what the n-th of the updates of a component writes
+pub update_in_row : (es : List Event) → IsHistory es → (k n place : ℕ) → n ≡ suc place → slice_get (map write_of (updates_of k (calls_of es))) place ≡ option_map write_of (find (is_update_numbered k n) (calls_of es))
+update_in_row es h k n place e = slice_get-map write_of (updates_of k (calls_of es)) place ∙ ap (option_map write_of) (sym (nth_update es h k place n e))
 
-pub no_zero : {X : Type 0} (f : SpecCall → X) (es : List Event) → IsHistory es → (k n : ℕ) → n ≡ 0 → None ≡ option_map f (find (is_update_numbered k n) (calls_of es))
-no_zero f es h k n e = sym (ap (option_map f) (no_update_zero es h k n e))
+pub no_zero : (es : List Event) → IsHistory es → (k n : ℕ) → n ≡ 0 → None ≡ option_map write_of (find (is_update_numbered k n) (calls_of es))
+no_zero es h k n e = sym (ap (option_map write_of) (no_update_zero es h k n e))
 
 -- the call at the number of what was found
 pub call_of_update : (es : List Event) (p : SpecCall → Bool) (c : ℕ) → option_map number_of (find p (calls_of es)) ≡ Some c → option_map as_indexed (slice_get (calls_of es) c) ≡ option_map as_indexed (find p (calls_of es))

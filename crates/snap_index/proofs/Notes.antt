@@ -39,10 +39,18 @@ abbrev pub is_indexed_update : CallOp → ℕ → Bool
 is_indexed_update (Update e) k = e.component == k
 is_indexed_update View k = false
 
--- what is put of a call behind the updates of its component
-pub record Puts {X : Type 0} (x : Call) (c : X) (updates new_updates : List (List X)) : Type 0 where
+abbrev indexed_value : CallOp → ℕ
+indexed_value (Update e) = e.value
+indexed_value View = 0
+
+-- what call c writes, by its bare form
+abbrev indexed_write : ℕ → Call → Write
+indexed_write c x = record { call = c; value = indexed_value x.op; begun = x.begun; ended = x.ended }
+
+-- what is put of call c behind the updates of its component
+pub record Puts (x : Call) (c : ℕ) (updates new_updates : List (List Write)) : Type 0 where
   pub size : length new_updates ≡ length updates
-  pub rows : (k : ℕ) → k < 256 → get_or new_updates k [] ≡ put_where (is_indexed_update x.op k) c (get_or updates k [])
+  pub rows : (k : ℕ) → k < 256 → get_or new_updates k [] ≡ put_where (is_indexed_update x.op k) (indexed_write c x) (get_or updates k [])
 
 filter_more : {X : Type 0} (f : SpecCall → X) (x : X) (p : SpecCall → Bool) (calls : List SpecCall) (c : ℕ) → c < length calls → (b : Bool) → p (call_numbered calls c) ≡ b → f (call_numbered calls c) ≡ x →
     map f (filter p (take (c + 1) calls)) ≡ put_where b x (map f (filter p (take c calls)))
@@ -72,43 +80,32 @@ view_is es h c l x e = go (indexed_op r.operation) refl ∙ ap (λ (z : Call). i
     go (Update d) w = view_of_update r d w ∙ sym (ap (λ z. is_indexed_view z r.ended) w)
     go View w = view_of_view es r h (numbered_there (calls_of es) c l) w ∙ sym (ap (λ z. is_indexed_view z r.ended) w)
 
--- what a bare call writes
-
-abbrev indexed_value : CallOp → ℕ
-indexed_value (Update e) = e.value
-indexed_value View = 0
-
-abbrev pub indexed_write : Call → Write
-indexed_write x = record { value = indexed_value x.op; begun = x.begun; ended = x.ended }
-
-pub written : (x : Call) (e : Entry) → x.op ≡ Update e → indexed_write x ≡ record { value = e.value; begun = x.begun; ended = x.ended }
-written x e h = ap (λ o. record { value = indexed_value o; begun = x.begun; ended = x.ended }) h
-
-write_at : (c : SpecCall) (x : Call) → x ≡ as_indexed c → write_of c ≡ indexed_write x
-write_at c x e = ap (λ v. record { value = v; begun = c.begun; ended = c.ended }) (value_at c.operation) ∙ ap indexed_write (sym e)
+write_at : (r : SpecCall) (c : ℕ) (x : Call) → r.number ≡ c → x ≡ as_indexed r → write_of r ≡ indexed_write c x
+write_at r c x n e =
+    ap (λ m. record { call = m; value = value_written r.operation; begun = r.begun; ended = r.ended }) n
+    ∙ ap (λ v. record { call = c; value = v; begun = r.begun; ended = r.ended }) (value_at r.operation)
+    ∙ ap (indexed_write c) (sym e)
   where
     value_at : (o : Operation) → value_written o ≡ indexed_value (indexed_op o)
     value_at (Updates d) = refl
     value_at (Views a) = refl
 
 pub noted : (es : List Event) → IsHistory es → (c : ℕ) → c < length (calls_of es) → (x : Call) → x ≡ as_indexed (call_numbered (calls_of es) c) →
-    (views new_views : List ℕ) (updates new_updates : List (List ℕ)) (writes new_writes : List (List Write)) (pending new_pending : ℕ) →
-    new_views ≡ put_where (is_indexed_view x.op x.ended) c views → Puts x c updates new_updates → Puts x (indexed_write x) writes new_writes →
+    (views new_views : List ℕ) (updates new_updates : List (List Write)) (pending new_pending : ℕ) →
+    new_views ≡ put_where (is_indexed_view x.op x.ended) c views → Puts x c updates new_updates →
     new_pending ≡ pending + cond (is_some x.ended) 0 1 →
-    AreTables (take c (calls_of es)) views updates writes pending → AreTables (take (c + 1) (calls_of es)) new_views new_updates new_writes new_pending
+    AreTables (take c (calls_of es)) views updates pending → AreTables (take (c + 1) (calls_of es)) new_views new_updates new_pending
 unfolding views_of updates_of is_pending is_completed
-noted es h c l x e views new_views updates new_updates writes new_writes pending new_pending v u w p t =
+noted es h c l x e views new_views updates new_updates pending new_pending v u p t =
     let calls = calls_of es in
     let r = call_numbered (calls_of es) c in
     let number : r.number ≡ c = numbered_calls es c nobody l in
     record {
       size = u.size ∙ t.size;
-      write_size = w.size ∙ t.write_size;
       of_views = v ∙ ap (put_where (is_indexed_view x.op x.ended) c) t.of_views ∙ sym (filter_more number_of c is_view calls c l (is_indexed_view x.op x.ended) (view_is es h c l x e) number);
-      of_updates = λ k m. u.rows k m ∙ ap (put_where (is_indexed_update x.op k) c) (t.of_updates k m) ∙ sym (filter_more number_of c (is_update_of k) calls c l (is_indexed_update x.op k) (updates_at k) number);
-      of_writes = λ k m.
-          w.rows k m ∙ ap (put_where (is_indexed_update x.op k) (indexed_write x)) (t.of_writes k m)
-          ∙ sym (filter_more write_of (indexed_write x) (is_update_of k) calls c l (is_indexed_update x.op k) (updates_at k) (write_at r x e));
+      of_updates = λ k m.
+          u.rows k m ∙ ap (put_where (is_indexed_update x.op k) (indexed_write c x)) (t.of_updates k m)
+          ∙ sym (filter_more write_of (indexed_write c x) (is_update_of k) calls c l (is_indexed_update x.op k) (updates_at k) (write_at r c x number e));
       of_pending =
           let more = ap (count_by is_pending) (take_more calls c nobody l) ∙ sum_by-append (λ y. cond (is_pending y) 1 0) (take c calls) (r ∷ []) in
           let one = count-cons is_pending r [] in
@@ -123,14 +120,12 @@ noted es h c l x e views new_views updates new_updates writes new_writes pending
     flipped true = refl
     flipped false = refl
 
-pub none_noted : (calls : List SpecCall) (updates : List (List ℕ)) (writes : List (List Write)) → updates ≡ replicate 256 [] → writes ≡ replicate 256 [] → AreTables (take 0 calls) [] updates writes 0
+pub none_noted : (calls : List SpecCall) (updates : List (List Write)) → updates ≡ replicate 256 [] → AreTables (take 0 calls) [] updates 0
 unfolding views_of updates_of
-none_noted calls updates writes e w = record {
-  size = ap length e ∙ length-replicate {A = List ℕ} 256 [];
-  write_size = ap length w ∙ length-replicate {A = List Write} 256 [];
+none_noted calls updates e = record {
+  size = ap length e ∙ length-replicate {A = List Write} 256 [];
   of_views = refl;
   of_updates = λ k l. ap (λ z. get_or z k []) e ∙ get_or-replicate 256 k [] [] l;
-  of_writes = λ k l. ap (λ z. get_or z k []) w ∙ get_or-replicate 256 k [] [] l;
   of_pending = refl;
 }
 
@@ -147,8 +142,8 @@ row_put updates j c k l = elim (cases_eq j k) [
       ∙ sym (ap (λ t. put_where t c (get_or updates k [])) (ne_eqb j k other))
 ]
 
-pub pending_few : (calls : List SpecCall) (c : ℕ) (views : List ℕ) (updates : List (List ℕ)) (writes : List (List Write)) (pending : ℕ) → c ≤ length calls → AreTables (take c calls) views updates writes pending → pending ≤ c
-pending_few calls c views updates writes pending l t = omega (arith, t.of_pending, count_by-le-length is_pending (take c calls), length-take-le {A = SpecCall})
+pub pending_few : (calls : List SpecCall) (c : ℕ) (views : List ℕ) (updates : List (List Write)) (pending : ℕ) → c ≤ length calls → AreTables (take c calls) views updates pending → pending ≤ c
+pending_few calls c views updates pending l t = omega (arith, t.of_pending, count_by-le-length is_pending (take c calls), length-take-le {A = SpecCall})
 
 -- what a call puts among the views, by its kind
 pub views_of_update : (x : Call) (e : Entry) (c : ℕ) (views new_views : List ℕ) → x.op ≡ Update e → new_views ≡ views → new_views ≡ put_where (is_indexed_view x.op x.ended) c views
@@ -158,16 +153,20 @@ pub views_of_view : (x : Call) (b : Bool) (c : ℕ) (views new_views : List ℕ)
 views_of_view x b c views new_views h e v = v ∙ ap (λ z. put_where z c views) e ∙ sym (ap (λ o. put_where (is_indexed_view o x.ended) c views) h)
 
 -- what a call puts among the updates, by its kind
-pub updates_of_update : {X : Type 0} (x : Call) (e : Entry) (c : X) (updates new_updates : List (List X)) → e.component < length updates → x.op ≡ Update e → new_updates ≡ set updates e.component (get_or updates e.component [] ++ c ∷ []) → Puts x c updates new_updates
+pub updates_of_update : (x : Call) (e : Entry) (c : ℕ) (updates new_updates : List (List Write)) → e.component < length updates → x.op ≡ Update e →
+    new_updates ≡ set updates e.component (get_or updates e.component [] ++ record { call = c; value = e.value; begun = x.begun; ended = x.ended } ∷ []) → Puts x c updates new_updates
 updates_of_update x e c updates new_updates l h u = record {
-  size = ap length u ∙ length-set updates e.component (get_or updates e.component [] ++ c ∷ []);
-  rows = λ k m. ap (λ z. get_or z k []) u ∙ row_put updates e.component c k l ∙ sym (ap (λ o. put_where (is_indexed_update o k) c (get_or updates k [])) h);
+  size = ap length u ∙ length-set updates e.component (get_or updates e.component [] ++ write (Update e) ∷ []);
+  rows = λ k m. ap (λ z. get_or z k []) u ∙ row_put updates e.component (write (Update e)) k l ∙ sym (ap (λ o. put_where (is_indexed_update o k) (write o) (get_or updates k [])) h);
 }
+  where
+    write : CallOp → Write
+    write o = record { call = c; value = indexed_value o; begun = x.begun; ended = x.ended }
 
-pub updates_of_view : {X : Type 0} (x : Call) (c : X) (updates new_updates : List (List X)) → x.op ≡ View → new_updates ≡ updates → Puts x c updates new_updates
+pub updates_of_view : (x : Call) (c : ℕ) (updates new_updates : List (List Write)) → x.op ≡ View → new_updates ≡ updates → Puts x c updates new_updates
 updates_of_view x c updates new_updates h u = record {
   size = ap length u;
-  rows = λ k m. ap (λ z. get_or z k []) u ∙ sym (ap (λ o. put_where (is_indexed_update o k) c (get_or updates k [])) h);
+  rows = λ k m. ap (λ z. get_or z k []) u ∙ sym (ap (λ o. put_where (is_indexed_update o k) (indexed_write c x) (get_or updates k [])) h);
 }
 
 -- an update's component is a byte

@@ -21,9 +21,9 @@ abbrev pub value_written : Operation → ℕ
 value_written (Updates e) = e.value
 value_written (Views answer) = 0
 
--- an update's value, begin and end
+-- an update's call number, value, begin and end
 abbrev pub write_of : SpecCall → Write
-write_of c = record { value = value_written c.operation; begun = c.begun; ended = c.ended }
+write_of c = record { call = c.number; value = value_written c.operation; begun = c.begun; ended = c.ended }
 
 -- what an event begins
 abbrev pub begun_by : Event → Option CallOp

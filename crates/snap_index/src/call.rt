@@ -20,6 +20,8 @@ pub struct Call {
 /// What an update writes, with the places, counted from 0, of the events that begin and end it. A pending update has no end.
 #[derive(Clone, Copy, PartialEq, Eq, Debug)]
 pub struct Write {
+    /// The call number of the update, from 0.
+    pub call: u32,
     pub value: u32,
     pub begun: u32,
     pub ended: Option<u32>,

@@ -21,9 +21,7 @@ pub struct Index<'h> {
     calls: Vec<Call>,
     // the call numbers of the completed views
     views: Vec<u32>,
-    updates: UpdateTable<u32>,
-    // the same updates, so that one look-up tells what is asked of most
-    writes: UpdateTable<Write>,
+    updates: UpdateTable<Write>,
     pending: u32,
 }
 
@@ -37,7 +35,7 @@ impl<'h> Model for Index<'h> {
 
     ghost view = { λ a. a.history.now };
 
-    ghost invariant = { λ a. IsIndex a.history.now a.calls.items a.views.items a.updates a.writes a.pending };
+    ghost invariant = { λ a. IsIndex a.history.now a.calls.items a.views.items a.updates a.pending };
 }
 
 impl<'h> Index<'h> {
@@ -48,18 +46,17 @@ impl<'h> Index<'h> {
         let calls = list_calls(alloc, history.events())?;
         let mut views = Vec::new(alloc);
         let mut updates = UpdateTable::new(alloc);
-        let mut writes = UpdateTable::new(alloc);
         let mut pending = 0;
         for (c, call) in calls.iter().enumerate() {
             match call.op {
                 CallOp::Update(entry) => {
-                    updates.put(entry.component, c as u32)?;
                     let write = Write {
+                        call: c as u32,
                         value: entry.value,
                         begun: call.begun,
                         ended: call.ended,
                     };
-                    writes.put(entry.component, write)?;
+                    updates.put(entry.component, write)?;
                 }
                 CallOp::View => {
                     if call.ended.is_some() {
@@ -76,7 +73,6 @@ impl<'h> Index<'h> {
             calls,
             views,
             updates,
-            writes,
             pending,
         })
     }
@@ -155,9 +151,7 @@ impl<'h> Index<'h> {
     pub fn update_call(&self, k: u8, n: u32) -> Option<u32>
         ensures { result ≡ option_map number_of (find (is_update_numbered k n) (calls_of self.now)) }
     {
-        let numbers = self.updates(k);
-        let place = n.checked_sub(1)?;
-        numbers.get(place as usize).copied()
+        Some(self.write(k, n)?.call)
     }
 
     /// Update `n` of component `k`, pending or not. Updates are numbered from 1.
@@ -168,26 +162,18 @@ impl<'h> Index<'h> {
         self.call(c)
     }
 
-    /// The value of update `n` of component `k`, pending or not, and where it begins and ends. Updates are numbered from 1.
+    /// The value and the call number of update `n` of component `k`, pending or not, and where it begins and ends. Updates are numbered from 1.
     pub fn write(&self, k: u8, n: u32) -> Option<&Write>
         ensures { option_copied result ≡ option_map write_of (find (is_update_numbered k n) (calls_of self.now)) }
     {
-        let writes = self.writes(k);
+        let updates = self.updates(k);
         let place = n.checked_sub(1)?;
-        writes.get(place as usize)
+        updates.get(place as usize)
     }
 
-    // The updates of component k, in the order of their numbers.
-    fn writes(&self, k: u8) -> &[Write]
-        ensures writes { result.now ≡ map write_of (updates_of k (calls_of self.now)) }
-        ensures kept { IsBoundedHistory self.now }
-    {
-        self.writes.of(k)
-    }
-
-    /// The call numbers of the updates of component `k`: that of update `n` is the `n`-th of them.
-    pub fn updates(&self, k: u8) -> &[u32]
-        ensures updates { result.now ≡ map number_of (updates_of k (calls_of self.now)) }
+    /// The values and call numbers of the updates of component `k`, and where they begin and end. Update `n` is the `n`-th of them.
+    pub fn updates(&self, k: u8) -> &[Write]
+        ensures updates { result.now ≡ map write_of (updates_of k (calls_of self.now)) }
         ensures kept { IsBoundedHistory self.now }
     {
         self.updates.of(k)

@@ -212,7 +212,13 @@ fn pending_calls_have_no_answers(rt: HostRuntime) -> Result<(), Fail> {
 
 // Whether these calls are the updates of a component, and as many as there are.
 fn are_updates(index: &Index<'_>, k: u8, calls: &[u32]) -> bool {
-    index.updates(k) == calls && index.update_count(k) as usize == calls.len()
+    let updates = index.updates(k);
+    updates.len() == calls.len()
+        && updates
+            .iter()
+            .zip(calls)
+            .all(|(update, call)| update.call == *call)
+        && index.update_count(k) as usize == calls.len()
 }
 
 // Of each component these calls are the updates.

@@ -14,16 +14,14 @@ use Rattle.snap_index.specs.Updates.{updates_of, is_pending}
 abbrev pub padded : {A : Type 0} → List (List A) → List (List A)
 padded rows = rows ++ replicate (component_count - length rows) []
 
--- the call numbers of the views, those of the updates of each component, what these write, and how many calls are pending
-pub record AreTables (calls : List SpecCall) (views : List ℕ) (updates : List (List ℕ)) (writes : List (List Write)) (pending : ℕ) : Type 0 where
+-- the call numbers of the views, what the updates of each component write, and how many calls are pending
+pub record AreTables (calls : List SpecCall) (views : List ℕ) (updates : List (List Write)) (pending : ℕ) : Type 0 where
   pub size : length updates ≡ component_count
-  pub write_size : length writes ≡ component_count
   pub of_views : views ≡ map number_of (views_of calls)
-  pub of_updates : (k : ℕ) → k < component_count → get_or updates k [] ≡ map number_of (updates_of k calls)
-  pub of_writes : (k : ℕ) → k < component_count → get_or writes k [] ≡ map write_of (updates_of k calls)
+  pub of_updates : (k : ℕ) → k < component_count → get_or updates k [] ≡ map write_of (updates_of k calls)
   pub of_pending : pending ≡ count_by is_pending calls
 
-pub record IsIndex (events : List Event) (calls : List Call) (views : List ℕ) (updates : List (List ℕ)) (writes : List (List Write)) (pending : ℕ) : Type 0 where
+pub record IsIndex (events : List Event) (calls : List Call) (views : List ℕ) (updates : List (List Write)) (pending : ℕ) : Type 0 where
   pub kept : IsBoundedHistory events
   pub indexed_calls : calls ≡ map as_indexed (calls_of events)
-  pub tables : AreTables (calls_of events) views updates writes pending
+  pub tables : AreTables (calls_of events) views updates pending

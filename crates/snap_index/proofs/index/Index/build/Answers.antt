@@ -1,4 +1,4 @@
-use Rattle.std.proofs.Common.{◌≡◌, ◌<◌, ◌+◌, ◌∷◌, ◌++◌, [], ℕ, Vec, Global, true, false, cond, map, take, set, length, get_or, None, sym, ap, ◌∙◌, subst, arith}
+use Rattle.std.proofs.Common.{◌≡◌, ◌<◌, ◌+◌, ℕ, Vec, Global, true, false, cond, map, take, length, get_or, None, sym, ap, ◌∙◌, subst, arith}
 use Rattle.std.specs.Prelude.{is_some, not}
 use Rattle.snap_core.specs.Calls.{calls_of}
 use Rattle.snap_index.specs.declared.call.CallOp.TheVariants.{Update}
@@ -6,24 +6,24 @@ use Rattle.snap_index.specs.declared.call.Call.{Call}
 use Rattle.snap_index.specs.IndexedCalls.{as_indexed}
 use Rattle.snap_index.specs.inside.Tables.{AreTables}
 use Rattle.snap_index.proofs.IndexedCalls.{call_count_within, count_is, indexed_read, word_fits}
-use Rattle.snap_index.proofs.Notes.{put_where, is_indexed_view, Puts, indexed_write, written, noted, none_noted, pending_few, pending_at, component_fits, views_of_update, views_of_view, updates_of_update, updates_of_view}
+use Rattle.snap_index.proofs.Notes.{put_where, is_indexed_view, Puts, noted, none_noted, pending_few, pending_at, component_fits, views_of_update, views_of_view, updates_of_update, updates_of_view}
 use Rattle.snap_index.proofs.index.Index.build.Goals as goal
-use Rattle.snap_index.proofs.index.Index.build.Goals.{in-Update+in_ok-put-in-Update+in_ok-put-in-Update-2, in-View+then-is_some+in_ok-push-in-View, in-View+else-is_some, then-is_none, else-is_none}
+use Rattle.snap_index.proofs.index.Index.build.Goals.{in-Update+in_ok-put-in-Update, in-View+then-is_some+in_ok-push-in-View, in-View+else-is_some, then-is_none, else-is_none}
 
 pub loop-c-init : goal.loop-c-init
 loop-c-init c =
-    subst (λ z. AreTables (take 0 (calls_of c.args.history.now)) z c.new-updates.result c.new-writes.result 0) (sym c.new-views.ensures.items)
-    (none_noted (calls_of c.args.history.now) c.new-updates.result c.new-writes.result c.new-updates.ensures c.new-writes.ensures)
+    subst (λ z. AreTables (take 0 (calls_of c.args.history.now)) z c.new-updates.result 0) (sym c.new-views.ensures.items)
+    (none_noted (calls_of c.args.history.now) c.new-updates.result c.new-updates.ensures)
 
-pub overflow_cast-c : goal.overflow_cast-c
-overflow_cast-c c =
+pub overflow_cast-write : goal.overflow_cast-write
+overflow_cast-write c =
     let es = c.args.history.now in
     let calls : c.in_ok-calls.calls.items ≡ map as_indexed (calls_of es) = c.in_ok-calls.ensures ∙ ap (λ z. map as_indexed (calls_of z)) c.events.ensures.events in
     let count = count_is es c.in_ok-calls.calls.items calls in
     word_fits c.loop-c.c (omega (arith, count, call_count_within es, c.events.ensures.history.short))
 
-pub overflow_cast-c-then-is_some : goal.overflow_cast-c-then-is_some
-overflow_cast-c-then-is_some c =
+pub overflow_cast-c : goal.overflow_cast-c
+overflow_cast-c c =
     let es = c.args.history.now in
     let calls : c.in_ok-calls.calls.items ≡ map as_indexed (calls_of es) = c.in_ok-calls.ensures ∙ ap (λ z. map as_indexed (calls_of z)) c.events.ensures.events in
     let count = count_is es c.in_ok-calls.calls.items calls in
@@ -34,7 +34,7 @@ overflow_add-pending c =
     let es = c.args.history.now in
     let calls : c.in_ok-calls.calls.items ≡ map as_indexed (calls_of es) = c.in_ok-calls.ensures ∙ ap (λ z. map as_indexed (calls_of z)) c.events.ensures.events in
     let count = count_is es c.in_ok-calls.calls.items calls in
-    word_fits _ (omega (arith, count, call_count_within es, c.events.ensures.history.short, pending_few (calls_of es) c.loop-c.c _ _ _ _ (omega (arith, count)) c.loop-c.invariant))
+    word_fits _ (omega (arith, count, call_count_within es, c.events.ensures.history.short, pending_few (calls_of es) c.loop-c.c _ _ _ (omega (arith, count)) c.loop-c.invariant))
 
 -- stands where the list has no call
 abbrev no_call : Call
@@ -49,24 +49,17 @@ loop-c-preserved c =
     let within : c.loop-c.c < length (calls_of es) = omega (arith, count) in
     let is = indexed_read es c.deref-call-items.result.now c.loop-c.c no_call (c.deref-call-items.ensures.value ∙ calls) (omega (arith, count)) in
     let views : c.match-call.views.items ≡ put_where (is_indexed_view x.op x.ended) c.loop-c.c c.loop-c.views.items = elim c.match-call.branch [
-      | in-Update+in_ok-put-in-Update+in_ok-put-in-Update-2 w ↦ views_of_update x w.in-Update.entry c.loop-c.c _ _ w.in-Update.is (ap (λ (v : Vec ℕ Global). v.items) w.views-is)
+      | in-Update+in_ok-put-in-Update w ↦ views_of_update x w.in-Update.entry c.loop-c.c _ _ w.in-Update.is (ap (λ (v : Vec ℕ Global). v.items) w.views-is)
       | in-View+then-is_some+in_ok-push-in-View w ↦ views_of_view x true c.loop-c.c _ _ w.in-View.is (sym w.if-is_some.true ∙ w.is_some.ensures) (ap (λ (v : Vec ℕ Global). v.items) w.views-is ∙ w.in_ok-push-in-View.ensures.items)
       | in-View+else-is_some w ↦ views_of_view x false c.loop-c.c _ _ w.in-View.is (sym w.if-is_some.false ∙ w.is_some.ensures) (ap (λ (v : Vec ℕ Global). v.items) w.views-is)
     ] in
     let updates : Puts x c.loop-c.c c.loop-c.updates c.match-call.updates = elim c.match-call.branch [
-      | in-Update+in_ok-put-in-Update+in_ok-put-in-Update-2 w ↦ updates_of_update x w.in-Update.entry c.loop-c.c _ _ (omega (arith, c.loop-c.invariant.size, component_fits es c.events.ensures.history c.loop-c.c within x is w.in-Update.entry w.in-Update.is)) w.in-Update.is (w.updates-is ∙ w.in_ok-put-in-Update.ensures)
+      | in-Update+in_ok-put-in-Update w ↦ updates_of_update x w.in-Update.entry c.loop-c.c _ _ (omega (arith, c.loop-c.invariant.size, component_fits es c.events.ensures.history c.loop-c.c within x is w.in-Update.entry w.in-Update.is)) w.in-Update.is (w.updates-is ∙ w.in_ok-put-in-Update.ensures)
       | in-View+then-is_some+in_ok-push-in-View w ↦ updates_of_view x c.loop-c.c _ _ w.in-View.is w.updates-is
       | in-View+else-is_some w ↦ updates_of_view x c.loop-c.c _ _ w.in-View.is w.updates-is
-    ] in
-    let writes : Puts x (indexed_write x) c.loop-c.writes c.match-call.writes = elim c.match-call.branch [
-      | in-Update+in_ok-put-in-Update+in_ok-put-in-Update-2 w ↦
-          updates_of_update x w.in-Update.entry (indexed_write x) c.loop-c.writes _ (omega (arith, c.loop-c.invariant.write_size, component_fits es c.events.ensures.history c.loop-c.c within x is w.in-Update.entry w.in-Update.is)) w.in-Update.is
-          (w.writes-is ∙ w.in_ok-put-in-Update-2.ensures ∙ ap (λ z. set c.loop-c.writes w.in-Update.entry.component (get_or c.loop-c.writes w.in-Update.entry.component [] ++ z ∷ [])) (sym (written x w.in-Update.entry w.in-Update.is)))
-      | in-View+then-is_some+in_ok-push-in-View w ↦ updates_of_view x (indexed_write x) c.loop-c.writes _ w.in-View.is w.writes-is
-      | in-View+else-is_some w ↦ updates_of_view x (indexed_write x) c.loop-c.writes _ w.in-View.is w.writes-is
     ] in
     let pending : c.if-is_none.pending ≡ c.loop-c.pending + cond (is_some x.ended) 0 1 = elim c.if-is_none.branch [
       | then-is_none w ↦ pending_at _ _ x.ended false (c.is_none.ensures ∙ ap not w.if-is_none.true) w.pending-is
       | else-is_none w ↦ pending_at _ _ x.ended true (c.is_none.ensures ∙ ap not w.if-is_none.false) (omega (arith, w.pending-is))
     ] in
-    noted es c.events.ensures.history.history c.loop-c.c within x is c.loop-c.views.items c.match-call.views.items c.loop-c.updates c.match-call.updates c.loop-c.writes c.match-call.writes c.loop-c.pending c.if-is_none.pending views updates writes pending c.loop-c.invariant
+    noted es c.events.ensures.history.history c.loop-c.c within x is c.loop-c.views.items c.match-call.views.items c.loop-c.updates c.match-call.updates c.loop-c.pending c.if-is_none.pending views updates pending c.loop-c.invariant

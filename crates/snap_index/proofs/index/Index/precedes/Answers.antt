@@ -9,7 +9,7 @@ use Rattle.snap_index.proofs.index.Index.precedes.Goals as goal
 pub returns-in-Some : goal.returns-in-Some
 returns-in-Some c =
     let es = c.args.self.now in
-    let calls = (seen _ _ _ _ _ _ _ c.self.view_is c.self.invariant).indexed_calls in
+    let calls = (seen _ _ _ _ _ _ c.self.view_is c.self.invariant).indexed_calls in
     let count = count_is es c.self.inside.calls.items calls in
     let a = c.index.ensures ∙ indexed_read es c.self.inside.calls.items c.args.a c.index.result.now calls (omega (arith, count, c.requires.a)) in
     let b = c.index-in-Some.ensures ∙ indexed_read es c.self.inside.calls.items c.args.b c.index-in-Some.result.now calls (omega (arith, count, c.requires.b)) in
@@ -19,7 +19,7 @@ returns-in-Some c =
 pub returns-in-None : goal.returns-in-None
 returns-in-None c =
     let es = c.args.self.now in
-    let calls = (seen _ _ _ _ _ _ _ c.self.view_is c.self.invariant).indexed_calls in
+    let calls = (seen _ _ _ _ _ _ c.self.view_is c.self.invariant).indexed_calls in
     let count = count_is es c.self.inside.calls.items calls in
     let a = c.index.ensures ∙ indexed_read es c.self.inside.calls.items c.args.a c.index.result.now calls (omega (arith, count, c.requires.a)) in
     sym (precedes_none (call_numbered (calls_of es) c.args.a) (call_numbered (calls_of es) c.args.b) (sym (ap (λ (z : Call). z.ended) a) ∙ c.in-None.is))

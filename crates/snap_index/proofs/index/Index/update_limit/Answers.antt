@@ -5,7 +5,7 @@ use Rattle.snap_index.proofs.index.Index.update_limit.Goals as goal
 
 pub returns : goal.returns
 returns c =
-    let i = seen _ _ _ _ _ _ _ c.self.view_is c.self.invariant in
+    let i = seen _ _ _ _ _ _ c.self.view_is c.self.invariant in
     record {
       few = c.limit.ensures.few;
       least = λ k is. rw (sym (row_is k (calls_of c.args.self.now))) (rw (i.tables.of_updates k (omega (arith, is, c.limit.ensures.few))) at (c.limit.ensures.last k is));

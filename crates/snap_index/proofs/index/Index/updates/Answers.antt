@@ -4,5 +4,5 @@ use Rattle.snap_index.proofs.index.Index.updates.Goals as goal
 
 pub returns : goal.returns
 returns c =
-    let i = seen _ _ _ _ _ _ _ c.self.view_is c.self.invariant in
+    let i = seen _ _ _ _ _ _ c.self.view_is c.self.invariant in
     record { updates = c.of.ensures ∙ i.tables.of_updates c.args.k (omega arith); kept = i.kept }
