@@ -2,16 +2,12 @@
 use Rattle.std.proofs.Common.{◌≡◌, ℕ, ◌-◌, List, [], ◌∷◌, ◌++◌, length, take, drop, refl, sym, ap, subst, ◌∙◌, arith}
 use Rattle.std.proofs.lemmas.List.{take-append-drop, take_all}
 use Rattle.snap_core.specs.declared.event.Event.{Event}
-use Rattle.snap_core.specs.Events.{IsBoundedHistory}
 use Rattle.snap_core.specs.Calls.{Call, calls_of, views_of}
-use Rattle.snap_core.proofs.Fits.{bytes_of_events}
 use Rattle.snap_conditions.specs.declared.tally.Tally.{Tally}
 use Rattle.snap_theory.specs.Faults.{read_faults, stale_count}
 use Rattle.snap_conditions.specs.Parts.{part_of}
-use Rattle.snap_views.specs.Quick.{AreComparable, AreOrdered}
 use Rattle.snap_conditions.specs.Tally.{tally_of, without_read, reported_read}
 use Rattle.snap_views.specs.Seen.{views_between}
-use Rattle.snap_views.proofs.Quick.{no_read_fault_exactly}
 use Rattle.snap_conditions.proofs.Ranges.{tally_is}
 use Rattle.snap_theory.proofs.Components.{faults_join}
 use Rattle.snap_theory.proofs.StaleViews.{none_stale_alone, stale_joined}

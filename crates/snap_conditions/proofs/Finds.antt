@@ -24,14 +24,13 @@ use Rattle.snap_conditions.specs.inside.Places.{end_of, begin_of, begins_behind,
 use Rattle.snap_theory.specs.Updates.{update_of}
 use Rattle.snap_conditions.specs.Tally.{reported_integrity, reported_proximity, reported_write}
 use Rattle.snap_theory.proofs.Entries.{sorted, nothing}
-use Rattle.snap_views.proofs.Compared.{is_listed}
 use Rattle.snap_theory.proofs.Exceeding.{exceeds_from, exceeds_to}
 use Rattle.snap_conditions.proofs.Leasts.{find_same}
 use Rattle.snap_conditions.proofs.Places.{integrity_by_update, old_by_place, early_by_place, write_by_place, behind_none}
 use Rattle.snap_conditions.proofs.OneView.{missed_part}
 use Rattle.snap_theory.proofs.FaultLists.{filter_none}
 use Rattle.snap_views.proofs.Grids.{small}
-use Rattle.snap_views.proofs.Rows.{entry_at, among_is_shown}
+use Rattle.snap_views.proofs.Rows.{entry_at}
 
 -- what a view shows of a component that it lists
 pub shown_at : (r : Call) (i : ℕ) (x : Entry) → AreEntries (entries_of r.operation) → i < length (entries_of r.operation) → shown r (get_or (entries_of r.operation) i x).component ≡ Some (get_or (entries_of r.operation) i x)

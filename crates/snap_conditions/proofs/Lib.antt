@@ -13,3 +13,4 @@ pub mod Limits
 pub mod Faultless
 mod Worked
 mod Surrounded
+mod Left

@@ -1,7 +1,7 @@
 -- Numbers that no update has.
-use Rattle.std.proofs.Common.{◌≡◌, ℕ, ◌<◌, ◌≤◌, Bool, false, cond, List, [], ◌∷◌, length, Some, None, refl, sym, ap, ◌∙◌, subst, inl, inr, arith}
-use Rattle.std.specs.Prelude.{find, slice_get}
-use Rattle.std.specs.List.{All, Contains}
+use Rattle.std.proofs.Common.{◌≡◌, ℕ, ◌≤◌, Bool, false, cond, List, [], ◌∷◌, Some, None, refl, sym, ap, ◌∙◌, subst, inl, inr, arith}
+use Rattle.std.specs.Prelude.{find}
+use Rattle.std.specs.List.{All}
 use Rattle.std.proofs.lemmas.Bool.{false_from_ne_true}
 use Rattle.std.proofs.lemmas.List.Elements.{All-contains}
 use Rattle.snap_core.specs.declared.entry.Entry.{Entry}
@@ -9,11 +9,11 @@ use Rattle.snap_core.specs.declared.event.Event.{Event}
 use Rattle.snap_core.specs.declared.event.Event.TheVariants.{BeginUpdate, BeginView, EndUpdate, EndView}
 use Rattle.snap_core.specs.Entries.{EntryFits}
 use Rattle.snap_core.specs.Events.{EventFits, IsBoundedHistory}
-use Rattle.snap_core.specs.Calls.{Call, Updates, calls_of, views_of, is_update_numbered, nobody}
+use Rattle.snap_core.specs.Calls.{Call, Updates, calls_of, is_update_numbered}
 use Rattle.snap_core.specs.Regular.{IsUpdateOf}
-use Rattle.snap_core.proofs.Lists.{In, In-get_or}
+use Rattle.snap_core.proofs.Lists.{In}
 use Rattle.snap_core.proofs.Begun.{Begun, operation_at}
-use Rattle.snap_core.proofs.Histories.{begun_of, in_history, numbered_calls}
+use Rattle.snap_core.proofs.Histories.{begun_of, in_history}
 use Rattle.snap_theory.specs.Updates.{update_of}
 use Rattle.std.specs.Prelude.{count_by}
 use Rattle.std.proofs.lemmas.Bool.{cases_eq}

@@ -1,6 +1,6 @@
 -- Tallies of ranges of views: how they join, that their counts fit, and what no fault in them says.
-use Rattle.std.proofs.Common.{◌≡◌, ℕ, zero, suc, ◌+◌, ◌-◌, ◌*◌, ◌<◌, ◌≤◌, List, [], ◌∷◌, ◌++◌, take, drop, length, get_or, refl, ap, ◌∙◌, inl, inr, arith}
-use Rattle.std.specs.Prelude.{◌^◌, ◌||◌, filter}
+use Rattle.std.proofs.Common.{◌≡◌, ℕ, zero, suc, ◌+◌, ◌-◌, ◌*◌, ◌<◌, ◌≤◌, List, [], ◌∷◌, ◌++◌, take, drop, length, get_or, refl, sym, ap, ◌∙◌, subst, inl, inr, arith}
+use Rattle.std.specs.Prelude.{◌||◌, filter}
 use Rattle.std.specs.List.{flat_map}
 use Rattle.std.proofs.lemmas.List.{take_all, length-take, drop-drop, drop_more, length-map}
 use Rattle.std.proofs.Math.Seq.{take-add}
@@ -9,11 +9,10 @@ use Rattle.snap_core.specs.Events.{IsBoundedHistory, event_cap}
 use Rattle.snap_core.specs.Calls.{Call, calls_of, entries_of, views_of, nobody}
 use Rattle.snap_core.proofs.Lists.{In}
 use Rattle.snap_conditions.specs.declared.tally.Tally.{Tally}
-use Rattle.snap_conditions.specs.Parts.{part_of, merged_part}
-use Rattle.snap_conditions.specs.PartValue.{PartValue}
+use Rattle.snap_conditions.specs.Parts.{part_of}
 use Rattle.snap_theory.specs.Faults.{integrity_fault, old_fault, early_fault, read_fault, write_fault, components, listed, integrity_faults, proximity_faults, read_faults, write_faults, stale_count, missed_at, HasNoLocalFault}
-use Rattle.snap_conditions.specs.Tally.{tally_of, reported_integrity, reported_proximity, reported_read, reported_write, merged, no_fault, CountsNoLocalFault}
-use Rattle.snap_views.specs.Seen.{views_between}
+use Rattle.snap_conditions.specs.Tally.{tally_of, SumsFit, reported_integrity, reported_proximity, reported_read, reported_write, merged, no_fault, CountsNoLocalFault}
+use Rattle.snap_views.specs.Seen.{view_in, views_between}
 use Rattle.snap_conditions.specs.Laws.{TalliesJoin, TalliesFit, RegularByTally, ConditionsByTally, NoFaultByTally}
 use Rattle.snap_theory.proofs.FaultLaws.{regular_exactly, conditions_exactly}
 use Rattle.snap_conditions.proofs.Parts.{part-append, flat_map_short}
@@ -130,11 +129,18 @@ ranges_fit es k from middle to l m n =
       stale = omega (arith, a.stale, b.stale, x, y, v);
     }
 
--- a range that grows by one view, kind by kind
+-- a range that grows by one view
 
-pub record Grows {F : Type 0} (more part one : PartValue F) : Type 0 where
-  pub fit : part.count + one.count < 2 ^ 64
-  pub joined : more ≡ merged_part part one
+pub next_fits : (es : List Event) → IsBoundedHistory es → (from place : ℕ) → from ≤ place → place < length (views_of (calls_of es)) →
+    SumsFit (tally_of (calls_of es) (views_between (calls_of es) from place)) (tally_of (calls_of es) (view_in (calls_of es) place ∷ []))
+next_fits es k from place l m =
+    let calls = calls_of es in
+    subst (λ rs. SumsFit (tally_of calls (views_between calls from place)) (tally_of calls rs)) (one_between calls place m) (ranges_fit es k from place (place + 1) l (omega arith) (omega (arith, m)))
+
+pub next_tally : (calls : List Call) (from place : ℕ) → from ≤ place → place < length (views_of calls) →
+    merged (tally_of calls (views_between calls from place)) (tally_of calls (view_in calls place ∷ [])) ≡ tally_of calls (views_between calls from (place + 1))
+next_tally calls from place l m =
+    ap (λ rs. merged (tally_of calls (views_between calls from place)) (tally_of calls rs)) (sym (one_between calls place m)) ∙ sym ((tallies_join calls).adjoining from place (place + 1) l (omega arith))
 
 -- no fault by the counts, and by the lists
 

@@ -18,6 +18,7 @@ use Rattle.snap_conditions.specs.inside.ShownAndNext.{IsOfEntries, IsOfView, beg
 use Rattle.snap_theory.specs.Faults.{components, old_fault, early_fault, proximity_faults, write_faults, missed_at, writes_entry}
 use Rattle.snap_conditions.specs.Parts.{no_part, part_of}
 use Rattle.snap_conditions.specs.PartValue.{PartValue}
+use Rattle.snap_conditions.specs.inside.Limits.{IsLimit}
 use Rattle.snap_conditions.specs.inside.Places.{value_of, end_of, begin_of, begin_of_shown, is_written, value_or_none, begin_or_0, IsNoLater}
 use Rattle.snap_views.specs.Seen.{end_or_never}
 use Rattle.snap_theory.specs.Updates.{update_of}
@@ -29,7 +30,7 @@ use Rattle.snap_conditions.proofs.OneView.{proximity_alone, write_alone}
 use Rattle.snap_conditions.proofs.Places.{old_by_place, early_by_place, behind_begin}
 use Rattle.snap_views.proofs.Rows.{among_is_shown}
 use Rattle.snap_theory.proofs.FaultLists.{filter_none, flat_map_none}
-use Rattle.snap_conditions.proofs.NoUpdates.{no_update_past}
+use Rattle.snap_conditions.proofs.NoUpdates.{no_update_past, none_of_none}
 
 -- an end by the number that stands for it
 
@@ -50,24 +51,37 @@ number_fits es kept j n ended e = elim (cases_lt n 4294967296) [
 
 -- where the updates stand around the view that was looked at last
 
-pub around_seen : (calls : List Call) (r : Call) (updates : ShownAndNext) → IsOfEntries calls updates → updates.entries.now ≡ entries_of r.operation → IsOfView calls r updates
-around_seen calls r updates a same = record {
+-- numbers that are the same below a limit have the same updates, for from it on there is none
+same_update : (es : List Event) → IsBoundedHistory es → (limit k m n : ℕ) (next : ℕ → ℕ) → IsLimit (calls_of es) limit → (k < limit → m ≡ n) → k < 256 → update_of (calls_of es) k (next m) ≡ update_of (calls_of es) k (next n)
+same_update es kept limit k m n next h same b = elim (cases_lt k limit) [
+  | inl l ↦ ap (λ z. update_of (calls_of es) k (next z)) (same l)
+  | inr l ↦
+      let none = h.none k (omega (arith, l)) b in
+      none_of_none es kept k (next m) none ∙ sym (none_of_none es kept k (next n) none)
+]
+
+pub around_seen : (es : List Event) → IsBoundedHistory es → (r : Call) (updates : ShownAndNext) → IsOfEntries (calls_of es) updates → updates.entries.now ≡ entries_of r.operation → IsOfView (calls_of es) r updates
+around_seen es kept r updates a same = record {
+  limit = a.limit;
   numbers = numbers;
-  values = λ k l. a.values k l ∙ ap (λ n. value_or_none (value_of (update_of calls k n))) (numbers k l);
+  values = λ k l. a.around.values k l ∙ ap (λ o. value_or_none (value_of o)) (update k (λ n. n) l);
   begins = begins;
   ends = ends;
   latest = λ k l. omega (arith, a.latest k l, begins k l);
   earliest = λ k l. omega (arith, a.earliest k l, ends k l);
 }
   where
-    numbers : (k : ℕ) → k < 256 → get_or updates.numbers k 0 ≡ shown_number r k
+    numbers : (k : ℕ) → k < updates.limit → get_or updates.numbers k 0 ≡ shown_number r k
     numbers k l = a.numbers k l ∙ ap (λ es. number_among es k) same ∙ among_is_shown r k
 
-    begins : (k : ℕ) → k < 256 → get_or updates.begins k 0 ≡ begin_shown calls r k
-    begins k l = a.begins k l ∙ ap (λ n. begin_or_0 (begin_of (update_of calls k n))) (numbers k l)
+    update : (k : ℕ) (next : ℕ → ℕ) → k < 256 → update_of (calls_of es) k (next (get_or updates.numbers k 0)) ≡ update_of (calls_of es) k (next (shown_number r k))
+    update k next l = same_update es kept updates.limit k _ _ next a.limit (numbers k) l
 
-    ends : (k : ℕ) → k < 256 → get_or updates.ends k 0 ≡ end_next calls r k
-    ends k l = a.ends k l ∙ ap (λ n. end_or_never (end_of (update_of calls k (suc n)))) (numbers k l)
+    begins : (k : ℕ) → k < 256 → get_or updates.begins k 0 ≡ begin_shown (calls_of es) r k
+    begins k l = a.around.begins k l ∙ ap (λ o. begin_or_0 (begin_of o)) (update k (λ n. n) l)
+
+    ends : (k : ℕ) → k < 256 → get_or updates.ends k 0 ≡ end_next (calls_of es) r k
+    ends k l = a.around.ends k l ∙ ap (λ o. end_or_never (end_of o)) (update k suc l)
 
 -- the tests of a view alone
 

@@ -1,10 +1,10 @@
 -- The tally of a range of completed views: of each kind the number of faults whose first view is in the range, and the least
 -- of them by that view, then by component, other view, or both components; and the number of pairs of a view in the range and
 -- one that it precedes and that shows less of some component.
-use Rattle.std.specs.Prelude.{ℕ, suc, ◌+◌, ◌-◌, ◌<◌, ◌^◌, ◌≡◌, List, take, drop, unwrap_or, if◌then◌else◌}
+use Rattle.std.specs.Prelude.{ℕ, suc, ◌+◌, ◌<◌, ◌^◌, ◌≡◌, List, unwrap_or, if◌then◌else◌}
 use Rattle.snap_core.specs.declared.entry.Entry.{Entry}
 use Rattle.snap_core.specs.Entries.{value_in}
-use Rattle.snap_core.specs.Calls.{Call, shown, shown_number, views_of}
+use Rattle.snap_core.specs.Calls.{Call, shown, shown_number}
 use Rattle.snap_conditions.specs.declared.fault.IntegrityFault.{IntegrityFault}
 use Rattle.snap_conditions.specs.declared.fault.ProximityFault.{ProximityFault}
 use Rattle.snap_conditions.specs.declared.fault.ReadFault.{ReadFault}

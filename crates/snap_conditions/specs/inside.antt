@@ -2,3 +2,4 @@
 pub mod Limits
 pub mod Places
 pub mod ShownAndNext
+pub mod Tallies

@@ -5,7 +5,6 @@ ghost use Rattle.snap_core.specs.Events.{IsBoundedHistory};
 ghost use Rattle.snap_core.specs.declared.event.Event.{Event};
 ghost use Rattle.snap_conditions.specs.inside.ShownAndNext.{IsOfView};
 ghost use Rattle.snap_theory.specs.Faults.{proximity_faults, old_fault, early_fault};
-ghost use Rattle.snap_conditions.specs.inside.Limits.{IsLimit};
 ghost use Rattle.snap_conditions.specs.Parts.{part_of, found_at};
 ghost use Rattle.snap_views.specs.Seen.{IsSeen, view_in};
 ghost use Rattle.snap_conditions.specs.Tally.{reported_proximity};
@@ -19,6 +18,7 @@ use snap_views::SeenView;
 
 // The proximity fault of a view at component k.
 fn proximity_fault(view: &SeenView<'_>, updates: &ShownAndNext<'_>, k: u8) -> Option<ProximityFault>
+    requires { k < updates.now.limit }
     ensures { (es : List Event) (r : SpecCall) → IsBoundedHistory es → IsSeen r view.now → IsOfView (calls_of es) r updates.now → result
         ≡ found_at (λ k. reported_proximity (calls_of es) (r, k)) (λ k. old_fault (calls_of es) r k || early_fault (calls_of es) r k) k }
 {
@@ -38,15 +38,13 @@ fn proximity_fault(view: &SeenView<'_>, updates: &ShownAndNext<'_>, k: u8) -> Op
     })
 }
 
-// The proximity faults of the view at a place, where no component from a limit on has an update.
+// The proximity faults of the view at a place.
 pub(crate) fn proximity_part(
     index: &Index<'_>,
     place: u32,
     view: &SeenView<'_>,
     updates: &ShownAndNext<'_>,
-    limit: usize,
 ) -> Part<ProximityFault>
-    requires limit { IsLimit (calls_of index.now) limit }
     requires view { IsSeen (view_in (calls_of index.now) place) view.now }
     requires updates { IsOfView (calls_of index.now) (view_in (calls_of index.now) place) updates.now }
     requires place { place < length (views_of (calls_of index.now)) }
@@ -58,7 +56,7 @@ pub(crate) fn proximity_part(
     if view.call.begun <= updates.earliest && !is_before(view.call.ended, updates.latest) {
         return part;
     }
-    for k in 0..limit {
+    for k in 0..updates.limit {
         part = part.note(proximity_fault(view, updates, k as u8));
     }
     part

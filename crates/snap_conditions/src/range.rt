@@ -3,76 +3,59 @@ ghost use Rattle.std.specs.Prelude.{◌≡◌, ◌<◌, ◌≤◌, ◌-◌, ◌�
 ghost use Rattle.snap_core.specs.Calls.{calls_of, views_of};
 ghost use Rattle.snap_core.specs.Events.{IsBoundedHistory};
 ghost use Rattle.snap_conditions.specs.inside.ShownAndNext.{IsOfEntries};
-ghost use Rattle.snap_conditions.specs.inside.Limits.{IsLimit};
+ghost use Rattle.snap_conditions.specs.inside.Tallies.{without_more_read};
 ghost use Rattle.snap_views.specs.Seen.{view_in};
-ghost use Rattle.snap_conditions.specs.Tally.{tally_of, without_read};
+ghost use Rattle.snap_conditions.specs.Tally.{tally_of, without_read, merged, SumsFit};
 
 use crate::integrity::integrity_part;
-use crate::part::Part;
 use crate::proximity::proximity_part;
 use crate::read::read_part;
 use crate::shown_and_next::ShownAndNext;
 use crate::stale::stale_beside;
-use crate::tally::{Tally, merge};
+use crate::tally::Tally;
 use crate::write::write_part;
 use snap_index::Index;
 use snap_views::view_at;
 
-// A component from which on no component has an update.
-fn component_limit(index: &Index<'_>) -> usize
-    ensures { IsLimit (calls_of index.now) result }
-{
-    index.update_limit()
-}
-
-// The faults of the view at a place but for its read faults and stale views, where no component from a limit on has an update.
-fn view_without_read<'i>(
+// Adds the faults of the view at a place but for its read faults and stale views.
+#[tactic(auto, unfolding(crate::specs::Tally::tally_of))]
+fn add_without_read<'i>(
+    tally: &mut Tally,
     index: &'i Index<'_>,
     place: u32,
-    limit: usize,
     updates: &mut ShownAndNext<'i>,
-) -> Tally
+)
     requires before { IsOfEntries (calls_of index.now) updates.old }
-    requires limit { IsLimit (calls_of index.now) limit }
     requires place { place < length (views_of (calls_of index.now)) }
     requires kept { IsBoundedHistory index.now }
+    requires fits { SumsFit tally.old (tally_of (calls_of index.now) (view_in (calls_of index.now) place ∷ [])) }
     ensures numbers { IsOfEntries (calls_of index.now) updates.new }
-    ensures tally { result ≡ without_read (tally_of (calls_of index.now) (view_in (calls_of index.now) place ∷ [])) }
+    ensures tally { tally.new ≡ without_more_read tally.old (tally_of (calls_of index.now) (view_in (calls_of index.now) place ∷ [])) }
 {
     let view = view_at(index, place);
-    updates.look(index, &view, limit);
-    Tally {
-        integrity: integrity_part(index, place, &view, updates),
-        proximity: proximity_part(index, place, &view, updates, limit),
-        read: Part::none(),
-        write: write_part(index, place, &view, updates, limit),
-        stale: 0,
-    }
+    updates.look(index, &view);
+    let integrity = integrity_part(index, place, &view, updates);
+    let proximity = proximity_part(index, place, &view, updates);
+    let write = write_part(index, place, &view, updates);
+    tally.integrity = tally.integrity.merge(integrity);
+    tally.proximity = tally.proximity.merge(proximity);
+    tally.write = tally.write.merge(write);
 }
 
-// The faults of the view at a place, where no component from a limit on has an update.
-fn view_tally<'i>(
-    index: &'i Index<'_>,
-    place: u32,
-    limit: usize,
-    updates: &mut ShownAndNext<'i>,
-) -> Tally
+// Adds the faults of the view at a place.
+#[tactic(auto, unfolding(crate::specs::Tally::tally_of))]
+fn add_view<'i>(tally: &mut Tally, index: &'i Index<'_>, place: u32, updates: &mut ShownAndNext<'i>)
     requires before { IsOfEntries (calls_of index.now) updates.old }
-    requires limit { IsLimit (calls_of index.now) limit }
     requires place { place < length (views_of (calls_of index.now)) }
     requires kept { IsBoundedHistory index.now }
+    requires fits { SumsFit tally.old (tally_of (calls_of index.now) (view_in (calls_of index.now) place ∷ [])) }
     ensures numbers { IsOfEntries (calls_of index.now) updates.new }
-    ensures tally { result ≡ tally_of (calls_of index.now) (view_in (calls_of index.now) place ∷ []) }
+    ensures tally { tally.new ≡ merged tally.old (tally_of (calls_of index.now) (view_in (calls_of index.now) place ∷ [])) }
 {
-    let others = view_without_read(index, place, limit, updates);
+    add_without_read(tally, index, place, updates);
     let read = read_part(index, place);
-    Tally {
-        integrity: others.integrity,
-        proximity: others.proximity,
-        read,
-        write: others.write,
-        stale: stale_beside(index, place, &read),
-    }
+    tally.read = tally.read.merge(read);
+    tally.stale += stale_beside(index, place, &read);
 }
 
 /// The faults whose first view is one of the completed views from `from` to `to - 1`, counted from 0 in the order of call
@@ -84,11 +67,10 @@ pub fn tally_range(index: &Index<'_>, from: u32, to: u32) -> Tally
 {
     // what is known of the history that the index is of
     let _events = index.event_count();
-    let limit = component_limit(index);
-    let mut updates = ShownAndNext::new(index, limit);
+    let mut updates = ShownAndNext::new(index);
     let mut tally = Tally::none();
     for place in from..to {
-        tally = merge(tally, view_tally(index, place, limit, &mut updates));
+        add_view(&mut tally, index, place, &mut updates);
     }
     tally
 }
@@ -102,11 +84,10 @@ pub fn tally_without_read(index: &Index<'_>, from: u32, to: u32) -> Tally
 {
     // what is known of the history that the index is of
     let _events = index.event_count();
-    let limit = component_limit(index);
-    let mut updates = ShownAndNext::new(index, limit);
+    let mut updates = ShownAndNext::new(index);
     let mut tally = Tally::none();
     for place in from..to {
-        tally = merge(tally, view_without_read(index, place, limit, &mut updates));
+        add_without_read(&mut tally, index, place, &mut updates);
     }
     tally
 }

@@ -1,14 +1,15 @@
 //! The updates that a view shows and those after them, kept from view to view.
-ghost use Rattle.std.specs.Prelude.{◌≡◌, ◌≤◌, ◌<◌, ℕ, length, get_or};
+ghost use Rattle.std.specs.Prelude.{◌≡◌, ◌≤◌, ◌<◌, ◌+◌, ℕ, List, length, get_or};
 ghost use Rattle.snap_core.specs.Calls.{Call as SpecCall, calls_of};
-ghost use Rattle.snap_core.specs.Entries.{AreEntries};
+ghost use Rattle.snap_core.specs.Entries.{AreEntries, component_count};
 ghost use Rattle.snap_core.specs.Events.{IsBoundedHistory};
-ghost use Rattle.snap_conditions.specs.inside.ShownAndNext.{IsOfEntries, IsOfView};
+ghost use Rattle.snap_core.specs.declared.entry.Entry.{Entry as SpecEntry};
+ghost use Rattle.snap_conditions.specs.inside.ShownAndNext.{AreAround, AreFrom, IsOfEntries, IsOfView};
 ghost use Rattle.snap_conditions.specs.inside.Limits.{IsLimit};
 ghost use Rattle.snap_conditions.specs.inside.Places.{value_or_none as spec_value_or_none};
+ghost use Rattle.snap_views.specs.Rows.{number_among};
 ghost use Rattle.snap_views.specs.Seen.{IsSeen};
 
-use crate::row::numbers_of;
 use crate::updates::{begin_of_update, end_of_next, value_of_update};
 use snap_core::{COMPONENT_COUNT, Entry, are_same};
 use snap_index::Index;
@@ -23,8 +24,11 @@ const NO_VALUE: u64 = u32::MAX as u64 + 1;
 // Where the updates stand between which a view is by what it shows, component by component.
 #[derive(Drop)]
 pub(crate) struct ShownAndNext<'i> {
+    // no component from here on has an update
+    pub(crate) limit: usize,
     // the entries of the view that was looked at last, none before the first
     pub(crate) entries: &'i [Entry],
+    // the number that they show of each component below the limit
     pub(crate) numbers: [u32; COMPONENT_COUNT],
     // the value of the update of that number, `NO_VALUE` where there is none
     pub(crate) values: [u64; COMPONENT_COUNT],
@@ -70,20 +74,43 @@ fn earliest_of(places: &[u32]) -> u32
     earliest
 }
 
+// A component from which on no component has an update.
+fn component_limit(index: &Index<'_>) -> usize
+    ensures { IsLimit (calls_of index.now) result }
+{
+    index.update_limit()
+}
+
+// Takes the number that a view shows of component k, 0 where it lists none, from the entries that are left, those from
+// component k on.
+fn take_number(left: &mut &[Entry], k: usize) -> u32
+    ensures number { (all : List SpecEntry) → AreFrom k all left.old.now → result ≡ number_among all k }
+    ensures left { (all : List SpecEntry) → AreFrom k all left.old.now → AreFrom (k + 1) all left.new.now }
+{
+    let Some((entry, behind)) = left.split_first() else {
+        return 0;
+    };
+    if usize::from(entry.component) != k {
+        return 0;
+    }
+    *left = behind;
+    entry.number
+}
+
 impl<'i> ShownAndNext<'i> {
-    // The updates of a view that shows nothing, where no component from a limit on has an update. One serves for many views, which
-    // mostly show what the view before them showed.
-    pub(crate) fn new(index: &Index<'_>, limit: usize) -> ShownAndNext<'i>
-        requires kept { IsBoundedHistory index.now }
-        requires limit { IsLimit (calls_of index.now) limit }
+    // The updates of a view that shows nothing. One serves for many views, which mostly show what the view before them showed.
+    pub(crate) fn new(index: &Index<'_>) -> ShownAndNext<'i>
+        requires { IsBoundedHistory index.now }
         ensures { IsOfEntries (calls_of index.now) result }
     {
+        let limit = component_limit(index);
         let mut ends = [NEVER; COMPONENT_COUNT];
         for k in 0..limit {
             ends[k] = end_of_next(index, k as u8, 0).unwrap_or(NEVER);
         }
         let earliest = earliest_of(&ends);
         ShownAndNext {
+            limit,
             entries: &[],
             numbers: [0; COMPONENT_COUNT],
             values: [NO_VALUE; COMPONENT_COUNT],
@@ -94,12 +121,29 @@ impl<'i> ShownAndNext<'i> {
         }
     }
 
-    // Looks up the updates around a view where it shows another number than the view before, where no component from a limit on
-    // has an update.
-    pub(crate) fn look(&mut self, index: &Index<'_>, view: &SeenView<'i>, limit: usize)
+    // Looks up the updates around a number of component k, if it is another than the number of the view before.
+    fn look_at(&mut self, index: &Index<'_>, k: usize, number: u32)
+        requires kept { IsBoundedHistory index.now }
+        requires component { k < component_count }
+        requires before { AreAround (calls_of index.now) self.old }
+        ensures around { AreAround (calls_of index.now) self.new }
+        ensures number { get_or self.new.numbers k 0 ≡ number }
+        ensures others { (j : ℕ) → j < k → get_or self.new.numbers j 0 ≡ get_or self.old.numbers j 0 }
+        ensures limit { self.new.limit ≡ self.old.limit }
+    {
+        if number == self.numbers[k] {
+            return;
+        }
+        self.numbers[k] = number;
+        self.values[k] = value_or_none(value_of_update(index, k as u8, number));
+        self.begins[k] = begin_of_update(index, k as u8, number).unwrap_or(0);
+        self.ends[k] = end_of_next(index, k as u8, number).unwrap_or(NEVER);
+    }
+
+    // Looks up the updates around a view where it shows another number than the view before.
+    pub(crate) fn look(&mut self, index: &Index<'_>, view: &SeenView<'i>)
         requires before { IsOfEntries (calls_of index.now) self.old }
         requires kept { IsBoundedHistory index.now }
-        requires limit { IsLimit (calls_of index.now) limit }
         requires view { AreEntries view.now.entries.now }
         ensures numbers { IsOfEntries (calls_of index.now) self.new }
         ensures updates { (r : SpecCall) → IsSeen r view.now → IsOfView (calls_of index.now) r self.new }
@@ -107,16 +151,12 @@ impl<'i> ShownAndNext<'i> {
         if are_same(self.entries, view.entries) {
             return;
         }
-        let numbers = numbers_of(view.entries);
+        let limit = self.limit;
+        let mut left = view.entries;
         for k in 0..limit {
-            if numbers[k] != self.numbers[k] {
-                self.values[k] = value_or_none(value_of_update(index, k as u8, numbers[k]));
-                self.begins[k] = begin_of_update(index, k as u8, numbers[k]).unwrap_or(0);
-                self.ends[k] = end_of_next(index, k as u8, numbers[k]).unwrap_or(NEVER);
-            }
+            self.look_at(index, k, take_number(&mut left, k));
         }
         self.entries = view.entries;
-        self.numbers = numbers;
         self.latest = latest_of(&self.begins[..limit]);
         self.earliest = earliest_of(&self.ends[..limit]);
     }

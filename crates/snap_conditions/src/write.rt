@@ -7,7 +7,6 @@ ghost use Rattle.snap_core.specs.Events.{IsBoundedHistory};
 ghost use Rattle.snap_core.specs.declared.entry.Entry.{Entry};
 ghost use Rattle.snap_conditions.specs.inside.ShownAndNext.{IsOfView};
 ghost use Rattle.snap_theory.specs.Faults.{write_faults, missed_at};
-ghost use Rattle.snap_conditions.specs.inside.Limits.{IsLimit};
 ghost use Rattle.snap_conditions.specs.Parts.{part_of};
 ghost use Rattle.snap_conditions.specs.inside.Places.{end_of, begin_of_shown, begin_or_0};
 ghost use Rattle.snap_theory.specs.Updates.{update_of};
@@ -94,15 +93,13 @@ fn missed_part(
     Part::of(count, fault)
 }
 
-// The write faults of the view at a place, where no component from a limit on has an update.
+// The write faults of the view at a place.
 pub(crate) fn write_part(
     index: &Index<'_>,
     place: u32,
     view: &SeenView<'_>,
     updates: &ShownAndNext<'_>,
-    limit: usize,
 ) -> Part<WriteFault>
-    requires limit { IsLimit (calls_of index.now) limit }
     requires view { IsSeen (view_in (calls_of index.now) place) view.now }
     requires updates { IsOfView (calls_of index.now) (view_in (calls_of index.now) place) updates.now }
     requires place { place < length (views_of (calls_of index.now)) }
@@ -116,7 +113,7 @@ pub(crate) fn write_part(
     }
     let begins = begins_of(updates, view.entries);
     let begins = &begins[..view.entries.len()];
-    for j in 0..limit {
+    for j in 0..updates.limit {
         let ended = updates.ends[j];
         if ended < updates.latest {
             part = part.merge(missed_part(

@@ -1,12 +1,14 @@
 -- Where the updates stand between which a view is by what it shows: at each component the one that it shows and the next.
-use Rattle.std.specs.Prelude.{ℕ, suc, ◌≡◌, ◌<◌, ◌≤◌, List, get_or}
+use Rattle.std.specs.Prelude.{ℕ, suc, ◌≡◌, ◌<◌, ◌≤◌, true, ⊤, List, [], ◌∷◌, get_or}
+use Rattle.snap_core.specs.declared.entry.Entry.{Entry}
 use Rattle.snap_core.specs.Calls.{Call, shown_number}
-use Rattle.snap_core.specs.Entries.{component_count}
+use Rattle.snap_core.specs.Entries.{component_count, rises}
 use Rattle.snap_conditions.specs.declared.shown_and_next.ShownAndNext.{ShownAndNext}
+use Rattle.snap_conditions.specs.inside.Limits.{IsLimit}
 use Rattle.snap_conditions.specs.inside.Places.{value_of, begin_of, end_of, value_or_none, begin_or_0}
 use Rattle.snap_views.specs.Seen.{end_or_never}
 use Rattle.snap_theory.specs.Updates.{update_of}
-use Rattle.snap_views.specs.Rows.{AreNumbersOf}
+use Rattle.snap_views.specs.Rows.{number_among}
 
 -- the value of the update that a view shows of a component, one that is no update's where there is none
 abbrev pub value_shown : List Call → Call → ℕ → ℕ
@@ -20,19 +22,37 @@ begin_shown calls r k = begin_or_0 (begin_of (update_of calls k (shown_number r 
 abbrev pub end_next : List Call → Call → ℕ → ℕ
 end_next calls r k = end_or_never (end_of (update_of calls k (suc (shown_number r k))))
 
+-- all this of a view, and its numbers below the limit
 pub record IsOfView (calls : List Call) (r : Call) (updates : ShownAndNext) : Type 0 where
-  pub numbers : (k : ℕ) → k < component_count → get_or updates.numbers k 0 ≡ shown_number r k
+  pub limit : IsLimit calls updates.limit
+  pub numbers : (k : ℕ) → k < updates.limit → get_or updates.numbers k 0 ≡ shown_number r k
   pub values : (k : ℕ) → k < component_count → get_or updates.values k 0 ≡ value_shown calls r k
   pub begins : (k : ℕ) → k < component_count → get_or updates.begins k 0 ≡ begin_shown calls r k
   pub ends : (k : ℕ) → k < component_count → get_or updates.ends k 0 ≡ end_next calls r k
   pub latest : (k : ℕ) → k < component_count → begin_shown calls r k ≤ updates.latest
   pub earliest : (k : ℕ) → k < component_count → updates.earliest ≤ end_next calls r k
 
--- the same around the view that was looked at last, by its entries
-pub record IsOfEntries (calls : List Call) (updates : ShownAndNext) : Type 0 where
-  pub numbers : AreNumbersOf updates.entries.now updates.numbers
+-- the updates around the number of each component
+pub record AreAround (calls : List Call) (updates : ShownAndNext) : Type 0 where
   pub values : (k : ℕ) → k < component_count → get_or updates.values k 0 ≡ value_or_none (value_of (update_of calls k (get_or updates.numbers k 0)))
   pub begins : (k : ℕ) → k < component_count → get_or updates.begins k 0 ≡ begin_or_0 (begin_of (update_of calls k (get_or updates.numbers k 0)))
   pub ends : (k : ℕ) → k < component_count → get_or updates.ends k 0 ≡ end_or_never (end_of (update_of calls k (suc (get_or updates.numbers k 0))))
+
+-- those around the view that was looked at last, by its entries
+pub record IsOfEntries (calls : List Call) (updates : ShownAndNext) : Type 0 where
+  pub limit : IsLimit calls updates.limit
+  pub numbers : (k : ℕ) → k < updates.limit → get_or updates.numbers k 0 ≡ number_among updates.entries.now k
+  pub around : AreAround calls updates
   pub latest : (k : ℕ) → k < component_count → get_or updates.begins k 0 ≤ updates.latest
   pub earliest : (k : ℕ) → k < component_count → updates.earliest ≤ get_or updates.ends k 0
+
+-- the first entry, if there is one, is of no component below one
+abbrev pub StartsFrom : ℕ → List Entry → Type 0
+StartsFrom k [] = ⊤
+StartsFrom k (e ∷ es) = k ≤ e.component
+
+-- of all entries those of a component and of the components above it
+pub record AreFrom (k : ℕ) (all left : List Entry) : Type 0 where
+  pub rising : rises left ≡ true
+  pub starts : StartsFrom k left
+  pub numbers : (j : ℕ) → k ≤ j → number_among left j ≡ number_among all j

@@ -26,7 +26,7 @@ returns c = λ es r kept seen a.
     let fits : r.begun ≤ 4294967295 = omega (arith, begun, c.type_inv.view.1.0.1.1.0) in
     let old_is = old_around es kept r c.args.updates.now c.args.k a (omega arith) fits in
     let early_is = early_around es kept r c.args.updates.now c.args.k a (omega arith) ∙ ap (λ z. is_before z (get_or c.args.updates.now.begins c.args.k 0)) ended in
-    let number : get_or c.args.updates.now.numbers c.args.k 0 ≡ shown_number r c.args.k = a.numbers c.args.k (omega arith) in
+    let number : get_or c.args.updates.now.numbers c.args.k 0 ≡ shown_number r c.args.k = a.numbers c.args.k c.requires in
     let told : (side : Side) → ◌≡◌ {A = ProximityFault} (record { view = c.args.view.now.call_number; component = c.args.k; number = get_or c.args.updates.now.numbers c.args.k 0; side = side }) (sided r c.args.k side) = λ side.
     ap (λ n. record { view = n; component = c.args.k; number = get_or c.args.updates.now.numbers c.args.k 0; side = side }) seen.number
     ∙ ap (λ n. record { view = r.number; component = c.args.k; number = n; side = side }) number in

@@ -27,7 +27,7 @@ loop-k-preserved c =
     let es = c.args.index.now in
     let calls = calls_of es in
     let r = view_in calls c.args.place in
-    let below : c.loop-k.k < 256 = omega (arith, c.loop-k-test.true, c.requires.limit.few) in
+    let below : c.loop-k.k < 256 = omega (arith, c.loop-k-test.true, c.requires.updates.limit.few) in
     let at : get_or components c.loop-k.k 0 ≡ c.loop-k.k = omega (arith, get_or-range_with_len 0 256 c.loop-k.k 0 below) in
     next_noted (λ k. reported_proximity calls (r, k)) (λ k. old_fault calls r k || early_fault calls r k) components c.loop-k.k 0 below _ _ _ c.loop-k.invariant c.note-part.ensures
     (c.proximity_fault.ensures es r c.requires.kept c.requires.view c.requires.updates ∙ ap (proximity_at calls r) (sym at))
@@ -46,4 +46,4 @@ pub returns : goal.returns
 returns c =
     let calls = calls_of c.args.index.now in
     let r = view_in calls c.args.place in
-    c.loop-k.invariant ∙ near_rest c.args.index.now c.requires.kept r c.args.limit c.requires.limit (256 - c.loop-k.k) c.loop-k.k (omega (arith, c.loop-k-test.false)) (omega (arith, c.loop-k.auto.k-end, c.requires.limit.few)) ∙ sym (proximity_alone calls r)
+    c.loop-k.invariant ∙ near_rest c.args.index.now c.requires.kept r c.args.updates.now.limit c.requires.updates.limit (256 - c.loop-k.k) c.loop-k.k (omega (arith, c.loop-k-test.false)) (omega (arith, c.loop-k.auto.k-end, c.requires.updates.limit.few)) ∙ sym (proximity_alone calls r)

@@ -1,4 +1,4 @@
-use Rattle.std.proofs.Common.{◌≡◌, ℕ, Option, sym, ap, ◌∙◌, List}
+use Rattle.std.proofs.Common.{◌≡◌, ℕ, ap, ◌∙◌, List}
 use Rattle.std.specs.Prelude.{unwrap_or}
 use Rattle.snap_core.specs.Calls.{Call}
 use Rattle.snap_conditions.specs.declared.fault.ReadFault.{ReadFault}

@@ -1,7 +1,6 @@
 use Rattle.std.proofs.Common.{◌≡◌, suc, ◌+◌, ◌<◌, Some, length, get_or, sym, ap, ◌∙◌, arith}
 use Rattle.snap_core.specs.Calls.{calls_of, shown_number}
 use Rattle.snap_conditions.specs.declared.fault.WriteFault.{WriteFault}
-use Rattle.snap_conditions.specs.PartValue.{PartValue}
 use Rattle.snap_conditions.specs.inside.Places.{end_of}
 use Rattle.snap_theory.specs.Updates.{update_of}
 use Rattle.snap_views.specs.Seen.{view_in}
@@ -11,7 +10,6 @@ use Rattle.std.specs.List.{position_or_len}
 use Rattle.std.proofs.lemmas.List.Sums.{prefix_len-le-length}
 use Rattle.snap_conditions.proofs.Missed.{are_tested, missed_none, missed_some, some_counted, reported_at}
 use Rattle.snap_views.proofs.Sizes.{rising_few}
-use Rattle.snap_conditions.specs.Parts.{noted}
 use Rattle.snap_conditions.proofs.Surrounded.{number_fits}
 use Rattle.snap_conditions.proofs.write.missed_part.Goals as goal
 

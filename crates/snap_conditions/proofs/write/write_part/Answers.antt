@@ -28,14 +28,14 @@ use Rattle.snap_conditions.proofs.write.write_part.Goals as goal
 use Rattle.snap_conditions.proofs.write.write_part.Goals.{then-ended-updates, else-ended-updates}
 
 pub missed_part-requires-clause-number : goal.missed_part-requires-clause-number
-missed_part-requires-clause-number c = c.requires.updates.numbers c.loop-j.j (omega (arith, c.loop-j-test.true, c.requires.limit.few))
+missed_part-requires-clause-number c = c.requires.updates.numbers c.loop-j.j c.loop-j-test.true
 
 pub missed_part-requires-clause-ended : goal.missed_part-requires-clause-ended
 missed_part-requires-clause-ended c =
     let calls = calls_of c.args.index.now in
     let r = view_in calls c.args.place in
-    let below : c.loop-j.j < 256 = omega (arith, c.loop-j-test.true, c.requires.limit.few) in
-    ap (λ n. end_of (update_of calls c.loop-j.j (suc n))) (c.requires.updates.numbers c.loop-j.j below)
+    let below : c.loop-j.j < 256 = omega (arith, c.loop-j-test.true, c.requires.updates.limit.few) in
+    ap (λ n. end_of (update_of calls c.loop-j.j (suc n))) (c.requires.updates.numbers c.loop-j.j c.loop-j-test.true)
     ∙ some_end (end_of (update_of calls c.loop-j.j (suc (shown_number r c.loop-j.j)))) _ (c.requires.updates.ends c.loop-j.j below) (omega (arith, c.if-ended-updates.true, c.fits-updates))
 
 pub missed_part-requires-clause-begins : goal.missed_part-requires-clause-begins
@@ -68,16 +68,16 @@ pub loop-j-preserved : goal.loop-j-preserved
 loop-j-preserved c =
     let calls = calls_of c.args.index.now in
     let r = view_in calls c.args.place in
-    let at : get_or components c.loop-j.j 0 ≡ c.loop-j.j = omega (arith, get_or-range_with_len 0 256 c.loop-j.j 0 (omega (arith, c.loop-j-test.true, c.requires.limit.few))) in
+    let at : get_or components c.loop-j.j 0 ≡ c.loop-j.j = omega (arith, get_or-range_with_len 0 256 c.loop-j.j 0 (omega (arith, c.loop-j-test.true, c.requires.updates.limit.few))) in
     elim c.if-ended-updates.branch [
       | then-ended-updates w ↦
           w.part-is ∙ w.merge-part.ensures ∙ ap (λ p. merged_part p w.missed_part.result) c.loop-j.invariant
           ∙ ap (merged_part (part_of reported_write (flat_map (missed_at calls r) (take c.loop-j.j components)))) (w.missed_part.ensures ∙ ap (λ j. part_of reported_write (missed_at calls r j)) (sym at))
-          ∙ sym (merge_step reported_write (missed_at calls r) components c.loop-j.j 0 (omega (arith, c.loop-j-test.true, c.requires.limit.few)))
+          ∙ sym (merge_step reported_write (missed_at calls r) components c.loop-j.j 0 (omega (arith, c.loop-j-test.true, c.requires.updates.limit.few)))
       | else-ended-updates w ↦
-          let late : c.args.updates.now.latest ≤ end_next calls r c.loop-j.j = omega (arith, w.if-ended-updates.false, c.requires.updates.ends c.loop-j.j (omega (arith, c.loop-j-test.true, c.requires.limit.few))) in
+          let late : c.args.updates.now.latest ≤ end_next calls r c.loop-j.j = omega (arith, w.if-ended-updates.false, c.requires.updates.ends c.loop-j.j (omega (arith, c.loop-j-test.true, c.requires.updates.limit.few))) in
           w.part-is ∙ c.loop-j.invariant
-          ∙ none_step c.args.index.now r c.loop-j.j (omega (arith, c.loop-j-test.true, c.requires.limit.few)) (none_missed_at c.args.index.now c.requires.kept r c.args.updates.now c.loop-j.j c.requires.updates c.requires.view.shape (omega (arith, c.fits-updates)) late)
+          ∙ none_step c.args.index.now r c.loop-j.j (omega (arith, c.loop-j-test.true, c.requires.updates.limit.few)) (none_missed_at c.args.index.now c.requires.kept r c.args.updates.now c.loop-j.j c.requires.updates c.requires.view.shape (omega (arith, c.fits-updates)) late)
     ]
 
 pub returns-then-updates : goal.returns-then-updates
@@ -89,7 +89,7 @@ pub returns : goal.returns
 returns c =
     let calls = calls_of c.args.index.now in
     let r = view_in calls c.args.place in
-    c.loop-j.invariant ∙ missed_rest c.args.index.now c.requires.kept r c.args.limit c.requires.limit (256 - c.loop-j.j) c.loop-j.j (omega (arith, c.loop-j-test.false)) (omega (arith, c.loop-j.auto.j-end, c.requires.limit.few)) ∙ sym (write_alone calls r)
+    c.loop-j.invariant ∙ missed_rest c.args.index.now c.requires.kept r c.args.updates.now.limit c.requires.updates.limit (256 - c.loop-j.j) c.loop-j.j (omega (arith, c.loop-j-test.false)) (omega (arith, c.loop-j.auto.j-end, c.requires.updates.limit.few)) ∙ sym (write_alone calls r)
 
 pub begins_of-begins-requires : goal.begins_of-begins-requires
 begins_of-begins-requires c = omega (arith, ap length c.requires.view.entries, rising_few _ c.requires.view.shape.rising (λ j d l. (c.requires.view.shape.fit j d l).0))

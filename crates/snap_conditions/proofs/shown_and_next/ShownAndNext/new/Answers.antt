@@ -20,14 +20,18 @@ pub returns : goal.returns
 returns c =
     let es = c.args.index.now in
     let calls = calls_of es in
+    let limit = c.component_limit-limit.ensures in
     record {
-      numbers = λ k l. get_or-replicate {A = ℕ} 256 k 0 0 l;
-      values = λ k l. get_or-replicate {A = ℕ} 256 k 4294967296 0 l ∙ sym (ap (λ n. value_or_none (value_of (update_of calls k n))) (get_or-replicate {A = ℕ} 256 k 0 0 l) ∙ ap (λ o. value_or_none (value_of o)) (no_update_0 es c.requires.kept.history k));
-      begins = λ k l. get_or-replicate {A = ℕ} 256 k 0 0 l ∙ sym (ap (λ n. begin_or_0 (begin_of (update_of calls k n))) (get_or-replicate {A = ℕ} 256 k 0 0 l) ∙ ap (λ o. begin_or_0 (begin_of o)) (no_update_0 es c.requires.kept.history k));
-      ends = λ k l. elim (cases_lt k c.args.limit) [
-        | inl b ↦ c.loop-k.invariant.ends k (omega (arith, b, c.loop-k-test.false))
-        | inr b ↦ c.loop-k.invariant.never k (omega (arith, b)) l ∙ sym (ap (λ o. end_or_never (end_of o)) (none_of_none es c.requires.kept k 1 (c.requires.limit.none k (omega (arith, b)) l)))
-      ] ∙ sym (ap (λ n. end_or_never (end_of (update_of calls k (suc n)))) (get_or-replicate {A = ℕ} 256 k 0 0 l));
+      limit = limit;
+      numbers = λ k l. get_or-replicate {A = ℕ} 256 k 0 0 (omega (arith, l, limit.few));
+      around = record {
+        values = λ k l. get_or-replicate {A = ℕ} 256 k 4294967296 0 l ∙ sym (ap (λ n. value_or_none (value_of (update_of calls k n))) (get_or-replicate {A = ℕ} 256 k 0 0 l) ∙ ap (λ o. value_or_none (value_of o)) (no_update_0 es c.requires.history k));
+        begins = λ k l. get_or-replicate {A = ℕ} 256 k 0 0 l ∙ sym (ap (λ n. begin_or_0 (begin_of (update_of calls k n))) (get_or-replicate {A = ℕ} 256 k 0 0 l) ∙ ap (λ o. begin_or_0 (begin_of o)) (no_update_0 es c.requires.history k));
+        ends = λ k l. elim (cases_lt k c.component_limit-limit.result) [
+          | inl b ↦ c.loop-k.invariant.ends k (omega (arith, b, c.loop-k-test.false))
+          | inr b ↦ c.loop-k.invariant.never k (omega (arith, b)) l ∙ sym (ap (λ o. end_or_never (end_of o)) (none_of_none es c.requires k 1 (limit.none k (omega (arith, b)) l)))
+        ] ∙ sym (ap (λ n. end_or_never (end_of (update_of calls k (suc n)))) (get_or-replicate {A = ℕ} 256 k 0 0 l));
+      };
       latest = λ k l. omega (arith, get_or-replicate {A = ℕ} 256 k 0 0 l);
       earliest = λ k l. c.earliest_of-earliest.ensures.places k (omega (arith, l, c.loop-k.invariant.size));
     }
