@@ -1,6 +1,6 @@
 //! Histories in plain texts. Without quotes and carriage returns a record is a line and a field ends at a comma, so that such a
 //! text is cut by a search for these two marks. Any other text is read byte by byte, by `csv`.
-ghost use Rattle.std.specs.Prelude.{◌≡◌, ◌≢◌, ◌↔◌, ◌<◌, ◌≤◌, ◌+◌, take, drop, ◌∷◌, ◌++◌, [], List, ℕ, true, All, IsTrue, MatchOption, get_or, length};
+ghost use Rattle.std.specs.Prelude.{◌≡◌, ◌≢◌, ◌↔◌, ◌<◌, ◌≤◌, ◌+◌, ◌-◌, take, drop, ◌∷◌, ◌++◌, [], List, ℕ, true, All, IfSome, IsTrue, MatchOption, get_or, length};
 ghost use Rattle.snap_csv.specs.inside.Answers.{AnswersNumbered, AnswersStamps, ReadsStamped};
 ghost use Rattle.csv.specs.Reading.{strip_bom};
 ghost use Rattle.snap_csv.specs.Layout.{is_header_row, is_stamped_header_row};
@@ -44,7 +44,6 @@ fn before_mark(text: &[u8], from: usize, mark: u8) -> u32
 }
 
 // How many bytes the field has that a text begins with. So many at its front are inside it.
-#[inline(never)]
 fn field_size_from(text: &[u8], from: usize) -> usize
     requires from { from ≤ length text.now }
     requires inner { All IsInner (take from text.now) }
@@ -102,6 +101,61 @@ fn field_and_comma(text: &[u8]) -> Option<(&[u8], &[u8])>
     }
 }
 
+// The field that a text begins with, where this and its comma are a word, and what is behind the comma.
+#[inline(always)]
+fn word_and_comma<'t>(text: &'t [u8], word: &[u8]) -> Option<(&'t [u8], &'t [u8])>
+    requires comma { (0 < length word.now) × (get_or word.now (length word.now - 1) 0 ≡ 44) }
+    requires inner { All IsInner (take (length word.now - 1) word.now) }
+    ensures { IfSome result (λ x. FieldGoesOn x.0.now x.1.now text.now) }
+{
+    if text.starts_with(word) {
+        Some((&text[..word.len() - 1], &text[word.len()..]))
+    } else {
+        None
+    }
+}
+
+// As `field_and_comma`, where the field and its comma are mostly one of two words.
+#[inline(always)]
+fn either_and_comma<'t>(text: &'t [u8], one: &[u8], other: &[u8]) -> Option<(&'t [u8], &'t [u8])>
+    requires one { (0 < length one.now) × (get_or one.now (length one.now - 1) 0 ≡ 44) × All IsInner (take (length one.now - 1) one.now) }
+    requires other { (0 < length other.now) × (get_or other.now (length other.now - 1) 0 ≡ 44) × All IsInner (take (length other.now - 1) other.now) }
+    ensures { MatchOption result ((f : List ℕ) × (rest : List ℕ) × FieldIsLast f rest text.now) (λ x. FieldGoesOn x.0.now x.1.now text.now) }
+{
+    if let Some(found) = word_and_comma(text, one) {
+        return Some(found);
+    }
+    if let Some(found) = word_and_comma(text, other) {
+        return Some(found);
+    }
+    field_and_comma(text)
+}
+
+// How many digits a text begins with.
+#[inline(always)]
+fn digits(text: &[u8]) -> usize
+    ensures within { result ≤ length text.now }
+    ensures inner { All IsInner (take result text.now) }
+{
+    let mut count = 0;
+    while count < text.len() && text[count].is_ascii_digit() {
+        count += 1;
+    }
+    count
+}
+
+// As `field_and_comma`, where the field is mostly a number.
+#[inline(always)]
+fn number_and_comma(text: &[u8]) -> Option<(&[u8], &[u8])>
+    ensures { MatchOption result ((f : List ℕ) × (rest : List ℕ) × FieldIsLast f rest text.now) (λ x. FieldGoesOn x.0.now x.1.now text.now) }
+{
+    let (number, behind) = text.split_at(digits(text));
+    match behind.split_first() {
+        Some((mark, rest)) if *mark == b',' => Some((number, rest)),
+        _ => field_and_comma(text),
+    }
+}
+
 // The field that a text begins with, where its line ends there, and the lines behind it.
 #[inline(always)]
 fn last_field(text: &[u8]) -> Option<(&[u8], &[u8])>
@@ -124,9 +178,9 @@ fn last_field(text: &[u8]) -> Option<(&[u8], &[u8])>
 fn four_first(text: &[u8]) -> Option<((&[u8], &[u8], &[u8], &[u8]), &[u8])>
     ensures { MatchOption result (EndsWithOthers 4 text.now) (λ x. EndsWith (x.0.0.now ∷ x.0.1.now ∷ x.0.2.now ∷ x.0.3.now ∷ []) x.1.now text.now) }
 {
-    let (event, rest) = field_and_comma(text)?;
-    let (process, rest) = field_and_comma(rest)?;
-    let (op, rest) = field_and_comma(rest)?;
+    let (event, rest) = either_and_comma(text, b"begin,", b"end,")?;
+    let (process, rest) = number_and_comma(rest)?;
+    let (op, rest) = either_and_comma(rest, b"view,", b"update,")?;
     let (data, rest) = last_field(rest)?;
     Some(((event, process, op, data), rest))
 }
@@ -135,7 +189,7 @@ fn four_first(text: &[u8]) -> Option<((&[u8], &[u8], &[u8], &[u8]), &[u8])>
 fn five_first(text: &[u8]) -> Option<((&[u8], &[u8], &[u8], &[u8], &[u8]), &[u8])>
     ensures { MatchOption result (EndsWithOthers 5 text.now) (λ x. EndsWith (x.0.0.now ∷ x.0.1.now ∷ x.0.2.now ∷ x.0.3.now ∷ x.0.4.now ∷ []) x.1.now text.now) }
 {
-    let (at, rest) = field_and_comma(text)?;
+    let (at, rest) = number_and_comma(text)?;
     let ((event, process, op, data), rest) = four_first(rest)?;
     Some(((at, event, process, op, data), rest))
 }
