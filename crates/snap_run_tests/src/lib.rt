@@ -3,6 +3,8 @@
 #![tactic(auto)]
 
 #[cfg(test)]
+mod check_jobs;
+#[cfg(test)]
 mod checks;
 #[cfg(test)]
 mod devices;
@@ -21,7 +23,11 @@ mod options;
 #[cfg(test)]
 mod pace;
 #[cfg(test)]
+mod record_jobs;
+#[cfg(test)]
 mod recordings;
+#[cfg(test)]
+mod refused_words;
 #[cfg(test)]
 mod reports;
 #[cfg(test)]

@@ -1,4 +1,11 @@
-//! When verdicts have colours.
+//! When verdicts have colours, and the word that says so.
+ghost use Rattle.std.specs.Prelude.{◌≡◌, Some, codes};
+ghost use Rattle.clap.specs.Words.{first_of, found_of, rows_of};
+ghost use Rattle.snap_words.specs.Jobs.{color_text};
+ghost use Rattle.snap_words.specs.declared.color.Color.{Color};
+
+use clap::ArgMatches;
+
 /// When the verdicts of reports have colours.
 #[derive(Clone, Copy, Debug, PartialEq, Eq)]
 pub enum Color {
@@ -8,4 +15,20 @@ pub enum Color {
     Always,
     /// Never.
     Never,
+}
+
+/// When verdicts are to have colours; none where the word is not known.
+pub(crate) fn color_in(matches: &ArgMatches<'_>) -> Option<Color>
+    ensures given { (color : Color) → first_of (codes "color") (rows_of (found_of matches.now)) ≡ Some (color_text color) → result ≡ Some color }
+{
+    let word = matches.get_str("color")?;
+    if word == "auto" {
+        Some(Color::Auto)
+    } else if word == "always" {
+        Some(Color::Always)
+    } else if word == "never" {
+        Some(Color::Never)
+    } else {
+        None
+    }
 }

@@ -4,7 +4,7 @@ ghost use Rattle.clap.specs.Words.{found_of, rows_of};
 ghost use Rattle.snap_words.specs.Drawing.{AsksDrawWithin};
 ghost use Rattle.snap_words.specs.declared.drawing.Form.{Form};
 
-use crate::job::flag_in;
+use crate::option_values::flag_in;
 use clap::ArgMatches;
 
 /// The form of a picture.

@@ -4,12 +4,17 @@
 mod check_command;
 mod color;
 mod command;
+mod command_jobs;
 mod draw_command;
 mod drawing;
 mod explain_command;
+mod files;
 mod job;
 mod lines;
+mod option_values;
+mod ranges;
 mod record_command;
+mod refusals;
 mod shrink_command;
 mod sources;
 mod word;

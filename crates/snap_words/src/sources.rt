@@ -3,7 +3,7 @@ ghost use Rattle.std.specs.Prelude.{◌≡◌, List, Option, Some, IfOk, option_
 ghost use Rattle.clap.specs.Words.{Row, Text, first_of, found_of, rows_of, subcommand_rows_of};
 ghost use Rattle.snap_words.specs.Sources.{AreSourcesIn};
 
-use crate::job::flag_in;
+use crate::option_values::flag_in;
 use clap::ArgMatches;
 use std::alloc::{AllocError, Global};
 

@@ -1,6 +1,7 @@
 //! The names that a check takes from a list and from below a folder.
+use crate::Failure;
+use crate::files::open_named;
 use crate::words::{Places, inputs_in};
-use crate::{Failure, open_named};
 use snap_core::Counted;
 use snap_files::reason_line;
 use snap_names::{NamesFault, SystemFolders, names_below, read_names};

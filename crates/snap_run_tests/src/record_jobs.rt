@@ -1,0 +1,84 @@
+//! The recordings that words ask for.
+use crate::jobs::job_on;
+use snap_words::Job;
+use std::alloc::Global;
+use std::test::Fail;
+
+// Whether a recording is judged, scans, and has stamps.
+type Flags = (bool, bool, bool);
+
+const NO_FLAGS: Flags = (false, false, false);
+
+// The workers and rounds of the recording that each line asks for, and its flags.
+const RECORDS: &[(&str, u32, u32, Flags)] = &[
+    ("snapjudge record", 2, 16, NO_FLAGS),
+    (
+        "snapjudge record --rounds 5 --judge",
+        2,
+        5,
+        (true, false, false),
+    ),
+    (
+        "snapjudge record --workers 2 --rounds=2048",
+        2,
+        2048,
+        NO_FLAGS,
+    ),
+    ("snapjudge record --workers 3 --rounds 1", 3, 1, NO_FLAGS),
+    (
+        "snapjudge record --rounds 512 --workers=8",
+        8,
+        512,
+        NO_FLAGS,
+    ),
+    (
+        "snapjudge record --judge --rounds 1",
+        2,
+        1,
+        (true, false, false),
+    ),
+    ("snapjudge record --scan", 2, 16, (false, true, false)),
+    (
+        "snapjudge record --scan --rounds 3 --judge",
+        2,
+        3,
+        (true, true, false),
+    ),
+    ("snapjudge record --stamped", 2, 16, (false, false, true)),
+    (
+        "snapjudge record --stamped --rounds 7 --scan",
+        2,
+        7,
+        (false, true, true),
+    ),
+    (
+        "snapjudge record --events 1048576 --rounds 32768",
+        2,
+        32768,
+        NO_FLAGS,
+    ),
+    ("snapjudge record --events 32 --rounds 1", 2, 1, NO_FLAGS),
+];
+
+// The workers, the rounds and the flags of the recording that a line asks for.
+fn record_of(alloc: Global, line: &str) -> Result<(u32, u32, Flags), Fail> {
+    match job_on(alloc, line, &[])? {
+        Job::Record {
+            workers,
+            rounds,
+            judge,
+            scan,
+            stamped,
+        } => Ok((workers, rounds, (judge, scan, stamped))),
+        _ => Err(Fail::from(line)),
+    }
+}
+
+#[test]
+fn record_takes_workers_rounds_and_flags(rt: HostRuntime) -> Result<(), Fail> {
+    for (line, workers, rounds, flags) in RECORDS {
+        let found = record_of(rt.alloc(), line)?;
+        assert_eq!(rt; found, (*workers, *rounds, *flags), "{line}");
+    }
+    Ok(())
+}

@@ -1,0 +1,131 @@
+//! Words that ask for no job, and what is said of them.
+use crate::jobs::words;
+use snap_words::{JobFault, job_of};
+use std::alloc::{AllocError, Global};
+use std::test::Fail;
+
+// Lines that get the usage.
+const OTHER_LINES: &[&str] = &[
+    "snapjudge",
+    "snapjudge judge",
+    "snapjudge check --pieces 0",
+    "snapjudge check --pieces 1025",
+    "snapjudge check --pieces x",
+    "snapjudge check --pieces",
+    "snapjudge check --workers 0",
+    "snapjudge check --workers 9",
+    "snapjudge check --rounds 3",
+    "snapjudge record --workers 1",
+    "snapjudge record --workers 9",
+    "snapjudge record --rounds 0",
+    "snapjudge record --rounds 2049",
+    "snapjudge record --rounds 2048 --events 65535",
+    "snapjudge record --rounds 1 --events 31",
+    "snapjudge record --rounds 32769 --events 1048576",
+    "snapjudge record --events 0",
+    "snapjudge record --events 1048577",
+    "snapjudge record a.csv",
+    "snapjudge record --pieces 8",
+    "snapjudge record --judge=yes",
+    "snapjudge record --scan=64",
+    "snapjudge record --judge --stamped",
+    "snapjudge record --stamped --rounds 3 --judge",
+    "snapjudge record --stamped=yes",
+    "snapjudge check --stamped",
+    "snapjudge check --scan",
+    "snapjudge check --views",
+    "snapjudge check --views 32769",
+    "snapjudge check --views 3 --events 5",
+    "snapjudge check --events 0",
+    "snapjudge check --events 1048577",
+    "snapjudge check --events",
+    "snapjudge shrink --events 0",
+    "snapjudge explain --events x",
+    "snapjudge draw --events 1048577",
+    "snapjudge check --views -1",
+    "snapjudge check --quiet=yes",
+    "snapjudge check --format",
+    "snapjudge check --format xml",
+    "snapjudge check --format JSON",
+    "snapjudge check --format json --quiet",
+    "snapjudge check --quiet --format=json",
+    "snapjudge check --format json --format plain",
+    "snapjudge explain --format json",
+    "snapjudge shrink a.csv b.csv",
+    "snapjudge shrink --quiet",
+    "snapjudge explain a.csv b.csv",
+    "snapjudge explain --quiet",
+    "snapjudge record --quiet",
+    "snapjudge record --views 3",
+    "snapjudge --help",
+    "snapjudge check --help",
+    "snapjudge record --help",
+    "snapjudge shrink --help",
+    "snapjudge explain --help",
+    "snapjudge draw a.csv b.csv",
+    "snapjudge draw --quiet",
+    "snapjudge draw --svg=yes",
+    "snapjudge draw --text=yes",
+    "snapjudge draw --svg --text",
+    "snapjudge draw --text a.csv --svg",
+    "snapjudge draw --draw",
+    "snapjudge shrink --text",
+    "snapjudge explain --svg",
+    "snapjudge check --draw",
+    "snapjudge draw --help",
+];
+
+// Whether a line gets a text on the usage.
+fn gets_usage(alloc: Global, line: &str) -> Result<bool, AllocError> {
+    match job_of(alloc, words(alloc, line)?) {
+        Err(JobFault::Usage(text)) => Ok(!text.is_empty()),
+        _ => Ok(false),
+    }
+}
+
+#[test]
+fn other_words_get_the_usage(rt: HostRuntime) -> Result<(), Fail> {
+    for line in OTHER_LINES {
+        if !gets_usage(rt.alloc(), line)? {
+            return Err(Fail::from(*line));
+        }
+    }
+    Ok(())
+}
+
+// Lines with a number beyond the limit of events, and what is said of it: as of a number that the parser refuses.
+const BEYOND: &[(&str, &str)] = &[
+    (
+        "snapjudge record --rounds 2049",
+        "error: invalid value '2049' for '--rounds <R>': 2049 is not in 1..=2048\n\nFor more information, try '--help'.\n",
+    ),
+    (
+        "snapjudge record --rounds 0",
+        "error: invalid value '0' for '--rounds <R>': 0 is not in 1..=2048\n\nFor more information, try '--help'.\n",
+    ),
+    (
+        "snapjudge record --events 1048576 --rounds 32769",
+        "error: invalid value '32769' for '--rounds <R>': 32769 is not in 1..=32768\n\nFor more information, try '--help'.\n",
+    ),
+    (
+        "snapjudge check --views 32769",
+        "error: invalid value '32769' for '--views <N>': 32769 is not in 0..=32768\n\nFor more information, try '--help'.\n",
+    ),
+    (
+        "snapjudge check --events 7 --views 4",
+        "error: invalid value '4' for '--views <N>': 4 is not in 0..=3\n\nFor more information, try '--help'.\n",
+    ),
+];
+
+#[test]
+fn a_number_beyond_the_limit_of_events_is_refused_as_the_parser_does(
+    rt: HostRuntime,
+) -> Result<(), Fail> {
+    for (line, text) in BEYOND {
+        match job_of(rt.alloc(), words(rt.alloc(), line)?) {
+            Err(JobFault::Usage(said)) => assert_eq!(rt; said.as_str(), *text),
+            _ => return Err(Fail::from(*line)),
+        }
+    }
+    Ok(())
+}

@@ -1,0 +1,138 @@
+//! The job that each command asks for by its options.
+ghost use Rattle.std.specs.Prelude.{◌≡◌, ℕ, Bool, List, Some, codes, IfSome, IsSomeAnd};
+ghost use Rattle.clap.specs.Words.{Row, found_of, rows_of, subcommand_rows_of};
+ghost use Rattle.snap_words.specs.Drawing.{AsksDrawWithin};
+ghost use Rattle.snap_words.specs.Jobs.{AsksCheck, AsksPictureWithin, AsksRecordWithin, Flags, IsCheckWith, IsDraw, IsExplain, IsInRange, IsRecord, IsShrink};
+
+use crate::color::color_in;
+use crate::drawing::{Form, form_in};
+use crate::job::{Job, Options};
+use crate::option_values::{events_in, flag_in, json_in, number_in};
+use crate::ranges::{are_rounds, are_views, is_limit, is_one_form};
+use clap::ArgMatches;
+use snap_record::{LEAST_WORKERS, WORKER_LIMIT};
+use snap_threads::Cutting;
+
+// The options of `check` besides its cutting.
+fn options_in(matches: &ArgMatches<'_>) -> Option<Options>
+    ensures { (pieces workers : ℕ) (options : Options) → AsksCheck (rows_of (found_of matches.now)) pieces workers options → result ≡ Some options }
+{
+    let quiet = flag_in(matches, "quiet");
+    let views = number_in(matches, "views")?;
+    let events = number_in(matches, "events")?;
+    let json = json_in(matches)?;
+    let summary = flag_in(matches, "summary");
+    let no_progress = flag_in(matches, "no-progress");
+    let color = color_in(matches)?;
+    Some(Options {
+        quiet,
+        views,
+        events,
+        json,
+        summary,
+        no_progress,
+        color,
+    })
+}
+
+// The check that the options of `check` ask for.
+fn check_in(matches: &ArgMatches<'_>) -> Option<Job>
+    ensures job { IfSome result IsInRange }
+    ensures asked { (pieces workers : ℕ) (options : Options) → AsksCheck (rows_of (found_of matches.now)) pieces workers options → IsSomeAnd result (IsCheckWith pieces workers options) }
+{
+    let pieces = number_in(matches, "pieces")?;
+    let workers = number_in(matches, "workers")?;
+    let options = options_in(matches)?;
+    if !is_limit(options.events)
+        || !are_views(options.events, options.views)
+        || !is_one_form(options)
+    {
+        return None;
+    }
+    let cutting = Cutting::new(pieces, workers).ok()?;
+    Some(Job::Check { cutting, options })
+}
+
+// The recording that the options of `record` ask for.
+fn record_in(matches: &ArgMatches<'_>) -> Option<Job>
+    ensures job { IfSome result IsInRange }
+    ensures asked { (events workers rounds : ℕ) (flags : Flags) → AsksRecordWithin events (rows_of (found_of matches.now)) workers rounds flags → IsSomeAnd result (IsRecord workers rounds flags) }
+{
+    let events = events_in(matches)?;
+    let workers = number_in(matches, "workers")?;
+    let rounds = number_in(matches, "rounds")?;
+    let judge = flag_in(matches, "judge");
+    let scan = flag_in(matches, "scan");
+    let stamped = flag_in(matches, "stamped");
+    if judge && stamped {
+        return None;
+    }
+    if !(LEAST_WORKERS..=WORKER_LIMIT).contains(&workers) || !are_rounds(events, rounds) {
+        return None;
+    }
+    Some(Job::Record {
+        workers,
+        rounds,
+        judge,
+        scan,
+        stamped,
+    })
+}
+
+// The drawing that the options of `draw` ask for.
+fn draw_in(matches: &ArgMatches<'_>) -> Option<Job>
+    ensures job { IfSome result IsInRange }
+    ensures asked { (events : ℕ) (form : Form) → AsksDrawWithin events (rows_of (found_of matches.now)) form → IsSomeAnd result (IsDraw events form) }
+{
+    let form = form_in(matches)?;
+    let events = events_in(matches)?;
+    Some(Job::Draw { form, events })
+}
+
+// The witness that the options of `shrink` ask for.
+fn shrink_in(matches: &ArgMatches<'_>) -> Option<Job>
+    ensures job { IfSome result IsInRange }
+    ensures asked { (events : ℕ) (drawn : Bool) → AsksPictureWithin events drawn (rows_of (found_of matches.now)) → IsSomeAnd result (IsShrink events drawn) }
+{
+    let drawn = flag_in(matches, "draw");
+    let events = events_in(matches)?;
+    Some(Job::Shrink { drawn, events })
+}
+
+// The explanation that the options of `explain` ask for.
+fn explain_in(matches: &ArgMatches<'_>) -> Option<Job>
+    ensures job { IfSome result IsInRange }
+    ensures asked { (events : ℕ) (drawn : Bool) → AsksPictureWithin events drawn (rows_of (found_of matches.now)) → IsSomeAnd result (IsExplain events drawn) }
+{
+    let drawn = flag_in(matches, "draw");
+    let events = events_in(matches)?;
+    Some(Job::Explain { drawn, events })
+}
+
+/// The job that the words ask for, where each number is there and in its range.
+pub(crate) fn job_in(matches: &ArgMatches<'_>) -> Option<Job>
+    ensures job { IfSome result IsInRange }
+    ensures check { (rows : List Row) (pieces workers : ℕ) (options : Options) → subcommand_rows_of matches.now ≡ Some (codes "check", rows)
+        → AsksCheck rows pieces workers options → IsSomeAnd result (IsCheckWith pieces workers options) }
+    ensures shrink { (rows : List Row) (events : ℕ) (drawn : Bool) → subcommand_rows_of matches.now ≡ Some (codes "shrink", rows)
+        → AsksPictureWithin events drawn rows → IsSomeAnd result (IsShrink events drawn) }
+    ensures explain { (rows : List Row) (events : ℕ) (drawn : Bool) → subcommand_rows_of matches.now ≡ Some (codes "explain", rows)
+        → AsksPictureWithin events drawn rows → IsSomeAnd result (IsExplain events drawn) }
+    ensures draw { (rows : List Row) (events : ℕ) (form : Form) → subcommand_rows_of matches.now ≡ Some (codes "draw", rows)
+        → AsksDrawWithin events rows form → IsSomeAnd result (IsDraw events form) }
+    ensures recording { (rows : List Row) (events workers rounds : ℕ) (flags : Flags) → subcommand_rows_of matches.now ≡ Some (codes "record", rows)
+        → AsksRecordWithin events rows workers rounds flags → IsSomeAnd result (IsRecord workers rounds flags) }
+{
+    let (name, inner) = matches.subcommand()?;
+    if name == "check" {
+        check_in(inner)
+    } else if name == "shrink" {
+        shrink_in(inner)
+    } else if name == "explain" {
+        explain_in(inner)
+    } else if name == "draw" {
+        draw_in(inner)
+    } else {
+        record_in(inner)
+    }
+}

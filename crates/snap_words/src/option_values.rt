@@ -1,0 +1,50 @@
+//! What the options of a command say.
+ghost use Rattle.std.specs.Prelude.{◌≡◌, ◌<◌, ◌^◌, ℕ, Bool, Some, None, false, codes, decimal, IfSome};
+ghost use Rattle.clap.specs.Words.{first_of, found_of, one_of, rows_of};
+ghost use Rattle.snap_core.specs.Limits.{IsLimit};
+ghost use Rattle.snap_words.specs.Jobs.{AsksLimit, flag_text, format_text};
+
+use crate::ranges::is_limit;
+use clap::ArgMatches;
+
+/// The number that an option has.
+pub(crate) fn number_in(matches: &ArgMatches<'_>, id: &str) -> Option<u32>
+    ensures given { (n : ℕ) → n < 2 ^ 32 → one_of id.now (rows_of (found_of matches.now)) ≡ Some (decimal n) → result ≡ Some n }
+    ensures absent { one_of id.now (rows_of (found_of matches.now)) ≡ None → result ≡ None }
+{
+    matches.get_one::<u32>(id)
+}
+
+/// Whether a flag was given.
+pub(crate) fn flag_in(matches: &ArgMatches<'_>, id: &str) -> bool
+    ensures given { (flag : Bool) → one_of id.now (rows_of (found_of matches.now)) ≡ Some (flag_text flag) → result ≡ flag }
+    ensures absent { one_of id.now (rows_of (found_of matches.now)) ≡ None → result ≡ false }
+{
+    matches.get_flag(id)
+}
+
+/// Whether a JSON object is asked for; none where the word is no format.
+pub(crate) fn json_in(matches: &ArgMatches<'_>) -> Option<bool>
+    ensures given { (json : Bool) → first_of (codes "format") (rows_of (found_of matches.now)) ≡ Some (format_text json) → result ≡ Some json }
+{
+    let word = matches.get_str("format")?;
+    if word == "json" {
+        Some(true)
+    } else if word == "plain" {
+        Some(false)
+    } else {
+        None
+    }
+}
+
+/// The limit of events that is asked for.
+pub(crate) fn events_in(matches: &ArgMatches<'_>) -> Option<u32>
+    ensures limit { IfSome result IsLimit }
+    ensures asked { (events : ℕ) → AsksLimit events (rows_of (found_of matches.now)) → result ≡ Some events }
+{
+    let events = number_in(matches, "events")?;
+    if !is_limit(events) {
+        return None;
+    }
+    Some(events)
+}

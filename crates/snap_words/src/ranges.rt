@@ -1,0 +1,44 @@
+//! Which numbers are in their ranges, and which options go together.
+ghost use Rattle.std.specs.Prelude.{◌≡◌, true};
+ghost use Rattle.snap_core.specs.Limits.{IsLimit};
+ghost use Rattle.snap_words.specs.Jobs.{AreRoundsWithin, AreViews, IsOneForm};
+
+use crate::job::Options;
+use snap_core::EVENT_CAP;
+use snap_record::WORKER_LIMIT;
+
+/// Whether there is such a limit of events.
+pub(crate) fn is_limit(events: u32) -> bool
+    ensures one { result ≡ true → IsLimit events }
+    ensures asked { IsLimit events → result ≡ true }
+{
+    1 <= events && events <= EVENT_CAP as u32
+}
+
+/// Whether a history of so many events can have so many completed views.
+pub(crate) fn are_views(events: u32, views: u32) -> bool
+    ensures one { result ≡ true → AreViews events views }
+    ensures asked { AreViews events views → result ≡ true }
+{
+    2 * u64::from(views) <= u64::from(events)
+}
+
+/// Whether a recording of so many events may have so many rounds, of two calls of each worker.
+pub(crate) fn are_rounds(events: u32, rounds: u32) -> bool
+    ensures one { result ≡ true → AreRoundsWithin events rounds }
+    ensures asked { AreRoundsWithin events rounds → result ≡ true }
+{
+    0 < rounds && u64::from(4 * WORKER_LIMIT) * u64::from(rounds) <= u64::from(events)
+}
+
+/// Whether one form of answer is asked for.
+pub(crate) fn is_one_form(options: Options) -> bool
+    ensures one { result ≡ true → IsOneForm options }
+    ensures asked { IsOneForm options → result ≡ true }
+{
+    if options.summary {
+        !options.quiet && !options.json
+    } else {
+        !(options.quiet && options.json)
+    }
+}

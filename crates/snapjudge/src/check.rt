@@ -1,0 +1,140 @@
+//! The checks of one text and of several files.
+ghost use Rattle.snap_core.specs.Limits.{IsLimit};
+
+use crate::Failure;
+use crate::files::{open_only, system};
+use crate::options::{file_options, limit_of};
+use crate::shown::{in_colors, progress_of};
+use snap_check::{CheckOptions, RunFault, Status, check_run_with};
+use snap_core::{Counted, OpenGate};
+use snap_files::{check_all, sum_all};
+use snap_terminal::{Cleared, Painted, Watched};
+use snap_threads::Cutting;
+use snap_words::Options;
+use std::io::{Read, Write};
+use std::thread::Threads;
+
+// The check of one text. That a history has too few views is said.
+fn check_text<Rt: Threads + Sync, R: Read + Drop, W: Write>(
+    rt: &Rt,
+    host: &HostRuntime,
+    text: R,
+    writer: &mut Counted<W>,
+    cutting: Cutting,
+    options: CheckOptions,
+) -> Result<Status, RunFault> {
+    let mut reader = Counted::new(text);
+    match check_run_with(
+        rt,
+        host.alloc(),
+        &mut reader,
+        writer,
+        cutting,
+        &OpenGate,
+        options,
+    )? {
+        Some(status) => Ok(status),
+        None => {
+            let _ = eprintln!(host; "refused: fewer than {} views", options.views);
+            Ok(Status::Refused)
+        }
+    }
+}
+
+// Whether the answers of a check have the names of their texts: objects and sums always do, and a report beside others.
+fn has_names(files: &[Vec<u8>], asked: Options) -> bool {
+    asked.json || asked.summary || files.len() > 1
+}
+
+// The check of some files, or of standard input where there is none, with their names in the answers or in the sums.
+fn check_files<Rt: Threads + Sync>(
+    rt: &Rt,
+    host: &HostRuntime,
+    files: &[Vec<u8>],
+    cutting: Cutting,
+    asked: Options,
+) -> Result<u8, RunFault>
+    requires { IsLimit asked.events }
+{
+    let input = [Vec::from_slice(host.alloc(), b"-")?];
+    let names = if files.is_empty() { &input } else { files };
+    check_names(rt, host, names, cutting, asked)
+}
+
+/// The check of some names, with the name in each answer or in the sums.
+pub(crate) fn check_names<Rt: Threads + Sync>(
+    rt: &Rt,
+    host: &HostRuntime,
+    names: &[Vec<u8>],
+    cutting: Cutting,
+    asked: Options,
+) -> Result<u8, RunFault>
+    requires { IsLimit asked.events }
+{
+    let alloc = host.alloc();
+    let line = progress_of(host, names.len(), asked);
+    let progress = line.as_ref();
+    let opener = Watched {
+        opener: system(host),
+        progress,
+    };
+    let answers = Cleared {
+        inner: host.stdout(),
+        progress,
+    };
+    let mut writer = Counted::new(Painted::new(answers, in_colors(host, asked)));
+    let mut errors = Counted::new(Cleared {
+        inner: host.stderr(),
+        progress,
+    });
+    let result = if asked.summary {
+        sum_all(
+            rt,
+            alloc,
+            &opener,
+            names,
+            &mut writer,
+            &mut errors,
+            cutting,
+            &OpenGate,
+            limit_of(asked.events),
+            asked.views,
+        )
+    } else {
+        check_all(
+            rt,
+            alloc,
+            &opener,
+            names,
+            &mut writer,
+            &mut errors,
+            cutting,
+            &OpenGate,
+            file_options(asked),
+        )
+    };
+    if let Some(progress) = progress {
+        progress.clear();
+    }
+    result
+}
+
+/// The check of some files, or of standard input where there is none.
+pub(crate) fn check<Rt: Threads + Sync>(
+    rt: &Rt,
+    host: &HostRuntime,
+    files: &[Vec<u8>],
+    cutting: Cutting,
+    asked: Options,
+) -> Result<u8, Failure>
+    requires { IsLimit asked.events }
+{
+    if has_names(files, asked) {
+        return Ok(check_files(rt, host, files, cutting, asked)?);
+    }
+    let text = open_only(host, files)?;
+    let painted = Painted::new(host.stdout(), in_colors(host, asked));
+    let mut writer = Counted::new(painted);
+    let options = file_options(asked).check;
+    Ok(check_text(rt, host, text, &mut writer, cutting, options)?.code())
+}

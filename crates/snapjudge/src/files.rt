@@ -1,0 +1,35 @@
+//! What opens the files that are named.
+use crate::Failure;
+use snap_core::Counted;
+use snap_files::{Opener, System, SystemText, trouble_line};
+use std::fs::File;
+
+/// What opens the files.
+pub(crate) fn system(rt: &HostRuntime) -> System<'_, HostRuntime> {
+    System {
+        files: rt,
+        input: rt.stdin(),
+    }
+}
+
+/// The text of the only file, or of standard input where there is none. Why it can't be opened is said.
+pub(crate) fn open_only(rt: &HostRuntime, files: &[Vec<u8>]) -> Result<SystemText<File>, Failure> {
+    match files.first() {
+        Some(name) => open_named(rt, name),
+        None => open_named(rt, b"-"),
+    }
+}
+
+/// The text of a name. Why it can't be opened is said.
+pub(crate) fn open_named(rt: &HostRuntime, name: &[u8]) -> Result<SystemText<File>, Failure> {
+    match system(rt).open(name) {
+        Ok(text) => Ok(text),
+        Err(trouble) => {
+            let mut errors = Counted::new(rt.stderr());
+            if let Ok(line) = trouble_line(rt.alloc(), name, trouble) {
+                let _ = errors.send(&line);
+            }
+            Err(Failure::Unopened)
+        }
+    }
+}

@@ -1,0 +1,39 @@
+//! The limit of events, and what the options of a check mean for each file.
+ghost use Rattle.std.specs.Prelude.{◌≡◌, MatchBool};
+ghost use Rattle.snap_core.specs.Limits.{IsLimit};
+
+use snap_check::CheckOptions;
+use snap_core::Limit;
+use snap_files::{FileOptions, Format};
+use snap_words::Options;
+
+/// The limit of so many events.
+pub(crate) fn limit_of(events: u32) -> Limit
+    requires { IsLimit events }
+    ensures { result.events ≡ events }
+{
+    let Some(limit) = Limit::new(events) else {
+        unreachable!()
+    };
+    limit
+}
+
+/// The check of each file that a check of these options asks for.
+pub(crate) fn file_options(asked: Options) -> FileOptions
+    requires { IsLimit asked.events }
+    ensures format { MatchBool asked.json (result.format ≡ Format.Json) (result.format ≡ Format.Plain) }
+    ensures check { (result.check.quiet ≡ asked.quiet) × (result.check.views ≡ asked.views) × (result.check.limit.events ≡ asked.events) }
+{
+    FileOptions {
+        format: if asked.json {
+            Format::Json
+        } else {
+            Format::Plain
+        },
+        check: CheckOptions {
+            quiet: asked.quiet,
+            views: asked.views,
+            limit: limit_of(asked.events),
+        },
+    }
+}
