@@ -12,7 +12,7 @@ use Rattle.snap_core.specs.declared.entry.Entry.{Entry}
 use Rattle.snap_core.specs.declared.event.Event.{Event}
 use Rattle.snap_core.specs.declared.event.Event.TheVariants.{BeginUpdate, BeginView, EndUpdate, EndView}
 use Rattle.snap_core.specs.Events.{event_cap}
-use Rattle.snap_core.specs.Calls.{Operation, Updates, Views, calls_from, calls_of, views_of, nobody, call_numbered, is_view, is_answer, is_before, precedes}
+use Rattle.snap_core.specs.Calls.{Operation, Updates, Views, calls_from, calls_of, views_of, nobody, call_numbered, is_view, is_before, precedes}
 use Rattle.snap_core.specs.Calls.{Call as SpecCall}
 use Rattle.snap_core.proofs.Lists.{In, Contains-from_In}
 use Rattle.snap_core.proofs.Histories.{numbered_calls}
@@ -74,11 +74,6 @@ update_from (Views a) e h = absurd (cc)
 pub view_from : (o : Operation) → indexed_op o ≡ View → (a : Option (List Entry)) × (o ≡ Views a)
 view_from (Updates d) h = absurd (cc)
 view_from (Views a) h = (a, refl)
-
--- a completed view, by its bare call
-pub view_of_update : (c : SpecCall) (e : Entry) → indexed_op c.operation ≡ Update e → is_view c ≡ false
-unfolding is_view
-view_of_update c e h = ap is_answer (update_from c.operation e h)
 
 -- precedence by the end of the first call
 pub precedes_at : (a b : SpecCall) (place : ℕ) → a.ended ≡ Some place → precedes a b ≡ nat_lt place b.begun

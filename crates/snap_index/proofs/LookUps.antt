@@ -1,7 +1,8 @@
 -- What the look-ups of an index answer.
-use Rattle.std.proofs.Common.{◌≡◌, ◌≤◌, ℕ, suc, Bool, List, length, map, find, slice_get, Some, None, sym, ap, ◌∙◌, subst, arith}
+use Rattle.std.proofs.Common.{◌≡◌, ◌≤◌, ℕ, suc, Bool, List, length, map, find, get_or, slice_get, Option, Some, None, sym, ap, ◌∙◌, subst, arith, Bor}
 use Rattle.std.specs.List.{count_by}
-use Rattle.std.specs.Option.{option_map}
+use Rattle.std.specs.Prelude.{is_some, nat_lt}
+use Rattle.std.specs.Option.{option_map, option_copied, IfSome}
 use Rattle.std.proofs.lemmas.List.{length-map}
 use Rattle.std.proofs.lemmas.List.Sums.{count_by-le-length}
 use Rattle.std.proofs.lemmas.Option.{slice_get-map}
@@ -11,21 +12,28 @@ use Rattle.snap_core.specs.Calls.{calls_of, views_of, is_update_numbered}
 use Rattle.snap_core.specs.Calls.{Call as SpecCall}
 use Rattle.snap_index.specs.declared.call.Call.{Call}
 use Rattle.snap_index.specs.declared.call.Write.{Write}
+use Rattle.snap_index.specs.declared.index.CompletedView.{CompletedView}
 use Rattle.snap_index.specs.IndexedCalls.{as_indexed, number_of, write_of}
 use Rattle.snap_index.specs.Updates.{is_update_of, updates_of}
-use Rattle.snap_index.specs.inside.Tables.{IsIndex}
-use Rattle.snap_index.proofs.IndexedCalls.{call_count_within, view_count_within, at_own_number, mapped_some}
+use Rattle.snap_index.specs.inside.Tables.{IsIndex, number_kept}
+use Rattle.snap_index.proofs.IndexedCalls.{call_count_within, view_count_within, at_own_number, mapped_some, got}
 use Rattle.snap_core.proofs.Members.{In-find}
 use Rattle.snap_index.proofs.Numbers.{nth_update, no_update_zero, update_count_is}
 
 -- the fields of an index, by the history that a clause sees
-pub seen : (inside es : List Event) (calls : List Call) (views : List ℕ) (updates : List (List Write)) (pending : ℕ) → inside ≡ es → IsIndex inside calls views updates pending → IsIndex es calls views updates pending
+pub seen : (inside es : List Event) (calls : List Call) (views : List CompletedView) (updates : List (List Write)) (pending : ℕ) → inside ≡ es → IsIndex inside calls views updates pending → IsIndex es calls views updates pending
 seen inside es calls views updates pending e i = subst (λ z. IsIndex z calls views updates pending) e i
 
-pub views_few : (es : List Event) (calls : List Call) (views : List ℕ) (updates : List (List Write)) (pending : ℕ) → IsIndex es calls views updates pending → length views ≤ event_cap
+pub views_few : (es : List Event) (calls : List Call) (views : List CompletedView) (updates : List (List Write)) (pending : ℕ) → IsIndex es calls views updates pending → length views ≤ event_cap
 views_few es calls views updates pending i =
-    let l = ap length i.tables.of_views ∙ length-map (views_of (calls_of es)) number_of in
+    let l = sym (length-map views number_kept) ∙ ap length i.tables.of_views ∙ length-map (views_of (calls_of es)) number_of in
     omega (arith, l, view_count_within (calls_of es), call_count_within es, i.kept.short)
+
+-- what is kept of the view at a place, by what a slice of the views gives there
+pub kept_at : {X : Type 0} (f : SpecCall → X) (g : CompletedView → X) (calls : List SpecCall) (items views : List CompletedView) (i : ℕ) (r o : Option (Bor CompletedView)) → map g items ≡ map f (views_of calls) → views ≡ items →
+    is_some r ≡ nat_lt i (length views) → IfSome r (λ x. x.now ≡ get_or views i x.now) → r ≡ o → option_map g (option_copied o) ≡ option_map f (slice_get (views_of calls) i)
+kept_at f g calls items views i r o e v s h is =
+    sym (ap (λ z. option_map g (option_copied z)) is) ∙ ap (option_map g) (got views r i s h) ∙ sym (slice_get-map g views i) ∙ ap (λ z. slice_get z i) (ap (map g) v ∙ e) ∙ slice_get-map f (views_of calls) i
 
 pub row_is : (k : ℕ) (calls : List SpecCall) → length (map write_of (updates_of k calls)) ≡ count_by (is_update_of k) calls
 row_is k calls = length-map (updates_of k calls) write_of ∙ update_count_is k calls

@@ -1,5 +1,5 @@
 -- What one call more adds to the tables.
-use Rattle.std.proofs.Common.{◌≡◌, ◌<◌, ◌≤◌, ◌+◌, ℕ, Bool, true, false, cond, List, [], ◌∷◌, ◌++◌, append-nil, length, map, take, get_or, set, replicate, Option, refl, sym, ap, ◌∙◌, inl, inr, arith, get_or-set_same, get_or-set_other, length-set, length-take-le}
+use Rattle.std.proofs.Common.{◌≡◌, ◌<◌, ◌≤◌, ◌+◌, ℕ, Bool, true, false, cond, List, [], ◌∷◌, ◌++◌, append-nil, length, map, take, get_or, set, replicate, Option, Some, None, refl, sym, ap, ◌∙◌, inl, inr, arith, get_or-set_same, get_or-set_other, length-set, length-take-le}
 use Rattle.std.specs.Prelude.{is_some, not, filter, ◌==◌}
 use Rattle.std.specs.List.{count_by}
 use Rattle.std.proofs.lemmas.Bool.{eq-eqb, ne_eqb, cases_eq}
@@ -19,22 +19,19 @@ use Rattle.snap_index.specs.declared.call.CallOp.{CallOp}
 use Rattle.snap_index.specs.declared.call.CallOp.TheVariants.{Update, View}
 use Rattle.snap_index.specs.declared.call.Call.{Call}
 use Rattle.snap_index.specs.declared.call.Write.{Write}
-use Rattle.snap_index.specs.IndexedCalls.{as_indexed, indexed_op, number_of, write_of, value_written}
+use Rattle.snap_index.specs.declared.index.CompletedView.{CompletedView}
+use Rattle.snap_index.specs.IndexedCalls.{as_indexed, indexed_op, number_of, write_of, value_written, entries_shown, answer_of}
 use Rattle.snap_index.specs.Updates.{is_update_of, updates_of, is_pending}
-use Rattle.snap_index.specs.inside.Tables.{AreTables}
-use Rattle.snap_index.proofs.IndexedCalls.{numbered_there, view_of_update, update_from}
-use Rattle.snap_index.proofs.Ends.{view_of_view}
+use Rattle.snap_index.specs.inside.Tables.{AreTables, number_kept, entries_kept}
+use Rattle.snap_index.proofs.IndexedCalls.{numbered_there, update_from}
+use Rattle.snap_index.proofs.Ends.{view_by_answer, entries_by_answer}
 
 -- a list with one more at its end where a test holds
 abbrev pub put_where : {X : Type 0} → Bool → X → List X → List X
 put_where true x xs = xs ++ x ∷ []
 put_where false x xs = xs
 
--- what is put of a call among the views, and among the updates of component k
-abbrev pub is_indexed_view : CallOp → Option ℕ → Bool
-is_indexed_view (Update e) ended = false
-is_indexed_view View ended = is_some ended
-
+-- what is put of a call among the updates of component k
 abbrev pub is_indexed_update : CallOp → ℕ → Bool
 is_indexed_update (Update e) k = e.component == k
 is_indexed_update View k = false
@@ -51,6 +48,11 @@ indexed_write c x = record { call = c; value = indexed_value x.op; begun = x.beg
 pub record Puts (x : Call) (c : ℕ) (updates new_updates : List (List Write)) : Type 0 where
   pub size : length new_updates ≡ length updates
   pub rows : (k : ℕ) → k < 256 → get_or new_updates k [] ≡ put_where (is_indexed_update x.op k) (indexed_write c x) (get_or updates k [])
+
+-- what is put of call r behind the completed views
+pub record Shows (r : SpecCall) (views new_views : List CompletedView) : Type 0 where
+  pub numbers : map number_kept new_views ≡ put_where (is_view r) r.number (map number_kept views)
+  pub entries : map entries_kept new_views ≡ put_where (is_view r) (entries_shown r) (map entries_kept views)
 
 filter_more : {X : Type 0} (f : SpecCall → X) (x : X) (p : SpecCall → Bool) (calls : List SpecCall) (c : ℕ) → c < length calls → (b : Bool) → p (call_numbered calls c) ≡ b → f (call_numbered calls c) ≡ x →
     map f (filter p (take (c + 1) calls)) ≡ put_where b x (map f (filter p (take c calls)))
@@ -70,16 +72,6 @@ unfolding is_update_of
 indexed_update_is (Updates d) k n p b e = refl
 indexed_update_is (Views a) k n p b e = refl
 
-view_is : (es : List Event) → IsHistory es → (c : ℕ) → c < length (calls_of es) → (x : Call) → x ≡ as_indexed (call_numbered (calls_of es) c) → is_view (call_numbered (calls_of es) c) ≡ is_indexed_view x.op x.ended
-view_is es h c l x e = go (indexed_op r.operation) refl ∙ ap (λ (z : Call). is_indexed_view z.op z.ended) (sym e)
-  where
-    r : SpecCall
-    r = call_numbered (calls_of es) c
-
-    go : (o : CallOp) → indexed_op r.operation ≡ o → is_view r ≡ is_indexed_view (indexed_op r.operation) r.ended
-    go (Update d) w = view_of_update r d w ∙ sym (ap (λ z. is_indexed_view z r.ended) w)
-    go View w = view_of_view es r h (numbered_there (calls_of es) c l) w ∙ sym (ap (λ z. is_indexed_view z r.ended) w)
-
 write_at : (r : SpecCall) (c : ℕ) (x : Call) → r.number ≡ c → x ≡ as_indexed r → write_of r ≡ indexed_write c x
 write_at r c x n e =
     ap (λ m. record { call = m; value = value_written r.operation; begun = r.begun; ended = r.ended }) n
@@ -91,8 +83,8 @@ write_at r c x n e =
     value_at (Views a) = refl
 
 pub noted : (es : List Event) → IsHistory es → (c : ℕ) → c < length (calls_of es) → (x : Call) → x ≡ as_indexed (call_numbered (calls_of es) c) →
-    (views new_views : List ℕ) (updates new_updates : List (List Write)) (pending new_pending : ℕ) →
-    new_views ≡ put_where (is_indexed_view x.op x.ended) c views → Puts x c updates new_updates →
+    (views new_views : List CompletedView) (updates new_updates : List (List Write)) (pending new_pending : ℕ) →
+    Shows (call_numbered (calls_of es) c) views new_views → Puts x c updates new_updates →
     new_pending ≡ pending + cond (is_some x.ended) 0 1 →
     AreTables (take c (calls_of es)) views updates pending → AreTables (take (c + 1) (calls_of es)) new_views new_updates new_pending
 unfolding views_of updates_of is_pending is_completed
@@ -102,7 +94,8 @@ noted es h c l x e views new_views updates new_updates pending new_pending v u p
     let number : r.number ≡ c = numbered_calls es c nobody l in
     record {
       size = u.size ∙ t.size;
-      of_views = v ∙ ap (put_where (is_indexed_view x.op x.ended) c) t.of_views ∙ sym (filter_more number_of c is_view calls c l (is_indexed_view x.op x.ended) (view_is es h c l x e) number);
+      of_views = v.numbers ∙ ap (put_where (is_view r) r.number) t.of_views ∙ sym (filter_more number_of r.number is_view calls c l (is_view r) refl refl);
+      of_shown = v.entries ∙ ap (put_where (is_view r) (entries_shown r)) t.of_shown ∙ sym (filter_more entries_shown (entries_shown r) is_view calls c l (is_view r) refl refl);
       of_updates = λ k m.
           u.rows k m ∙ ap (put_where (is_indexed_update x.op k) (indexed_write c x)) (t.of_updates k m)
           ∙ sym (filter_more write_of (indexed_write c x) (is_update_of k) calls c l (is_indexed_update x.op k) (updates_at k) (write_at r c x number e));
@@ -125,6 +118,7 @@ unfolding views_of updates_of
 none_noted calls updates e = record {
   size = ap length e ∙ length-replicate {A = List Write} 256 [];
   of_views = refl;
+  of_shown = refl;
   of_updates = λ k l. ap (λ z. get_or z k []) e ∙ get_or-replicate 256 k [] [] l;
   of_pending = refl;
 }
@@ -142,15 +136,27 @@ row_put updates j c k l = elim (cases_eq j k) [
       ∙ sym (ap (λ t. put_where t c (get_or updates k [])) (ne_eqb j k other))
 ]
 
-pub pending_few : (calls : List SpecCall) (c : ℕ) (views : List ℕ) (updates : List (List Write)) (pending : ℕ) → c ≤ length calls → AreTables (take c calls) views updates pending → pending ≤ c
+pub pending_few : (calls : List SpecCall) (c : ℕ) (views : List CompletedView) (updates : List (List Write)) (pending : ℕ) → c ≤ length calls → AreTables (take c calls) views updates pending → pending ≤ c
 pending_few calls c views updates pending l t = omega (arith, t.of_pending, count_by-le-length is_pending (take c calls), length-take-le {A = SpecCall})
 
--- what a call puts among the views, by its kind
-pub views_of_update : (x : Call) (e : Entry) (c : ℕ) (views new_views : List ℕ) → x.op ≡ Update e → new_views ≡ views → new_views ≡ put_where (is_indexed_view x.op x.ended) c views
-views_of_update x e c views new_views h v = v ∙ sym (ap (λ o. put_where (is_indexed_view o x.ended) c views) h)
+-- what a call puts among the completed views, by its answer
+pub none_shown : (r : SpecCall) (views new_views : List CompletedView) → answer_of r ≡ None → new_views ≡ views → Shows r views new_views
+unfolding is_view
+none_shown r views new_views a v =
+    let b : is_view r ≡ false = view_by_answer r.operation ∙ ap is_some a in
+    record {
+      numbers = ap (map number_kept) v ∙ sym (ap (λ z. put_where z r.number (map number_kept views)) b);
+      entries = ap (map entries_kept) v ∙ sym (ap (λ z. put_where z (entries_shown r) (map entries_kept views)) b);
+    }
 
-pub views_of_view : (x : Call) (b : Bool) (c : ℕ) (views new_views : List ℕ) → x.op ≡ View → b ≡ is_some x.ended → new_views ≡ put_where b c views → new_views ≡ put_where (is_indexed_view x.op x.ended) c views
-views_of_view x b c views new_views h e v = v ∙ ap (λ z. put_where z c views) e ∙ sym (ap (λ o. put_where (is_indexed_view o x.ended) c views) h)
+pub one_shown : (r : SpecCall) (y : CompletedView) (views new_views : List CompletedView) → r.number ≡ y.call → answer_of r ≡ Some y.view.now → new_views ≡ views ++ y ∷ [] → Shows r views new_views
+unfolding is_view
+one_shown r y views new_views n a v = record { numbers = put number_of number_kept (sym n); entries = put entries_shown entries_kept (sym (entries_by_answer r.operation y.view.now a)) }
+  where
+    put : {X : Type 0} (f : SpecCall → X) (g : CompletedView → X) → g y ≡ f r → map g new_views ≡ put_where (is_view r) (f r) (map g views)
+    put f g e =
+        ap (map g) v ∙ map-append g views (y ∷ []) ∙ ap (λ z. map g views ++ z ∷ []) e
+        ∙ sym (ap (λ z. put_where z (f r) (map g views)) (view_by_answer r.operation ∙ ap is_some a))
 
 -- what a call puts among the updates, by its kind
 pub updates_of_update : (x : Call) (e : Entry) (c : ℕ) (updates new_updates : List (List Write)) → e.component < length updates → x.op ≡ Update e →

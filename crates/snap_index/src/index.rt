@@ -6,6 +6,7 @@ ghost use Rattle.snap_core.specs.Entries.{component_count};
 ghost use Rattle.snap_core.specs.Events.{IsBoundedHistory};
 ghost use Rattle.snap_index.specs.IndexedCalls.{as_indexed, number_of, write_of, entries_shown, answer_of};
 ghost use Rattle.snap_index.specs.Updates.{is_update_of, updates_of, is_pending};
+ghost use Rattle.snap_index.specs.inside.Tables.{answered_at};
 
 use crate::call::{Call, CallOp, Write};
 use crate::listing::list_calls;
@@ -14,13 +15,19 @@ use snap_core::{Event, History, View};
 use std::alloc::{AllocError, Global};
 use std::marker::Model;
 
+// The number of a completed view's call, and what the view shows.
+#[derive(Clone, Copy)]
+struct CompletedView<'h> {
+    call: u32,
+    view: &'h View,
+}
+
 /// The calls of a history, with look-ups by number. A call's number counts the begins before its own.
 #[derive(Drop)]
 pub struct Index<'h> {
     history: &'h History,
     calls: Vec<Call>,
-    // the call numbers of the completed views
-    views: Vec<u32>,
+    views: Vec<CompletedView<'h>>,
     updates: UpdateTable<Write>,
     pending: u32,
 }
@@ -38,20 +45,32 @@ impl<'h> Model for Index<'h> {
     ghost invariant = { λ a. IsIndex a.history.now a.calls.items a.views.items a.updates a.pending };
 }
 
+// What the event at the end of a call answers, if the call has an end and the event ends a view.
+fn answered(events: &[Event], ended: Option<u32>) -> Option<&View>
+    ensures { option_copied result ≡ answered_at events.now ended }
+{
+    match events.get(ended? as usize)? {
+        Event::EndView { view, .. } => Some(view),
+        _ => None,
+    }
+}
+
 impl<'h> Index<'h> {
     /// The index of a history, which it borrows, by one pass over its events. The error is want of memory.
     pub fn build(alloc: Global, history: &'h History) -> Result<Index<'h>, AllocError>
         ensures { IfOk result (λ index. index ≡ history.now) }
     {
-        let calls = list_calls(alloc, history.events())?;
+        let events = history.events();
+        let calls = list_calls(alloc, events)?;
         let mut views = Vec::new(alloc);
         let mut updates = UpdateTable::new(alloc);
         let mut pending = 0;
         for (c, call) in calls.iter().enumerate() {
+            let number = c as u32;
             match call.op {
                 CallOp::Update(entry) => {
                     let write = Write {
-                        call: c as u32,
+                        call: number,
                         value: entry.value,
                         begun: call.begun,
                         ended: call.ended,
@@ -59,8 +78,8 @@ impl<'h> Index<'h> {
                     updates.put(entry.component, write)?;
                 }
                 CallOp::View => {
-                    if call.ended.is_some() {
-                        views.push(c as u32)?;
+                    if let Some(view) = answered(events, call.ended) {
+                        views.push(CompletedView { call: number, view })?;
                     }
                 }
             }
@@ -136,15 +155,14 @@ impl<'h> Index<'h> {
     pub fn view_call(&self, i: u32) -> Option<u32>
         ensures { result ≡ option_map number_of (slice_get (views_of (calls_of self.now)) i) }
     {
-        self.views.get(i as usize).copied()
+        Some(self.views.get(i as usize)?.call)
     }
 
     /// What the `i`-th completed view by call number shows, counted from 0.
     pub fn view(&self, i: u32) -> Option<&View>
         ensures { option_copied result ≡ option_map entries_shown (slice_get (views_of (calls_of self.now)) i) }
     {
-        let c = self.view_call(i)?;
-        self.answer(c)
+        Some(self.views.get(i as usize)?.view)
     }
 
     /// The call number of update `n` of component `k`, pending or not. Updates are numbered from 1.

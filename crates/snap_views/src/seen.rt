@@ -28,7 +28,7 @@ pub fn view_at<'i>(index: &'i Index<'_>, place: u32) -> SeenView<'i>
     let Some(call) = index.call(call_number) else {
         unreachable!()
     };
-    let Some(view) = index.answer(call_number) else {
+    let Some(view) = index.view(place) else {
         unreachable!()
     };
     SeenView {

@@ -1,6 +1,18 @@
-use Rattle.std.proofs.Common.{sym, ◌∙◌}
-use Rattle.snap_index.proofs.Ends.{answer_of_view}
+use Rattle.std.proofs.Common.{ap, ◌∙◌}
+use Rattle.std.specs.Option.{option_copied}
+use Rattle.snap_core.specs.Calls.{calls_of}
+use Rattle.snap_index.specs.IndexedCalls.{entries_shown}
+use Rattle.snap_index.specs.inside.Tables.{entries_kept}
+use Rattle.snap_index.proofs.LookUps.{kept_at, seen}
 use Rattle.snap_index.proofs.index.Index.view.Goals as goal
 
+pub returns-in_err-get : goal.returns-in_err-get
+returns-in_err-get c =
+    let i = seen _ _ _ _ _ _ c.self.view_is c.self.invariant in
+    ap option_copied c.from_residual.ensures
+    ∙ kept_at entries_shown entries_kept (calls_of c.args.self.now) _ _ c.args.i c.get.result _ i.tables.of_shown c.deref.ensures.value c.get.ensures.lookup.0 c.get.ensures.lookup.1 c.in_err-get.was
+
 pub returns : goal.returns
-returns c = c.answer.ensures ∙ answer_of_view c.args.self.now c.args.i c.in_ok-c.c (sym c.view_call.ensures ∙ c.in_ok-c.was)
+returns c =
+    let i = seen _ _ _ _ _ _ c.self.view_is c.self.invariant in
+    kept_at entries_shown entries_kept (calls_of c.args.self.now) _ _ c.args.i c.get.result _ i.tables.of_shown c.deref.ensures.value c.get.ensures.lookup.0 c.get.ensures.lookup.1 c.in_ok-get.was
