@@ -5,9 +5,9 @@ use snap_index::Index;
 /// What a picture is of: the shapes of a history, its index, the records of its events, the numbers of the printed order,
 /// none where it is not atomic, and its explanation.
 #[derive(Clone, Copy)]
-pub struct Picture<'a> {
+pub struct Picture<'a, 'h> {
     pub shapes: &'a Shapes,
-    pub index: &'a Index<'a>,
+    pub index: &'a Index<'h>,
     pub records: &'a [u32],
     pub order: &'a [u32],
     pub said: &'a [u8],

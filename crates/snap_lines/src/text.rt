@@ -50,7 +50,11 @@ fn put_name(out: &mut Vec<u8>, name: &[u8]) -> Result<(), AllocError> {
 }
 
 // Adds above each column the number of the record of its event, where there is room behind the one before.
-fn put_records(alloc: Global, out: &mut Vec<u8>, picture: &Picture<'_>) -> Result<(), AllocError> {
+fn put_records(
+    alloc: Global,
+    out: &mut Vec<u8>,
+    picture: &Picture<'_, '_>,
+) -> Result<(), AllocError> {
     let shapes = picture.shapes;
     put_name(out, b"record")?;
     let mut end = 0usize;
@@ -70,7 +74,11 @@ fn put_records(alloc: Global, out: &mut Vec<u8>, picture: &Picture<'_>) -> Resul
 }
 
 // The label of a call, behind a mark where it is one of a first fault.
-fn marked_label(alloc: Global, picture: &Picture<'_>, span: &Span) -> Result<Vec<u8>, AllocError> {
+fn marked_label(
+    alloc: Global,
+    picture: &Picture<'_, '_>,
+    span: &Span,
+) -> Result<Vec<u8>, AllocError> {
     let number = span.bar.drawn.number;
     let mut label = Vec::new(alloc);
     if KINDS
@@ -95,7 +103,7 @@ fn room_of(span: &Span, edge: usize) -> usize {
 fn put_bar(
     alloc: Global,
     out: &mut Vec<u8>,
-    picture: &Picture<'_>,
+    picture: &Picture<'_, '_>,
     span: &Span,
     edge: usize,
 ) -> Result<(), AllocError> {
@@ -123,7 +131,7 @@ fn put_bar(
 fn put_bars(
     alloc: Global,
     out: &mut Vec<u8>,
-    picture: &Picture<'_>,
+    picture: &Picture<'_, '_>,
     line: &Line,
 ) -> Result<(), AllocError> {
     let edge = edge_of(picture.shapes);
@@ -140,7 +148,7 @@ fn put_bars(
 }
 
 // What stands below a bar: the kinds of the first faults that it is of, or its place in the printed order.
-fn note_of(alloc: Global, picture: &Picture<'_>, span: &Span) -> Result<Vec<u8>, AllocError> {
+fn note_of(alloc: Global, picture: &Picture<'_, '_>, span: &Span) -> Result<Vec<u8>, AllocError> {
     let mut note = Vec::new(alloc);
     put_kinds(
         &mut note,
@@ -158,7 +166,7 @@ fn note_of(alloc: Global, picture: &Picture<'_>, span: &Span) -> Result<Vec<u8>,
 fn put_notes(
     alloc: Global,
     out: &mut Vec<u8>,
-    picture: &Picture<'_>,
+    picture: &Picture<'_, '_>,
     line: &Line,
 ) -> Result<(), AllocError> {
     let mut notes = Vec::new(alloc);
@@ -188,7 +196,7 @@ fn put_notes(
 fn put_cut_calls(
     alloc: Global,
     out: &mut Vec<u8>,
-    picture: &Picture<'_>,
+    picture: &Picture<'_, '_>,
 ) -> Result<(), AllocError> {
     let shapes = picture.shapes;
     let edge = edge_of(shapes);
@@ -209,7 +217,7 @@ fn put_cut_calls(
 }
 
 // Adds how many calls are left out, where some are.
-fn put_left_out(out: &mut Vec<u8>, picture: &Picture<'_>) -> Result<(), AllocError> {
+fn put_left_out(out: &mut Vec<u8>, picture: &Picture<'_, '_>) -> Result<(), AllocError> {
     let all = u64::from(picture.index.call_count());
     let drawn = picture.shapes.bars.len() as u64;
     if drawn == all {
@@ -221,7 +229,7 @@ fn put_left_out(out: &mut Vec<u8>, picture: &Picture<'_>) -> Result<(), AllocErr
 }
 
 // Adds what the signs mean.
-fn put_key(out: &mut Vec<u8>, picture: &Picture<'_>) -> Result<(), AllocError> {
+fn put_key(out: &mut Vec<u8>, picture: &Picture<'_, '_>) -> Result<(), AllocError> {
     out.extend_from_slice(KEY)?;
     if !picture.shapes.marks.is_empty() {
         out.extend_from_slice(KEY_OF_MARKS)?;
@@ -233,7 +241,11 @@ fn put_key(out: &mut Vec<u8>, picture: &Picture<'_>) -> Result<(), AllocError> {
 }
 
 // Adds the lanes, with the records above them and what the signs mean below.
-fn put_lanes(alloc: Global, out: &mut Vec<u8>, picture: &Picture<'_>) -> Result<(), AllocError> {
+fn put_lanes(
+    alloc: Global,
+    out: &mut Vec<u8>,
+    picture: &Picture<'_, '_>,
+) -> Result<(), AllocError> {
     let shapes = picture.shapes;
     if shapes.lanes.is_empty() {
         return out.extend_from_slice(b"no calls\n");
@@ -265,7 +277,7 @@ fn put_sentences(alloc: Global, out: &mut Vec<u8>, said: &[u8]) -> Result<(), Al
 }
 
 /// The picture, with the verdict above it and the sentences on its faults below.
-pub fn text_lines(alloc: Global, picture: &Picture<'_>) -> Result<Vec<u8>, AllocError> {
+pub fn text_lines(alloc: Global, picture: &Picture<'_, '_>) -> Result<Vec<u8>, AllocError> {
     let mut out = Vec::new(alloc);
     out.extend_from_slice(front_of(verdict_of(picture.said)))?;
     out.extend_from_slice(b"\n\n")?;
@@ -276,7 +288,7 @@ pub fn text_lines(alloc: Global, picture: &Picture<'_>) -> Result<Vec<u8>, Alloc
 }
 
 /// The explanation, with the picture below it.
-pub fn explained_lines(alloc: Global, picture: &Picture<'_>) -> Result<Vec<u8>, AllocError> {
+pub fn explained_lines(alloc: Global, picture: &Picture<'_, '_>) -> Result<Vec<u8>, AllocError> {
     let mut out = Vec::new(alloc);
     out.extend_from_slice(picture.said)?;
     out.extend_from_slice(b"\n")?;

@@ -40,7 +40,7 @@ fn numbers_of<'x>(order: Option<&'x [u32]>) -> &'x [u32]
 fn picture_of<'x, M: Markup>(
     alloc: Global,
     markup: &M,
-    index: &'x Index<'x>,
+    index: &'x Index<'_>,
     tally: &Tally,
     records: &'x [u32],
     order: Option<&'x [u32]>,

@@ -23,7 +23,7 @@ pub trait Markup {
         ensures { result ≡ calls };
 
     /// The text of a picture.
-    fn text(&self, alloc: Global, picture: &Picture<'_>) -> Result<Vec<u8>, AllocError>
+    fn text(&self, alloc: Global, picture: &Picture<'_, '_>) -> Result<Vec<u8>, AllocError>
         ensures { IfOk result (λ text. writes picture.now.index.now picture.now.records.now picture.now.shapes.now picture.now.order.now picture.now.said.now text.items) };
 }
 
@@ -54,7 +54,7 @@ impl Markup for Svg {
         PAGE_CALLS
     }
 
-    fn text(&self, alloc: Global, picture: &Picture<'_>) -> Result<Vec<u8>, AllocError> {
+    fn text(&self, alloc: Global, picture: &Picture<'_, '_>) -> Result<Vec<u8>, AllocError> {
         svg_of(alloc, picture)
     }
 }
@@ -68,7 +68,7 @@ impl Markup for Page {
         PAGE_CALLS
     }
 
-    fn text(&self, alloc: Global, picture: &Picture<'_>) -> Result<Vec<u8>, AllocError> {
+    fn text(&self, alloc: Global, picture: &Picture<'_, '_>) -> Result<Vec<u8>, AllocError> {
         page_of(alloc, picture)
     }
 }
@@ -82,7 +82,7 @@ impl Markup for Lines {
         LINE_CALLS
     }
 
-    fn text(&self, alloc: Global, picture: &Picture<'_>) -> Result<Vec<u8>, AllocError> {
+    fn text(&self, alloc: Global, picture: &Picture<'_, '_>) -> Result<Vec<u8>, AllocError> {
         text_lines(alloc, picture)
     }
 }
@@ -96,7 +96,7 @@ impl Markup for Explained {
         LINE_CALLS
     }
 
-    fn text(&self, alloc: Global, picture: &Picture<'_>) -> Result<Vec<u8>, AllocError> {
+    fn text(&self, alloc: Global, picture: &Picture<'_, '_>) -> Result<Vec<u8>, AllocError> {
         explained_lines(alloc, picture)
     }
 }

@@ -62,7 +62,7 @@ fn next_of(shapes: &Shapes, bar: &Bar) -> Option<usize> {
 }
 
 // Where the label of the last call of a lane would end on the right, the farthest of all lanes.
-fn labels_end(alloc: Global, picture: &Picture<'_>) -> Result<usize, AllocError> {
+fn labels_end(alloc: Global, picture: &Picture<'_, '_>) -> Result<usize, AllocError> {
     let mut end = 0usize;
     for bar in &picture.shapes.bars {
         if next_of(picture.shapes, bar).is_none() {
@@ -76,7 +76,7 @@ fn labels_end(alloc: Global, picture: &Picture<'_>) -> Result<usize, AllocError>
 }
 
 // The width of a picture: all columns, the longest sentence, and the labels, of which long ones are cut.
-fn width_of(alloc: Global, picture: &Picture<'_>) -> Result<usize, AllocError> {
+fn width_of(alloc: Global, picture: &Picture<'_, '_>) -> Result<usize, AllocError> {
     let (_marks, longest) = extent_of(picture.said);
     let columns = across(picture.shapes.columns);
     let labels = labels_end(alloc, picture)?
@@ -92,7 +92,7 @@ fn width_of(alloc: Global, picture: &Picture<'_>) -> Result<usize, AllocError> {
 }
 
 // Adds the first line, with the size.
-fn put_head(out: &mut Vec<u8>, picture: &Picture<'_>, width: usize) -> Result<(), AllocError> {
+fn put_head(out: &mut Vec<u8>, picture: &Picture<'_, '_>, width: usize) -> Result<(), AllocError> {
     let (marks, _longest) = extent_of(picture.said);
     let width = width as u64;
     let height = foot_of(picture.shapes).saturating_add(scaled(marks, 20, 26));
@@ -152,7 +152,7 @@ fn room_of(shapes: &Shapes, bar: &Bar, width: usize) -> usize {
 }
 
 // Adds what names a call: its classes, its number and its records.
-fn put_names(out: &mut Vec<u8>, picture: &Picture<'_>, bar: &Bar) -> Result<(), AllocError> {
+fn put_names(out: &mut Vec<u8>, picture: &Picture<'_, '_>, bar: &Bar) -> Result<(), AllocError> {
     let call = bar.drawn.call;
     match call.op {
         CallOp::Update(_entry) => out.extend_from_slice(b"<g class=\"call update")?,
@@ -219,7 +219,7 @@ fn put_tag(
 fn put_calls(
     alloc: Global,
     out: &mut Vec<u8>,
-    picture: &Picture<'_>,
+    picture: &Picture<'_, '_>,
     width: usize,
 ) -> Result<(), AllocError> {
     let shapes = picture.shapes;
@@ -239,7 +239,7 @@ fn put_calls(
 }
 
 // Adds the sentence on the first fault of each kind.
-fn put_marks(out: &mut Vec<u8>, picture: &Picture<'_>) -> Result<(), AllocError> {
+fn put_marks(out: &mut Vec<u8>, picture: &Picture<'_, '_>) -> Result<(), AllocError> {
     let mut y = foot_of(picture.shapes).saturating_add(26);
     for line in picture.said.split(|byte| *byte == b'\n').skip(1) {
         if !is_sentence(line) {
@@ -296,7 +296,7 @@ fn put_places(out: &mut Vec<u8>, points: &[Point], spots: &[u64]) -> Result<(), 
 }
 
 /// The picture as SVG.
-pub fn svg_of(alloc: Global, picture: &Picture<'_>) -> Result<Vec<u8>, AllocError> {
+pub fn svg_of(alloc: Global, picture: &Picture<'_, '_>) -> Result<Vec<u8>, AllocError> {
     let mut out = Vec::new(alloc);
     let width = width_of(alloc, picture)?;
     let points = points_of(alloc, &picture.shapes.bars, picture.order)?;
@@ -314,7 +314,7 @@ pub fn svg_of(alloc: Global, picture: &Picture<'_>) -> Result<Vec<u8>, AllocErro
 }
 
 /// The picture on a page of its own, which a browser shows without any other file.
-pub fn page_of(alloc: Global, picture: &Picture<'_>) -> Result<Vec<u8>, AllocError> {
+pub fn page_of(alloc: Global, picture: &Picture<'_, '_>) -> Result<Vec<u8>, AllocError> {
     let mut out = Vec::new(alloc);
     out.extend_from_slice(HEAD)?;
     out.extend_from_slice(&svg_of(alloc, picture)?)?;
