@@ -1,7 +1,7 @@
 #!/usr/bin/env python3
 """Prints a table of what `snapjudge check` costs by shape of history and size, beside another judge of the same text and report.
 
-usage: shapes.py [--against PROGRAM] [--repeats N] [--sizes N,N,..] [--workers N] PROGRAM [SHAPE ..]
+usage: shapes.py [--against PROGRAM] [--repeats N] [--sizes N,N,..] [--workers N] [--clock] PROGRAM [SHAPE ..]
        shapes.py --list
        shapes.py --write SHAPE EVENTS
 
@@ -10,7 +10,7 @@ argument, as in `--against "judge --monotone"`, are put behind `check`. The shap
 given, those whose names have one of them. A judge that reads no stamps is given the same history without them. Where a size is
 greater than 65,536, the program is called with `--events`; tell the other judge the same by a word of its own.
 
-Times are processor time, user and system, of all threads. The judges are called in turn, N times (5, if not said) or until they
+Times are processor time, user and system, of all threads, or with --clock the time by the clock. The judges are called in turn, N times (5, if not said) or until they
 have taken four seconds, and the least time of each counts. In the row of a shape stand for each size the milliseconds of the
 program, those of the other judge, and the ratio. Then come, at the greatest size, the text in millions of bytes, the
 milliseconds a million bytes, the peak memory in millions of bytes, of which some 15 are the measuring program's own, and that a
@@ -25,6 +25,7 @@ import shlex
 import subprocess
 import sys
 import tempfile
+import time
 
 from histories import MOST_EVENTS, SHAPES, about, bytes_of, texts_of
 from run import ENVIRONMENT
@@ -34,21 +35,23 @@ SIZES = (4096, 16384, 65536)
 ENOUGH = 4000
 
 
-def run(words, history, report):
-    """The status, the milliseconds of processor time, and the peak memory in bytes of one run."""
+def run(words, history, report, by_clock):
+    """The status, the milliseconds of processor time or by the clock, and the peak memory in bytes of one run."""
     files = [(os.POSIX_SPAWN_OPEN, 0, history, os.O_RDONLY, 0), (os.POSIX_SPAWN_OPEN, 1, report, os.O_WRONLY | os.O_CREAT | os.O_TRUNC, 0o600),
              (os.POSIX_SPAWN_OPEN, 2, os.devnull, os.O_WRONLY, 0)]
+    begun = time.perf_counter()
     _, status, used = os.wait4(os.posix_spawn(words[0], words, ENVIRONMENT, file_actions=files), 0)
-    return os.waitstatus_to_exitcode(status), (used.ru_utime + used.ru_stime) * 1000, used.ru_maxrss * 1024
+    seconds = time.perf_counter() - begun if by_clock else used.ru_utime + used.ru_stime
+    return os.waitstatus_to_exitcode(status), seconds * 1000, used.ru_maxrss * 1024
 
 
-def measure(programs, histories, room, repeats):
+def measure(programs, histories, room, asked):
     """Of each program the least milliseconds and the most memory, and what is to be said of the reports."""
     reports = [os.path.join(room, f"report{i}") for i in range(len(programs))]
     runs = [[] for _ in programs]
-    while len(runs[0]) < repeats and sum(ms for done in runs for _, ms, _ in done) < ENOUGH:
+    while len(runs[0]) < asked.repeats and sum(ms for done in runs for _, ms, _ in done) < ENOUGH:
         for words, history, report, done in zip(programs, histories, reports, runs):
-            done.append(run(words, history, report))
+            done.append(run(words, history, report, asked.clock))
     costs = [(min(ms for _, ms, _ in done), max(peak for *_, peak in done)) for done in runs]
     statuses = [done[0][0] for done in runs]
     if len(set(statuses)) > 1:
@@ -64,16 +67,16 @@ def write_texts(name, events, room):
     return texts
 
 
-def row_of(name, programs, sizes, room, repeats, start):
+def row_of(name, programs, room, asked, start):
     """The cells of a shape."""
     cells, by_byte, said = [], [], {}
-    for events in sizes:
+    for events in asked.sizes:
         histories = write_texts(name, events, room)
         size = os.path.getsize(histories[0])
-        if size > bytes_of(max(*sizes, MOST_EVENTS)) + 1:
+        if size > bytes_of(max(*asked.sizes, MOST_EVENTS)) + 1:
             cells += ["-"] * (3 if len(programs) > 1 else 1)
             continue
-        costs, reports = measure(programs, histories, room, repeats)
+        costs, reports = measure(programs, histories, room, asked)
         said[reports] = None
         times, peak = [ms for ms, _ in costs], costs[0][1]
         by_byte.append(max(times[0] - start, 0) / size)
@@ -97,10 +100,10 @@ def print_table(asked):
     heads += ["text, MB", "ms a MB", "peak, MB", "peak a MB", "growth", "reports"]
     print(f"| {' | '.join(heads)} |\n{'|---' * len(heads)}|")
     with tempfile.TemporaryDirectory() as room:
-        start = measure(programs[:1], [os.devnull], room, 20)[0][0][0]
+        start = min(run(programs[0], os.devnull, os.devnull, asked.clock)[1] for _ in range(20))
         for name in SHAPES:
             if not asked.shapes or any(part in name for part in asked.shapes):
-                print(f"| {name} | {' | '.join(row_of(name, programs, asked.sizes, room, asked.repeats, start))} |", flush=True)
+                print(f"| {name} | {' | '.join(row_of(name, programs, room, asked, start))} |", flush=True)
 
 
 def main():
@@ -110,6 +113,7 @@ def main():
     words.add_argument("--repeats", type=int, default=5)
     words.add_argument("--sizes", type=lambda text: [int(size) for size in text.split(",")], default=SIZES)
     words.add_argument("--workers", default="2")
+    words.add_argument("--clock", action="store_true", help="measure the time by the clock in place of processor time")
     words.add_argument("--list", action="store_true", help="print the shapes alone")
     words.add_argument("--write", nargs=2, metavar=("SHAPE", "EVENTS"), help="write the text of a shape alone")
     words.add_argument("--into", nargs=2, metavar="FILE", help="write it to a file, and to another the same history without stamps")

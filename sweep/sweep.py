@@ -477,6 +477,13 @@ def long_texts():
     yield "256 components in one view", text, accepted((514, 257, 0, 1), order)
 
 
+def text_in_pieces():
+    """A history so long that two workers read a piece of its text each, and with few allocations."""
+    turns = [b"begin,0,update,0:%d:0\nend,0,update,\n" % i for i in range(1, 21001)]
+    order = [(i, b"p0 update 0:%d:0" % i) for i in range(1, 21001)]
+    return "21000 updates", HEADER + b"".join(turns), accepted((42000, 21000, 0, 0), order)
+
+
 def awkward_texts(texts):
     """Each text cut after each byte, and with each byte replaced by some others."""
     for _, text, _ in texts:
@@ -533,14 +540,15 @@ def main(folder):
     several_files = list(files_of(folder, chosen))
     pictures = [picture(words, *each) for words in (["draw", "--text"], ["explain", "--draw"], ["shrink", "--draw"]) for each in chosen]
     colors = [colored(*each) for each in chosen]
-    checks += [object_of(*each) for each in chosen] + several_files + pictures + colors
+    in_pieces = check(*text_in_pieces(), 2)
+    checks += [in_pieces] + [object_of(*each) for each in chosen] + several_files + pictures + colors
     worked += several_files[:2] + colors
     jobless = [usage(), usage("judge"), usage("check", "--pieces", "0"), usage("record", "--help"), usage("shrink", "--help"), usage("explain", "--help"), usage("draw", "--help")]
     for case in checks + recorded + jobless:
         TESTS.add(f"{case.name}: each allocation", TESTS.refused_memory(case))
-    for case in worked + recorded + jobless:
+    for case in worked + [in_pieces] + recorded + jobless:
         TESTS.add(f"{case.name}: all from each allocation on", TESTS.refused_memory(case, all_after=1))
-    for case in recorded + [check(*given[0], 8)]:
+    for case in recorded + [in_pieces, check(*given[0], 8)]:
         TESTS.add(f"{case.name}: each allocation without threads", TESTS.refused_memory(case, thread=ALL))
     for program in sys.argv[3:]:
         TESTS.add("calls: each allocation", TESTS.refused_calls(program))

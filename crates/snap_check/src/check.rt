@@ -81,7 +81,7 @@ fn judge<Rt: Threads + Sync, R: Read, G: Gate>(
 {
     // the text is not needed once it is read, and its memory serves for the report
     let mut room = Vec::new(alloc);
-    match read_in(alloc, reader, &mut room, options.limit)? {
+    match read_in(rt, alloc, reader, &mut room, options.limit, cutting)? {
         Reading::History(history) => {
             Ok(verdict(rt, alloc, &history, room, cutting, gate, options)?)
         }

@@ -3,6 +3,7 @@ pub mod PlainFacts
 pub mod MarkFacts
 pub mod FrontFacts
 pub mod FieldFacts
+pub mod AheadFacts
 pub mod ReadFacts
 pub mod LineFacts
 pub mod TextFacts

@@ -10,7 +10,7 @@ use Rattle.csv.specs.Reading.{default_config, records_from}
 use Rattle.csv.specs.declared.parser.State.{State}
 use Rattle.csv.specs.declared.parser.State.TheVariants as st
 use Rattle.csv.specs.declared.parser.Action.TheVariants as act
-use Rattle.snap_csv.specs.inside.Lines.{EndsWith, EndsWithOthers, FieldGoesOn, FieldIsLast, HasRows, IsInner, IsPlain}
+use Rattle.snap_csv.specs.inside.Lines.{EndsWith, EndsWithOthers, FieldGoesOn, FieldIsLast, HasRows, IsInner, IsPlain, IsRest}
 use Rattle.snap_text.specs.Fields.{Fields}
 use Rattle.snap_csv.proofs.RowFacts.{records_step, some_fuel}
 
@@ -126,9 +126,18 @@ pub plain_with : (a b : Bool) (text piece : List ℕ) → (IsTrue a ↔ All IsPl
 plain_with true b text piece h k = (λ is. All-append IsPlain text piece (h.0 refl) (k.0 is), λ plain. k.1 (plain_rest text piece plain))
 plain_with false b text piece h k = (λ is. absurd cc, λ plain. h.1 (plain_front text piece plain))
 
+-- a rest of a rest
+
+pub rest_of_rest : (rest left text : List ℕ) → IsRest rest left → IsRest left text → IsRest rest text
+rest_of_rest rest left text (f, e) (g, h) = (g ++ f, h ∙ ap (λ (q : List ℕ). g ++ q) e ∙ sym (append_assoc g f rest))
+
+behind_mark : (f : List ℕ) (mark : ℕ) (rest text : List ℕ) → text ≡ f ++ mark ∷ rest → IsRest rest text
+behind_mark f mark rest text e = (f ++ mark ∷ [], e ∙ sym (append_assoc f (mark ∷ []) rest))
+
 -- the record goes on behind a comma
 pub record Goes (fs : Fields) (f rest text : List ℕ) : Type 0 where
   pub plain : All IsPlain rest
+  pub behind : IsRest rest text
   pub shorter : length rest < length text
   pub reads : next_record default_config st.StartField fs [] text ≡ next_record default_config st.StartField (fs ++ f ∷ []) [] rest
 
@@ -137,6 +146,7 @@ goes_on fs f rest text plain h =
     let all = subst (All IsPlain) h.whole plain in
     record {
       plain = All-tail IsPlain 44 rest (plain_rest f (44 ∷ rest) all);
+      behind = behind_mark f 44 rest text h.whole;
       shorter = omega (arith, ap length h.whole, length-append f (44 ∷ rest));
       reads = ap (next_record default_config st.StartField fs []) h.whole ∙ after_comma st.StartField fs [] f rest start_line (plain_front f (44 ∷ rest) all) h.inner;
     }
@@ -144,6 +154,7 @@ goes_on fs f rest text plain h =
 -- and ends at a newline, or with the text
 pub record Ends (fs : Fields) (f rest text : List ℕ) : Type 0 where
   pub plain : All IsPlain rest
+  pub behind : IsRest rest text
   pub shorter : length rest ≤ length text
   pub reads : next_record default_config st.StartField fs [] text ≡ Some (fs ++ f ∷ [], st.StartRecord, rest)
 
@@ -155,11 +166,13 @@ is_last fs f rest text plain h = go h.whole
         let all = subst (All IsPlain) line plain in
         record {
           plain = All-tail IsPlain 10 rest (plain_rest f (10 ∷ rest) all);
+          behind = behind_mark f 10 rest text line;
           shorter = omega (arith, ap length line, length-append f (10 ∷ rest));
           reads = ap (next_record default_config st.StartField fs []) line ∙ after_newline st.StartField fs [] f rest start_line (plain_front f (10 ∷ rest) all) h.inner;
         }
     go (inr (all, none)) = rw none (record {
       plain = All-nil IsPlain;
+      behind = (f, all ∙ sym (append-nil f));
       shorter = omega arith;
       reads = ap (next_record default_config st.StartField fs []) all ∙ at_end st.StartField fs [] f start_line refl (subst (All IsPlain) all plain) h.inner;
     })
@@ -207,17 +220,19 @@ some_more s fs p (c ∷ text) line end plain =
 -- these fields of a line are read, and the next begins with this rest
 pub record Upto (fs : Fields) (rest text : List ℕ) : Type 0 where
   pub plain : All IsPlain rest
+  pub behind : IsRest rest text
   pub shorter : length rest + length fs ≤ length text
   pub reads : (before : Fields) → next_record default_config st.StartField before [] text ≡ next_record default_config st.StartField (before ++ fs) [] rest
 
 pub upto_first : (text : List ℕ) → All IsPlain text → Upto [] text text
-upto_first text plain = record { plain = plain; shorter = omega arith; reads = λ before. ap (λ (q : Fields). next_record default_config st.StartField q [] text) (sym (append-nil before)) }
+upto_first text plain = record { plain = plain; behind = ([], refl); shorter = omega arith; reads = λ before. ap (λ (q : Fields). next_record default_config st.StartField q [] text) (sym (append-nil before)) }
 
 pub upto_next : (fs : Fields) (f rest left text : List ℕ) → Upto fs left text → FieldGoesOn f rest left → Upto (fs ++ f ∷ []) rest text
 upto_next fs f rest left text h field =
     let goes = λ (before : Fields). goes_on (before ++ fs) f rest left h.plain field in
     record {
       plain = (goes []).plain;
+      behind = rest_of_rest rest left text (goes []).behind h.behind;
       shorter = omega (arith, h.shorter, (goes []).shorter, length-append fs (f ∷ []));
       reads = λ before. h.reads before ∙ (goes before).reads ∙ ap (λ (q : Fields). next_record default_config st.StartField q [] rest) (append_assoc before fs (f ∷ []));
     }
@@ -245,6 +260,7 @@ just_these text fs left f rest upto field some plain =
     let last = λ (before : Fields). is_last (before ++ fs) f rest left u.plain field in
     record {
       plain = (last []).plain;
+      behind = rest_of_rest rest left text (last []).behind u.behind;
       shorter = omega (arith, u.shorter, (last []).shorter, some);
       reads = λ before. u.reads before ∙ (last before).reads ∙ ap (λ (q : Fields). Some (q, st.StartRecord, rest)) (append_assoc before fs (f ∷ []));
     }
@@ -257,6 +273,7 @@ one_more f left text rest fs field ends plain =
     let h = ends (goes []).plain in
     record {
       plain = h.plain;
+      behind = rest_of_rest rest left text h.behind (goes []).behind;
       shorter = omega (arith, (goes []).shorter, h.shorter);
       reads = λ before. (goes before).reads ∙ h.reads (before ++ f ∷ []) ∙ ap (λ (q : Fields). Some (q, st.StartRecord, rest)) (append_assoc before (f ∷ []) fs);
     }

@@ -18,20 +18,7 @@ use Rattle.snap_text.specs.Fields.{Fields, event_of, row_event}
 use Rattle.snap_csv.specs.Layout.{is_header_row, is_stamped_header_row}
 use Rattle.snap_csv.specs.Faults.{event_in, events_in, fault_with, fault_at, row_fault}
 use Rattle.snap_csv.specs.Texts.{RowsFault}
-use Rattle.snap_csv.specs.inside.Answers.{AnswersNumbered, AnswersStamps, FailsEvent, RefusesRow, RefusesRows, RefusesStamps, TakesEvent, TakesRow}
-
--- what is left to be read is the records from place i under the header on, and the history is that of those before it
-pub record Midway (limit : ℕ) (rows : List Fields) (Left : List Fields → Type 0) (events : List Event) (i : ℕ) : Type 0 where
-  pub head : Fields
-  pub later : List Fields
-  pub whole : rows ≡ head ∷ later
-  pub header : is_header_row head ≡ true
-  pub left : Left (drop i later)
-  pub within : i ≤ length later
-  pub fine : (j : ℕ) → j < i → fault_at limit later j ≡ None
-  pub history : events ≡ events_in (take i later)
-  pub count : length events ≡ i
-  pub room : i ≤ limit
+use Rattle.snap_csv.specs.inside.Answers.{AnswersNumbered, AnswersStamps, FailsEvent, Midway, RefusesRow, RefusesRows, RefusesStamps, TakesEvent, TakesRow}
 
 -- ---- one record
 
@@ -54,7 +41,7 @@ row_fits limit old r a p o d e h =
     let test : nat_le limit (length old) ≡ false = grind (arith, nat_tests) in
     rw (four_long r a p o d e, test, e) refl
 
-event_is : (r : Fields) (a p o d : List ℕ) → r ≡ a ∷ p ∷ o ∷ d ∷ [] → row_event r ≡ event_of a p o d
+pub event_is : (r : Fields) (a p o d : List ℕ) → r ≡ a ∷ p ∷ o ∷ d ∷ [] → row_event r ≡ event_of a p o d
 unfolding row_event
 event_is r a p o d e = rw e refl
 
@@ -70,6 +57,22 @@ row_pushed limit place old new r a p o d x (Ok u) e h is t = (row_fits limit old
 row_pushed limit place old new r a p o d x (Err (refusals.Text q f)) e h is t = (t.0, row_fits limit old r a p o d e h ∙ rw is t.1)
 row_pushed limit place old new r a p o d x (Err refusals.Device) e h is t = t
 row_pushed limit place old new r a p o d x (Err refusals.Memory) e h is t = tt
+
+-- a record that spells an event has four fields
+pub four_of : (r : Fields) (x : Event) → row_event r ≡ Ok x → (a : List ℕ) × (p : List ℕ) × (o : List ℕ) × (d : List ℕ) × (r ≡ a ∷ p ∷ o ∷ d ∷ []) × (event_of a p o d ≡ Ok x)
+unfolding row_event
+four_of [] x h = absurd cc
+four_of (a ∷ []) x h = absurd cc
+four_of (a ∷ p ∷ []) x h = absurd cc
+four_of (a ∷ p ∷ o ∷ []) x h = absurd cc
+four_of (a ∷ p ∷ o ∷ d ∷ []) x h = (a, p, o, d, refl, h)
+four_of (a ∷ p ∷ o ∷ d ∷ e ∷ r) x h = absurd cc
+
+pub event_full : (limit : ℕ) (old : List Event) (r : Fields) (x : Event) → row_event r ≡ Ok x → limit ≤ length old → row_fault limit old r ≡ Some faults.TooMany
+event_full limit old r x h le = let (a, p, o, d, is, spells) = four_of r x h in row_full limit old r a p o d is le
+
+pub event_pushed : (limit : ℕ) (place : ℕ) (old new : List Event) (r : Fields) (x : Event) (res : Result (Unit {0}) ReadRefusal) → row_event r ≡ Ok x → length old < limit → TakesEvent place old new x res → TakesRow limit place old new r res
+event_pushed limit place old new r x res h lt t = let (a, p, o, d, is, spells) = four_of r x h in row_pushed limit place old new r a p o d x res is lt spells t
 
 pub full_fails : (b c : Bool) (x y : TextFault) (o : Option TextFault) → c ≡ true → cond (not b) (Some x) (cond c (Some y) o) ≡ None → ⊥
 full_fails true true x y o e h = cc

@@ -1,6 +1,7 @@
 //! Histories as text.
 #![tactic(auto)]
 
+mod ahead;
 mod fields;
 mod intake;
 mod law;
@@ -19,7 +20,10 @@ pub use law::{
     texts_are_short, texts_have_no_fault, texts_have_one_fault, texts_have_one_reading,
     texts_read_back,
 };
-pub use read::{read_history, read_history_in, read_history_within, read_text, read_text_within};
+pub use read::{
+    read_history, read_history_beside, read_history_in, read_history_within, read_text,
+    read_text_within,
+};
 pub use records::{read_records, read_records_within, record_of};
 pub use refusal::{ReadRefusal, WriteRefusal};
 pub use writing::{write_history, write_history_stamped};

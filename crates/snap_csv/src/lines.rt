@@ -4,10 +4,11 @@ ghost use Rattle.std.specs.Prelude.{◌≡◌, ◌≢◌, ◌↔◌, ◌<◌, �
 ghost use Rattle.snap_csv.specs.inside.Answers.{AnswersNumbered, AnswersStamps, ReadsStamped};
 ghost use Rattle.csv.specs.Reading.{strip_bom};
 ghost use Rattle.snap_csv.specs.Layout.{is_header_row, is_stamped_header_row};
-ghost use Rattle.snap_csv.specs.inside.Lines.{BeginsOtherwise, BeginsWith, EndsField, EndsWith, EndsWithOthers, FieldGoesOn, FieldIsLast, HasRows, IsInner, IsPlain};
+ghost use Rattle.snap_csv.specs.inside.Lines.{BeginsOtherwise, BeginsWith, EndsField, EndsWith, EndsWithOthers, AreAhead, FieldGoesOn, FieldIsLast, HasLines, HasRows, IsAhead, IsInner, IsPlain, IsRest};
 ghost use Rattle.snap_text.specs.Fields.{Fields};
 ghost use Rattle.snap_csv.specs.Rows.{rows_of};
 
+use crate::ahead::{Ahead, take_ahead};
 use crate::fields::{are_header, are_stamped_header};
 use crate::read::{row_limit, take_fields};
 use crate::refusal::ReadRefusal;
@@ -174,8 +175,8 @@ fn last_field(text: &[u8]) -> Option<(&[u8], &[u8])>
     }
 }
 
-// The fields that a line has left, where these are four, and the lines behind it.
-fn four_first(text: &[u8]) -> Option<((&[u8], &[u8], &[u8], &[u8]), &[u8])>
+/// The fields that a line has left, where these are four, and the lines behind it.
+pub(crate) fn four_first(text: &[u8]) -> Option<((&[u8], &[u8], &[u8], &[u8]), &[u8])>
     ensures { MatchOption result (EndsWithOthers 4 text.now) (λ x. EndsWith (x.0.0.now ∷ x.0.1.now ∷ x.0.2.now ∷ x.0.3.now ∷ []) x.1.now text.now) }
 {
     let (event, rest) = either_and_comma(text, b"begin,", b"end,")?;
@@ -221,6 +222,7 @@ fn begins_blank(text: &[u8]) -> bool
 #[inline(never)]
 fn behind_blank(text: &[u8]) -> &[u8]
     ensures same { (rows : List Fields) → HasRows text.now rows → HasRows result.now rows }
+    ensures rest { IsRest result.now text.now }
     ensures begins { 0 < length result.now → get_or result.now 0 0 ≢ 10 }
 {
     let mut left = text;
@@ -233,10 +235,11 @@ fn behind_blank(text: &[u8]) -> &[u8]
     left
 }
 
-// A text behind the empty lines at its front, which are no records.
+/// A text behind the empty lines at its front, which are no records.
 #[inline(always)]
-fn behind_newlines(text: &[u8]) -> &[u8]
+pub(crate) fn behind_newlines(text: &[u8]) -> &[u8]
     ensures same { (rows : List Fields) → HasRows text.now rows → HasRows result.now rows }
+    ensures rest { IsRest result.now text.now }
     ensures begins { 0 < length result.now → get_or result.now 0 0 ≢ 10 }
 {
     if text.is_empty() || text[0] != b'\n' {
@@ -271,29 +274,31 @@ fn lines_under_stamped_header(text: &[u8]) -> Option<&[u8]>
     }
 }
 
-// The history of the lines under the header, or the first fault.
+// The history of the lines under the header, or the first fault. Some of them were read ahead.
 fn lines_history(
     alloc: Global,
     lines: &[u8],
+    ahead: Vec<Ahead<'_>>,
     limit: Limit,
 ) -> Result<(History, Option<Vec<u32>>), ReadRefusal>
+    requires { All (IsAhead lines.now) ahead.items }
     ensures { (head : Fields) (later : List Fields) → is_header_row head ≡ true → HasRows lines.now later → AnswersNumbered limit.events (head ∷ later) result }
 {
+    let (mut history, mut left) = take_ahead(alloc, lines, ahead, limit)?;
     let mut known = Known::new(alloc);
-    let mut history = History::new(alloc);
-    let mut left = lines;
-    for i in 0..row_limit(limit) {
+    'each: for _ in 0..row_limit(limit) {
+        let place = history.len() as u32 + 2;
         let line = behind_newlines(left);
         if line.is_empty() {
             return Ok((history, None));
         }
         let Some((fields, rest)) = four_first(line) else {
             return Err(ReadRefusal::Text {
-                place: i + 2,
+                place,
                 fault: TextFault::Fields,
             });
         };
-        take_fields(alloc, &mut known, &mut history, limit, i + 2, fields)?;
+        take_fields(alloc, &mut known, &mut history, limit, place, fields)?;
         left = rest;
     }
     unreachable!()
@@ -341,25 +346,49 @@ fn stamped_lines_history(
     history_by_stamps(alloc, stamped, read)
 }
 
-/// The history of a plain text, or its first fault; and the numbers of its events' records where these have stamps.
-pub fn plain_history(
-    alloc: Global,
-    text: &[u8],
-    limit: Limit,
-) -> Result<(History, Option<Vec<u32>>), ReadRefusal>
+/// A plain text behind its header: lines without stamps, or with them, or anything where it has no header.
+#[derive(Clone, Copy)]
+pub enum Lines<'t> {
+    Bare(&'t [u8]),
+    Stamped(&'t [u8]),
+    Headless,
+}
+
+/// The lines of a plain text.
+pub fn lines_of(text: &[u8]) -> Lines<'_>
     requires { All IsPlain text.now }
-    ensures { AnswersNumbered limit.events (rows_of text.now) result }
+    ensures { HasLines (rows_of text.now) result }
 {
     let line = behind_newlines(behind_order_mark(text));
     if let Some(lines) = lines_under_header(line) {
-        return lines_history(alloc, lines, limit);
+        return Lines::Bare(lines);
     }
     if let Some(lines) = lines_under_stamped_header(line) {
-        let (history, records) = stamped_lines_history(alloc, lines, limit)?;
-        return Ok((history, Some(records)));
+        return Lines::Stamped(lines);
     }
-    Err(ReadRefusal::Text {
-        place: 1,
-        fault: TextFault::Header,
-    })
+    Lines::Headless
+}
+
+/// The history of the lines of a plain text, or the text's first fault; and the numbers of its events' records where these have
+/// stamps. Some lines without stamps were read ahead.
+pub fn history_of_lines(
+    alloc: Global,
+    lines: Lines<'_>,
+    ahead: Vec<Ahead<'_>>,
+    limit: Limit,
+) -> Result<(History, Option<Vec<u32>>), ReadRefusal>
+    requires { AreAhead lines ahead.items }
+    ensures { (rows : List Fields) → HasLines rows lines.entry → AnswersNumbered limit.events rows result }
+{
+    match lines {
+        Lines::Bare(lines) => lines_history(alloc, lines, ahead, limit),
+        Lines::Stamped(lines) => {
+            let (history, records) = stamped_lines_history(alloc, lines, limit)?;
+            Ok((history, Some(records)))
+        }
+        Lines::Headless => Err(ReadRefusal::Text {
+            place: 1,
+            fault: TextFault::Header,
+        }),
+    }
 }

@@ -9,17 +9,20 @@ ghost use Rattle.snap_csv.specs.inside.Lines.{IsPlain};
 ghost use Rattle.snap_csv.specs.Rows.{rows_of};
 ghost use Rattle.csv.specs.Records.{fields_of};
 
+use crate::ahead::read_ahead;
 use crate::fields::{event_of_record, four_fields, is_header, is_stamped_header};
 use crate::intake::{Taken, bytes_within, take_in};
-use crate::lines::{is_plain, plain_history};
+use crate::lines::{history_of_lines, is_plain, lines_of};
 use crate::refusal::ReadRefusal;
 use crate::rows::{next_row, reader_of};
 use crate::stamped::stamped_history;
 use csv::ByteRecord;
 use snap_core::{Counted, Event, EventRefusal, History, Limit};
 use snap_text::{Known, TextFault};
+use snap_threads::Cutting;
 use std::alloc::Global;
 use std::io::Read;
+use std::thread::Threads;
 
 /// One record more than a history may have events: that one has a fault.
 pub fn row_limit(limit: Limit) -> u32
@@ -112,10 +115,30 @@ pub fn numbered_history(
     ensures { AnswersNumbered limit.events (rows_of text.now) result }
 {
     if plain {
-        plain_history(alloc, text, limit)
+        history_of_lines(alloc, lines_of(text), Vec::new(alloc), limit)
     } else {
         rows_history(alloc, text, limit)
     }
+}
+
+// The same, where the workers of a cutting read ahead.
+fn history_beside<Rt: Threads + Sync>(
+    rt: &Rt,
+    alloc: Global,
+    text: &[u8],
+    plain: bool,
+    limit: Limit,
+    cutting: Cutting,
+) -> Result<(History, Option<Vec<u32>>), ReadRefusal>
+    requires { IsTrue plain → All IsPlain text.now }
+    ensures { AnswersNumbered limit.events (rows_of text.now) result }
+{
+    if !plain {
+        return rows_history(alloc, text, limit);
+    }
+    let lines = lines_of(text);
+    let ahead = read_ahead(rt, alloc, lines, cutting, limit)?;
+    history_of_lines(alloc, lines, ahead, limit)
 }
 
 // The same of any text, by `csv`.
@@ -206,6 +229,26 @@ pub fn read_history_within<R: Read>(
     let Taken { text, plain } = take_in(alloc, reader, limit)?;
     *room = text;
     history_of(alloc, room, plain, limit)
+}
+
+/// As `read_history_within`, where workers of a cutting read pieces of a long text side by side. A text with stamps, quotes or
+/// carriage returns is read by the calling thread alone.
+pub fn read_history_beside<Rt: Threads + Sync, R: Read>(
+    rt: &Rt,
+    alloc: Global,
+    reader: &mut Counted<R>,
+    room: &mut Vec<u8>,
+    limit: Limit,
+    cutting: Cutting,
+) -> Result<History, ReadRefusal>
+    ensures text { IfSome (R.remaining (inner_of reader.old)) (λ text. AnswersTextWithin limit.events text result) }
+    ensures counts { Counts (failures_in reader.old) (failures_in reader.new) result }
+    ensures room { IfSome (R.remaining (inner_of reader.old)) (λ text. Leaves text room.new.items result) }
+{
+    let Taken { text, plain } = take_in(alloc, reader, limit)?;
+    *room = text;
+    let (history, _) = history_beside(rt, alloc, room, plain, limit, cutting)?;
+    Ok(history)
 }
 
 /// Reads the history of a text in memory, as `read_history` does of a reader: the text is not copied, and no device can fail.

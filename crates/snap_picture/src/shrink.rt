@@ -12,6 +12,7 @@ use crate::markup::Markup;
 use snap_check::{Reading, RunFault, read_in};
 use snap_core::{Counted, History, Limit};
 use snap_runs::cut;
+use snap_threads::Cutting;
 use snap_verdict::Status;
 use std::alloc::{AllocError, Global};
 use std::io::{Read, Write};
@@ -50,7 +51,8 @@ fn shrink_input<Rt: Threads + Sync, R: Read, M: Markup>(
     ensures answer { JudgesBy (IsWitnessDrawn limit.events M.calls M.writes) (R.remaining (inner_of reader.old)) result }
     ensures counts { JudgeCounts (failures_in reader.old) (failures_in reader.new) result }
 {
-    match read_in(alloc, reader, &mut Vec::new(alloc), limit)? {
+    let mut room = Vec::new(alloc);
+    match read_in(rt, alloc, reader, &mut room, limit, Cutting::usual())? {
         Reading::History(history) => {
             let (status, left) = cut(rt, alloc, history)?;
             let text = picture_of(rt, alloc, markup, &left)?;

@@ -17,6 +17,8 @@ mod jobs;
 #[cfg(test)]
 mod limits;
 #[cfg(test)]
+mod long_texts;
+#[cfg(test)]
 mod names;
 #[cfg(test)]
 mod options;

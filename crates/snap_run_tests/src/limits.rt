@@ -32,18 +32,29 @@ fn expect_default<Rt: Threads + Wait + Sync>(
     expect(rt, alloc, text, cutting(8, 2)?, &OpenGate, end, report)
 }
 
-// The text with so many updates of component 0, each ended at once.
-fn updates_text(alloc: Global, updates: u32) -> Result<String, AllocError> {
-    let mut text = history(alloc, "")?;
-    for i in 0..updates {
+/// Adds updates of component 0 to a text, each ended at once: those from a number on, up to another.
+pub(super) fn add_updates(
+    alloc: Global,
+    text: &mut String,
+    from: u32,
+    to: u32,
+) -> Result<(), AllocError> {
+    for i in from..to {
         let records = format!(in alloc; "begin,0,update,0:{}:0\nend,0,update,\n", i + 1)?;
         text.push_str(&records)?;
     }
+    Ok(())
+}
+
+// The text with so many updates of component 0, each ended at once.
+fn updates_text(alloc: Global, updates: u32) -> Result<String, AllocError> {
+    let mut text = history(alloc, "")?;
+    add_updates(alloc, &mut text, 0, updates)?;
     Ok(text)
 }
 
-// The lines of the order of so many updates.
-fn updates_order(alloc: Global, updates: u32) -> Result<String, AllocError> {
+/// The lines of the order of so many updates.
+pub(super) fn updates_order(alloc: Global, updates: u32) -> Result<String, AllocError> {
     let mut lines = String::new(alloc);
     for i in 0..updates {
         let line = format!(in alloc; "{} p0 update 0:{}:0\n", i + 1, i + 1)?;

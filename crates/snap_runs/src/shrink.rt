@@ -61,7 +61,8 @@ pub fn shrink_run<Rt: Threads + Sync, R: Read, W: Write>(
     ensures wrote { WroteBy (IsShrunk limit.events) (R.remaining (inner_of reader.old)) (W.contents (inner_of writer.old)) (W.contents (inner_of writer.new)) result }
     ensures counts { RunCounts (failures_in reader.old) (failures_in reader.new) (failures_in writer.old) (failures_in writer.new) result }
 {
-    match read_in(alloc, reader, &mut Vec::new(alloc), limit)? {
+    let mut room = Vec::new(alloc);
+    match read_in(rt, alloc, reader, &mut room, limit, Cutting::usual())? {
         Reading::History(history) => {
             let (status, left) = cut(rt, alloc, history)?;
             write_text(alloc, &left, status, writer)

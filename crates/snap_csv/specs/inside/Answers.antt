@@ -1,5 +1,5 @@
 -- What the parts of the reader answer.
-use Rattle.std.specs.Prelude.{◌≡◌, ◌==◌, slice_index_or, ◌≤◌, ◌<◌, ◌+◌, ℕ, Bool, true, false, List, [], ◌∷◌, ◌++◌, length, take, Option, Some, None, IfSome, Result, Ok, Err}
+use Rattle.std.specs.Prelude.{◌≡◌, ◌==◌, slice_index_or, ◌≤◌, ◌<◌, ◌+◌, ℕ, Bool, true, false, List, [], ◌∷◌, ◌++◌, drop, length, take, Option, Some, None, IfSome, Result, Ok, Err}
 use Rattle.std.specs.Global.{Vec}
 use Rattle.std.specs.BTreeSet.{BTreeSet, contains}
 use Rattle.std.specs.List.{IsDistinct, list_any, range_with_len}
@@ -10,13 +10,16 @@ use Rattle.snap_text.specs.declared.fault.TextFault.{TextFault}
 use Rattle.snap_text.specs.declared.fault.TextFault.TheVariants as faults
 use Rattle.snap_csv.specs.declared.refusal.ReadRefusal.{ReadRefusal}
 use Rattle.snap_csv.specs.declared.refusal.ReadRefusal.TheVariants as refusals
+use Rattle.std.proofs.Common.{Bor}
+use Rattle.snap_csv.specs.Layout.{is_header_row}
 use Rattle.snap_text.specs.Fields.{Fields, row_event}
-use Rattle.snap_csv.specs.Faults.{fault_with, row_fault}
+use Rattle.snap_csv.specs.Faults.{events_in, fault_at, fault_with, row_fault}
 use Rattle.snap_csv.specs.declared.intake.Taken.{Taken}
 use Rattle.snap_csv.specs.declared.stamped.Stamped.{Stamped}
 use Rattle.snap_csv.specs.Stamps.{FirstOf, NoneOf, StampedFault, StampedRead, events_of, nothing, order_at, places_of, shape_fault, stamped_row, stamps_of}
 use Rattle.snap_csv.specs.Texts.{RowsRead, RowsFault, bytes_within}
 use Rattle.snap_csv.specs.Records.{RowsNumbered}
+use Rattle.snap_csv.specs.inside.Lines.{HasRows}
 use Rattle.snap_csv.specs.Answers.{RefusesTextWithin}
 
 -- what an answer says of records, whose history may have so many events
@@ -51,6 +54,29 @@ RefusesRow limit place old r refusals.Memory = Unit {0}
 abbrev pub TakesRow : ℕ → ℕ → List Event → List Event → Fields → Result (Unit {0}) ReadRefusal → Type 0
 TakesRow limit place old new r (Ok u) = (row_fault limit old r ≡ None) × (x : Event) × (row_event r ≡ Ok x) × (new ≡ old ++ x ∷ [])
 TakesRow limit place old new r (Err e) = RefusesRow limit place old r e
+
+-- what is left to be read is the records from place i under the header on, and the history is that of those before it
+pub record Midway (limit : ℕ) (rows : List Fields) (Left : List Fields → Type 0) (events : List Event) (i : ℕ) : Type 0 where
+  pub head : Fields
+  pub later : List Fields
+  pub whole : rows ≡ head ∷ later
+  pub header : is_header_row head ≡ true
+  pub left : Left (drop i later)
+  pub within : i ≤ length later
+  pub fine : (j : ℕ) → j < i → fault_at limit later j ≡ None
+  pub history : events ≡ events_in (take i later)
+  pub count : length events ≡ i
+  pub room : i ≤ limit
+
+-- events that were read ahead are taken in their turn: what is left then, or the first fault
+abbrev pub TakesAhead : ℕ → (List Fields → Type 0) → (List Fields → Type 0) → List Event → List Event → Result (Unit {0}) ReadRefusal → Type 0
+TakesAhead limit Left Rest old new (Ok u) = (rows : List Fields) → Midway limit rows Left old (length old) → Midway limit rows Rest new (length new)
+TakesAhead limit Left Rest old new (Err e) = (rows : List Fields) → Midway limit rows Left old (length old) → RefusesRows limit rows e
+
+-- the first records are taken, and a text has those behind them; or the first fault
+abbrev pub ReadsFront : ℕ → List Fields → Result (List Event × Bor (List ℕ)) ReadRefusal → Type 0
+ReadsFront limit rows (Ok x) = Midway limit rows (HasRows x.1.now) x.0 (length x.0)
+ReadsFront limit rows (Err e) = RefusesRows limit rows e
 
 -- the same of an event
 abbrev pub RefusesEvent : ℕ → List Event → Event → ReadRefusal → Type 0

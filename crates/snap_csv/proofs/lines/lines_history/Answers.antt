@@ -1,49 +1,65 @@
-use Rattle.std.proofs.Common.{◌≡◌, ◌∷◌, ◌+◌, [], drop, length, refl, ap, arith, rules}
+use Rattle.std.proofs.Common.{◌≡◌, ◌<◌, ◌∷◌, ◌+◌, [], drop, length, refl, sym, ap, subst, arith, rules}
 use Rattle.std.proofs.lemmas.List.{length-append, nil_from_length}
 use Rattle.std.proofs.lemmas.Result.{err_from_is_err_and}
 use Rattle.snap_text.specs.declared.fault.TextFault.TheVariants as faults
 use Rattle.snap_csv.specs.declared.refusal.ReadRefusal.TheVariants as refusals
+use Rattle.snap_csv.specs.inside.Answers.{Midway}
 use Rattle.snap_csv.specs.inside.Lines.{HasRows}
 use Rattle.snap_csv.proofs.FrontFacts.{no_line}
 use Rattle.snap_csv.proofs.PlainFacts.{row_of_fields, row_of_others}
-use Rattle.snap_csv.proofs.ReadFacts.{begun, done, has_room, more, row_short, stopped}
+use Rattle.snap_csv.proofs.ReadFacts.{done, has_room, more, row_short, stopped}
 use Rattle.snap_csv.proofs.lines.lines_history.Goals as goal
 
-pub loop-i-init : goal.loop-i-init
-loop-i-init c = record {
-  midway = λ head later heads h. begun c.args.limit.events (head ∷ later) (HasRows c.args.lines.now) head c.new-history.result (later, refl, h) heads c.new-history.ensures;
-  count = ap length c.new-history.ensures;
+pub each-init : goal.each-init
+each-init c = record {
+  midway = c.in_ok-history.ensures;
+  count = omega arith;
   room = omega arith;
 }
 
+pub returns-in_err-history : goal.returns-in_err-history
+returns-in_err-history c = λ head later heads h.
+    let p = err_from_is_err_and c.from_residual.result c.from_residual.ensures.1 in
+    rw (p.1, p.2) (c.in_err-history.ensures head later heads h)
+
 pub returns-then-is_empty : goal.returns-then-is_empty
 returns-then-is_empty c = λ head later heads h.
-    let m = c.loop-i.invariant.midway head later heads h in
+    let n = length c.each.history in
+    let m = c.each.invariant.midway head later heads h in
     let line : c.behind_newlines-line.result.now ≡ [] = nil_from_length _ (search rules) in
-    done c.args.limit.events (head ∷ later) (HasRows c.loop-i.left.now) c.loop-i.history c.loop-i.i m (no_line (drop c.loop-i.i m.later) (rw line at (c.behind_newlines-line.ensures.same _ m.left)))
+    done c.args.limit.events (head ∷ later) (HasRows c.each.left.now) c.each.history n m (no_line (drop n m.later) (rw line at (c.behind_newlines-line.ensures.same _ m.left)))
 
 pub returns-in_default : goal.returns-in_default
 returns-in_default c = λ head later heads h.
-    let m = c.loop-i.invariant.midway head later heads h in
-    let (row, others, is, short) = row_of_others _ 4 _ (search rules) (c.behind_newlines-line.ensures.begins (search rules)) c.in_default.ensures (c.behind_newlines-line.ensures.same _ m.left) in
-    stopped c.args.limit.events (head ∷ later) (HasRows c.loop-i.left.now) c.loop-i.history c.loop-i.i m row others (refusals.Text (c.loop-i.i + 2) faults.Fields) is (refl, row_short c.args.limit.events c.loop-i.history row short)
+    let n = length c.each.history in
+    let m = c.each.invariant.midway head later heads h in
+    let some : 0 < length c.behind_newlines-line.result.now = search (rules, c.is_empty.ensures, c.if-is_empty.false) in
+    let (row, others, is, short) = row_of_others _ 4 _ some (c.behind_newlines-line.ensures.begins some) c.in_default.ensures (c.behind_newlines-line.ensures.same _ m.left) in
+    stopped c.args.limit.events (head ∷ later) (HasRows c.each.left.now) c.each.history n m row others (refusals.Text (c.len.result + 2) faults.Fields) is (ap (λ i. i + 2) c.len.ensures.len, row_short c.args.limit.events c.each.history row short)
 
 pub returns-in_err-take_fields : goal.returns-in_err-take_fields
 returns-in_err-take_fields c = λ head later heads h.
-    let m = c.loop-i.invariant.midway head later heads h in
-    let p = err_from_is_err_and c.from_residual.result c.from_residual.ensures.1 in
-    let (others, is, left) = row_of_fields _ _ _ _ (search rules) (c.behind_newlines-line.ensures.begins (search rules)) c.in-Some.ensures (c.behind_newlines-line.ensures.same _ m.left) in
-    rw (p.1, p.2) (stopped c.args.limit.events (head ∷ later) (HasRows c.loop-i.left.now) c.loop-i.history c.loop-i.i m _ others c.in_err-take_fields.field-0.0 is c.in_err-take_fields.ensures)
+    let n = length c.each.history in
+    let m = c.each.invariant.midway head later heads h in
+    let p = err_from_is_err_and c.from_residual-in_err-take_fields.result c.from_residual-in_err-take_fields.ensures.1 in
+    let some : 0 < length c.behind_newlines-line.result.now = search (rules, c.is_empty.ensures, c.if-is_empty.false) in
+    let (others, is, left) = row_of_fields _ _ _ _ some (c.behind_newlines-line.ensures.begins some) c.in-Some.ensures (c.behind_newlines-line.ensures.same _ m.left) in
+    rw (p.1, p.2) (stopped c.args.limit.events (head ∷ later) (HasRows c.each.left.now) c.each.history n m _ others c.in_err-take_fields.field-0.0 is (rw c.len.ensures.len at c.in_err-take_fields.ensures))
 
-pub loop-i-preserved : goal.loop-i-preserved
-loop-i-preserved c = record {
+pub each-preserved : goal.each-preserved
+each-preserved c = record {
   midway = λ head later heads h.
-      let m = c.loop-i.invariant.midway head later heads h in
-      more c.args.limit.events (head ∷ later) (HasRows c.loop-i.left.now) (HasRows c.in-Some.rest.now) c.loop-i.history c.take_fields.new.history c.loop-i.i m _ (row_of_fields _ _ _ _ (search rules) (c.behind_newlines-line.ensures.begins (search rules)) c.in-Some.ensures (c.behind_newlines-line.ensures.same _ m.left)) c.in_ok-take_fields.ensures;
+      let limit = c.args.limit.events in
+      let n = length c.each.history in
+      let m = c.each.invariant.midway head later heads h in
+      let some : 0 < length c.behind_newlines-line.result.now = search (rules, c.is_empty.ensures, c.if-is_empty.false) in
+      let after =
+      more limit (head ∷ later) (HasRows c.each.left.now) (HasRows c.in-Some.rest.now) c.each.history c.take_fields.new.history n m _ (row_of_fields _ _ _ _ some (c.behind_newlines-line.ensures.begins some) c.in-Some.ensures (c.behind_newlines-line.ensures.same _ m.left)) c.in_ok-take_fields.ensures in
+      subst (λ i. Midway limit (head ∷ later) (HasRows c.in-Some.rest.now) c.take_fields.new.history i) (sym after.count) after;
   count =
       let (fine, x, is, longer) = c.in_ok-take_fields.ensures in
-      omega (arith, ap length longer, length-append c.loop-i.history (x ∷ []), c.loop-i.invariant.count);
+      omega (arith, ap length longer, length-append c.each.history (x ∷ []), c.each.invariant.count);
   room =
       let (fine, x, is, longer) = c.in_ok-take_fields.ensures in
-      omega (arith, has_room c.args.limit.events c.loop-i.history _ fine, c.loop-i.invariant.count);
+      omega (arith, has_room c.args.limit.events c.each.history _ fine, c.each.invariant.count);
 }

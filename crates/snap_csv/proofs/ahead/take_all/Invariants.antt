@@ -1,0 +1,12 @@
+use Rattle.std.proofs.Common.{◌≡◌, ℕ, List, length}
+use Rattle.std.specs.Vec.Iter.{into_iter_items, into_iter_len}
+use Rattle.snap_csv.specs.inside.Answers.{Midway}
+use Rattle.snap_csv.specs.inside.Lines.{HasRows, SpellsAll}
+use Rattle.snap_text.specs.Fields.{Fields}
+use Rattle.snap_csv.proofs.ahead.take_all.Given as goal
+
+abbrev pub invariant-each : goal.invariant-each
+invariant-each l = record {
+  taken : (rest : List ℕ) (rows : List Fields) → Midway l.limit.events rows (SpellsAll l.fn.events.items (HasRows rest)) l.fn.history (length l.fn.history) → Midway l.limit.events rows (SpellsAll (into_iter_items l.event-iterator) (HasRows rest)) l.history (length l.history);
+  left : into_iter_len l.event-iterator ≡ length (into_iter_items l.event-iterator);
+}
