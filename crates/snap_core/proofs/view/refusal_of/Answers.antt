@@ -1,5 +1,8 @@
 use Rattle.std.proofs.Common.{◌≡◌, ◌-◌, ◌≤◌, true, false, refl, ap, suc, get_or, sym, ◌∙◌, subst, arith}
+use Rattle.std.specs.Prelude.{◌==◌}
+use Rattle.std.proofs.lemmas.Grind.{common_steps}
 use Rattle.std.proofs.lemmas.List.{take_all}
+use Rattle.std.proofs.lemmas.List.Folds.{list_any_more}
 use Rattle.snap_core.specs.declared.entry.Entry.{Entry}
 use Rattle.snap_core.specs.Entries.{has_zero}
 use Rattle.snap_core.proofs.Rising.{refusal_by, rises_from, rises_not}
@@ -25,3 +28,11 @@ returns-else-has_zero c =
     let es = c.args.entries.now in
     let zero : has_zero es ≡ false = ap has_zero (sym (take_all c.loop-i.i es c.loop-i-test.false)) ∙ sym c.loop-i.invariant.zeros ∙ c.if-has_zero.false in
     sym (refusal_by es true false (rises_from es (λ j d l. c.loop-i.invariant.rising j d (omega arith))) zero)
+
+pub loop-i-preserved : goal.loop-i-preserved
+loop-i-preserved c =
+    let empty : Entry = record { component = 0; number = 0; value = 0 } in
+    record {
+      rising = grind (arith, common_steps);
+      zeros = rw (list_any_more (λ (e : Entry). e.number == 0) c.args.entries.now c.loop-i.i empty c.loop-i-test.true, ← c.loop-i.invariant.zeros) refl;
+    }

@@ -16,3 +16,12 @@ invariant_of-self-2 c =
     let writers : (k : ℕ) → writer_in c.note.new.self k ≡ writer_by (process_of e) (begun_by e) k (writer_in c.make_room.new.self k) = search rules in
     subst (IsRecalled c.note.new.self) (sym items)
     (recalled_push c.self.inside.tables c.make_room.new.self c.note.new.self old e c.self.invariant free c.event_fits.ensures c.make_room.ensures.calls c.make_room.ensures.writers calls writers)
+
+pub returns-in-Err-clause-ok : goal.returns-in-Err-clause-ok
+returns-in-Err-clause-ok c = search rules
+
+pub returns-in-Some-clause-kept : goal.returns-in-Some-clause-kept
+returns-in-Some-clause-kept c = search rules
+
+pub returns-in-Some-clause-back : goal.returns-in-Some-clause-back
+returns-in-Some-clause-back c = search rules
