@@ -1,4 +1,5 @@
 use Rattle.std.proofs.Common.{arith}
+use Rattle.std.proofs.lemmas.Grind.{common_steps}
 use Rattle.std.proofs.lemmas.Fmt.{length-decimal-le}
 use Rattle.snap_text.proofs.words.write_entry.Goals as goal
 
@@ -26,3 +27,6 @@ returns-clause-start c =
     let number = length-decimal-le 10 c.from-2.result (omega arith) (omega arith) (omega arith) in
     let component = length-decimal-le 3 c.from-3.result (omega arith) (omega arith) (omega arith) in
     (omega arith, omega arith)
+
+pub returns-clause-written : goal.returns-clause-written
+returns-clause-written c = grind (arith, common_steps)
