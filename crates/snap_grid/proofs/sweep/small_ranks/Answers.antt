@@ -1,4 +1,4 @@
-use Rattle.std.proofs.Common.{subst}
+use Rattle.std.proofs.Common.{subst, rules}
 use Rattle.snap_grid.specs.inside.Ranked.{AreRanks}
 use Rattle.snap_grid.proofs.Ranking.{ordered}
 use Rattle.snap_grid.proofs.sweep.small_ranks.Goals as goal
@@ -7,3 +7,6 @@ pub returns-clause-order : goal.returns-clause-order
 returns-clause-order c =
     let numbers = c.args.numbers.now in
     ordered numbers c.in_ok-distinct.distinct.items c.in_ok-ranks.ranks.items c.in_ok-distinct.ensures (subst (λ z. AreRanks numbers z c.in_ok-ranks.ranks.items) c.deref.ensures.value c.in_ok-ranks.ensures)
+
+pub returns-then-of-numbers-clause-small : goal.returns-then-of-numbers-clause-small
+returns-then-of-numbers-clause-small c = search rules
