@@ -64,11 +64,6 @@ call_answer es h c x e =
     let m = mapped_some as_indexed (slice_get (calls_of es) c) x e in
     ended_answer es m.from x h (call_there es c m.from m.is) (sym m.to) ∙ sym (ap (option_and_then answer_of) m.is)
 
-pub no_end : (es : List Event) (c : ℕ) (x : Call) → option_map as_indexed (slice_get (calls_of es) c) ≡ Some x → x.ended ≡ None → None ≡ option_and_then answer_of (slice_get (calls_of es) c)
-no_end es c x e n =
-    let m = mapped_some as_indexed (slice_get (calls_of es) c) x e in
-    sym (ap (option_and_then answer_of) m.is ∙ not_ended es m.from (call_there es c m.from m.is) (ap (λ (z : Call). z.ended) m.to ∙ n))
-
 pub no_answer : (x : Event) → ((p : ℕ) (s : List Entry) → x ≡ EndView p s → ⊥) → answer_at x ≡ None
 no_answer (BeginUpdate p e) n = refl
 no_answer (BeginView p) n = refl

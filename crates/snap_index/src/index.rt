@@ -144,11 +144,7 @@ impl<'h> Index<'h> {
     pub fn answer(&self, c: u32) -> Option<&View>
         ensures { option_copied result ≡ option_and_then answer_of (slice_get (calls_of self.now) c) }
     {
-        let ended = self.call(c)?.ended?;
-        match self.history.event(ended as usize)? {
-            Event::EndView { view, .. } => Some(view),
-            _ => None,
-        }
+        answered(self.history.events(), self.call(c)?.ended)
     }
 
     /// The call number of the `i`-th completed view by call number, counted from 0.
