@@ -1,11 +1,11 @@
 #!/usr/bin/env python3
 """Prints a table of the time and the peak memory of `snapjudge check`, by kind of history, size and number of workers.
 
-usage: run.py [--against PROGRAM] [--repeats N] [KIND ..]
+usage: run.py [--against PROGRAM] [--repeats N] [--workers W] [KIND ..]
 
-Each history is made by generate.py from the number 1. With one worker, with two and, where another judge of the same text and
-report is given, by that one, it is judged in turn, N times (7, if not said), and the least time of each counts. The reports are
-compared byte for byte. PROGRAM is called as `PROGRAM check`, with the history on its standard input. All run in an environment in
+Each history is made by generate.py from the number 1. With one worker, with W (2, if not said) and, where another judge of the
+same text and report is given, by that one, it is judged in turn, N times (7, if not said), and the least time of each counts. The
+reports are compared byte for byte. PROGRAM is called as `PROGRAM check`, with the history on its standard input. All run in an environment in
 which the C library takes memory in large pages, as docs/MANY.md tells how to ask for them.
 
 The first row is of a process that does nothing.
@@ -64,12 +64,13 @@ def main():
     words = argparse.ArgumentParser(description="times of `snapjudge check`")
     words.add_argument("--against", metavar="PROGRAM", help="another judge of the same text and report")
     words.add_argument("--repeats", type=int, default=7)
+    words.add_argument("--workers", default="2")
     words.add_argument("kinds", nargs="*", metavar="KIND")
     asked = words.parse_args()
-    programs = [[SNAPJUDGE, "check", "--workers", str(n)] for n in (1, 2)]
+    programs = [[SNAPJUDGE, "check", "--workers", count] for count in ("1", asked.workers)]
     if asked.against:
         programs.append([asked.against, "check"])
-    print("| kind | events | components | bytes | status | 1 worker, ms | of that user, ms | 2 workers, ms | ratio | peak, MB | other judge, ms | ratio to it | reports |")
+    print(f"| kind | events | components | bytes | status | 1 worker, ms | of that user, ms | {asked.workers} workers, ms | ratio | peak, MB | other judge, ms | ratio to it | reports |")
     print("|---|---|---|---|---|---|---|---|---|---|---|---|---|")
     with tempfile.TemporaryDirectory() as room:
         idle = min(run(["/bin/true"], os.devnull, os.devnull)[1] for _ in range(20))
