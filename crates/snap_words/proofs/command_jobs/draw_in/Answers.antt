@@ -1,0 +1,8 @@
+use Rattle.std.proofs.Common.{◌≡◌}
+use Rattle.snap_words.proofs.command_jobs.draw_in.Goals as goal
+
+pub returns-clause-asked : goal.returns-clause-asked
+returns-clause-asked c = λ events form asks.
+    let form_is = c.in_ok-form.ensures events form asks in
+    let events_are = c.in_ok-events.ensures.asked events asks.limit in
+    (cc, cc)
