@@ -52,7 +52,21 @@ fn expect_ordered(
     Ok(())
 }
 
-// The views of a history have these sums, this chain, and such an order.
+// The views of an index have these sums, this chain, and such an order.
+fn expect_views(
+    rt: &impl Abort,
+    alloc: Global,
+    index: &Index<'_>,
+    known_sums: &[u64],
+    known_chain: Option<&[u32]>,
+    is_ordered: bool,
+) -> Result<(), Fail> {
+    expect_sums(rt, alloc, index, known_sums)?;
+    expect_chain(rt, alloc, index, known_chain)?;
+    expect_ordered(rt, alloc, index, is_ordered)
+}
+
+// The same of the views of a history.
 fn expect(
     rt: &impl Abort,
     alloc: Global,
@@ -63,9 +77,7 @@ fn expect(
 ) -> Result<(), Fail> {
     let history = history_of(alloc, steps)?;
     let index = Index::build(alloc, &history)?;
-    expect_sums(rt, alloc, &index, known_sums)?;
-    expect_chain(rt, alloc, &index, known_chain)?;
-    expect_ordered(rt, alloc, &index, is_ordered)
+    expect_views(rt, alloc, &index, known_sums, known_chain, is_ordered)
 }
 
 #[test]
@@ -84,12 +96,16 @@ fn atomic_and_empty_histories_are_chains_in_order(rt: HostRuntime) -> Result<(),
     expect(&rt, rt.alloc(), NOTHING, &[], Some(&[]), true)
 }
 
+// The one view of an index has one write fault.
+fn expect_write_fault(rt: &impl Abort, index: &Index<'_>) {
+    assert!(rt; index.view_count() == 1);
+    assert!(rt; tally_without_read(index, 0, 1).write.count() == 1);
+}
+
 #[test]
 fn a_missed_update_is_found_beside_a_chain_in_order(rt: HostRuntime) -> Result<(), Fail> {
     expect(&rt, rt.alloc(), MISSED_UPDATE, &[1], Some(&[0]), true)?;
     let history = history_of(rt.alloc(), MISSED_UPDATE)?;
-    let index = Index::build(rt.alloc(), &history)?;
-    assert!(rt; index.view_count() == 1);
-    assert!(rt; tally_without_read(&index, 0, 1).write.count() == 1);
+    expect_write_fault(&rt, &Index::build(rt.alloc(), &history)?);
     Ok(())
 }

@@ -1,10 +1,12 @@
 //! Clashes of small grids, counted by hand.
-ghost use Rattle.std.specs.Prelude.{◌≡◌, ◌≤◌, length, IfOk};
+ghost use Rattle.std.specs.Prelude.{◌≡◌, ◌≤◌, ◌<◌, ℕ, [], get_or, length, IfOk};
 
 use snap_grid::{Column, Grid};
 use std::alloc::{AllocError, Global};
 use std::process::Abort;
 use std::test::Fail;
+
+mod first_clashes;
 
 /// So many rows of a number, one behind the other.
 type Run = (usize, u32);
@@ -32,7 +34,24 @@ fn places_of(alloc: Global, rows: u32, apart: bool) -> Result<(Vec<u32>, Vec<u32
     Ok((begins, ends))
 }
 
-// The grid of one column.
+// The grid of these columns, each of so many rows. Each row ends before the next begins, or none does.
+fn grid_of_columns(
+    rt: &impl Abort,
+    alloc: Global,
+    columns: Vec<Column>,
+    rows: usize,
+    apart: bool,
+) -> Result<(usize, Grid), AllocError>
+    requires few { rows ≤ 65536 }
+    requires same { (j : ℕ) → j < length columns.items → length (get_or columns.items j []) ≡ rows }
+    ensures { IfOk result (λ r. length r.1.begins ≡ r.0) }
+{
+    let (begins, ends) = places_of(alloc, rows as u32, apart)?;
+    assert!(rt; begins.len() == rows && ends.len() == rows);
+    Ok((rows, Grid::new(alloc, columns, begins, ends)?))
+}
+
+// The grid of one column, and its number of rows.
 fn grid_of_one(
     rt: &impl Abort,
     alloc: Global,
@@ -44,14 +63,11 @@ fn grid_of_one(
     let numbers = numbers_of(alloc, runs)?;
     let rows = numbers.len();
     assert!(rt; rows <= 65536);
-    let (begins, ends) = places_of(alloc, rows as u32, apart)?;
-    assert!(rt; begins.len() == rows && ends.len() == rows);
     let columns = vec![in alloc; Column::new(alloc, numbers, 9)?]?;
-    Ok((rows, Grid::new(alloc, columns, begins, ends)?))
+    grid_of_columns(rt, alloc, columns, rows, apart)
 }
 
-// The grid of two columns, with tables for numbers up to a limit, and its number of rows. Each row ends before the next begins,
-// or none does.
+// The grid of two columns, with tables for numbers up to a limit, and its number of rows.
 fn grid_of(
     rt: &impl Abort,
     alloc: Global,
@@ -66,13 +82,11 @@ fn grid_of(
     let second = numbers_of(alloc, second)?;
     let rows = first.len();
     assert!(rt; limit < 65536 && rows <= 65536 && second.len() == rows);
-    let (begins, ends) = places_of(alloc, rows as u32, apart)?;
-    assert!(rt; begins.len() == rows && ends.len() == rows);
     let columns = vec![in alloc;
         Column::new(alloc, first, limit)?,
         Column::new(alloc, second, limit)?,
     ]?;
-    Ok((rows, Grid::new(alloc, columns, begins, ends)?))
+    grid_of_columns(rt, alloc, columns, rows, apart)
 }
 
 // The rows from one to before another have these clashes.
@@ -306,17 +320,27 @@ fn equal_rows_are_counted_each_where_they_overlap_or_follow_one_another(
     expect_whole(&rt, rt.alloc(), &first, &second, true, (17, 11, Some(0)))
 }
 
+// All rows of the grid of one column have these clashes.
+fn expect_one_column(
+    rt: &impl Abort,
+    alloc: Global,
+    runs: &[Run],
+    apart: bool,
+    known: Known,
+) -> Result<(), Fail> {
+    let (rows, grid) = grid_of_one(rt, alloc, runs, apart)?;
+    expect_range(rt, alloc, &grid, 0, rows, known)
+}
+
 // The rows of the first block and of the third have both greater and lesser numbers than those of the second.
 #[test]
 fn rows_of_one_column_clash_only_with_those_to_which_they_drop(
     rt: HostRuntime,
 ) -> Result<(), Fail> {
     let runs = [(256, 2), (256, 0), (512, 1), (256, 2), (256, 0)];
-    let (rows, grid) = grid_of_one(&rt, rt.alloc(), &runs, false)?;
-    expect_range(&rt, rt.alloc(), &grid, 0, rows, (0, 0, None))?;
-    let (rows, grid) = grid_of_one(&rt, rt.alloc(), &runs, true)?;
+    expect_one_column(&rt, rt.alloc(), &runs, false, (0, 0, None))?;
     let falls = 256 * (256 + 512 + 256) + 512 * 256 + 256 * 256;
-    expect_range(&rt, rt.alloc(), &grid, 0, rows, (falls, falls, Some(0)))
+    expect_one_column(&rt, rt.alloc(), &runs, true, (falls, falls, Some(0)))
 }
 
 #[test]
@@ -328,61 +352,4 @@ fn equal_rows_of_a_later_block_are_counted_each(rt: HostRuntime) -> Result<(), F
         (512, 1024, 0, None),
     ];
     expect_falls(&rt, rt.alloc(), &rows, 9, &known)
-}
-
-// Of a grid whose rows may each end before the next begins, the first row that each of some rows clashes with.
-fn expect_first(
-    rt: &impl Abort,
-    alloc: Global,
-    first: &[Run],
-    second: &[Run],
-    apart: bool,
-    known: &[(usize, Option<usize>)],
-) -> Result<(), Fail> {
-    let (rows, grid) = grid_of(rt, alloc, first, second, 5, apart)?;
-    for &(row, other) in known {
-        assert!(rt; row < rows);
-        assert_eq!(rt; grid.first_clash(alloc, row)?, other, "{row}");
-    }
-    Ok(())
-}
-
-#[test]
-fn the_first_row_that_one_falls_to_may_stand_blocks_behind_it(rt: HostRuntime) -> Result<(), Fail> {
-    let first = [(700, 5), (1, 4), (400, 5), (1, 3)];
-    let second = [(1102, 0)];
-    let known = [
-        (0, Some(700)),
-        (699, Some(700)),
-        (700, Some(1101)),
-        (701, Some(1101)),
-        (1101, None),
-    ];
-    expect_first(&rt, rt.alloc(), &first, &second, true, &known)
-}
-
-#[test]
-fn the_first_row_that_one_of_a_far_number_falls_to_is_found_by_blocks(
-    rt: HostRuntime,
-) -> Result<(), Fail> {
-    let first = [(700, u32::MAX), (1, 1_000_000), (400, u32::MAX), (1, 3)];
-    let second = [(1102, 0)];
-    let known = [
-        (0, Some(700)),
-        (699, Some(700)),
-        (700, Some(1101)),
-        (1100, Some(1101)),
-        (1101, None),
-    ];
-    expect_first(&rt, rt.alloc(), &first, &second, true, &known)
-}
-
-#[test]
-fn of_rows_that_overlap_each_clashes_first_with_one_that_it_is_crossed_with(
-    rt: HostRuntime,
-) -> Result<(), Fail> {
-    let first = [(1, 1), (1, 0), (1, 2)];
-    let second = [(1, 0), (1, 1), (1, 2)];
-    let known = [(0, Some(1)), (1, Some(0)), (2, None)];
-    expect_first(&rt, rt.alloc(), &first, &second, false, &known)
 }

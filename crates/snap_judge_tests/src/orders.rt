@@ -134,22 +134,35 @@ fn legal_among(alloc: Global, index: &Index<'_>, length: usize, lists: u32) -> R
     Ok(legal)
 }
 
-// How many lists of up to four numbers below 6 are legal orders.
-fn legal_lists(alloc: Global, steps: &[Step<'_>]) -> Result<u32, Fail> {
-    let history = history_of(alloc, steps)?;
-    let index = Index::build(alloc, &history)?;
+// The lengths of the lists of up to four digits, and how many there are of each.
+const LENGTHS: &[(usize, u32)] = &[(0, 1), (1, 6), (2, 36), (3, 216), (4, 1296)];
+
+// How many of these lists are legal orders of an index's calls.
+fn legal_of(alloc: Global, index: &Index<'_>) -> Result<u32, Fail> {
     let mut legal = 0u32;
-    for (length, lists) in [(0, 1), (1, 6), (2, 36), (3, 216), (4, 1296)] {
-        legal = legal.saturating_add(legal_among(alloc, &index, length, lists)?);
+    for (length, lists) in LENGTHS {
+        legal = legal.saturating_add(legal_among(alloc, index, *length, *lists)?);
     }
     Ok(legal)
 }
 
+// The same of a history's calls.
+fn legal_lists(alloc: Global, steps: &[Step<'_>]) -> Result<u32, Fail> {
+    let history = history_of(alloc, steps)?;
+    let index = Index::build(alloc, &history)?;
+    legal_of(alloc, &index)
+}
+
+const LEGAL: &[(&[Step<'static>], u32)] = &[
+    (SEEN_PENDING, 2),
+    (VIEW_BESIDE_UPDATE, 1),
+    (ATOMIC_RUN, 0),
+];
+
 #[test]
 fn of_all_short_lists_few_are_legal_orders(rt: HostRuntime) -> Result<(), Fail> {
-    let alloc = rt.alloc();
-    assert_eq!(rt; legal_lists(alloc, SEEN_PENDING)?, 2);
-    assert_eq!(rt; legal_lists(alloc, VIEW_BESIDE_UPDATE)?, 1);
-    assert_eq!(rt; legal_lists(alloc, ATOMIC_RUN)?, 0);
+    for (steps, legal) in LEGAL {
+        assert_eq!(rt; legal_lists(rt.alloc(), steps)?, *legal);
+    }
     Ok(())
 }

@@ -120,12 +120,22 @@ fn is_of_stale_and_wrong(tally: &Tally) -> bool {
         && tally.proximity.first() == Some(stale)
 }
 
+// The pieces and the workers of cuttings, and why each is none.
+const CUTTINGS: &[(u32, u32, Option<CuttingRefusal>)] = &[
+    (0, 9, Some(CuttingRefusal::Pieces)),
+    (1025, 1, Some(CuttingRefusal::Pieces)),
+    (1, 9, Some(CuttingRefusal::Workers)),
+    (1024, 8, None),
+];
+
 #[test]
 fn a_cutting_has_1_to_1024_pieces_and_1_to_8_workers(rt: HostRuntime) {
-    assert_eq!(rt; Cutting::new(0, 9), Err(CuttingRefusal::Pieces));
-    assert_eq!(rt; Cutting::new(1025, 1), Err(CuttingRefusal::Pieces));
-    assert_eq!(rt; Cutting::new(1, 9), Err(CuttingRefusal::Workers));
-    assert!(rt; Cutting::new(1024, 8).is_ok());
+    for (pieces, workers, known) in CUTTINGS {
+        assert!(rt;
+            Cutting::new(*pieces, *workers).err() == *known,
+            "{pieces} and {workers}"
+        );
+    }
 }
 
 #[test]
@@ -146,19 +156,21 @@ fn components_far_from_one_another_are_compared(rt: HostRuntime) -> Result<(), F
     Ok(())
 }
 
-// The first view falls to the second, the fourth and the fifth, the third to the fourth and the fifth,
-// and the fourth to the fifth.
-#[test]
-fn views_of_few_far_numbers_fall_as_the_numbers_do(rt: HostRuntime) -> Result<(), Fail> {
-    let all = tally_by(&rt, rt.alloc(), FEW_FAR_NUMBERS, 2, 2, &OpenGate)?;
+// The faults of `FEW_FAR_NUMBERS`: the first view falls to the second, the fourth and the fifth, the third to the fourth and
+// the fifth, and the fourth to the fifth.
+fn is_of_few_far_numbers(tally: &Tally) -> bool {
     let first = ReadFault {
         view: 0,
         other: 1,
         component: 0,
     };
-    assert_eq!(rt; all.read.count(), 6);
-    assert_eq!(rt; all.read.first(), Some(first));
-    assert_eq!(rt; all.stale, 6);
+    tally.read.count() == 6 && tally.read.first() == Some(first) && tally.stale == 6
+}
+
+#[test]
+fn views_of_few_far_numbers_fall_as_the_numbers_do(rt: HostRuntime) -> Result<(), Fail> {
+    let all = tally_by(&rt, rt.alloc(), FEW_FAR_NUMBERS, 2, 2, &OpenGate)?;
+    assert!(rt; is_of_few_far_numbers(&all));
     Ok(())
 }
 
@@ -171,6 +183,21 @@ fn still_open(counter: Claims, claims: Vec<Claim>) -> Result<(Claims, Vec<Claim>
         Ok(()) => Err(Fail::new("the counter is closed")),
         Err(both) => Ok(both),
     }
+}
+
+// The counter does not close with this claim alone, and both come back.
+fn still_open_with(
+    rt: &impl Abort,
+    alloc: Global,
+    counter: Claims,
+    claim: Claim,
+) -> Result<(Claims, Claim), Fail>
+    requires { IsClaimOf counter claim }
+    ensures { IfOk result (λ r. IsClaimOf r.0 r.1) }
+{
+    let (counter, mut claims) = still_open(counter, vec![in alloc; claim]?)?;
+    let claim = claims.pop().expect(rt, "the claim");
+    Ok((counter, claim))
 }
 
 // A claim draws this piece, or finds none left.
@@ -196,14 +223,23 @@ fn draw_three(rt: &impl Abort, counter: &Claims, first: &mut Claim, second: &mut
     assert!(rt; !first.finished() && second.finished());
 }
 
+// The counter of three pieces, and its first and its second claim.
+fn start_three(rt: &impl Abort, alloc: Global) -> Result<(Claims, Claim, Claim), Fail>
+    ensures first { IfOk result (λ r. IsClaimOf r.0 r.1) }
+    ensures second { IfOk result (λ r. IsClaimOf r.0 r.2) }
+{
+    let (counter, mut claims) = Claims::start(alloc, Cutting::new(3, 2)?)?;
+    let second = claims.pop().expect(rt, "the second claim");
+    let first = claims.pop().expect(rt, "the first claim");
+    Ok((counter, first, second))
+}
+
 #[test]
 fn three_pieces_are_drawn_once_and_the_counter_closes_with_all_claims(
     rt: HostRuntime,
 ) -> Result<(), Fail> {
     let alloc = rt.alloc();
-    let (counter, mut claims) = Claims::start(alloc, Cutting::new(3, 2)?)?;
-    let mut second = claims.pop().expect(&rt, "the second claim");
-    let mut first = claims.pop().expect(&rt, "the first claim");
+    let (counter, mut first, mut second) = start_three(&rt, alloc)?;
     draw_three(&rt, &counter, &mut first, &mut second);
     let (counter, mut claims) = still_open(counter, vec![in alloc; second]?)?;
     claims.push(first)?;
@@ -225,8 +261,7 @@ fn a_close_that_is_refused_between_two_draws_loses_no_piece(rt: HostRuntime) -> 
     let (counter, mut claims) = Claims::start(alloc, Cutting::new(2, 1)?)?;
     let mut claim = claims.pop().expect(&rt, "the claim");
     expect_draw(&rt, &counter, &mut claim, Some(0));
-    let (counter, mut claims) = still_open(counter, vec![in alloc; claim]?)?;
-    let mut claim = claims.pop().expect(&rt, "the claim");
+    let (counter, mut claim) = still_open_with(&rt, alloc, counter, claim)?;
     expect_draw(&rt, &counter, &mut claim, Some(1));
     expect_draw(&rt, &counter, &mut claim, None);
     assert!(rt; counter.close(vec![in alloc; claim]?).is_ok());

@@ -1,21 +1,25 @@
 //! The tallies of worked histories, against faults known from outside.
+ghost use Rattle.std.specs.Prelude.{◌≡◌};
+
 use histories::WORKED;
 use snap_conditions::{
     IntegrityFault, ProximityFault, ReadFault, Side, Tally, WriteFault, is_atomic, is_monotone,
-    is_regular, merge, tally_by_grid, tally_range,
+    is_regular, tally_by_grid, tally_range,
 };
+use snap_core::Entry;
 use snap_index::Index;
 use snap_testing::worked::{
     ATOMIC_RUN, CROSSED_VIEWS, LARGEST_NUMBER, MISSED_UPDATE, NEVER_WRITTEN, NEW_THEN_OLD,
     SHOWN_TOO_EARLY, STALE_AND_WRONG, STALE_VIEW, WRONG_VALUE,
 };
-use snap_testing::{Step, entry, history_of};
+use snap_testing::{Shown, Step, entry, history_of};
 use snap_views::ViewGrid;
-use std::alloc::Global;
+use std::alloc::{AllocError, Global};
 use std::process::Abort;
 use std::test::Fail;
 
 mod histories;
+mod merged;
 
 /// What is known of a tally: of each kind the number of faults and the first, and how many views are stale.
 #[derive(Clone, Copy, PartialEq, Eq)]
@@ -69,18 +73,39 @@ fn found(tally: &Tally) -> Known {
     }
 }
 
-// Each of these ranges of views of an index, from one place to before another, has this tally.
+// A tally of the views from one place to before another has these faults.
+fn expect_found(rt: &impl Abort, tally: &Tally, from: u32, to: u32, known: &Known) {
+    assert!(rt; found(tally) == *known, "{from}..{to}");
+}
+
+// Each of these ranges of views of an index has this tally.
 fn expect_ranges(rt: &impl Abort, index: &Index<'_>, known: &[(u32, u32, Known)]) {
-    for &(from, to, known) in known {
+    for (from, to, known) in known {
+        let (from, to) = (*from, *to);
         assert!(rt; from <= to && to <= index.view_count());
-        assert!(rt;
-            found(&tally_range(index, from, to)) == known,
-            "{from}..{to}"
-        );
+        expect_found(rt, &tally_range(index, from, to), from, to, known);
     }
 }
 
-// The same by the grid of its views.
+// Each of these ranges of views has this tally by a grid of the views.
+fn expect_ranges_of_grid(
+    rt: &impl Abort,
+    alloc: Global,
+    index: &Index<'_>,
+    grid: &ViewGrid<'_, '_>,
+    known: &[(u32, u32, Known)],
+) -> Result<(), Fail>
+    requires { grid.now ≡ index.now }
+{
+    for (from, to, known) in known {
+        let (from, to) = (*from, *to);
+        assert!(rt; from <= to && to <= index.view_count());
+        expect_found(rt, &tally_by_grid(alloc, grid, from, to)?, from, to, known);
+    }
+    Ok(())
+}
+
+// The same by the grid of all views of an index.
 fn expect_ranges_by_grid(
     rt: &impl Abort,
     alloc: Global,
@@ -88,14 +113,7 @@ fn expect_ranges_by_grid(
     known: &[(u32, u32, Known)],
 ) -> Result<(), Fail> {
     let grid = ViewGrid::build(alloc, index)?;
-    for &(from, to, known) in known {
-        assert!(rt; from <= to && to <= index.view_count());
-        assert!(rt;
-            found(&tally_by_grid(alloc, &grid, from, to)?) == known,
-            "{from}..{to}"
-        );
-    }
-    Ok(())
+    expect_ranges_of_grid(rt, alloc, index, &grid, known)
 }
 
 // Each of these ranges of views of a history has this tally, with a grid and without.
@@ -111,12 +129,24 @@ fn expect(
     expect_ranges_by_grid(rt, alloc, &index, known)
 }
 
-// Whether a history is regular, monotone and atomic.
-fn verdicts(alloc: Global, steps: &[Step<'_>]) -> Result<[bool; 3], Fail> {
+// The tally of all views of a history.
+fn tally_of(alloc: Global, steps: &[Step<'_>]) -> Result<Tally, Fail> {
     let history = history_of(alloc, steps)?;
     let index = Index::build(alloc, &history)?;
-    let tally = tally_range(&index, 0, index.view_count());
-    Ok([is_regular(&tally), is_monotone(&tally), is_atomic(&tally)])
+    Ok(tally_range(&index, 0, index.view_count()))
+}
+
+// A history is regular or not, monotone or not, and atomic or not.
+fn expect_verdicts(
+    rt: &impl Abort,
+    alloc: Global,
+    steps: &[Step<'_>],
+    known: [bool; 3],
+) -> Result<(), Fail> {
+    let tally = tally_of(alloc, steps)?;
+    let found = [is_regular(&tally), is_monotone(&tally), is_atomic(&tally)];
+    assert_eq!(rt; found, known);
+    Ok(())
 }
 
 fn counts(tally: &Tally) -> [u64; 5] {
@@ -129,24 +159,11 @@ fn counts(tally: &Tally) -> [u64; 5] {
     ]
 }
 
-// The faults of both tallies, which are few.
-fn merged(rt: &impl Abort, first: &Tally, second: &Tally) -> Tally {
-    assert!(rt; first.integrity.count() <= 9 && second.integrity.count() <= 9);
-    assert!(rt; first.proximity.count() <= 9 && second.proximity.count() <= 9);
-    assert!(rt; first.read.count() <= 9 && second.read.count() <= 9);
-    assert!(rt; first.write.count() <= 9 && second.write.count() <= 9);
-    assert!(rt; first.stale <= 9 && second.stale <= 9);
-    merge(*first, *second)
-}
-
 #[test]
 fn each_worked_history_has_the_faults_that_are_known_of_it(rt: HostRuntime) -> Result<(), Fail> {
-    let alloc = rt.alloc();
-    for &(name, steps, known) in WORKED {
-        let history = history_of(alloc, steps)?;
-        let index = Index::build(alloc, &history)?;
-        let tally = tally_range(&index, 0, index.view_count());
-        assert_eq!(rt; counts(&tally), known, "{name}");
+    for (name, steps, known) in WORKED {
+        let tally = tally_of(rt.alloc(), steps)?;
+        assert_eq!(rt; counts(&tally), *known, "{name}");
     }
     Ok(())
 }
@@ -165,7 +182,7 @@ fn each_of_two_crossed_views_has_a_read_fault(rt: HostRuntime) -> Result<(), Fai
     };
     let known = [(0, 1, reads(1, of_first)), (1, 2, reads(1, of_second))];
     expect(&rt, rt.alloc(), CROSSED_VIEWS, &known)?;
-    assert_eq!(rt; verdicts(rt.alloc(), CROSSED_VIEWS)?, [true, true, false]);
+    expect_verdicts(&rt, rt.alloc(), CROSSED_VIEWS, [true, true, false])?;
     expect(
         &rt,
         rt.alloc(),
@@ -195,18 +212,24 @@ fn a_stale_view_and_a_wrong_value_are_told_apart(rt: HostRuntime) -> Result<(), 
     expect(&rt, rt.alloc(), STALE_VIEW, &[(0, 1, one_proximity(stale))])
 }
 
+// The first view of a history, this call, shows an entry that was never written, and there is no other fault.
+fn expect_never_written(
+    rt: &impl Abort,
+    alloc: Global,
+    steps: &[Step<'_>],
+    view: u32,
+    entry: Entry,
+) -> Result<(), Fail> {
+    expect_verdicts(rt, alloc, steps, [false, true, false])?;
+    let wrong = one_integrity(IntegrityFault { view, entry });
+    expect(rt, alloc, steps, &[(0, 1, wrong)])
+}
+
 #[test]
 fn an_entry_that_was_never_written_is_one_fault(rt: HostRuntime) -> Result<(), Fail> {
-    for (steps, view, shown) in [
-        (WRONG_VALUE, 1, entry(0, 1, 8)),
-        (LARGEST_NUMBER, 1, entry(0, u32::MAX, 7)),
-        (NEVER_WRITTEN, 0, entry(0, u32::MAX, 7)),
-    ] {
-        let wrong = one_integrity(IntegrityFault { view, entry: shown });
-        assert_eq!(rt; verdicts(rt.alloc(), steps)?, [false, true, false]);
-        expect(&rt, rt.alloc(), steps, &[(0, 1, wrong)])?;
-    }
-    Ok(())
+    expect_never_written(&rt, rt.alloc(), WRONG_VALUE, 1, entry(0, 1, 8))?;
+    expect_never_written(&rt, rt.alloc(), LARGEST_NUMBER, 1, entry(0, u32::MAX, 7))?;
+    expect_never_written(&rt, rt.alloc(), NEVER_WRITTEN, 0, entry(0, u32::MAX, 7))
 }
 
 #[test]
@@ -222,7 +245,7 @@ fn a_missed_update_is_regular_and_not_atomic(rt: HostRuntime) -> Result<(), Fail
         write: (1, Some(fault)),
         ..NO_FAULT
     };
-    assert_eq!(rt; verdicts(rt.alloc(), MISSED_UPDATE)?, [true, true, false]);
+    expect_verdicts(&rt, rt.alloc(), MISSED_UPDATE, [true, true, false])?;
     expect(&rt, rt.alloc(), MISSED_UPDATE, &[(0, 1, missed)])
 }
 
@@ -237,7 +260,7 @@ fn a_view_after_a_newer_one_has_no_fault_of_its_own(rt: HostRuntime) -> Result<(
         stale: 1,
         ..reads(1, newer)
     };
-    assert_eq!(rt; verdicts(rt.alloc(), NEW_THEN_OLD)?, [true, false, false]);
+    expect_verdicts(&rt, rt.alloc(), NEW_THEN_OLD, [true, false, false])?;
     let known = [(0, 1, going_back), (1, 2, NO_FAULT)];
     expect(&rt, rt.alloc(), NEW_THEN_OLD, &known)
 }
@@ -260,32 +283,35 @@ fn an_update_that_begins_after_the_view_is_early(rt: HostRuntime) -> Result<(), 
 
 #[test]
 fn an_atomic_run_and_an_empty_range_have_no_fault(rt: HostRuntime) -> Result<(), Fail> {
-    assert_eq!(rt; verdicts(rt.alloc(), ATOMIC_RUN)?, [true, true, true]);
+    expect_verdicts(&rt, rt.alloc(), ATOMIC_RUN, [true, true, true])?;
     expect(&rt, rt.alloc(), ATOMIC_RUN, &[(0, 2, NO_FAULT)])?;
     expect(&rt, rt.alloc(), CROSSED_VIEWS, &[(1, 1, NO_FAULT)])
 }
 
-#[test]
-fn the_last_view_of_a_block_is_compared_with_all_of_the_next(rt: HostRuntime) -> Result<(), Fail> {
-    let mut steps = Vec::new(rt.alloc());
-    for step in [
-        Step::Update(0, (0, 1, 7)),
-        Step::Updated(0),
-        Step::Update(0, (0, 2, 8)),
-    ] {
-        steps.push(step)?;
-    }
+// Beside an open update 128 views, of which the one at place 63 alone shows it.
+fn one_newer_of_many(alloc: Global) -> Result<Vec<Step<'static>>, AllocError> {
+    let mut steps = Vec::from_slice(
+        alloc,
+        &[
+            Step::Update(0, (0, 1, 7)),
+            Step::Updated(0),
+            Step::Update(0, (0, 2, 8)),
+        ],
+    )?;
     for place in 0..128 {
         steps.push(Step::View(1))?;
-        steps.push(Step::Viewed(
-            1,
-            if place == 63 {
-                &[(0, 2, 8)]
-            } else {
-                &[(0, 1, 7)]
-            },
-        ))?;
+        let shown = if place == 63 { NEWER } else { OLDER };
+        steps.push(Step::Viewed(1, shown))?;
     }
+    Ok(steps)
+}
+
+const OLDER: &[Shown] = &[(0, 1, 7)];
+
+const NEWER: &[Shown] = &[(0, 2, 8)];
+
+#[test]
+fn the_last_view_of_a_block_is_compared_with_all_of_the_next(rt: HostRuntime) -> Result<(), Fail> {
     let first = ReadFault {
         view: 65,
         other: 66,
@@ -301,6 +327,7 @@ fn the_last_view_of_a_block_is_compared_with_all_of_the_next(rt: HostRuntime) ->
         (0, 63, NO_FAULT),
         (64, 128, NO_FAULT),
     ];
+    let steps = one_newer_of_many(rt.alloc())?;
     expect(&rt, rt.alloc(), &steps, &known)
 }
 
@@ -340,53 +367,4 @@ fn a_number_above_that_of_each_update_is_compared_too(rt: HostRuntime) -> Result
         (2, 3, one_integrity(last_wrong)),
     ];
     expect(&rt, rt.alloc(), &steps, &known)
-}
-
-// Merged, two tallies have these faults.
-fn expect_merged(rt: &impl Abort, first: &Tally, second: &Tally, known: Known) {
-    assert!(rt; found(&merged(rt, first, second)) == known);
-}
-
-// The tallies of the two views of a history have its faults together, and its tally has them with no fault more.
-fn expect_parts_merged(rt: &impl Abort, alloc: Global, steps: &[Step<'_>]) -> Result<(), Fail> {
-    let history = history_of(alloc, steps)?;
-    let index = Index::build(alloc, &history)?;
-    assert!(rt; index.view_count() == 2);
-    let (first, second) = (tally_range(&index, 0, 1), tally_range(&index, 1, 2));
-    let all = tally_range(&index, 0, 2);
-    expect_merged(rt, &first, &second, found(&all));
-    expect_merged(rt, &second, &first, found(&all));
-    expect_merged(rt, &all, &Tally::none(), found(&all));
-    expect_merged(rt, &Tally::none(), &all, found(&all));
-    Ok(())
-}
-
-#[test]
-fn merged_tallies_have_the_faults_of_both(rt: HostRuntime) -> Result<(), Fail> {
-    expect_parts_merged(&rt, rt.alloc(), STALE_AND_WRONG)?;
-    expect_parts_merged(&rt, rt.alloc(), NEW_THEN_OLD)?;
-    expect_parts_merged(&rt, rt.alloc(), ATOMIC_RUN)
-}
-
-#[test]
-fn the_first_fault_of_merged_tallies_is_that_of_the_first(rt: HostRuntime) -> Result<(), Fail> {
-    let history = history_of(rt.alloc(), CROSSED_VIEWS)?;
-    let index = Index::build(rt.alloc(), &history)?;
-    assert_eq!(rt; index.view_count(), 2);
-    let first = tally_range(&index, 0, 1);
-    let second = tally_range(&index, 1, 2);
-    let of_first = ReadFault {
-        view: 2,
-        other: 3,
-        component: 0,
-    };
-    let of_second = ReadFault {
-        view: 3,
-        other: 2,
-        component: 1,
-    };
-    expect_merged(&rt, &first, &second, reads(2, of_first));
-    expect_merged(&rt, &second, &first, reads(2, of_second));
-    expect_merged(&rt, &second, &second, reads(2, of_second));
-    Ok(())
 }
