@@ -3,7 +3,7 @@ ghost use Rattle.snap_board.specs.Desks.{IsDeskOf, IsGatheredOf};
 ghost use Rattle.std.specs.Prelude.{◌≡◌, IfOk};
 
 use snap_board::{
-    Board, CollectRefusal, Desk, Gathered, OpenRefusal, Record, RecordedOp, StoreRefusal,
+    Board, Closed, CollectRefusal, Desk, Gathered, OpenRefusal, Record, RecordedOp, StoreRefusal,
 };
 use snap_core::Entry;
 use snap_testing::entry;
@@ -43,6 +43,33 @@ fn still_open(board: Board, gathered: Gathered) -> Result<(Board, Gathered), Fai
     }
 }
 
+// What is left of a board that is closed.
+fn closed(board: Board, gathered: Gathered) -> Result<Closed, Fail>
+    requires { IsGatheredOf board gathered }
+{
+    match board.close(gathered) {
+        Ok(closed) => Ok(closed),
+        Err(_both) => Err(Fail::from("not closed")),
+    }
+}
+
+// The same, once this desk came back.
+fn closed_with(board: Board, gathered: Gathered, desk: Desk) -> Result<Closed, Fail>
+    requires gathered { IsGatheredOf board gathered }
+    requires desk { IsDeskOf board desk }
+{
+    let gathered = board.give_back(gathered, desk);
+    closed(board, gathered)
+}
+
+// Stores a value.
+fn store(rt: &impl Abort, board: &Board, desk: &mut Desk, value: u32)
+    requires { IsDeskOf board.now desk.old }
+    ensures { IsDeskOf board.now desk.new }
+{
+    assert!(rt; board.store(desk, value).is_ok());
+}
+
 /// Whether the record is of a store of this entry.
 fn is_store(record: &Record, want: Entry) -> bool {
     match &record.op {
@@ -59,20 +86,40 @@ fn is_view(record: &Record, want: Entry) -> bool {
     }
 }
 
+// A process, and the stamps of the begin and the end of a call.
+type Of = (u16, u64, u64);
+
 /// Whether the record is of the process and has these stamps.
-fn is_of(record: &Record, process: u16, begun: u64, ended: u64) -> bool {
-    record.process == process && record.begun == begun && record.ended == ended
+fn is_of(record: &Record, of: Of) -> bool {
+    (record.process, record.begun, record.ended) == of
+}
+
+// Desk 1 stores 9, as the first call on the board.
+fn store_nine(rt: &impl Abort, board: &Board, desk: &mut Desk) -> Result<(), Fail>
+    requires { IsDeskOf board.now desk.old }
+    ensures { IsDeskOf board.now desk.new }
+{
+    assert!(rt; desk.process() == 1);
+    let stored = board.store(desk, 9)?;
+    assert!(rt; is_of(&stored, (1, 0, 1)) && is_store(&stored, entry(1, 1, 9)));
+    Ok(())
+}
+
+// The desk collects, and sees that 9 alone.
+fn collect_nine(rt: &impl Abort, alloc: Global, board: &Board, desk: &mut Desk) -> Result<(), Fail>
+    requires { IsDeskOf board.now desk.old }
+    ensures { IsDeskOf board.now desk.new }
+{
+    let viewed = board.collect(alloc, desk)?;
+    assert!(rt; is_of(&viewed, (1, 2, 3)) && is_view(&viewed, entry(1, 1, 9)));
+    Ok(())
 }
 
 #[test]
 fn a_desk_stores_and_collects(rt: HostRuntime) -> Result<(), Fail> {
     let (board, _gathered, mut one) = opened(rt.alloc(), 2)?;
-    assert!(rt; one.process() == 1);
-    let stored = board.store(&mut one, 9)?;
-    assert!(rt; is_of(&stored, 1, 0, 1) && is_store(&stored, entry(1, 1, 9)));
-    let viewed = board.collect(rt.alloc(), &mut one)?;
-    assert!(rt; is_of(&viewed, 1, 2, 3) && is_view(&viewed, entry(1, 1, 9)));
-    Ok(())
+    store_nine(&rt, &board, &mut one)?;
+    collect_nine(&rt, rt.alloc(), &board, &mut one)
 }
 
 #[test]
@@ -82,10 +129,7 @@ fn a_board_is_closed_once_all_its_desks_are_in(rt: HostRuntime) -> Result<(), Fa
     assert!(rt; gathered.held() == 1);
     let gathered = board.give_back(gathered, one);
     assert!(rt; gathered.held() == 2);
-    let Ok(closed) = board.close(gathered) else {
-        panic!(rt; "not closed")
-    };
-    assert!(rt; closed.desks() == 2);
+    assert!(rt; closed(board, gathered)?.desks() == 2);
     Ok(())
 }
 
@@ -93,14 +137,13 @@ fn a_board_is_closed_once_all_its_desks_are_in(rt: HostRuntime) -> Result<(), Fa
 fn a_board_is_closed_once_both_its_desks_came_back(rt: HostRuntime) -> Result<(), Fail> {
     let (board, mut gathered, mut one) = opened(rt.alloc(), 2)?;
     let mut zero = taken(rt.alloc(), &board, &mut gathered)?;
-    assert!(rt; board.store(&mut zero, 7).is_ok() && board.store(&mut one, 9).is_ok());
+    store(&rt, &board, &mut zero, 7);
+    store(&rt, &board, &mut one, 9);
     let gathered = board.give_back(gathered, one);
     let (board, gathered) = still_open(board, gathered)?;
     let gathered = board.give_back(gathered, zero);
     assert!(rt; gathered.held() == 2);
-    let Ok(closed) = board.close(gathered) else {
-        panic!(rt; "not closed")
-    };
+    let closed = closed(board, gathered)?;
     assert!(rt; closed.entry(0) == Some(entry(0, 1, 7)) && closed.entry(1) == Some(entry(1, 1, 9)));
     Ok(())
 }
@@ -120,11 +163,9 @@ fn the_highest_desk_goes_out_first(rt: HostRuntime) -> Result<(), Fail> {
 #[test]
 fn a_closed_board_has_the_last_store_of_each_desk(rt: HostRuntime) -> Result<(), Fail> {
     let (board, gathered, mut one) = opened(rt.alloc(), 2)?;
-    assert!(rt; board.store(&mut one, 8).is_ok() && board.store(&mut one, 9).is_ok());
-    let gathered = board.give_back(gathered, one);
-    let Ok(closed) = board.close(gathered) else {
-        panic!(rt; "not closed")
-    };
+    store(&rt, &board, &mut one, 8);
+    store(&rt, &board, &mut one, 9);
+    let closed = closed_with(board, gathered, one)?;
     assert!(rt; closed.entry(1) == Some(entry(1, 2, 9)));
     assert!(rt; closed.entry(0).is_none() && closed.entry(2).is_none());
     Ok(())
@@ -155,17 +196,21 @@ fn spend(rt: &impl Abort, board: &Board, desk: &mut Desk) -> Result<(), Fail>
     Ok(())
 }
 
+// A desk with no tick left neither stores nor collects.
+fn expect_spent(rt: &impl Abort, alloc: Global, board: &Board, desk: &mut Desk)
+    requires { IsDeskOf board.now desk.old }
+    ensures { IsDeskOf board.now desk.new }
+{
+    assert!(rt; board.store(desk, 0).err() == Some(StoreRefusal::Spent));
+    assert!(rt; board.collect(alloc, desk).err() == Some(CollectRefusal::Spent));
+}
+
 #[test]
 fn a_desk_is_spent_after_its_last_tick(rt: HostRuntime) -> Result<(), Fail> {
     let (board, gathered, mut desk) = opened(rt.alloc(), 1)?;
     spend(&rt, &board, &mut desk)?;
-    assert!(rt; board.store(&mut desk, 0).err() == Some(StoreRefusal::Spent));
-    let collected = board.collect(rt.alloc(), &mut desk).err();
-    assert!(rt; collected == Some(CollectRefusal::Spent));
-    let gathered = board.give_back(gathered, desk);
-    let Ok(closed) = board.close(gathered) else {
-        panic!(rt; "not closed")
-    };
+    expect_spent(&rt, rt.alloc(), &board, &mut desk);
+    let closed = closed_with(board, gathered, desk)?;
     assert!(rt; closed.entry(0) == Some(entry(0, 2_097_152, 0)));
     Ok(())
 }

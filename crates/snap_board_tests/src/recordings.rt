@@ -3,6 +3,7 @@ use snap_core::{Entry, Event, Gate, OpenGate};
 use snap_record::{Plan, PlanRefusal, Recording, Step, record_plan, rounds_plan};
 use snap_testing::{Meeting, entry};
 use std::alloc::Global;
+use std::process::Abort;
 use std::sync::atomic::{AtomicU64, Ordering};
 use std::test::Fail;
 
@@ -23,6 +24,14 @@ impl Gate for Count {
 /// A list of so many stores of 0.
 fn stores(alloc: Global, steps: usize) -> Result<Vec<Step>, Fail> {
     Ok(vec![in alloc; Step::Store(0); steps]?)
+}
+
+/// Two lists of so many stores.
+fn two_lists(alloc: Global, first: usize, second: usize) -> Result<Vec<Vec<Step>>, Fail> {
+    let mut lists = Vec::new(alloc);
+    lists.push(stores(alloc, first)?)?;
+    lists.push(stores(alloc, second)?)?;
+    Ok(lists)
 }
 
 /// So many lists of one store.
@@ -67,9 +76,9 @@ fn plans_have_two_to_eight_lists(rt: HostRuntime) -> Result<(), Fail> {
 #[test]
 fn plans_have_steps_within_the_limit(rt: HostRuntime) -> Result<(), Fail> {
     let alloc = rt.alloc();
-    let long = vec![in alloc; stores(alloc, 262144)?, stores(alloc, 262145)?]?;
+    let long = two_lists(alloc, 262144, 262145)?;
     assert!(rt; refusal(long) == Some(PlanRefusal::TooLong));
-    let full = vec![in alloc; stores(alloc, 262144)?, stores(alloc, 262144)?]?;
+    let full = two_lists(alloc, 262144, 262144)?;
     assert!(rt; refusal(full).is_none());
     Ok(())
 }
@@ -93,11 +102,21 @@ fn rounds_are_limited(rt: HostRuntime) {
     }
 }
 
+/// The plan of two workers with these steps.
+fn two_scripts(alloc: Global, first: &[Step], second: &[Step]) -> Result<Plan, Fail> {
+    let mut lists = Vec::new(alloc);
+    lists.push(Vec::from_slice(alloc, first)?)?;
+    lists.push(Vec::from_slice(alloc, second)?)?;
+    Ok(Plan::new(lists)?)
+}
+
 /// Worker 0 stores 5 and collects, worker 1 stores 6 and collects.
 fn two_stores(alloc: Global) -> Result<Plan, Fail> {
-    let first = vec![in alloc; Step::Store(5), Step::View]?;
-    let second = vec![in alloc; Step::Store(6), Step::View]?;
-    Ok(Plan::new(vec![in alloc; first, second]?)?)
+    two_scripts(
+        alloc,
+        &[Step::Store(5), Step::View],
+        &[Step::Store(6), Step::View],
+    )
 }
 
 /// Whether some view of the process shows 0:1:5, and some view 1:1:6.
@@ -114,13 +133,30 @@ fn shows(recording: &Recording, of: u16) -> (bool, bool) {
     both
 }
 
-/// Whether the process begins an update of this entry.
-fn updates(recording: &Recording, of: u16, component: u8, value: u32) -> bool {
-    let want = entry(component, 1, value);
-    recording.history.events().iter().any(|event| match event {
-        Event::BeginUpdate { process, entry } => *process == of && *entry == want,
-        _ => false,
-    })
+// How many events begin an update of this entry, by the process of its component.
+fn begins_of(recording: &Recording, want: Entry) -> usize {
+    let events = recording.history.events().iter();
+    events
+        .filter(|event| match event {
+            Event::BeginUpdate { process, entry } => {
+                *process == u16::from(want.component) && *entry == want
+            }
+            _ => false,
+        })
+        .count()
+}
+
+/// Whether there is such an update.
+fn begins(recording: &Recording, want: Entry) -> bool {
+    begins_of(recording, want) > 0
+}
+
+// A recording has the events of `two_stores`.
+fn expect_two_stores(rt: &impl Abort, recording: &Recording) {
+    assert!(rt; recording.history.len() == 8 && recording.interfered == 0);
+    assert!(rt; recording.stamps.as_slice() == [0, 1, 2, 3, 4, 5, 6, 7].as_slice());
+    assert!(rt; begins(recording, entry(0, 1, 5)) && begins(recording, entry(1, 1, 6)));
+    assert!(rt; shows(recording, 0).0 && shows(recording, 1).1);
 }
 
 #[test]
@@ -128,11 +164,16 @@ fn each_worker_sees_its_own_store(rt: HostRuntime) -> Result<(), Fail> {
     let alloc = rt.alloc();
     let plan = two_stores(alloc)?;
     let recording = record_plan(&rt, alloc, &plan, &OpenGate)?;
-    assert!(rt; recording.history.len() == 8 && recording.interfered == 0);
-    assert!(rt; recording.stamps.as_slice() == [0, 1, 2, 3, 4, 5, 6, 7].as_slice());
-    assert!(rt; updates(&recording, 0, 0, 5) && updates(&recording, 1, 1, 6));
-    assert!(rt; shows(&recording, 0).0 && shows(&recording, 1).1);
+    expect_two_stores(&rt, &recording);
     Ok(())
+}
+
+// A view of each process shows both stores.
+fn expect_both_shown(rt: &impl Abort, recording: &Recording) {
+    for process in 0..2 {
+        let seen = shows(recording, process);
+        assert!(rt; seen.0 && seen.1);
+    }
 }
 
 #[test]
@@ -142,10 +183,7 @@ fn two_workers_meet_behind_their_stores(rt: HostRuntime) -> Result<(), Fail> {
     let gate = Meeting::at_turn(1);
     let recording = record_plan(&rt, alloc, &plan, &gate)?;
     assert!(rt; gate.was_held());
-    for process in 0..2 {
-        let seen = shows(&recording, process);
-        assert!(rt; seen.0 && seen.1);
-    }
+    expect_both_shown(&rt, &recording);
     Ok(())
 }
 
@@ -169,6 +207,12 @@ fn shows_eight_numbers(event: &Event) -> bool {
     }
 }
 
+// How many such views there are.
+fn views_of_eight(recording: &Recording) -> usize {
+    let events = recording.history.events().iter();
+    events.filter(|event| shows_eight_numbers(event)).count()
+}
+
 #[test]
 fn eight_workers_meet_behind_their_stores(rt: HostRuntime) -> Result<(), Fail> {
     let alloc = rt.alloc();
@@ -177,12 +221,16 @@ fn eight_workers_meet_behind_their_stores(rt: HostRuntime) -> Result<(), Fail> {
     let recording = record_plan(&rt, alloc, &plan, &gate)?;
     assert!(rt; gate.was_held());
     assert_eq!(rt; recording.history.len(), 32);
-    let events = recording.history.events().iter();
-    assert_eq!(rt;
-        events.filter(|event| shows_eight_numbers(event)).count(),
-        8
-    );
+    assert_eq!(rt; views_of_eight(&recording), 8);
     Ok(())
+}
+
+// Whether the stamps are the numbers from 0 on.
+fn are_in_turn(stamps: &[u64]) -> bool {
+    stamps
+        .iter()
+        .enumerate()
+        .all(|(k, stamp)| *stamp == k as u64)
 }
 
 #[test]
@@ -191,49 +239,28 @@ fn two_workers_in_64_rounds_have_512_events(rt: HostRuntime) -> Result<(), Fail>
     let plan = rounds_plan(alloc, 2, 64, false)?;
     let recording = record_plan(&rt, alloc, &plan, &OpenGate)?;
     assert_eq!(rt; recording.history.len(), 512);
-    assert!(rt;
-        recording
-            .stamps
-            .iter()
-            .enumerate()
-            .all(|(k, stamp)| *stamp == k as u64)
-    );
-    let last = entry(1, 64, 65_600);
-    assert!(rt;
-        recording.history.events().iter().any(|event| match event {
-            Event::BeginUpdate { process, entry } => *process == 1 && *entry == last,
-            _ => false,
-        })
-    );
+    assert!(rt; are_in_turn(&recording.stamps));
+    assert!(rt; begins(&recording, entry(1, 64, 65_600)));
     Ok(())
 }
 
-/// How many events begin an update of this entry, by the process of its component.
-fn begins_of(recording: &Recording, want: Entry) -> usize {
-    let events = recording.history.events().iter();
-    events
-        .filter(|event| match event {
-            Event::BeginUpdate { process, entry } => {
-                *process == u16::from(want.component) && *entry == want
-            }
-            _ => false,
-        })
-        .count()
+// A recording has the 16,384 updates of two components, and no more.
+fn expect_updates(rt: &impl Abort, recording: &Recording) {
+    for component in 0..2 {
+        assert_eq!(rt; begins_of(recording, entry(component, 1, 0)), 1);
+        assert_eq!(rt; begins_of(recording, entry(component, 16384, 0)), 1);
+        assert_eq!(rt; begins_of(recording, entry(component, 16385, 0)), 0);
+    }
 }
 
 #[test]
 fn two_lists_of_16384_stores_have_65536_events(rt: HostRuntime) -> Result<(), Fail> {
     let alloc = rt.alloc();
-    let plan = Plan::new(vec![in alloc; stores(alloc, 16384)?, stores(alloc, 16384)?]?)?;
+    let plan = Plan::new(two_lists(alloc, 16384, 16384)?)?;
     let recording = record_plan(&rt, alloc, &plan, &OpenGate)?;
     assert!(rt; recording.history.len() == 65_536 && recording.stamps.len() == 65_536);
     assert!(rt; recording.stamps[0] == 0 && recording.stamps[65_535] == 65_535);
-    for component in 0..2 {
-        for number in [1, 16384] {
-            assert_eq!(rt; begins_of(&recording, entry(component, number, 0)), 1);
-        }
-        assert_eq!(rt; begins_of(&recording, entry(component, 16385, 0)), 0);
-    }
+    expect_updates(&rt, &recording);
     Ok(())
 }
 

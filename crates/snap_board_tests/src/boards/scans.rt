@@ -1,24 +1,64 @@
 //! Scans of a board.
 ghost use Rattle.snap_board.specs.Desks.{IsDeskOf};
+ghost use Rattle.std.specs.Prelude.{◌<◌};
 
-use super::{is_of, is_store, is_view, opened, taken};
+use super::{Of, is_of, is_view, opened, store_nine, taken};
 use snap_board::{Board, Desk, ScanRefusal};
 use snap_testing::entry;
 use std::alloc::Global;
+use std::process::Abort;
 use std::test::Fail;
 use std::thread::join;
+
+// A scan of so many tries has these stamps, and sees a 9 of desk 1 alone.
+fn scan_nine(
+    rt: &impl Abort,
+    alloc: Global,
+    board: &Board,
+    desk: &mut Desk,
+    tries: u32,
+    of: Of,
+) -> Result<(), Fail>
+    requires desk { IsDeskOf board.now desk.old }
+    requires tries { 0 < tries }
+    ensures { IsDeskOf board.now desk.new }
+{
+    let scanned = board.scan(alloc, desk, tries)?;
+    assert!(rt; is_of(&scanned, of) && is_view(&scanned, entry(1, 1, 9)));
+    Ok(())
+}
 
 #[test]
 fn a_scan_ends_behind_its_middle_tick(rt: HostRuntime) -> Result<(), Fail> {
     let alloc = rt.alloc();
     let (board, mut gathered, mut one) = opened(alloc, 2)?;
     let mut zero = taken(alloc, &board, &mut gathered)?;
-    let stored = board.store(&mut one, 9)?;
-    assert!(rt; is_of(&stored, 1, 0, 1) && is_store(&stored, entry(1, 1, 9)));
-    let scanned = board.scan(alloc, &mut one, 3)?;
-    assert!(rt; is_of(&scanned, 1, 2, 4) && is_view(&scanned, entry(1, 1, 9)));
-    let scanned = board.scan(alloc, &mut zero, 1)?;
-    assert!(rt; is_of(&scanned, 0, 5, 7) && is_view(&scanned, entry(1, 1, 9)));
+    store_nine(&rt, &board, &mut one)?;
+    scan_nine(&rt, alloc, &board, &mut one, 3, (1, 2, 4))?;
+    scan_nine(&rt, alloc, &board, &mut zero, 1, (0, 5, 7))
+}
+
+// A scan of so many tries is refused.
+fn expect_refused(rt: &impl Abort, alloc: Global, board: &Board, desk: &mut Desk, tries: u32)
+    requires desk { IsDeskOf board.now desk.old }
+    requires tries { 0 < tries }
+    ensures { IsDeskOf board.now desk.new }
+{
+    assert!(rt; board.scan(alloc, desk, tries).err() == Some(ScanRefusal::Spent));
+}
+
+// A scan of as many tries as there can be is the first call on the board.
+fn expect_scanned(
+    rt: &impl Abort,
+    alloc: Global,
+    board: &Board,
+    desk: &mut Desk,
+) -> Result<(), Fail>
+    requires { IsDeskOf board.now desk.old }
+    ensures { IsDeskOf board.now desk.new }
+{
+    let scanned = board.scan(alloc, desk, 4_194_302)?;
+    assert!(rt; is_of(&scanned, (0, 0, 2)));
     Ok(())
 }
 
@@ -26,14 +66,11 @@ fn a_scan_ends_behind_its_middle_tick(rt: HostRuntime) -> Result<(), Fail> {
 fn a_scan_is_spent_by_its_tries(rt: HostRuntime) -> Result<(), Fail> {
     let alloc = rt.alloc();
     let (board, _gathered, mut desk) = opened(alloc, 1)?;
-    let refused = board.scan(alloc, &mut desk, 4_194_303).err();
-    assert!(rt; refused == Some(ScanRefusal::Spent));
-    let scanned = board.scan(alloc, &mut desk, 4_194_302)?;
-    assert!(rt; is_of(&scanned, 0, 0, 2));
-    let refused = board.scan(alloc, &mut desk, 4_194_302).err();
-    assert!(rt; refused == Some(ScanRefusal::Spent));
+    expect_refused(&rt, alloc, &board, &mut desk, 4_194_303);
+    expect_scanned(&rt, alloc, &board, &mut desk)?;
+    expect_refused(&rt, alloc, &board, &mut desk, 4_194_302);
     let viewed = board.collect(alloc, &mut desk)?;
-    assert!(rt; is_of(&viewed, 0, 3, 4));
+    assert!(rt; is_of(&viewed, (0, 3, 4)));
     Ok(())
 }
 
@@ -62,6 +99,16 @@ fn scan_often(alloc: Global, board: &Board, mut desk: Desk) -> (Desk, bool)
     (desk, answered)
 }
 
+// A collect sees the last of the 1,000 stores alone.
+fn collect_last(rt: &impl Abort, alloc: Global, board: &Board, desk: &mut Desk) -> Result<(), Fail>
+    requires { IsDeskOf board.now desk.old }
+    ensures { IsDeskOf board.now desk.new }
+{
+    let viewed = board.collect(alloc, desk)?;
+    assert!(rt; is_view(&viewed, entry(0, 1000, 1000)));
+    Ok(())
+}
+
 #[test]
 fn scans_beside_stores_answer_or_are_interfered_with(rt: HostRuntime) -> Result<(), Fail> {
     let alloc = rt.alloc();
@@ -79,8 +126,6 @@ fn scans_beside_stores_answer_or_are_interfered_with(rt: HostRuntime) -> Result<
         { store_up(&board, zero) },
     );
     assert!(rt; answered && recorded);
-    let last = entry(0, 1000, 1000);
-    assert!(rt; is_view(&board.collect(alloc, &mut one)?, last));
-    assert!(rt; is_view(&board.collect(alloc, &mut zero)?, last));
-    Ok(())
+    collect_last(&rt, alloc, &board, &mut one)?;
+    collect_last(&rt, alloc, &board, &mut zero)
 }

@@ -1,6 +1,7 @@
 //! Recordings of plans that scan.
+use super::{expect_both_shown, refusal, two_scripts};
 use snap_core::OpenGate;
-use snap_record::{Plan, PlanRefusal, Step, record_plan};
+use snap_record::{PlanRefusal, Step, record_plan};
 use snap_testing::Meeting;
 use std::alloc::Global;
 use std::test::Fail;
@@ -20,10 +21,7 @@ fn scans_of_a_plan_are_limited(rt: HostRuntime) -> Result<(), Fail> {
         (4089, 1024, refused),
     ] {
         let lists = scans(rt.alloc(), steps, tries)?;
-        assert!(rt;
-            super::refusal(lists) == known,
-            "{steps} scans of {tries} tries"
-        );
+        assert!(rt; refusal(lists) == known, "{steps} scans of {tries} tries");
     }
     Ok(())
 }
@@ -31,25 +29,24 @@ fn scans_of_a_plan_are_limited(rt: HostRuntime) -> Result<(), Fail> {
 #[test]
 fn two_workers_scan_behind_their_stores(rt: HostRuntime) -> Result<(), Fail> {
     let alloc = rt.alloc();
-    let first = vec![in alloc; Step::Store(5), Step::Scan(64)]?;
-    let second = vec![in alloc; Step::Store(6), Step::Scan(64)]?;
-    let plan = Plan::new(vec![in alloc; first, second]?)?;
+    let (first, second) = (
+        [Step::Store(5), Step::Scan(64)],
+        [Step::Store(6), Step::Scan(64)],
+    );
+    let plan = two_scripts(alloc, &first, &second)?;
     let gate = Meeting::at_turn(1);
     let recording = record_plan(&rt, alloc, &plan, &gate)?;
     assert!(rt; gate.was_held());
     assert!(rt; recording.interfered == 0 && recording.history.len() == 8);
-    for process in 0..2 {
-        let seen = super::shows(&recording, process);
-        assert!(rt; seen.0 && seen.1);
-    }
+    expect_both_shown(&rt, &recording);
     Ok(())
 }
 
 #[test]
 fn the_stamps_of_a_lone_scan_leave_its_middle_tick_out(rt: HostRuntime) -> Result<(), Fail> {
     let alloc = rt.alloc();
-    let first = vec![in alloc; Step::Store(9), Step::Scan(3), Step::Store(8)]?;
-    let plan = Plan::new(vec![in alloc; first, Vec::new(alloc)]?)?;
+    let first = [Step::Store(9), Step::Scan(3), Step::Store(8)];
+    let plan = two_scripts(alloc, &first, &[])?;
     let recording = record_plan(&rt, alloc, &plan, &OpenGate)?;
     assert!(rt; recording.stamps.as_slice() == [0, 1, 2, 4, 5, 6].as_slice());
     Ok(())
