@@ -49,13 +49,22 @@ fn store_and_collect(alloc: Global, board: &Board, desk: &mut Desk) -> Result<()
     expect_view(&viewed, 2, 3, entry(1, 1, 9))
 }
 
+// A fresh board of two desks, what it gathers, and its highest desk.
+fn opened(alloc: Global) -> Result<(Board, Gathered, Desk), Fault>
+    ensures gathered { IfOk result (λ r. IsGatheredOf r.0 r.1) }
+    ensures desk { IfOk result (λ r. IsDeskOf r.0 r.2) }
+{
+    let (board, mut gathered) = Board::open(alloc, 2)?;
+    match take_desk(alloc, &board, &mut gathered)? {
+        Some(desk) => Ok((board, gathered, desk)),
+        None => Err(Fault::Wrong),
+    }
+}
+
 /// The first desk stores and collects. After a refusal the next `take` gives the same desk, and the next collect has the
 /// stamps that the refused one would have had.
 pub fn collect(alloc: Global) -> Result<(), Fault> {
-    let (board, mut gathered) = Board::open(alloc, 2)?;
-    let Some(mut desk) = take_desk(alloc, &board, &mut gathered)? else {
-        return Err(Fault::Wrong);
-    };
+    let (board, gathered, mut desk) = opened(alloc)?;
     store_and_collect(alloc, &board, &mut desk)?;
     let gathered = board.give_back(gathered, desk);
     let Ok(closed) = board.close(gathered) else {
@@ -64,18 +73,23 @@ pub fn collect(alloc: Global) -> Result<(), Fault> {
     expect(closed.entry(1) == Some(entry(1, 1, 9)) && closed.entry(0).is_none())
 }
 
-/// The first desk stores and scans. After a refusal the next scan has the stamps that the refused one would have had.
-pub fn scan(alloc: Global) -> Result<(), Fault> {
-    let (board, mut gathered) = Board::open(alloc, 2)?;
-    let Some(mut desk) = board.take(alloc, &mut gathered)? else {
+// Stores, and then scans, and once more where that is refused, with the stamps that the refused scan would have had.
+fn store_and_scan(alloc: Global, board: &Board, desk: &mut Desk) -> Result<(), Fault>
+    requires { IsDeskOf board.now desk.old }
+    ensures { IsDeskOf board.now desk.new }
+{
+    let Ok(_stored) = board.store(desk, 9) else {
         return Err(Fault::Wrong);
     };
-    let Ok(_stored) = board.store(&mut desk, 9) else {
-        return Err(Fault::Wrong);
-    };
-    let scanned = match board.scan(alloc, &mut desk, 3) {
-        Err(ScanRefusal::Memory) => board.scan(alloc, &mut desk, 3)?,
+    let scanned = match board.scan(alloc, desk, 3) {
+        Err(ScanRefusal::Memory) => board.scan(alloc, desk, 3)?,
         answer => answer?,
     };
     expect_view(&scanned, 2, 4, entry(1, 1, 9))
+}
+
+/// The first desk stores and scans. After a refusal the next scan has the stamps that the refused one would have had.
+pub fn scan(alloc: Global) -> Result<(), Fault> {
+    let (board, _gathered, mut desk) = opened(alloc)?;
+    store_and_scan(alloc, &board, &mut desk)
 }

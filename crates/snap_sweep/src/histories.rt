@@ -1,14 +1,15 @@
 //! Histories, their calls, their faults and their orders.
 ghost use Rattle.snap_core.specs.Calls.{calls_of};
+ghost use Rattle.snap_pairs.specs.Claiming.{IsClaimOf};
 ghost use Rattle.snap_theory.specs.Faults.{HasNoFault};
 
 use crate::fault::{Fault, expect};
-use snap_core::{Event, EventRefusal, History, OpenGate, View};
+use snap_core::{Entry, Event, EventRefusal, History, OpenGate, View};
 use snap_index::Index;
 use snap_order::{build, check_order};
-use snap_pairs::{Claims, tally_and_chain};
+use snap_pairs::{Claim, Claims, tally_and_chain};
 use snap_testing::worked::{ATOMIC_RUN, CROSSED_VIEWS, FOUR_WAYS, SEEN_PENDING};
-use snap_testing::{Step, entry, history_of};
+use snap_testing::{Step, history_of};
 use snap_threads::{Cutting, PIECE_LIMIT, WORKER_LIMIT};
 use snap_views::{ViewOrder, view_order, view_sums};
 use std::alloc::Global;
@@ -33,26 +34,49 @@ fn push_event(history: &mut History, event: Event) -> Result<(), Fault> {
     }
 }
 
-/// Events of many processes, the last process and the last component among them, and one that is refused.
-pub fn push(alloc: Global) -> Result<(), Fault> {
-    let shown = entry(255, 1, 7);
-    let mut history = History::new(alloc);
+// Begins an update of the last process and the last component, and views of 20 processes.
+fn push_begins(history: &mut History) -> Result<(), Fault> {
     let update = Event::BeginUpdate {
         process: 65535,
-        entry: shown,
+        entry: LAST,
     };
-    push_event(&mut history, update)?;
+    push_event(history, update)?;
     for process in 0..20 {
-        push_event(&mut history, Event::BeginView { process })?;
+        push_event(history, Event::BeginView { process })?;
     }
-    let Ok(view) = View::from_entries(vec![in alloc; shown]?) else {
-        return Err(Fault::Wrong);
-    };
-    push_event(&mut history, Event::EndView { process: 7, view })?;
-    let Err((_back, refusal)) = history.push(Event::BeginView { process: 0 }) else {
-        return Err(Fault::Wrong);
-    };
-    expect(refusal == EventRefusal::Busy && history.len() == 22)
+    Ok(())
+}
+
+// Ends a view.
+fn push_end(alloc: Global, history: &mut History) -> Result<(), Fault> {
+    match View::from_entries(vec![in alloc; LAST]?) {
+        Ok(view) => push_event(history, Event::EndView { process: 7, view }),
+        Err(_refused) => Err(Fault::Wrong),
+    }
+}
+
+// Pushes an event that is refused.
+fn push_busy(history: &mut History) -> Result<(), Fault> {
+    match history.push(Event::BeginView { process: 0 }) {
+        Ok(()) => Err(Fault::Wrong),
+        Err((_back, refusal)) => expect(refusal == EventRefusal::Busy),
+    }
+}
+
+// The first entry of the last component.
+const LAST: Entry = Entry {
+    component: 255,
+    number: 1,
+    value: 7,
+};
+
+/// Events of many processes, the last process and the last component among them, and one that is refused.
+pub fn push(alloc: Global) -> Result<(), Fault> {
+    let mut history = History::new(alloc);
+    push_begins(&mut history)?;
+    push_end(alloc, &mut history)?;
+    push_busy(&mut history)?;
+    expect(history.len() == 22)
 }
 
 /// Of two pending updates one is shown by the view.
@@ -74,23 +98,47 @@ fn printed(alloc: Global, index: &Index<'_>) -> Result<Vec<u32>, Fault>
     Ok(build(alloc, index, chain)?)
 }
 
-/// The update that was shown and then the view are a legal order, and the one that is printed. Where memory is refused the order
-/// is made once more.
+// The order of an index is this one. Where memory is refused it is made once more.
+fn expect_printed(alloc: Global, index: &Index<'_>, known: &[u32]) -> Result<(), Fault>
+    requires { HasNoFault (calls_of index.now) }
+{
+    let order = match printed(alloc, index) {
+        Err(Fault::Memory) => printed(alloc, index)?,
+        answer => answer?,
+    };
+    expect(order.as_slice() == known)
+}
+
+// Of the orders of an index this one is legal, and printed, and its reverse is not.
+fn expect_order(alloc: Global, index: &Index<'_>) -> Result<(), Fault> {
+    expect(!check_order(alloc, index, &[2, 0])?)?;
+    if !check_order(alloc, index, &[0, 2])? {
+        return Err(Fault::Wrong);
+    }
+    expect_printed(alloc, index, &[0, 2])
+}
+
+/// The update that was shown and then the view are a legal order, and the one that is printed.
 pub fn order(alloc: Global) -> Result<(), Fault> {
     let history = history_of(alloc, SEEN_PENDING)?;
     let index = Index::build(alloc, &history)?;
-    expect(!check_order(alloc, &index, &[2, 0])?)?;
-    if !check_order(alloc, &index, &[0, 2])? {
-        return Err(Fault::Wrong);
-    }
-    let order = match printed(alloc, &index) {
-        Err(Fault::Memory) => printed(alloc, &index)?,
-        answer => answer?,
-    };
-    expect(order.as_slice() == [0, 2].as_slice())
+    expect_order(alloc, &index)
 }
 
-// The tally of a history that is cut so has so many read faults and no other.
+// The tally of an index that is cut so has so many read faults and no other.
+fn expect_cut<R: Threads + Sync>(
+    rt: &R,
+    alloc: Global,
+    index: &Index<'_>,
+    cutting: Cutting,
+    count: u64,
+) -> Result<(), Fault> {
+    let (found, _chain) = tally_and_chain(rt, alloc, index, cutting, &OpenGate)?;
+    expect(found.integrity.count() == 0 && found.proximity.count() == 0)?;
+    expect(found.read.count() == count && found.write.count() == 0)
+}
+
+// The same of a history.
 fn expect_read_faults<R: Threads + Sync>(
     rt: &R,
     alloc: Global,
@@ -100,9 +148,7 @@ fn expect_read_faults<R: Threads + Sync>(
 ) -> Result<(), Fault> {
     let history = history_of(alloc, steps)?;
     let index = Index::build(alloc, &history)?;
-    let (found, _chain) = tally_and_chain(rt, alloc, &index, cutting, &OpenGate)?;
-    expect(found.integrity.count() == 0 && found.proximity.count() == 0)?;
-    expect(found.read.count() == count && found.write.count() == 0)
+    expect_cut(rt, alloc, &index, cutting, count)
 }
 
 /// Two views disagree, and as many workers as there may be see it.
@@ -118,8 +164,26 @@ pub fn tally_of_parts<R: Threads + Sync>(rt: &R, alloc: Global) -> Result<(), Fa
     expect_read_faults(rt, alloc, FOUR_WAYS, Cutting::usual(), 12)
 }
 
-// By two workers a history has so many read faults, and its views are a chain or not. Where memory is refused that is found
+// By two workers an index has so many read faults, and its views are a chain or not. Where memory is refused that is found
 // once more.
+fn expect_by_two<R: Threads + Sync>(
+    rt: &R,
+    alloc: Global,
+    index: &Index<'_>,
+    count: u64,
+    is_chain: bool,
+) -> Result<(), Fault> {
+    let Ok(cutting) = Cutting::new(2, 2) else {
+        return Err(Fault::Wrong);
+    };
+    let (found, chain) = match tally_and_chain(rt, alloc, index, cutting, &OpenGate) {
+        Ok(both) => both,
+        Err(_refused) => tally_and_chain(rt, alloc, index, cutting, &OpenGate)?,
+    };
+    expect(found.read.count() == count && chain.is_some() == is_chain)
+}
+
+// The same of a history.
 fn expect_tally_and_chain<R: Threads + Sync>(
     rt: &R,
     alloc: Global,
@@ -127,22 +191,26 @@ fn expect_tally_and_chain<R: Threads + Sync>(
     count: u64,
     is_chain: bool,
 ) -> Result<(), Fault> {
-    let Ok(cutting) = Cutting::new(2, 2) else {
-        return Err(Fault::Wrong);
-    };
     let history = history_of(alloc, steps)?;
     let index = Index::build(alloc, &history)?;
-    let (found, chain) = match tally_and_chain(rt, alloc, &index, cutting, &OpenGate) {
-        Ok(both) => both,
-        Err(_refused) => tally_and_chain(rt, alloc, &index, cutting, &OpenGate)?,
-    };
-    expect(found.read.count() == count && chain.is_some() == is_chain)
+    expect_by_two(rt, alloc, &index, count, is_chain)
 }
 
 /// Tallies by two workers, with a chain where there is no read fault.
 pub fn tallies_and_chains<R: Threads + Sync>(rt: &R, alloc: Global) -> Result<(), Fault> {
     expect_tally_and_chain(rt, alloc, ATOMIC_RUN, 0, true)?;
     expect_tally_and_chain(rt, alloc, CROSSED_VIEWS, 2, false)
+}
+
+// The first of two claims draws two of three pieces, and the second one.
+fn draw_three(counter: &Claims, first: &mut Claim, second: &mut Claim) -> Result<(), Fault>
+    requires first { IsClaimOf counter.now first.old }
+    requires second { IsClaimOf counter.now second.old }
+    ensures first { IsClaimOf counter.now first.new }
+    ensures second { IsClaimOf counter.now second.new }
+{
+    expect(counter.draw(first) == Some(0) && counter.draw(second) == Some(1))?;
+    expect(counter.draw(first) == Some(2) && counter.draw(second).is_none())
 }
 
 /// Of three pieces the first claim draws two, and both claims close the counter.
@@ -157,8 +225,7 @@ pub fn claims(alloc: Global) -> Result<(), Fault> {
     let Some(mut first) = claims.pop() else {
         return Err(Fault::Wrong);
     };
-    expect(counter.draw(&mut first) == Some(0) && counter.draw(&mut second) == Some(1))?;
-    expect(counter.draw(&mut first) == Some(2) && counter.draw(&mut second).is_none())?;
+    draw_three(&counter, &mut first, &mut second)?;
     let both = vec![in alloc; first, second]?;
     expect(counter.close(both).is_ok())
 }

@@ -11,6 +11,10 @@ mod texts;
 mod views;
 
 use fault::Fault;
+use std::alloc::Global;
+use std::sync::Wait;
+use std::thread::Threads;
+use texts::Made;
 
 // How a case ended, in words.
 fn outcome(seen: Result<(), Fault>) -> &'static str {
@@ -21,51 +25,81 @@ fn outcome(seen: Result<(), Fault>) -> &'static str {
     }
 }
 
+// Says how a case ended.
+fn say(host: &HostRuntime, name: &str, seen: Result<(), Fault>) {
+    let words = outcome(seen);
+    let _ = println!(host; "{name}: {words}");
+}
+
+fn sweep_histories<R: Threads + Sync>(rt: &R, host: &HostRuntime, alloc: Global) {
+    say(host, "push", histories::push(alloc));
+    say(host, "index", histories::index(alloc));
+    say(host, "order", histories::order(alloc));
+    say(host, "tally", histories::tally_of_pieces(rt, alloc));
+    say(host, "tally of parts", histories::tally_of_parts(rt, alloc));
+    let seen = histories::tallies_and_chains(rt, alloc);
+    say(host, "tally and chain", seen);
+}
+
+fn sweep_views(host: &HostRuntime, alloc: Global) {
+    say(host, "chains", views::chains(alloc));
+    say(host, "grids", views::grids(alloc));
+    say(host, "columns", views::columns(alloc));
+    say(host, "grid of a chain", views::grid_of_chain(alloc));
+    let seen = views::tallies_and_chains(alloc);
+    say(host, "tally and chain on one thread", seen);
+    say(host, "claims", histories::claims(alloc));
+}
+
+fn sweep_texts(host: &HostRuntime, alloc: Global) {
+    say(host, "read", texts::read(alloc));
+    say(host, "read in memory", texts::read_in_memory(alloc));
+    say(host, "read with records", texts::read_with_records(alloc));
+    say(host, "record", texts::record(alloc));
+    say(host, "write", texts::write(alloc));
+    say(host, "write with stamps", texts::write_stamped(alloc));
+    say(host, "fields", texts::fields(alloc));
+}
+
+fn sweep_reports(host: &HostRuntime, alloc: Global) {
+    say(host, "report", texts::text_made(alloc, Made::Report));
+    say(
+        host,
+        "report in memory",
+        texts::text_made(alloc, Made::ReportInMemory),
+    );
+    let seen = texts::verdict_along_chain(alloc);
+    say(host, "verdict along a chain", seen);
+    say(host, "words", texts::words(alloc));
+    say(
+        host,
+        "verdicts alone",
+        texts::text_made(alloc, Made::VerdictsAlone),
+    );
+    say(
+        host,
+        "brief verdict",
+        texts::text_made(alloc, Made::BriefVerdict),
+    );
+    say(host, "witness", texts::text_made(alloc, Made::Witness));
+    say(host, "refusal", texts::refusal(alloc));
+    say(host, "verdict", texts::verdict(alloc));
+}
+
+fn sweep_boards<R: Threads + Wait + Sync>(rt: &R, host: &HostRuntime, alloc: Global) {
+    say(host, "collect", boards::collect(alloc));
+    say(host, "scan", boards::scan(alloc));
+    say(host, "relay", recordings::relay(rt, alloc));
+    let seen = recordings::recording(rt, alloc, false);
+    say(host, "recording", seen);
+    let seen = recordings::recording(rt, alloc, true);
+    say(host, "recording of scans", seen);
+}
+
 fn main(rt: HostRuntime) {
-    let alloc = rt.alloc();
-    let cases = [
-        ("push", histories::push(alloc)),
-        ("index", histories::index(alloc)),
-        ("order", histories::order(alloc)),
-        ("tally", histories::tally_of_pieces(&rt, alloc)),
-        ("tally of parts", histories::tally_of_parts(&rt, alloc)),
-        ("tally and chain", histories::tallies_and_chains(&rt, alloc)),
-        ("chains", views::chains(alloc)),
-        ("grids", views::grids(alloc)),
-        ("columns", views::columns(alloc)),
-        ("grid of a chain", views::grid_of_chain(alloc)),
-        (
-            "tally and chain on one thread",
-            views::tallies_and_chains(alloc),
-        ),
-        ("claims", histories::claims(alloc)),
-        ("read", texts::read(alloc)),
-        ("read in memory", texts::read_in_memory(alloc)),
-        ("read with records", texts::read_with_records(alloc)),
-        ("record", texts::record(alloc)),
-        ("write", texts::write(alloc)),
-        ("write with stamps", texts::write_stamped(alloc)),
-        ("fields", texts::fields(alloc)),
-        ("report", texts::report_of_faults(alloc)),
-        ("report in memory", texts::report_in_memory(alloc)),
-        ("verdict along a chain", texts::verdict_along_chain(alloc)),
-        ("words", texts::words(alloc)),
-        ("verdicts alone", texts::verdicts_alone(alloc)),
-        ("brief verdict", texts::brief_verdict(alloc)),
-        ("witness", texts::witness_of_fault(alloc)),
-        ("refusal", texts::refusal(alloc)),
-        ("verdict", texts::verdict(alloc)),
-        ("collect", boards::collect(alloc)),
-        ("scan", boards::scan(alloc)),
-        ("relay", recordings::relay(&rt, alloc)),
-        ("recording", recordings::recording(&rt, alloc, false)),
-        (
-            "recording of scans",
-            recordings::recording(&rt, alloc, true),
-        ),
-    ];
-    for (name, seen) in cases {
-        let words = outcome(seen);
-        let _ = println!(rt; "{name}: {words}");
-    }
+    sweep_histories(&rt, &rt, rt.alloc());
+    sweep_views(&rt, rt.alloc());
+    sweep_texts(&rt, rt.alloc());
+    sweep_reports(&rt, rt.alloc());
+    sweep_boards(&rt, &rt, rt.alloc());
 }

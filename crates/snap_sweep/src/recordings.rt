@@ -1,10 +1,10 @@
 //! Records that go through a relay, and recordings.
-ghost use Rattle.std.specs.Prelude.{◌≡◌};
+ghost use Rattle.std.specs.Prelude.{◌≡◌, IfOk};
 ghost use Rattle.snap_record.specs.Relays.{IsSenderOf, IsTakerOf};
 
 use crate::fault::{Fault, expect};
 use snap_core::OpenGate;
-use snap_record::{Record, RecordedOp, Relay, Sender, Taker, record_plan, rounds_plan};
+use snap_record::{Record, RecordedOp, Recording, Relay, Sender, Taker, record_plan, rounds_plan};
 use snap_testing::entry;
 use std::alloc::Global;
 use std::sync::Wait;
@@ -48,15 +48,25 @@ fn expect_next<R: Wait>(rt: &R, relay: &Relay, taker: &mut Taker, process: u16) 
     expect(record.process == process)
 }
 
+// A relay with its two senders and its taker.
+fn start_two(alloc: Global) -> Result<(Relay, Sender, Sender, Taker), Fault>
+    ensures zero { IfOk result (λ r. IsSenderOf r.0 r.1 × (r.1.place ≡ 0)) }
+    ensures one { IfOk result (λ r. IsSenderOf r.0 r.2 × (r.2.place ≡ 1)) }
+    ensures taker { IfOk result (λ r. IsTakerOf r.0 r.3) }
+{
+    let (relay, mut senders, taker) = Relay::start(alloc, 2)?;
+    let Some(one) = senders.pop() else {
+        return Err(Fault::Wrong);
+    };
+    let Some(zero) = senders.pop() else {
+        return Err(Fault::Wrong);
+    };
+    Ok((relay, zero, one, taker))
+}
+
 /// Records of two senders come in the order in which they were sent.
 pub fn relay<R: Wait>(rt: &R, alloc: Global) -> Result<(), Fault> {
-    let (relay, mut senders, mut taker) = Relay::start(alloc, 2)?;
-    let Some(mut one) = senders.pop() else {
-        return Err(Fault::Wrong);
-    };
-    let Some(mut zero) = senders.pop() else {
-        return Err(Fault::Wrong);
-    };
+    let (relay, mut zero, mut one, mut taker) = start_two(alloc)?;
     expect(relay.next(rt, &mut taker).is_none())?;
     send(rt, alloc, &relay, &mut one, 1)?;
     send(rt, alloc, &relay, &mut zero, 0)?;
@@ -64,6 +74,14 @@ pub fn relay<R: Wait>(rt: &R, alloc: Global) -> Result<(), Fault> {
     expect_next(rt, &relay, &mut taker, 0)?;
     let both = vec![in alloc; zero, one]?;
     expect(relay.finish(rt, both, taker).is_ok())
+}
+
+// A recording has 24 events, of which two are missing for each scan that was interfered with, and a stamp for each that is there.
+fn expect_rounds(recording: &Recording, has_scans: bool) -> Result<(), Fault> {
+    let event_count = recording.history.len() as u64;
+    expect(event_count + 2 * u64::from(recording.interfered) == 24)?;
+    expect(has_scans || recording.interfered == 0)?;
+    expect(recording.stamps.len() == recording.history.len())
 }
 
 /// Two workers in three rounds of a store and a view each make 24 events with as many stamps, and two fewer for each scan
@@ -74,9 +92,5 @@ pub fn recording<R: Threads + Wait + Sync>(
     has_scans: bool,
 ) -> Result<(), Fault> {
     let plan = rounds_plan(alloc, 2, 3, has_scans)?;
-    let recording = record_plan(rt, alloc, &plan, &OpenGate)?;
-    let event_count = recording.history.len() as u64;
-    expect(event_count + 2 * u64::from(recording.interfered) == 24)?;
-    expect(has_scans || recording.interfered == 0)?;
-    expect(recording.stamps.len() == recording.history.len())
+    expect_rounds(&record_plan(rt, alloc, &plan, &OpenGate)?, has_scans)
 }

@@ -1,6 +1,10 @@
 //! Texts of histories, and reports.
+ghost use Rattle.snap_core.specs.Calls.{calls_of, views_of};
+ghost use Rattle.std.specs.Prelude.{◌≡◌};
+ghost use Rattle.snap_conditions.specs.Tally.{tally_of};
+
 use crate::fault::{Fault, expect};
-use snap_conditions::{is_atomic, tally_and_chain_alone, tally_range};
+use snap_conditions::{Tally, is_atomic, tally_and_chain_alone, tally_range};
 use snap_core::{Counted, Event, History};
 use snap_csv::{
     WriteRefusal, read_history, read_history_in, read_records, read_text, record_of, write_history,
@@ -40,23 +44,29 @@ const WRONG_ALONE_TEXT: &[u8] =
 
 const BUSY_TEXT: &[u8] = b"event,process,op,data\nbegin,0,view,\nbegin,0,view,\n";
 
+// The history of this text has four events.
+fn expect_read(alloc: Global, text: &[u8]) -> Result<(), Fault> {
+    let history = read_history(alloc, &mut Counted::new(text))?;
+    expect(history.len() == 4)
+}
+
 /// A text of each version is read.
 pub fn read(alloc: Global) -> Result<(), Fault> {
-    for text in [VIEW_BESIDE_UPDATE_TEXT, VIEW_BESIDE_UPDATE_STAMPED] {
-        let history = read_history(alloc, &mut Counted::new(text))?;
-        expect(history.len() == 4)?;
-    }
-    Ok(())
+    expect_read(alloc, VIEW_BESIDE_UPDATE_TEXT)?;
+    expect_read(alloc, VIEW_BESIDE_UPDATE_STAMPED)
+}
+
+// The events of this text stand in the records from 2 to 5.
+fn expect_records(alloc: Global, text: &[u8]) -> Result<(), Fault> {
+    let mut room = Vec::new(alloc);
+    let (_history, records) = read_records(alloc, &mut Counted::new(text), &mut room)?;
+    expect(records.as_slice() == [2, 3, 4, 5].as_slice() && room.as_slice() == text)
 }
 
 /// A text of each version is read with the numbers of its records.
 pub fn read_with_records(alloc: Global) -> Result<(), Fault> {
-    for text in [VIEW_BESIDE_UPDATE_TEXT, VIEW_BESIDE_UPDATE_STAMPED] {
-        let mut room = Vec::new(alloc);
-        let (_history, records) = read_records(alloc, &mut Counted::new(text), &mut room)?;
-        expect(records.as_slice() == [2, 3, 4, 5].as_slice() && room.as_slice() == text)?;
-    }
-    Ok(())
+    expect_records(alloc, VIEW_BESIDE_UPDATE_TEXT)?;
+    expect_records(alloc, VIEW_BESIDE_UPDATE_STAMPED)
 }
 
 /// The last record of a text has four fields, and there is none behind it.
@@ -68,17 +78,25 @@ pub fn record(alloc: Global) -> Result<(), Fault> {
     }
 }
 
-/// The same from memory, and from a reader into a vector, which has the text then.
+// The history of this text has four events, read from a reader into a vector, which has the text then.
+fn expect_read_in(alloc: Global, text: &[u8]) -> Result<(), Fault> {
+    let mut room = vec![in alloc; b'x']?;
+    let mut reader = Counted::new(text);
+    let answer = read_history_in(alloc, &mut reader, &mut room);
+    expect(reader.failures() == 0)?;
+    expect(answer?.len() == 4 && room.as_slice() == text)
+}
+
+// The same, after it was read from memory.
+fn expect_read_in_memory(alloc: Global, text: &[u8]) -> Result<(), Fault> {
+    expect(read_text(alloc, text)?.len() == 4)?;
+    expect_read_in(alloc, text)
+}
+
+/// A text of each version is read from memory, and from a reader into a vector.
 pub fn read_in_memory(alloc: Global) -> Result<(), Fault> {
-    for text in [VIEW_BESIDE_UPDATE_TEXT, VIEW_BESIDE_UPDATE_STAMPED] {
-        expect(read_text(alloc, text)?.len() == 4)?;
-        let mut room = vec![in alloc; b'x']?;
-        let mut reader = Counted::new(text);
-        let answer = read_history_in(alloc, &mut reader, &mut room);
-        expect(reader.failures() == 0)?;
-        expect(answer?.len() == 4 && room.as_slice() == text)?;
-    }
-    Ok(())
+    expect_read_in_memory(alloc, VIEW_BESIDE_UPDATE_TEXT)?;
+    expect_read_in_memory(alloc, VIEW_BESIDE_UPDATE_STAMPED)
 }
 
 // A writer that has its memory already.
@@ -128,17 +146,21 @@ pub fn write_stamped(alloc: Global) -> Result<(), Fault> {
     expect_written(answer, writer, VIEW_BESIDE_UPDATE_STAMPED)
 }
 
+// The fields are those of the begin of the update.
+fn are_of_begin(fields: &[Vec<u8>; 4]) -> bool {
+    fields[0].as_slice() == b"begin".as_slice()
+        && fields[1].as_slice() == b"0".as_slice()
+        && fields[2].as_slice() == b"update".as_slice()
+        && fields[3].as_slice() == b"0:1:3".as_slice()
+}
+
 /// The four fields of an event.
 pub fn fields(alloc: Global) -> Result<(), Fault> {
     let event = Event::BeginUpdate {
         process: 0,
         entry: entry(0, 1, 3),
     };
-    let fields = fields_of(alloc, &event)?;
-    expect(fields[0].as_slice() == b"begin".as_slice())?;
-    expect(fields[1].as_slice() == b"0".as_slice())?;
-    expect(fields[2].as_slice() == b"update".as_slice())?;
-    expect(fields[3].as_slice() == b"0:1:3".as_slice())
+    expect(are_of_begin(&fields_of(alloc, &event)?))
 }
 
 // A text was made, and is this one.
@@ -156,27 +178,63 @@ fn expect_verdict(
     expect(status == wanted && made.as_slice() == text)
 }
 
-/// The report of a history with faults.
-pub fn report_of_faults(alloc: Global) -> Result<(), Fault> {
-    let history = history_of(alloc, CROSSED_VIEWS)?;
-    let index = Index::build(alloc, &history)?;
-    let tally = tally_range(&index, 0, index.view_count());
-    if is_atomic(&tally) {
-        return Err(Fault::Wrong);
-    }
-    expect_bytes(report(alloc, &index, &tally, None), CROSSED_VIEWS_REPORT)
+/// What is made of a history with faults.
+#[derive(Clone, Copy)]
+pub enum Made {
+    /// Its report.
+    Report,
+    /// The same in the memory of a vector.
+    ReportInMemory,
+    /// The lines of the verdicts alone.
+    VerdictsAlone,
+    /// The same with the status.
+    BriefVerdict,
+    /// Its witness.
+    Witness,
 }
 
-/// The same in the memory of a vector.
-pub fn report_in_memory(alloc: Global) -> Result<(), Fault> {
-    let history = history_of(alloc, CROSSED_VIEWS)?;
-    let index = Index::build(alloc, &history)?;
-    let tally = tally_range(&index, 0, index.view_count());
+// The witness of an index is this text.
+fn expect_witness(alloc: Global, index: &Index<'_>, tally: &Tally, text: &[u8]) -> Result<(), Fault>
+    requires { tally.now ≡ tally_of (calls_of index.now) (views_of (calls_of index.now)) }
+{
+    match witness(alloc, index, tally)? {
+        Some(found) => expect_text(alloc, &found, text),
+        None => Err(Fault::Wrong),
+    }
+}
+
+// What is made of an index is as it is to be.
+fn expect_made(alloc: Global, index: &Index<'_>, made: Made) -> Result<(), Fault> {
+    let tally = tally_range(index, 0, index.view_count());
     if is_atomic(&tally) {
         return Err(Fault::Wrong);
     }
-    let room = vec![in alloc; b'x']?;
-    expect_bytes(report_in(room, &index, &tally, None), CROSSED_VIEWS_REPORT)
+    match made {
+        Made::Report => expect_bytes(report(alloc, index, &tally, None), CROSSED_VIEWS_REPORT),
+        Made::ReportInMemory => {
+            let room = vec![in alloc; b'x']?;
+            expect_bytes(report_in(room, index, &tally, None), CROSSED_VIEWS_REPORT)
+        }
+        Made::VerdictsAlone => expect_bytes(verdict_text(alloc, &tally), CROSSED_VIEWS_VERDICTS),
+        Made::BriefVerdict => expect_verdict(
+            brief_verdict_of(alloc, index, &tally),
+            Status::Regular,
+            CROSSED_VIEWS_VERDICTS,
+        ),
+        Made::Witness => expect_witness(alloc, index, &tally, WRONG_ALONE_TEXT),
+    }
+}
+
+/// A report or the verdicts of two views that disagree. The witness is that of a view that misses an update and one that shows a
+/// value that nobody wrote: the latter, with the update.
+pub fn text_made(alloc: Global, made: Made) -> Result<(), Fault> {
+    let steps = match made {
+        Made::Witness => STALE_AND_WRONG,
+        _ => CROSSED_VIEWS,
+    };
+    let history = history_of(alloc, steps)?;
+    let index = Index::build(alloc, &history)?;
+    expect_made(alloc, &index, made)
 }
 
 // The status and the report of an atomic history, along the chain of its views.
@@ -197,57 +255,42 @@ pub fn verdict_along_chain(alloc: Global) -> Result<(), Fault> {
     expect(status == Status::Atomic && report.as_slice() == VIEW_BESIDE_UPDATE_REPORT)
 }
 
-// A number, a call, an update and an entry, each behind a word in a vector of its own.
-fn words_of(alloc: Global) -> Result<[Vec<u8>; 4], AllocError> {
-    let mut number = Vec::new(alloc);
-    put_number(&mut number, b"component ", 255)?;
-    let mut call = Vec::new(alloc);
-    put_call(&mut call, b"view ", 0)?;
-    let mut update = Vec::new(alloc);
-    put_update(&mut update, b"update ", 255, 2)?;
-    let mut shown = Vec::new(alloc);
-    put_entry(&mut shown, b"entry ", &entry(255, 2, 7))?;
-    Ok([number, call, update, shown])
+// What is put behind a word.
+#[derive(Clone, Copy)]
+enum Put {
+    Number,
+    Call,
+    Update,
+    Entry,
 }
 
-/// Words of lines. Where memory is refused they are put once more.
-pub fn words(alloc: Global) -> Result<(), Fault> {
-    let [number, call, update, shown] = match words_of(alloc) {
-        Ok(words) => words,
-        Err(_refused) => words_of(alloc)?,
-    };
-    expect(number.as_slice() == b"component 255".as_slice())?;
-    expect(call.as_slice() == b"view 1".as_slice())?;
-    expect(update.as_slice() == b"update 255:2".as_slice())?;
-    expect(shown.as_slice() == b"entry 255:2:7".as_slice())
-}
-
-/// The lines of the verdicts alone.
-pub fn verdicts_alone(alloc: Global) -> Result<(), Fault> {
-    let history = history_of(alloc, CROSSED_VIEWS)?;
-    let index = Index::build(alloc, &history)?;
-    let tally = tally_range(&index, 0, index.view_count());
-    expect_bytes(verdict_text(alloc, &tally), CROSSED_VIEWS_VERDICTS)
-}
-
-/// The same with the status.
-pub fn brief_verdict(alloc: Global) -> Result<(), Fault> {
-    let history = history_of(alloc, CROSSED_VIEWS)?;
-    let index = Index::build(alloc, &history)?;
-    let tally = tally_range(&index, 0, index.view_count());
-    let made = brief_verdict_of(alloc, &index, &tally);
-    expect_verdict(made, Status::Regular, CROSSED_VIEWS_VERDICTS)
-}
-
-/// Of a view that misses an update and one that shows a value that nobody wrote, the latter is the witness, with the update.
-pub fn witness_of_fault(alloc: Global) -> Result<(), Fault> {
-    let history = history_of(alloc, STALE_AND_WRONG)?;
-    let index = Index::build(alloc, &history)?;
-    let tally = tally_range(&index, 0, index.view_count());
-    match witness(alloc, &index, &tally)? {
-        Some(found) => expect_text(alloc, &found, WRONG_ALONE_TEXT),
-        None => Err(Fault::Wrong),
+// A word and what is put behind it, in a vector of its own.
+fn line_of(alloc: Global, what: Put) -> Result<Vec<u8>, AllocError> {
+    let mut line = Vec::new(alloc);
+    match what {
+        Put::Number => put_number(&mut line, b"component ", 255)?,
+        Put::Call => put_call(&mut line, b"view ", 0)?,
+        Put::Update => put_update(&mut line, b"update ", 255, 2)?,
+        Put::Entry => put_entry(&mut line, b"entry ", &entry(255, 2, 7))?,
     }
+    Ok(line)
+}
+
+// The line is this one. Where memory is refused it is made once more.
+fn expect_line(alloc: Global, what: Put, known: &[u8]) -> Result<(), Fault> {
+    let line = match line_of(alloc, what) {
+        Ok(line) => line,
+        Err(_refused) => line_of(alloc, what)?,
+    };
+    expect(line.as_slice() == known)
+}
+
+/// Words of lines.
+pub fn words(alloc: Global) -> Result<(), Fault> {
+    expect_line(alloc, Put::Number, b"component 255")?;
+    expect_line(alloc, Put::Call, b"view 1")?;
+    expect_line(alloc, Put::Update, b"update 255:2")?;
+    expect_line(alloc, Put::Entry, b"entry 255:2:7")
 }
 
 /// The line of a text that is refused.

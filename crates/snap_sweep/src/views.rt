@@ -7,7 +7,7 @@ use snap_testing::Step::{Update, Updated, View, Viewed};
 use snap_testing::worked::{ATOMIC_RUN, CROSSED_VIEWS, NEW_THEN_OLD};
 use snap_testing::{Step, history_of};
 use snap_views::{ViewGrid, ViewOrder, chain, columns_between, ordered, view_order, view_sums};
-use std::alloc::{AllocError, Global};
+use std::alloc::Global;
 
 // Beside an open update of component 1 seven views show it, one after another, and a later one does not.
 const SEVEN_NEW_THEN_OLD: &[Step<'static>] = &[
@@ -79,7 +79,19 @@ fn expect_order(
     })
 }
 
-// The views of a history have these sums, this chain, and such an order.
+// The views of an index have these sums, this chain, and such an order.
+fn expect_views(
+    alloc: Global,
+    index: &Index<'_>,
+    known_sums: &[u64],
+    known_chain: Option<&[u32]>,
+    is_ordered: bool,
+) -> Result<(), Fault> {
+    expect_sorted(alloc, index, known_sums, known_chain)?;
+    expect_order(alloc, index, known_chain.is_some(), is_ordered)
+}
+
+// The same of the views of a history.
 fn expect_chain(
     alloc: Global,
     steps: &[Step<'_>],
@@ -89,8 +101,7 @@ fn expect_chain(
 ) -> Result<(), Fault> {
     let history = history_of(alloc, steps)?;
     let index = Index::build(alloc, &history)?;
-    expect_sorted(alloc, &index, known_sums, known_chain)?;
-    expect_order(alloc, &index, known_chain.is_some(), is_ordered)
+    expect_views(alloc, &index, known_sums, known_chain, is_ordered)
 }
 
 /// Views that disagree are no chain, a view after a newer one is one out of order, and those of an atomic run are one in order.
@@ -106,65 +117,28 @@ fn expect_faults(found: &Tally, read: u64, stale: u64) -> Result<(), Fault> {
     expect(found.read.count() == read && found.write.count() == 0 && found.stale == stale)
 }
 
-// By the grid of its views an index has so many of them.
-fn expect_tally_by_grid(
-    alloc: Global,
-    index: &Index<'_>,
-    read: u64,
-    stale: u64,
-) -> Result<(), Fault> {
+// Which grid of its views a history is tallied by.
+#[derive(Clone, Copy)]
+enum Way {
+    // The grid of the views.
+    Views,
+    // That of columns that are made before it.
+    Columns,
+    // That of the chain of the views, of which some two are a read fault.
+    Chain,
+}
+
+fn tally_by_views(alloc: Global, index: &Index<'_>) -> Result<Tally, Fault> {
     let grid = ViewGrid::build(alloc, index)?;
-    expect_faults(
-        &tally_by_grid(alloc, &grid, 0, index.view_count())?,
-        read,
-        stale,
-    )
+    Ok(tally_by_grid(alloc, &grid, 0, index.view_count())?)
 }
 
-// By the grid of its views a history has so many of them.
-fn expect_tally(alloc: Global, steps: &[Step<'_>], read: u64, stale: u64) -> Result<(), Fault> {
-    let history = history_of(alloc, steps)?;
-    let index = Index::build(alloc, &history)?;
-    expect_tally_by_grid(alloc, &index, read, stale)
-}
-
-// By the grid of its views a history has so many faults of numbers that were never written, and so many read faults.
-fn expect_far(alloc: Global, steps: &[Step<'_>], integrity: u64, read: u64) -> Result<(), Fault> {
-    let history = history_of(alloc, steps)?;
-    let index = Index::build(alloc, &history)?;
-    let grid = ViewGrid::build(alloc, &index)?;
-    let found = tally_by_grid(alloc, &grid, 0, index.view_count())?;
-    expect(found.integrity.count() == integrity && found.read.count() == read)
-}
-
-/// Grids of few views, of views most of which leave a component out, and of a number far off.
-pub fn grids(alloc: Global) -> Result<(), Fault> {
-    expect_tally(alloc, CROSSED_VIEWS, 2, 0)?;
-    expect_tally(alloc, NEW_THEN_OLD, 1, 1)?;
-    expect_tally(alloc, ATOMIC_RUN, 0, 0)?;
-    expect_tally(alloc, SEVEN_NEW_THEN_OLD, 7, 7)?;
-    expect_far(alloc, FAR_AND_CROSSED, 1, 2)
-}
-
-// The tally of an index by a grid of columns that are made before it.
-fn tally_by_columns(alloc: Global, index: &Index<'_>) -> Result<Tally, AllocError> {
+fn tally_by_columns(alloc: Global, index: &Index<'_>) -> Result<Tally, Fault> {
     let columns = columns_between(alloc, index, 0, COMPONENT_COUNT)?;
     let grid = ViewGrid::of_columns(alloc, index, columns)?;
-    tally_by_grid(alloc, &grid, 0, index.view_count())
+    Ok(tally_by_grid(alloc, &grid, 0, index.view_count())?)
 }
 
-/// Columns, and a grid of them. Where memory is refused both are made once more.
-pub fn columns(alloc: Global) -> Result<(), Fault> {
-    let history = history_of(alloc, SEVEN_NEW_THEN_OLD)?;
-    let index = Index::build(alloc, &history)?;
-    let found = match tally_by_columns(alloc, &index) {
-        Ok(tally) => tally,
-        Err(_refused) => tally_by_columns(alloc, &index)?,
-    };
-    expect_faults(&found, 7, 7)
-}
-
-// The tally of an index by the grid of the chain of its views, of which some two are a read fault.
 fn tally_by_chain(alloc: Global, index: &Index<'_>) -> Result<Tally, Fault> {
     let sums = view_sums(alloc, index)?;
     let ViewOrder::Comparable(chain) = view_order(alloc, index, sums)? else {
@@ -174,19 +148,83 @@ fn tally_by_chain(alloc: Global, index: &Index<'_>) -> Result<Tally, Fault> {
     Ok(tally_by_grid(alloc, &grid, 0, index.view_count())?)
 }
 
-/// A grid of the chain of views. Where memory is refused it is made once more.
-pub fn grid_of_chain(alloc: Global) -> Result<(), Fault> {
-    let history = history_of(alloc, SEVEN_NEW_THEN_OLD)?;
-    let index = Index::build(alloc, &history)?;
-    let found = match tally_by_chain(alloc, &index) {
-        Err(Fault::Memory) => tally_by_chain(alloc, &index)?,
-        answer => answer?,
-    };
-    expect_faults(&found, 7, 7)
+fn tally_by(alloc: Global, index: &Index<'_>, way: Way) -> Result<Tally, Fault> {
+    match way {
+        Way::Views => tally_by_views(alloc, index),
+        Way::Columns => tally_by_columns(alloc, index),
+        Way::Chain => tally_by_chain(alloc, index),
+    }
 }
 
-// On one thread a history has so many read faults and stale views, and its views are a chain or not. Where memory is refused
+// The same, and once more where memory is refused and the grid is of columns or of a chain.
+fn tally_again_by(alloc: Global, index: &Index<'_>, way: Way) -> Result<Tally, Fault> {
+    match (tally_by(alloc, index, way), way) {
+        (Err(Fault::Memory), Way::Columns | Way::Chain) => tally_by(alloc, index, way),
+        (answer, _) => answer,
+    }
+}
+
+// The tally of a history by such a grid.
+fn tally_of(alloc: Global, steps: &[Step<'_>], way: Way) -> Result<Tally, Fault> {
+    let history = history_of(alloc, steps)?;
+    let index = Index::build(alloc, &history)?;
+    tally_again_by(alloc, &index, way)
+}
+
+// By such a grid a history has so many read faults and stale views.
+fn expect_tally(
+    alloc: Global,
+    steps: &[Step<'_>],
+    way: Way,
+    read: u64,
+    stale: u64,
+) -> Result<(), Fault> {
+    expect_faults(&tally_of(alloc, steps, way)?, read, stale)
+}
+
+// By the grid of its views a history has so many faults of numbers that were never written, and so many read faults.
+fn expect_far(alloc: Global, steps: &[Step<'_>], integrity: u64, read: u64) -> Result<(), Fault> {
+    let found = tally_of(alloc, steps, Way::Views)?;
+    expect(found.integrity.count() == integrity && found.read.count() == read)
+}
+
+/// Grids of few views, of views most of which leave a component out, and of a number far off.
+pub fn grids(alloc: Global) -> Result<(), Fault> {
+    expect_tally(alloc, CROSSED_VIEWS, Way::Views, 2, 0)?;
+    expect_tally(alloc, NEW_THEN_OLD, Way::Views, 1, 1)?;
+    expect_tally(alloc, ATOMIC_RUN, Way::Views, 0, 0)?;
+    expect_tally(alloc, SEVEN_NEW_THEN_OLD, Way::Views, 7, 7)?;
+    expect_far(alloc, FAR_AND_CROSSED, 1, 2)
+}
+
+/// Columns, and a grid of them. Where memory is refused both are made once more.
+pub fn columns(alloc: Global) -> Result<(), Fault> {
+    expect_tally(alloc, SEVEN_NEW_THEN_OLD, Way::Columns, 7, 7)
+}
+
+/// A grid of the chain of views. Where memory is refused it is made once more.
+pub fn grid_of_chain(alloc: Global) -> Result<(), Fault> {
+    expect_tally(alloc, SEVEN_NEW_THEN_OLD, Way::Chain, 7, 7)
+}
+
+// On one thread an index has so many read faults and stale views, and its views are a chain or not. Where memory is refused
 // that is found once more.
+fn expect_alone(
+    alloc: Global,
+    index: &Index<'_>,
+    read: u64,
+    stale: u64,
+    is_chain: bool,
+) -> Result<(), Fault> {
+    let (found, chain) = match tally_and_chain_alone(alloc, index) {
+        Ok(both) => both,
+        Err(_refused) => tally_and_chain_alone(alloc, index)?,
+    };
+    expect(chain.is_some() == is_chain)?;
+    expect_faults(&found, read, stale)
+}
+
+// The same of a history.
 fn expect_tally_and_chain(
     alloc: Global,
     steps: &[Step<'_>],
@@ -196,12 +234,7 @@ fn expect_tally_and_chain(
 ) -> Result<(), Fault> {
     let history = history_of(alloc, steps)?;
     let index = Index::build(alloc, &history)?;
-    let (found, chain) = match tally_and_chain_alone(alloc, &index) {
-        Ok(both) => both,
-        Err(_refused) => tally_and_chain_alone(alloc, &index)?,
-    };
-    expect(chain.is_some() == is_chain)?;
-    expect_faults(&found, read, stale)
+    expect_alone(alloc, &index, read, stale, is_chain)
 }
 
 /// Tallies on one thread, with a chain where there is no read fault.
