@@ -106,13 +106,13 @@ fn made_alone(alloc: Global) -> Result<(Record, Record, Record, Record), Fail>
 }
 
 // Sends a record, which the relay takes.
-fn send<R: Wait + Abort>(rt: &R, alloc: Global, relay: &Relay, sender: &mut Sender, record: Record)
+fn send<R: Wait + Abort>(rt: &R, alloc: Global, relay: &Relay, sender: &mut Sender, call: Record)
     requires start { IsSenderOf relay.now sender.old }
-    requires own { record.process ≡ sender.old.place }
+    requires own { call.process ≡ sender.old.place }
     ensures same { IsSenderOf relay.now sender.new }
     ensures place { sender.new.place ≡ sender.old.place }
 {
-    assert!(rt; relay.send(rt, alloc, sender, record).is_ok());
+    assert!(rt; relay.send(rt, alloc, sender, call).is_ok());
 }
 
 // The records that two desks make in turn are sent.
