@@ -308,6 +308,15 @@ class Tests:
         if not case.is_whole(run):
             yield f"{run}"
 
+    def reads_in_pieces(self, whole, in_pieces):
+        """A long text has one thread more than a short one with as many workers, since a second worker reads a piece of it."""
+        started = []
+        for case in (whole, in_pieces):
+            yield from self.unrefused(case)
+            started.append(self.shim.page.threads)
+        if started[1] != started[0] + 1:
+            yield f"threads of a short and of a long text: {started}"
+
     def refused_memory(self, case, all_after=0, thread=0):
         """Each allocation refused in turn, until a run meets no refusal."""
         for number in range(1, 10**6):
@@ -477,11 +486,11 @@ def long_texts():
     yield "256 components in one view", text, accepted((514, 257, 0, 1), order)
 
 
-def text_in_pieces():
-    """A history so long that two workers read a piece of its text each, and with few allocations."""
-    turns = [b"begin,0,update,0:%d:0\nend,0,update,\n" % i for i in range(1, 21001)]
-    order = [(i, b"p0 update 0:%d:0" % i) for i in range(1, 21001)]
-    return "21000 updates", HEADER + b"".join(turns), accepted((42000, 21000, 0, 0), order)
+def updates_alone(count):
+    """So many updates, with few allocations. Of the text of 21,000 two workers read a piece each, and one reads that of 1,000."""
+    turns = [b"begin,0,update,0:%d:0\nend,0,update,\n" % i for i in range(1, count + 1)]
+    order = [(i, b"p0 update 0:%d:0" % i) for i in range(1, count + 1)]
+    return f"{count} updates", HEADER + b"".join(turns), accepted((2 * count, count, 0, 0), order)
 
 
 def awkward_texts(texts):
@@ -540,7 +549,7 @@ def main(folder):
     several_files = list(files_of(folder, chosen))
     pictures = [picture(words, *each) for words in (["draw", "--text"], ["explain", "--draw"], ["shrink", "--draw"]) for each in chosen]
     colors = [colored(*each) for each in chosen]
-    in_pieces = check(*text_in_pieces(), 2)
+    in_pieces = check(*updates_alone(21000), 2)
     checks += [in_pieces] + [object_of(*each) for each in chosen] + several_files + pictures + colors
     worked += several_files[:2] + colors
     jobless = [usage(), usage("judge"), usage("check", "--pieces", "0"), usage("record", "--help"), usage("shrink", "--help"), usage("explain", "--help"), usage("draw", "--help")]
@@ -556,6 +565,7 @@ def main(folder):
         TESTS.add("calls: each allocation without threads", TESTS.refused_calls(program, thread=ALL))
     for case in checks + recorded:
         TESTS.add(f"{case.name}: threads", TESTS.refused_threads(case))
+    TESTS.add(f"{in_pieces.name}: read in pieces", TESTS.reads_in_pieces(check(*updates_alone(1000), 2), in_pieces))
     for case in worked:
         for error in (errno.EIO, errno.EINTR):
             TESTS.add(f"{case.name}: reads, {errno.errorcode[error]}", TESTS.failed_reads(case, 1, error))
