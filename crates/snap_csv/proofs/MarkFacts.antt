@@ -1,7 +1,7 @@
 -- Where the first of some bytes that is a mark stands, by the lanes of a comparison.
-use Rattle.std.proofs.Common.{◌≡◌, ◌<◌, ◌≤◌, ◌+◌, ◌-◌, ◌++◌, ℕ, suc, List, [], ◌∷◌, eqb, true, false, not, length, map, drop, take, get_or, inl, inr, sym, ap, ◌∙◌, subst, arith, append_assoc}
+use Rattle.std.proofs.Common.{◌≡◌, ◌<◌, ◌≤◌, ◌+◌, ◌-◌, ◌++◌, ℕ, suc, List, [], ◌∷◌, eqb, true, not, length, map, drop, take, get_or, inl, inr, sym, ap, ◌∙◌, subst, arith, append_assoc}
 use Rattle.std.specs.Prelude.{◌≢◌}
-use Rattle.std.specs.List.{All, prefix_len}
+use Rattle.std.specs.List.{All}
 use Rattle.std.proofs.lemmas.Bool.{both_ways, cases_eq, eq-eqb, eqb-true, not-false, not-true}
 use Rattle.std.proofs.lemmas.List.{get_or-drop, take-append-le, take_all}
 use Rattle.std.proofs.Math.Seq.{take-suc}

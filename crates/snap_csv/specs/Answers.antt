@@ -4,7 +4,6 @@ use Rattle.std.specs.Global.{Vec}
 use Rattle.snap_core.specs.declared.event.Event.{Event}
 use Rattle.snap_core.specs.Counting.{Rose}
 use Rattle.snap_core.specs.Limits.{event_limit}
-use Rattle.snap_text.specs.declared.fault.TextFault.TheVariants as faults
 use Rattle.snap_csv.specs.declared.refusal.ReadRefusal.{ReadRefusal}
 use Rattle.snap_csv.specs.declared.refusal.ReadRefusal.TheVariants as refusals
 use Rattle.snap_csv.specs.Texts.{IsTextWithin, HasFaultWithin}

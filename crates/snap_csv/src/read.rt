@@ -1,12 +1,14 @@
 //! The history of a text, or the first fault.
-ghost use Rattle.std.specs.Prelude.{◌≡◌, ◌≤◌, ◌+◌, ◌∷◌, [], All, IfSome, IsTrue};
+ghost use Rattle.std.specs.Prelude.{◌≡◌, ◌≤◌, ◌+◌, ◌∷◌, [], true, List, All, IfSome, IsTrue};
 ghost use Rattle.snap_core.specs.Counting.{inner_of, failures_in};
 ghost use Rattle.snap_core.specs.Events.{event_cap};
 ghost use Rattle.snap_csv.specs.inside.Answers.{AnswersNumbered, AnswersRows, TakesEvent, TakesRow};
 ghost use Rattle.snap_csv.specs.Answers.{AnswersText, AnswersTextWithin, AnswersWhole, AnswersWholeWithin, Counts, Leaves};
 ghost use Rattle.snap_csv.specs.Faults.{fault_of};
 ghost use Rattle.snap_csv.specs.inside.Lines.{IsPlain};
-ghost use Rattle.snap_csv.specs.Rows.{rows_of};
+ghost use Rattle.snap_csv.specs.Layout.{is_header_row};
+ghost use Rattle.snap_csv.specs.Rows.{Stands, rows_of};
+ghost use Rattle.snap_text.specs.Fields.{Fields};
 ghost use Rattle.csv.specs.Records.{fields_of};
 
 use crate::ahead::read_ahead;
@@ -16,7 +18,7 @@ use crate::lines::{history_of_lines, is_plain, lines_of};
 use crate::refusal::ReadRefusal;
 use crate::rows::{next_row, reader_of};
 use crate::stamped::stamped_history;
-use csv::ByteRecord;
+use csv::{ByteRecord, Reader};
 use snap_core::{Counted, Event, EventRefusal, History, Limit};
 use snap_text::{Known, TextFault};
 use snap_threads::Cutting;
@@ -149,31 +151,49 @@ fn rows_history(
 ) -> Result<(History, Option<Vec<u32>>), ReadRefusal>
     ensures { AnswersNumbered limit.events (rows_of text.now) result }
 {
-    let mut reader = reader_of(alloc, text);
+    history_by_rows(alloc, &mut reader_of(alloc, text), limit)
+}
+
+// The same of the records that a reader has left.
+fn history_by_rows(
+    alloc: Global,
+    reader: &mut Reader<&[u8]>,
+    limit: Limit,
+) -> Result<(History, Option<Vec<u32>>), ReadRefusal>
+    ensures { (rows : List Fields) → Stands reader.old rows → AnswersNumbered limit.events rows result }
+{
     let mut row = ByteRecord::new(alloc);
-    if !next_row(&mut reader, &mut row)? {
-        return Err(ReadRefusal::Text {
-            place: 1,
-            fault: TextFault::Header,
-        });
-    }
-    if !is_header(&row) {
+    if next_row(reader, &mut row)? {
+        if is_header(&row) {
+            return history_under_header(alloc, reader, &mut row, limit);
+        }
         if is_stamped_header(&row) {
-            let (history, records) = stamped_history(alloc, &mut reader, &mut row, limit)?;
+            let (history, records) = stamped_history(alloc, reader, &mut row, limit)?;
             return Ok((history, Some(records)));
         }
-        return Err(ReadRefusal::Text {
-            place: 1,
-            fault: TextFault::Header,
-        });
     }
+    Err(ReadRefusal::Text {
+        place: 1,
+        fault: TextFault::Header,
+    })
+}
+
+// The history of the records that a reader has left under the header, or the first fault.
+fn history_under_header(
+    alloc: Global,
+    reader: &mut Reader<&[u8]>,
+    row: &mut ByteRecord,
+    limit: Limit,
+) -> Result<(History, Option<Vec<u32>>), ReadRefusal>
+    ensures { (head : Fields) (later : List Fields) → is_header_row head ≡ true → Stands reader.old later → AnswersNumbered limit.events (head ∷ later) result }
+{
     let mut known = Known::new(alloc);
     let mut history = History::new(alloc);
     for i in 0..row_limit(limit) {
-        if !next_row(&mut reader, &mut row)? {
+        if !next_row(reader, row)? {
             return Ok((history, None));
         }
-        take_row(alloc, &mut known, &mut history, limit, i + 2, &row)?;
+        take_row(alloc, &mut known, &mut history, limit, i + 2, row)?;
     }
     unreachable!()
 }

@@ -1,18 +1,20 @@
 //! Histories with the numbers of their records, and records by number.
-ghost use Rattle.std.specs.Prelude.{◌≡◌, ◌≤◌, IfOk, IfSome, length, map, option_map};
+ghost use Rattle.std.specs.Prelude.{◌≡◌, ◌≤◌, ◌+◌, IfOk, IfSome, List, length, map, option_map};
 ghost use Rattle.std.specs.List.{range_with_len};
 ghost use Rattle.csv.specs.Records.{fields_of};
 ghost use Rattle.snap_core.specs.Counting.{inner_of, failures_in};
 ghost use Rattle.snap_core.specs.Events.{event_cap};
 ghost use Rattle.snap_csv.specs.Answers.{AnswersRecords, AnswersRecordsWithin, Counts, Leaves};
+ghost use Rattle.snap_csv.specs.inside.Answers.{numbers_kept};
 ghost use Rattle.snap_csv.specs.Records.{record_at};
-ghost use Rattle.snap_csv.specs.Rows.{rows_of};
+ghost use Rattle.snap_csv.specs.Rows.{Stands, rows_of};
+ghost use Rattle.snap_text.specs.Fields.{Fields};
 
 use crate::intake::{Taken, take_in};
 use crate::read::numbered_history;
 use crate::refusal::ReadRefusal;
 use crate::rows::{next_row, reader_of};
-use csv::ByteRecord;
+use csv::{ByteRecord, Reader};
 use snap_core::{Counted, History, Limit};
 use std::alloc::{AllocError, Global};
 use std::io::Read;
@@ -23,6 +25,17 @@ fn in_turn(alloc: Global, count: usize) -> Result<Vec<u32>, AllocError>
     ensures { IfOk result (λ numbers. numbers.items ≡ range_with_len 2 count) }
 {
     (2..count as u32 + 2).collect(alloc)
+}
+
+// The numbers of the records of so many events: those that were kept, or one after the other.
+fn numbers_in(alloc: Global, count: usize, kept: Option<Vec<u32>>) -> Result<Vec<u32>, AllocError>
+    requires { count ≤ event_cap }
+    ensures { IfOk result (λ numbers. numbers.items ≡ numbers_kept count kept) }
+{
+    match kept {
+        Some(numbers) => Ok(numbers),
+        None => in_turn(alloc, count),
+    }
 }
 
 /// Reads as `read_history_in`, and gives with the history the number of each event's record, counted from 1: the header is
@@ -55,10 +68,7 @@ pub fn read_records_within<R: Read>(
     let Taken { text, plain } = take_in(alloc, reader, limit)?;
     *room = text;
     let (history, kept) = numbered_history(alloc, room, plain, limit)?;
-    let records = match kept {
-        Some(numbers) => numbers,
-        None => in_turn(alloc, history.len())?,
-    };
+    let records = numbers_in(alloc, history.len(), kept)?;
     Ok((history, records))
 }
 
@@ -80,14 +90,24 @@ pub fn record_of(alloc: Global, text: &[u8], place: u32) -> Result<Option<Vec<Ve
     let Some(before) = place.checked_sub(1) else {
         return Ok(None);
     };
-    let mut reader = reader_of(alloc, text);
+    record_behind(alloc, &mut reader_of(alloc, text), before)
+}
+
+// The fields of the record behind so many of those that a reader has left.
+fn record_behind(
+    alloc: Global,
+    reader: &mut Reader<&[u8]>,
+    before: u32,
+) -> Result<Option<Vec<Vec<u8>>>, AllocError>
+    ensures { (rows : List Fields) → Stands reader.old rows → IfOk result (λ found. option_map (λ fields. map (λ f. f.items) fields.items) found ≡ record_at rows (before + 1)) }
+{
     let mut row = ByteRecord::new(alloc);
     for _ in 0..before {
-        if !next_row(&mut reader, &mut row)? {
+        if !next_row(reader, &mut row)? {
             return Ok(None);
         }
     }
-    if !next_row(&mut reader, &mut row)? {
+    if !next_row(reader, &mut row)? {
         return Ok(None);
     }
     Ok(Some(fields_in(alloc, &row)?))

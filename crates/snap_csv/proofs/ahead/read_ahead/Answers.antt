@@ -1,4 +1,4 @@
-use Rattle.std.proofs.Common.{arith, length}
+use Rattle.std.proofs.Common.{arith}
 use Rattle.std.proofs.lemmas.Result.{IfOk-weaker}
 use Rattle.snap_csv.specs.inside.Lines.{IsAhead}
 use Rattle.snap_csv.proofs.AheadFacts.{all_of_each}

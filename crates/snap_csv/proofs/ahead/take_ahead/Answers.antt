@@ -1,10 +1,9 @@
-use Rattle.std.proofs.Common.{◌≡◌, ◌∷◌, [], true, refl, arith, ap, length, sym, subst, All, List, rules}
+use Rattle.std.proofs.Common.{◌∷◌, refl, arith, ap, length, sym, subst, All, rules}
 use Rattle.std.proofs.lemmas.List.Elements.{All-head, All-tail}
 use Rattle.std.proofs.lemmas.Result.{err_from_is_err_and}
 use Rattle.std.specs.Vec.Iter.{into_iter_items}
 use Rattle.snap_csv.specs.inside.Answers.{Midway}
 use Rattle.snap_csv.specs.inside.Lines.{HasRows, IsAhead}
-use Rattle.snap_text.specs.Fields.{Fields}
 use Rattle.snap_csv.proofs.AheadFacts.{piece_begins, whole}
 use Rattle.snap_csv.proofs.ReadFacts.{begun}
 use Rattle.snap_csv.proofs.ahead.take_ahead.Goals as goal

@@ -1,4 +1,4 @@
-use Rattle.std.proofs.Common.{◌≤◌, ◌<◌, ◌≡◌, ◌+◌, arith, length, rules, subst}
+use Rattle.std.proofs.Common.{◌≤◌, ◌<◌, ◌≡◌, ◌+◌, arith, length, subst}
 use Rattle.snap_csv.specs.inside.Answers.{TakesEvent}
 use Rattle.snap_csv.proofs.ReadFacts.{event_full, event_pushed}
 use Rattle.snap_csv.proofs.ahead.take_event.Goals as goal

@@ -1,4 +1,4 @@
-use Rattle.std.proofs.Common.{◌≡◌, ◌+◌, ℕ, eqb, drop, length, take, get_or, length-take-le, sym, ap, ◌∙◌, w8, arith}
+use Rattle.std.proofs.Common.{◌≡◌, eqb, drop, length, take, length-take-le, sym, ◌∙◌, w8, arith}
 use Rattle.std.proofs.lemmas.List.{get_or-drop, get_or-take, length-drop}
 use Rattle.std.proofs.lemmas.Simd.{bitmask_splat}
 use Rattle.snap_csv.proofs.MarkFacts.{by_mask}

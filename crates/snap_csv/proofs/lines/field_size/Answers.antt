@@ -1,5 +1,4 @@
-use Rattle.std.proofs.Common.{◌≡◌, ◌<◌, ◌≤◌, ◌+◌, ℕ, take, length, get_or, arith}
-use Rattle.snap_csv.specs.inside.Lines.{IsInner}
+use Rattle.std.proofs.Common.{arith}
 use Rattle.snap_csv.proofs.MarkFacts.{inner_more}
 use Rattle.snap_csv.proofs.lines.field_size.Goals as goal
 

@@ -1,0 +1,13 @@
+use Rattle.std.proofs.Common.{◌≡◌, ◌≤◌, ◌∷◌, true, List, length}
+use Rattle.snap_text.specs.Fields.{Fields}
+use Rattle.snap_csv.specs.Layout.{is_header_row}
+use Rattle.snap_csv.specs.Rows.{Stands}
+use Rattle.snap_csv.specs.inside.Answers.{Midway}
+use Rattle.snap_csv.proofs.read.history_under_header.Given as goal
+
+abbrev pub invariant-loop-i : goal.invariant-loop-i
+invariant-loop-i l = record {
+  midway : (head : Fields) (later : List Fields) → is_header_row head ≡ true → Stands l.fn.reader later → Midway l.limit.events (head ∷ later) (Stands l.reader) l.history l.i;
+  count : length l.history ≡ l.i;
+  room : l.i ≤ l.limit.events;
+}
