@@ -1,2 +1,3 @@
 mod Pages
 pub mod Summing
+pub mod Written

@@ -1,5 +1,5 @@
 -- One name more is checked, and one round more.
-use Rattle.std.proofs.Common.{◌≡◌, ◌≤◌, ◌<◌, ◌+◌, ◌*◌, ◌/◌, ◌%◌, ◌++◌, ◌∷◌, [], ◌∙◌, inl, inr, ℕ, IfErr, IfOk, List, Option, Result, Ok, Err, is_err, max, min, get_or, length, take, drop, false, refl, sym, ap, ap₂, subst, arith, length-append, zero, suc}
+use Rattle.std.proofs.Common.{◌≡◌, ◌≤◌, ◌<◌, ◌+◌, ◌*◌, ◌/◌, ◌%◌, ◌++◌, ◌∷◌, [], ◌∙◌, inl, inr, ℕ, IfErr, IfOk, List, Option, Result, Ok, Err, is_err, max, min, get_or, length, take, drop, false, true, refl, sym, ap, ap₂, subst, arith, length-append, zero, suc}
 use Rattle.std.specs.declared.alloc.AllocError.{AllocError}
 use Rattle.std.proofs.Math.Nat.{add-mul, mod-lt}
 use Rattle.std.proofs.lemmas.Nat.{div-add-mod'}
@@ -12,6 +12,7 @@ use Rattle.std.proofs.lemmas.List.{append-nil, drop-drop, get_or_append_left, le
 use Rattle.std.proofs.Math.Seq.{get_or-append_seam, take-add, take-append-add}
 use Rattle.std.proofs.lemmas.List.Concat.{flat_map-append}
 use Rattle.std.proofs.lemmas.Slice.Zip.{all_zipped_more}
+use Rattle.snap_core.specs.Counting.{Rose}
 use Rattle.snap_core.specs.Sending.{CountsSend, Sends, SendsFront}
 use Rattle.snap_files.specs.declared.format.FileOptions.{FileOptions}
 use Rattle.snap_files.specs.Files.{Answer, ArePages, ChecksAll, ChecksSome, IsPage, Opens, Page, Told, answer_code, greatest_code, told_text, written}
@@ -115,6 +116,11 @@ next_written options names pages place name page old mid new told_old told_mid t
     subst (λ (ps : List Page). WritesAll options ps old new told_old told_new f h (max (answer_code page.0) code)) (sym (paged_next names pages place name page same low is was))
     (write_more options (paged (take place names) (take place pages)) (page_of name page.0 page.1.items) old mid new told_old told_mid told_new f g h code so_far sent told)
 
+pub all_written : (options : FileOptions) (names : List (Vec ℕ)) (pages : List (Answer × Vec ℕ)) (place : ℕ) (old new told_old told_new : Option (List ℕ)) (f g code : ℕ) → length pages ≡ length names → length names ≤ place →
+    WritesAll options (paged (take place names) (take place pages)) old new told_old told_new f g code → WritesAll options (paged names pages) old new told_old told_new f g code
+all_written options names pages place old new told_old told_new f g code same whole =
+    subst (λ (ps : List Page). WritesAll options ps old new told_old told_new f g code) (ap₂ paged (take_all place names whole) (take_all place pages (omega (arith, same, whole))))
+
 -- a round that ends before all of it is written: what went out so far, and of the page at a place
 
 pub ends_before : (options : FileOptions) (names : List (Vec ℕ)) (pages : List (Answer × Vec ℕ)) (place : ℕ) (old new told_old told_new : Option (List ℕ)) (f g code : ℕ) → length pages ≡ length names → place < length names →
@@ -139,6 +145,10 @@ sent_whole old new text (Err e) sent whole = absurd cc
 pub sent_front : {T E : Type 0} (old new : Option (List ℕ)) (text : List ℕ) (result : Result T E) → Sends old new text result → SendsFront old new text
 sent_front old new text (Ok u) sent = whole_front old new text sent
 sent_front old new text (Err e) sent = sent
+
+pub send_rose : {T E : Type 0} (old new : ℕ) (result : Result T E) → CountsSend old new result → is_err result ≡ true → Rose old new
+send_rose old new (Ok u) counts failed = absurd cc
+send_rose old new (Err e) counts failed = counts
 
 pub some_checked : (opens : Opens) (options : FileOptions) (names : List (Vec ℕ)) (count : ℕ) (old new told_old told_new : Option (List ℕ)) (f g code : ℕ) →
     count ≤ length names → ChecksAll opens options (take count names) old new told_old told_new f g code → ChecksSome opens options names old new

@@ -11,7 +11,7 @@ use Rattle.snap_files.specs.declared.format.FileOptions.{FileOptions}
 use Rattle.snap_files.specs.declared.sums.Sums.{Sums}
 use Rattle.snap_files.specs.Files.{Answer, ArePages, Opens, Page, Told, answer_code, greatest_code, said, told_text}
 use Rattle.snap_files.specs.inside.Files.{AreAnswered, paged}
-use Rattle.snap_files.specs.inside.Sums.{AreSums, IsFirst, greatest_of}
+use Rattle.snap_files.specs.inside.Sums.{AreSums, IsFirst, Summed, greatest_of}
 use Rattle.snap_files.specs.Sums.{Judged, counting, has_code, judged_of, with_code}
 use Rattle.snap_files.proofs.Pages.{are_pages, flat_push, page_of, paged_next, round_joined, told_more, zip_append}
 use Rattle.snap_core.specs.declared.limit.Limit.{Limit}
@@ -107,13 +107,6 @@ judged_fits opens options (n ∷ ns) (p ∷ ps) all = let rest = judged_fits ope
 pub greatest_is : (pages : List Page) → greatest_of (judged_of pages) ≡ greatest_code pages
 greatest_is [] = refl
 greatest_is (p ∷ ps) = ap (λ n. max (answer_code p.answer) n) (greatest_is ps)
-
--- the names that are counted so far
-pub record Summed (opens : Opens) (limit : Limit) (views : ℕ) (names : List (Vec ℕ)) (told_old told_new : Option (List ℕ)) (failures_old failures_new : ℕ) (sums : Sums) : Type 0 where
-  pub pages : List Page
-  pub each : ArePages opens (counting limit views) names pages
-  pub told : Told told_old told_new failures_old failures_new (said (counting limit views) pages)
-  pub sums_are : AreSums (judged_of pages) sums
 
 pub round_summed : (opens : Opens) (limit : Limit) (views : ℕ) (names : List (Vec ℕ)) (from : ℕ) (round : List (Vec ℕ)) (answers : List (Answer × Vec ℕ)) (told_old told_mid told_new : Option (List ℕ)) (f g h : ℕ) (sums_old sums_new : Sums) →
     round ≡ take (length round) (drop from names) → (so_far : Summed opens limit views (take from names) told_old told_mid f g sums_old) → AreAnswered opens (counting limit views) round answers →

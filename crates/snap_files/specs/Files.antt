@@ -6,7 +6,6 @@ use Rattle.std.specs.List.{AllZip}
 use Rattle.std.specs.Io.KnownBytes.{Appends}
 use Rattle.snap_core.specs.Sending.{SendsFront}
 use Rattle.snap_check.specs.declared.options.CheckOptions.{CheckOptions}
-use Rattle.snap_check.specs.declared.fault.RunFault.TheVariants as faults
 use Rattle.snap_check.specs.Options.{IsReportWith}
 use Rattle.snap_verdict.specs.declared.status.Status.{Status}
 use Rattle.snap_verdict.specs.Statuses.{code_of}

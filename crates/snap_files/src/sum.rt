@@ -4,7 +4,7 @@ ghost use Rattle.snap_core.specs.Counting.{failures_in, inner_of};
 ghost use Rattle.snap_check.specs.Runs.{RunCounts};
 ghost use Rattle.snap_files.specs.Files.{Told, said};
 ghost use Rattle.snap_files.specs.inside.Files.{paged};
-ghost use Rattle.snap_files.specs.inside.Sums.{AreSums};
+ghost use Rattle.snap_files.specs.inside.Sums.{AreSums, Summed};
 ghost use Rattle.snap_files.specs.Sums.{Judged, SumsAll, SumsSome, counting, judged_of};
 
 use crate::format::{FileOptions, Format};
@@ -58,6 +58,33 @@ fn count_round<E: Write>(
     Ok(())
 }
 
+// Judges the texts of some names, round by round, and counts them.
+fn sums_of<Rt: Threads + Sync, O: Opener, E: Write, G: Gate>(
+    rt: &Rt,
+    alloc: Global,
+    opener: &O,
+    names: &[Vec<u8>],
+    errors: &mut Counted<E>,
+    cutting: Cutting,
+    gate: &G,
+    limit: Limit,
+    views: u32,
+) -> Result<Sums, AllocError>
+    ensures { IfOk result (Summed (O.opens opener.now) limit views names.now (E.contents (inner_of errors.old)) (E.contents (inner_of errors.new))
+        (failures_in errors.old) (failures_in errors.new)) }
+{
+    let options = options_of(limit, views);
+    let mut sums = Sums::new();
+    let mut from = 0;
+    while from < names.len() {
+        let round = round_at(names, from, cutting);
+        let pages = pages_of(rt, alloc, opener, round, cutting, gate, options)?;
+        count_round(alloc, round, &pages, errors, &mut sums, options)?;
+        from += round.len();
+    }
+    Ok(sums)
+}
+
 /// Checks the texts of some names as `check_all` does, and writes no report: once all are judged, it writes how many files have each
 /// status, and the first of them in the order of the names. It answers the greatest exit status. A history with fewer than `views`
 /// completed views counts as refused, and so does one beyond the limit of events. The reasons go to the error output as at `check_all`.
@@ -80,15 +107,9 @@ pub fn sum_all<Rt: Threads + Sync, O: Opener, W: Write, E: Write, G: Gate>(
     ensures some { IfErr result (λ _. SumsSome (O.opens opener.now) limit views names.now (W.contents (inner_of writer.old)) (W.contents (inner_of writer.new))) }
     ensures counts { RunCounts 0 0 (failures_in writer.old) (failures_in writer.new) result }
 {
-    let options = options_of(limit, views);
-    let mut sums = Sums::new();
-    let mut from = 0;
-    while from < names.len() {
-        let round = round_at(names, from, cutting);
-        let pages = pages_of(rt, alloc, opener, round, cutting, gate, options)?;
-        count_round(alloc, round, &pages, errors, &mut sums, options)?;
-        from += round.len();
-    }
+    let sums = sums_of(
+        rt, alloc, opener, names, errors, cutting, gate, limit, views,
+    )?;
     let text = sums.text(alloc, names)?;
     if writer.send(&text).is_err() {
         return Err(RunFault::Write);

@@ -1,8 +1,11 @@
 -- The sums of the files so far.
 use Rattle.std.specs.Prelude.{◌≡◌, ℕ, max, List, [], ◌∷◌, length, Option, Some, None, count_by, find, slice_get}
+use Rattle.std.specs.Global.{Vec}
 use Rattle.snap_files.specs.declared.sums.Kind.{Kind}
 use Rattle.snap_files.specs.declared.sums.Sums.{Sums}
-use Rattle.snap_files.specs.Sums.{Judged, has_code}
+use Rattle.snap_core.specs.declared.limit.Limit.{Limit}
+use Rattle.snap_files.specs.Files.{ArePages, Opens, Page, Told, said}
+use Rattle.snap_files.specs.Sums.{Judged, counting, has_code, judged_of}
 
 -- the greatest exit status
 abbrev pub greatest_of : List Judged → ℕ
@@ -28,3 +31,10 @@ pub record AreSums (files : List Judged) (sums : Sums) : Type 0 where
   pub not_regular : IsKind 2 files sums.not_regular
   pub refused : IsKind 3 files sums.refused
   pub failed : IsKind 4 files sums.failed
+
+-- the names that are counted so far
+pub record Summed (opens : Opens) (limit : Limit) (views : ℕ) (names : List (Vec ℕ)) (told_old told_new : Option (List ℕ)) (failures_old failures_new : ℕ) (sums : Sums) : Type 0 where
+  pub pages : List Page
+  pub each : ArePages opens (counting limit views) names pages
+  pub told : Told told_old told_new failures_old failures_new (said (counting limit views) pages)
+  pub sums_are : AreSums (judged_of pages) sums

@@ -1,7 +1,7 @@
-use Rattle.std.proofs.Common.{◌∙◌, ap, max, sym, subst, rules, List, ℕ}
-use Rattle.snap_core.specs.Counting.{failures_in, inner_of}
+use Rattle.std.proofs.Common.{◌∙◌, ap, arith, max, refl, sym, subst, rules, List, ℕ}
+use Rattle.snap_core.specs.Counting.{Rose, failures_in, inner_of}
 use Rattle.snap_files.specs.Files.{Told, told_text}
-use Rattle.snap_files.proofs.Pages.{ends_before, ends_within, next_written, sent_front, sent_whole, told_by, whatever_error}
+use Rattle.snap_files.proofs.Pages.{all_written, ends_before, ends_within, next_written, send_rose, sent_front, sent_whole, told_by, whatever_error}
 use Rattle.snap_files.proofs.files.write_round.Goals as goal
 
 pub returns-in_err-told-clause-some : goal.returns-in_err-told-clause-some
@@ -28,3 +28,15 @@ loop-place-preserved g c =
           c.loop-place.invariant.all whole told);
       count = search rules;
     }
+
+pub returns-then-is_err-clause-all : goal.returns-then-is_err-clause-all
+returns-then-is_err-clause-all g c = tt
+
+pub returns-clause-all : goal.returns-clause-all
+returns-clause-all g c =
+    all_written c.args.options c.args.names.now c.args.pages.now c.loop-place.place _ _ _ _ _ _ c.loop-place.greatest c.requires (omega (arith, c.loop-place-test.false)) c.loop-place.invariant.all
+
+pub returns-then-is_err-clause-counts : goal.returns-then-is_err-clause-counts
+returns-then-is_err-clause-counts g c =
+    let rose = send_rose (failures_in c.loop-place.writer) (failures_in c.send-in-loop-place.new.self) c.send-in-loop-place.result c.send-in-loop-place.ensures.counts (sym c.is_err.ensures.value ∙ c.if-is_err.true) in
+    (refl, subst (λ (n : ℕ). Rose n (failures_in c.send-in-loop-place.new.self)) c.loop-place.invariant.count rose)

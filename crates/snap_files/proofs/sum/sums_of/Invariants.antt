@@ -1,7 +1,7 @@
 use Rattle.std.proofs.Common.{◌≤◌, ◌-◌, length, take}
 use Rattle.snap_core.specs.Counting.{failures_in, inner_of}
-use Rattle.snap_files.proofs.Summing.{Summed}
-use Rattle.snap_files.proofs.sum.sum_all.Given as goal
+use Rattle.snap_files.specs.inside.Sums.{Summed}
+use Rattle.snap_files.proofs.sum.sums_of.Given as goal
 
 abbrev pub invariant-loop-from : goal.invariant-loop-from
 invariant-loop-from g l = record {
