@@ -7,11 +7,13 @@ use crate::options::{file_options, limit_of};
 use crate::shown::{in_colors, progress_of};
 use snap_check::{CheckOptions, RunFault, Status, check_run_with};
 use snap_core::{Counted, OpenGate};
-use snap_files::{check_all, sum_all};
-use snap_terminal::{Cleared, Painted, Watched};
+use snap_files::{Opener, check_all, sum_all};
+use snap_terminal::{Cleared, Painted, Progress, Watched};
 use snap_threads::Cutting;
 use snap_words::Options;
+use std::alloc::Global;
 use std::io::{Read, Write};
+use std::slice;
 use std::thread::Threads;
 
 // The check of one text. That a history has too few views is said.
@@ -53,27 +55,70 @@ fn check_files<Rt: Threads + Sync>(
     files: &[Vec<u8>],
     cutting: Cutting,
     asked: Options,
-) -> Result<u8, RunFault>
+) -> Result<u8, Failure>
     requires { IsLimit asked.events }
 {
-    let input = [Vec::from_slice(host.alloc(), b"-")?];
-    let names = if files.is_empty() { &input } else { files };
+    let input = Vec::from_slice(host.alloc(), b"-")?;
+    let names = if files.is_empty() {
+        slice::from_ref(&input)
+    } else {
+        files
+    };
     check_names(rt, host, names, cutting, asked)
 }
 
-/// The check of some names, with the name in each answer or in the sums.
-pub(crate) fn check_names<Rt: Threads + Sync>(
+// The answers of some names, or their sums.
+fn answer_all<Rt: Threads + Sync, O: Opener, W: Write, E: Write>(
     rt: &Rt,
-    host: &HostRuntime,
+    alloc: Global,
+    opener: &O,
     names: &[Vec<u8>],
+    writer: &mut Counted<W>,
+    errors: &mut Counted<E>,
     cutting: Cutting,
     asked: Options,
 ) -> Result<u8, RunFault>
     requires { IsLimit asked.events }
 {
-    let alloc = host.alloc();
-    let line = progress_of(host, names.len(), asked);
-    let progress = line.as_ref();
+    if asked.summary {
+        sum_all(
+            rt,
+            alloc,
+            opener,
+            names,
+            writer,
+            errors,
+            cutting,
+            &OpenGate,
+            limit_of(asked.events),
+            asked.views,
+        )
+    } else {
+        check_all(
+            rt,
+            alloc,
+            opener,
+            names,
+            writer,
+            errors,
+            cutting,
+            &OpenGate,
+            file_options(asked),
+        )
+    }
+}
+
+// The check of some names. The line of progress is not on the terminal while an answer is written.
+fn check_watched<Rt: Threads + Sync>(
+    rt: &Rt,
+    host: &HostRuntime,
+    names: &[Vec<u8>],
+    cutting: Cutting,
+    asked: Options,
+    progress: Option<&Progress<'_, HostRuntime>>,
+) -> Result<u8, RunFault>
+    requires { IsLimit asked.events }
+{
     let opener = Watched {
         opener: system(host),
         progress,
@@ -87,36 +132,35 @@ pub(crate) fn check_names<Rt: Threads + Sync>(
         inner: host.stderr(),
         progress,
     });
-    let result = if asked.summary {
-        sum_all(
-            rt,
-            alloc,
-            &opener,
-            names,
-            &mut writer,
-            &mut errors,
-            cutting,
-            &OpenGate,
-            limit_of(asked.events),
-            asked.views,
-        )
-    } else {
-        check_all(
-            rt,
-            alloc,
-            &opener,
-            names,
-            &mut writer,
-            &mut errors,
-            cutting,
-            &OpenGate,
-            file_options(asked),
-        )
-    };
+    answer_all(
+        rt,
+        host.alloc(),
+        &opener,
+        names,
+        &mut writer,
+        &mut errors,
+        cutting,
+        asked,
+    )
+}
+
+/// The check of some names, with the name in each answer or in the sums.
+pub(crate) fn check_names<Rt: Threads + Sync>(
+    rt: &Rt,
+    host: &HostRuntime,
+    names: &[Vec<u8>],
+    cutting: Cutting,
+    asked: Options,
+) -> Result<u8, Failure>
+    requires { IsLimit asked.events }
+{
+    let line = progress_of(host, names.len(), asked);
+    let progress = line.as_ref();
+    let result = check_watched(rt, host, names, cutting, asked, progress);
     if let Some(progress) = progress {
         progress.clear();
     }
-    result
+    Ok(result?)
 }
 
 /// The check of some files, or of standard input where there is none.
@@ -130,7 +174,7 @@ pub(crate) fn check<Rt: Threads + Sync>(
     requires { IsLimit asked.events }
 {
     if has_names(files, asked) {
-        return Ok(check_files(rt, host, files, cutting, asked)?);
+        return check_files(rt, host, files, cutting, asked);
     }
     let text = open_only(host, files)?;
     let painted = Painted::new(host.stdout(), in_colors(host, asked));

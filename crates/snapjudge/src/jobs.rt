@@ -7,14 +7,71 @@ use crate::check::{check, check_names};
 use crate::files::open_only;
 use crate::names::names_of;
 use crate::options::limit_of;
-use crate::words::{Places, Wanted};
-use snap_core::Counted;
+use crate::words::Wanted;
+use snap_check::{RunFault, Status};
+use snap_core::{Counted, Limit};
+use snap_files::SystemText;
 use snap_picture::{Explained, Lines, Page, Svg, draw_explained_run, draw_run, draw_witness_run};
 use snap_runs::{explain_run, record_rounds, record_rounds_stamped, shrink_run};
 use snap_threads::Cutting;
 use snap_words::{Form, Job, Options};
+use std::fs::File;
 use std::sync::Wait;
 use std::thread::Threads;
+
+// Cuts the history in a text down to a witness, or draws that.
+fn shrink<Rt: Threads + Sync>(
+    rt: &Rt,
+    host: &HostRuntime,
+    text: SystemText<File>,
+    drawn: bool,
+    limit: Limit,
+) -> Result<Status, RunFault> {
+    let alloc = host.alloc();
+    let mut reader = Counted::new(text);
+    let mut writer = Counted::new(host.stdout());
+    if drawn {
+        draw_witness_run(rt, alloc, &Lines, &mut reader, &mut writer, limit)
+    } else {
+        shrink_run(rt, alloc, &mut reader, &mut writer, limit)
+    }
+}
+
+// Explains the history in a text, with a picture or without.
+fn explain<Rt: Threads + Sync>(
+    rt: &Rt,
+    host: &HostRuntime,
+    text: SystemText<File>,
+    drawn: bool,
+    limit: Limit,
+) -> Result<Status, RunFault> {
+    let alloc = host.alloc();
+    let mut reader = Counted::new(text);
+    let mut writer = Counted::new(host.stdout());
+    if drawn {
+        draw_explained_run(rt, alloc, &Explained, &mut reader, &mut writer, limit)
+    } else {
+        explain_run(rt, alloc, &mut reader, &mut writer, limit)
+    }
+}
+
+// Draws the history in a text.
+fn draw<Rt: Threads + Sync>(
+    rt: &Rt,
+    host: &HostRuntime,
+    text: SystemText<File>,
+    form: Form,
+    limit: Limit,
+) -> Result<Status, RunFault> {
+    let alloc = host.alloc();
+    let mut reader = Counted::new(text);
+    let mut writer = Counted::new(host.stdout());
+    match form {
+        Form::Page => draw_run(rt, alloc, &Page, &mut reader, &mut writer, limit),
+        Form::Svg => draw_run(rt, alloc, &Svg, &mut reader, &mut writer, limit),
+        Form::Lines => draw_run(rt, alloc, &Lines, &mut reader, &mut writer, limit),
+    }
+}
 
 // Does a job, and gives its exit status. The threads are those of `rt`; all else is of the host.
 fn done<Rt: Threads + Wait + Sync>(
@@ -26,47 +83,19 @@ fn done<Rt: Threads + Wait + Sync>(
     requires { IsInRange job }
 {
     let alloc = host.alloc();
-    let mut writer = Counted::new(host.stdout());
-    let status = match job {
+    let result = match job {
         Job::Check { cutting, options } => return check(rt, host, files, cutting, options),
         Job::Shrink { drawn, events } => {
-            let mut reader = Counted::new(open_only(host, files)?);
-            if drawn {
-                draw_witness_run(
-                    rt,
-                    alloc,
-                    &Lines,
-                    &mut reader,
-                    &mut writer,
-                    limit_of(events),
-                )?
-            } else {
-                shrink_run(rt, alloc, &mut reader, &mut writer, limit_of(events))?
-            }
+            let text = open_only(host, files)?;
+            shrink(rt, host, text, drawn, limit_of(events))
         }
         Job::Explain { drawn, events } => {
-            let mut reader = Counted::new(open_only(host, files)?);
-            if drawn {
-                draw_explained_run(
-                    rt,
-                    alloc,
-                    &Explained,
-                    &mut reader,
-                    &mut writer,
-                    limit_of(events),
-                )?
-            } else {
-                explain_run(rt, alloc, &mut reader, &mut writer, limit_of(events))?
-            }
+            let text = open_only(host, files)?;
+            explain(rt, host, text, drawn, limit_of(events))
         }
         Job::Draw { form, events } => {
-            let mut reader = Counted::new(open_only(host, files)?);
-            let limit = limit_of(events);
-            match form {
-                Form::Page => draw_run(rt, alloc, &Page, &mut reader, &mut writer, limit)?,
-                Form::Svg => draw_run(rt, alloc, &Svg, &mut reader, &mut writer, limit)?,
-                Form::Lines => draw_run(rt, alloc, &Lines, &mut reader, &mut writer, limit)?,
-            }
+            let text = open_only(host, files)?;
+            draw(rt, host, text, form, limit_of(events))
         }
         Job::Record {
             workers,
@@ -75,29 +104,29 @@ fn done<Rt: Threads + Wait + Sync>(
             scan,
             stamped,
         } => {
+            let mut writer = Counted::new(host.stdout());
             if stamped {
-                record_rounds_stamped(rt, alloc, workers, rounds, scan, &mut writer)?
+                record_rounds_stamped(rt, alloc, workers, rounds, scan, &mut writer)
             } else {
-                record_rounds(rt, alloc, workers, rounds, judge, scan, &mut writer)?
+                record_rounds(rt, alloc, workers, rounds, judge, scan, &mut writer)
             }
         }
     };
-    Ok(status.code())
+    Ok(result?.code())
 }
 
 // The check of the files that the words, a list and a folder name.
 fn check_places<Rt: Threads + Sync>(
     rt: &Rt,
     host: &HostRuntime,
-    files: Vec<Vec<u8>>,
-    places: &Places,
+    wanted: Wanted,
     cutting: Cutting,
     asked: Options,
 ) -> Result<u8, Failure>
     requires { IsLimit asked.events }
 {
-    let names = names_of(host, files, places)?;
-    Ok(check_names(rt, host, &names, cutting, asked)?)
+    let names = names_of(host, wanted)?;
+    check_names(rt, host, &names, cutting, asked)
 }
 
 /// Does what the words ask for, and gives its exit status. The threads are those of `rt`; all else is of the host.
@@ -108,11 +137,10 @@ pub(crate) fn answered<Rt: Threads + Wait + Sync>(
 ) -> Result<u8, Failure>
     requires { IsInRange wanted.job }
 {
-    let Wanted { job, files, places } = wanted;
-    match job {
-        Job::Check { cutting, options } if places.list.is_some() || places.folder.is_some() => {
-            check_places(rt, host, files, &places, cutting, options)
+    match wanted.job {
+        Job::Check { cutting, options } if wanted.places.are_named() => {
+            check_places(rt, host, wanted, cutting, options)
         }
-        _ => done(rt, host, job, &files),
+        job => done(rt, host, job, &wanted.files),
     }
 }

@@ -12,7 +12,7 @@ mod version;
 mod words;
 
 use crate::jobs::answered;
-use crate::streams::held_place;
+use crate::streams::held_places;
 use crate::version::{asks_version, write_version};
 use crate::words::{wanted_by, words_of};
 use snap_check::RunFault;
@@ -67,17 +67,22 @@ fn run<Rt: Threads + Wait + Sync>(rt: &Rt, host: &HostRuntime) -> Result<u8, Fai
     answered(rt, host, wanted_by(host.alloc(), words)?)
 }
 
-fn main(rt: HostRuntime) -> ExitCode {
-    let _places = [held_place(&rt), held_place(&rt), held_place(&rt)];
-    let code = match run(&rt, &rt) {
+// The exit status of a run. Why it has none of its own is said.
+fn code_of(host: &HostRuntime, ended: Result<u8, Failure>) -> u8 {
+    match ended {
         Ok(code) => code,
         Err(Failure::Words(JobFault::Usage(text))) => {
-            let _ = eprint!(rt; "{text}");
+            let _ = eprint!(host; "{text}");
             5
         }
-        Err(Failure::Words(JobFault::Memory)) => failed(&rt, &RunFault::Memory),
+        Err(Failure::Words(JobFault::Memory)) => failed(host, &RunFault::Memory),
         Err(Failure::Unopened) => 4,
-        Err(Failure::Run(fault)) => failed(&rt, &fault),
-    };
-    ExitCode::from(code)
+        Err(Failure::Run(fault)) => failed(host, &fault),
+    }
+}
+
+fn main(rt: HostRuntime) -> ExitCode {
+    let _places = held_places(&rt);
+    let ended = run(&rt, &rt);
+    ExitCode::from(code_of(&rt, ended))
 }

@@ -1,7 +1,7 @@
 //! The names that a check takes from a list and from below a folder.
 use crate::Failure;
 use crate::files::open_named;
-use crate::words::{Places, inputs_in};
+use crate::words::{Places, Wanted, names_input_twice};
 use snap_core::Counted;
 use snap_files::reason_line;
 use snap_names::{NamesFault, SystemFolders, names_below, read_names};
@@ -39,23 +39,44 @@ fn names_in_folder(rt: &HostRuntime, folder: &[u8]) -> Result<Vec<Vec<u8>>, Fail
     }
 }
 
-/// The names among the words, then those in the list, then those below the folder. Where there is none at all, that is said.
-pub(crate) fn names_of(
+// Adds the names in a list to some names.
+fn add_list(
     rt: &HostRuntime,
-    files: Vec<Vec<u8>>,
-    places: &Places,
-) -> Result<Vec<Vec<u8>>, Failure> {
-    let mut names = files;
+    names: &mut Vec<Vec<u8>>,
+    list: &[u8],
+    null: bool,
+) -> Result<(), Failure> {
+    Ok(names.append(&mut names_in_list(rt, list, null)?)?)
+}
+
+// Adds the names of the recordings below a folder to some names.
+fn add_folder(rt: &HostRuntime, names: &mut Vec<Vec<u8>>, folder: &[u8]) -> Result<(), Failure> {
+    Ok(names.append(&mut names_in_folder(rt, folder)?)?)
+}
+
+// Adds the names in the list and those below the folder. That standard input is named twice is said.
+fn add_places(rt: &HostRuntime, names: &mut Vec<Vec<u8>>, places: &Places) -> Result<(), Failure> {
     if let Some(list) = &places.list {
-        names.append(&mut names_in_list(rt, list, places.null)?)?;
-        if inputs_in(&names, &places.list) > 1 {
+        add_list(rt, names, list, places.null)?;
+        if names_input_twice(names, &places.list) {
             say(rt, list, "- is standard input, and can be named once");
             return Err(Failure::Unopened);
         }
     }
-    if let Some(folder) = &places.folder {
-        names.append(&mut names_in_folder(rt, folder)?)?;
+    match &places.folder {
+        Some(folder) => add_folder(rt, names, folder),
+        None => Ok(()),
     }
+}
+
+/// The names among the words, then those in the list, then those below the folder. Where there is none at all, that is said.
+pub(crate) fn names_of(rt: &HostRuntime, wanted: Wanted) -> Result<Vec<Vec<u8>>, Failure> {
+    let Wanted {
+        files: mut names,
+        places,
+        ..
+    } = wanted;
+    add_places(rt, &mut names, &places)?;
     if names.is_empty() {
         let _ = eprintln!(rt; "snapjudge: there are no recordings");
         return Err(Failure::Unopened);

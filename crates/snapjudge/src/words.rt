@@ -30,6 +30,13 @@ pub(crate) struct Places {
     pub folder: Option<Vec<u8>>,
 }
 
+impl Places {
+    /// Whether there are any.
+    pub(crate) fn are_named(&self) -> bool {
+        self.list.is_some() || self.folder.is_some()
+    }
+}
+
 /// A job, and the names of its files.
 #[derive(Drop)]
 pub(crate) struct Wanted {
@@ -75,16 +82,18 @@ pub(crate) fn words_of(rt: &HostRuntime) -> Result<Words, AllocError> {
     Ok(Words { texts, others })
 }
 
+// The word that is not UTF-8 for which a text stands, if it stands for one.
+fn other_of<'a>(text: &str, others: &'a [Vec<u8>]) -> Option<&'a Vec<u8>> {
+    let place = text.strip_prefix(MARK)?;
+    match place.parse::<usize>() {
+        Ok(place) => others.get(place),
+        Err(_) => None,
+    }
+}
+
 // The bytes of a word.
 fn bytes_of(alloc: Global, text: String, others: &[Vec<u8>]) -> Result<Vec<u8>, AllocError> {
-    let other = match text.strip_prefix(MARK) {
-        Some(place) => place
-            .parse()
-            .ok()
-            .and_then(|place: usize| others.get(place)),
-        None => None,
-    };
-    match other {
+    match other_of(&text, others) {
         Some(word) => Vec::from_slice(alloc, word),
         None => Ok(text.into_bytes()),
     }
@@ -113,29 +122,45 @@ fn bytes_of_some(
     }
 }
 
-fn usage(alloc: Global, text: &str) -> Result<JobFault, AllocError> {
-    Ok(JobFault::Usage(String::from_str(alloc, text)?))
-}
-
-// Why there is no job. A word that is not UTF-8 is not quoted.
-fn readable(alloc: Global, fault: JobFault) -> Result<JobFault, AllocError> {
-    match fault {
-        JobFault::Usage(text) if text.contains(MARK) => usage(
-            alloc,
-            "error: a word that is not UTF-8 can only name a file, a list or a folder\n",
-        ),
-        fault => Ok(fault),
+// The fault that a text tells the user.
+fn told(text: Result<String, AllocError>) -> JobFault {
+    match text {
+        Ok(text) => JobFault::Usage(text),
+        Err(_) => JobFault::Memory,
     }
 }
 
-/// How often some names and a list name standard input.
-pub(crate) fn inputs_in(names: &[Vec<u8>], list: &Option<Vec<u8>>) -> usize {
-    let is_input = |name: &Vec<u8>| name.as_slice() == b"-".as_slice();
-    let lists = match list {
-        Some(list) if is_input(list) => 1,
-        _ => 0,
+// Why there is no job. A word that is not UTF-8 is not quoted.
+fn readable(alloc: Global, fault: JobFault) -> JobFault {
+    match fault {
+        JobFault::Usage(text) if text.contains(MARK) => told(String::from_str(
+            alloc,
+            "error: a word that is not UTF-8 can only name a file, a list or a folder\n",
+        )),
+        fault => fault,
+    }
+}
+
+// Whether a name is that of standard input.
+fn is_input(name: &[u8]) -> bool {
+    name == b"-".as_slice()
+}
+
+/// Whether some names and a list name standard input more than once.
+pub(crate) fn names_input_twice(names: &[Vec<u8>], list: &Option<Vec<u8>>) -> bool {
+    let mut named = match list {
+        Some(list) => is_input(list),
+        None => false,
     };
-    names.iter().filter(|name| is_input(name)).count() + lists
+    for name in names {
+        if is_input(name) {
+            if named {
+                return true;
+            }
+            named = true;
+        }
+    }
+    false
 }
 
 // The places that the options name.
@@ -148,36 +173,73 @@ fn places_of(alloc: Global, sources: Sources, others: &[Vec<u8>]) -> Result<Plac
     })
 }
 
-/// The job that the words of the command line ask for, and its files. Standard input, `-`, can be read once.
-pub(crate) fn wanted_by(alloc: Global, words: Words) -> Result<Wanted, JobFault>
+// The fault of a recording in place of a job, if there is one.
+fn recording_fault(alloc: Global, texts: &[String]) -> Option<JobFault> {
+    match texts.get(1) {
+        Some(name) if name.ends_with(".csv") => Some(told(format!(in alloc;
+            "error: to judge a file, write: snapjudge check {name}\n"
+        ))),
+        _ => None,
+    }
+}
+
+// The job that the words ask for.
+fn asked_by(alloc: Global, texts: Vec<String>) -> Result<Asked, JobFault>
+    ensures { IfOk result (λ asked. IsInRange asked.job) }
+{
+    match job_of(alloc, texts) {
+        Ok(asked) => Ok(asked),
+        Err(fault) => Err(readable(alloc, fault)),
+    }
+}
+
+// What is asked for, with the words that are not UTF-8.
+fn wanted_of(alloc: Global, asked: Asked, others: &[Vec<u8>]) -> Result<Wanted, AllocError>
+    requires { IsInRange asked.job }
     ensures { IfOk result (λ wanted. IsInRange wanted.job) }
 {
-    let Words { texts, others } = words;
-    if let Some(name) = texts.get(1)
-        && name.ends_with(".csv")
-    {
-        return Err(JobFault::Usage(format!(in alloc;
-            "error: to judge a file, write: snapjudge check {name}\n"
-        )?));
-    }
     let Asked {
         job,
         files,
         sources,
-    } = match job_of(alloc, texts) {
-        Ok(asked) => asked,
-        Err(fault) => return Err(readable(alloc, fault)?),
-    };
-    let files = bytes_of_all(alloc, files, &others)?;
-    let places = places_of(alloc, sources, &others)?;
+    } = asked;
+    Ok(Wanted {
+        job,
+        files: bytes_of_all(alloc, files, others)?,
+        places: places_of(alloc, sources, others)?,
+    })
+}
+
+// The job that the words ask for, and its files.
+fn wanted_in(alloc: Global, words: Words) -> Result<Wanted, JobFault>
+    ensures { IfOk result (λ wanted. IsInRange wanted.job) }
+{
+    let Words { texts, others } = words;
+    let asked = asked_by(alloc, texts)?;
+    Ok(wanted_of(alloc, asked, &others)?)
+}
+
+// Why the files and places can't be read, if they can't.
+fn refusal_of(files: &[Vec<u8>], places: &Places) -> Option<&'static str> {
     if places.null && places.list.is_none() {
-        return Err(usage(
-            alloc,
-            "error: the argument '--null' needs '--files-from <LIST>'\n",
-        )?);
+        Some("error: the argument '--null' needs '--files-from <LIST>'\n")
+    } else if names_input_twice(files, &places.list) {
+        Some("error: - is standard input, and can be named once\n")
+    } else {
+        None
     }
-    if inputs_in(&files, &places.list) > 1 {
-        return Err(usage(alloc, "error: - is standard input, and can be named once\n")?);
+}
+
+/// The job that the words of the command line ask for, and its files. Standard input, `-`, can be read once.
+pub(crate) fn wanted_by(alloc: Global, words: Words) -> Result<Wanted, JobFault>
+    ensures { IfOk result (λ wanted. IsInRange wanted.job) }
+{
+    if let Some(fault) = recording_fault(alloc, &words.texts) {
+        return Err(fault);
     }
-    Ok(Wanted { job, files, places })
+    let wanted = wanted_in(alloc, words)?;
+    match refusal_of(&wanted.files, &wanted.places) {
+        Some(text) => Err(told(String::from_str(alloc, text))),
+        None => Ok(wanted),
+    }
 }
