@@ -5,41 +5,48 @@ use crate::Failure;
 use crate::files::{open_only, system};
 use crate::options::{file_options, limit_of};
 use crate::shown::{in_colors, progress_of};
-use snap_check::{CheckOptions, RunFault, Status, check_run_with};
+use snap_check::{RunFault, Status, check_run_with};
 use snap_core::{Counted, OpenGate};
-use snap_files::{Opener, check_all, sum_all};
+use snap_files::{Opener, SystemText, check_all, sum_all};
 use snap_terminal::{Cleared, Painted, Progress, Watched};
 use snap_threads::Cutting;
 use snap_words::Options;
 use std::alloc::Global;
-use std::io::{Read, Write};
+use std::fs::File;
+use std::io::Write;
 use std::slice;
 use std::thread::Threads;
 
-// The check of one text. That a history has too few views is said.
-fn check_text<Rt: Threads + Sync, R: Read + Drop, W: Write>(
+// The status of a history with too few views, which is said.
+fn too_few_views(host: &HostRuntime, views: u32) -> Status {
+    let _ = eprintln!(host; "refused: fewer than {} views", views);
+    Status::Refused
+}
+
+// The check of one text.
+fn check_text<Rt: Threads + Sync>(
     rt: &Rt,
     host: &HostRuntime,
-    text: R,
-    writer: &mut Counted<W>,
+    text: SystemText<File>,
     cutting: Cutting,
-    options: CheckOptions,
-) -> Result<Status, RunFault> {
+    asked: Options,
+) -> Result<u8, Failure>
+    requires { IsLimit asked.events }
+{
     let mut reader = Counted::new(text);
+    let mut writer = Counted::new(Painted::new(host.stdout(), in_colors(host, asked)));
     match check_run_with(
         rt,
         host.alloc(),
         &mut reader,
-        writer,
+        &mut writer,
         cutting,
         &OpenGate,
-        options,
-    )? {
-        Some(status) => Ok(status),
-        None => {
-            let _ = eprintln!(host; "refused: fewer than {} views", options.views);
-            Ok(Status::Refused)
-        }
+        file_options(asked).check,
+    ) {
+        Ok(Some(status)) => Ok(status.code()),
+        Ok(None) => Ok(too_few_views(host, asked.views).code()),
+        Err(fault) => Err(Failure::Run(fault)),
     }
 }
 
@@ -160,7 +167,10 @@ pub(crate) fn check_names<Rt: Threads + Sync>(
     if let Some(progress) = progress {
         progress.clear();
     }
-    Ok(result?)
+    match result {
+        Ok(code) => Ok(code),
+        Err(fault) => Err(Failure::Run(fault)),
+    }
 }
 
 /// The check of some files, or of standard input where there is none.
@@ -177,8 +187,5 @@ pub(crate) fn check<Rt: Threads + Sync>(
         return check_files(rt, host, files, cutting, asked);
     }
     let text = open_only(host, files)?;
-    let painted = Painted::new(host.stdout(), in_colors(host, asked));
-    let mut writer = Counted::new(painted);
-    let options = file_options(asked).check;
-    Ok(check_text(rt, host, text, &mut writer, cutting, options)?.code())
+    check_text(rt, host, text, cutting, asked)
 }

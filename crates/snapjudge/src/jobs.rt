@@ -112,7 +112,10 @@ fn done<Rt: Threads + Wait + Sync>(
             }
         }
     };
-    Ok(result?.code())
+    match result {
+        Ok(status) => Ok(status.code()),
+        Err(fault) => Err(Failure::Run(fault)),
+    }
 }
 
 // The check of the files that the words, a list and a folder name.

@@ -12,7 +12,7 @@ mod version;
 mod words;
 
 use crate::jobs::answered;
-use crate::streams::held_places;
+use crate::streams::held_place;
 use crate::version::{asks_version, write_version};
 use crate::words::{wanted_by, words_of};
 use snap_check::RunFault;
@@ -82,7 +82,9 @@ fn code_of(host: &HostRuntime, ended: Result<u8, Failure>) -> u8 {
 }
 
 fn main(rt: HostRuntime) -> ExitCode {
-    let _places = held_places(&rt);
+    let _first = held_place(&rt);
+    let _second = held_place(&rt);
+    let _third = held_place(&rt);
     let ended = run(&rt, &rt);
     ExitCode::from(code_of(&rt, ended))
 }

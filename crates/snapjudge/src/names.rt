@@ -21,24 +21,6 @@ fn say_fault(rt: &HostRuntime, name: &[u8], fault: &NamesFault) -> Failure {
     Failure::Unopened
 }
 
-// The names in a list.
-fn names_in_list(rt: &HostRuntime, list: &[u8], null: bool) -> Result<Vec<Vec<u8>>, Failure> {
-    let text = open_named(rt, list)?;
-    match read_names(rt.alloc(), text, if null { 0 } else { b'\n' }) {
-        Ok(names) => Ok(names),
-        Err(fault) => Err(say_fault(rt, list, &fault)),
-    }
-}
-
-// The names of the recordings below a folder.
-fn names_in_folder(rt: &HostRuntime, folder: &[u8]) -> Result<Vec<Vec<u8>>, Failure> {
-    let folders = SystemFolders { files: rt };
-    match names_below(rt.alloc(), &folders, folder) {
-        Ok(names) => Ok(names),
-        Err(fault) => Err(say_fault(rt, folder, &fault)),
-    }
-}
-
 // Adds the names in a list to some names.
 fn add_list(
     rt: &HostRuntime,
@@ -46,12 +28,20 @@ fn add_list(
     list: &[u8],
     null: bool,
 ) -> Result<(), Failure> {
-    Ok(names.append(&mut names_in_list(rt, list, null)?)?)
+    let text = open_named(rt, list)?;
+    match read_names(rt.alloc(), text, if null { 0 } else { b'\n' }) {
+        Ok(mut listed) => Ok(names.append(&mut listed)?),
+        Err(fault) => Err(say_fault(rt, list, &fault)),
+    }
 }
 
 // Adds the names of the recordings below a folder to some names.
 fn add_folder(rt: &HostRuntime, names: &mut Vec<Vec<u8>>, folder: &[u8]) -> Result<(), Failure> {
-    Ok(names.append(&mut names_in_folder(rt, folder)?)?)
+    let folders = SystemFolders { files: rt };
+    match names_below(rt.alloc(), &folders, folder) {
+        Ok(mut below) => Ok(names.append(&mut below)?),
+        Err(fault) => Err(say_fault(rt, folder, &fault)),
+    }
 }
 
 // Adds the names in the list and those below the folder. That standard input is named twice is said.

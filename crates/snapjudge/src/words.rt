@@ -183,16 +183,6 @@ fn recording_fault(alloc: Global, texts: &[String]) -> Option<JobFault> {
     }
 }
 
-// The job that the words ask for.
-fn asked_by(alloc: Global, texts: Vec<String>) -> Result<Asked, JobFault>
-    ensures { IfOk result (λ asked. IsInRange asked.job) }
-{
-    match job_of(alloc, texts) {
-        Ok(asked) => Ok(asked),
-        Err(fault) => Err(readable(alloc, fault)),
-    }
-}
-
 // What is asked for, with the words that are not UTF-8.
 fn wanted_of(alloc: Global, asked: Asked, others: &[Vec<u8>]) -> Result<Wanted, AllocError>
     requires { IsInRange asked.job }
@@ -215,8 +205,10 @@ fn wanted_in(alloc: Global, words: Words) -> Result<Wanted, JobFault>
     ensures { IfOk result (λ wanted. IsInRange wanted.job) }
 {
     let Words { texts, others } = words;
-    let asked = asked_by(alloc, texts)?;
-    Ok(wanted_of(alloc, asked, &others)?)
+    match job_of(alloc, texts) {
+        Ok(asked) => Ok(wanted_of(alloc, asked, &others)?),
+        Err(fault) => Err(readable(alloc, fault)),
+    }
 }
 
 // Why the files and places can't be read, if they can't.
