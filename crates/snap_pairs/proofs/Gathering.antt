@@ -1,6 +1,7 @@
 -- Slots of pieces, and the claims that were gathered.
-use Rattle.std.proofs.Common.{◌≡◌, ℕ, zero, suc, ◌<◌, Bool, true, false, cond, List, [], ◌∷◌, ◌++◌, Option, Some, None, All, MatchOption, length, get_or, set, sym, refl, ap, ◌∙◌, subst, ⊎_elim, inl, inr, arith, take, drop}
-use Rattle.std.specs.Prelude.{map, is_some, filter, nat_lt, Any}
+use Rattle.std.proofs.Common.{◌≡◌, ℕ, zero, suc, ◌<◌, Bool, true, false, cond, List, [], ◌∷◌, ◌++◌, Option, Some, None, Ok, All, MatchOption, length, get_or, set, sym, refl, ap, ◌∙◌, subst, ⊎_elim, inl, inr, arith, take, drop}
+use Rattle.std.specs.Prelude.{map, is_some, filter, nat_lt, Any, IfOk, Result}
+use Rattle.std.specs.declared.alloc.AllocError.{AllocError}
 use Rattle.std.proofs.lemmas.List.{take-append-le, take_all, get_or-set_same, get_or-set_other, length-set}
 use Rattle.std.proofs.lemmas.List.Elements.{All-push, All-weaker, All-head, All-tail}
 use Rattle.std.proofs.lemmas.Bool.{cases_eq, cases_lt, ne_eqb}
@@ -9,9 +10,10 @@ use Rattle.snap_core.specs.Calls.{Call}
 use Rattle.snap_conditions.specs.declared.tally.Tally.{Tally}
 use Rattle.snap_core.specs.Sums.{one_if, times, total}
 use Rattle.snap_pairs.specs.Claiming.{ClaimView, CounterView, IsClaimOf, IsFinished, pieces_of}
-use Rattle.snap_pairs.specs.inside.Pieces.{IsPieceTally, FitSlots, IsFull, IsAnswer}
+use Rattle.snap_pairs.specs.inside.Pieces.{IsPieceTally, FitSlots, IsFull, IsAnswer, AreAnswers}
 use Rattle.snap_pairs.specs.declared.worker.Answer.{Answer}
 use Rattle.snap_pairs.specs.declared.worker.Drawn.{Drawn}
+use Rattle.snap_pairs.proofs.Closing.{all_front, all_last}
 
 module _ (calls : List Call) (n : ℕ) where
   pub fit_set : (p : ℕ) (t : Tally) (slots : List (Option Tally)) → FitSlots calls n slots → IsPieceTally calls n p t → FitSlots calls n (set slots p (Some t))
@@ -60,6 +62,14 @@ pub record AreGathered (calls : List Call) (counter : CounterView) (claims : Lis
   pub finished : All IsFinished claims
   pub fit : FitSlots calls counter.pieces slots
   pub full : All (λ claim. All (IsFull slots) (pieces_of claim)) claims
+
+-- what holds of all answers holds of the last, and of those before it
+module _ (calls : List Call) (counter : CounterView) (rest : List (Result Answer AllocError)) (last : Result Answer AllocError) (all : List (Result Answer AllocError)) where
+  pub last_answer : (a : Answer) → all ≡ rest ++ last ∷ [] → AreAnswers calls counter all → last ≡ Ok a → IsAnswer calls counter a
+  last_answer a is good ok = subst (λ r. IfOk r (IsAnswer calls counter)) ok (all_last (λ r. IfOk r (IsAnswer calls counter)) rest last (subst (AreAnswers calls counter) is good))
+
+  pub answers_before : all ≡ rest ++ last ∷ [] → AreAnswers calls counter all → AreAnswers calls counter rest
+  answers_before is good = all_front (λ r. IfOk r (IsAnswer calls counter)) rest last (subst (AreAnswers calls counter) is good)
 
 -- one answer more was gathered
 pub gathered_more : (calls : List Call) (counter : CounterView) (claims : List ClaimView) (slots now : List (Option Tally)) (a : Answer)

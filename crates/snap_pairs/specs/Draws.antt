@@ -1,7 +1,5 @@
 -- Numbers that claims draw from one counter.
-use Rattle.std.specs.Prelude.{ℕ, ◌-◌, List, [], ◌∷◌}
-use mathlib.Core.Option.{some}
-use lib.ListN.{get_elem?}
+use Rattle.std.specs.Prelude.{ℕ, List, [], ◌∷◌}
 
 -- the numbers that each of a seat's claims drew, in the order in which it drew them
 abbrev pub Hand : Type 0

@@ -1,13 +1,14 @@
-use Rattle.std.proofs.Common.{◌≡◌, ◌+◌, ◌++◌, ◌∷◌, [], All, rules, arith, length, map, vec_items, sym, ap, ◌∙◌, subst}
+use Rattle.std.proofs.Common.{◌≡◌, ◌+◌, ◌++◌, ◌∷◌, [], All, rules, arith, length, length-append, map, vec_items, sym, ap, ◌∙◌, subst}
 use Rattle.std.proofs.lemmas.List.{map_push, length-map}
 use Rattle.snap_core.specs.Calls.{calls_of, views_of}
 use Rattle.snap_conditions.specs.Tally.{tally_of}
 use Rattle.snap_views.specs.Seen.{views_between}
 use Rattle.std.proofs.lemmas.List.Elements.{All-push}
-use Rattle.snap_pairs.specs.Claiming.{pieces_of}
+use Rattle.snap_pairs.specs.Claiming.{ClaimView, pieces_of}
 use Rattle.snap_pairs.specs.inside.Pieces.{IsPieceTally, piece_start, views_in_piece}
 use Rattle.snap_pairs.specs.declared.worker.Drawn.{Drawn}
 use Rattle.snap_pairs.proofs.Finishing.{few_pieces, pieces_more}
+use Rattle.snap_pairs.proofs.Starts.{starts_grow}
 use Rattle.snap_pairs.proofs.worker.draw_all.Goals as goal
 
 pub overflow_cast-len : goal.overflow_cast-len
@@ -40,3 +41,35 @@ loop-piece-preserved g c =
       covers = ap pieces_of drawn.piece.1 ∙ pieces_more old.pieces p old.drawn (omega (arith, i.of_counter.1, drawn.piece.0)) ∙ ap (λ ps. ps ++ p ∷ []) i.covers
           ∙ sym (map_push (λ (pair : Drawn). pair.piece) (vec_items c.loop-piece.pairs) (record { piece = p; tally = t })) ∙ ap (map (λ (pair : Drawn). pair.piece)) (sym pushed);
     }
+
+pub loop-piece-init : goal.loop-piece-init
+loop-piece-init g c = search rules
+
+pub draw-requires : goal.draw-requires
+draw-requires g c = c.loop-piece.invariant.of_counter
+
+pub start_of-from-requires : goal.start_of-from-requires
+start_of-from-requires g c = omega (arith, c.in-Some.ensures.piece.0, c.requires.pieces)
+
+pub overflow_add-piece : goal.overflow_add-piece
+overflow_add-piece g c = omega (arith, c.in-Some.ensures.piece.0, c.requires.pieces, c.args.cutting.pieces_fit.1)
+
+pub start_of-to-requires : goal.start_of-to-requires
+start_of-to-requires g c = omega (arith, c.in-Some.ensures.piece.0, c.requires.pieces)
+
+pub piece_tally-requires-clause-order : goal.piece_tally-requires-clause-order
+piece_tally-requires-clause-order g c =
+    let grow = starts_grow c.in-Some.piece (c.in-Some.piece + 1) c.view_count-views.result c.args.cutting.pieces c.args.cutting.pieces_fit.0 (omega arith) in
+    omega (arith, grow, c.start_of-from.ensures.start, c.start_of-to.ensures.start)
+
+pub piece_tally-requires-clause-views : goal.piece_tally-requires-clause-views
+piece_tally-requires-clause-views g c = omega (arith, c.start_of-to.ensures.inside, c.view_count-views.ensures)
+
+pub loop-piece-smaller : goal.loop-piece-smaller
+loop-piece-smaller g c =
+    let drawn = c.in-Some.ensures in
+    let old = c.loop-piece.claim.drawn in
+    omega (arith, drawn.few, ap (λ (claim : ClaimView). length claim.drawn) drawn.piece.1, length-append old (c.in-Some.piece ∷ []))
+
+pub returns : goal.returns
+returns g c = search rules
