@@ -22,17 +22,27 @@ pub fn tally_and_chain_alone(
     ensures chain { IfOk result (λ answer. IfSome answer.1 (IsViewChain (calls_of index.now))) }
     ensures found { IfOk result (λ answer. IsSome answer.1 ↔ (read_faults (calls_of index.now) (views_of (calls_of index.now)) ≡ [])) }
 {
-    let views = index.view_count();
     let sums = view_sums(alloc, index)?;
     match view_order(alloc, index, sums)? {
-        ViewOrder::Faultless(chain) => Ok((tally_without_read(index, 0, views), Some(chain))),
+        ViewOrder::Faultless(chain) => {
+            let tally = tally_without_read(index, 0, index.view_count());
+            Ok((tally, Some(chain)))
+        }
         ViewOrder::Comparable(chain) => {
             let grid = ViewGrid::of_chain(alloc, index, &chain)?;
-            Ok((tally_by_grid(alloc, &grid, 0, views)?, None))
+            Ok((tally_by(alloc, index, grid)?, None))
         }
         ViewOrder::Crossing => {
             let grid = ViewGrid::build(alloc, index)?;
-            Ok((tally_by_grid(alloc, &grid, 0, views)?, None))
+            Ok((tally_by(alloc, index, grid)?, None))
         }
     }
+}
+
+// The tally of all completed views, by a grid of them.
+fn tally_by(alloc: Global, index: &Index<'_>, grid: ViewGrid<'_, '_>) -> Result<Tally, AllocError>
+    requires { grid ≡ index.now }
+    ensures { IfOk result (λ tally. tally ≡ tally_of (calls_of index.now) (views_of (calls_of index.now))) }
+{
+    tally_by_grid(alloc, &grid, 0, index.view_count())
 }

@@ -7,5 +7,5 @@ use Rattle.snap_conditions.proofs.whole.tally_and_chain_alone.Goals as goal
 pub returns-in-Faultless-clause-tally : goal.returns-in-Faultless-clause-tally
 returns-in-Faultless-clause-tally c =
     let es = c.args.index.now in
-    let views = c.view_count-views in
-    of_all_views es es views.result _ refl views.ensures (c.tally_without_read.ensures ∙ faultless_tally (calls_of es) 0 views.result (c.in_ok-chain.ensures.faultless.0 (subst IsFaultless (sym c.in-Faultless.is) tt)))
+    let views = c.view_count in
+    of_all_views es es views.result _ refl views.ensures (c.tally_without_read-tally.ensures ∙ faultless_tally (calls_of es) 0 views.result (c.in_ok-chain.ensures.faultless.0 (subst IsFaultless (sym c.in-Faultless.is) tt)))
