@@ -1,8 +1,8 @@
 -- Two views compared by the row of the first and the entries of the second.
-use Rattle.std.proofs.Common.{◌≡◌, ℕ, zero, suc, ◌+◌, ◌-◌, ◌<◌, ◌≤◌, ◌↔◌, true, List, [], ◌∷◌, length, get_or, min, Option, Some, None, refl, sym, ap, subst, ◌∙◌, inl, inr, arith, add-one}
-use Rattle.std.specs.Prelude.{◌==◌, nat_lt}
-use Rattle.std.proofs.Math.Nat.{min-le_left, min-le_right}
-use Rattle.std.proofs.lemmas.Bool.{cases_lt, eqb-true, ltb-true, lt-ltb}
+use Rattle.std.proofs.Common.{◌≡◌, ℕ, zero, suc, ◌+◌, ◌-◌, ◌<◌, ◌≤◌, List, [], ◌∷◌, length, get_or, min, Option, Some, None, refl, sym, ap, subst, ◌∙◌, inl, inr, arith, add-one}
+use Rattle.std.specs.Prelude.{◌==◌}
+use Rattle.std.proofs.Math.Nat.{min-le_left}
+use Rattle.std.proofs.lemmas.Bool.{cases_lt, eqb-true}
 use Rattle.std.proofs.lemmas.List.Elements.{All-contains}
 use Rattle.snap_core.specs.declared.entry.Entry.{Entry}
 use Rattle.snap_core.specs.Entries.{entry_of, number_in, EntryFits, AreEntries}
@@ -11,7 +11,7 @@ use Rattle.snap_core.proofs.Members.{In-find}
 use Rattle.snap_views.specs.Rows.{number_among, row_number, sum_below, IsLessSomewhere}
 use Rattle.snap_theory.proofs.Entries.{nothing, AreSorted, sorted, sorted_tail, unlisted_below, listed_behind, above}
 use Rattle.snap_views.proofs.Rows.{entry_at}
-use Rattle.snap_views.proofs.Sums.{sum_none, sum_more, sum_skip, sum_le, sum_less, sum_some, sum_small}
+use Rattle.snap_views.proofs.Sums.{sum_none, sum_more, sum_skip, sum_le, sum_some, sum_small}
 
 -- the lesser of what two views show of a component
 abbrev pub lesser_at : List ℕ → List Entry → ℕ → ℕ

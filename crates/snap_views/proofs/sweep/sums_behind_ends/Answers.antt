@@ -50,3 +50,11 @@ loop-place-preserved c =
           }
       | in_default w ↦ absurd (w.in_default.not-Some at.ended (ends ∙ at.ends))
     ]
+
+pub returns-clause-size : goal.returns-clause-size
+returns-clause-size c = c.loop-place.invariant.size
+
+pub returns-clause-sums : goal.returns-clause-sums
+returns-clause-sums c =
+    let all : c.loop-place.place ≡ length (views_of (calls_of c.args.index.now)) = omega (arith, c.loop-place-test.false, c.loop-place.auto.place-end, c.view_count-place-end.ensures) in
+    subst (λ n. IsSwept (calls_of c.args.index.now) n 0 c.loop-place.behind.items) all c.loop-place.invariant.sums

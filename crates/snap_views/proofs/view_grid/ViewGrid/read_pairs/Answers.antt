@@ -1,5 +1,4 @@
-use Rattle.std.proofs.Common.{◌≡◌, Some, None, sym, ap, ◌∙◌, arith}
-use Rattle.snap_core.specs.Calls.{calls_of}
+use Rattle.std.proofs.Common.{Some, None, sym, ap, ◌∙◌, arith}
 use Rattle.snap_theory.specs.Faults.{first_of}
 use Rattle.snap_views.proofs.Counted.{are_found_between, first_between, known, stale_between}
 use Rattle.snap_views.proofs.view_grid.ViewGrid.read_pairs.Goals as goal
