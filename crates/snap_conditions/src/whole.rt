@@ -32,11 +32,16 @@ pub fn tally_and_chain_alone(
             let grid = ViewGrid::of_chain(alloc, index, &chain)?;
             Ok((tally_by(alloc, index, grid)?, None))
         }
-        ViewOrder::Crossing => {
-            let grid = ViewGrid::build(alloc, index)?;
-            Ok((tally_by(alloc, index, grid)?, None))
-        }
+        ViewOrder::Crossing => Ok((tally_by_columns(alloc, index)?, None)),
     }
+}
+
+// The tally of all completed views, of which some two may cross.
+fn tally_by_columns(alloc: Global, index: &Index<'_>) -> Result<Tally, AllocError>
+    ensures { IfOk result (λ tally. tally ≡ tally_of (calls_of index.now) (views_of (calls_of index.now))) }
+{
+    let grid = ViewGrid::build(alloc, index)?;
+    tally_by(alloc, index, grid)
 }
 
 // The tally of all completed views, by a grid of them.
