@@ -1,7 +1,9 @@
 //! The shapes of a history as a picture: SVG, and a page around it.
 #![tactic(auto)]
 
+mod calls;
 mod page;
+mod parts;
 mod points;
 mod scale;
 mod strip;

@@ -1,14 +1,24 @@
 //! Where the calls of a printed order take effect.
-use crate::scale::{COLUMN, x_of};
+use crate::parts::put_parts;
+use crate::scale::{COLUMN, x_of, y_of};
 use snap_draw::Bar;
 use std::alloc::{AllocError, Global};
 
 /// The point of a call: its place in the order, counted from 1, its lane, and the column behind which it stands.
-#[derive(Clone, Copy, PartialEq, Eq, Debug)]
+#[derive(Clone, Copy)]
 pub(crate) struct Point {
     pub(crate) place: u64,
     pub(crate) lane: usize,
     pub(crate) column: usize,
+}
+
+fn bar_of(bars: &[Bar], number: u32) -> Option<&Bar> {
+    for bar in bars {
+        if bar.drawn.number == number {
+            return Some(bar);
+        }
+    }
+    None
 }
 
 // The points of the calls that are drawn, in the order of their places. Each stands behind its call's begin, and behind the
@@ -23,7 +33,7 @@ pub(crate) fn points_of(
     let mut place = 0u64;
     for number in order {
         place = place.saturating_add(1);
-        if let Some(bar) = bars.iter().find(|bar| bar.drawn.number == *number) {
+        if let Some(bar) = bar_of(bars, *number) {
             column = bar.begin.max(column);
             points.push(Point {
                 place,
@@ -35,19 +45,64 @@ pub(crate) fn points_of(
     Ok(points)
 }
 
-// Where the points stand from left to right: those behind one column share the room up to the next.
-pub(crate) fn spread(alloc: Global, points: &[Point]) -> Result<Vec<u64>, AllocError> {
-    let mut across = Vec::new(alloc);
-    for point in points {
-        let column = point.column;
-        let beside = points.iter().filter(|other| other.column == column);
-        let all = beside.count() as u64;
-        let nth = points
-            .iter()
-            .filter(|other| other.column == column && other.place <= point.place)
-            .count() as u64;
-        let step = nth.saturating_mul(COLUMN) / all.saturating_add(1).max(1);
-        across.push(x_of(column).saturating_add(step))?;
+// Where a point stands from left to right: those behind one column share the room up to the next.
+fn spread(points: &[Point], point: &Point) -> u64 {
+    let mut all = 0u64;
+    let mut nth = 0u64;
+    for other in points {
+        if other.column == point.column {
+            all = all.saturating_add(1);
+            if other.place <= point.place {
+                nth = nth.saturating_add(1);
+            }
+        }
     }
-    Ok(across)
+    let step = nth.saturating_mul(COLUMN) / all.saturating_add(1).max(1);
+    x_of(point.column).saturating_add(step)
+}
+
+/// Adds the line of the printed order, through the points where the calls take effect. It lies below the bars and their labels.
+pub(crate) fn put_line(out: &mut Vec<u8>, points: &[Point]) -> Result<(), AllocError> {
+    if points.is_empty() {
+        return Ok(());
+    }
+    out.extend_from_slice(b"<g id=\"order\"><path class=\"line\" d=\"")?;
+    let mut step: &[u8] = b"M ";
+    for point in points {
+        let x = spread(points, point);
+        put_parts(out, &[(step, x), (b" ", y_of(point.lane, 27))], b"")?;
+        step = b" L ";
+    }
+    out.extend_from_slice(b"\"/></g>\n")
+}
+
+// Adds a point, on its bar, and its place in the order.
+fn put_place(out: &mut Vec<u8>, point: &Point, x: u64) -> Result<(), AllocError> {
+    put_parts(
+        out,
+        &[
+            (b"<circle class=\"point\" cx=\"", x),
+            (b"\" cy=\"", y_of(point.lane, 27)),
+            (
+                b"\" r=\"4\"/><text class=\"place\" id=\"place-",
+                point.place,
+            ),
+            (b"\" x=\"", x),
+            (b"\" y=\"", y_of(point.lane, 49)),
+            (b"\">", point.place),
+        ],
+        b"</text>",
+    )
+}
+
+/// Adds these points and their places.
+pub(crate) fn put_places(out: &mut Vec<u8>, points: &[Point]) -> Result<(), AllocError> {
+    if points.is_empty() {
+        return Ok(());
+    }
+    out.extend_from_slice(b"<g id=\"places\">")?;
+    for point in points {
+        put_place(out, point, spread(points, point))?;
+    }
+    out.extend_from_slice(b"</g>\n")
 }

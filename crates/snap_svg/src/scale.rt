@@ -7,6 +7,12 @@ pub(crate) const LANE: u64 = 58;
 
 pub(crate) const TOP: u64 = 92;
 
+/// A character of a label is so wide.
+pub(crate) const WIDE: usize = 7;
+
+/// So much stays free between a label and what is right of it.
+pub(crate) const MARGIN: usize = 6;
+
 // So many steps from a start.
 pub(crate) fn scaled(count: usize, step: u64, start: u64) -> u64 {
     (count as u64).saturating_mul(step).saturating_add(start)
