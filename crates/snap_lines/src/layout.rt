@@ -8,7 +8,7 @@ use snap_draw::{Bar, Shapes};
 use std::alloc::{AllocError, Global};
 
 /// A bar, with the characters of its begin and its end, counted from those of the first column. A pending call has no end.
-#[derive(Clone, Copy, PartialEq, Eq, Debug)]
+#[derive(Clone, Copy)]
 pub(crate) struct Span {
     pub(crate) bar: Bar,
     pub(crate) from: usize,

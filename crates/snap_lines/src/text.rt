@@ -1,8 +1,8 @@
 //! The lines of a picture, as text. A character of a line is a byte, but for the one that says that something is cut.
 use crate::layout::{Line, Span, character_of, lines_of, span_of};
 use snap_draw::{
-    KINDS, Picture, Shapes, front_of, has_kind, is_sentence, label_of, place_at, put_cut,
-    put_kinds, put_title, record_at, verdict_of,
+    Bar, KINDS, Mark, Picture, Shapes, front_of, has_kind, is_sentence, label_of, place_at,
+    put_cut, put_kinds, put_title, record_at, verdict_of,
 };
 use snap_index::CallOp;
 use snap_report::put_number;
@@ -49,12 +49,21 @@ fn put_name(out: &mut Vec<u8>, name: &[u8]) -> Result<(), AllocError> {
     put_run(out, b' ', LEFT.saturating_sub(name.len()))
 }
 
-// Adds above each column the number of the record of its event, where there is room behind the one before.
-fn put_records(
-    alloc: Global,
+// Adds a number at a character of a line, behind what ends at another one, and tells where the number ends.
+fn put_record(
     out: &mut Vec<u8>,
-    picture: &Picture<'_, '_>,
-) -> Result<(), AllocError> {
+    record: u64,
+    from: usize,
+    end: usize,
+) -> Result<usize, AllocError> {
+    put_run(out, b' ', from.saturating_sub(end))?;
+    let before = out.len();
+    put_number(out, b"", record)?;
+    Ok(from.saturating_add(out.len().saturating_sub(before)))
+}
+
+// Adds above each column the number of the record of its event, where there is room behind the one before.
+fn put_records(out: &mut Vec<u8>, picture: &Picture<'_, '_>) -> Result<(), AllocError> {
     let shapes = picture.shapes;
     put_name(out, b"record")?;
     let mut end = 0usize;
@@ -62,15 +71,20 @@ fn put_records(
         let from = character_of(step_of(shapes.columns), column);
         if let Some(place) = place_at(&shapes.bars, column) {
             if end == 0 || end < from {
-                let mut number = Vec::new(alloc);
-                put_number(&mut number, b"", record_at(picture.records, place))?;
-                put_run(out, b' ', from.saturating_sub(end))?;
-                out.extend_from_slice(&number)?;
-                end = from.saturating_add(number.len());
+                end = put_record(out, record_at(picture.records, place), from, end)?;
             }
         }
     }
     out.extend_from_slice(b"\n")
+}
+
+fn is_marked(marks: &[Mark], number: u32) -> bool {
+    for kind in &KINDS {
+        if has_kind(marks, number, *kind) {
+            return true;
+        }
+    }
+    false
 }
 
 // The label of a call, behind a mark where it is one of a first fault.
@@ -79,12 +93,8 @@ fn marked_label(
     picture: &Picture<'_, '_>,
     span: &Span,
 ) -> Result<Vec<u8>, AllocError> {
-    let number = span.bar.drawn.number;
     let mut label = Vec::new(alloc);
-    if KINDS
-        .iter()
-        .any(|kind| has_kind(&picture.shapes.marks, number, *kind))
-    {
+    if is_marked(&picture.shapes.marks, span.bar.drawn.number) {
         label.push(b'!')?;
     }
     label.extend_from_slice(&label_of(alloc, picture.index, &span.bar)?)?;
@@ -99,7 +109,30 @@ fn room_of(span: &Span, edge: usize) -> usize {
         .saturating_sub(1)
 }
 
-// Adds a bar: its label, cut or filled up to its room, between its ends.
+// Adds the label of a call, cut or filled up to its room.
+fn put_label(
+    alloc: Global,
+    out: &mut Vec<u8>,
+    picture: &Picture<'_, '_>,
+    span: &Span,
+    edge: usize,
+    fill: u8,
+) -> Result<(), AllocError> {
+    let label = marked_label(alloc, picture, span)?;
+    let room = room_of(span, edge);
+    put_cut(out, &label, room)?;
+    if label.len() < room {
+        out.push(b' ')?;
+        put_run(
+            out,
+            fill,
+            room.saturating_sub(label.len()).saturating_sub(1),
+        )?;
+    }
+    Ok(())
+}
+
+// Adds a bar: its label between its ends.
 fn put_bar(
     alloc: Global,
     out: &mut Vec<u8>,
@@ -111,20 +144,18 @@ fn put_bar(
         CallOp::Update(_entry) => (b'[', b'=', b']'),
         CallOp::View => (b'(', b'-', b')'),
     };
-    let label = marked_label(alloc, picture, span)?;
-    let room = room_of(span, edge);
     out.push(begin)?;
-    put_cut(out, &label, room)?;
-    if label.len() < room {
-        out.push(b' ')?;
-        put_run(
-            out,
-            fill,
-            room.saturating_sub(label.len()).saturating_sub(1),
-        )?;
-    }
+    put_label(alloc, out, picture, span, edge, fill)?;
     out.push(if span.to.is_some() { end } else { b'>' })?;
     Ok(())
+}
+
+// Adds the name of a process.
+fn put_process(out: &mut Vec<u8>, process: u32) -> Result<(), AllocError> {
+    let before = out.len();
+    put_number(out, b"p", u64::from(process))?;
+    let name = out.len().saturating_sub(before);
+    put_run(out, b' ', LEFT.saturating_sub(name))
 }
 
 // Adds the bars of a line.
@@ -135,9 +166,7 @@ fn put_bars(
     line: &Line,
 ) -> Result<(), AllocError> {
     let edge = edge_of(picture.shapes);
-    let mut name = Vec::new(alloc);
-    put_number(&mut name, b"p", u64::from(line.process))?;
-    put_name(out, &name)?;
+    put_process(out, line.process)?;
     let mut at = 0usize;
     for span in &line.spans {
         put_run(out, b' ', span.from.saturating_sub(at))?;
@@ -162,7 +191,44 @@ fn note_of(alloc: Global, picture: &Picture<'_, '_>, span: &Span) -> Result<Vec<
     Ok(note)
 }
 
-// Adds the line of notes below a line, where one of its bars has a note. Each has the room up to the next bar.
+// Adds the note of a bar, with the room up to the next one, behind notes that end at a character, and tells where they end then.
+fn put_note(
+    alloc: Global,
+    notes: &mut Vec<u8>,
+    picture: &Picture<'_, '_>,
+    span: &Span,
+    next: usize,
+    end: usize,
+) -> Result<usize, AllocError> {
+    let note = note_of(alloc, picture, span)?;
+    let Some(text) = note.strip_prefix(b" ") else {
+        return Ok(end);
+    };
+    let room = next.saturating_sub(span.from).saturating_sub(1);
+    put_run(notes, b' ', span.from.saturating_sub(end))?;
+    put_cut(notes, text, room)?;
+    Ok(span.from.saturating_add(text.len().min(room)))
+}
+
+// Adds the notes of the bars of a line.
+fn put_notes_of(
+    alloc: Global,
+    notes: &mut Vec<u8>,
+    picture: &Picture<'_, '_>,
+    spans: &[Span],
+) -> Result<(), AllocError> {
+    let mut end = 0usize;
+    for (place, span) in spans.iter().enumerate() {
+        let next = match spans.get(place.saturating_add(1)) {
+            Some(other) => other.from,
+            None => edge_of(picture.shapes),
+        };
+        end = put_note(alloc, notes, picture, span, next, end)?;
+    }
+    Ok(())
+}
+
+// Adds the line of notes below a line, where one of its bars has a note.
 fn put_notes(
     alloc: Global,
     out: &mut Vec<u8>,
@@ -170,20 +236,7 @@ fn put_notes(
     line: &Line,
 ) -> Result<(), AllocError> {
     let mut notes = Vec::new(alloc);
-    let mut end = 0usize;
-    for (place, span) in line.spans.iter().enumerate() {
-        let note = note_of(alloc, picture, span)?;
-        let next = match line.spans.get(place.saturating_add(1)) {
-            Some(other) => other.from,
-            None => edge_of(picture.shapes),
-        };
-        if let Some(text) = note.strip_prefix(b" ") {
-            let room = next.saturating_sub(span.from).saturating_sub(1);
-            put_run(&mut notes, b' ', span.from.saturating_sub(end))?;
-            put_cut(&mut notes, text, room)?;
-            end = span.from.saturating_add(text.len().min(room));
-        }
-    }
+    put_notes_of(alloc, &mut notes, picture, &line.spans)?;
     if notes.is_empty() {
         return Ok(());
     }
@@ -192,22 +245,33 @@ fn put_notes(
     out.extend_from_slice(b"\n")
 }
 
+// Adds a call in full, where its label had no room.
+fn put_cut_call(
+    alloc: Global,
+    cut: &mut Vec<u8>,
+    picture: &Picture<'_, '_>,
+    bar: &Bar,
+) -> Result<(), AllocError> {
+    let shapes = picture.shapes;
+    let span = span_of(step_of(shapes.columns), bar);
+    let label = marked_label(alloc, picture, &span)?.len();
+    if label <= room_of(&span, edge_of(shapes)) {
+        return Ok(());
+    }
+    cut.extend_from_slice(b"  ")?;
+    put_title(cut, picture.index, picture.records, bar)?;
+    cut.extend_from_slice(b"\n")
+}
+
 // Adds the calls whose labels had no room, each in full.
 fn put_cut_calls(
     alloc: Global,
     out: &mut Vec<u8>,
     picture: &Picture<'_, '_>,
 ) -> Result<(), AllocError> {
-    let shapes = picture.shapes;
-    let edge = edge_of(shapes);
     let mut cut = Vec::new(alloc);
-    for bar in &shapes.bars {
-        let span = span_of(step_of(shapes.columns), bar);
-        if room_of(&span, edge) < marked_label(alloc, picture, &span)?.len() {
-            cut.extend_from_slice(b"  ")?;
-            put_title(&mut cut, picture.index, picture.records, bar)?;
-            cut.push(b'\n')?;
-        }
+    for bar in &picture.shapes.bars {
+        put_cut_call(alloc, &mut cut, picture, bar)?;
     }
     if cut.is_empty() {
         return Ok(());
@@ -240,24 +304,38 @@ fn put_key(out: &mut Vec<u8>, picture: &Picture<'_, '_>) -> Result<(), AllocErro
     out.extend_from_slice(b"\n")
 }
 
+// Adds a line for each lane, and its notes.
+fn put_lines(
+    alloc: Global,
+    out: &mut Vec<u8>,
+    picture: &Picture<'_, '_>,
+) -> Result<(), AllocError> {
+    let lines = lines_of(alloc, step_of(picture.shapes.columns), picture.shapes)?;
+    for line in &lines {
+        put_bars(alloc, out, picture, line)?;
+        put_notes(alloc, out, picture, line)?;
+    }
+    Ok(())
+}
+
 // Adds the lanes, with the records above them and what the signs mean below.
 fn put_lanes(
     alloc: Global,
     out: &mut Vec<u8>,
     picture: &Picture<'_, '_>,
 ) -> Result<(), AllocError> {
-    let shapes = picture.shapes;
-    if shapes.lanes.is_empty() {
+    if picture.shapes.lanes.is_empty() {
         return out.extend_from_slice(b"no calls\n");
     }
     put_left_out(out, picture)?;
-    put_records(alloc, out, picture)?;
-    let lines = lines_of(alloc, step_of(shapes.columns), shapes)?;
-    for line in &lines {
-        put_bars(alloc, out, picture, line)?;
-        put_notes(alloc, out, picture, line)?;
-    }
+    put_records(out, picture)?;
+    put_lines(alloc, out, picture)?;
     put_key(out, picture)
+}
+
+fn put_sentence(sentences: &mut Vec<u8>, line: &[u8]) -> Result<(), AllocError> {
+    sentences.extend_from_slice(line)?;
+    sentences.extend_from_slice(b"\n")
 }
 
 // Adds the sentence on the first fault of each kind.
@@ -265,8 +343,7 @@ fn put_sentences(alloc: Global, out: &mut Vec<u8>, said: &[u8]) -> Result<(), Al
     let mut sentences = Vec::new(alloc);
     for line in said.split(|byte| *byte == b'\n').skip(1) {
         if is_sentence(line) {
-            sentences.extend_from_slice(line)?;
-            sentences.push(b'\n')?;
+            put_sentence(&mut sentences, line)?;
         }
     }
     if sentences.is_empty() {
@@ -276,23 +353,37 @@ fn put_sentences(alloc: Global, out: &mut Vec<u8>, said: &[u8]) -> Result<(), Al
     out.extend_from_slice(&sentences)
 }
 
+// Adds the picture, the verdict and the sentences.
+fn put_text(alloc: Global, out: &mut Vec<u8>, picture: &Picture<'_, '_>) -> Result<(), AllocError> {
+    out.extend_from_slice(front_of(verdict_of(picture.said)))?;
+    out.extend_from_slice(b"\n\n")?;
+    put_lanes(alloc, out, picture)?;
+    put_sentences(alloc, out, picture.said)?;
+    put_cut_calls(alloc, out, picture)
+}
+
 /// The picture, with the verdict above it and the sentences on its faults below.
 pub fn text_lines(alloc: Global, picture: &Picture<'_, '_>) -> Result<Vec<u8>, AllocError> {
     let mut out = Vec::new(alloc);
-    out.extend_from_slice(front_of(verdict_of(picture.said)))?;
-    out.extend_from_slice(b"\n\n")?;
-    put_lanes(alloc, &mut out, picture)?;
-    put_sentences(alloc, &mut out, picture.said)?;
-    put_cut_calls(alloc, &mut out, picture)?;
+    put_text(alloc, &mut out, picture)?;
     Ok(out)
+}
+
+// Adds the explanation and the picture.
+fn put_explained(
+    alloc: Global,
+    out: &mut Vec<u8>,
+    picture: &Picture<'_, '_>,
+) -> Result<(), AllocError> {
+    out.extend_from_slice(picture.said)?;
+    out.extend_from_slice(b"\n")?;
+    put_lanes(alloc, out, picture)?;
+    put_cut_calls(alloc, out, picture)
 }
 
 /// The explanation, with the picture below it.
 pub fn explained_lines(alloc: Global, picture: &Picture<'_, '_>) -> Result<Vec<u8>, AllocError> {
     let mut out = Vec::new(alloc);
-    out.extend_from_slice(picture.said)?;
-    out.extend_from_slice(b"\n")?;
-    put_lanes(alloc, &mut out, picture)?;
-    put_cut_calls(alloc, &mut out, picture)?;
+    put_explained(alloc, &mut out, picture)?;
     Ok(out)
 }
