@@ -29,10 +29,10 @@ pub fn put_kinds(
     number: u32,
     before: &[u8],
 ) -> Result<(), AllocError> {
-    for kind in KINDS {
-        if has_kind(marks, number, kind) {
+    for kind in &KINDS {
+        if has_kind(marks, number, *kind) {
             out.extend_from_slice(before)?;
-            out.extend_from_slice(word_of(kind))?;
+            out.extend_from_slice(word_of(*kind))?;
         }
     }
     Ok(())

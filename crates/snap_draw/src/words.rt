@@ -1,6 +1,6 @@
 //! What is said of a call that is drawn.
 use crate::shapes::Bar;
-use snap_index::{CallOp, Index};
+use snap_index::{Call, CallOp, Index};
 use snap_report::{put_call, put_entry, put_number};
 use std::alloc::{AllocError, Global};
 
@@ -36,6 +36,22 @@ fn put_operation(out: &mut Vec<u8>, index: &Index<'_>, bar: &Bar) -> Result<(), 
     Ok(())
 }
 
+// Adds the records of a call, and that it is pending where it is.
+fn put_records(out: &mut Vec<u8>, records: &[u32], call: &Call) -> Result<(), AllocError> {
+    let begun = record_at(records, call.begun);
+    match call.ended {
+        Some(ended) => {
+            put_number(out, b", records ", begun)?;
+            put_number(out, b" and ", record_at(records, ended))?;
+            out.extend_from_slice(b": ")
+        }
+        None => {
+            put_number(out, b", record ", begun)?;
+            out.extend_from_slice(b", pending: ")
+        }
+    }
+}
+
 /// Adds what an explanation says of a call, too.
 pub fn put_title(
     out: &mut Vec<u8>,
@@ -43,20 +59,9 @@ pub fn put_title(
     records: &[u32],
     bar: &Bar,
 ) -> Result<(), AllocError> {
-    let call = bar.drawn.call;
     put_call(out, b"call ", bar.drawn.number)?;
-    put_number(out, b" of process ", u64::from(call.process))?;
-    match call.ended {
-        Some(ended) => {
-            put_number(out, b", records ", record_at(records, call.begun))?;
-            put_number(out, b" and ", record_at(records, ended))?;
-            out.extend_from_slice(b": ")?;
-        }
-        None => {
-            put_number(out, b", record ", record_at(records, call.begun))?;
-            out.extend_from_slice(b", pending: ")?;
-        }
-    }
+    put_number(out, b" of process ", u64::from(bar.drawn.call.process))?;
+    put_records(out, records, &bar.drawn.call)?;
     put_operation(out, index, bar)
 }
 
@@ -65,9 +70,7 @@ pub fn put_cut(out: &mut Vec<u8>, text: &[u8], room: usize) -> Result<(), AllocE
     if text.len() <= room {
         return out.extend_from_slice(text);
     }
-    for byte in text.iter().take(room.saturating_sub(1)) {
-        out.push(*byte)?;
-    }
+    out.extend_from_slice(&text[..room.saturating_sub(1)])?;
     // an ellipsis in UTF-8
     out.extend_from_slice(&[0xe2, 0x80, 0xa6])
 }
