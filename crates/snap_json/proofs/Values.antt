@@ -33,8 +33,8 @@ seven_joined out a b c d e f g = simp append_assoc
 pub eight_joined : {A : Type 0} (out a b c d e f g h : List A) → out ++ a ++ b ++ c ++ d ++ e ++ f ++ g ++ h ≡ out ++ (a ++ (b ++ (c ++ (d ++ (e ++ (f ++ (g ++ h)))))))
 eight_joined out a b c d e f g h = simp append_assoc
 
-pub four_fields_joined : {A : Type 0} (out a b c d e f g h : List A) → out ++ a ++ b ++ c ++ d ++ e ++ f ++ g ++ h ≡ out ++ (a ++ (b ++ (c ++ (d ++ (e ++ (f ++ (g ++ (h ++ []))))))))
-four_fields_joined out a b c d e f g h = simp (append_assoc, append-nil)
+pub four_fields_joined : {A : Type 0} (out a b c d : List A) → out ++ a ++ b ++ c ++ d ≡ out ++ (a ++ (b ++ (c ++ (d ++ []))))
+four_fields_joined out a b c d = simp (append_assoc, append-nil)
 
 -- some fields, and the end of their object
 pub fields_then_end : (fields : List Field) → field_tokens fields ++ (token.end_object ∷ []) ≡ members_tokens (members_of fields)

@@ -206,6 +206,23 @@ fn put_part<F: Told>(
     }
 }
 
+// Adds a kind, and its first fault.
+fn put_kind<F: Told>(
+    line: &mut Line,
+    index: &Index<'_>,
+    records: &[u32],
+    kind: &str,
+    part: &Part<F>,
+) -> Result<(), AllocError>
+    requires each { length records.now ≡ length index.now }
+    requires named { ForSome part.now.first (F.is_named (calls_of index.now)) }
+    ensures { OnOk result (line.new.writer.tokens ≡ line.old.writer.tokens
+        ++ (token.key kind.now ∷ json_tokens (part_json (F.json records.now (calls_of index.now)) part.now))) }
+{
+    line.key(kind)?;
+    put_part(line, index, records, part)
+}
+
 /// Adds the first fault of each kind, each behind its kind.
 pub(crate) fn put_faults(
     line: &mut Line,
@@ -219,12 +236,8 @@ pub(crate) fn put_faults(
 {
     // what is known of the history that the index is of
     let _events = index.event_count();
-    line.key("integrity")?;
-    put_part(line, index, records, &tally.integrity)?;
-    line.key("proximity")?;
-    put_part(line, index, records, &tally.proximity)?;
-    line.key("read")?;
-    put_part(line, index, records, &tally.read)?;
-    line.key("write")?;
-    put_part(line, index, records, &tally.write)
+    put_kind(line, index, records, "integrity", &tally.integrity)?;
+    put_kind(line, index, records, "proximity", &tally.proximity)?;
+    put_kind(line, index, records, "read", &tally.read)?;
+    put_kind(line, index, records, "write", &tally.write)
 }

@@ -2,11 +2,13 @@
 ghost use Rattle.std.specs.Prelude.{◌≡◌, ◌++◌, [], ◌∷◌, IfOk, OnOk, codes, length};
 ghost use Rattle.json.specs.Json.{string};
 ghost use Rattle.json.specs.Token as token;
+ghost use Rattle.json.specs.Tree.{json_tokens};
 ghost use Rattle.snap_core.specs.Calls.{calls_of, views_of};
 ghost use Rattle.snap_conditions.specs.Tally.{tally_of};
+ghost use Rattle.snap_text.specs.Words.{word_of};
 ghost use Rattle.snap_report.specs.Reports.{has_no_fault, has_no_local_fault, has_no_stale_view};
 ghost use Rattle.snap_json.specs.Objects.{count_fields, few_views_json, history_json, refusal_json, trouble_json};
-ghost use Rattle.snap_json.specs.Values.{IsLineOf, field_tokens, number_json};
+ghost use Rattle.snap_json.specs.Values.{IsLineOf, field_tokens, number_json, object_of};
 
 use crate::faults::put_faults;
 use crate::line::Line;
@@ -71,6 +73,18 @@ pub fn history_line(
     line.finish()
 }
 
+// Adds the record at fault and the word of its fault.
+fn put_refused(line: &mut Line, place: u32, fault: TextFault) -> Result<(), AllocError>
+    ensures { OnOk result (line.new.writer.tokens ≡ line.old.writer.tokens
+        ++ (token.key (codes "refused") ∷ json_tokens (object_of ((codes "record", number_json place) ∷ (codes "fault", string (word_of fault)) ∷ [])))) }
+{
+    line.key("refused")?;
+    line.begin_object()?;
+    line.number("record", u64::from(place))?;
+    line.text("fault", fault.word())?;
+    line.end_object()
+}
+
 /// The line of a text that is no history: the record at fault, counted from 1 and 0 for the text as a whole, and the word of its
 /// fault.
 pub fn refusal_line(
@@ -83,13 +97,21 @@ pub fn refusal_line(
     ensures { IfOk result (λ line. IsLineOf (refusal_json name.now status place fault) line.items) }
 {
     let mut line = begin_text(alloc, name, status)?;
-    line.key("refused")?;
-    line.begin_object()?;
-    line.number("record", u64::from(place))?;
-    line.text("fault", fault.word())?;
-    line.end_object()?;
+    put_refused(&mut line, place, fault)?;
     line.end_object()?;
     line.finish()
+}
+
+// Adds how many completed views there are, and how many are asked for.
+fn put_few_views(line: &mut Line, views: u32, least: u32) -> Result<(), AllocError>
+    ensures { OnOk result (line.new.writer.tokens ≡ line.old.writer.tokens
+        ++ (token.key (codes "too_few_views") ∷ json_tokens (object_of ((codes "views", number_json views) ∷ (codes "least", number_json least) ∷ [])))) }
+{
+    line.key("too_few_views")?;
+    line.begin_object()?;
+    line.number("views", u64::from(views))?;
+    line.number("least", u64::from(least))?;
+    line.end_object()
 }
 
 /// The line of a history with fewer completed views than are asked for.
@@ -103,11 +125,7 @@ pub fn few_views_line(
     ensures { IfOk result (λ line. IsLineOf (few_views_json name.now status views least) line.items) }
 {
     let mut line = begin_text(alloc, name, status)?;
-    line.key("too_few_views")?;
-    line.begin_object()?;
-    line.number("views", u64::from(views))?;
-    line.number("least", u64::from(least))?;
-    line.end_object()?;
+    put_few_views(&mut line, views, least)?;
     line.end_object()?;
     line.finish()
 }

@@ -5,6 +5,6 @@ use Rattle.snap_json.proofs.object.refusal_line.Goals as goal
 
 pub returns : goal.returns
 returns c =
-    line_is (λ (v : Vec _ Global). v.items) c.finish.result c.end_object-2.new.self.writer.tokens (refusal_json c.args.name.now c.args.status c.args.place c.args.fault)
-    (rw (c.in_ok-end_object-2.ensures, c.in_ok-end_object.ensures, c.in_ok-text.ensures, c.in_ok-number.ensures, c.in_ok-begin_object.ensures, c.in_ok-key.ensures, c.in_ok-line.ensures, c.from.ensures, c.word.ensures) refl)
+    line_is (λ (v : Vec _ Global). v.items) c.finish.result c.end_object.new.self.writer.tokens (refusal_json c.args.name.now c.args.status c.args.place c.args.fault)
+    (rw (c.in_ok-end_object.ensures, c.in_ok-put_refused.ensures, c.in_ok-line.ensures) refl)
     c.finish.ensures.text c.finish.ensures.reads_back
