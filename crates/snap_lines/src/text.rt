@@ -245,22 +245,24 @@ fn put_notes(
     out.extend_from_slice(b"\n")
 }
 
-// Adds a call in full, where its label had no room.
+// Whether the label of a call has no room.
+fn is_cut(alloc: Global, picture: &Picture<'_, '_>, bar: &Bar) -> Result<bool, AllocError> {
+    let shapes = picture.shapes;
+    let span = span_of(step_of(shapes.columns), bar);
+    let label = marked_label(alloc, picture, &span)?;
+    Ok(room_of(&span, edge_of(shapes)) < label.len())
+}
+
+// Adds a call in full.
 fn put_cut_call(
-    alloc: Global,
-    cut: &mut Vec<u8>,
+    out: &mut Vec<u8>,
+    before: &[u8],
     picture: &Picture<'_, '_>,
     bar: &Bar,
 ) -> Result<(), AllocError> {
-    let shapes = picture.shapes;
-    let span = span_of(step_of(shapes.columns), bar);
-    let label = marked_label(alloc, picture, &span)?.len();
-    if label <= room_of(&span, edge_of(shapes)) {
-        return Ok(());
-    }
-    cut.extend_from_slice(b"  ")?;
-    put_title(cut, picture.index, picture.records, bar)?;
-    cut.extend_from_slice(b"\n")
+    out.extend_from_slice(before)?;
+    put_title(out, picture.index, picture.records, bar)?;
+    out.extend_from_slice(b"\n")
 }
 
 // Adds the calls whose labels had no room, each in full.
@@ -269,15 +271,14 @@ fn put_cut_calls(
     out: &mut Vec<u8>,
     picture: &Picture<'_, '_>,
 ) -> Result<(), AllocError> {
-    let mut cut = Vec::new(alloc);
+    let mut before: &[u8] = b"\ncalls whose labels are cut\n  ";
     for bar in &picture.shapes.bars {
-        put_cut_call(alloc, &mut cut, picture, bar)?;
+        if is_cut(alloc, picture, bar)? {
+            put_cut_call(out, before, picture, bar)?;
+            before = b"  ";
+        }
     }
-    if cut.is_empty() {
-        return Ok(());
-    }
-    out.extend_from_slice(b"\ncalls whose labels are cut\n")?;
-    out.extend_from_slice(&cut)
+    Ok(())
 }
 
 // Adds how many calls are left out, where some are.
@@ -333,24 +334,22 @@ fn put_lanes(
     put_key(out, picture)
 }
 
-fn put_sentence(sentences: &mut Vec<u8>, line: &[u8]) -> Result<(), AllocError> {
-    sentences.extend_from_slice(line)?;
-    sentences.extend_from_slice(b"\n")
+fn put_sentence(out: &mut Vec<u8>, before: &[u8], line: &[u8]) -> Result<(), AllocError> {
+    out.extend_from_slice(before)?;
+    out.extend_from_slice(line)?;
+    out.extend_from_slice(b"\n")
 }
 
-// Adds the sentence on the first fault of each kind.
-fn put_sentences(alloc: Global, out: &mut Vec<u8>, said: &[u8]) -> Result<(), AllocError> {
-    let mut sentences = Vec::new(alloc);
+// Adds the sentence on the first fault of each kind, behind an empty line.
+fn put_sentences(out: &mut Vec<u8>, said: &[u8]) -> Result<(), AllocError> {
+    let mut before: &[u8] = b"\n";
     for line in said.split(|byte| *byte == b'\n').skip(1) {
         if is_sentence(line) {
-            put_sentence(&mut sentences, line)?;
+            put_sentence(out, before, line)?;
+            before = b"";
         }
     }
-    if sentences.is_empty() {
-        return Ok(());
-    }
-    out.extend_from_slice(b"\n")?;
-    out.extend_from_slice(&sentences)
+    Ok(())
 }
 
 // Adds the picture, the verdict and the sentences.
@@ -358,7 +357,7 @@ fn put_text(alloc: Global, out: &mut Vec<u8>, picture: &Picture<'_, '_>) -> Resu
     out.extend_from_slice(front_of(verdict_of(picture.said)))?;
     out.extend_from_slice(b"\n\n")?;
     put_lanes(alloc, out, picture)?;
-    put_sentences(alloc, out, picture.said)?;
+    put_sentences(out, picture.said)?;
     put_cut_calls(alloc, out, picture)
 }
 
