@@ -1,5 +1,8 @@
 //! What a check of several texts is asked for.
+ghost use Rattle.std.specs.Prelude.{◌≡◌, MatchBool};
+
 use snap_check::CheckOptions;
+use snap_core::Limit;
 
 /// In which form the answer on a text is written.
 #[derive(Clone, Copy)]
@@ -17,4 +20,21 @@ pub struct FileOptions {
     pub format: Format,
     /// What the check of each text is asked for besides. An object is always whole, so that `quiet` changes only reports.
     pub check: CheckOptions,
+}
+
+impl FileOptions {
+    /// A check that answers with objects or with reports, and asks so much of each text.
+    pub fn new(json: bool, quiet: bool, views: u32, limit: Limit) -> FileOptions
+        ensures format { MatchBool json (result.format ≡ Format.Json) (result.format ≡ Format.Plain) }
+        ensures check { (result.check.quiet ≡ quiet) × (result.check.views ≡ views) × (result.check.limit ≡ limit) }
+    {
+        FileOptions {
+            format: if json { Format::Json } else { Format::Plain },
+            check: CheckOptions {
+                quiet,
+                views,
+                limit,
+            },
+        }
+    }
 }

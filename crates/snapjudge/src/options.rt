@@ -1,10 +1,10 @@
 //! The limit of events, and what the options of a check mean for each file.
 ghost use Rattle.std.specs.Prelude.{◌≡◌, MatchBool};
 ghost use Rattle.snap_core.specs.Limits.{IsLimit};
+ghost use Rattle.snap_files.specs.declared.format.Format.TheVariants.{Json, Plain};
 
-use snap_check::CheckOptions;
 use snap_core::Limit;
-use snap_files::{FileOptions, Format};
+use snap_files::FileOptions;
 use snap_words::Options;
 
 /// The limit of so many events.
@@ -21,19 +21,8 @@ pub(crate) fn limit_of(events: u32) -> Limit
 /// The check of each file that a check of these options asks for.
 pub(crate) fn file_options(asked: Options) -> FileOptions
     requires { IsLimit asked.events }
-    ensures format { MatchBool asked.json (result.format ≡ Format.Json) (result.format ≡ Format.Plain) }
+    ensures format { MatchBool asked.json (result.format ≡ Json) (result.format ≡ Plain) }
     ensures check { (result.check.quiet ≡ asked.quiet) × (result.check.views ≡ asked.views) × (result.check.limit.events ≡ asked.events) }
 {
-    FileOptions {
-        format: if asked.json {
-            Format::Json
-        } else {
-            Format::Plain
-        },
-        check: CheckOptions {
-            quiet: asked.quiet,
-            views: asked.views,
-            limit: limit_of(asked.events),
-        },
-    }
+    FileOptions::new(asked.json, asked.quiet, asked.views, limit_of(asked.events))
 }
