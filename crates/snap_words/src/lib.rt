@@ -9,6 +9,7 @@ mod draw_command;
 mod drawing;
 mod explain_command;
 mod files;
+mod given;
 mod job;
 mod lines;
 mod option_values;
@@ -21,6 +22,7 @@ mod word;
 
 pub use color::Color;
 pub use drawing::Form;
+pub use given::{Places, Wanted, Words, names_input_twice, wanted_by, words_of};
 pub use job::{Asked, Job, JobFault, Options, job_of};
 pub use lines::{check_lines, picture_lines, record_lines, source_lines};
 pub use sources::Sources;

@@ -9,14 +9,12 @@ mod options;
 mod shown;
 mod streams;
 mod version;
-mod words;
 
 use crate::jobs::answered;
 use crate::streams::held_place;
 use crate::version::{asks_version, write_version};
-use crate::words::{wanted_by, words_of};
 use snap_check::RunFault;
-use snap_words::JobFault;
+use snap_words::{JobFault, wanted_by, words_of};
 use std::alloc::AllocError;
 use std::process::ExitCode;
 use std::sync::Wait;
@@ -60,7 +58,7 @@ fn failed(rt: &HostRuntime, fault: &RunFault) -> u8 {
 // Does what the words of the command line ask for, and gives its exit status. The threads are those of `rt`; all else is of the
 // host.
 fn run<Rt: Threads + Wait + Sync>(rt: &Rt, host: &HostRuntime) -> Result<u8, Failure> {
-    let words = words_of(host)?;
+    let words = words_of(host, host.alloc())?;
     if asks_version(&words.texts) {
         return Ok(write_version(host)?);
     }

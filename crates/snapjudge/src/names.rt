@@ -1,10 +1,10 @@
 //! The names that a check takes from a list and from below a folder.
 use crate::Failure;
 use crate::files::open_named;
-use crate::words::{Places, Wanted, names_input_twice};
 use snap_core::Counted;
 use snap_files::reason_line;
 use snap_names::{NamesFault, SystemFolders, names_below, read_names};
+use snap_words::{Places, Wanted, names_input_twice};
 
 // Says why a list or a folder names nothing.
 fn say(rt: &HostRuntime, name: &[u8], reason: &str) {

@@ -1,8 +1,9 @@
-//! The words of the command line, which need be no text, and what they ask for.
+//! The words that a program is given, which need be no text, and what they ask for.
 ghost use Rattle.std.specs.Prelude.{IfOk};
 ghost use Rattle.snap_words.specs.Jobs.{IsInRange};
 
-use snap_words::{Asked, Job, JobFault, Sources, job_of};
+use crate::job::{Asked, Job, JobFault, job_of};
+use crate::sources::Sources;
 use std::alloc::{AllocError, Global};
 use std::env::FillError;
 use std::rt::Env;
@@ -12,7 +13,7 @@ const MARK: char = '\0';
 
 /// The words, the program's name first. For one that is not UTF-8 stands the mark, with its place among the others.
 #[derive(Drop)]
-pub(crate) struct Words {
+pub struct Words {
     /// The words as texts.
     pub texts: Vec<String>,
     /// Those that are not UTF-8.
@@ -21,7 +22,7 @@ pub(crate) struct Words {
 
 /// Where a check finds the names of files that are no words.
 #[derive(Drop)]
-pub(crate) struct Places {
+pub struct Places {
     /// The list of names; `-` is standard input.
     pub list: Option<Vec<u8>>,
     /// The names in the list end with a zero byte, and not with a line end.
@@ -32,22 +33,22 @@ pub(crate) struct Places {
 
 impl Places {
     /// Whether there are any.
-    pub(crate) fn are_named(&self) -> bool {
+    pub fn are_named(&self) -> bool {
         self.list.is_some() || self.folder.is_some()
     }
 }
 
 /// A job, and the names of its files.
 #[derive(Drop)]
-pub(crate) struct Wanted {
+pub struct Wanted {
     pub job: Job,
     pub files: Vec<Vec<u8>>,
     pub places: Places,
 }
 
 // A word of the command line, none where there are fewer.
-fn word_at(rt: &HostRuntime, place: usize) -> Result<Option<Vec<u8>>, AllocError> {
-    let mut word = Vec::new(rt.alloc());
+fn word_at<Rt: Env>(rt: &Rt, alloc: Global, place: usize) -> Result<Option<Vec<u8>>, AllocError> {
+    let mut word = Vec::new(alloc);
     for bits in 8..usize::BITS {
         word.resize(1 << bits, 0)?;
         match rt.arg(place, &mut word) {
@@ -62,13 +63,12 @@ fn word_at(rt: &HostRuntime, place: usize) -> Result<Option<Vec<u8>>, AllocError
     Err(AllocError)
 }
 
-/// The words of the command line.
-pub(crate) fn words_of(rt: &HostRuntime) -> Result<Words, AllocError> {
-    let alloc = rt.alloc();
+/// The words that a program is given, the name of the program first. The error is want of memory.
+pub fn words_of<Rt: Env>(rt: &Rt, alloc: Global) -> Result<Words, AllocError> {
     let mut texts = Vec::new(alloc);
     let mut others = Vec::new(alloc);
     for place in 0..usize::MAX {
-        let Some(word) = word_at(rt, place)? else {
+        let Some(word) = word_at(rt, alloc, place)? else {
             break;
         };
         match String::from_utf8(word) {
@@ -147,7 +147,7 @@ fn is_input(name: &[u8]) -> bool {
 }
 
 /// Whether some names and a list name standard input more than once.
-pub(crate) fn names_input_twice(names: &[Vec<u8>], list: &Option<Vec<u8>>) -> bool {
+pub fn names_input_twice(names: &[Vec<u8>], list: &Option<Vec<u8>>) -> bool {
     let mut named = match list {
         Some(list) => is_input(list),
         None => false,
@@ -223,7 +223,7 @@ fn refusal_of(files: &[Vec<u8>], places: &Places) -> Option<&'static str> {
 }
 
 /// The job that the words of the command line ask for, and its files. Standard input, `-`, can be read once.
-pub(crate) fn wanted_by(alloc: Global, words: Words) -> Result<Wanted, JobFault>
+pub fn wanted_by(alloc: Global, words: Words) -> Result<Wanted, JobFault>
     ensures { IfOk result (λ wanted. IsInRange wanted.job) }
 {
     if let Some(fault) = recording_fault(alloc, &words.texts) {
