@@ -4,11 +4,11 @@ usage: prove.py [--keep] [--built BEGUN] [--times FILE] [--beside OTHER] CRATE [
                 (FLAGs are those of `rattle build` for CRATE itself; with --beside another one is proved and built in the same run)
 
 As many crates are proved side by side as there are processors, where memory allows, and first those with the longest chain of others
-above them. A check of a crate over many libraries loads them in each of its jobs, so a crate has one job, and a further one only
-while processors are idle. What is proved and unchanged is not proved again: beside each library lies a note with a sum over all that
-it is made of. The libraries have no proofs in them, as in the gate, so that the crates above load them fast. With --keep they have,
-and each check keeps its work, as `rt check` and `rt lib` want both. With --built, libraries that are newer than the file BEGUN are
-taken, as a gate leaves them.
+above them. A check of a crate over many libraries loads them in each of its jobs, so a crate has one job. The lowest crates and the
+last one have more while processors are idle. What is proved and unchanged is not proved again: beside each library lies a note with
+a sum over all that it is made of. The libraries have no proofs in them, as in the gate, so that the crates above load them fast. With
+--keep they have, and each check keeps its work, as `rt check` and `rt lib` want both. With --built, libraries that are newer than the
+file BEGUN are taken, as a gate leaves them.
 
 It tells on standard error how far it is, and about how long it will still take, by the seconds in share/proof-times.txt. --times
 writes such a file. The first crate that fails ends all others, with what its check said on standard output and the status 1.
@@ -209,9 +209,10 @@ def order(crates, times):
     return sorted(crates, key=lambda it: -behind[it])
 
 
-def jobs_for(crate, idle):
-    """How many jobs a check has: one, and one more for each idle processor where there is little below the crate to load again."""
-    return 1 + max(0, min(MOST_JOBS - 1, idle)) if len(crate.below()) <= FEW_BELOW else 1
+def jobs_for(crate, idle, is_last):
+    """How many jobs a check has: one, and one more for each idle processor where there is little below the crate to load again, or
+    where no other crate is left to use that processor."""
+    return 1 + max(0, min(MOST_JOBS - 1, idle)) if is_last or len(crate.below()) <= FEW_BELOW else 1
 
 
 def prove(crates, keep, flags, times):
@@ -228,10 +229,11 @@ def prove(crates, keep, flags, times):
             for at, crate in enumerate(ready):
                 needs = times.get(crate.name, UNKNOWN)[1]
                 free = lanes - sum(it.jobs for it in running)
-                if running and (free < 1 or sum(it.megabytes for it in running) + needs > room):
+                fitting = int(room - sum(it.megabytes for it in running)) // needs
+                if running and (free < 1 or fitting < 1):
                     break
                 waiting.remove(crate)
-                jobs = jobs_for(crate, free - (len(ready) - at))
+                jobs = max(1, min(jobs_for(crate, free - (len(ready) - at), not waiting), fitting))
                 running.append(Check(crate, jobs, keep, flags.get(crate, []), needs))
                 is_news = True
             progress.say(waiting, running, lanes, is_news)
