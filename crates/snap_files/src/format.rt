@@ -23,7 +23,8 @@ pub struct FileOptions {
 }
 
 impl FileOptions {
-    /// A check that answers with objects or with reports, and asks so much of each text.
+    /// The options of a check that answers with objects if `json` is set, and else with reports. A report is short if `quiet` is
+    /// set. A history needs so many completed views, and may have as many events as the limit says.
     pub fn new(json: bool, quiet: bool, views: u32, limit: Limit) -> FileOptions
         ensures format { MatchBool json (result.format ≡ Format.Json) (result.format ≡ Format.Plain) }
         ensures check { (result.check.quiet ≡ quiet) × (result.check.views ≡ views) × (result.check.limit ≡ limit) }
