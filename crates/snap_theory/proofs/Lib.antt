@@ -10,6 +10,7 @@ pub mod Fresh
 pub mod Joined
 pub mod Windows
 pub mod Sides
+pub mod GoingOn
 mod WorkedWindows
 pub mod Entries
 pub mod Exceeding

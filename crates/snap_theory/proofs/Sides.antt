@@ -63,7 +63,7 @@ evens p n place (BeginView q ∷ es) h = even_step p (BeginView q) es (λ t s. b
 evens p n place (EndUpdate q ∷ es) h = even_step p (EndUpdate q) es (λ t s. absurd (no_end_update q (events_of p es) t)) (evens p n (suc place) es h)
 evens p n place (EndView q d ∷ es) h = even_step p (EndView q d) es (λ t s. absurd (no_end_view q d (events_of p es) t)) (evens p n (suc place) es h)
 
-even_quiet : (before : List Event) → IsQuiet before → (p : ℕ) → TakeTurns (events_of p before) → length (events_of p before) % 2 ≡ 0
+pub even_quiet : (before : List Event) → IsQuiet before → (p : ℕ) → TakeTurns (events_of p before) → length (events_of p before) % 2 ≡ 0
 unfolding calls_of
 even_quiet before quiet p t = (evens p 0 0 before (all_completed before quiet)).0 t
 
@@ -97,7 +97,7 @@ turns_renumbered left [] t = tt
 turns_renumbered left (b ∷ []) t = begin_renumbered left b t
 turns_renumbered left (b ∷ e ∷ es) t = (ends_renumbered left b e t.0, turns_renumbered left es t.1)
 
-events_renumbered : (left : ℕ → Option Entry) (p : ℕ) (es : List Event) → events_of p (renumbered left es) ≡ renumbered left (events_of p es)
+pub events_renumbered : (left : ℕ → Option Entry) (p : ℕ) (es : List Event) → events_of p (renumbered left es) ≡ renumbered left (events_of p es)
 events_renumbered left p [] = refl
 events_renumbered left p (x ∷ es) =
     ap (λ z. cond (z == p) (renumbered_event left x ∷ events_of p (renumbered left es)) (events_of p (renumbered left es))) (process_same left x)
@@ -175,7 +175,7 @@ last_counts k n place (BeginView p ∷ es) m o s h = omega (arith, last_counts k
 last_counts k n place (EndUpdate p ∷ es) m o s h = omega (arith, last_counts k n (suc place) es m o s (counts_rest k m m (EndUpdate p) es (omega arith) h), count-cons (begins_update_of k) (EndUpdate p) es)
 last_counts k n place (EndView p d ∷ es) m o s h = omega (arith, last_counts k n (suc place) es m o s (counts_rest k m m (EndView p d) es (omega arith) h), count-cons (begins_update_of k) (EndView p d) es)
 
-left_counts : (before : List Event) → IsHistory before → (k : ℕ) → number_in (left_by before k) ≡ count_by (begins_update_of k) before
+pub left_counts : (before : List Event) → IsHistory before → (k : ℕ) → number_in (left_by before k) ≡ count_by (begins_update_of k) before
 unfolding calls_of
 left_counts before h k = omega (arith, last_counts k 0 0 before 0 None refl (λ b a p e s c. omega (arith, h.numbered b a p e s, ap (λ z. count_by (begins_update_of z) b) c)))
 
@@ -185,7 +185,7 @@ begins_renumbered left k (BeginView p) = refl
 begins_renumbered left k (EndUpdate p) = refl
 begins_renumbered left k (EndView p s) = refl
 
-count_renumbered : (left : ℕ → Option Entry) (k : ℕ) (es : List Event) → count_by (begins_update_of k) (renumbered left es) ≡ count_by (begins_update_of k) es
+pub count_renumbered : (left : ℕ → Option Entry) (k : ℕ) (es : List Event) → count_by (begins_update_of k) (renumbered left es) ≡ count_by (begins_update_of k) es
 count_renumbered left k [] = refl
 count_renumbered left k (x ∷ es) = omega (arith, count-cons (begins_update_of k) (renumbered_event left x) (renumbered left es), count-cons (begins_update_of k) x es, ap {B = ℕ} (λ b. cond b 1 0) (begins_renumbered left k x), count_renumbered left k es)
 

@@ -1,6 +1,9 @@
 -- What a cut at a quiet moment keeps, whatever the length of the history.
-use Rattle.std.specs.Prelude.{List, ◌++◌, ◌↔◌, All}
+use Rattle.std.specs.Prelude.{ℕ, List, ◌++◌, ◌↔◌, ◌≡◌, ◌<◌, All, Contains}
+use Rattle.snap_core.specs.declared.entry.Entry.{Entry}
 use Rattle.snap_core.specs.declared.event.Event.{Event}
+use Rattle.snap_core.specs.Entries.{number_in}
+use Rattle.snap_core.specs.declared.event.Event.TheVariants.{BeginUpdate}
 use Rattle.snap_core.specs.Events.{IsHistory, EventFits}
 use Rattle.snap_core.specs.Calls.{Call, calls_of}
 use Rattle.snap_core.specs.Monotone.{IsMonotone}
@@ -39,6 +42,17 @@ abbrev pub SidesAreHistories : Type 0
 SidesAreHistories =
     (before after : List Event) → IsHistory (before ++ after) → IsQuiet before →
     IsHistory before × IsHistory (renumbered (left_by before) after)
+
+-- later updates go on: each has a greater number than what was left of its component, and the process of the earlier updates of that
+pub record GoesOn (before after : List Event) : Type 0 where
+  pub numbers : (p : ℕ) (e : Entry) → Contains after (BeginUpdate p e) → number_in (left_by before e.component) < e.number
+  pub writers : (p q : ℕ) (d e : Entry) → Contains before (BeginUpdate p d) → Contains after (BeginUpdate q e) → d.component ≡ e.component → p ≡ q
+
+-- a history exactly where both sides are, the later one with numbers from 1, and later updates go on
+abbrev pub HistoriesJoin : Type 0
+HistoriesJoin =
+    (before after : List Event) → IsQuiet before →
+    IsHistory (before ++ after) ↔ (IsHistory before × IsHistory (renumbered (left_by before) after) × GoesOn before after)
 
 -- regular from what was left exactly where each view shows that or more, and the history with numbers from 1 is regular
 abbrev pub RegularRenumbered : Type 0

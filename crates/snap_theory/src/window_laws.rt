@@ -1,5 +1,5 @@
 //! Laws of histories that are cut.
-ghost use Rattle.snap_theory.specs.WindowLaws.{RegularFromNothing, AtomicFromNothing, RegularJoins, MonotoneJoins, AtomicJoins, SidesAreHistories, RegularRenumbered, MonotoneRenumbered, AtomicRenumbered};
+ghost use Rattle.snap_theory.specs.WindowLaws.{RegularFromNothing, AtomicFromNothing, RegularJoins, MonotoneJoins, AtomicJoins, HistoriesJoin, SidesAreHistories, RegularRenumbered, MonotoneRenumbered, AtomicRenumbered};
 
 /// Where nothing was left, regular and atomic from a beginning are regular and atomic.
 pub fn beginnings_may_be_empty()
@@ -8,8 +8,10 @@ pub fn beginnings_may_be_empty()
 {}
 
 /// A history that is cut at a quiet moment is atomic exactly where both sides are, the later one from what the earlier one
-/// left. The same holds of regular, and of monotone where the history is regular.
+/// left. The same holds of regular, and of monotone where the history is regular. It is a history exactly where both sides are,
+/// and the updates of the later one go on.
 pub fn windows_join()
+    ensures histories { HistoriesJoin }
     ensures regular { RegularJoins }
     ensures monotone { MonotoneJoins }
     ensures atomic { AtomicJoins }

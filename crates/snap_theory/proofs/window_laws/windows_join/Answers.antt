@@ -1,5 +1,9 @@
+use Rattle.snap_theory.proofs.GoingOn.{histories_join}
 use Rattle.snap_theory.proofs.Joined.{regular_joins, monotone_joins, atomic_joins}
 use Rattle.snap_theory.proofs.window_laws.windows_join.Goals as goal
+
+pub returns-clause-histories : goal.returns-clause-histories
+returns-clause-histories c = histories_join
 
 pub returns-clause-regular : goal.returns-clause-regular
 returns-clause-regular c = regular_joins
