@@ -1,10 +1,10 @@
 //! Events: the begins and ends of calls.
 ghost use Rattle.std.specs.Prelude.{◌≡◌};
-ghost use Rattle.snap_core.specs.Events.{process_of};
+ghost use Rattle.snap_core.specs.Events.{EventFits, process_of};
 ghost use Rattle.snap_core.specs.Refusals.{is_begin as spec_is_begin};
 ghost use Rattle.snap_core.specs.inside.Tables.{begun_by};
 
-use crate::entry::Entry;
+use crate::entry::{Entry, fields_fit};
 use crate::view::View;
 
 /// The begin or the end of a call of a process.
@@ -45,6 +45,22 @@ impl Event {
             Event::BeginView { .. } => true,
             Event::EndUpdate { .. } => false,
             Event::EndView { .. } => false,
+        }
+    }
+
+    /// What the types of its fields keep. It does nothing.
+    pub fn fits(&self)
+        ensures { EventFits self.now }
+    {
+        let _process = self.process();
+        match self {
+            Event::BeginUpdate { process: _, entry } => {
+                fields_fit(entry.component, entry.number, entry.value);
+            }
+            Event::EndView { process: _, view } => {
+                let _entries = view.entries();
+            }
+            _ => {}
         }
     }
 

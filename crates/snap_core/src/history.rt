@@ -1,10 +1,9 @@
 //! Histories, and why an event is refused.
 ghost use Rattle.std.specs.Prelude.{◌≡◌, ◌≤◌, ◌⊎◌, [], ◌∷◌, ◌++◌, length, OnOk, OnErr, IfErr, slice_get};
 ghost use Rattle.std.specs.Option.{option_copied};
-ghost use Rattle.snap_core.specs.Events.{EventFits, IsBoundedHistory, event_cap};
+ghost use Rattle.snap_core.specs.Events.{IsBoundedHistory, event_cap};
 ghost use Rattle.snap_core.specs.Refusals.{refusal_of};
 
-use crate::entry::fields_fit;
 use crate::event::Event;
 use crate::tables::Tables;
 use std::alloc::Global;
@@ -30,22 +29,6 @@ pub enum EventRefusal {
     Number,
     /// Memory ran out.
     Memory,
-}
-
-// What the types of an event's fields keep.
-fn event_fits(event: &Event)
-    ensures { EventFits event.now }
-{
-    let _process = event.process();
-    match event {
-        Event::BeginUpdate { process: _, entry } => {
-            fields_fit(entry.component, entry.number, entry.value);
-        }
-        Event::EndView { process: _, view } => {
-            let _entries = view.entries();
-        }
-        _ => {}
-    }
 }
 
 /// A list of events in which each process begins and ends calls in turn, each component has one writer, and the updates
@@ -115,7 +98,7 @@ impl History {
         if let Some(refusal) = self.refusal(&event) {
             return Err((event, refusal));
         }
-        event_fits(&event);
+        event.fits();
         let process = event.process();
         let begun = event.begun();
         if self.tables.make_room(process, begun).is_err() {
@@ -128,8 +111,8 @@ impl History {
         Ok(())
     }
 
-    // The first refusal that applies, want of memory aside.
-    fn refusal(&self, event: &Event) -> Option<EventRefusal>
+    /// The first refusal that applies to an event, want of memory aside: none where it may be appended.
+    pub fn refusal(&self, event: &Event) -> Option<EventRefusal>
         ensures { result ≡ refusal_of self.now event.now }
     {
         if self.events.len() >= EVENT_CAP {

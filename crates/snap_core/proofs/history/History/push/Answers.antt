@@ -15,7 +15,7 @@ invariant_of-self-2 c =
     let calls : (p : ℕ) → call_in c.note.new.self p ≡ cond (process_of e == p) (begun_by e) (call_in c.make_room.new.self p) = search rules in
     let writers : (k : ℕ) → writer_in c.note.new.self k ≡ writer_by (process_of e) (begun_by e) k (writer_in c.make_room.new.self k) = search rules in
     subst (IsRecalled c.note.new.self) (sym items)
-    (recalled_push c.self.inside.tables c.make_room.new.self c.note.new.self old e c.self.invariant free c.event_fits.ensures c.make_room.ensures.calls c.make_room.ensures.writers calls writers)
+    (recalled_push c.self.inside.tables c.make_room.new.self c.note.new.self old e c.self.invariant free c.fits.ensures c.make_room.ensures.calls c.make_room.ensures.writers calls writers)
 
 pub returns-in-Err-clause-ok : goal.returns-in-Err-clause-ok
 returns-in-Err-clause-ok c = search rules

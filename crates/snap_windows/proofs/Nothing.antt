@@ -1,0 +1,59 @@
+-- The recording without events.
+use Rattle.std.proofs.Common.{◌≡◌, ◌↔◌, ℕ, ◌<◌, true, List, [], ◌∷◌, ◌++◌, None, refl, arith}
+use Rattle.std.specs.Prelude.{IsTrue}
+use Rattle.snap_core.specs.declared.limit.Limit.{Limit}
+use Rattle.snap_core.specs.declared.event.Event.{Event}
+use Rattle.snap_core.specs.Calls.{Call, calls_of}
+use Rattle.snap_core.specs.Orders.{IsAtomic, IsLegalOrder}
+use Rattle.snap_core.specs.Regular.{IsRegular}
+use Rattle.snap_core.proofs.Lists.{In-from_Contains}
+use Rattle.snap_core.proofs.Pushes.{history_nil}
+use Rattle.snap_theory.specs.Windows.{IsQuiet}
+use Rattle.snap_windows.specs.declared.last.Wrote.{Wrote}
+use Rattle.snap_windows.specs.inside.Last.{HasLast}
+use Rattle.snap_windows.specs.Taken.{HasTaken}
+use Rattle.std.specs.Prelude.{Option}
+
+no_calls_are_regular : IsRegular []
+no_calls_are_regular = record {
+  not_old = λ r c e v u l. absurd (In-from_Contains [] r v.there);
+  not_early = λ r k e v s. absurd (In-from_Contains [] r v.there);
+}
+
+nil_split : (before : List Call) (r : Call) (after : List Call) → [] ≡ before ++ r ∷ after → ⊥
+nil_split [] r after h = cc
+nil_split (b ∷ before) r after h = cc
+
+no_calls_are_legal : IsLegalOrder [] []
+no_calls_are_legal = record {
+  only = λ k d l. absurd (omega (arith, l));
+  distinct = λ i j d l m. absurd (omega (arith, m));
+  completed = λ c i d. absurd (In-from_Contains [] c i);
+  precedence = λ i j d l m. absurd (omega (arith, m));
+  latest = λ before after r s v k. absurd (nil_split before r after s);
+}
+
+quiet_nothing : IsQuiet []
+unfolding calls_of
+quiet_nothing = λ k d l. absurd (omega (arith, l))
+
+regular_nothing : IsRegular (calls_of [])
+unfolding calls_of
+regular_nothing = no_calls_are_regular
+
+atomic_nothing : IsAtomic (calls_of [])
+unfolding calls_of
+atomic_nothing = ([], no_calls_are_legal)
+
+pub nothing_taken : (left last : List (Option Wrote)) (window : List Event) (most : Limit) → HasLast left [] → HasLast last [] → window ≡ [] → HasTaken (record { left = left; last = last; window = window; shows = true; regular = true; atomic = true; most = most }) [] []
+nothing_taken left last window most a b w = record {
+  history = history_nil;
+  fit = λ k d l. absurd (omega (arith, l));
+  quiet = quiet_nothing;
+  left = a;
+  last = b;
+  window = w;
+  shows = (λ t k d l. absurd (omega (arith, l)), λ h. refl);
+  regular = (λ t. regular_nothing, λ h. refl);
+  atomic = (λ t. atomic_nothing, λ h. refl);
+}

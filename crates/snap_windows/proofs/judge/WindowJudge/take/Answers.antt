@@ -1,0 +1,76 @@
+use Rattle.std.specs.Prelude.{IsTrue}
+use Rattle.std.proofs.Common.{◌≡◌, ◌↔◌, ◌∙◌, ◌⊎◌, ◌≤◌, ◌++◌, ◌∷◌, [], ℕ, Option, None, Some, List, length, sym, ap, refl, inl, inr, subst, rules, arith}
+use Rattle.std.proofs.lemmas.Bool.{false≢true}
+use Rattle.std.proofs.lemmas.List.{length-map}
+use Rattle.snap_core.specs.declared.event.Event.{Event}
+use Rattle.snap_core.specs.declared.history.EventRefusal.{EventRefusal}
+use Rattle.snap_core.specs.Refusals.{IsAccepted}
+use Rattle.snap_theory.specs.Windows.{left_by}
+use Rattle.snap_theory.specs.Renumbered.{renumbered, renumbered_event}
+use Rattle.snap_windows.specs.Taken.{HasTaken}
+use Rattle.snap_windows.specs.inside.Shows.{EventShowsNoLess}
+use Rattle.snap_windows.specs.inside.Refused.{first_refusal}
+use Rattle.snap_windows.proofs.Left.{left_is_last}
+use Rattle.snap_windows.proofs.More.{history_of, known, more}
+use Rattle.snap_windows.proofs.Refused.{IsFree, free, full, refused_for_length}
+use Rattle.snap_windows.proofs.Taking.{accepted_back}
+use Rattle.snap_windows.proofs.judge.WindowJudge.take.Goals.{then-self, else-self}
+use Rattle.snap_windows.proofs.judge.WindowJudge.take.Goals as goal
+
+none_of : (o : Option EventRefusal) → ((why : EventRefusal) → o ≡ Some why → ⊥) → o ≡ None
+none_of None n = refl
+none_of (Some why) n = absurd (n why refl)
+
+pub returns-in-Some-clause-refused : goal.returns-in-Some-clause-refused
+returns-in-Some-clause-refused c = λ before since h whole.
+    let judge = c.args.self.now in
+    let x = c.args.event.now in
+    let is = known judge before since x c.in-Ok.renumbered h c.in-Ok.ensures in
+    let both = accepted_back before since x h.quiet whole in
+    let found = sym (c.refusal.ensures before h.left (history_of judge before since h).single_writer) ∙ c.in-Some.is in
+    let accepted : IsAccepted judge.window c.in-Ok.renumbered = rw (h.window, is) both.0 in
+    inl (refused_for_length judge.most.events judge.window c.in-Ok.renumbered before x c.in-Some.refusal accepted both.1 found)
+
+pub returns-in-Some-clause-most : goal.returns-in-Some-clause-most
+returns-in-Some-clause-most c = λ before since h why.
+    let judge = c.args.self.now in
+    let found = sym (c.refusal.ensures before h.left (history_of judge before since h).single_writer) ∙ c.in-Some.is ∙ ap Some why in
+    let long = full judge.most.events judge.window c.in-Ok.renumbered before c.args.event.now judge.most.fits.1 found in
+    omega (arith, long, ap length h.window ∙ length-map _ _)
+
+pub returns-in-Err-clause-refused : goal.returns-in-Err-clause-refused
+returns-in-Err-clause-refused c = λ before since h whole.
+    let judge = c.args.self.now in
+    let none = none_of c.refusal.result c.in_default-refusal.not-Some in
+    let found = sym (c.refusal.ensures before h.left (history_of judge before since h).single_writer) ∙ none in
+    let f = free judge.most.events judge.window c.in-Ok.renumbered before c.args.event.now found in
+    elim c.in-Err.ensures.reason [
+      | inl q ↦ absurd (let g = sym f.none ∙ q in cc)
+      | inr m ↦ inr m
+    ]
+
+pub returns-in-Err-clause-most : goal.returns-in-Err-clause-most
+returns-in-Err-clause-most c = λ before since h why.
+    let judge = c.args.self.now in
+    let none = none_of c.refusal.result c.in_default-refusal.not-Some in
+    let found = sym (c.refusal.ensures before h.left (history_of judge before since h).single_writer) ∙ none in
+    let f = free judge.most.events judge.window c.in-Ok.renumbered before c.args.event.now found in
+    elim c.in-Err.ensures.reason [
+      | inl q ↦ absurd (let g = sym f.none ∙ q in cc)
+      | inr m ↦ absurd (let g = sym m ∙ why in cc)
+    ]
+
+pub returns-clause-taken : goal.returns-clause-taken
+returns-clause-taken c = λ before since h.
+    let judge = c.args.self.now in
+    let x = c.args.event.now in
+    let is = known judge before since x c.in-Ok.renumbered h c.in-Ok.ensures in
+    let none = none_of c.refusal.result c.in_default-refusal.not-Some in
+    let found = sym (c.refusal.ensures before h.left (history_of judge before since h).single_writer) ∙ none in
+    let f : IsFree judge.most.events judge.window (renumbered_event (left_by before) x) before x = rw (← is) (free judge.most.events judge.window c.in-Ok.renumbered before x found) in
+    let pushed : c.push.new.self ≡ judge.window ++ renumbered_event (left_by before) x ∷ [] = search (is, rules) in
+    let shows : IsTrue c.if-self.shows ↔ (IsTrue judge.shows × EventShowsNoLess (left_by before) x) = elim c.if-self.branch [
+      | then-self w ↦ (let e = w.event_shows_no_less-shows.ensures (left_by before) (left_is_last judge.left before h.left) in (λ t. (w.if-self.true, e.0 (sym w.shows-is ∙ t)), λ p. w.shows-is ∙ e.1 p.1))
+      | else-self w ↦ (λ t. absurd (false≢true (sym w.if-self.false ∙ sym w.shows-is ∙ t)), λ p. absurd (false≢true (sym w.if-self.false ∙ p.0)))
+    ] in
+    more judge c.note.new.last c.push.new.self c.if-self.shows before since x h f c.fits.ensures (c.note.ensures (before ++ since) h.last) pushed shows

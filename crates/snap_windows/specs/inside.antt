@@ -1,0 +1,4 @@
+-- What only the proofs of this crate need: no clause that a caller reads cites it.
+pub mod Last
+pub mod Shows
+pub mod Refused

@@ -1,0 +1,23 @@
+-- Why an event is refused.
+use Rattle.std.specs.Prelude.{ℕ, Bool, true, false, List, Option, Some, None, length, nat_le, if◌then◌else◌}
+use Rattle.snap_core.specs.declared.event.Event.{Event}
+use Rattle.snap_core.specs.declared.history.EventRefusal.{EventRefusal}
+use Rattle.snap_core.specs.declared.history.EventRefusal.TheVariants.{TooMany, Busy, Idle, OtherOp, Writer, Number, Memory}
+use Rattle.snap_core.specs.Refusals.{refusal_of, has_other_writer}
+
+-- a number that is not the next comes behind an other writer
+abbrev pub behind_writer : Bool → Option EventRefusal → Option EventRefusal
+behind_writer true None = Some Writer
+behind_writer true (Some Number) = Some Writer
+behind_writer true (Some TooMany) = Some TooMany
+behind_writer true (Some Busy) = Some Busy
+behind_writer true (Some Idle) = Some Idle
+behind_writer true (Some OtherOp) = Some OtherOp
+behind_writer true (Some Writer) = Some Writer
+behind_writer true (Some Memory) = Some Memory
+behind_writer false found = found
+
+-- the first refusal of an event, by the window with numbers from 1 and the events before the window
+abbrev pub first_refusal : ℕ → List Event → Event → List Event → Event → Option EventRefusal
+first_refusal most window renumbered before event =
+    if nat_le most (length window) then Some TooMany else behind_writer (has_other_writer before event) (refusal_of window renumbered)

@@ -1,0 +1,105 @@
+//! The judge of windows.
+ghost use Rattle.std.specs.Prelude.{◌≡◌, ◌≤◌, ◌++◌, ◌∷◌, [], ◌↔◌, ◌⊎◌, List, IsTrue, OnOk, OnErr, IfErr, length};
+ghost use Rattle.snap_core.specs.declared.event.Event.{Event};
+ghost use Rattle.snap_core.specs.declared.history.EventRefusal.TheVariants as refusal;
+ghost use Rattle.snap_core.specs.Events.{IsHistory, IsSingleWriter};
+ghost use Rattle.snap_core.specs.Refusals.{has_other_writer as spec_has_other_writer};
+ghost use Rattle.snap_windows.specs.Taken.{HasTaken};
+ghost use Rattle.snap_windows.specs.inside.Last.{HasLast};
+ghost use Rattle.snap_windows.specs.inside.Refused.{first_refusal};
+
+use crate::last::{Wrote, none, note};
+use crate::missed::event_shows_no_less;
+use crate::renumber::renumbered_event;
+use snap_core::{COMPONENT_COUNT, Event, EventRefusal, History, Limit};
+use std::alloc::Global;
+
+/// A judge of a recording of any length. It takes the events one by one, and judges a window of them at a moment at which no call
+/// is open. It keeps the events of the window at hand alone.
+#[derive(Drop)]
+pub struct WindowJudge {
+    // of the events of ended windows the last update of each component, and of all events
+    left: [Option<Wrote>; COMPONENT_COUNT],
+    last: [Option<Wrote>; COMPONENT_COUNT],
+    // the events since then, with numbers from 1, and whether their views show what was left or more
+    window: History,
+    shows: bool,
+    // what the ended windows are together
+    regular: bool,
+    atomic: bool,
+    most: Limit,
+}
+
+// Whether an event begins an update of a component that another process wrote.
+fn has_other_writer(left: &[Option<Wrote>; COMPONENT_COUNT], event: &Event) -> bool
+    ensures { (es : List Event) → HasLast left.now es → IsSingleWriter es → result ≡ spec_has_other_writer es event.now }
+{
+    match event {
+        Event::BeginUpdate { process, entry } => match left[usize::from(entry.component)] {
+            Some(wrote) => wrote.process != *process,
+            None => false,
+        },
+        _ => false,
+    }
+}
+
+impl WindowJudge {
+    /// The judge that has taken nothing. A window has at most as many events as the limit says.
+    pub fn new(alloc: Global, most: Limit) -> WindowJudge
+        ensures { HasTaken result [] [] }
+    {
+        WindowJudge {
+            left: none(),
+            last: none(),
+            window: History::new(alloc),
+            shows: true,
+            regular: true,
+            atomic: true,
+            most,
+        }
+    }
+
+    // The first refusal that applies to an event, given with numbers from 1 too, want of memory aside.
+    fn refusal(&self, renumbered: &Event, event: &Event) -> Option<EventRefusal>
+        ensures { (before : List Event) → HasLast self.now.left before → IsSingleWriter before → result ≡ first_refusal self.now.most.events self.now.window renumbered.now before event.now }
+    {
+        if self.window.len() >= self.most.events() {
+            return Some(EventRefusal::TooMany);
+        }
+        let found = self.window.refusal(renumbered);
+        match found {
+            None | Some(EventRefusal::Number) => {
+                if has_other_writer(&self.left, event) {
+                    Some(EventRefusal::Writer)
+                } else {
+                    found
+                }
+            }
+            _ => found,
+        }
+    }
+
+    /// Takes the next event of the recording. An event that is refused is not taken: it makes no history of the recording, or
+    /// the window has as many events as it may have, or memory ran out.
+    pub fn take(&mut self, alloc: Global, event: &Event) -> Result<(), EventRefusal>
+        ensures taken { OnOk result ((before since : List Event) → HasTaken self.old before since → HasTaken self.new before (since ++ event.now ∷ [])) }
+        ensures kept { OnErr result (self.new ≡ self.old) }
+        ensures refused { IfErr result (λ why. (before since : List Event) → HasTaken self.old before since → IsHistory (before ++ (since ++ event.now ∷ [])) → (why ≡ refusal.TooMany) ⊎ (why ≡ refusal.Memory)) }
+        ensures most { IfErr result (λ why. (before since : List Event) → HasTaken self.old before since → why ≡ refusal.TooMany → self.old.most.events ≤ length since) }
+    {
+        event.fits();
+        let Ok(renumbered) = renumbered_event(alloc, &self.left, event) else {
+            return Err(EventRefusal::Memory);
+        };
+        if let Some(refusal) = self.refusal(&renumbered, event) {
+            return Err(refusal);
+        }
+        let shows = self.shows && event_shows_no_less(&self.left, event);
+        if let Err((_, refusal)) = self.window.push(renumbered) {
+            return Err(refusal);
+        }
+        note(&mut self.last, event);
+        self.shows = shows;
+        Ok(())
+    }
+}
