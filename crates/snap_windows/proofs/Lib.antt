@@ -6,3 +6,5 @@ pub mod Taking
 pub mod Refused
 pub mod More
 pub mod Nothing
+pub mod Ends
+pub mod Cutting

@@ -1,18 +1,32 @@
 //! The judge of windows.
-ghost use Rattle.std.specs.Prelude.{◌≡◌, ◌≤◌, ◌++◌, ◌∷◌, [], ◌↔◌, ◌⊎◌, List, IsTrue, OnOk, OnErr, IfErr, length};
+ghost use Rattle.std.specs.Prelude.{◌≡◌, ◌≤◌, ◌++◌, ◌∷◌, [], ◌↔◌, ◌⊎◌, List, IsTrue, OnOk, OnErr, IfOk, IfErr, IfNone, IfSome, length};
 ghost use Rattle.snap_core.specs.declared.event.Event.{Event};
 ghost use Rattle.snap_core.specs.declared.history.EventRefusal.TheVariants as refusal;
 ghost use Rattle.snap_core.specs.Events.{IsHistory, IsSingleWriter};
 ghost use Rattle.snap_core.specs.Refusals.{has_other_writer as spec_has_other_writer};
+ghost use Rattle.snap_core.specs.Calls.{calls_of};
+ghost use Rattle.snap_core.specs.Orders.{IsAtomic};
+ghost use Rattle.snap_core.specs.Regular.{IsRegular};
+ghost use Rattle.snap_theory.specs.Windows.{IsQuiet};
 ghost use Rattle.snap_windows.specs.Taken.{HasTaken};
+ghost use Rattle.snap_windows.specs.Verdicts.{IsVerdict};
 ghost use Rattle.snap_windows.specs.inside.Last.{HasLast};
 ghost use Rattle.snap_windows.specs.inside.Refused.{first_refusal};
 
 use crate::last::{Wrote, none, note};
 use crate::missed::event_shows_no_less;
 use crate::renumber::renumbered_event;
+use snap_conditions::{is_atomic, is_regular, tally_and_chain_alone};
 use snap_core::{COMPONENT_COUNT, Event, EventRefusal, History, Limit};
-use std::alloc::Global;
+use snap_index::Index;
+use std::alloc::{AllocError, Global};
+
+/// Whether events are regular, and atomic: of a window, from what the windows before it left.
+#[derive(Clone, Copy, Debug, PartialEq, Eq)]
+pub struct Verdict {
+    pub regular: bool,
+    pub atomic: bool,
+}
 
 /// A judge of a recording of any length. It takes the events one by one, and judges a window of them at a moment at which no call
 /// is open. It keeps the events of the window at hand alone.
@@ -101,5 +115,62 @@ impl WindowJudge {
         note(&mut self.last, event);
         self.shows = shows;
         Ok(())
+    }
+
+    /// How many events the window at hand has.
+    pub fn len(&self) -> usize
+        ensures { (before since : List Event) → HasTaken self.now before since → result ≡ length since }
+    {
+        self.window.len()
+    }
+
+    // What the window at hand is, and whether no call is open.
+    fn judge(&self, alloc: Global) -> Result<(Verdict, bool), AllocError>
+        ensures window { IfOk result (λ x. (before since : List Event) → HasTaken self.now before since → IsVerdict x.0 before since) }
+        ensures quiet { IfOk result (λ x. (before since : List Event) → HasTaken self.now before since → IsTrue x.1 ↔ IsQuiet (before ++ since)) }
+    {
+        // what is known of the history of the window
+        let _events = self.window.events();
+        let index = Index::build(alloc, &self.window)?;
+        let (tally, _chain) = tally_and_chain_alone(alloc, &index)?;
+        let verdict = Verdict {
+            regular: self.shows & is_regular(&tally),
+            atomic: self.shows & is_atomic(&tally),
+        };
+        Ok((verdict, index.pending_count() == 0))
+    }
+
+    /// Ends the window at hand, and answers what it is: none where a call is open. The next window begins from what was left.
+    pub fn cut(&mut self, alloc: Global) -> Result<Option<Verdict>, AllocError>
+        ensures cut { IfOk result (λ found. IfSome found (λ v. (before since : List Event) → HasTaken self.old before since → HasTaken self.new (before ++ since) [])) }
+        ensures window { IfOk result (λ found. IfSome found (λ v. (before since : List Event) → HasTaken self.old before since → IsVerdict v before since)) }
+        ensures open { IfOk result (λ found. IfNone found ((before since : List Event) → HasTaken self.old before since → ¬ IsQuiet (before ++ since))) }
+        ensures kept { IfOk result (λ found. IfNone found (self.new ≡ self.old)) }
+        ensures lacking { OnErr result (self.new ≡ self.old) }
+    {
+        let (verdict, quiet) = self.judge(alloc)?;
+        if !quiet {
+            return Ok(None);
+        }
+        self.left = self.last;
+        self.window = History::new(alloc);
+        self.shows = true;
+        self.regular &= verdict.regular;
+        self.atomic &= verdict.atomic;
+        Ok(Some(verdict))
+    }
+
+    /// Ends the recording, in which calls may be open: what its last window is, and what the whole is.
+    pub fn finish(self, alloc: Global) -> Result<(Verdict, Verdict), AllocError>
+        ensures window { IfOk result (λ x. (before since : List Event) → HasTaken self before since → IsVerdict x.0 before since) }
+        ensures regular { IfOk result (λ x. (before since : List Event) → HasTaken self before since → IsTrue x.1.regular ↔ IsRegular (calls_of (before ++ since))) }
+        ensures atomic { IfOk result (λ x. (before since : List Event) → HasTaken self before since → IsTrue x.1.atomic ↔ IsAtomic (calls_of (before ++ since))) }
+    {
+        let (verdict, _) = self.judge(alloc)?;
+        let whole = Verdict {
+            regular: self.regular & verdict.regular,
+            atomic: self.atomic & verdict.atomic,
+        };
+        Ok((verdict, whole))
     }
 }

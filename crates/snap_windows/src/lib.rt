@@ -6,4 +6,4 @@ mod last;
 mod missed;
 mod renumber;
 
-pub use judge::WindowJudge;
+pub use judge::{Verdict, WindowJudge};
