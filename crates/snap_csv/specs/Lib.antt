@@ -5,6 +5,7 @@ pub mod Stamps
 pub mod Texts
 pub mod Records
 pub mod Answers
+pub mod OneLine
 pub mod Writing
 pub mod Laws
 pub mod inside

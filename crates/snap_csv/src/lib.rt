@@ -5,6 +5,7 @@ mod ahead;
 mod fields;
 mod intake;
 mod law;
+mod line;
 mod lines;
 mod read;
 mod records;
@@ -20,6 +21,7 @@ pub use law::{
     texts_are_short, texts_have_no_fault, texts_have_one_fault, texts_have_one_reading,
     texts_read_back,
 };
+pub use line::{is_header_line, read_line};
 pub use read::{
     read_history, read_history_beside, read_history_in, read_history_within, read_text,
     read_text_within,

@@ -15,7 +15,7 @@ use Rattle.snap_core.proofs.Lists.{In, In-from_Contains, Contains-from_In, In-ap
 use Rattle.snap_core.proofs.Begun.{Begun, begun, operation_at}
 use Rattle.snap_theory.specs.Renumbered.{ShowsNoLess}
 use Rattle.snap_theory.proofs.Orders.{All-from_In}
-use Rattle.snap_windows.specs.inside.Shows.{EntriesShowNoLess, EventShowsNoLess}
+use Rattle.snap_windows.specs.Missed.{EventShowsNoLess, ShowsNoLess as shows_entries}
 
 -- a call that answered so
 record Answered (answer : List Entry) (calls : List Call) : Type 0 where
@@ -148,7 +148,7 @@ view_event es r s i is = let b = begun 0 0 es r i in go b.event b.before b.after
     go (EndView p d) before after split h = absurd (cc)
 
 -- what a view shows is what its answer has
-shows_answer : (left : ℕ → Option Entry) (r : Call) (s : List Entry) → r.operation ≡ Views (Some s) → ((k : ℕ) → (shown r k ≡ left k) ⊎ (number_in (left k) < shown_number r k)) ↔ EntriesShowNoLess left s
+shows_answer : (left : ℕ → Option Entry) (r : Call) (s : List Entry) → r.operation ≡ Views (Some s) → ((k : ℕ) → (shown r k ≡ left k) ⊎ (number_in (left k) < shown_number r k)) ↔ shows_entries left s
 unfolding shown shown_number
 shows_answer left r s is = rw is (λ h. h, λ h. h)
 

@@ -1,6 +1,7 @@
 pub mod Tables
 pub mod Numbers
 pub mod Shown
+pub mod Missing
 pub mod Left
 pub mod Taking
 pub mod Refused

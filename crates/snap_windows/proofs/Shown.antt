@@ -9,11 +9,8 @@ use Rattle.snap_core.specs.Entries.{AreEntries, entry_of, has_zero, number_in, v
 use Rattle.snap_core.proofs.Lists.{In, any_from}
 use Rattle.snap_core.proofs.Members.{In-find}
 use Rattle.snap_windows.specs.declared.last.Wrote.{Wrote}
+use Rattle.snap_windows.specs.Missed.{ShowsAt}
 use Rattle.snap_windows.specs.inside.Last.{HasLeft, entry_in}
-
--- of one component
-abbrev pub ShowsAt : (ℕ → Option Entry) → List Entry → ℕ → Type 0
-ShowsAt left es k = (entry_of k es ≡ left k) ⊎ (number_in (left k) < number_in (entry_of k es))
 
 same_entry : (d e : Entry) → d.component ≡ e.component → d.number ≡ e.number → d.value ≡ e.value → d ≡ e
 same_entry d e c n v =

@@ -1,4 +1,3 @@
 -- What only the proofs of this crate need: no clause that a caller reads cites it.
 pub mod Last
-pub mod Shows
 pub mod Refused

@@ -1,5 +1,5 @@
 //! The judge of windows.
-ghost use Rattle.std.specs.Prelude.{◌≡◌, ◌≤◌, ◌++◌, ◌∷◌, [], ◌↔◌, ◌⊎◌, List, IsTrue, OnOk, OnErr, IfOk, IfErr, IfNone, IfSome, length};
+ghost use Rattle.std.specs.Prelude.{◌≡◌, ◌≤◌, ◌++◌, ◌∷◌, [], ◌↔◌, ◌⊎◌, List, IsTrue, OnOk, OnErr, IfOk, IfErr, IfNone, IfSome, MatchOption, length};
 ghost use Rattle.snap_core.specs.declared.event.Event.{Event};
 ghost use Rattle.snap_core.specs.declared.history.EventRefusal.TheVariants as refusal;
 ghost use Rattle.snap_core.specs.Events.{IsHistory, IsSingleWriter};
@@ -7,17 +7,18 @@ ghost use Rattle.snap_core.specs.Refusals.{has_other_writer as spec_has_other_wr
 ghost use Rattle.snap_core.specs.Calls.{calls_of};
 ghost use Rattle.snap_core.specs.Orders.{IsAtomic};
 ghost use Rattle.snap_core.specs.Regular.{IsRegular};
-ghost use Rattle.snap_theory.specs.Windows.{IsQuiet};
+ghost use Rattle.snap_theory.specs.Windows.{IsQuiet, left_by};
+ghost use Rattle.snap_windows.specs.Missed.{EventMisses, EventShowsNoLess};
 ghost use Rattle.snap_windows.specs.Taken.{HasTaken};
 ghost use Rattle.snap_windows.specs.Verdicts.{IsVerdict};
 ghost use Rattle.snap_windows.specs.inside.Last.{HasLast};
 ghost use Rattle.snap_windows.specs.inside.Refused.{first_refusal};
 
 use crate::last::{Wrote, none, note};
-use crate::missed::event_shows_no_less;
+use crate::missed::missed_by;
 use crate::renumber::renumbered_event;
 use snap_conditions::{is_atomic, is_regular, tally_and_chain_alone};
-use snap_core::{COMPONENT_COUNT, Event, EventRefusal, History, Limit};
+use snap_core::{COMPONENT_COUNT, Entry, Event, EventRefusal, History, Limit};
 use snap_index::Index;
 use std::alloc::{AllocError, Global};
 
@@ -93,10 +94,12 @@ impl WindowJudge {
         }
     }
 
-    /// Takes the next event of the recording. An event that is refused is not taken: it makes no history of the recording, or
+    /// Takes the next event of the recording. Where it ends a view that shows less than what the windows before left, the answer has
+    /// that of the first such component. An event that is refused is not taken: it makes no history of the recording, or
     /// the window has as many events as it may have, or memory ran out.
-    pub fn take(&mut self, alloc: Global, event: &Event) -> Result<(), EventRefusal>
+    pub fn take(&mut self, alloc: Global, event: &Event) -> Result<Option<Entry>, EventRefusal>
         ensures taken { OnOk result ((before since : List Event) → HasTaken self.old before since → HasTaken self.new before (since ++ event.now ∷ [])) }
+        ensures missed { IfOk result (λ found. (before since : List Event) → HasTaken self.old before since → MatchOption found (EventShowsNoLess (left_by before) event.now) (EventMisses (left_by before) event.now)) }
         ensures kept { OnErr result (self.new ≡ self.old) }
         ensures refused { IfErr result (λ why. (before since : List Event) → HasTaken self.old before since → IsHistory (before ++ (since ++ event.now ∷ [])) → (why ≡ refusal.TooMany) ⊎ (why ≡ refusal.Memory)) }
         ensures most { IfErr result (λ why. (before since : List Event) → HasTaken self.old before since → why ≡ refusal.TooMany → self.old.most.events ≤ length since) }
@@ -108,13 +111,13 @@ impl WindowJudge {
         if let Some(refusal) = self.refusal(&renumbered, event) {
             return Err(refusal);
         }
-        let shows = self.shows && event_shows_no_less(&self.left, event);
+        let missed = missed_by(&self.left, event);
         if let Err((_, refusal)) = self.window.push(renumbered) {
             return Err(refusal);
         }
         note(&mut self.last, event);
-        self.shows = shows;
-        Ok(())
+        self.shows &= missed.is_none();
+        Ok(missed)
     }
 
     /// How many events the window at hand has.

@@ -1,9 +1,9 @@
 //! Views that show less than what was left.
-ghost use Rattle.std.specs.Prelude.{◌≡◌, ◌↔◌, ◌<◌, ◌⊎◌, ℕ, Option, Some, IsTrue};
+ghost use Rattle.std.specs.Prelude.{◌≡◌, ◌↔◌, ◌<◌, ◌⊎◌, ℕ, Option, Some, IsTrue, MatchOption};
 ghost use Rattle.snap_core.specs.declared.entry.Entry.{Entry};
 ghost use Rattle.snap_core.specs.Entries.{AreEntries, entry_of, number_in};
 ghost use Rattle.snap_windows.specs.inside.Last.{HasLeft};
-ghost use Rattle.snap_windows.specs.inside.Shows.{EntriesShowNoLess, EventShowsNoLess};
+ghost use Rattle.snap_windows.specs.Missed.{EventMisses, EventShowsNoLess, Misses, ShowsNoLess};
 
 use crate::last::Wrote;
 use snap_core::{COMPONENT_COUNT, Entry, Event, View};
@@ -26,28 +26,28 @@ fn shows(view: &View, component: u8, entry: Entry) -> bool
                 }
 }
 
-// Whether a view shows of each component what was left, or the entry of a later number.
-fn shows_no_less(left: &[Option<Wrote>; COMPONENT_COUNT], view: &View) -> bool
-    ensures { (f : ℕ → Option Entry) → HasLeft left.now f → IsTrue result ↔ EntriesShowNoLess f view.now }
+// What was left of the first component of which a view shows neither that nor a later number.
+fn missed(left: &[Option<Wrote>; COMPONENT_COUNT], view: &View) -> Option<Entry>
+    ensures { (f : ℕ → Option Entry) → HasLeft left.now f → MatchOption result (ShowsNoLess f view.now) (Misses f view.now) }
 {
     // what is known of a view
     let _entries = view.entries();
     'each: for component in 0..COMPONENT_COUNT {
         if let Some(wrote) = left[component] {
             if !shows(view, component as u8, wrote.entry) {
-                return false;
+                return Some(wrote.entry);
             }
         }
     }
-    true
+    None
 }
 
-/// Whether the view that an event ends shows of each component what was left, or the entry of a later number.
-pub(crate) fn event_shows_no_less(left: &[Option<Wrote>; COMPONENT_COUNT], event: &Event) -> bool
-    ensures { (f : ℕ → Option Entry) → HasLeft left.now f → IsTrue result ↔ EventShowsNoLess f event.now }
+/// What was left of a component of which the view that an event ends shows neither that nor a later number.
+pub(crate) fn missed_by(left: &[Option<Wrote>; COMPONENT_COUNT], event: &Event) -> Option<Entry>
+    ensures { (f : ℕ → Option Entry) → HasLeft left.now f → MatchOption result (EventShowsNoLess f event.now) (EventMisses f event.now) }
 {
     match event {
-        Event::EndView { process: _, view } => shows_no_less(left, view),
-        _ => true,
+        Event::EndView { process: _, view } => missed(left, view),
+        _ => None,
     }
 }

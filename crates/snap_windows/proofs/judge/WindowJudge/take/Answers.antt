@@ -1,5 +1,5 @@
 use Rattle.std.specs.Prelude.{IsTrue}
-use Rattle.std.proofs.Common.{◌≡◌, ◌↔◌, ◌∙◌, ◌⊎◌, ◌≤◌, ◌++◌, ◌∷◌, [], ℕ, Option, None, Some, List, length, sym, ap, refl, inl, inr, subst, rules, arith}
+use Rattle.std.proofs.Common.{◌≡◌, ◌↔◌, ◌&&◌, ◌∙◌, ◌⊎◌, ◌≤◌, ◌++◌, ◌∷◌, [], ℕ, Option, None, Some, List, length, sym, ap, refl, inl, inr, subst, rules, arith}
 use Rattle.std.proofs.lemmas.Bool.{false≢true}
 use Rattle.std.proofs.lemmas.List.{length-map}
 use Rattle.snap_core.specs.declared.event.Event.{Event}
@@ -8,13 +8,13 @@ use Rattle.snap_core.specs.Refusals.{IsAccepted}
 use Rattle.snap_theory.specs.Windows.{left_by}
 use Rattle.snap_theory.specs.Renumbered.{renumbered, renumbered_event}
 use Rattle.snap_windows.specs.Taken.{HasTaken}
-use Rattle.snap_windows.specs.inside.Shows.{EventShowsNoLess}
+use Rattle.snap_windows.specs.Missed.{EventShowsNoLess}
 use Rattle.snap_windows.specs.inside.Refused.{first_refusal}
 use Rattle.snap_windows.proofs.Left.{left_is_last}
+use Rattle.snap_windows.proofs.Missing.{shows_on}
 use Rattle.snap_windows.proofs.More.{history_of, known, more}
 use Rattle.snap_windows.proofs.Refused.{IsFree, free, full, refused_for_length}
 use Rattle.snap_windows.proofs.Taking.{accepted_back}
-use Rattle.snap_windows.proofs.judge.WindowJudge.take.Goals.{then-self, else-self}
 use Rattle.snap_windows.proofs.judge.WindowJudge.take.Goals as goal
 
 none_of : (o : Option EventRefusal) → ((why : EventRefusal) → o ≡ Some why → ⊥) → o ≡ None
@@ -60,6 +60,9 @@ returns-in-Err-clause-most c = λ before since h why.
       | inr m ↦ absurd (let g = sym m ∙ why in cc)
     ]
 
+pub returns-clause-missed : goal.returns-clause-missed
+returns-clause-missed c = λ before since h. c.missed_by-missed.ensures (left_by before) (left_is_last c.args.self.now.left before h.left)
+
 pub returns-clause-taken : goal.returns-clause-taken
 returns-clause-taken c = λ before since h.
     let judge = c.args.self.now in
@@ -69,8 +72,6 @@ returns-clause-taken c = λ before since h.
     let found = sym (c.refusal.ensures before h.left (history_of judge before since h).single_writer) ∙ none in
     let f : IsFree judge.most.events judge.window (renumbered_event (left_by before) x) before x = rw (← is) (free judge.most.events judge.window c.in-Ok.renumbered before x found) in
     let pushed : c.push.new.self ≡ judge.window ++ renumbered_event (left_by before) x ∷ [] = search (is, rules) in
-    let shows : IsTrue c.if-self.shows ↔ (IsTrue judge.shows × EventShowsNoLess (left_by before) x) = elim c.if-self.branch [
-      | then-self w ↦ (let e = w.event_shows_no_less-shows.ensures (left_by before) (left_is_last judge.left before h.left) in (λ t. (w.if-self.true, e.0 (sym w.shows-is ∙ t)), λ p. w.shows-is ∙ e.1 p.1))
-      | else-self w ↦ (λ t. absurd (false≢true (sym w.if-self.false ∙ sym w.shows-is ∙ t)), λ p. absurd (false≢true (sym w.if-self.false ∙ p.0)))
-    ] in
-    more judge c.note.new.last c.push.new.self c.if-self.shows before since x h f c.fits.ensures (c.note.ensures (before ++ since) h.last) pushed shows
+    let missed = c.missed_by-missed.ensures (left_by before) (left_is_last judge.left before h.left) in
+    more judge c.note.new.last c.push.new.self _ before since x h f c.fits.ensures (c.note.ensures (before ++ since) h.last) pushed
+    (shows_on (left_by before) x c.missed_by-missed.result judge.shows c.is_none.result (sym c.is_none.ensures) missed)

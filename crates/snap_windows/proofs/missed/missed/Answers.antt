@@ -3,9 +3,10 @@ use Rattle.std.proofs.lemmas.Bool.{cases_lt, false≢true}
 use Rattle.snap_core.specs.declared.entry.Entry.{Entry}
 use Rattle.snap_windows.specs.declared.last.Wrote.{Wrote}
 use Rattle.snap_windows.specs.inside.Last.{HasLeft, entry_in}
-use Rattle.snap_windows.proofs.Shown.{ShowsAt, shown_of_left, shown_of_nothing, left_is_shown, nothing_left}
-use Rattle.snap_windows.proofs.missed.shows_no_less.Goals.{in-Some+else-not-shows, in_default}
-use Rattle.snap_windows.proofs.missed.shows_no_less.Goals as goal
+use Rattle.snap_windows.specs.Missed.{ShowsAt}
+use Rattle.snap_windows.proofs.Shown.{shown_of_left, shown_of_nothing, left_is_shown, nothing_left}
+use Rattle.snap_windows.proofs.missed.missed.Goals.{in-Some+else-not-shows, in_default}
+use Rattle.snap_windows.proofs.missed.missed.Goals as goal
 
 pub each-init : goal.each-init
 each-init c = λ f h k l. absurd (omega (arith, l))
@@ -26,16 +27,14 @@ each-preserved c = λ f h k l. elim (cases_lt k c.each.component) [
 ]
 
 pub returns : goal.returns
-returns c = λ f h. (
-  λ t k. elim (cases_lt k c.each.component) [
-    | inl l ↦ c.each.invariant f h k l
-    | inr past ↦ shown_of_nothing f c.args.view.now k c.entries-entries.ensures.view (nothing_left c.args.left.now f k h (omega (arith, past, c.each-test.false, c.told-left)))
-  ],
-  λ s. refl,
-)
+returns c = λ f h k. elim (cases_lt k c.each.component) [
+  | inl l ↦ c.each.invariant f h k l
+  | inr past ↦ shown_of_nothing f c.args.view.now k c.entries-entries.ensures.view (nothing_left c.args.left.now f k h (omega (arith, past, c.each-test.false, c.told-left)))
+]
 
 pub returns-then-not-shows : goal.returns-then-not-shows
 returns-then-not-shows c = λ f h. (
-  λ t. absurd (false≢true t),
-  λ s. sym c.if-not-shows.true ∙ c.shows.ensures.1 (left_is_shown c.args.left.now f c.args.view.now c.each.component c.in-Some.wrote h c.in-Some.is (s c.each.component)),
+  c.each.component,
+  sym (h c.each.component) ∙ ap entry_in c.in-Some.is,
+  λ s. false≢true (sym c.if-not-shows.true ∙ c.shows.ensures.1 (left_is_shown c.args.left.now f c.args.view.now c.each.component c.in-Some.wrote h c.in-Some.is s)),
 )
