@@ -5,6 +5,7 @@ pub mod FrontFacts
 pub mod FieldFacts
 pub mod AheadFacts
 pub mod ReadFacts
+pub mod OneLine
 pub mod LineFacts
 pub mod TextFacts
 pub mod StampOnce

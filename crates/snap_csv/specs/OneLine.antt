@@ -1,22 +1,27 @@
 -- What the calls that read one line answer, by its records.
-use Rattle.std.specs.Prelude.{◌≡◌, ⊤, ℕ, Bool, List, [], ◌∷◌, Option, Some, None, Result, Ok, Err}
+use Rattle.std.specs.Prelude.{◌≡◌, ◌≢◌, ◌↔◌, ◌⊎◌, ⊤, ℕ, Bool, true, IsTrue, List, [], ◌∷◌, Option, Some, None, Result, Ok, Err}
 use Rattle.std.specs.declared.alloc.AllocError.{AllocError}
 use Rattle.snap_core.specs.declared.event.Event.{Event}
 use Rattle.snap_csv.specs.declared.refusal.ReadRefusal.{ReadRefusal}
 use Rattle.snap_csv.specs.declared.refusal.ReadRefusal.TheVariants as refusals
 use Rattle.snap_csv.specs.Layout.{is_header_row}
+use Rattle.snap_text.specs.declared.fault.TextFault.TheVariants as faults
 use Rattle.snap_text.specs.Fields.{Fields, row_event}
 
--- no record, or whether the first is the header
+-- records begin with one, and whether no other is behind it
+abbrev pub HasFirst : List Fields → Fields → Bool → Type 0
+HasFirst rows first only = (later : List Fields) × (rows ≡ first ∷ later) × (IsTrue only ↔ (later ≡ []))
+
+-- no record, or whether the line is the header and nothing else
 abbrev pub AnswersHeader : List Fields → Result (Option Bool) AllocError → Type 0
 AnswersHeader rows (Ok None) = rows ≡ []
-AnswersHeader rows (Ok (Some is)) = (row : Fields) × (later : List Fields) × (rows ≡ row ∷ later) × (is ≡ is_header_row row)
+AnswersHeader rows (Ok (Some is)) = (first : Fields) × (later : List Fields) × (rows ≡ first ∷ later) × (IsTrue is ↔ ((is_header_row first ≡ true) × (later ≡ [])))
 AnswersHeader rows (Err e) = ⊤
 
--- no record, or the event that the first spells, or the fault in its fields
+-- no record, or the event that the only one spells, or the fault: more records than one count as a wrong number of fields
 abbrev pub AnswersLine : ℕ → List Fields → Result (Option Event) ReadRefusal → Type 0
 AnswersLine place rows (Ok None) = rows ≡ []
-AnswersLine place rows (Ok (Some x)) = (row : Fields) × (later : List Fields) × (rows ≡ row ∷ later) × (row_event row ≡ Ok x)
-AnswersLine place rows (Err (refusals.Text p f)) = (row : Fields) × (later : List Fields) × (rows ≡ row ∷ later) × (p ≡ place) × (row_event row ≡ Err f)
+AnswersLine place rows (Ok (Some x)) = (row : Fields) × (rows ≡ row ∷ []) × (row_event row ≡ Ok x)
+AnswersLine place rows (Err (refusals.Text p f)) = (p ≡ place) × (first : Fields) × (later : List Fields) × (rows ≡ first ∷ later) × (((later ≡ []) × (row_event first ≡ Err f)) ⊎ ((later ≢ []) × (f ≡ faults.Fields)))
 AnswersLine place rows (Err refusals.Device) = ⊥
 AnswersLine place rows (Err refusals.Memory) = Unit {0}

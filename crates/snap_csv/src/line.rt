@@ -1,6 +1,7 @@
 //! The record of one line, where a text is read line by line.
-ghost use Rattle.std.specs.Prelude.{◌≡◌};
-ghost use Rattle.snap_csv.specs.OneLine.{AnswersHeader, AnswersLine};
+ghost use Rattle.std.specs.Prelude.{◌≡◌, [], IfOk, MatchOption};
+ghost use Rattle.csv.specs.Records.{fields_of};
+ghost use Rattle.snap_csv.specs.OneLine.{AnswersHeader, AnswersLine, HasFirst};
 ghost use Rattle.snap_csv.specs.Rows.{rows_of};
 
 use crate::fields::{event_of_record, four_fields, is_header};
@@ -11,19 +12,32 @@ use snap_core::Event;
 use snap_text::{Known, TextFault};
 use std::alloc::{AllocError, Global};
 
-/// Whether the first record of a line is the header of a text without stamps: none where the line has no record.
+// Reads the first record of a line, and tells whether it is the only one: none where the line has no record.
+fn only_row(alloc: Global, line: &[u8], row: &mut ByteRecord) -> Result<Option<bool>, AllocError>
+    ensures { IfOk result (λ found. MatchOption found (rows_of line.now ≡ []) (HasFirst (rows_of line.now) (fields_of row.new))) }
+{
+    let mut reader = reader_of(alloc, line);
+    if !next_row(&mut reader, row)? {
+        return Ok(None);
+    }
+    let mut second = ByteRecord::new(alloc);
+    let more = next_row(&mut reader, &mut second)?;
+    Ok(Some(!more))
+}
+
+/// Whether a line is the header of a text without stamps: none where the line has no record.
 pub fn is_header_line(alloc: Global, line: &[u8]) -> Result<Option<bool>, AllocError>
     ensures { AnswersHeader (rows_of line.now) result }
 {
     let mut row = ByteRecord::new(alloc);
-    if !next_row(&mut reader_of(alloc, line), &mut row)? {
-        return Ok(None);
+    match only_row(alloc, line, &mut row)? {
+        None => Ok(None),
+        Some(only) => Ok(Some(only && is_header(&row))),
     }
-    Ok(Some(is_header(&row)))
 }
 
-/// The event that the first record of a line spells, or the first fault in its fields, at the place that is given: none where the
-/// line has no record. What is known of earlier views makes it faster, and changes no answer.
+/// The event that the record of a line spells, or the fault of the line, at the place that is given: none where the line has no
+/// record. What is known of earlier views makes it faster, and changes no answer.
 pub fn read_line(
     alloc: Global,
     known: &mut Known,
@@ -33,14 +47,17 @@ pub fn read_line(
     ensures { AnswersLine place (rows_of line.now) result }
 {
     let mut row = ByteRecord::new(alloc);
-    if !next_row(&mut reader_of(alloc, line), &mut row)? {
+    let Some(only) = only_row(alloc, line, &mut row)? else {
         return Ok(None);
-    }
-    let Some((event, process, op, data)) = four_fields(&row) else {
-        return Err(ReadRefusal::Text {
-            place,
-            fault: TextFault::Fields,
-        });
     };
-    Ok(Some(event_of_record(alloc, known, place, event, process, op, data)?))
+    if only {
+        if let Some((event, process, op, data)) = four_fields(&row) {
+            let event = event_of_record(alloc, known, place, event, process, op, data)?;
+            return Ok(Some(event));
+        }
+    }
+    Err(ReadRefusal::Text {
+        place,
+        fault: TextFault::Fields,
+    })
 }

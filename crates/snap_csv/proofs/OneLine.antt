@@ -1,0 +1,42 @@
+-- The record of a line.
+use Rattle.std.proofs.Common.{◌≡◌, ◌≢◌, ◌↔◌, ◌⊎◌, ℕ, Bool, true, false, not, List, [], ◌∷◌, length, Result, Ok, Err, refl, sym, ap, ◌∙◌, inl, inr, arith}
+use Rattle.std.specs.Prelude.{IsTrue}
+use Rattle.std.specs.Bool.{MatchBool}
+use Rattle.std.proofs.lemmas.Bool.{false≢true}
+use Rattle.snap_core.specs.declared.event.Event.{Event}
+use Rattle.snap_text.specs.declared.fault.TextFault.{TextFault}
+use Rattle.snap_text.specs.declared.fault.TextFault.TheVariants as faults
+use Rattle.snap_text.specs.Fields.{Fields, event_of, row_event}
+use Rattle.snap_csv.specs.declared.refusal.ReadRefusal.{ReadRefusal}
+use Rattle.snap_csv.specs.declared.refusal.ReadRefusal.TheVariants as refusals
+use Rattle.snap_csv.specs.OneLine.{AnswersLine, HasFirst}
+use Rattle.snap_csv.specs.inside.Answers.{FailsEvent}
+use Rattle.snap_csv.proofs.ReadFacts.{event_is}
+
+-- whether another record is behind one
+pub only_if : (more : Bool) (later : List Fields) (Next : Type 0) → (Next → later ≢ []) → MatchBool more Next (later ≡ []) → IsTrue (not more) ↔ (later ≡ [])
+only_if true later Next n m = (λ t. absurd (false≢true t), λ e. absurd (n m e))
+only_if false later Next n m = (λ t. m, λ e. refl)
+
+pub short_event : (r : Fields) → length r ≢ 4 → row_event r ≡ Err faults.Fields
+unfolding row_event
+short_event [] h = refl
+short_event (a ∷ []) h = refl
+short_event (a ∷ p ∷ []) h = refl
+short_event (a ∷ p ∷ o ∷ []) h = refl
+short_event (a ∷ p ∷ o ∷ d ∷ []) h = absurd (h refl)
+short_event (a ∷ p ∷ o ∷ d ∷ e ∷ r) h = refl
+
+-- the event of the only record
+pub only_event : (place : ℕ) (rows : List Fields) (row : Fields) (x : Event) (a p o d : List ℕ) → HasFirst rows row true → row ≡ a ∷ p ∷ o ∷ d ∷ [] → event_of a p o d ≡ Ok x → (r : Fields) × (rows ≡ r ∷ []) × (row_event r ≡ Ok x)
+only_event place rows row x a p o d h is gives = (row, h.1 ∙ ap (λ z. row ∷ z) (h.2.0 refl), event_is row a p o d is ∙ gives)
+
+pub only_fails : (place : ℕ) (rows : List Fields) (row : Fields) (a p o d : List ℕ) → HasFirst rows row true → row ≡ a ∷ p ∷ o ∷ d ∷ [] → (e : ReadRefusal) → FailsEvent place e (event_of a p o d) → AnswersLine place rows (Err e)
+only_fails place rows row a p o d h is (refusals.Text q f) x = (x.0, row, h.0, h.1, inl (h.2.0 refl, event_is row a p o d is ∙ x.1))
+only_fails place rows row a p o d h is refusals.Device x = x
+only_fails place rows row a p o d h is refusals.Memory x = tt
+
+-- the fault of records that are not one of four fields
+pub no_event : (place : ℕ) (rows : List Fields) (row : Fields) (only : Bool) → HasFirst rows row only → (only ≡ true → length row ≢ 4) → AnswersLine place rows (Err (refusals.Text place faults.Fields))
+no_event place rows row true h short = (refl, row, h.0, h.1, inl (h.2.0 refl, short_event row (short refl)))
+no_event place rows row false h short = (refl, row, h.0, h.1, inr (λ e. false≢true (h.2.1 e), refl))

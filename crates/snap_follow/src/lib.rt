@@ -1,0 +1,9 @@
+//! The judge of a recording that grows: it is read line by line, judged window by window, and answered by a line for each window.
+#![tactic(auto)]
+
+mod follow;
+mod run;
+mod sums;
+
+pub use follow::{Ended, Follow, Span, Window};
+pub use run::{FollowFault, FollowOptions, Followed, Pause, RECORD_LIMIT, follow_run};

@@ -1,0 +1,272 @@
+//! The run that follows a recording, from a reader to a writer.
+use crate::follow::{Ended, Follow, Window};
+use crate::sums::{Kind, Sums};
+use memchr::memchr2;
+use snap_core::{Counted, Limit};
+use snap_text::TextFault;
+use std::alloc::{AllocError, Global};
+use std::io::{Read, Write};
+use std::sync::Wait;
+use thiserror::Error;
+
+// How many bytes are read at a time.
+const PIECE: usize = 65_536;
+
+/// How many bytes a record may have, which is far more than a record of a history has.
+pub const RECORD_LIMIT: usize = 1_048_576;
+
+/// Waits for a moment, in which a recording may grow.
+pub trait Pause {
+    /// Returns when the moment is over.
+    fn pause(&self);
+}
+
+/// How a recording is followed.
+#[derive(Clone, Copy, Debug)]
+pub struct FollowOptions {
+    /// A window ends at the first moment without an open call from so many events on.
+    pub least: u32,
+    /// How many events a window may have.
+    pub most: Limit,
+    /// After how many pauses without anything new it ends; 0 for never.
+    pub pauses: u32,
+    /// How many completed views the windows must have.
+    pub views: u32,
+}
+
+/// How it ended.
+#[derive(Clone, Copy, Debug)]
+pub struct Followed {
+    /// The greatest exit status of a window, none where there are fewer completed views than were asked for.
+    pub code: Option<u8>,
+    /// Whether the last line has no end. It is left out, since its writer may not have finished it.
+    pub has_rest: bool,
+}
+
+/// Why it did not come to its end.
+#[derive(Debug, Drop, Error)]
+pub enum FollowFault {
+    #[error("read failed")]
+    Read,
+    #[error("write failed")]
+    Write,
+    #[error("out of memory")]
+    Memory,
+}
+
+impl From<AllocError> for FollowFault {
+    fn from(_error: AllocError) -> FollowFault {
+        FollowFault::Memory
+    }
+}
+
+// Writes lines.
+fn say<W: Write>(writer: &mut Counted<W>, text: &str) -> Result<(), FollowFault> {
+    match writer.send(text.as_bytes()) {
+        Ok(()) => Ok(()),
+        Err(_) => Err(FollowFault::Write),
+    }
+}
+
+// What a view misses, as the end of a line.
+fn missed_text(alloc: Global, window: &Window) -> Result<String, AllocError> {
+    match window.span.missed {
+        Some((entry, record)) => format!(in alloc;
+            " misses {}:{}:{} in record {}",
+            entry.component, entry.number, entry.value, record
+        ),
+        None => Ok(String::new(alloc)),
+    }
+}
+
+// Counts a window, and writes its line.
+fn answer<W: Write>(
+    alloc: Global,
+    sums: &mut Sums,
+    writer: &mut Counted<W>,
+    window: &Window,
+) -> Result<(), FollowFault> {
+    let kind = Kind::of(window.verdict);
+    let more = missed_text(alloc, window)?;
+    let line = format!(in alloc;
+        "window {} events {} {} from {} to {}{}\n",
+        sums.next(),
+        window.span.events,
+        kind.word(),
+        window.span.first,
+        window.span.last,
+        more
+    )?;
+    sums.add_span(window.span);
+    sums.add(kind);
+    say(writer, &line)
+}
+
+// Counts a refusal, and writes its line.
+fn refuse<W: Write>(
+    alloc: Global,
+    sums: &mut Sums,
+    writer: &mut Counted<W>,
+    record: u64,
+    fault: TextFault,
+) -> Result<(), FollowFault> {
+    let line = format!(in alloc;
+        "window {} refused record {}: {}\n",
+        sums.next(),
+        record,
+        fault.word()
+    )?;
+    sums.add(Kind::Refused);
+    say(writer, &line)
+}
+
+// Takes a line, and ends a window where one may end there. Whether the recording is followed further.
+fn take_line<W: Write>(
+    alloc: Global,
+    follow: &mut Follow,
+    sums: &mut Sums,
+    writer: &mut Counted<W>,
+    line: &[u8],
+) -> Result<bool, FollowFault> {
+    match follow.take_line(alloc, line) {
+        Ok(()) => {}
+        Err(Ended::Refused { record, fault }) => {
+            refuse(alloc, sums, writer, record, fault)?;
+            return Ok(false);
+        }
+        Err(Ended::Memory) => return Err(FollowFault::Memory),
+    }
+    if let Some(window) = follow.cut(alloc)? {
+        answer(alloc, sums, writer, &window)?;
+    }
+    Ok(true)
+}
+
+// Takes the lines of a piece. The begin of a line without an end is kept in the rest. Whether the recording is followed further.
+fn take_piece<W: Write>(
+    alloc: Global,
+    follow: &mut Follow,
+    sums: &mut Sums,
+    writer: &mut Counted<W>,
+    rest: &mut Vec<u8>,
+    piece: &[u8],
+) -> Result<bool, FollowFault> {
+    let mut from = 0;
+    'lines: for _ in 0..piece.len() {
+        let Some(at) = memchr2(b'\n', b'\r', &piece[from..]) else {
+            break;
+        };
+        let goes_on = if rest.is_empty() {
+            take_line(alloc, follow, sums, writer, &piece[from..from + at])?
+        } else {
+            rest.extend_from_slice(&piece[from..from + at])?;
+            let goes_on = take_line(alloc, follow, sums, writer, rest)?;
+            rest.clear();
+            goes_on
+        };
+        if !goes_on {
+            return Ok(false);
+        }
+        from += at + 1;
+    }
+    rest.extend_from_slice(&piece[from..])?;
+    if rest.len() > RECORD_LIMIT {
+        let record = follow.records().saturating_add(1);
+        refuse(alloc, sums, writer, record, TextFault::TooLong)?;
+        return Ok(false);
+    }
+    Ok(true)
+}
+
+// Ends the last window, and writes the sums.
+fn end<W: Write>(
+    alloc: Global,
+    follow: Option<Follow>,
+    mut sums: Sums,
+    writer: &mut Counted<W>,
+    asked: FollowOptions,
+) -> Result<Option<u8>, FollowFault> {
+    if let Some(follow) = follow {
+        if follow.records() == 0 {
+            refuse(alloc, &mut sums, writer, 1, TextFault::Header)?;
+        } else {
+            let (window, _) = follow.finish(alloc)?;
+            if window.span.events > 0 {
+                answer(alloc, &mut sums, writer, &window)?;
+            }
+        }
+    }
+    say(writer, &sums.text(alloc)?)?;
+    let code = sums.code();
+    if code < Kind::Refused.code() && sums.views() < u64::from(asked.views) {
+        return Ok(None);
+    }
+    Ok(Some(code))
+}
+
+// Reads what is there, and takes it, until nothing has come for so many pauses. Whether the recording was followed to its end.
+fn take_all<Rt: Wait, R: Read, W: Write, P: Pause>(
+    rt: &Rt,
+    alloc: Global,
+    reader: &mut Counted<R>,
+    writer: &mut Counted<W>,
+    pause: &P,
+    follow: &mut Follow,
+    sums: &mut Sums,
+    rest: &mut Vec<u8>,
+    pauses: u32,
+) -> Result<bool, FollowFault> {
+    let mut piece = Vec::new(alloc);
+    piece.resize(PIECE, 0)?;
+    let mut waited = 0;
+    'pieces: for _ in rt.forever() {
+        match reader.read(&mut piece) {
+            Err(_) => return Err(FollowFault::Read),
+            Ok(0) => {
+                if pauses > 0 && waited >= pauses {
+                    return Ok(true);
+                }
+                pause.pause();
+                waited = waited.saturating_add(1);
+            }
+            Ok(n) => {
+                waited = 0;
+                if !take_piece(alloc, follow, sums, writer, rest, &piece[..n])? {
+                    return Ok(false);
+                }
+            }
+        }
+    }
+    Ok(true)
+}
+
+/// Follows a recording: reads it line by line, judges it window by window, and writes a line for each window and then the sums. A
+/// read that answers nothing is tried again after a pause. Each line goes out before more is read.
+pub fn follow_run<Rt: Wait, R: Read, W: Write, P: Pause>(
+    rt: &Rt,
+    alloc: Global,
+    reader: &mut Counted<R>,
+    writer: &mut Counted<W>,
+    pause: &P,
+    asked: FollowOptions,
+) -> Result<Followed, FollowFault> {
+    let mut follow = Follow::new(alloc, asked.least, asked.most);
+    let mut sums = Sums::new();
+    let mut rest = Vec::new(alloc);
+    let goes_on = take_all(
+        rt,
+        alloc,
+        reader,
+        writer,
+        pause,
+        &mut follow,
+        &mut sums,
+        &mut rest,
+        asked.pauses,
+    )?;
+    let last = if goes_on { Some(follow) } else { None };
+    Ok(Followed {
+        code: end(alloc, last, sums, writer, asked)?,
+        has_rest: goes_on && !rest.is_empty(),
+    })
+}
