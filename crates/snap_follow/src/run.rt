@@ -7,6 +7,8 @@ use snap_text::TextFault;
 use std::alloc::{AllocError, Global};
 use std::io::{Read, Write};
 use std::sync::Wait;
+use std::thread;
+use std::time::{Clock, Duration};
 use thiserror::Error;
 
 // How many bytes are read at a time.
@@ -15,11 +17,10 @@ const PIECE: usize = 65_536;
 /// How many bytes a record may have, which is far more than a record of a history has.
 pub const RECORD_LIMIT: usize = 1_048_576;
 
-/// Waits for a moment, in which a recording may grow.
-pub trait Pause {
-    /// Returns when the moment is over.
-    fn pause(&self);
-}
+// How long a pause is, in milliseconds, and how many of them are a second.
+const PAUSE: u64 = 100;
+
+const PAUSES_A_SECOND: u64 = 10;
 
 /// How a recording is followed.
 #[derive(Clone, Copy, Debug)]
@@ -28,8 +29,8 @@ pub struct FollowOptions {
     pub least: u32,
     /// How many events a window may have.
     pub most: Limit,
-    /// After how many pauses without anything new it ends; 0 for never.
-    pub pauses: u32,
+    /// After how many seconds without anything new it ends; 0 for never.
+    pub idle: u32,
     /// How many completed views the windows must have.
     pub views: u32,
 }
@@ -204,29 +205,30 @@ fn end<W: Write>(
     Ok(Some(code))
 }
 
-// Reads what is there, and takes it, until nothing has come for so many pauses. Whether the recording was followed to its end.
-fn take_all<Rt: Wait, R: Read, W: Write, P: Pause>(
+// Reads what is there, and takes it, until nothing has come for so many seconds. Whether the recording was followed to its end.
+fn take_all<Rt: Wait, R: Read, W: Write, C: Clock>(
     rt: &Rt,
     alloc: Global,
     reader: &mut Counted<R>,
     writer: &mut Counted<W>,
-    pause: &P,
+    clock: &C,
     follow: &mut Follow,
     sums: &mut Sums,
     rest: &mut Vec<u8>,
-    pauses: u32,
+    idle: u32,
 ) -> Result<bool, FollowFault> {
     let mut piece = Vec::new(alloc);
     piece.resize(PIECE, 0)?;
-    let mut waited = 0;
+    let most = u64::from(idle) * PAUSES_A_SECOND;
+    let mut waited = 0u64;
     'pieces: for _ in rt.forever() {
         match reader.read(&mut piece) {
             Err(_) => return Err(FollowFault::Read),
             Ok(0) => {
-                if pauses > 0 && waited >= pauses {
+                if idle > 0 && waited >= most {
                     return Ok(true);
                 }
-                pause.pause();
+                thread::sleep(clock, Duration::from_millis(PAUSE));
                 waited = waited.saturating_add(1);
             }
             Ok(n) => {
@@ -242,12 +244,12 @@ fn take_all<Rt: Wait, R: Read, W: Write, P: Pause>(
 
 /// Follows a recording: reads it line by line, judges it window by window, and writes a line for each window and then the sums. A
 /// read that answers nothing is tried again after a pause. Each line goes out before more is read.
-pub fn follow_run<Rt: Wait, R: Read, W: Write, P: Pause>(
+pub fn follow_run<Rt: Wait, R: Read, W: Write, C: Clock>(
     rt: &Rt,
     alloc: Global,
     reader: &mut Counted<R>,
     writer: &mut Counted<W>,
-    pause: &P,
+    clock: &C,
     asked: FollowOptions,
 ) -> Result<Followed, FollowFault> {
     let mut follow = Follow::new(alloc, asked.least, asked.most);
@@ -258,11 +260,11 @@ pub fn follow_run<Rt: Wait, R: Read, W: Write, P: Pause>(
         alloc,
         reader,
         writer,
-        pause,
+        clock,
         &mut follow,
         &mut sums,
         &mut rest,
-        asked.pauses,
+        asked.idle,
     )?;
     let last = if goes_on { Some(follow) } else { None };
     Ok(Followed {

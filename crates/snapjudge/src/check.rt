@@ -17,8 +17,8 @@ use std::io::Write;
 use std::slice;
 use std::thread::Threads;
 
-// The status of a history with too few views, which is said.
-fn too_few_views(host: &HostRuntime, views: u32) -> Status {
+/// The status of a history with too few views, which is said.
+pub(crate) fn too_few_views(host: &HostRuntime, views: u32) -> Status {
     let _ = eprintln!(host; "refused: fewer than {} views", views);
     Status::Refused
 }

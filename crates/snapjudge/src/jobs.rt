@@ -5,6 +5,7 @@ ghost use Rattle.snap_words.specs.Jobs.{IsInRange};
 use crate::Failure;
 use crate::check::{check, check_names};
 use crate::files::open_only;
+use crate::follow::follow;
 use crate::names::names_of;
 use crate::options::limit_of;
 use snap_check::{RunFault, Status};
@@ -83,6 +84,7 @@ fn done<Rt: Threads + Wait + Sync>(
 {
     let alloc = host.alloc();
     let result = match job {
+        Job::Check { options, .. } if options.follow => return follow(rt, host, files, options),
         Job::Check { cutting, options } => return check(rt, host, files, cutting, options),
         Job::Shrink { drawn, events } => {
             let text = open_only(host, files)?;

@@ -3,6 +3,7 @@
 
 mod check;
 mod files;
+mod follow;
 mod jobs;
 mod names;
 mod options;
