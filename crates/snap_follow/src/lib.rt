@@ -6,4 +6,4 @@ mod run;
 mod sums;
 
 pub use follow::{Ended, Follow, Span, Window};
-pub use run::{FollowFault, FollowOptions, Followed, RECORD_LIMIT, follow_run};
+pub use run::{FollowFault, FollowOptions, Followed, RECORD_LIMIT, Until, follow_run};

@@ -22,6 +22,17 @@ const PAUSE: u64 = 100;
 
 const PAUSES_A_SECOND: u64 = 10;
 
+/// How long a recording is followed.
+#[derive(Clone, Copy, PartialEq, Eq, Debug)]
+pub enum Until {
+    /// For ever.
+    Ever,
+    /// Until nothing has come for so many seconds.
+    Idle(u32),
+    /// To its end. What ends there is whole, so its last line needs no end.
+    End,
+}
+
 /// How a recording is followed.
 #[derive(Clone, Copy, Debug)]
 pub struct FollowOptions {
@@ -29,8 +40,8 @@ pub struct FollowOptions {
     pub least: u32,
     /// How many events a window may have.
     pub most: Limit,
-    /// After how many seconds without anything new it ends; 0 for never.
-    pub idle: u32,
+    /// How long it is followed.
+    pub until: Until,
     /// How many completed views the windows must have.
     pub views: u32,
 }
@@ -185,7 +196,7 @@ fn end<W: Write>(
     follow: Option<Follow>,
     mut sums: Sums,
     writer: &mut Counted<W>,
-    asked: FollowOptions,
+    views: u32,
 ) -> Result<Option<u8>, FollowFault> {
     if let Some(follow) = follow {
         if follow.records() == 0 {
@@ -199,13 +210,22 @@ fn end<W: Write>(
     }
     say(writer, &sums.text(alloc)?)?;
     let code = sums.code();
-    if code < Kind::Refused.code() && sums.views() < u64::from(asked.views) {
+    if code < Kind::Refused.code() && sums.views() < u64::from(views) {
         return Ok(None);
     }
     Ok(Some(code))
 }
 
-// Reads what is there, and takes it, until nothing has come for so many seconds. Whether the recording was followed to its end.
+// Whether it is over behind so many pauses without anything new.
+fn is_over(until: Until, pauses: u64) -> bool {
+    match until {
+        Until::Ever => false,
+        Until::Idle(seconds) => pauses >= u64::from(seconds) * PAUSES_A_SECOND,
+        Until::End => true,
+    }
+}
+
+// Reads what is there, and takes it, as long as that is asked for. Whether the recording was followed to its end.
 fn take_all<Rt: Wait, R: Read, W: Write, C: Clock>(
     rt: &Rt,
     alloc: Global,
@@ -215,17 +235,16 @@ fn take_all<Rt: Wait, R: Read, W: Write, C: Clock>(
     follow: &mut Follow,
     sums: &mut Sums,
     rest: &mut Vec<u8>,
-    idle: u32,
+    until: Until,
 ) -> Result<bool, FollowFault> {
     let mut piece = Vec::new(alloc);
     piece.resize(PIECE, 0)?;
-    let most = u64::from(idle) * PAUSES_A_SECOND;
-    let mut waited = 0u64;
+    let mut waited = 0;
     'pieces: for _ in rt.forever() {
         match reader.read(&mut piece) {
             Err(_) => return Err(FollowFault::Read),
             Ok(0) => {
-                if idle > 0 && waited >= most {
+                if is_over(until, waited) {
                     return Ok(true);
                 }
                 thread::sleep(clock, Duration::from_millis(PAUSE));
@@ -255,7 +274,7 @@ pub fn follow_run<Rt: Wait, R: Read, W: Write, C: Clock>(
     let mut follow = Follow::new(alloc, asked.least, asked.most);
     let mut sums = Sums::new();
     let mut rest = Vec::new(alloc);
-    let goes_on = take_all(
+    let mut goes_on = take_all(
         rt,
         alloc,
         reader,
@@ -264,11 +283,14 @@ pub fn follow_run<Rt: Wait, R: Read, W: Write, C: Clock>(
         &mut follow,
         &mut sums,
         &mut rest,
-        asked.idle,
+        asked.until,
     )?;
+    let mut has_rest = goes_on && !rest.is_empty();
+    if has_rest && asked.until == Until::End {
+        has_rest = false;
+        goes_on = take_line(alloc, &mut follow, &mut sums, writer, &rest)?;
+    }
     let last = if goes_on { Some(follow) } else { None };
-    Ok(Followed {
-        code: end(alloc, last, sums, writer, asked)?,
-        has_rest: goes_on && !rest.is_empty(),
-    })
+    let code = end(alloc, last, sums, writer, asked.views)?;
+    Ok(Followed { code, has_rest })
 }

@@ -7,7 +7,7 @@ use crate::files::open_only;
 use crate::options::limit_of;
 use snap_check::RunFault;
 use snap_core::Counted;
-use snap_follow::{FollowFault, FollowOptions, follow_run};
+use snap_follow::{FollowFault, FollowOptions, Until, follow_run};
 use snap_words::Options;
 use std::sync::Wait;
 
@@ -17,6 +17,20 @@ fn run_fault(fault: FollowFault) -> RunFault {
         FollowFault::Read => RunFault::Read,
         FollowFault::Write => RunFault::Write,
         FollowFault::Memory => RunFault::Memory,
+    }
+}
+
+// How long a recording is followed: standard input to its end, and a file until nothing has come for so many seconds.
+fn until_of(files: &[Vec<u8>], asked: Options) -> Until {
+    match files.first() {
+        Some(name) if *name != b"-".as_slice() => {
+            if asked.idle == 0 {
+                Until::Ever
+            } else {
+                Until::Idle(asked.idle)
+            }
+        }
+        _ => Until::End,
     }
 }
 
@@ -34,7 +48,7 @@ pub(crate) fn follow<Rt: Wait>(
     let options = FollowOptions {
         least: asked.window,
         most: limit_of(asked.events),
-        idle: asked.idle,
+        until: until_of(files, asked),
         views: asked.views,
     };
     match follow_run(rt, host.alloc(), &mut reader, &mut writer, host, options) {
