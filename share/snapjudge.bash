@@ -2,7 +2,7 @@
 _snapjudge() {
   local word=${COMP_WORDS[COMP_CWORD]} before=${COMP_WORDS[COMP_CWORD - 1]} words=
   case $before in
-    --pieces | --workers | --views | --events | --rounds) return ;;
+    --pieces | --workers | --views | --events | --window | --idle | --rounds) return ;;
     --color) mapfile -t COMPREPLY < <(compgen -W 'auto always never' -- "$word"); return ;;
     --files-from) mapfile -t COMPREPLY < <(compgen -f -- "$word"); return ;;
     -r | --recursive) mapfile -t COMPREPLY < <(compgen -d -- "$word"); return ;;
@@ -11,7 +11,7 @@ _snapjudge() {
   case ${COMP_WORDS[1]} in
     check | shrink | explain | draw)
       words=--help
-      [[ ${COMP_WORDS[1]} != check ]] || words='--pieces --workers --files-from --null --recursive --quiet --views --events --format --summary --no-progress --color --help'
+      [[ ${COMP_WORDS[1]} != check ]] || words='--pieces --workers --files-from --null --recursive --quiet --views --events --format --summary --follow --window --idle --no-progress --color --help'
       [[ ${COMP_WORDS[1]} != draw ]] || words='--svg --text --events --help'
       [[ ${COMP_WORDS[1]} != @(shrink|explain) ]] || words='--draw --events --help'
       [[ $word == -* ]] || { mapfile -t COMPREPLY < <(compgen -f -- "$word"); return; }

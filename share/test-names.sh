@@ -120,6 +120,12 @@ expect "a list that names standard input" 2 "$(report_of stale-view '-: ' | sed 
 asked "a list that names standard input, as a word does" 4 "" --files-from list -
 expect_said "the reason" "snapjudge: list: - is standard input, and can be named once"
 expect "a list for another command" 5 "" ./second shrink --files-from list
+expect "a list of recordings to follow" 5 "" ./second check --follow --files-from list
+expect_said "the reason" "error: the argument '--follow' cannot be used with '--files-from <LIST>'"
+expect "a folder of recordings to follow" 5 "" ./second check -r . --follow
+expect_said "the reason" "error: the argument '--follow' cannot be used with '--recursive <FOLDER>'"
+expect "two recordings to follow" 5 "" ./second check old.csv --follow -
+expect_said "the reason" "error: --follow takes one recording"
 
 mkdir -p runs/a runs/deep/er/still runs/d.csv runs/empty "runs/with blank"
 for name in runs/b.csv runs/a.csv runs/a-b.csv runs/a/b.csv runs/.csv runs/.hidden.csv runs/d.csv/in.csv runs/deep/er/still/z.csv; do

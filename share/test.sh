@@ -516,7 +516,7 @@ for shell in bash zsh fish; do
   has "$shell" || continue
   completes "snapjudge sh" shrink
   completes "snapjudge --v" --version
-  completes "snapjudge check --" "--color --events --files-from --format --help --no-progress --null --pieces --quiet --recursive --summary --views --workers"
+  completes "snapjudge check --" "--color --events --files-from --follow --format --help --idle --no-progress --null --pieces --quiet --recursive --summary --views --window --workers"
   completes "snapjudge check --format " "json plain"
   completes "snapjudge check --color " "always auto never"
   completes "snapjudge check --files-from t" two.csv

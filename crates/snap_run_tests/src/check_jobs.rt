@@ -126,3 +126,53 @@ fn check_takes_what_is_shown(rt: HostRuntime) -> Result<(), Fail> {
     }
     Ok(())
 }
+
+// Whether each line asks for a check by windows, from how many events on they end, and after how many idle seconds it ends.
+const FOLLOWED: &[(&str, bool, u32, u32)] = &[
+    ("snapjudge check", false, 1000, 0),
+    ("snapjudge check --follow", true, 1000, 0),
+    (
+        "snapjudge check --window 1 --follow --idle=4294967295",
+        true,
+        1,
+        4294967295,
+    ),
+    (
+        "snapjudge check --follow --events 500 --window=500 --idle 5 --views 3",
+        true,
+        500,
+        5,
+    ),
+    (
+        "snapjudge check --events 7 --window 1048576",
+        false,
+        1048576,
+        0,
+    ),
+    ("snapjudge check --idle 3 --quiet", false, 1000, 3),
+];
+
+// How a check that a line asks for goes by windows.
+fn followed_of(alloc: Global, line: &str) -> Result<(bool, u32, u32), Fail> {
+    match job_on(alloc, line, &[])? {
+        Job::Check { options, .. } => {
+            let Options {
+                follow,
+                window,
+                idle,
+                ..
+            } = options;
+            Ok((follow, window, idle))
+        }
+        _ => Err(Fail::from(line)),
+    }
+}
+
+#[test]
+fn check_takes_windows(rt: HostRuntime) -> Result<(), Fail> {
+    for (line, follow, window, idle) in FOLLOWED {
+        let found = followed_of(rt.alloc(), line)?;
+        assert_eq!(rt; found, (*follow, *window, *idle), "{line}");
+    }
+    Ok(())
+}

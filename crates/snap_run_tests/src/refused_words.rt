@@ -50,13 +50,23 @@ const OTHER_LINES: &[&str] = &[
     "snapjudge check --format json --quiet",
     "snapjudge check --quiet --format=json",
     "snapjudge check --format json --format plain",
+    "snapjudge check --follow=yes",
+    "snapjudge check --window",
+    "snapjudge check --window 0",
+    "snapjudge check --window 1048577",
+    "snapjudge check --idle",
+    "snapjudge check --idle -1",
+    "snapjudge check --idle 4294967296",
     "snapjudge explain --format json",
     "snapjudge shrink a.csv b.csv",
     "snapjudge shrink --quiet",
     "snapjudge explain a.csv b.csv",
     "snapjudge explain --quiet",
+    "snapjudge explain --follow",
+    "snapjudge shrink --window 1000",
     "snapjudge record --quiet",
     "snapjudge record --views 3",
+    "snapjudge record --idle 3",
     "snapjudge --help",
     "snapjudge check --help",
     "snapjudge record --help",
@@ -115,6 +125,14 @@ const BEYOND: &[(&str, &str)] = &[
         "snapjudge check --events 7 --views 4",
         "error: invalid value '4' for '--views <N>': 4 is not in 0..=3\n\nFor more information, try '--help'.\n",
     ),
+    (
+        "snapjudge check --follow --events 999",
+        "error: invalid value '1000' for '--window <N>': 1000 is not in 1..=999\n\nFor more information, try '--help'.\n",
+    ),
+    (
+        "snapjudge check --window 65537 --follow",
+        "error: invalid value '65537' for '--window <N>': 65537 is not in 1..=65536\n\nFor more information, try '--help'.\n",
+    ),
 ];
 
 #[test]
@@ -122,6 +140,41 @@ fn a_number_beyond_the_limit_of_events_is_refused_as_the_parser_does(
     rt: HostRuntime,
 ) -> Result<(), Fail> {
     for (line, text) in BEYOND {
+        match job_of(rt.alloc(), words(rt.alloc(), line)?) {
+            Err(JobFault::Usage(said)) => assert_eq!(rt; said.as_str(), *text),
+            _ => return Err(Fail::from(*line)),
+        }
+    }
+    Ok(())
+}
+
+// Lines with forms of answer that do not go together, and what is said of them.
+const TOGETHER: &[(&str, &str)] = &[
+    (
+        "snapjudge check --quiet --format json",
+        "error: the argument '--quiet' cannot be used with '--format json'\n",
+    ),
+    (
+        "snapjudge check --summary --quiet",
+        "error: the argument '--summary' cannot be used with '--quiet'\n",
+    ),
+    (
+        "snapjudge check --follow --quiet",
+        "error: the argument '--follow' cannot be used with '--quiet'\n",
+    ),
+    (
+        "snapjudge check --format=json --follow",
+        "error: the argument '--follow' cannot be used with '--format json'\n",
+    ),
+    (
+        "snapjudge check --summary --follow",
+        "error: the argument '--follow' cannot be used with '--summary'\n",
+    ),
+];
+
+#[test]
+fn forms_of_answer_do_not_go_together(rt: HostRuntime) -> Result<(), Fail> {
+    for (line, text) in TOGETHER {
         match job_of(rt.alloc(), words(rt.alloc(), line)?) {
             Err(JobFault::Usage(said)) => assert_eq!(rt; said.as_str(), *text),
             _ => return Err(Fail::from(*line)),

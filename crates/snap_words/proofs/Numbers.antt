@@ -37,6 +37,14 @@ eight_text = decimal_digit 8 (omega arith)
 pub sixteen_text : decimal 16 ≡ codes "16"
 sixteen_text = decimal_step 16 (omega arith) (omega arith) ∙ ap (λ (t : List ℕ). t ++ (54 ∷ [])) (decimal_digit 1 (omega arith))
 
+pub thousand_text : decimal 1000 ≡ codes "1000"
+unfolding digits
+thousand_text = refl
+
+pub hundreds_text : decimal 500 ≡ codes "500"
+unfolding digits
+hundreds_text = refl
+
 pub usual_text : decimal 65536 ≡ codes "65536"
 unfolding digits
 usual_text = refl

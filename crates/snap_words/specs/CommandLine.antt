@@ -40,6 +40,18 @@ format_rule = record (new_rule (codes "format")) { long = Some (codes "format");
 abbrev pub summary_rule : Rule
 summary_rule = record (new_rule (codes "summary")) { long = Some (codes "summary"); action = Some SetTrue }
 
+-- --follow
+abbrev pub follow_rule : Rule
+follow_rule = record (new_rule (codes "follow")) { long = Some (codes "follow"); action = Some SetTrue }
+
+-- --window N, 1000 where it is not given
+abbrev pub window_rule : Rule
+window_rule = record (new_rule (codes "window")) { long = Some (codes "window"); value_names = 1; parser = Some (Signed (pos 1) (pos event_cap)); defaults = codes "1000" ∷ [] }
+
+-- --idle SECONDS, 0 where it is not given; any number of 32 bits is taken here
+abbrev pub idle_rule : Rule
+idle_rule = record (new_rule (codes "idle")) { long = Some (codes "idle"); value_names = 1; parser = Some (Signed (pos 0) (pos NUMBER_LIMIT)); defaults = codes "0" ∷ [] }
+
 -- --no-progress
 abbrev pub no_progress_rule : Rule
 no_progress_rule = record (new_rule (codes "no-progress")) { long = Some (codes "no-progress"); action = Some SetTrue }
@@ -69,11 +81,11 @@ abbrev pub folder_rule : Rule
 folder_rule = record (new_rule (codes "folder")) { long = Some (codes "recursive"); short = Some 114; value_names = 1 }
 
 -- check [--pieces P] [--workers W] [--files-from LIST [--null]] [--recursive FOLDER] [--quiet] [--views N] [--events N]
--- [--format FORMAT] [--summary] [--no-progress] [--color WHEN] [FILE ..]
+-- [--format FORMAT] [--summary] [--follow] [--window N] [--idle SECONDS] [--no-progress] [--color WHEN] [FILE ..]
 abbrev pub check_app : App
 check_app = with_rules (new_app (codes "check"))
     (pieces_rule ∷ workers_rule ∷ list_rule ∷ null_rule ∷ folder_rule ∷ quiet_rule ∷ views_rule ∷ events_rule ∷ format_rule ∷ summary_rule
-    ∷ no_progress_rule ∷ color_rule ∷ files_rule ∷ [])
+    ∷ follow_rule ∷ window_rule ∷ idle_rule ∷ no_progress_rule ∷ color_rule ∷ files_rule ∷ [])
 
 -- --draw
 abbrev pub draw_rule : Rule

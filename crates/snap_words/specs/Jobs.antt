@@ -11,6 +11,7 @@ use Rattle.snap_words.specs.declared.job.Job.TheVariants.{Check, Shrink, Explain
 use Rattle.snap_words.specs.declared.color.Color.{Color}
 use Rattle.snap_words.specs.declared.color.Color.TheVariants.{Auto, Always, Never}
 use Rattle.snap_words.specs.declared.job.Options.{Options}
+use Rattle.snap_words.specs.declared.word.TheConstants.{NUMBER_LIMIT}
 
 -- as many completed views, of two events each, as a history of so many events can have
 abbrev pub AreViews : ℕ → ℕ → Type 0
@@ -20,15 +21,22 @@ AreViews events n = 2 * n ≤ events
 abbrev pub AreRoundsWithin : ℕ → ℕ → Type 0
 AreRoundsWithin events rounds = (0 < rounds) × (4 * worker_limit * rounds ≤ events)
 
--- one form of answer is asked for: no object of the verdicts' lines alone, and no sums of either
+-- one form of answer is asked for: no object of the verdicts' lines alone, no sums of either, and none of the three of a recording that
+-- is judged while it grows
 pub record IsOneForm (options : Options) : Type 0 where
   pub object : options.json ≡ true → options.quiet ≡ false
   pub sums : options.summary ≡ true → (options.quiet ≡ false) × (options.json ≡ false)
+  pub windows : options.follow ≡ true → (options.quiet ≡ false) × (options.json ≡ false) × (options.summary ≡ false)
+
+-- a window ends from so many events on as a history can have; where windows are judged, as this one may have
+abbrev pub IsWindow : Options → Type 0
+IsWindow options = IsLimit options.window × (options.follow ≡ true → options.window ≤ options.events)
 
 -- the numbers of a job are in their ranges; one form of answer is asked for, and no report with stamps
 abbrev pub IsInRange : Job → Type 0
 IsInRange (Check cutting options) =
     IsPieces cutting.pieces × IsWorkers cutting.workers × IsLimit options.events × AreViews options.events options.views × IsOneForm options
+    × IsWindow options
 IsInRange (Shrink drawn events) = IsLimit events
 IsInRange (Explain drawn events) = IsLimit events
 IsInRange (Draw form events) = IsLimit events
@@ -42,9 +50,9 @@ IsCheckWith pieces workers options (Explain drawn within) = ⊥
 IsCheckWith pieces workers options (Draw form within) = ⊥
 IsCheckWith pieces workers options (Record w rounds judge scan stamped) = ⊥
 
--- the whole report, of any number of completed views, within the usual limit of events
+-- the whole report, of any number of completed views, within the usual limit of events; the usual windows, if a recording were followed
 abbrev pub no_options : Options
-no_options = record { quiet = false; views = 0; events = event_limit; json = false; summary = false; no_progress = false; color = Auto }
+no_options = record { quiet = false; views = 0; events = event_limit; json = false; summary = false; follow = false; window = 1000; idle = 0; no_progress = false; color = Auto }
 
 -- a history of so many events at most that is to be cut down, to a text or to its picture
 abbrev pub IsShrink : ℕ → Bool → Job → Type 0
@@ -126,12 +134,17 @@ pub record AsksCheck (rows : List Row) (pieces : ℕ) (workers : ℕ) (options :
   pub limit : AsksLimit options.events rows
   pub views_fit : AreViews options.events options.views
   pub one_form : IsOneForm options
+  pub window_fits : IsWindow options
+  pub idle_fits : options.idle ≤ NUMBER_LIMIT
   pub pieces_are : one_of (codes "pieces") rows ≡ Some (decimal pieces)
   pub workers_are : one_of (codes "workers") rows ≡ Some (decimal workers)
   pub views_are : one_of (codes "views") rows ≡ Some (decimal options.views)
   pub quiet_is : one_of (codes "quiet") rows ≡ Some (flag_text options.quiet)
   pub format_is : first_of (codes "format") rows ≡ Some (format_text options.json)
   pub summary_is : one_of (codes "summary") rows ≡ Some (flag_text options.summary)
+  pub follow_is : one_of (codes "follow") rows ≡ Some (flag_text options.follow)
+  pub window_is : one_of (codes "window") rows ≡ Some (decimal options.window)
+  pub idle_is : one_of (codes "idle") rows ≡ Some (decimal options.idle)
   pub no_progress_is : one_of (codes "no-progress") rows ≡ Some (flag_text options.no_progress)
   pub color_is : first_of (codes "color") rows ≡ Some (color_text options.color)
 

@@ -1,5 +1,6 @@
 pub mod CommandLine
 pub mod Drawing
+pub mod Following
 pub mod Jobs
 pub mod Lines
 pub mod Sources

@@ -7,6 +7,7 @@ ghost use Rattle.snap_words.specs.CommandLine.{check_app};
 use crate::command::command_of;
 use crate::word::{EVENTS, NUMBER_LIMIT, Takes, Word};
 use clap::Command;
+use snap_core::EVENT_CAP;
 use snap_threads::{PIECE_LIMIT, WORKER_LIMIT};
 use std::alloc::{AllocError, Global};
 
@@ -56,6 +57,10 @@ their records. A file that can't be read has an object too, with the reason. Not
 
 With --summary the reports are left out. Once all files are judged it prints how many there are, and
 how many have each status, with the first of them. Not with --quiet, and not with --format json.
+
+With --follow one recording is judged while it grows, window by window. Each window ends at a moment
+at which no call is open, and the next one begins from what was left. Each is answered by a line, and
+the sums come at the end. With --idle N that is when nothing has come for N seconds.
 
 On a terminal a line on standard error shows how far it is, where there are more than 100 files or a
 second has passed. --no-progress leaves it out. The verdicts have colours there, unless --color never
@@ -152,6 +157,37 @@ const WORDS: &[Word<'static>] = &[
         short: None,
         takes: Takes::Nothing,
         help: "Write how many files have each status, and the first of them, in place of reports",
+    },
+    Word {
+        id: "follow",
+        long: Some("follow"),
+        short: None,
+        takes: Takes::Nothing,
+        help: "Judge one recording while it grows, window by window",
+    },
+    Word {
+        id: "window",
+        long: Some("window"),
+        short: None,
+        takes: Takes::Number {
+            name: "N",
+            least: 1,
+            most: EVENT_CAP as i64,
+            usual: "1000",
+        },
+        help: "With --follow, end a window at the first moment without an open call from N events on",
+    },
+    Word {
+        id: "idle",
+        long: Some("idle"),
+        short: None,
+        takes: Takes::Number {
+            name: "SECONDS",
+            least: 0,
+            most: NUMBER_LIMIT as i64,
+            usual: "0",
+        },
+        help: "With --follow, end once nothing has come for so long; 0 waits for ever",
     },
     Word {
         id: "no-progress",

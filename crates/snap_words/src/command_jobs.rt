@@ -8,7 +8,7 @@ use crate::color::color_in;
 use crate::drawing::{Form, form_in};
 use crate::job::{Job, Options};
 use crate::option_values::{events_in, flag_in, json_in, number_in};
-use crate::ranges::{are_rounds, are_views, is_limit, is_one_form};
+use crate::ranges::{are_rounds, are_views, is_limit, is_one_form, is_window};
 use clap::ArgMatches;
 use snap_record::{LEAST_WORKERS, WORKER_LIMIT};
 use snap_threads::Cutting;
@@ -22,6 +22,9 @@ fn options_in(matches: &ArgMatches<'_>) -> Option<Options>
     let events = number_in(matches, "events")?;
     let json = json_in(matches)?;
     let summary = flag_in(matches, "summary");
+    let follow = flag_in(matches, "follow");
+    let window = number_in(matches, "window")?;
+    let idle = number_in(matches, "idle")?;
     let no_progress = flag_in(matches, "no-progress");
     let color = color_in(matches)?;
     Some(Options {
@@ -30,6 +33,9 @@ fn options_in(matches: &ArgMatches<'_>) -> Option<Options>
         events,
         json,
         summary,
+        follow,
+        window,
+        idle,
         no_progress,
         color,
     })
@@ -46,6 +52,7 @@ fn check_in(matches: &ArgMatches<'_>) -> Option<Job>
     if !is_limit(options.events)
         || !are_views(options.events, options.views)
         || !is_one_form(options)
+        || !is_window(options)
     {
         return None;
     }

@@ -1,5 +1,6 @@
 //! The words that a program is given, which need be no text, and what they ask for.
-ghost use Rattle.std.specs.Prelude.{IfOk};
+ghost use Rattle.std.specs.Prelude.{◌≡◌, IfNone, IfOk, length};
+ghost use Rattle.snap_words.specs.Following.{FollowsOne, IsOneRecording, follows};
 ghost use Rattle.snap_words.specs.Jobs.{IsInRange};
 
 use crate::job::{Asked, Job, JobFault, job_of};
@@ -211,6 +212,33 @@ fn wanted_in(alloc: Global, words: Words) -> Result<Wanted, JobFault>
     }
 }
 
+// Whether a job judges a recording while it grows.
+fn is_following(job: &Job) -> bool
+    ensures { result ≡ follows job.now }
+{
+    match job {
+        Job::Check { options, .. } => options.follow,
+        _ => false,
+    }
+}
+
+// Why no recording among these can be judged while it grows, if that is asked for.
+fn following_refusal(job: &Job, files: &[Vec<u8>], places: &Places) -> Option<&'static str>
+    ensures { IfNone result (IsOneRecording job.now (length files.now) places.now) }
+{
+    if !is_following(job) {
+        None
+    } else if places.list.is_some() {
+        Some("error: the argument '--follow' cannot be used with '--files-from <LIST>'\n")
+    } else if places.folder.is_some() {
+        Some("error: the argument '--follow' cannot be used with '--recursive <FOLDER>'\n")
+    } else if files.len() > 1 {
+        Some("error: --follow takes one recording\n")
+    } else {
+        None
+    }
+}
+
 // Why the files and places can't be read, if they can't.
 fn refusal_of(files: &[Vec<u8>], places: &Places) -> Option<&'static str> {
     if places.null && places.list.is_none() {
@@ -222,15 +250,20 @@ fn refusal_of(files: &[Vec<u8>], places: &Places) -> Option<&'static str> {
     }
 }
 
-/// The job that the words of the command line ask for, and its files. Standard input, `-`, can be read once.
+/// The job that the words of the command line ask for, and its files. Standard input, `-`, can be read once. A recording that is
+/// judged while it grows is one.
 pub fn wanted_by(alloc: Global, words: Words) -> Result<Wanted, JobFault>
-    ensures { IfOk result (λ wanted. IsInRange wanted.job) }
+    ensures job { IfOk result (λ wanted. IsInRange wanted.job) }
+    ensures one { IfOk result FollowsOne }
 {
     if let Some(fault) = recording_fault(alloc, &words.texts) {
         return Err(fault);
     }
     let wanted = wanted_in(alloc, words)?;
-    match refusal_of(&wanted.files, &wanted.places) {
+    if let Some(text) = refusal_of(&wanted.files, &wanted.places) {
+        return Err(told(String::from_str(alloc, text)));
+    }
+    match following_refusal(&wanted.job, &wanted.files, &wanted.places) {
         Some(text) => Err(told(String::from_str(alloc, text))),
         None => Ok(wanted),
     }

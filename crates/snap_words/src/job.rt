@@ -31,6 +31,12 @@ pub struct Options {
     pub json: bool,
     /// The sums of all files in place of reports; not with `quiet` or `json`.
     pub summary: bool,
+    /// One recording is judged while it grows, window by window; not with `quiet`, `json` or `summary`.
+    pub follow: bool,
+    /// With `follow`: a window ends at the first moment without an open call from so many events on, 1 to `EVENT_CAP`.
+    pub window: u32,
+    /// With `follow`: seconds without anything new after which it ends; 0 for none.
+    pub idle: u32,
     /// No line on a terminal that shows how far it is.
     pub no_progress: bool,
     /// When the verdicts have colours.

@@ -16,6 +16,7 @@ pub fn check_lines()
     ensures views { (name : Text) → Means (name ∷ codes "check" ∷ codes "--views" ∷ codes "5" ∷ []) (codes "check") (λ rows. AsksCheck rows 8 2 (record no_options { views = 5 })) [] }
     ensures json { (name : Text) → Means (name ∷ codes "check" ∷ codes "--format" ∷ codes "json" ∷ []) (codes "check") (λ rows. AsksCheck rows 8 2 (record no_options { json = true })) [] }
     ensures summary { (name : Text) → Means (name ∷ codes "check" ∷ codes "--summary" ∷ []) (codes "check") (λ rows. AsksCheck rows 8 2 (record no_options { summary = true })) [] }
+    ensures follow { (name : Text) → Means (name ∷ codes "check" ∷ codes "--follow" ∷ codes "--window" ∷ codes "500" ∷ codes "--idle" ∷ codes "5" ∷ []) (codes "check") (λ rows. AsksCheck rows 8 2 (record no_options { follow = true; window = 500; idle = 5 })) [] }
     ensures color { (name : Text) → Means (name ∷ codes "check" ∷ codes "--color" ∷ codes "never" ∷ []) (codes "check") (λ rows. AsksCheck rows 8 2 (record no_options { color = Never })) [] }
     ensures events { (name : Text) → Means (name ∷ codes "check" ∷ codes "--events" ∷ codes "1048576" ∷ []) (codes "check") (λ rows. AsksCheck rows 8 2 (record no_options { events = 1048576 })) [] }
     ensures files { (name : Text) → Means (name ∷ codes "check" ∷ codes "a.csv" ∷ codes "-" ∷ []) (codes "check") (λ rows. AsksCheck rows 8 2 no_options) (codes "a.csv" ∷ codes "-" ∷ []) }

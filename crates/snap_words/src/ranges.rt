@@ -1,7 +1,7 @@
 //! Which numbers are in their ranges, and which options go together.
 ghost use Rattle.std.specs.Prelude.{◌≡◌, true};
 ghost use Rattle.snap_core.specs.Limits.{IsLimit};
-ghost use Rattle.snap_words.specs.Jobs.{AreRoundsWithin, AreViews, IsOneForm};
+ghost use Rattle.snap_words.specs.Jobs.{AreRoundsWithin, AreViews, IsOneForm, IsWindow};
 
 use crate::job::Options;
 use snap_core::EVENT_CAP;
@@ -36,9 +36,19 @@ pub(crate) fn is_one_form(options: Options) -> bool
     ensures one { result ≡ true → IsOneForm options }
     ensures asked { IsOneForm options → result ≡ true }
 {
-    if options.summary {
+    if options.follow {
+        !(options.quiet || options.json || options.summary)
+    } else if options.summary {
         !options.quiet && !options.json
     } else {
         !(options.quiet && options.json)
     }
+}
+
+/// Whether windows may end from so many events on.
+pub(crate) fn is_window(options: Options) -> bool
+    ensures one { result ≡ true → IsWindow options }
+    ensures asked { IsWindow options → result ≡ true }
+{
+    is_limit(options.window) && (!options.follow || options.window <= options.events)
 }

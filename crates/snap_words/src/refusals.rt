@@ -6,6 +6,17 @@ use clap::ArgMatches;
 use snap_record::WORKER_LIMIT;
 use std::alloc::{AllocError, Global};
 
+// With which option a recording can't be judged while it grows.
+fn window_refusal(matches: &ArgMatches<'_>, json: bool) -> &'static str {
+    if flag_in(matches, "quiet") {
+        "error: the argument '--follow' cannot be used with '--quiet'\n"
+    } else if json {
+        "error: the argument '--follow' cannot be used with '--format json'\n"
+    } else {
+        "error: the argument '--follow' cannot be used with '--summary'\n"
+    }
+}
+
 // Why words that the parser takes ask for no job: it tests each number by itself, but no word of a format or of colours, and no two
 // options beside one another.
 fn refusal_of(matches: &ArgMatches<'_>) -> &'static str {
@@ -20,6 +31,8 @@ fn refusal_of(matches: &ArgMatches<'_>) -> &'static str {
     };
     if color_in(inner).is_none() {
         "error: invalid value for '--color <WHEN>'\n  [possible values: auto, always, never]\n\nFor more information, try '--help'.\n"
+    } else if flag_in(inner, "follow") {
+        window_refusal(inner, json)
     } else if !flag_in(inner, "summary") {
         "error: the argument '--quiet' cannot be used with '--format json'\n"
     } else if json {
@@ -47,16 +60,28 @@ fn number_and_events(matches: &ArgMatches<'_>, id: &str) -> Option<(u32, u32)> {
     Some((number_in(matches, id)?, number_in(matches, "events")?))
 }
 
-// That there are more completed views than a history can have, or more rounds: the parser does not know that.
+// That a check asks for more completed views than a history can have, or for windows that only a longer one can have.
+fn check_refusal(alloc: Global, matches: &ArgMatches<'_>) -> Result<Option<String>, AllocError> {
+    let Some((views, events)) = number_and_events(matches, "views") else {
+        return Ok(None);
+    };
+    if !are_views(events, views) {
+        let text = range_refusal(alloc, "--views <N>", views, 0, events / 2)?;
+        return Ok(Some(text));
+    }
+    match number_in(matches, "window") {
+        Some(window) if flag_in(matches, "follow") && events < window => {
+            let text = range_refusal(alloc, "--window <N>", window, 1, events)?;
+            Ok(Some(text))
+        }
+        _ => Ok(None),
+    }
+}
+
+// That a number is too great for the limit of events: the parser does not know that.
 fn number_refusal(alloc: Global, matches: &ArgMatches<'_>) -> Result<Option<String>, AllocError> {
     if let Some(inner) = matches.subcommand_matches("check") {
-        let Some((views, events)) = number_and_events(inner, "views") else {
-            return Ok(None);
-        };
-        if !are_views(events, views) {
-            let text = range_refusal(alloc, "--views <N>", views, 0, events / 2)?;
-            return Ok(Some(text));
-        }
+        return check_refusal(alloc, inner);
     }
     if let Some(inner) = matches.subcommand_matches("record") {
         let Some((rounds, events)) = number_and_events(inner, "rounds") else {

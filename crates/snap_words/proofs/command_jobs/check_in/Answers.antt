@@ -8,4 +8,5 @@ returns-clause-job c = (
   c.if-not-is_limit.ensures.one refl,
   c.if-not-are_views.ensures.one refl,
   c.if-not-is_one_form.ensures.one refl,
+  c.if-not-is_window.ensures.one refl,
 )

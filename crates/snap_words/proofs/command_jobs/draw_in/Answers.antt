@@ -1,4 +1,3 @@
-use Rattle.std.proofs.Common.{◌≡◌}
 use Rattle.snap_words.proofs.command_jobs.draw_in.Goals as goal
 
 pub returns-clause-asked : goal.returns-clause-asked

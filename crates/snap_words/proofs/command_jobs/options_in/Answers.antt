@@ -13,6 +13,11 @@ returns c = λ pieces workers options asks.
     let events : c.in_ok-events.events ≡ options.events = cc in
     let json : c.in_ok-json.json ≡ options.json = cc in
     let summary = c.flag_in-summary.ensures.given options.summary asks.summary_is in
+    let follow = c.flag_in-follow.ensures.given options.follow asks.follow_is in
+    let window_given = c.in_ok-window.ensures.given options.window (omega (arith, asks.window_fits)) asks.window_is in
+    let idle_given = c.in_ok-idle.ensures.given options.idle (omega (arith, asks.idle_fits)) asks.idle_is in
+    let window : c.in_ok-window.window ≡ options.window = cc in
+    let idle : c.in_ok-idle.idle ≡ options.idle = cc in
     let no_progress = c.flag_in-no_progress.ensures.given options.no_progress asks.no_progress_is in
     let color : c.in_ok-color.color ≡ options.color = cc in
     λ i. Some (record {
@@ -21,6 +26,9 @@ returns c = λ pieces workers options asks.
       events = events i;
       json = json i;
       summary = summary i;
+      follow = follow i;
+      window = window i;
+      idle = idle i;
       no_progress = no_progress i;
       color = color i;
     })
