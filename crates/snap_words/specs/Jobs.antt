@@ -28,7 +28,8 @@ pub record IsOneForm (options : Options) : Type 0 where
   pub sums : options.summary ≡ true → (options.quiet ≡ false) × (options.json ≡ false)
   pub windows : options.follow ≡ true → (options.quiet ≡ false) × (options.json ≡ false) × (options.summary ≡ false)
 
--- a window ends from so many events on as a history can have; where windows are judged, as this one may have
+-- the number of events from which on a window ends is a limit; of a recording that is judged while it grows, no more than a history
+-- may have
 abbrev pub IsWindow : Options → Type 0
 IsWindow options = IsLimit options.window × (options.follow ≡ true → options.window ≤ options.events)
 
@@ -50,7 +51,7 @@ IsCheckWith pieces workers options (Explain drawn within) = ⊥
 IsCheckWith pieces workers options (Draw form within) = ⊥
 IsCheckWith pieces workers options (Record w rounds judge scan stamped) = ⊥
 
--- the whole report, of any number of completed views, within the usual limit of events; the usual windows, if a recording were followed
+-- the whole report, of any number of completed views, within the usual limit of events; nothing is judged while it grows
 abbrev pub no_options : Options
 no_options = record { quiet = false; views = 0; events = event_limit; json = false; summary = false; follow = false; window = 1000; idle = 0; no_progress = false; color = Auto }
 
