@@ -7,7 +7,7 @@ use Rattle.snap_core.specs.declared.event.Event.{Event}
 use Rattle.snap_core.specs.Events.{process_of, events_of, IsHistory}
 use Rattle.snap_core.specs.Calls.{Call, calls_of}
 use Rattle.snap_core.proofs.Lists.{In, Contains-from_In, any_from, any_to}
-use Rattle.snap_core.proofs.Begun.{Compared, alike, first, second, compare_splits, Next, nothing, found, next, Begun, begun, begins, call_at, no_event}
+use Rattle.snap_core.proofs.Begun.{Compared, alike, first, second, compare_splits, Next, nothing, found, next, Begun, begins, call_at, no_event}
 use Rattle.snap_core.proofs.Histories.{begun_of, are_calls}
 use Rattle.snap_theory.specs.Kept.{ends_at, is_place_of}
 use Rattle.snap_theory.specs.Choices.{IsChoice, AreChosen}

@@ -79,7 +79,7 @@ moved_update : (n m : ℕ) (c : Call) → is_update (moved n m c) ≡ is_update 
 unfolding is_update
 moved_update n m c = refl
 
-moved_completed : (n m : ℕ) (c : Call) → is_completed (moved n m c) ≡ is_completed c
+pub moved_completed : (n m : ℕ) (c : Call) → is_completed (moved n m c) ≡ is_completed c
 unfolding is_completed
 moved_completed n m c = go c.ended
   where

@@ -1,6 +1,6 @@
 -- A window that ends.
 use Rattle.std.proofs.Common.{◌≡◌, ◌↔◌, ℕ, ◌<◌, Bool, true, false, not, cond, ◌&&◌, List, [], ◌∷◌, ◌++◌, append-nil, map, length, refl, sym, ap, ◌∙◌, subst, inl, inr, arith}
-use Rattle.std.specs.Prelude.{IsTrue, is_some, Option, Some, None}
+use Rattle.std.specs.Prelude.{IsTrue}
 use Rattle.std.specs.List.{All, count_by}
 use Rattle.std.proofs.lemmas.Bool.{false≢true, and_parts, and_from, not-true, not-false, not_from_true}
 use Rattle.std.proofs.lemmas.List.Elements.{All-append, All-contains}
@@ -20,7 +20,7 @@ use Rattle.snap_theory.specs.Renumbered.{ShowsNoLess, renumbered}
 use Rattle.snap_theory.specs.Windows.{IsAtomicFrom, IsQuiet, IsRegularFrom, left_by}
 use Rattle.snap_theory.proofs.GoingOn.{histories_join, well_formed_before}
 use Rattle.snap_theory.proofs.Joined.{atomic_joins, back_moved, regular_joins}
-use Rattle.snap_theory.proofs.Moved.{moved, shifted}
+use Rattle.snap_theory.proofs.Moved.{moved, moved_completed}
 use Rattle.snap_theory.proofs.OrderLaws.{atomic_exactly}
 use Rattle.snap_theory.proofs.Orders.{All-from_In}
 use Rattle.snap_theory.proofs.Renumbered.{call_by, calls_by, image_by}
@@ -30,17 +30,6 @@ use Rattle.snap_windows.specs.declared.judge.WindowJudge.{WindowJudge}
 use Rattle.snap_windows.specs.inside.Last.{HasLast}
 use Rattle.snap_windows.specs.Taken.{HasTaken}
 use Rattle.snap_windows.proofs.Ends.{shows_by_events}
-
-moved_completed : (n m : ℕ) (c : Call) → is_completed (moved n m c) ≡ is_completed c
-unfolding is_completed
-moved_completed n m c = go c.ended
-  where
-    go : (o : Option ℕ) → is_some (shifted m o) ≡ is_some o
-    go None = refl
-    go (Some e) = refl
-
-pub both_are : (a b : Bool) → IsTrue (a && b) ↔ (IsTrue a × IsTrue b)
-both_are a b = (λ t. and_parts a b t, λ p. and_from a b p.0 p.1)
 
 -- a window has an open call where the whole has one
 
