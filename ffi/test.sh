@@ -100,6 +100,11 @@ windows() {
   (cd python && SNAPJUDGE_LIBRARY=$build/libsnapjudge.so python3 -B -m unittest -q test_follow)
 }
 
+# the same windows by the program
+program_windows() {
+  (cd python && SNAPJUDGE_PROGRAM=$1 SNAPJUDGE_LIBRARY=$build/libsnapjudge.so python3 -B -m unittest -q test_follow_program)
+}
+
 # what pip makes of the folder, without a network
 installed() {
   rm -rf "$build/installed"
@@ -127,6 +132,11 @@ if [ "$failed" = 0 ]; then
   if has python3 "Python"; then
     try "Python" python
     try "windows in Python" windows
+    if [ -x ../built/snapjudge ]; then
+      try "windows by the program" program_windows "$(realpath ../built/snapjudge)"
+    else
+      skip "windows by the program" built/snapjudge
+    fi
     has_pip && try "Python by pip" installed
     if with_dask=$(dask); then
       try "many recordings in Python" many "$with_dask"

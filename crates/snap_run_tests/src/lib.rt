@@ -13,6 +13,8 @@ mod explaining;
 #[cfg(test)]
 mod files;
 #[cfg(test)]
+mod following;
+#[cfg(test)]
 mod jobs;
 #[cfg(test)]
 mod limits;
