@@ -154,6 +154,42 @@ fn take_line<W: Write>(
     Ok(true)
 }
 
+// Refuses the record behind those that were read, where it has begun with more bytes than a record may have. Whether the recording is
+// followed further.
+fn has_end<W: Write>(
+    alloc: Global,
+    follow: &Follow,
+    sums: &mut Sums,
+    writer: &mut Counted<W>,
+    line: &[u8],
+) -> Result<bool, FollowFault> {
+    if line.len() <= RECORD_LIMIT {
+        return Ok(true);
+    }
+    let record = follow.records().saturating_add(1);
+    refuse(alloc, sums, writer, record, TextFault::TooLong)?;
+    Ok(false)
+}
+
+// Takes the line that begins with a rest and ends with these bytes. Whether the recording is followed further.
+fn take_joined<W: Write>(
+    alloc: Global,
+    follow: &mut Follow,
+    sums: &mut Sums,
+    writer: &mut Counted<W>,
+    rest: &mut Vec<u8>,
+    bytes: &[u8],
+) -> Result<bool, FollowFault> {
+    if rest.is_empty() {
+        return take_line(alloc, follow, sums, writer, bytes);
+    }
+    rest.extend_from_slice(bytes)?;
+    let goes_on = has_end(alloc, follow, sums, writer, rest)?
+        && take_line(alloc, follow, sums, writer, rest)?;
+    rest.clear();
+    Ok(goes_on)
+}
+
 // Takes the lines of a piece. The begin of a line without an end is kept in the rest. Whether the recording is followed further.
 fn take_piece<W: Write>(
     alloc: Global,
@@ -168,26 +204,13 @@ fn take_piece<W: Write>(
         let Some(at) = memchr2(b'\n', b'\r', &piece[from..]) else {
             break;
         };
-        let goes_on = if rest.is_empty() {
-            take_line(alloc, follow, sums, writer, &piece[from..from + at])?
-        } else {
-            rest.extend_from_slice(&piece[from..from + at])?;
-            let goes_on = take_line(alloc, follow, sums, writer, rest)?;
-            rest.clear();
-            goes_on
-        };
-        if !goes_on {
+        if !take_joined(alloc, follow, sums, writer, rest, &piece[from..from + at])? {
             return Ok(false);
         }
         from += at + 1;
     }
     rest.extend_from_slice(&piece[from..])?;
-    if rest.len() > RECORD_LIMIT {
-        let record = follow.records().saturating_add(1);
-        refuse(alloc, sums, writer, record, TextFault::TooLong)?;
-        return Ok(false);
-    }
-    Ok(true)
+    has_end(alloc, follow, sums, writer, rest)
 }
 
 // Ends the last window, and writes the sums.

@@ -27,7 +27,7 @@ use Rattle.snap_theory.proofs.Renumbered.{call_by, calls_by, image_by}
 use Rattle.snap_theory.proofs.Splits.{all_completed, calls_split}
 use Rattle.snap_theory.proofs.Windows.{atomic_is_renumbered, regular_is_renumbered}
 use Rattle.snap_windows.specs.declared.judge.WindowJudge.{WindowJudge}
-use Rattle.snap_windows.specs.inside.Last.{HasLast}
+use Rattle.snap_windows.specs.Last.{HasLast}
 use Rattle.snap_windows.specs.Taken.{HasTaken}
 use Rattle.snap_windows.proofs.Ends.{shows_by_events}
 

@@ -13,7 +13,7 @@ use Rattle.snap_core.specs.Refusals.{has_other_writer, is_by_other}
 use Rattle.snap_core.proofs.Lists.{In, Contains-from_In, any_from, any_to}
 use Rattle.snap_theory.specs.Windows.{left_by}
 use Rattle.snap_windows.specs.declared.last.Wrote.{Wrote}
-use Rattle.snap_windows.specs.inside.Last.{HasLast, HasLeft, entry_in, last_update, wrote_by}
+use Rattle.snap_windows.specs.Last.{HasLast, HasLeft, entry_in, last_update, wrote_by}
 
 entry_cond : (b : Bool) (w : Wrote) (o : Option Wrote) → cond b (Some w.entry) (entry_in o) ≡ entry_in (cond b (Some w) o)
 entry_cond true w o = refl

@@ -17,7 +17,7 @@ use Rattle.snap_theory.proofs.Orders.{All-from_In}
 use Rattle.snap_theory.proofs.Sides.{history_front}
 use Rattle.snap_windows.specs.declared.judge.WindowJudge.{WindowJudge}
 use Rattle.snap_windows.specs.declared.last.Wrote.{Wrote}
-use Rattle.snap_windows.specs.inside.Last.{HasLast, HasLeft}
+use Rattle.snap_windows.specs.Last.{HasLast, HasLeft}
 use Rattle.snap_windows.specs.Missed.{EventShowsNoLess}
 use Rattle.snap_windows.specs.Taken.{HasTaken}
 use Rattle.snap_windows.proofs.Left.{left_is_last}

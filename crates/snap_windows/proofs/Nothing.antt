@@ -10,7 +10,7 @@ use Rattle.snap_core.proofs.Lists.{In-from_Contains}
 use Rattle.snap_core.proofs.Pushes.{history_nil}
 use Rattle.snap_theory.specs.Windows.{IsQuiet}
 use Rattle.snap_windows.specs.declared.last.Wrote.{Wrote}
-use Rattle.snap_windows.specs.inside.Last.{HasLast}
+use Rattle.snap_windows.specs.Last.{HasLast}
 use Rattle.snap_windows.specs.Taken.{HasTaken}
 use Rattle.std.specs.Prelude.{Option}
 

@@ -10,7 +10,7 @@ use Rattle.snap_core.proofs.Lists.{In, any_from}
 use Rattle.snap_core.proofs.Members.{In-find}
 use Rattle.snap_windows.specs.declared.last.Wrote.{Wrote}
 use Rattle.snap_windows.specs.Missed.{ShowsAt}
-use Rattle.snap_windows.specs.inside.Last.{HasLeft, entry_in}
+use Rattle.snap_windows.specs.Last.{HasLeft, entry_in}
 
 same_entry : (d e : Entry) → d.component ≡ e.component → d.number ≡ e.number → d.value ≡ e.value → d ≡ e
 same_entry d e c n v =

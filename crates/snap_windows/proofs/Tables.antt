@@ -7,7 +7,7 @@ use Rattle.snap_core.specs.declared.entry.Entry.{Entry}
 use Rattle.snap_core.specs.declared.event.Event.{Event}
 use Rattle.snap_core.specs.declared.event.Event.TheVariants.{BeginUpdate, BeginView, EndUpdate, EndView}
 use Rattle.snap_windows.specs.declared.last.Wrote.{Wrote}
-use Rattle.snap_windows.specs.inside.Last.{wrote_by, last_update, HasLast}
+use Rattle.snap_windows.specs.Last.{wrote_by, last_update, HasLast}
 
 -- a table of nothing
 

@@ -1,3 +1,4 @@
+pub mod Last
 pub mod Missed
 pub mod Taken
 pub mod Verdicts

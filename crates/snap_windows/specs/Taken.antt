@@ -8,7 +8,7 @@ use Rattle.snap_core.specs.Regular.{IsRegular}
 use Rattle.snap_theory.specs.Renumbered.{renumbered}
 use Rattle.snap_theory.specs.Windows.{IsQuiet, left_by}
 use Rattle.snap_windows.specs.declared.judge.WindowJudge.{WindowJudge}
-use Rattle.snap_windows.specs.inside.Last.{HasLast}
+use Rattle.snap_windows.specs.Last.{HasLast}
 use Rattle.snap_windows.specs.Missed.{EventShowsNoLess}
 
 -- the events of the windows that have ended, and those since. They are a history, and no call was open at the cut

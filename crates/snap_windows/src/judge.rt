@@ -11,7 +11,7 @@ ghost use Rattle.snap_theory.specs.Windows.{IsQuiet, left_by};
 ghost use Rattle.snap_windows.specs.Missed.{EventMisses, EventShowsNoLess};
 ghost use Rattle.snap_windows.specs.Taken.{HasTaken};
 ghost use Rattle.snap_windows.specs.Verdicts.{IsVerdict};
-ghost use Rattle.snap_windows.specs.inside.Last.{HasLast};
+ghost use Rattle.snap_windows.specs.Last.{HasLast};
 ghost use Rattle.snap_windows.specs.inside.Refused.{first_refusal};
 
 use crate::last::{Wrote, none, note};

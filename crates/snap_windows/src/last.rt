@@ -1,7 +1,7 @@
 //! The last update of each component.
 ghost use Rattle.std.specs.Prelude.{◌≡◌, ◌∷◌, [], ◌++◌, List, ℕ, Option};
 ghost use Rattle.snap_core.specs.declared.event.Event.{Event};
-ghost use Rattle.snap_windows.specs.inside.Last.{HasLast};
+ghost use Rattle.snap_windows.specs.Last.{HasLast};
 
 use snap_core::{COMPONENT_COUNT, Entry, Event};
 

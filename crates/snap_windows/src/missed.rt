@@ -2,7 +2,7 @@
 ghost use Rattle.std.specs.Prelude.{◌≡◌, ◌↔◌, ◌<◌, ◌⊎◌, ℕ, Option, Some, IsTrue, MatchOption};
 ghost use Rattle.snap_core.specs.declared.entry.Entry.{Entry};
 ghost use Rattle.snap_core.specs.Entries.{AreEntries, entry_of, number_in};
-ghost use Rattle.snap_windows.specs.inside.Last.{HasLeft};
+ghost use Rattle.snap_windows.specs.Last.{HasLeft};
 ghost use Rattle.snap_windows.specs.Missed.{EventMisses, EventShowsNoLess, Misses, ShowsNoLess};
 
 use crate::last::Wrote;

@@ -3,7 +3,7 @@ ghost use Rattle.std.specs.Prelude.{◌≡◌, ◌-◌, ℕ, Option, IfOk};
 ghost use Rattle.snap_core.specs.declared.entry.Entry.{Entry};
 ghost use Rattle.snap_core.specs.Entries.{AreEntries, number_in};
 ghost use Rattle.snap_theory.specs.Renumbered.{is_later, renumbered_entries, renumbered_entry, renumbered_event};
-ghost use Rattle.snap_windows.specs.inside.Last.{HasLeft};
+ghost use Rattle.snap_windows.specs.Last.{HasLeft};
 
 use crate::last::Wrote;
 use snap_core::{COMPONENT_COUNT, Entry, Event, View};

@@ -1,6 +1,6 @@
 use Rattle.std.proofs.Common.{ℕ, ◌<◌, Option}
 use Rattle.snap_core.specs.declared.entry.Entry.{Entry}
-use Rattle.snap_windows.specs.inside.Last.{HasLeft}
+use Rattle.snap_windows.specs.Last.{HasLeft}
 use Rattle.snap_windows.specs.Missed.{ShowsAt}
 use Rattle.snap_windows.proofs.missed.missed.Given as goal
 
