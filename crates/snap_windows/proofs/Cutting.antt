@@ -31,6 +31,9 @@ use Rattle.snap_windows.specs.Last.{HasLast}
 use Rattle.snap_windows.specs.Taken.{HasTaken}
 use Rattle.snap_windows.proofs.Ends.{shows_by_events}
 
+pub both_are : (a b : Bool) → IsTrue (a && b) ↔ (IsTrue a × IsTrue b)
+both_are a b = (λ t. and_parts a b t, λ p. and_from a b p.0 p.1)
+
 -- a window has an open call where the whole has one
 
 completed_unless : (c : Call) → is_pending c ≡ false → is_completed c ≡ true
