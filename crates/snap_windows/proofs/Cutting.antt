@@ -1,12 +1,12 @@
 -- A window that ends.
-use Rattle.std.proofs.Common.{◌≡◌, ◌↔◌, ℕ, ◌<◌, Bool, true, false, not, cond, ◌&&◌, List, [], ◌∷◌, ◌++◌, append-nil, map, length, refl, sym, ap, ◌∙◌, subst, inl, inr, arith}
+use Rattle.std.proofs.Common.{◌≡◌, ◌↔◌, ℕ, Bool, true, false, cond, ◌&&◌, List, [], ◌∷◌, ◌++◌, append-nil, map, length, refl, sym, ap, ◌∙◌, subst, inl, inr, arith}
 use Rattle.std.specs.Prelude.{IsTrue}
 use Rattle.std.specs.List.{All, count_by}
-use Rattle.std.proofs.lemmas.Bool.{false≢true, and_parts, and_from, not-true, not-false, not_from_true}
+use Rattle.std.proofs.lemmas.Bool.{and_parts, and_from, not-false, not_from_true}
 use Rattle.std.proofs.lemmas.List.Elements.{All-append, All-contains}
 use Rattle.snap_core.specs.declared.event.Event.{Event}
 use Rattle.snap_core.specs.Calls.{Call, calls_of, views_of}
-use Rattle.snap_core.specs.Events.{IsHistory, IsBoundedHistory, EventFits}
+use Rattle.snap_core.specs.Events.{IsHistory, IsBoundedHistory}
 use Rattle.snap_core.specs.Orders.{IsAtomic, is_completed}
 use Rattle.snap_core.specs.Regular.{IsRegular}
 use Rattle.snap_core.proofs.Begun.{begins}
@@ -24,7 +24,7 @@ use Rattle.snap_theory.proofs.Moved.{moved, moved_completed}
 use Rattle.snap_theory.proofs.OrderLaws.{atomic_exactly}
 use Rattle.snap_theory.proofs.Orders.{All-from_In}
 use Rattle.snap_theory.proofs.Renumbered.{call_by, calls_by, image_by}
-use Rattle.snap_theory.proofs.Splits.{all_completed, calls_split}
+use Rattle.snap_theory.proofs.Splits.{calls_split}
 use Rattle.snap_theory.proofs.Windows.{atomic_is_renumbered, regular_is_renumbered}
 use Rattle.snap_windows.specs.declared.judge.WindowJudge.{WindowJudge}
 use Rattle.snap_windows.specs.Last.{HasLast}

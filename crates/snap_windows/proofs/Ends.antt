@@ -1,18 +1,18 @@
 -- The events that end views, and the completed views that they end.
-use Rattle.std.proofs.Common.{◌≡◌, ◌⊎◌, ◌↔◌, ℕ, suc, ◌<◌, Bool, true, false, cond, List, [], ◌∷◌, ◌++◌, Option, Some, None, refl, sym, ap, ◌∙◌, subst, inl, inr, arith}
-use Rattle.std.specs.Prelude.{◌==◌, is_some}
-use Rattle.std.specs.List.{All, Contains}
-use Rattle.std.proofs.lemmas.Bool.{eqb-true, eq-eqb, ne_eqb, false≢true}
+use Rattle.std.proofs.Common.{◌≡◌, ◌⊎◌, ◌↔◌, ℕ, suc, ◌<◌, Bool, true, false, cond, List, [], ◌∷◌, ◌++◌, Option, Some, None, refl, sym, ap, ◌∙◌, subst, inl, inr}
+use Rattle.std.specs.Prelude.{◌==◌}
+use Rattle.std.specs.List.{All}
+use Rattle.std.proofs.lemmas.Bool.{eqb-true, eq-eqb, false≢true}
 use Rattle.std.proofs.lemmas.List.Elements.{All-contains}
 use Rattle.snap_core.specs.declared.entry.Entry.{Entry}
 use Rattle.snap_core.specs.declared.event.Event.{Event}
 use Rattle.snap_core.specs.declared.event.Event.TheVariants.{BeginUpdate, BeginView, EndUpdate, EndView}
 use Rattle.snap_core.specs.Entries.{number_in}
 use Rattle.snap_core.specs.Events.{process_of, TakeTurns, events_of, IsWellFormed}
-use Rattle.snap_core.specs.Calls.{Call, Operation, Updates, Views, answer_at, next_answer, calls_from, calls_of, is_answer, is_view, shown, shown_number, entries_of}
+use Rattle.snap_core.specs.Calls.{Call, Operation, Updates, Views, answer_at, next_answer, calls_from, calls_of, is_answer, is_view, shown, shown_number}
 use Rattle.snap_core.specs.Regular.{IsViewOf}
 use Rattle.snap_core.proofs.Lists.{In, In-from_Contains, Contains-from_In, In-append_right}
-use Rattle.snap_core.proofs.Begun.{Begun, begun, operation_at}
+use Rattle.snap_core.proofs.Begun.{begun, operation_at}
 use Rattle.snap_theory.specs.Renumbered.{ShowsNoLess}
 use Rattle.snap_theory.proofs.Orders.{All-from_In}
 use Rattle.snap_windows.specs.Missed.{EventShowsNoLess, ShowsNoLess as shows_entries}

@@ -1,8 +1,8 @@
 -- What a list of events leaves of a component, by its last update.
-use Rattle.std.proofs.Common.{◌≡◌, ◌⊎◌, ℕ, suc, Bool, true, false, cond, not, ◌&&◌, List, [], ◌∷◌, Option, Some, None, refl, sym, ap, ◌∙◌, inl, inr, subst}
+use Rattle.std.proofs.Common.{◌≡◌, ◌⊎◌, ℕ, suc, Bool, true, false, cond, not, List, [], ◌∷◌, Option, Some, None, refl, sym, ap, ◌∙◌, inl, inr}
 use Rattle.std.specs.Prelude.{◌==◌}
 use Rattle.std.specs.List.{list_any}
-use Rattle.std.proofs.lemmas.Bool.{eqb-true, eqb-false, eq-eqb, false≢true, false_from_ne_true, and_parts, and_from, not-true, not_from_true, not_from_false}
+use Rattle.std.proofs.lemmas.Bool.{eqb-true, eqb-false, eq-eqb, false≢true, false_from_ne_true, and_parts, and_from, not-true, not_from_false}
 use Rattle.snap_core.specs.declared.entry.Entry.{Entry}
 use Rattle.snap_core.specs.declared.event.Event.{Event}
 use Rattle.snap_core.specs.declared.event.Event.TheVariants.{BeginUpdate, BeginView, EndUpdate, EndView}
@@ -13,7 +13,7 @@ use Rattle.snap_core.specs.Refusals.{has_other_writer, is_by_other}
 use Rattle.snap_core.proofs.Lists.{In, Contains-from_In, any_from, any_to}
 use Rattle.snap_theory.specs.Windows.{left_by}
 use Rattle.snap_windows.specs.declared.last.Wrote.{Wrote}
-use Rattle.snap_windows.specs.Last.{HasLast, HasLeft, entry_in, last_update, wrote_by}
+use Rattle.snap_windows.specs.Last.{HasLast, HasLeft, entry_in, last_update}
 
 entry_cond : (b : Bool) (w : Wrote) (o : Option Wrote) → cond b (Some w.entry) (entry_in o) ≡ entry_in (cond b (Some w) o)
 entry_cond true w o = refl

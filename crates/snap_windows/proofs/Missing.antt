@@ -1,5 +1,5 @@
 -- A view that misses what was left, and none.
-use Rattle.std.proofs.Common.{◌≡◌, ◌↔◌, ℕ, Bool, true, false, ◌&&◌, List, Option, Some, None, refl, sym, ◌∙◌, not}
+use Rattle.std.proofs.Common.{◌≡◌, ◌↔◌, ℕ, Bool, true, false, ◌&&◌, Option, Some, None, refl, sym, ◌∙◌, not}
 use Rattle.std.specs.Prelude.{IsTrue, MatchOption, is_none, is_some}
 use Rattle.std.proofs.lemmas.Bool.{false≢true, and_parts, and_from}
 use Rattle.snap_core.specs.declared.entry.Entry.{Entry}

@@ -1,16 +1,13 @@
 -- What a judge has taken, with one event more.
-use Rattle.std.proofs.Common.{◌≡◌, ◌↔◌, ◌⊎◌, ℕ, ◌<◌, true, List, [], ◌∷◌, ◌++◌, append_assoc, length, length-append, get_or, refl, sym, ap, ◌∙◌, subst, inl, inr, arith, Option, None, map}
+use Rattle.std.proofs.Common.{◌≡◌, ◌↔◌, ℕ, List, [], ◌∷◌, ◌++◌, append_assoc, refl, sym, ap, ◌∙◌, subst, inl, inr, Option}
 use Rattle.std.specs.Prelude.{Bool, IsTrue}
 use Rattle.std.specs.List.{All}
 use Rattle.std.proofs.lemmas.List.Elements.{All-append, All-contains}
 use Rattle.snap_core.specs.declared.entry.Entry.{Entry}
 use Rattle.snap_core.specs.declared.event.Event.{Event}
-use Rattle.snap_core.specs.Calls.{calls_of}
 use Rattle.snap_core.specs.Events.{EventFits, IsHistory}
-use Rattle.snap_core.specs.Orders.{IsAtomic}
 use Rattle.snap_core.specs.Refusals.{IsAccepted}
-use Rattle.snap_core.specs.Regular.{IsRegular}
-use Rattle.snap_core.proofs.Lists.{In, Contains-from_In, In-append_left, In-append_right}
+use Rattle.snap_core.proofs.Lists.{Contains-from_In, In-append_left, In-append_right}
 use Rattle.snap_theory.specs.Renumbered.{renumbered, renumbered_event}
 use Rattle.snap_theory.specs.Windows.{left_by}
 use Rattle.snap_theory.proofs.Orders.{All-from_In}

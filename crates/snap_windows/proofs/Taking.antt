@@ -1,8 +1,8 @@
 -- A history that goes on behind a quiet moment, by one event.
-use Rattle.std.proofs.Common.{◌≡◌, ◌⊎◌, ℕ, suc, ◌-◌, ◌<◌, Bool, true, false, List, [], ◌∷◌, ◌++◌, append_assoc, map, Option, Some, None, refl, sym, ap, ◌∙◌, inl, inr, subst, arith}
-use Rattle.std.specs.List.{Contains, All, count_by}
-use Rattle.std.proofs.lemmas.Bool.{eqb-true, eq-eqb, not-false, false≢true, false_from_ne_true, not_from_true, not_from_false, and_from}
-use Rattle.std.specs.Prelude.{◌==◌, not}
+use Rattle.std.proofs.Common.{◌≡◌, ◌⊎◌, ℕ, suc, ◌-◌, ◌<◌, Bool, true, false, List, [], ◌∷◌, ◌++◌, Option, refl, sym, ◌∙◌, inl, inr, subst, arith}
+use Rattle.std.specs.List.{Contains, count_by}
+use Rattle.std.proofs.lemmas.Bool.{eqb-true, eq-eqb, not-false, false≢true, false_from_ne_true, not_from_false, and_from}
+use Rattle.std.specs.Prelude.{◌==◌}
 use Rattle.std.proofs.lemmas.List.{map-append}
 use Rattle.snap_core.specs.declared.entry.Entry.{Entry}
 use Rattle.snap_core.specs.declared.event.Event.{Event}
@@ -10,10 +10,10 @@ use Rattle.snap_core.specs.declared.event.Event.TheVariants.{BeginUpdate, BeginV
 use Rattle.snap_core.specs.Entries.{number_in}
 use Rattle.snap_core.specs.Events.{IsHistory, begins_update_of}
 use Rattle.snap_core.specs.Refusals.{IsAccepted, has_other_writer, is_by_other}
-use Rattle.snap_core.proofs.Lists.{In, In-from_Contains, Contains-from_In, In-append_left, In-append_right, In-append_cases, any_from}
+use Rattle.snap_core.proofs.Lists.{In, In-from_Contains, Contains-from_In, In-append_right, In-append_cases, any_from}
 use Rattle.snap_core.proofs.Pushes.{history_push, history_back}
 use Rattle.snap_theory.specs.Windows.{IsQuiet, left_by}
-use Rattle.snap_theory.specs.Renumbered.{renumbered, renumbered_entry, renumbered_event}
+use Rattle.snap_theory.specs.Renumbered.{renumbered, renumbered_event}
 use Rattle.snap_theory.specs.WindowLaws.{GoesOn}
 use Rattle.snap_theory.proofs.GoingOn.{histories_join}
 use Rattle.snap_windows.proofs.Left.{by_other}

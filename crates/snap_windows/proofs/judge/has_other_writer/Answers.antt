@@ -1,5 +1,4 @@
-use Rattle.std.proofs.Common.{◌≡◌, ◌∙◌, None, Some, sym, ap, slice_index_or, rules}
-use Rattle.snap_windows.specs.Last.{last_update}
+use Rattle.std.proofs.Common.{◌∙◌, None, sym, ap, slice_index_or}
 use Rattle.snap_windows.proofs.Left.{writer_none, writer_some}
 use Rattle.snap_windows.proofs.judge.has_other_writer.Goals as goal
 

@@ -1,6 +1,4 @@
-use Rattle.std.proofs.Common.{◌≡◌, ℕ, ◌<◌, ◌++◌, ◌∷◌, [], Some, List, slice_set, sym, ap, subst, arith, refl}
-use Rattle.snap_core.specs.declared.event.Event.{Event}
-use Rattle.snap_windows.specs.Last.{HasLast}
+use Rattle.std.proofs.Common.{arith}
 use Rattle.snap_windows.proofs.Tables.{noted, not_noted}
 use Rattle.snap_windows.proofs.last.note.Goals as goal
 

@@ -1,8 +1,7 @@
-use Rattle.std.proofs.Common.{◌≡◌, ◌∙◌, ℕ, ◌<◌, ◌≤◌, List, Option, Some, None, refl, sym, subst, ap, arith, inl, inr, slice_index_or}
+use Rattle.std.proofs.Common.{◌≡◌, ◌∙◌, Option, Some, None, refl, sym, subst, ap, arith, inl, inr, slice_index_or}
 use Rattle.std.proofs.lemmas.Bool.{cases_lt, false≢true}
-use Rattle.snap_core.specs.declared.entry.Entry.{Entry}
 use Rattle.snap_windows.specs.declared.last.Wrote.{Wrote}
-use Rattle.snap_windows.specs.Last.{HasLeft, entry_in}
+use Rattle.snap_windows.specs.Last.{entry_in}
 use Rattle.snap_windows.specs.Missed.{ShowsAt}
 use Rattle.snap_windows.proofs.Shown.{shown_of_left, shown_of_nothing, left_is_shown, nothing_left}
 use Rattle.snap_windows.proofs.missed.missed.Goals.{in-Some+else-not-shows, in_default}

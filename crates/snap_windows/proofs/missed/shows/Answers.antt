@@ -1,7 +1,5 @@
-use Rattle.std.proofs.Common.{◌≡◌, ◌⊎◌, ◌∙◌, ◌<◌, ℕ, inl, inr, sym, arith, nat_eq, ◌&&◌, true, Bool}
+use Rattle.std.proofs.Common.{◌≡◌, ◌∙◌, ◌<◌, inl, inr, sym, arith, nat_eq, ◌&&◌}
 use Rattle.std.proofs.lemmas.Bool.{and_parts, and_from, eqb-true, eq-eqb, ltb-true}
-use Rattle.snap_core.specs.declared.entry.Entry.{Entry}
-use Rattle.snap_core.specs.Entries.{entry_of, number_in, value_in}
 use Rattle.snap_windows.proofs.Shown.{shown_is, shown_as}
 use Rattle.snap_windows.proofs.missed.shows.Goals as goal
 

@@ -1,8 +1,7 @@
-use Rattle.std.proofs.Common.{◌≡◌, ◌∙◌, ◌++◌, ◌∷◌, [], ◌<◌, ◌≤◌, ℕ, Option, length, take, true, false, cond, sym, ap, rules, arith, slice_index_or}
+use Rattle.std.proofs.Common.{◌≡◌, ◌∙◌, ◌++◌, ◌∷◌, [], ◌<◌, ◌≤◌, take, sym, ap, rules, arith, slice_index_or}
 use Rattle.std.proofs.lemmas.List.{take_more, take_all}
 use Rattle.snap_core.specs.declared.entry.Entry.{Entry}
-use Rattle.snap_theory.specs.Renumbered.{is_later, renumbered_entries, renumbered_entry}
-use Rattle.snap_windows.specs.Last.{HasLeft}
+use Rattle.snap_theory.specs.Renumbered.{renumbered_entries, renumbered_entry}
 use Rattle.snap_windows.proofs.Numbers.{pushed_later, pushed_other}
 use Rattle.snap_windows.proofs.renumber.renumbered_entries.Goals.{then-renumbered-gt0+in_ok-push, else-renumbered-gt0}
 use Rattle.snap_windows.proofs.renumber.renumbered_entries.Goals as goal

@@ -1,8 +1,8 @@
-use Rattle.std.proofs.Common.{◌≡◌, ◌∙◌, ℕ, Option, None, Some, sym, ap, refl, rules, slice_index_or}
+use Rattle.std.proofs.Common.{◌≡◌, ◌∙◌, ℕ, Option, None, ap, refl, rules, slice_index_or}
 use Rattle.snap_core.specs.declared.entry.Entry.{Entry}
-use Rattle.snap_core.specs.Entries.{view_refusal, AreEntries}
+use Rattle.snap_core.specs.Entries.{view_refusal}
 use Rattle.snap_theory.specs.Renumbered.{renumbered_entries}
-use Rattle.snap_windows.specs.Last.{HasLeft, entry_in}
+use Rattle.snap_windows.specs.Last.{entry_in}
 use Rattle.snap_windows.proofs.Numbers.{view_accepted}
 use Rattle.snap_windows.proofs.renumber.renumbered_view.Goals as goal
 

@@ -1,5 +1,5 @@
-use Rattle.std.proofs.Common.{◌≡◌, ◌∙◌, ◌++◌, sym, true}
-use Rattle.std.proofs.lemmas.Bool.{false≢true, not-false}
+use Rattle.std.proofs.Common.{◌∙◌, sym}
+use Rattle.std.proofs.lemmas.Bool.{false≢true}
 use Rattle.snap_windows.proofs.Cutting.{atomic_whole, both_are, cut_taken, regular_whole}
 use Rattle.snap_windows.proofs.judge.WindowJudge.cut.Goals as goal
 

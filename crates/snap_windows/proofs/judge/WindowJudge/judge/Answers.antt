@@ -1,11 +1,10 @@
-use Rattle.std.proofs.Common.{◌≡◌, ◌∙◌, ◌↔◌, List, nat_eq, sym, subst, ap}
+use Rattle.std.proofs.Common.{◌∙◌, ◌↔◌, sym, subst, ap}
 use Rattle.std.specs.Prelude.{IsTrue}
 use Rattle.std.proofs.lemmas.Bool.{eqb-true, eq-eqb}
 use Rattle.snap_core.specs.Calls.{calls_of, views_of}
 use Rattle.std.specs.List.{count_by}
 use Rattle.snap_index.specs.Updates.{is_pending}
 use Rattle.snap_conditions.specs.Tally.{CountsNoFault, CountsNoLocalFault, tally_of}
-use Rattle.snap_windows.specs.Verdicts.{IsVerdict}
 use Rattle.snap_windows.proofs.Cutting.{atomic_window, both_are, quiet_by_window, regular_window}
 use Rattle.snap_windows.proofs.judge.WindowJudge.judge.Goals as goal
 

@@ -1,15 +1,9 @@
-use Rattle.std.specs.Prelude.{IsTrue}
-use Rattle.std.proofs.Common.{◌≡◌, ◌↔◌, ◌&&◌, ◌∙◌, ◌⊎◌, ◌≤◌, ◌++◌, ◌∷◌, [], ℕ, Option, None, Some, List, length, sym, ap, refl, inl, inr, subst, rules, arith}
-use Rattle.std.proofs.lemmas.Bool.{false≢true}
+use Rattle.std.proofs.Common.{◌≡◌, ◌∙◌, ◌++◌, ◌∷◌, [], Option, None, Some, length, sym, ap, refl, inl, inr, rules, arith}
 use Rattle.std.proofs.lemmas.List.{length-map}
-use Rattle.snap_core.specs.declared.event.Event.{Event}
 use Rattle.snap_core.specs.declared.history.EventRefusal.{EventRefusal}
 use Rattle.snap_core.specs.Refusals.{IsAccepted}
 use Rattle.snap_theory.specs.Windows.{left_by}
-use Rattle.snap_theory.specs.Renumbered.{renumbered, renumbered_event}
-use Rattle.snap_windows.specs.Taken.{HasTaken}
-use Rattle.snap_windows.specs.Missed.{EventShowsNoLess}
-use Rattle.snap_windows.specs.inside.Refused.{first_refusal}
+use Rattle.snap_theory.specs.Renumbered.{renumbered_event}
 use Rattle.snap_windows.proofs.Left.{left_is_last}
 use Rattle.snap_windows.proofs.Missing.{shows_on}
 use Rattle.snap_windows.proofs.More.{history_of, known, more}
