@@ -23,7 +23,7 @@ fn run_fault(fault: FollowFault) -> RunFault {
 // How long a recording is followed: standard input to its end, and a file until nothing has come for so many seconds.
 fn until_of(files: &[Vec<u8>], asked: Options) -> Until {
     match files.first() {
-        Some(name) if *name != b"-".as_slice() => {
+        Some(name) if name.as_slice() != b"-".as_slice() => {
             if asked.idle == 0 {
                 Until::Ever
             } else {
