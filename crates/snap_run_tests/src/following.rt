@@ -12,6 +12,7 @@ use std::test::Fail;
 use std::time::{Clock, Duration};
 
 // Counts how often somebody sleeps, and lets nobody wait.
+#[derive(Drop)]
 struct Naps {
     taken: AtomicU32,
 }
@@ -59,7 +60,7 @@ fn end_of(answer: &Result<Followed, FollowFault>) -> (&'static str, Option<u8>) 
     }
 }
 
-fn followed<Rt: Wait, R: Read>(
+fn followed<Rt: Wait, R: Read + Drop>(
     rt: &Rt,
     alloc: Global,
     reader: R,
