@@ -95,8 +95,12 @@ fn pieces_of(alloc: Global, lines: &[u8], workers: usize) -> Result<Vec<Piece>, 
     Ok(pieces)
 }
 
-// The event of the first line of a text, and the lines behind it, where that line has no fault by itself and memory serves.
-fn event_first<'t>(alloc: Global, known: &mut Known, text: &'t [u8]) -> Option<(Event, &'t [u8])>
+/// The event of the first line of a text, and the lines behind it, where that line has no fault by itself and memory serves.
+pub(crate) fn event_first<'t>(
+    alloc: Global,
+    known: &mut Known,
+    text: &'t [u8],
+) -> Option<(Event, &'t [u8])>
     ensures { IfSome result (λ x. BeginsLine x.0 x.1.now text.now) }
 {
     let line = behind_newlines(text);

@@ -195,8 +195,8 @@ fn five_first(text: &[u8]) -> Option<((&[u8], &[u8], &[u8], &[u8], &[u8]), &[u8]
     Some(((at, event, process, op, data), rest))
 }
 
-// A text behind the byte order mark at its front, which is no part of its records.
-fn behind_order_mark(text: &[u8]) -> &[u8]
+/// A text behind the byte order mark at its front, which is no part of its records.
+pub(crate) fn behind_order_mark(text: &[u8]) -> &[u8]
     ensures { result.now ≡ strip_bom text.now }
 {
     if text.starts_with(ORDER_MARK) {
