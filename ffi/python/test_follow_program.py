@@ -1,6 +1,6 @@
 """`snapjudge check --follow` beside this module: both write the same lines for the same recordings.
 
-The judge of windows of the program is proved, and the cutting of the module is not. The two share no line of code.
+The judge of windows of the program is proved, and the cutting of the module is not. The two share what judges a window, and no cutting.
 """
 import io
 import os
