@@ -12,12 +12,13 @@ use Rattle.snap_verdict.specs.Statuses.{code_of}
 use Rattle.snap_json.specs.Objects.{trouble_json}
 use Rattle.snap_json.specs.Values.{IsLineOf}
 use Rattle.snap_tell.specs.Telling.{IsTold}
-use Rattle.snap_files.specs.Names.{named_lines, reason_line_text, shown}
+use Rattle.snap_files.specs.Names.{named_lines, reason_line_text}
+use Rattle.snap_names.specs.Shown.{shown}
 use Rattle.snap_files.specs.declared.format.FileOptions.{FileOptions}
 use Rattle.snap_files.specs.declared.format.Format.{Format}
 use Rattle.snap_files.specs.declared.format.Format.TheVariants.{Plain, Json}
-use Rattle.snap_files.specs.declared.opener.Trouble.{Trouble}
-use Rattle.snap_files.specs.declared.opener.Trouble.TheVariants.{Missing, Folder, NotUnicode, Unopened, Unread, Memory}
+use Rattle.snap_names.specs.declared.opener.Trouble.{Trouble}
+use Rattle.snap_names.specs.declared.opener.Trouble.TheVariants.{Missing, Folder, NotUnicode, Unopened, Unread, Memory}
 
 -- what became of a name: its status, none where its history has fewer views than are asked for, or why it has none
 abbrev pub Answer : Type 0

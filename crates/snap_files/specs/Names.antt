@@ -1,12 +1,6 @@
--- Names, and lines that have a name before them.
-use Rattle.std.specs.Prelude.{◌==◌, ◌++◌, ℕ, Bool, true, if◌then◌else◌, List, [], ◌∷◌, codes, flat_map}
-
--- of a name a line feed is shown as \n, a carriage return as \r, and a backslash as two
-abbrev pub shown_byte : ℕ → List ℕ
-shown_byte b = if b == 10 then 92 ∷ 110 ∷ [] else if b == 13 then 92 ∷ 114 ∷ [] else if b == 92 then 92 ∷ 92 ∷ [] else b ∷ []
-
-abbrev pub shown : List ℕ → List ℕ
-shown name = flat_map shown_byte name
+-- Lines that have a name before them.
+use Rattle.std.specs.Prelude.{◌==◌, ◌++◌, ℕ, Bool, true, if◌then◌else◌, List, [], ◌∷◌, codes}
+use Rattle.snap_names.specs.Shown.{shown}
 
 -- a text with a front before each of its lines: before its first byte, where a line begins there, and before each byte that stands
 -- behind a line feed

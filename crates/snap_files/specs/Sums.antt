@@ -4,7 +4,7 @@ use Rattle.std.specs.Global.{Vec}
 use Rattle.std.specs.Io.KnownBytes.{Appends}
 use Rattle.snap_core.specs.Sending.{SendsFront}
 use Rattle.snap_core.specs.declared.limit.Limit.{Limit}
-use Rattle.snap_files.specs.Names.{shown}
+use Rattle.snap_names.specs.Shown.{shown}
 use Rattle.snap_files.specs.Files.{ArePages, Opens, Page, Told, answer_code, greatest_code, said}
 use Rattle.snap_files.specs.declared.format.FileOptions.{FileOptions}
 use Rattle.snap_files.specs.declared.format.Format.TheVariants.{Plain}

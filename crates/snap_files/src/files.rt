@@ -7,11 +7,11 @@ ghost use Rattle.snap_files.specs.inside.Files.{WritesAll, paged};
 ghost use Rattle.snap_check.specs.Runs.{RunCounts};
 
 use crate::format::FileOptions;
-use crate::opener::Opener;
 use crate::page::{Answer, code_of, told_of};
 use crate::round::{pages_of, round_at};
 use snap_check::RunFault;
 use snap_core::{Counted, Gate};
+use snap_names::Opener;
 use snap_threads::Cutting;
 use std::alloc::Global;
 use std::io::Write;

@@ -4,18 +4,14 @@
 mod files;
 mod format;
 mod name;
-mod opener;
 mod page;
 mod reason;
 mod round;
 mod sum;
 mod sums;
-mod system;
 
 pub use files::check_all;
 pub use format::{FileOptions, Format};
-pub use opener::{Opener, Trouble};
 pub use page::trouble_line;
 pub use reason::reason_line;
 pub use sum::sum_all;
-pub use system::{System, SystemText};

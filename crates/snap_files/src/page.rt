@@ -5,14 +5,14 @@ ghost use Rattle.snap_json.specs.Values.{IsLineOf};
 ghost use Rattle.snap_files.specs.Files.{IsNamedReport, IsObject, IsPage, IsTextPage, IsTroublePage, answer_code, object_name, refusal_line_text, told_text, trouble_line_text, trouble_text};
 ghost use Rattle.snap_files.specs.inside.Files.{trouble_by};
 ghost use Rattle.snap_files.specs.Names.{named_lines};
-ghost use Rattle.snap_files.specs.declared.opener.Trouble.TheVariants as troubles;
+ghost use Rattle.snap_names.specs.declared.opener.Trouble.TheVariants as troubles;
 
 use crate::format::{FileOptions, Format};
-use crate::name::{front_lines, put_shown};
-use crate::opener::{Opener, Trouble};
+use crate::name::front_lines;
 use crate::reason::reason_line;
 use snap_check::{CheckOptions, RunFault, check_run_with};
 use snap_core::{Counted, Gate};
+use snap_names::{Opener, Trouble, put_shown};
 use snap_report::put_number;
 use snap_tell::tell_run;
 use snap_threads::Cutting;

@@ -2,7 +2,7 @@
 ghost use Rattle.std.specs.Prelude.{◌≡◌, IfOk};
 ghost use Rattle.snap_files.specs.Names.{reason_line_text};
 
-use crate::name::put_shown;
+use snap_names::put_shown;
 use std::alloc::{AllocError, Global};
 
 /// The line that says a reason of a name, which need be no text.

@@ -3,9 +3,9 @@ ghost use Rattle.std.specs.Prelude.{◌≡◌, ◌≤◌, ◌<◌, ◌+◌, ◌-
 ghost use Rattle.snap_files.specs.inside.Files.{AreAnswered};
 
 use crate::format::FileOptions;
-use crate::opener::Opener;
 use crate::page::{Answer, check_name};
 use snap_core::Gate;
+use snap_names::Opener;
 use snap_threads::Cutting;
 use std::alloc::{AllocError, Global};
 use std::thread::{Threads, map_chunks};

@@ -8,12 +8,12 @@ ghost use Rattle.snap_files.specs.inside.Sums.{AreSums, Summed};
 ghost use Rattle.snap_files.specs.Sums.{Judged, SumsAll, SumsSome, counting, judged_of};
 
 use crate::format::{FileOptions, Format};
-use crate::opener::Opener;
 use crate::page::{Answer, code_of, told_of};
 use crate::round::{pages_of, round_at};
 use crate::sums::Sums;
 use snap_check::{CheckOptions, RunFault};
 use snap_core::{Counted, Gate, Limit};
+use snap_names::Opener;
 use snap_threads::Cutting;
 use std::alloc::{AllocError, Global};
 use std::io::Write;

@@ -3,7 +3,7 @@ ghost use Rattle.std.specs.Prelude.{◌≡◌, ◌++◌, ◌+◌, ◌<◌, ◌^�
 ghost use Rattle.snap_files.specs.inside.Sums.{AreSums, IsFirst, IsKind, greatest_of};
 ghost use Rattle.snap_files.specs.Sums.{Judged, first_text, has_code, kind_text, sums_text, with_code};
 
-use crate::name::put_shown;
+use snap_names::put_shown;
 use snap_report::put_number;
 use std::alloc::{AllocError, Global};
 

@@ -1,58 +1,55 @@
--- What a recording says with one line more.
-use Rattle.std.proofs.Common.{◌≡◌, ◌⊎◌, ◌↔◌, ℕ, Bool, true, false, List, [], ◌∷◌, ◌++◌, append_assoc, append-nil, map, flat_map, Result, Ok, Err, refl, sym, ap, ◌∙◌, subst, inl, inr}
-use Rattle.std.specs.Prelude.{IsTrue, OnOk}
+-- What a recording says with one line more, or with one text more.
+use Rattle.std.proofs.Common.{◌≡◌, ℕ, true, false, List, [], ◌∷◌, ◌++◌, append_assoc, append-nil, map, flat_map, Result, Ok, Err, refl, sym, ap, ◌∙◌, subst, inl, inr}
+use Rattle.std.specs.Prelude.{OnOk}
 use Rattle.std.proofs.lemmas.Bool.{false≢true}
 use Rattle.std.proofs.lemmas.List.{map-append}
 use Rattle.std.proofs.lemmas.Grind.{flat_map-append}
 use Rattle.snap_core.specs.declared.event.Event.{Event}
 use Rattle.snap_csv.specs.Layout.{is_header_row}
-use Rattle.snap_csv.specs.OneLine.{AnswersHeader}
 use Rattle.snap_csv.specs.Rows.{rows_of}
 use Rattle.snap_text.specs.Fields.{Fields, row_event}
-use Rattle.snap_text.specs.declared.fault.TextFault.{TextFault}
 use Rattle.snap_windows.specs.Taken.{HasTaken}
 use Rattle.snap_follow.specs.declared.follow.Follow.{Follow}
-use Rattle.snap_follow.specs.Followed.{HasRead, ReadsLine, Spells}
+use Rattle.snap_follow.specs.Followed.{AllSpell, EndsText, HasRead, ReadsLine, SaysSoFar, Spells}
 
 rows_more : (lines : List (List ℕ)) (line : List ℕ) → flat_map rows_of (lines ++ line ∷ []) ≡ flat_map rows_of lines ++ rows_of line
 rows_more lines line = flat_map-append rows_of lines (line ∷ []) ∙ ap (λ z. flat_map rows_of lines ++ z) (append-nil (rows_of line))
 
+-- what was read, with another state of the same judge, one line more, and what all lines of the text then say
+with_line : (f g : Follow) (texts : List (List (List ℕ))) (lines : List (List ℕ)) (line : List ℕ) (events more : List Event) (h : HasRead f texts lines events) →
+    HasTaken g.judge h.before (h.since ++ more) → SaysSoFar g (lines ++ line ∷ []) (h.here ++ more) → HasRead g texts (lines ++ line ∷ []) (events ++ more)
+with_line f g texts lines line events more h taken says = record {
+  before = h.before;
+  since = h.since ++ more;
+  taken = taken;
+  windows = ap (λ z. z ++ more) h.windows ∙ append_assoc h.before h.since more;
+  earlier = h.earlier;
+  here = h.here ++ more;
+  parts = ap (λ z. z ++ more) h.parts ∙ append_assoc h.earlier h.here more;
+  texts_say = h.texts_say;
+  lines_say = says;
+}
+
+-- the same judge has taken no event more
+same_judge : (f g : Follow) (before since : List Event) → g.judge ≡ f.judge → HasTaken f.judge before since → HasTaken g.judge before (since ++ [])
+same_judge f g before since same taken = subst (λ z. HasTaken z before (since ++ [])) (sym same) (subst (λ z. HasTaken f.judge before z) (sym (append-nil since)) taken)
+
 -- a line without a record
 pub nothing_more : (f g : Follow) (line : List ℕ) → g.judge ≡ f.judge → g.headed ≡ f.headed → rows_of line ≡ [] → ReadsLine f g line
-nothing_more f g line same headed none lines events h = (
-  [],
-  record {
-    before = h.before;
-    since = h.since;
-    whole = append-nil events ∙ h.whole;
-    taken = subst (λ z. HasTaken z h.before h.since) (sym same) h.taken;
-    says = go h.says;
-  },
-)
+nothing_more f g line same headed none texts lines events h = ([], with_line f g texts lines line events [] h (same_judge f g h.before h.since same h.taken) (go h.lines_say))
   where
     rows : flat_map rows_of (lines ++ line ∷ []) ≡ flat_map rows_of lines
     rows = rows_more lines line ∙ ap (λ z. flat_map rows_of lines ++ z) none ∙ append-nil (flat_map rows_of lines)
 
-    go : ((f.headed ≡ false) × (flat_map rows_of lines ≡ []) × (events ≡ [])) ⊎ ((f.headed ≡ true) × Spells (flat_map rows_of lines) events)
-        → ((g.headed ≡ false) × (flat_map rows_of (lines ++ line ∷ []) ≡ []) × (events ++ [] ≡ [])) ⊎ ((g.headed ≡ true) × Spells (flat_map rows_of (lines ++ line ∷ [])) (events ++ []))
-    go (inl p) = inl (headed ∙ p.0, rows ∙ p.1, append-nil events ∙ p.2)
-    go (inr q) = inr (headed ∙ q.0, record { head = q.1.head; later = q.1.later; whole = rows ∙ q.1.whole; header = q.1.header; spelled = q.1.spelled ∙ ap (map Ok) (sym (append-nil events)) })
+    go : SaysSoFar f lines h.here → SaysSoFar g (lines ++ line ∷ []) (h.here ++ [])
+    go (inl p) = inl (headed ∙ p.0, rows ∙ p.1, append-nil h.here ∙ p.2)
+    go (inr q) = inr (headed ∙ q.0, record { head = q.1.head; later = q.1.later; whole = rows ∙ q.1.whole; header = q.1.header; spelled = q.1.spelled ∙ ap (map Ok) (sym (append-nil h.here)) })
 
 -- the header
 pub header_read : (f g : Follow) (line : List ℕ) (first : Fields) → f.headed ≡ false → g.headed ≡ true → g.judge ≡ f.judge → rows_of line ≡ first ∷ [] → is_header_row first ≡ true → ReadsLine f g line
-header_read f g line first old new same rows header lines events h = (
-  [],
-  record {
-    before = h.before;
-    since = h.since;
-    whole = append-nil events ∙ h.whole;
-    taken = subst (λ z. HasTaken z h.before h.since) (sym same) h.taken;
-    says = go h.says;
-  },
-)
+header_read f g line first old new same rows header texts lines events h = ([], with_line f g texts lines line events [] h (same_judge f g h.before h.since same h.taken) (go h.lines_say))
   where
-    go : ((f.headed ≡ false) × (flat_map rows_of lines ≡ []) × (events ≡ [])) ⊎ ((f.headed ≡ true) × Spells (flat_map rows_of lines) events)
-        → ((g.headed ≡ false) × (flat_map rows_of (lines ++ line ∷ []) ≡ []) × (events ++ [] ≡ [])) ⊎ ((g.headed ≡ true) × Spells (flat_map rows_of (lines ++ line ∷ [])) (events ++ []))
+    go : SaysSoFar f lines h.here → SaysSoFar g (lines ++ line ∷ []) (h.here ++ [])
     go (inl p) = inr (
       new,
       record {
@@ -60,7 +57,7 @@ header_read f g line first old new same rows header lines events h = (
         later = [];
         whole = rows_more lines line ∙ ap (λ z. z ++ rows_of line) p.1 ∙ rows;
         header = header;
-        spelled = ap (map Ok) (sym (append-nil events ∙ p.2));
+        spelled = ap (map Ok) (sym (append-nil h.here ∙ p.2));
       },
     )
     go (inr q) = absurd (false≢true (sym old ∙ q.0))
@@ -68,19 +65,9 @@ header_read f g line first old new same rows header lines events h = (
 -- an event
 pub event_read : (f g : Follow) (line : List ℕ) (row : Fields) (x : Event) → f.headed ≡ true → g.headed ≡ f.headed → rows_of line ≡ row ∷ [] → row_event row ≡ Ok x →
     ((before since : List Event) → HasTaken f.judge before since → HasTaken g.judge before (since ++ x ∷ [])) → ReadsLine f g line
-event_read f g line row x old headed rows event taken lines events h = (
-  x ∷ [],
-  record {
-    before = h.before;
-    since = h.since ++ x ∷ [];
-    whole = ap (λ z. z ++ x ∷ []) h.whole ∙ append_assoc h.before h.since (x ∷ []);
-    taken = taken h.before h.since h.taken;
-    says = go h.says;
-  },
-)
+event_read f g line row x old headed rows event taken texts lines events h = (x ∷ [], with_line f g texts lines line events (x ∷ []) h (taken h.before h.since h.taken) (go h.lines_say))
   where
-    go : ((f.headed ≡ false) × (flat_map rows_of lines ≡ []) × (events ≡ [])) ⊎ ((f.headed ≡ true) × Spells (flat_map rows_of lines) events)
-        → ((g.headed ≡ false) × (flat_map rows_of (lines ++ line ∷ []) ≡ []) × (events ++ x ∷ [] ≡ [])) ⊎ ((g.headed ≡ true) × Spells (flat_map rows_of (lines ++ line ∷ [])) (events ++ x ∷ []))
+    go : SaysSoFar f lines h.here → SaysSoFar g (lines ++ line ∷ []) (h.here ++ x ∷ [])
     go (inl p) = absurd (false≢true (sym p.0 ∙ old))
     go (inr q) = inr (
       headed ∙ q.0,
@@ -89,9 +76,33 @@ event_read f g line row x old headed rows event taken lines events h = (
         later = q.1.later ++ row ∷ [];
         whole = rows_more lines line ∙ ap (λ z. z ++ rows_of line) q.1.whole ∙ ap (λ z. (q.1.head ∷ q.1.later) ++ z) rows;
         header = q.1.header;
-        spelled = map-append row_event q.1.later (row ∷ []) ∙ ap (λ z. z ++ row_event row ∷ []) q.1.spelled ∙ ap (λ z. map Ok events ++ z ∷ []) event ∙ sym (map-append Ok events (x ∷ []));
+        spelled = map-append row_event q.1.later (row ∷ []) ∙ ap (λ z. z ++ row_event row ∷ []) q.1.spelled ∙ ap (λ z. map Ok h.here ++ z ∷ []) event ∙ sym (map-append Ok h.here (x ∷ []));
       },
     )
+
+-- texts with one more behind them
+text_more : (texts : List (List (List ℕ))) (text : List (List ℕ)) (earlier here : List Event) → AllSpell texts earlier → Spells (flat_map rows_of text) here → AllSpell (texts ++ text ∷ []) (earlier ++ here)
+text_more [] text earlier here none spells = (here, [], ap (λ z. z ++ here) none ∙ sym (append-nil here), spells, refl)
+text_more (t ∷ texts) text earlier here (first, later, parts, says, all) spells =
+    (first, later ++ here, ap (λ z. z ++ here) parts ∙ append_assoc first later here, says, text_more texts text later here all spells)
+
+-- a text that has a header, and ends
+pub text_ended : (f g : Follow) → f.headed ≡ true → g.headed ≡ false → g.judge ≡ f.judge → EndsText f g
+text_ended f g old new same texts lines events h = record {
+  before = h.before;
+  since = h.since;
+  taken = subst (λ z. HasTaken z h.before h.since) (sym same) h.taken;
+  windows = h.windows;
+  earlier = h.earlier ++ h.here;
+  here = [];
+  parts = h.parts ∙ sym (append-nil (h.earlier ++ h.here));
+  texts_say = text_more texts lines h.earlier h.here h.texts_say (go h.lines_say);
+  lines_say = inl (new, refl, refl);
+}
+  where
+    go : SaysSoFar f lines h.here → Spells (flat_map rows_of lines) h.here
+    go (inl p) = absurd (false≢true (sym p.0 ∙ old))
+    go (inr q) = q.1
 
 -- an answer that is given says more
 pub on_ok : {X E : Type 0} (r : Result X E) (A B : Type 0) → OnOk r A → (A → B) → OnOk r B

@@ -1,6 +1,9 @@
 -- What the lines of a recording say.
-use Rattle.std.specs.Prelude.{ℕ, true, false, List, [], ◌∷◌, ◌++◌, ◌≡◌, ◌⊎◌, Ok, map, flat_map}
+use Rattle.std.specs.Prelude.{ℕ, true, false, List, [], ◌∷◌, ◌++◌, ◌≡◌, ◌⊎◌, ◌↔◌, Ok, map, flat_map}
 use Rattle.snap_core.specs.declared.event.Event.{Event}
+use Rattle.snap_core.specs.Calls.{calls_of}
+use Rattle.snap_core.specs.Orders.{IsAtomic}
+use Rattle.snap_core.specs.Regular.{IsRegular}
 use Rattle.snap_csv.specs.Layout.{is_header_row}
 use Rattle.snap_csv.specs.Rows.{rows_of}
 use Rattle.snap_text.specs.Fields.{Fields, row_event}
@@ -15,14 +18,40 @@ pub record Spells (rows : List Fields) (events : List Event) : Type 0 where
   pub header : is_header_row head ≡ true
   pub spelled : map row_event later ≡ map Ok events
 
--- a recording was followed so far: the records of these lines spell these events, which its judge has taken
-pub record HasRead (follow : Follow) (lines : List (List ℕ)) (events : List Event) : Type 0 where
+-- texts, each the list of its lines, whose records spell these events, one text after the other
+abbrev pub AllSpell : List (List (List ℕ)) → List Event → Type 0
+AllSpell [] events = events ≡ []
+AllSpell (text ∷ texts) events = (here : List Event) × (later : List Event) × (events ≡ here ++ later) × Spells (flat_map rows_of text) here × AllSpell texts later
+
+-- what the lines of the text at hand say, where its header was read or not
+abbrev pub SaysSoFar : Follow → List (List ℕ) → List Event → Type 0
+SaysSoFar follow lines events =
+    ((follow.headed ≡ false) × (flat_map rows_of lines ≡ []) × (events ≡ [])) ⊎ ((follow.headed ≡ true) × Spells (flat_map rows_of lines) events)
+
+-- a recording was followed so far: the records of some whole texts, and of the lines of the text at hand, spell these events, which
+-- its judge has taken
+pub record HasRead (follow : Follow) (texts : List (List (List ℕ))) (lines : List (List ℕ)) (events : List Event) : Type 0 where
   pub before : List Event
   pub since : List Event
-  pub whole : events ≡ before ++ since
   pub taken : HasTaken follow.judge before since
-  pub says : ((follow.headed ≡ false) × (flat_map rows_of lines ≡ []) × (events ≡ [])) ⊎ ((follow.headed ≡ true) × Spells (flat_map rows_of lines) events)
+  pub windows : events ≡ before ++ since
+  pub earlier : List Event
+  pub here : List Event
+  pub parts : events ≡ earlier ++ here
+  pub texts_say : AllSpell texts earlier
+  pub lines_say : SaysSoFar follow lines here
 
 -- a line more was read: it says nothing more, or one event
 abbrev pub ReadsLine : Follow → Follow → List ℕ → Type 0
-ReadsLine old new line = (lines : List (List ℕ)) (events : List Event) → HasRead old lines events → (more : List Event) × HasRead new (lines ++ line ∷ []) (events ++ more)
+ReadsLine old new line = (texts : List (List (List ℕ))) (lines : List (List ℕ)) (events : List Event) → HasRead old texts lines events →
+    (more : List Event) × HasRead new texts (lines ++ line ∷ []) (events ++ more)
+
+-- the text at hand has ended, and the next one begins
+abbrev pub EndsText : Follow → Follow → Type 0
+EndsText old new = (texts : List (List (List ℕ))) (lines : List (List ℕ)) (events : List Event) → HasRead old texts lines events → HasRead new (texts ++ lines ∷ []) [] events
+
+-- the exit status of a recording of these events
+pub record IsStatusOf (events : List Event) (code : ℕ) : Type 0 where
+  pub atomic : code ≡ 0 ↔ IsAtomic (calls_of events)
+  pub only_regular : code ≡ 1 ↔ IsRegular (calls_of events) × ¬ IsAtomic (calls_of events)
+  pub neither : code ≡ 2 ↔ ¬ IsRegular (calls_of events) × ¬ IsAtomic (calls_of events)

@@ -6,7 +6,7 @@ ghost use Rattle.snap_core.specs.Orders.{IsAtomic};
 ghost use Rattle.snap_core.specs.Regular.{IsRegular};
 ghost use Rattle.snap_windows.specs.Taken.{HasTaken};
 ghost use Rattle.snap_windows.specs.Verdicts.{IsVerdict};
-ghost use Rattle.snap_follow.specs.Followed.{HasRead, ReadsLine};
+ghost use Rattle.snap_follow.specs.Followed.{EndsText, HasRead, ReadsLine};
 
 use snap_core::{Entry, Event, EventRefusal, Limit};
 use snap_csv::{ReadRefusal, is_header_line, read_line};
@@ -14,17 +14,24 @@ use snap_text::{Known, TextFault};
 use snap_windows::{Verdict, WindowJudge};
 use std::alloc::{AllocError, Global};
 
+/// Where a record stands: in which text of the recording, from 0, and which of its records it is, from 1: the header is record 1.
+#[derive(Clone, Copy, Debug)]
+pub struct Place {
+    pub text: usize,
+    pub record: u64,
+}
+
 /// The events of a window.
 #[derive(Clone, Copy, Debug)]
 pub struct Span {
     /// How many events and completed views it has.
     pub events: u64,
     pub views: u64,
-    /// The numbers of its first and its last record, counted from 1: the header is record 1.
-    pub first: u64,
-    pub last: u64,
-    /// An entry that was left before it, and the record of the first view that shows neither that nor a later number.
-    pub missed: Option<(Entry, u64)>,
+    /// Where its first and its last event stand.
+    pub first: Place,
+    pub last: Place,
+    /// An entry that was left before it, and where the first view ends that shows neither that nor a later number.
+    pub missed: Option<(Entry, Place)>,
 }
 
 /// A window that has ended: what it is, from what the windows before it left.
@@ -38,7 +45,7 @@ pub struct Window {
 #[derive(Clone, Copy, Debug)]
 pub enum Ended {
     /// A record is no part of a history, or a window has no room for it.
-    Refused { record: u64, fault: TextFault },
+    Refused { place: Place, fault: TextFault },
     /// Memory ran out.
     Memory,
 }
@@ -54,40 +61,14 @@ impl From<AllocError> for Ended {
 pub struct Follow {
     pub(crate) judge: WindowJudge,
     known: Known,
-    // whether the header was read, and how many records were
+    // whether the header of the text at hand was read, and the record that was read last
     pub(crate) headed: bool,
-    records: u64,
+    place: Place,
     // from how many events on a window ends at a moment without an open call, and how many calls are open
     least: usize,
     open: u64,
-    // of the window at hand
-    views: u64,
-    missed: Option<(Entry, u64)>,
-}
-
-// The fault that a refusal of an event stands for, want of memory aside.
-fn fault_of(refusal: EventRefusal) -> Option<TextFault> {
-    match refusal {
-        EventRefusal::TooMany => Some(TextFault::TooMany),
-        EventRefusal::Busy => Some(TextFault::Busy),
-        EventRefusal::Idle => Some(TextFault::Idle),
-        EventRefusal::OtherOp => Some(TextFault::OtherOp),
-        EventRefusal::Writer => Some(TextFault::Writer),
-        EventRefusal::Number => Some(TextFault::Number),
-        EventRefusal::Memory => None,
-    }
-}
-
-// What a view of a window misses first, where an event at a record misses this.
-fn first_missed(
-    before: Option<(Entry, u64)>,
-    missed: Option<Entry>,
-    record: u64,
-) -> Option<(Entry, u64)> {
-    match (before, missed) {
-        (None, Some(entry)) => Some((entry, record)),
-        _ => before,
-    }
+    // the window at hand
+    span: Span,
 }
 
 // How many calls are open behind an event.
@@ -99,55 +80,103 @@ fn open_behind(open: u64, event: &Event) -> u64 {
     }
 }
 
-// How many views are completed behind an event.
-fn views_behind(views: u64, event: &Event) -> u64 {
-    match event {
-        Event::EndView { .. } => views.saturating_add(1),
-        _ => views,
+// The fault that a refusal of an event stands for, want of memory aside.
+fn fault_for(refusal: EventRefusal) -> Option<TextFault> {
+    match refusal {
+        EventRefusal::TooMany => Some(TextFault::TooMany),
+        EventRefusal::Busy => Some(TextFault::Busy),
+        EventRefusal::Idle => Some(TextFault::Idle),
+        EventRefusal::OtherOp => Some(TextFault::OtherOp),
+        EventRefusal::Writer => Some(TextFault::Writer),
+        EventRefusal::Number => Some(TextFault::Number),
+        EventRefusal::Memory => None,
     }
+}
+
+impl Span {
+    // A window without events, behind a record.
+    fn behind(place: Place) -> Span {
+        Span {
+            events: 0,
+            views: 0,
+            first: place,
+            last: place,
+            missed: None,
+        }
+    }
+
+    // The window with an event more, which stands there and misses this.
+    fn with(self, event: &Event, place: Place, missed: Option<Entry>) -> Span {
+        Span {
+            events: self.events.saturating_add(1),
+            views: self.views.saturating_add(u64::from(ends_view(event))),
+            first: if self.events == 0 { place } else { self.first },
+            last: place,
+            missed: first_missed(self.missed, missed, place),
+        }
+    }
+}
+
+// What a view of a window misses first, where an event at a place misses this.
+fn first_missed(
+    before: Option<(Entry, Place)>,
+    missed: Option<Entry>,
+    place: Place,
+) -> Option<(Entry, Place)> {
+    match (before, missed) {
+        (None, Some(entry)) => Some((entry, place)),
+        _ => before,
+    }
+}
+
+// Whether an event completes a view.
+fn ends_view(event: &Event) -> bool {
+    matches!(event, Event::EndView { .. })
 }
 
 impl Follow {
     /// A recording of which nothing was read. A window ends at the first moment without an open call from so many events on, and has
     /// as many as the limit says at most.
     pub fn new(alloc: Global, least: u32, most: Limit) -> Follow
-        ensures { HasRead result [] [] }
+        ensures { HasRead result [] [] [] }
     {
+        let place = Place { text: 0, record: 0 };
         Follow {
             judge: WindowJudge::new(alloc, most),
             known: Known::new(alloc),
             headed: false,
-            records: 0,
+            place,
             least: least as usize,
             open: 0,
-            views: 0,
-            missed: None,
+            span: Span::behind(place),
         }
     }
 
-    /// How many records were read.
-    pub fn records(&self) -> u64 {
-        self.records
+    /// The record that was read last, and record 0 where the text at hand has none so far.
+    pub fn place(&self) -> Place {
+        self.place
     }
 
     // The refusal of the record that was read last.
     fn refused(&self, fault: TextFault) -> Ended {
         Ended::Refused {
-            record: self.records,
+            place: self.place,
             fault,
         }
     }
 
-    // The events of the window at hand.
-    fn span(&self) -> Span {
-        let events = self.judge.len() as u64;
-        Span {
-            events,
-            views: self.views,
-            first: self.records.saturating_sub(events).saturating_add(1),
-            last: self.records,
-            missed: self.missed,
+    /// Where the next record of the text at hand stands.
+    pub fn next_place(&self) -> Place {
+        Place {
+            text: self.place.text,
+            record: self.place.record.saturating_add(1),
         }
+    }
+
+    // The refusal of the next record.
+    fn refused_next(&mut self, fault: TextFault) -> Ended {
+        self.place = self.next_place();
+        self.refused(fault)
     }
 
     // Reads the header.
@@ -158,16 +187,15 @@ impl Follow {
         let Some(is_header) = is_header_line(alloc, line)? else {
             return Ok(());
         };
+        self.place = self.next_place();
         if !is_header {
-            self.records = 1;
             return Err(self.refused(TextFault::Header));
         }
-        self.records = 1;
         self.headed = true;
         Ok(())
     }
 
-    // Takes an event.
+    // Takes the event of the record that was read last.
     fn take_event(&mut self, alloc: Global, event: &Event) -> Result<(), Ended>
         ensures taken { OnOk result ((before since : List Event) → HasTaken self.old.judge before since → HasTaken self.new.judge before (since ++ event.now ∷ [])) }
         ensures headed { self.new.headed ≡ self.old.headed }
@@ -175,20 +203,19 @@ impl Follow {
         let missed = match self.judge.take(alloc, event) {
             Ok(missed) => missed,
             Err(refusal) => {
-                return Err(match fault_of(refusal) {
+                return Err(match fault_for(refusal) {
                     Some(fault) => self.refused(fault),
                     None => Ended::Memory,
                 });
             }
         };
-        self.missed = first_missed(self.missed, missed, self.records);
+        self.span = self.span.with(event, self.place, missed);
         self.open = open_behind(self.open, event);
-        self.views = views_behind(self.views, event);
         Ok(())
     }
 
-    /// Reads the next line. A line without a record says nothing. The first record is the header, and each other one an event.
-    /// After a refusal the recording is followed no further.
+    /// Reads the next line of the text at hand. A line without a record says nothing. The first record is the header, and each other
+    /// one an event. After a refusal the recording is followed no further.
     pub fn take_line(&mut self, alloc: Global, line: &[u8]) -> Result<(), Ended>
         ensures { OnOk result (ReadsLine self.old self.new line.now) }
     {
@@ -198,40 +225,52 @@ impl Follow {
         let event = match read_line(alloc, &mut self.known, line, 0) {
             Ok(None) => return Ok(()),
             Ok(Some(event)) => event,
-            Err(ReadRefusal::Text { place: _, fault }) => {
-                self.records = self.records.saturating_add(1);
-                return Err(self.refused(fault));
-            }
+            Err(ReadRefusal::Text { place: _, fault }) => return Err(self.refused_next(fault)),
             Err(_) => return Err(Ended::Memory),
         };
-        self.records = self.records.saturating_add(1);
+        self.place = self.next_place();
         self.take_event(alloc, &event)
+    }
+
+    /// Goes on to the next text of the recording, whose first record is a header too. Numbers go on, and calls may be open. A text
+    /// without a header is refused.
+    pub fn end_text(&mut self) -> Result<(), Ended>
+        ensures { OnOk result (EndsText self.old self.new) }
+    {
+        if !self.headed {
+            return Err(self.refused_next(TextFault::Header));
+        }
+        self.headed = false;
+        self.place = Place {
+            text: self.place.text.saturating_add(1),
+            record: 0,
+        };
+        Ok(())
     }
 
     /// Ends the window at hand where it has events enough and no call is open.
     pub fn cut(&mut self, alloc: Global) -> Result<Option<Window>, AllocError>
-        ensures same { OnOk result ((lines : List (List ℕ)) (events : List Event) → HasRead self.old lines events → HasRead self.new lines events) }
-        ensures window { IfOk result (λ found. IfSome found (λ window. (lines : List (List ℕ)) (events : List Event) (h : HasRead self.old lines events) → IsVerdict window.verdict h.before h.since)) }
+        ensures same { OnOk result ((texts : List (List (List ℕ))) (lines : List (List ℕ)) (events : List Event) → HasRead self.old texts lines events → HasRead self.new texts lines events) }
+        ensures window { IfOk result (λ found. IfSome found (λ window. (texts : List (List (List ℕ))) (lines : List (List ℕ)) (events : List Event) (h : HasRead self.old texts lines events) → IsVerdict window.verdict h.before h.since)) }
     {
         if self.open > 0 || self.judge.len() < self.least {
             return Ok(None);
         }
-        let span = self.span();
         let Some(verdict) = self.judge.cut(alloc)? else {
             return Ok(None);
         };
-        self.views = 0;
-        self.missed = None;
+        let span = self.span;
+        self.span = Span::behind(self.place);
         Ok(Some(Window { verdict, span }))
     }
 
     /// Ends the recording, in which calls may be open: its last window, and what the whole is.
     pub fn finish(self, alloc: Global) -> Result<(Window, Verdict), AllocError>
-        ensures window { IfOk result (λ x. (lines : List (List ℕ)) (events : List Event) (h : HasRead self lines events) → IsVerdict x.0.verdict h.before h.since) }
-        ensures regular { IfOk result (λ x. (lines : List (List ℕ)) (events : List Event) → HasRead self lines events → IsTrue x.1.regular ↔ IsRegular (calls_of events)) }
-        ensures atomic { IfOk result (λ x. (lines : List (List ℕ)) (events : List Event) → HasRead self lines events → IsTrue x.1.atomic ↔ IsAtomic (calls_of events)) }
+        ensures window { IfOk result (λ x. (texts : List (List (List ℕ))) (lines : List (List ℕ)) (events : List Event) (h : HasRead self texts lines events) → IsVerdict x.0.verdict h.before h.since) }
+        ensures regular { IfOk result (λ x. (texts : List (List (List ℕ))) (lines : List (List ℕ)) (events : List Event) → HasRead self texts lines events → IsTrue x.1.regular ↔ IsRegular (calls_of events)) }
+        ensures atomic { IfOk result (λ x. (texts : List (List (List ℕ))) (lines : List (List ℕ)) (events : List Event) → HasRead self texts lines events → IsTrue x.1.atomic ↔ IsAtomic (calls_of events)) }
     {
-        let span = self.span();
+        let span = self.span;
         let (verdict, whole) = self.judge.finish(alloc)?;
         Ok((Window { verdict, span }, whole))
     }

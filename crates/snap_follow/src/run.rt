@@ -1,9 +1,10 @@
-//! The run that follows a recording, from a reader to a writer.
-use crate::follow::{Ended, Follow, Window};
-use crate::sums::{Kind, Sums};
-use memchr::memchr2;
+//! The run that follows a recording, from its texts to a writer.
+ghost use Rattle.std.specs.Prelude.{◌≤◌, length, IfOk};
+
+use crate::answers::Answers;
+use crate::course::Course;
+use crate::texts::{Lost, Opened, Texts, TextsFault};
 use snap_core::{Counted, Limit};
-use snap_text::TextFault;
 use std::alloc::{AllocError, Global};
 use std::io::{Read, Write};
 use std::sync::Wait;
@@ -14,13 +15,15 @@ use thiserror::Error;
 // How many bytes are read at a time.
 const PIECE: usize = 65_536;
 
-/// How many bytes a record may have, which is far more than a record of a history has.
-pub const RECORD_LIMIT: usize = 1_048_576;
-
 // How long a pause is, in milliseconds, and how many of them are a second.
 const PAUSE: u64 = 100;
 
 const PAUSES_A_SECOND: u64 = 10;
+
+// The exit statuses of a recording that is refused, and of one that can't be judged.
+const REFUSED: u8 = 3;
+
+const FAILED: u8 = 4;
 
 /// How long a recording is followed.
 #[derive(Clone, Copy, PartialEq, Eq, Debug)]
@@ -47,17 +50,21 @@ pub struct FollowOptions {
 }
 
 /// How it ended.
-#[derive(Clone, Copy, Debug)]
+#[derive(Debug, Drop)]
 pub struct Followed {
-    /// The greatest exit status of a window, none where there are fewer completed views than were asked for.
+    /// The exit status, none where there are fewer completed views than were asked for.
     pub code: Option<u8>,
     /// Whether the last line has no end. It is left out, since its writer may not have finished it.
     pub has_rest: bool,
+    /// Where the recording could not be followed further.
+    pub lost: Option<Lost>,
 }
 
 /// Why it did not come to its end.
 #[derive(Debug, Drop, Error)]
 pub enum FollowFault {
+    #[error("there are no recordings")]
+    NoText,
     #[error("read failed")]
     Read,
     #[error("write failed")]
@@ -72,171 +79,69 @@ impl From<AllocError> for FollowFault {
     }
 }
 
-// Writes lines.
-fn say<W: Write>(writer: &mut Counted<W>, text: &str) -> Result<(), FollowFault> {
-    match writer.send(text.as_bytes()) {
-        Ok(()) => Ok(()),
+// Why a recording is read no further, though it has not ended.
+#[derive(Drop)]
+enum Stop {
+    // A line says which record is refused.
+    Refused,
+    Lost(Lost),
+    Fault(FollowFault),
+}
+
+impl From<AllocError> for Stop {
+    fn from(_error: AllocError) -> Stop {
+        Stop::Fault(FollowFault::Memory)
+    }
+}
+
+impl From<TextsFault> for Stop {
+    fn from(fault: TextsFault) -> Stop {
+        match fault {
+            TextsFault::Lost(lost) => Stop::Lost(lost),
+            TextsFault::Memory => Stop::Fault(FollowFault::Memory),
+        }
+    }
+}
+
+// The text at hand, how many of its bytes were read, and whether another one was found behind it.
+#[derive(Drop)]
+struct AtHand<R> {
+    text: Option<R>,
+    read: u64,
+    has_next: bool,
+}
+
+impl<R: Read> AtHand<R> {
+    // Reads what is there now; no bytes where there is no text.
+    fn read(&mut self, piece: &mut [u8]) -> Result<usize, Stop>
+        ensures { IfOk result (λ n. n ≤ length piece.new) }
+    {
+        let Some(text) = &mut self.text else {
+            return Ok(0);
+        };
+        let Ok(length) = text.read(piece) else {
+            return Err(Stop::Fault(FollowFault::Read));
+        };
+        self.read = self.read.saturating_add(length as u64);
+        Ok(length)
+    }
+}
+
+// Writes the lines that are still to be written.
+fn write_lines<W: Write>(
+    writer: &mut Counted<W>,
+    answers: &mut Answers,
+) -> Result<(), FollowFault> {
+    if answers.lines().is_empty() {
+        return Ok(());
+    }
+    match writer.send(answers.lines()) {
+        Ok(()) => {
+            answers.clear_lines();
+            Ok(())
+        }
         Err(_) => Err(FollowFault::Write),
     }
-}
-
-// What a view misses, as the end of a line.
-fn missed_text(alloc: Global, window: &Window) -> Result<String, AllocError> {
-    match window.span.missed {
-        Some((entry, record)) => format!(in alloc;
-            " misses {}:{}:{} in record {}",
-            entry.component, entry.number, entry.value, record
-        ),
-        None => Ok(String::new(alloc)),
-    }
-}
-
-// Counts a window, and writes its line.
-fn answer<W: Write>(
-    alloc: Global,
-    sums: &mut Sums,
-    writer: &mut Counted<W>,
-    window: &Window,
-) -> Result<(), FollowFault> {
-    let kind = Kind::of(window.verdict);
-    let more = missed_text(alloc, window)?;
-    let line = format!(in alloc;
-        "window {} events {} {} from {} to {}{}\n",
-        sums.next(),
-        window.span.events,
-        kind.word(),
-        window.span.first,
-        window.span.last,
-        more
-    )?;
-    sums.add_span(window.span);
-    sums.add(kind);
-    say(writer, &line)
-}
-
-// Counts a refusal, and writes its line.
-fn refuse<W: Write>(
-    alloc: Global,
-    sums: &mut Sums,
-    writer: &mut Counted<W>,
-    record: u64,
-    fault: TextFault,
-) -> Result<(), FollowFault> {
-    let line = format!(in alloc;
-        "window {} refused record {}: {}\n",
-        sums.next(),
-        record,
-        fault.word()
-    )?;
-    sums.add(Kind::Refused);
-    say(writer, &line)
-}
-
-// Takes a line, and ends a window where one may end there. Whether the recording is followed further.
-fn take_line<W: Write>(
-    alloc: Global,
-    follow: &mut Follow,
-    sums: &mut Sums,
-    writer: &mut Counted<W>,
-    line: &[u8],
-) -> Result<bool, FollowFault> {
-    match follow.take_line(alloc, line) {
-        Ok(()) => {}
-        Err(Ended::Refused { record, fault }) => {
-            refuse(alloc, sums, writer, record, fault)?;
-            return Ok(false);
-        }
-        Err(Ended::Memory) => return Err(FollowFault::Memory),
-    }
-    if let Some(window) = follow.cut(alloc)? {
-        answer(alloc, sums, writer, &window)?;
-    }
-    Ok(true)
-}
-
-// Refuses the record behind those that were read, where it has begun with more bytes than a record may have. Whether the recording is
-// followed further.
-fn has_end<W: Write>(
-    alloc: Global,
-    follow: &Follow,
-    sums: &mut Sums,
-    writer: &mut Counted<W>,
-    line: &[u8],
-) -> Result<bool, FollowFault> {
-    if line.len() <= RECORD_LIMIT {
-        return Ok(true);
-    }
-    let record = follow.records().saturating_add(1);
-    refuse(alloc, sums, writer, record, TextFault::TooLong)?;
-    Ok(false)
-}
-
-// Takes the line that begins with a rest and ends with these bytes. Whether the recording is followed further.
-fn take_joined<W: Write>(
-    alloc: Global,
-    follow: &mut Follow,
-    sums: &mut Sums,
-    writer: &mut Counted<W>,
-    rest: &mut Vec<u8>,
-    bytes: &[u8],
-) -> Result<bool, FollowFault> {
-    if rest.is_empty() {
-        return take_line(alloc, follow, sums, writer, bytes);
-    }
-    rest.extend_from_slice(bytes)?;
-    let goes_on = has_end(alloc, follow, sums, writer, rest)?
-        && take_line(alloc, follow, sums, writer, rest)?;
-    rest.clear();
-    Ok(goes_on)
-}
-
-// Takes the lines of a piece. The begin of a line without an end is kept in the rest. Whether the recording is followed further.
-fn take_piece<W: Write>(
-    alloc: Global,
-    follow: &mut Follow,
-    sums: &mut Sums,
-    writer: &mut Counted<W>,
-    rest: &mut Vec<u8>,
-    piece: &[u8],
-) -> Result<bool, FollowFault> {
-    let mut from = 0;
-    'lines: for _ in 0..piece.len() {
-        let Some(at) = memchr2(b'\n', b'\r', &piece[from..]) else {
-            break;
-        };
-        if !take_joined(alloc, follow, sums, writer, rest, &piece[from..from + at])? {
-            return Ok(false);
-        }
-        from += at + 1;
-    }
-    rest.extend_from_slice(&piece[from..])?;
-    has_end(alloc, follow, sums, writer, rest)
-}
-
-// Ends the last window, and writes the sums.
-fn end<W: Write>(
-    alloc: Global,
-    follow: Option<Follow>,
-    mut sums: Sums,
-    writer: &mut Counted<W>,
-    views: u32,
-) -> Result<Option<u8>, FollowFault> {
-    if let Some(follow) = follow {
-        if follow.records() == 0 {
-            refuse(alloc, &mut sums, writer, 1, TextFault::Header)?;
-        } else {
-            let (window, _) = follow.finish(alloc)?;
-            if window.span.events > 0 {
-                answer(alloc, &mut sums, writer, &window)?;
-            }
-        }
-    }
-    say(writer, &sums.text(alloc)?)?;
-    let code = sums.code();
-    if code < Kind::Refused.code() && sums.views() < u64::from(views) {
-        return Ok(None);
-    }
-    Ok(Some(code))
 }
 
 // Whether it is over behind so many pauses without anything new.
@@ -248,72 +153,157 @@ fn is_over(until: Until, pauses: u64) -> bool {
     }
 }
 
-// Reads what is there, and takes it, as long as that is asked for. Whether the recording was followed to its end.
-fn take_all<Rt: Wait, R: Read, W: Write, C: Clock>(
-    rt: &Rt,
+// Takes the lines of a piece, and writes those of the windows that end in it.
+fn take_piece<W: Write>(
     alloc: Global,
-    reader: &mut Counted<R>,
+    course: &mut Course,
     writer: &mut Counted<W>,
-    clock: &C,
-    follow: &mut Follow,
-    sums: &mut Sums,
-    rest: &mut Vec<u8>,
-    until: Until,
-) -> Result<bool, FollowFault> {
-    let mut piece = Vec::new(alloc);
-    piece.resize(PIECE, 0)?;
-    let mut waited = 0;
-    'pieces: for _ in rt.forever() {
-        match reader.read(&mut piece) {
-            Err(_) => return Err(FollowFault::Read),
-            Ok(0) => {
-                if is_over(until, waited) {
-                    return Ok(true);
-                }
-                thread::sleep(clock, Duration::from_millis(PAUSE));
-                waited = waited.saturating_add(1);
-            }
-            Ok(n) => {
-                waited = 0;
-                if !take_piece(alloc, follow, sums, writer, rest, &piece[..n])? {
-                    return Ok(false);
-                }
-            }
-        }
+    piece: &[u8],
+) -> Result<(), Stop> {
+    let goes_on = course.take_piece(alloc, piece)?;
+    if let Err(fault) = write_lines(writer, &mut course.answers) {
+        return Err(Stop::Fault(fault));
     }
-    Ok(true)
+    if goes_on { Ok(()) } else { Err(Stop::Refused) }
 }
 
-/// Follows a recording: reads it line by line, judges it window by window, and writes a line for each window and then the sums. A
-/// read that answers nothing is tried again after a pause. Each line goes out before more is read.
-pub fn follow_run<Rt: Wait, R: Read, W: Write, C: Clock>(
+// Leaves the text at hand, which is whole, and opens the next.
+fn open_next<T: Texts>(
+    alloc: Global,
+    texts: &mut T,
+    at_hand: &mut AtHand<T::Text>,
+    course: &mut Course,
+) -> Result<(), Stop> {
+    if at_hand.text.is_some() && !course.end_text(alloc)? {
+        return Err(Stop::Refused);
+    }
+    if let Some(opened) = texts.open_next(alloc, at_hand.read)? {
+        let Opened { text, name } = opened;
+        if let Some(name) = name {
+            course.answers.add_name(name)?;
+        }
+        at_hand.text = Some(text);
+    }
+    at_hand.read = 0;
+    at_hand.has_next = false;
+    Ok(())
+}
+
+// Ends the reading. Where what has ended is whole, its last line needs no end.
+fn end_reading<R>(
+    alloc: Global,
+    at_hand: &AtHand<R>,
+    course: &mut Course,
+    until: Until,
+) -> Result<(), Stop> {
+    if at_hand.text.is_none() {
+        return Err(Stop::Fault(FollowFault::NoText));
+    }
+    let is_refused = until == Until::End && course.has_rest() && !course.take_rest(alloc)?;
+    if is_refused || !course.has_records()? {
+        return Err(Stop::Refused);
+    }
+    Ok(())
+}
+
+// Reads what is there, and takes it, as long as that is asked for.
+fn read_all<Rt: Wait, T: Texts, W: Write, C: Clock>(
     rt: &Rt,
     alloc: Global,
-    reader: &mut Counted<R>,
+    texts: &mut T,
+    writer: &mut Counted<W>,
+    clock: &C,
+    course: &mut Course,
+    until: Until,
+) -> Result<(), Stop> {
+    let mut piece = Vec::new(alloc);
+    piece.resize(PIECE, 0)?;
+    let mut at_hand = AtHand {
+        text: None,
+        read: 0,
+        has_next: false,
+    };
+    let mut pauses = 0;
+    'pieces: for _ in rt.forever() {
+        let length = at_hand.read(&mut piece)?;
+        if length > 0 {
+            take_piece(alloc, course, writer, &piece[..length])?;
+            pauses = 0;
+        } else if at_hand.has_next {
+            // the next text was there before the last look at this one, so nothing more comes here
+            open_next(alloc, texts, &mut at_hand, course)?;
+            pauses = 0;
+        } else if texts.has_next(alloc)? {
+            at_hand.has_next = true;
+        } else if is_over(until, pauses) {
+            break;
+        } else {
+            thread::sleep(clock, Duration::from_millis(PAUSE));
+            pauses = pauses.saturating_add(1);
+        }
+    }
+    end_reading(alloc, &at_hand, course, until)
+}
+
+// Writes the last lines, and the sums.
+fn write_end<W: Write>(writer: &mut Counted<W>, answers: &mut Answers) -> Result<(), FollowFault> {
+    answers.add_sums()?;
+    write_lines(writer, answers)
+}
+
+// The end of a recording that has ended.
+fn end_whole<W: Write>(
+    alloc: Global,
+    course: Course,
+    writer: &mut Counted<W>,
+    views: u32,
+) -> Result<Followed, FollowFault> {
+    let has_rest = course.has_rest();
+    let (code, mut answers) = course.finish(alloc)?;
+    write_end(writer, &mut answers)?;
+    Ok(Followed {
+        code: (answers.views() >= u64::from(views)).then_some(code),
+        has_rest,
+        lost: None,
+    })
+}
+
+// The end of a recording that was followed no further.
+fn end_early<W: Write>(
+    mut course: Course,
+    writer: &mut Counted<W>,
+    stop: Stop,
+) -> Result<Followed, FollowFault> {
+    let (code, lost) = match stop {
+        Stop::Refused => (REFUSED, None),
+        Stop::Lost(lost) => {
+            course.answers.add_failure()?;
+            (FAILED, Some(lost))
+        }
+        Stop::Fault(fault) => return Err(fault),
+    };
+    write_end(writer, &mut course.answers)?;
+    Ok(Followed {
+        code: Some(code),
+        has_rest: false,
+        lost,
+    })
+}
+
+/// Follows a recording: reads its texts line by line, judges it window by window, and writes a line for each window and then the
+/// sums. A read that answers nothing is tried again after a pause, until another text is there. Each line goes out before more is
+/// read.
+pub fn follow_run<Rt: Wait, T: Texts, W: Write, C: Clock>(
+    rt: &Rt,
+    alloc: Global,
+    texts: &mut T,
     writer: &mut Counted<W>,
     clock: &C,
     asked: FollowOptions,
 ) -> Result<Followed, FollowFault> {
-    let mut follow = Follow::new(alloc, asked.least, asked.most);
-    let mut sums = Sums::new();
-    let mut rest = Vec::new(alloc);
-    let mut goes_on = take_all(
-        rt,
-        alloc,
-        reader,
-        writer,
-        clock,
-        &mut follow,
-        &mut sums,
-        &mut rest,
-        asked.until,
-    )?;
-    let mut has_rest = goes_on && !rest.is_empty();
-    if has_rest && asked.until == Until::End {
-        has_rest = false;
-        goes_on = take_line(alloc, &mut follow, &mut sums, writer, &rest)?;
+    let mut course = Course::new(alloc, asked.least, asked.most);
+    match read_all(rt, alloc, texts, writer, clock, &mut course, asked.until) {
+        Ok(()) => end_whole(alloc, course, writer, asked.views),
+        Err(stop) => end_early(course, writer, stop),
     }
-    let last = if goes_on { Some(follow) } else { None };
-    let code = end(alloc, last, sums, writer, asked.views)?;
-    Ok(Followed { code, has_rest })
 }

@@ -1,9 +1,11 @@
 //! How many windows there are, and of each kind how many and the first.
-ghost use Rattle.std.specs.Prelude.{◌≤◌};
+ghost use Rattle.std.specs.Prelude.{◌≡◌};
+ghost use Rattle.snap_follow.specs.inside.Statuses.{code_of, verdict_code};
 
 use crate::follow::Span;
+use snap_report::put_number;
 use snap_windows::Verdict;
-use std::alloc::{AllocError, Global};
+use std::alloc::AllocError;
 
 /// What a window comes to, in the order of the exit statuses.
 #[derive(Clone, Copy, PartialEq, Eq, Debug)]
@@ -24,7 +26,9 @@ const KINDS: [Kind; 5] = [
 ];
 
 impl Kind {
-    pub(crate) fn of(verdict: Verdict) -> Kind {
+    pub(crate) fn of(verdict: Verdict) -> Kind
+        ensures { code_of result ≡ verdict_code verdict }
+    {
         if verdict.atomic {
             Kind::Atomic
         } else if verdict.regular {
@@ -34,18 +38,18 @@ impl Kind {
         }
     }
 
-    pub(crate) fn word(self) -> &'static str {
+    pub(crate) fn word(self) -> &'static [u8] {
         match self {
-            Kind::Atomic => "atomic",
-            Kind::OnlyRegular => "only-regular",
-            Kind::NotRegular => "not-regular",
-            Kind::Refused => "refused",
-            Kind::Failed => "failed",
+            Kind::Atomic => b"atomic",
+            Kind::OnlyRegular => b"only-regular",
+            Kind::NotRegular => b"not-regular",
+            Kind::Refused => b"refused",
+            Kind::Failed => b"failed",
         }
     }
 
     pub(crate) fn code(self) -> u8
-        ensures { result ≤ 4 }
+        ensures { result ≡ code_of self }
     {
         match self {
             Kind::Atomic => 0,
@@ -57,11 +61,28 @@ impl Kind {
     }
 }
 
+/// The exit status that says what a recording is.
+pub(crate) fn status_of(whole: Verdict) -> u8
+    ensures { result ≡ verdict_code whole }
+{
+    Kind::of(whole).code()
+}
+
 // How many windows are of a kind, and the number of the first of them.
 #[derive(Clone, Copy)]
 struct Count {
     windows: u64,
     first: u64,
+}
+
+// Adds the line of a kind.
+fn put_count(out: &mut Vec<u8>, kind: Kind, count: Count) -> Result<(), AllocError> {
+    out.extend_from_slice(kind.word())?;
+    put_number(out, b" ", count.windows)?;
+    if count.windows > 0 {
+        put_number(out, b" first ", count.first)?;
+    }
+    Ok(out.push(b'\n')?)
 }
 
 /// The sums over windows.
@@ -111,32 +132,15 @@ impl Sums {
         self.views = self.views.saturating_add(span.views);
     }
 
-    /// The greatest exit status of a window.
-    pub(crate) fn code(&self) -> u8 {
-        let mut greatest = 0;
+    /// Adds the lines of the sums.
+    pub(crate) fn put(&self, out: &mut Vec<u8>) -> Result<(), AllocError> {
+        put_number(out, b"windows ", self.windows)?;
+        put_number(out, b" events ", self.events)?;
+        put_number(out, b" views ", self.views)?;
+        out.push(b'\n')?;
         for kind in KINDS {
-            if self.counts[usize::from(kind.code())].windows > 0 {
-                greatest = kind.code();
-            }
+            put_count(out, kind, self.counts[usize::from(kind.code())])?;
         }
-        greatest
-    }
-
-    /// The lines of the sums.
-    pub(crate) fn text(&self, alloc: Global) -> Result<String, AllocError> {
-        let mut text = format!(in alloc;
-            "windows {} events {} views {}\n",
-            self.windows, self.events, self.views
-        )?;
-        for kind in KINDS {
-            let count = self.counts[usize::from(kind.code())];
-            let line = if count.windows > 0 {
-                format!(in alloc; "{} {} first {}\n", kind.word(), count.windows, count.first)?
-            } else {
-                format!(in alloc; "{} 0\n", kind.word())?
-            };
-            text.push_str(&line)?;
-        }
-        Ok(text)
+        Ok(())
     }
 }

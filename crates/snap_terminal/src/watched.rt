@@ -1,6 +1,6 @@
 //! What opens the files, and what answers go to, with a line of progress between.
 use crate::progress::Progress;
-use snap_files::{Opener, Trouble};
+use snap_names::{Opener, Trouble};
 use std::io;
 use std::io::Write;
 use std::time::Clock;

@@ -1,7 +1,8 @@
 //! What opens the files that are named.
 use crate::Failure;
 use snap_core::Counted;
-use snap_files::{Opener, System, SystemText, trouble_line};
+use snap_files::trouble_line;
+use snap_names::{Opener, System, SystemText, Trouble};
 use std::fs::File;
 
 /// What opens the files.
@@ -20,15 +21,20 @@ pub(crate) fn open_only(rt: &HostRuntime, files: &[Vec<u8>]) -> Result<SystemTex
     }
 }
 
+/// Says why a name can't be opened or read.
+pub(crate) fn say_trouble(rt: &HostRuntime, name: &[u8], trouble: Trouble) {
+    let mut errors = Counted::new(rt.stderr());
+    if let Ok(line) = trouble_line(rt.alloc(), name, trouble) {
+        let _ = errors.send(&line);
+    }
+}
+
 /// The text of a name. Why it can't be opened is said.
 pub(crate) fn open_named(rt: &HostRuntime, name: &[u8]) -> Result<SystemText<File>, Failure> {
     match system(rt).open(name) {
         Ok(text) => Ok(text),
         Err(trouble) => {
-            let mut errors = Counted::new(rt.stderr());
-            if let Ok(line) = trouble_line(rt.alloc(), name, trouble) {
-                let _ = errors.send(&line);
-            }
+            say_trouble(rt, name, trouble);
             Err(Failure::Unopened)
         }
     }

@@ -3,38 +3,104 @@ ghost use Rattle.snap_core.specs.Limits.{IsLimit};
 
 use crate::Failure;
 use crate::check::too_few_views;
-use crate::files::open_only;
+use crate::files::{say_trouble, system};
+use crate::names::{say, say_none};
 use crate::options::limit_of;
 use snap_check::RunFault;
 use snap_core::Counted;
-use snap_follow::{FollowFault, FollowOptions, Until, follow_run};
+use snap_follow::{
+    FolderTexts, FollowFault, FollowOptions, Followed, Lost, OneText, Reason, Texts, Until,
+    follow_run,
+};
+use snap_names::{Opener, SystemFolders, Trouble};
 use snap_words::Options;
 use std::sync::Wait;
 
-// The same fault, as that of any run.
-fn run_fault(fault: FollowFault) -> RunFault {
+// The same fault, as that of any run. That there is no text is said.
+fn failure_of(host: &HostRuntime, fault: FollowFault) -> Failure {
     match fault {
-        FollowFault::Read => RunFault::Read,
-        FollowFault::Write => RunFault::Write,
-        FollowFault::Memory => RunFault::Memory,
+        FollowFault::NoText => say_none(host),
+        FollowFault::Read => Failure::Run(RunFault::Read),
+        FollowFault::Write => Failure::Run(RunFault::Write),
+        FollowFault::Memory => Failure::Run(RunFault::Memory),
     }
 }
 
-// How long a recording is followed: standard input to its end, and a file until nothing has come for so many seconds.
-fn until_of(files: &[Vec<u8>], asked: Options) -> Until {
-    match files.first() {
-        Some(name) if name.as_slice() != b"-".as_slice() => {
-            if asked.idle == 0 {
-                Until::Ever
-            } else {
-                Until::Idle(asked.idle)
-            }
-        }
-        _ => Until::End,
+// Says at which name a recording could not be followed further, and why.
+fn say_lost(host: &HostRuntime, lost: &Lost) {
+    match lost.reason {
+        Reason::Unopened(trouble) => say_trouble(host, &lost.name, trouble),
+        Reason::Late => say(host, &lost.name, "came too late: a later name is read"),
+        Reason::Changed => say(host, &lost.name, "has changed after a later file began"),
+        Reason::TooManyFolders => say(host, &lost.name, "has more than 1048576 folders"),
     }
 }
 
-/// Follows the only file, or standard input where there is none. What is left out of its end is said.
+// How long a recording is followed: standard input to its end, and any other until nothing has come for so many seconds.
+fn until_of(name: &[u8], asked: Options) -> Until {
+    if name == b"-".as_slice() {
+        Until::End
+    } else if asked.idle == 0 {
+        Until::Ever
+    } else {
+        Until::Idle(asked.idle)
+    }
+}
+
+// Says how a recording ended, beside its exit status.
+fn code_of(host: &HostRuntime, followed: Followed, asked: Options) -> u8 {
+    if let Some(lost) = &followed.lost {
+        say_lost(host, lost);
+    }
+    if followed.has_rest {
+        let _ = eprintln!(host; "snapjudge: the last line has no end, and is left out");
+    }
+    match followed.code {
+        Some(code) => code,
+        None => too_few_views(host, asked.views).code(),
+    }
+}
+
+// Follows texts, which have this name.
+fn follow_texts<Rt: Wait, T: Texts>(
+    rt: &Rt,
+    host: &HostRuntime,
+    texts: &mut T,
+    name: &[u8],
+    asked: Options,
+) -> Result<u8, Failure>
+    requires { IsLimit asked.events }
+{
+    let mut writer = Counted::new(host.stdout());
+    let options = FollowOptions {
+        least: asked.window,
+        most: limit_of(asked.events),
+        until: until_of(name, asked),
+        views: asked.views,
+    };
+    match follow_run(rt, host.alloc(), texts, &mut writer, host, options) {
+        Ok(followed) => Ok(code_of(host, followed, asked)),
+        Err(fault) => Err(failure_of(host, fault)),
+    }
+}
+
+// Follows the texts below a folder.
+fn follow_folder<Rt: Wait>(
+    rt: &Rt,
+    host: &HostRuntime,
+    folder: &[u8],
+    asked: Options,
+) -> Result<u8, Failure>
+    requires { IsLimit asked.events }
+{
+    let folders = SystemFolders { files: host };
+    let opener = system(host);
+    let mut texts = FolderTexts::new(host.alloc(), &folders, &opener, folder);
+    follow_texts(rt, host, &mut texts, folder, asked)
+}
+
+/// Follows the only file, all files below the only folder, or standard input where there is no name. What is left out of its end is
+/// said.
 pub(crate) fn follow<Rt: Wait>(
     rt: &Rt,
     host: &HostRuntime,
@@ -43,24 +109,16 @@ pub(crate) fn follow<Rt: Wait>(
 ) -> Result<u8, Failure>
     requires { IsLimit asked.events }
 {
-    let mut reader = Counted::new(open_only(host, files)?);
-    let mut writer = Counted::new(host.stdout());
-    let options = FollowOptions {
-        least: asked.window,
-        most: limit_of(asked.events),
-        until: until_of(files, asked),
-        views: asked.views,
+    let name = match files.first() {
+        Some(name) => name.as_slice(),
+        None => b"-".as_slice(),
     };
-    match follow_run(rt, host.alloc(), &mut reader, &mut writer, host, options) {
-        Ok(followed) => {
-            if followed.has_rest {
-                let _ = eprintln!(host; "snapjudge: the last line has no end, and is left out");
-            }
-            match followed.code {
-                Some(code) => Ok(code),
-                None => Ok(too_few_views(host, asked.views).code()),
-            }
+    match system(host).open(name) {
+        Ok(text) => follow_texts(rt, host, &mut OneText::new(text), name, asked),
+        Err(Trouble::Folder) => follow_folder(rt, host, name, asked),
+        Err(trouble) => {
+            say_trouble(host, name, trouble);
+            Err(Failure::Unopened)
         }
-        Err(fault) => Err(Failure::Run(run_fault(fault))),
     }
 }

@@ -6,8 +6,8 @@ use snap_files::reason_line;
 use snap_names::{NamesFault, SystemFolders, names_below, read_names};
 use snap_words::{Places, Wanted, names_input_twice};
 
-// Says why a list or a folder names nothing.
-fn say(rt: &HostRuntime, name: &[u8], reason: &str) {
+/// Says a reason of a name.
+pub(crate) fn say(rt: &HostRuntime, name: &[u8], reason: &str) {
     let mut errors = Counted::new(rt.stderr());
     if let Ok(line) = reason_line(rt.alloc(), name, reason) {
         let _ = errors.send(&line);
@@ -18,6 +18,12 @@ fn say_fault(rt: &HostRuntime, name: &[u8], fault: &NamesFault) -> Failure {
     if let Ok(reason) = format!(in rt.alloc(); "{fault}") {
         say(rt, name, &reason);
     }
+    Failure::Unopened
+}
+
+/// Says that there are no recordings.
+pub(crate) fn say_none(rt: &HostRuntime) -> Failure {
+    let _ = eprintln!(rt; "snapjudge: there are no recordings");
     Failure::Unopened
 }
 
@@ -68,8 +74,7 @@ pub(crate) fn names_of(rt: &HostRuntime, wanted: Wanted) -> Result<Vec<Vec<u8>>,
     } = wanted;
     add_places(rt, &mut names, &places)?;
     if names.is_empty() {
-        let _ = eprintln!(rt; "snapjudge: there are no recordings");
-        return Err(Failure::Unopened);
+        return Err(say_none(rt));
     }
     Ok(names)
 }

@@ -6,8 +6,8 @@ use Rattle.std.specs.Io.KnownBytes.{Appends}
 use Rattle.snap_check.specs.declared.fault.RunFault.{RunFault}
 use Rattle.snap_check.specs.declared.fault.RunFault.TheVariants as faults
 use Rattle.snap_files.specs.declared.format.FileOptions.{FileOptions}
-use Rattle.snap_files.specs.declared.opener.Trouble.{Trouble}
-use Rattle.snap_files.specs.declared.opener.Trouble.TheVariants.{Unread, Memory}
+use Rattle.snap_names.specs.declared.opener.Trouble.{Trouble}
+use Rattle.snap_names.specs.declared.opener.Trouble.TheVariants.{Unread, Memory}
 use Rattle.snap_files.specs.Files.{Answer, Opens, IsPage, Told, Page, written, said, greatest_code}
 
 -- why a text that was opened has no status, by the fault of its check; what fails there as a write is in memory

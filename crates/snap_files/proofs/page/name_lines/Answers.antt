@@ -1,6 +1,7 @@
 use Rattle.std.proofs.Common.{◌≡◌, ◌++◌, ◌∙◌, ap, codes, subst, true, List, ℕ}
 use Rattle.std.specs.Prelude.{IfOk}
-use Rattle.snap_files.specs.Names.{fronted_from, shown}
+use Rattle.snap_files.specs.Names.{fronted_from}
+use Rattle.snap_names.specs.Shown.{shown}
 use Rattle.snap_files.proofs.page.name_lines.Goals as goal
 
 pub returns : goal.returns

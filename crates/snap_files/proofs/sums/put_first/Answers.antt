@@ -1,6 +1,6 @@
 use Rattle.std.proofs.Common.{◌≡◌, ◌++◌, ◌∙◌, ap, append_assoc, codes, subst, sym, List, ℕ}
 use Rattle.std.specs.Prelude.{OnOk, find}
-use Rattle.snap_files.specs.Names.{shown}
+use Rattle.snap_names.specs.Shown.{shown}
 use Rattle.snap_files.specs.inside.Sums.{IsFirst}
 use Rattle.snap_files.specs.Sums.{first_text, has_code}
 use Rattle.snap_files.proofs.Summing.{name_at}

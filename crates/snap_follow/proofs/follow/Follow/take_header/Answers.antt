@@ -1,4 +1,4 @@
-use Rattle.std.proofs.Common.{◌≡◌, ◌∷◌, refl, ap, ◌∙◌}
+use Rattle.std.proofs.Common.{◌∷◌, refl, ap, ◌∙◌}
 use Rattle.snap_follow.proofs.Reading.{header_read, nothing_more}
 use Rattle.snap_follow.proofs.follow.Follow.take_header.Goals as goal
 

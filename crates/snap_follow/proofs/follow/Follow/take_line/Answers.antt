@@ -1,6 +1,4 @@
-use Rattle.std.proofs.Common.{◌≡◌, ◌++◌, ◌∷◌, [], List, refl}
-use Rattle.snap_core.specs.declared.event.Event.{Event}
-use Rattle.snap_windows.specs.Taken.{HasTaken}
+use Rattle.std.proofs.Common.{refl}
 use Rattle.snap_follow.proofs.Reading.{event_read, nothing_more, on_ok}
 use Rattle.snap_follow.proofs.follow.Follow.take_line.Goals as goal
 

@@ -22,7 +22,7 @@ pub enum Trouble {
 
 /// What opens a text by its name. Several threads use it at once.
 pub trait Opener: Sync {
-    ghost use Rattle.snap_files.specs.declared.opener.Trouble.{Trouble};
+    ghost use Rattle.snap_names.specs.declared.opener.Trouble.{Trouble};
 
     /// The text, as a reader.
     type Text: Read + Drop + Send + Sync;
@@ -33,4 +33,10 @@ pub trait Opener: Sync {
     /// Opens the text of a name.
     fn open(&self, name: &[u8]) -> Result<Self::Text, Trouble>
         ensures { MatchResult result (λ text. opens self.now name.now (Ok (Self.Text.remaining text))) (λ trouble. opens self.now name.now (Err trouble)) };
+}
+
+/// What says how long the texts of names are now.
+pub trait Lengths {
+    /// How many bytes the text has; none where that can't be found out, as where there is no such file any more.
+    fn length(&self, name: &[u8]) -> Option<u64>;
 }

@@ -1,7 +1,7 @@
 //! The files of the system, and standard input. No contract says what they hold.
 ghost use Rattle.std.specs.Prelude.{⊤};
 
-use crate::opener::{Opener, Trouble};
+use crate::opener::{Lengths, Opener, Trouble};
 use std::fs::{self, OpenFile};
 use std::io::{ErrorKind, Read};
 use std::rt::{Files, Stdin};
@@ -67,5 +67,13 @@ where
             Ok(metadata) if metadata.is_dir() => Err(Trouble::Folder),
             _ => Ok(SystemText::File(file)),
         }
+    }
+}
+
+impl<R: Files> Lengths for System<'_, R> {
+    fn length(&self, name: &[u8]) -> Option<u64> {
+        let path = str::from_utf8(name).ok()?;
+        let metadata = fs::metadata(self.files, path).ok()?;
+        Some(metadata.len())
     }
 }

@@ -1,0 +1,139 @@
+//! The course of a recording that is followed: its bytes are cut into lines, and its windows are answered.
+ghost use Rattle.std.specs.Prelude.{ℕ, List, IfOk};
+ghost use Rattle.snap_core.specs.declared.event.Event.{Event};
+ghost use Rattle.snap_follow.specs.Followed.{HasRead, IsStatusOf};
+
+use crate::answers::Answers;
+use crate::follow::{Ended, Follow};
+use crate::sums::status_of;
+use memchr::memchr2;
+use snap_core::Limit;
+use snap_text::TextFault;
+use std::alloc::{AllocError, Global};
+use std::mem;
+
+/// How many bytes a record may have, which is far more than a record of a history has.
+pub const RECORD_LIMIT: usize = 1_048_576;
+
+/// The course of a recording so far.
+#[derive(Drop)]
+pub(crate) struct Course {
+    follow: Follow,
+    pub(crate) answers: Answers,
+    // the begin of a line whose end has not come
+    rest: Vec<u8>,
+}
+
+impl Course {
+    pub(crate) fn new(alloc: Global, least: u32, most: Limit) -> Course {
+        Course {
+            follow: Follow::new(alloc, least, most),
+            answers: Answers::new(alloc),
+            rest: Vec::new(alloc),
+        }
+    }
+
+    /// Whether a line has begun whose end has not come.
+    pub(crate) fn has_rest(&self) -> bool {
+        !self.rest.is_empty()
+    }
+
+    // Answers why the recording is followed no further.
+    fn refuse(&mut self, ended: Ended) -> Result<(), AllocError> {
+        match ended {
+            Ended::Refused { place, fault } => self.answers.add_refusal(place, fault),
+            Ended::Memory => Err(AllocError),
+        }
+    }
+
+    // Takes a line, and ends a window where one may end there. Whether the recording is followed further.
+    fn take_line(&mut self, alloc: Global, line: &[u8]) -> Result<bool, AllocError> {
+        if let Err(ended) = self.follow.take_line(alloc, line) {
+            self.refuse(ended)?;
+            return Ok(false);
+        }
+        if let Some(window) = self.follow.cut(alloc)? {
+            self.answers.add_window(&window)?;
+        }
+        Ok(true)
+    }
+
+    /// Takes the rest as a line. Whether the recording is followed further.
+    pub(crate) fn take_rest(&mut self, alloc: Global) -> Result<bool, AllocError> {
+        let line = mem::replace(&mut self.rest, Vec::new(alloc));
+        self.take_line(alloc, &line)
+    }
+
+    // Refuses the next record, where it has begun with more bytes than a record may have. Whether the recording is followed further.
+    fn has_end(&mut self) -> Result<bool, AllocError> {
+        if self.rest.len() <= RECORD_LIMIT {
+            return Ok(true);
+        }
+        let place = self.follow.next_place();
+        self.answers.add_refusal(place, TextFault::TooLong)?;
+        Ok(false)
+    }
+
+    // Takes the line that begins with the rest and ends with these bytes. Whether the recording is followed further.
+    fn take_joined(&mut self, alloc: Global, bytes: &[u8]) -> Result<bool, AllocError> {
+        if self.rest.is_empty() {
+            return self.take_line(alloc, bytes);
+        }
+        self.rest.extend_from_slice(bytes)?;
+        Ok(self.has_end()? && self.take_rest(alloc)?)
+    }
+
+    /// Takes the lines of a piece. The begin of a line without an end is kept. Whether the recording is followed further.
+    pub(crate) fn take_piece(&mut self, alloc: Global, piece: &[u8]) -> Result<bool, AllocError> {
+        let mut from = 0;
+        'lines: for _ in 0..piece.len() {
+            let Some(at) = memchr2(b'\n', b'\r', &piece[from..]) else {
+                break;
+            };
+            if !self.take_joined(alloc, &piece[from..from + at])? {
+                return Ok(false);
+            }
+            from += at + 1;
+        }
+        self.rest.extend_from_slice(&piece[from..])?;
+        self.has_end()
+    }
+
+    /// Goes on to the next text, since this one is whole. Whether the recording is followed further.
+    pub(crate) fn end_text(&mut self, alloc: Global) -> Result<bool, AllocError> {
+        if self.has_rest() && !self.take_rest(alloc)? {
+            return Ok(false);
+        }
+        if let Err(ended) = self.follow.end_text() {
+            self.refuse(ended)?;
+            return Ok(false);
+        }
+        Ok(true)
+    }
+
+    /// Refuses a text without any record. Whether the recording has ended well.
+    pub(crate) fn has_records(&mut self) -> Result<bool, AllocError> {
+        if self.follow.place().record > 0 {
+            return Ok(true);
+        }
+        let place = self.follow.next_place();
+        self.answers.add_refusal(place, TextFault::Header)?;
+        Ok(false)
+    }
+
+    /// Ends the recording, in which calls may be open. It answers the exit status of the whole.
+    pub(crate) fn finish(self, alloc: Global) -> Result<(u8, Answers), AllocError>
+        ensures { IfOk result (λ x. (texts : List (List (List ℕ))) (lines : List (List ℕ)) (events : List Event) → HasRead self.follow texts lines events → IsStatusOf events x.0) }
+    {
+        let Course {
+            follow,
+            mut answers,
+            rest: _,
+        } = self;
+        let (window, whole) = follow.finish(alloc)?;
+        if window.span.events > 0 {
+            answers.add_window(&window)?;
+        }
+        Ok((status_of(whole), answers))
+    }
+}

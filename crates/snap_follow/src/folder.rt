@@ -1,0 +1,133 @@
+//! A recording whose texts stand below a folder.
+use crate::texts::{Lost, Opened, Reason, Texts, TextsFault};
+use snap_names::{Folders, Lengths, NamesFault, Opener, Trouble, names_below};
+use std::alloc::{AllocError, Global};
+
+/// The texts below a folder, in the order of the bytes of their names. New ones may come behind them.
+#[derive(Drop)]
+pub struct FolderTexts<'a, F, O> {
+    folders: &'a F,
+    opener: &'a O,
+    folder: &'a [u8],
+    // the texts that were found, in their order, and how many of them were opened
+    names: Vec<Vec<u8>>,
+    opened: usize,
+    // of those that were left, how many bytes were read
+    lengths: Vec<u64>,
+}
+
+// A name at which the recording ends.
+fn lost(alloc: Global, name: &[u8], reason: Reason) -> TextsFault {
+    match Vec::from_slice(alloc, name) {
+        Ok(name) => TextsFault::Lost(Lost { name, reason }),
+        Err(_) => TextsFault::Memory,
+    }
+}
+
+impl<'a, F, O> FolderTexts<'a, F, O> {
+    /// The texts below a folder, none of which was opened.
+    pub fn new(
+        alloc: Global,
+        folders: &'a F,
+        opener: &'a O,
+        folder: &'a [u8],
+    ) -> FolderTexts<'a, F, O> {
+        FolderTexts {
+            folders,
+            opener,
+            folder,
+            names: Vec::new(alloc),
+            opened: 0,
+            lengths: Vec::new(alloc),
+        }
+    }
+
+    fn add_name(&mut self, name: Vec<u8>) -> Result<(), AllocError> {
+        Ok(self.names.push(name)?)
+    }
+
+    // Leaves the text at hand, of which so many bytes were read, and goes on to the next.
+    fn leave(&mut self, read: u64) -> Result<(), AllocError> {
+        if self.opened > 0 {
+            self.lengths.push(read)?;
+        }
+        self.opened = self.opened.saturating_add(1);
+        Ok(())
+    }
+}
+
+impl<F, O: Lengths> FolderTexts<'_, F, O> {
+    // Whether a text that was left has another length now.
+    fn has_changed(&self, place: usize, name: &[u8]) -> bool {
+        match (self.lengths.get(place), self.opener.length(name)) {
+            (Some(read), Some(length)) => *read != length,
+            _ => false,
+        }
+    }
+
+    // Takes a name that was listed behind those before it.
+    fn take_name(&mut self, alloc: Global, name: Vec<u8>) -> Result<(), TextsFault> {
+        // a folder that can't be listed stands among the names itself, and so does what may be no text
+        if name.as_slice() == self.folder || !name.ends_with(b".csv") {
+            return Err(lost(alloc, &name, Reason::Unopened(Trouble::Unopened)));
+        }
+        match self.names.binary_search(&name) {
+            Ok(place) if self.has_changed(place, &name) => {
+                Err(lost(alloc, &name, Reason::Changed))
+            }
+            Ok(_) => Ok(()),
+            Err(place) if place < self.names.len() => Err(lost(alloc, &name, Reason::Late)),
+            Err(_) => Ok(self.add_name(name)?),
+        }
+    }
+}
+
+impl<F: Folders, O: Lengths> FolderTexts<'_, F, O> {
+    // Takes all names below the folder.
+    fn take_names(&mut self, alloc: Global) -> Result<(), TextsFault> {
+        let listed = match names_below(alloc, self.folders, self.folder) {
+            Ok(listed) => listed,
+            Err(NamesFault::TooManyFolders) => {
+                return Err(lost(alloc, self.folder, Reason::TooManyFolders));
+            }
+            Err(_) => return Err(TextsFault::Memory),
+        };
+        for name in listed {
+            self.take_name(alloc, name)?;
+        }
+        Ok(())
+    }
+}
+
+impl<F: Folders, O: Opener + Lengths> Texts for FolderTexts<'_, F, O> {
+    type Text = O::Text;
+
+    fn has_next(&mut self, alloc: Global) -> Result<bool, TextsFault> {
+        if self.opened == self.names.len() {
+            self.take_names(alloc)?;
+        }
+        Ok(self.opened < self.names.len())
+    }
+
+    fn open_next(
+        &mut self,
+        alloc: Global,
+        read: u64,
+    ) -> Result<Option<Opened<O::Text>>, TextsFault> {
+        let Some(known) = self.names.get(self.opened) else {
+            return Ok(None);
+        };
+        let name = Vec::from_slice(alloc, known)?;
+        self.leave(read)?;
+        match self.opener.open(&name) {
+            Ok(text) => Ok(Some(Opened {
+                text,
+                name: Some(name),
+            })),
+            Err(trouble) => Err(TextsFault::Lost(Lost {
+                name,
+                reason: Reason::Unopened(trouble),
+            })),
+        }
+    }
+}

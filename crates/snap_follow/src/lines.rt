@@ -1,0 +1,78 @@
+//! The lines of windows.
+use crate::follow::{Place, Window};
+use crate::sums::Kind;
+use snap_core::Entry;
+use snap_names::put_shown;
+use snap_report::{put_entry, put_number};
+use snap_text::TextFault;
+use std::alloc::AllocError;
+
+// Adds a text, and behind it a record: its number, and the name of its text where that has one.
+fn put_place(
+    out: &mut Vec<u8>,
+    text: &[u8],
+    place: Place,
+    names: &[Vec<u8>],
+) -> Result<(), AllocError> {
+    put_number(out, text, place.record)?;
+    match names.get(place.text) {
+        Some(name) => {
+            out.extend_from_slice(b" of ")?;
+            put_shown(out, name)
+        }
+        None => Ok(()),
+    }
+}
+
+// Adds what a view misses, and the record that ends the view.
+fn put_missed(
+    out: &mut Vec<u8>,
+    missed: Option<(Entry, Place)>,
+    names: &[Vec<u8>],
+) -> Result<(), AllocError> {
+    match missed {
+        Some((entry, place)) => {
+            put_entry(out, b" misses ", &entry)?;
+            put_place(out, b" in record ", place, names)
+        }
+        None => Ok(()),
+    }
+}
+
+/// Adds the line of a window of this number, where the texts have these names.
+pub(crate) fn put_window(
+    out: &mut Vec<u8>,
+    number: u64,
+    window: &Window,
+    names: &[Vec<u8>],
+) -> Result<(), AllocError> {
+    put_number(out, b"window ", number)?;
+    put_number(out, b" events ", window.span.events)?;
+    out.push(b' ')?;
+    out.extend_from_slice(Kind::of(window.verdict).word())?;
+    put_place(out, b" from ", window.span.first, names)?;
+    put_place(out, b" to ", window.span.last, names)?;
+    put_missed(out, window.span.missed, names)?;
+    Ok(out.push(b'\n')?)
+}
+
+/// Adds the line of a window of this number that is refused at a record.
+pub(crate) fn put_refusal(
+    out: &mut Vec<u8>,
+    number: u64,
+    place: Place,
+    fault: TextFault,
+    names: &[Vec<u8>],
+) -> Result<(), AllocError> {
+    put_number(out, b"window ", number)?;
+    put_place(out, b" refused record ", place, names)?;
+    out.extend_from_slice(b": ")?;
+    out.extend_from_slice(fault.word().as_bytes())?;
+    Ok(out.push(b'\n')?)
+}
+
+/// Adds the line of a window of this number that can't be judged.
+pub(crate) fn put_failure(out: &mut Vec<u8>, number: u64) -> Result<(), AllocError> {
+    put_number(out, b"window ", number)?;
+    out.extend_from_slice(b" failed\n")
+}
