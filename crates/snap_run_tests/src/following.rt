@@ -1,11 +1,11 @@
 //! Recordings that are followed, window by window.
 use super::checks::{history, same};
 use snap_core::{Counted, Limit};
-use snap_follow::{FollowFault, FollowOptions, Followed, Until, follow_run};
+use snap_follow::{FollowFault, FollowOptions, Followed, OneText, Texts, Until, follow_run};
 use snap_testing::{Cup, Drip};
 use std::alloc::Global;
 use std::io;
-use std::io::{Read, Write};
+use std::io::Write;
 use std::sync::Wait;
 use std::sync::atomic::{AtomicU32, Ordering};
 use std::test::Fail;
@@ -13,7 +13,7 @@ use std::time::{Clock, Duration};
 
 // Counts how often somebody sleeps, and lets nobody wait.
 #[derive(Drop)]
-struct Naps {
+pub(crate) struct Naps {
     taken: AtomicU32,
 }
 
@@ -31,13 +31,18 @@ impl Clock for Naps {
     }
 }
 
-fn no_naps() -> Naps {
+pub(crate) fn no_naps() -> Naps {
     Naps {
         taken: AtomicU32::new(0),
     }
 }
 
-fn options(least: u32, most: u32, until: Until, views: u32) -> Result<FollowOptions, Fail> {
+pub(crate) fn options(
+    least: u32,
+    most: u32,
+    until: Until,
+    views: u32,
+) -> Result<FollowOptions, Fail> {
     let Some(most) = Limit::new(most) else {
         return Err(Fail::new(format_args!("no limit")));
     };
@@ -52,24 +57,26 @@ fn options(least: u32, most: u32, until: Until, views: u32) -> Result<FollowOpti
 // How a run ended, in a word and a status.
 fn end_of(answer: &Result<Followed, FollowFault>) -> (&'static str, Option<u8>) {
     match answer {
+        Ok(followed) if followed.lost.is_some() => ("lost", followed.code),
         Ok(followed) if followed.has_rest => ("with a rest", followed.code),
         Ok(followed) => ("whole", followed.code),
+        Err(FollowFault::NoText) => ("no text", None),
         Err(FollowFault::Read) => ("read failed", None),
         Err(FollowFault::Write) => ("write failed", None),
         Err(FollowFault::Memory) => ("out of memory", None),
     }
 }
 
-fn followed<Rt: Wait, R: Read + Drop>(
+// How a recording is followed, and what is written then.
+pub(crate) fn followed<Rt: Wait, T: Texts>(
     rt: &Rt,
     alloc: Global,
-    reader: R,
+    texts: &mut T,
     naps: &Naps,
     asked: FollowOptions,
 ) -> (&'static str, Option<u8>, Vec<u8>) {
-    let mut reader = Counted::new(reader);
     let mut writer = Counted::new(Vec::new(alloc));
-    let answer = follow_run(rt, alloc, &mut reader, &mut writer, naps, asked);
+    let answer = follow_run(rt, alloc, texts, &mut writer, naps, asked);
     let (end, code) = end_of(&answer);
     (end, code, writer.into_inner())
 }
@@ -228,12 +235,24 @@ fn recordings_are_cut_into_windows(rt: HostRuntime) -> Result<(), Fail> {
     for (text, least, most, code, windows, sums) in RECORDINGS {
         let wanted = format!(in rt.alloc(); "{windows}{sums}")?;
         let asked = options(*least, *most, Until::End, 0)?;
-        let (end, found, out) = followed(&rt, rt.alloc(), text.as_bytes(), &no_naps(), asked);
+        let (end, found, out) = followed(
+            &rt,
+            rt.alloc(),
+            &mut OneText::new(text.as_bytes()),
+            &no_naps(),
+            asked,
+        );
         same((end, found), ("whole", Some(*code)))?;
         same(str::from_utf8(&out)?, wanted.as_str())?;
         // byte by byte it is the same
         let drip = Drip::new(text.as_bytes(), 0);
-        let (end, found, out) = followed(&rt, rt.alloc(), drip, &no_naps(), asked);
+        let (end, found, out) = followed(
+            &rt,
+            rt.alloc(),
+            &mut OneText::new(drip),
+            &no_naps(),
+            asked,
+        );
         same((end, found), ("whole", Some(*code)))?;
         same(str::from_utf8(&out)?, wanted.as_str())?;
     }
@@ -245,11 +264,23 @@ fn a_last_line_without_an_end_counts_where_the_text_is_whole(rt: HostRuntime) ->
     let text = history(rt.alloc(), "begin,0,view,\nend,0,view,")?;
     let naps = no_naps();
     let asked = options(1, 100, Until::End, 0)?;
-    let (end, code, out) = followed(&rt, rt.alloc(), text.as_bytes(), &naps, asked);
+    let (end, code, out) = followed(
+        &rt,
+        rt.alloc(),
+        &mut OneText::new(text.as_bytes()),
+        &naps,
+        asked,
+    );
     same((end, code), ("whole", Some(0)))?;
     assert!(rt; out.starts_with(b"window 1 events 2 atomic from 2 to 3\n"));
     let asked = options(1, 100, Until::Idle(2), 0)?;
-    let (end, code, out) = followed(&rt, rt.alloc(), text.as_bytes(), &naps, asked);
+    let (end, code, out) = followed(
+        &rt,
+        rt.alloc(),
+        &mut OneText::new(text.as_bytes()),
+        &naps,
+        asked,
+    );
     same((end, code), ("with a rest", Some(0)))?;
     assert!(rt; out.starts_with(b"window 1 events 1 atomic from 2 to 2\n"));
     // ten pauses are a second
@@ -261,7 +292,13 @@ fn a_last_line_without_an_end_counts_where_the_text_is_whole(rt: HostRuntime) ->
 fn fewer_views_than_were_asked_for_have_no_status(rt: HostRuntime) -> Result<(), Fail> {
     for (views, code) in [(3, Some(2)), (4, None)] {
         let asked = options(4, 100, Until::End, views)?;
-        let (end, found, _) = followed(&rt, rt.alloc(), LONG.as_bytes(), &no_naps(), asked);
+        let (end, found, _) = followed(
+            &rt,
+            rt.alloc(),
+            &mut OneText::new(LONG.as_bytes()),
+            &no_naps(),
+            asked,
+        );
         same((end, found), ("whole", code))?;
     }
     Ok(())
@@ -271,7 +308,7 @@ fn fewer_views_than_were_asked_for_have_no_status(rt: HostRuntime) -> Result<(),
 fn a_read_that_fails_ends_it_behind_the_windows(rt: HostRuntime) -> Result<(), Fail> {
     let asked = options(4, 100, Until::End, 0)?;
     let drip = Drip::new(LONG.as_bytes(), LONG.len() as u64);
-    let (end, code, out) = followed(&rt, rt.alloc(), drip, &no_naps(), asked);
+    let (end, code, out) = followed(&rt, rt.alloc(), &mut OneText::new(drip), &no_naps(), asked);
     same((end, code), ("read failed", None))?;
     same(
         str::from_utf8(&out)?,
@@ -282,10 +319,10 @@ fn a_read_that_fails_ends_it_behind_the_windows(rt: HostRuntime) -> Result<(), F
 #[test]
 fn a_write_that_fails_ends_it(rt: HostRuntime) -> Result<(), Fail> {
     for room in [0, 10, 100, 200] {
-        let mut reader = Counted::new(LONG.as_bytes());
+        let mut texts = OneText::new(LONG.as_bytes());
         let mut writer = Counted::new(Cup::new(rt.alloc(), room, 1000, true, false));
         let asked = options(4, 100, Until::End, 0)?;
-        let answer = follow_run(&rt, rt.alloc(), &mut reader, &mut writer, &no_naps(), asked);
+        let answer = follow_run(&rt, rt.alloc(), &mut texts, &mut writer, &no_naps(), asked);
         same(end_of(&answer), ("write failed", None))?;
         same(writer.into_inner().held.len(), room)?;
     }
@@ -298,7 +335,13 @@ fn a_record_has_an_end(rt: HostRuntime) -> Result<(), Fail> {
     text.extend_from_slice(b"event,process,op,data\n")?;
     text.resize(2_000_000, b'x')?;
     let asked = options(1, 100, Until::End, 0)?;
-    let (end, code, out) = followed(&rt, rt.alloc(), text.as_slice(), &no_naps(), asked);
+    let (end, code, out) = followed(
+        &rt,
+        rt.alloc(),
+        &mut OneText::new(text.as_slice()),
+        &no_naps(),
+        asked,
+    );
     same((end, code), ("whole", Some(3)))?;
     assert!(rt; out.starts_with(b"window 1 refused record 2: toolong\n"));
     Ok(())

@@ -15,6 +15,8 @@ mod files;
 #[cfg(test)]
 mod following;
 #[cfg(test)]
+mod following_folders;
+#[cfg(test)]
 mod jobs;
 #[cfg(test)]
 mod limits;

@@ -58,9 +58,10 @@ their records. A file that can't be read has an object too, with the reason. Not
 With --summary the reports are left out. Once all files are judged it prints how many there are, and
 how many have each status, with the first of them. Not with --quiet, and not with --format json.
 
-With --follow one recording is judged while it grows, window by window. Each window ends at a moment
-at which no call is open, and the next one begins from what was left. Each is answered by a line, and
-the sums come at the end. With --idle N that is when nothing has come for N seconds.
+With --follow one recording is judged while it grows, window by window: a file, or all *.csv below a
+folder. Each window ends at a moment at which no call is open, and the next one begins from what was
+left. Each is answered by a line, and the sums come at the end. With --idle N that is when nothing has
+come for N seconds.
 
 On a terminal a line on standard error shows how far it is, where there are more than 100 files or a
 second has passed. --no-progress leaves it out. The verdicts have colours there, unless --color never

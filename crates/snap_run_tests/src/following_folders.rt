@@ -1,0 +1,213 @@
+//! Recordings whose texts stand below a folder, and come while they are followed.
+ghost use Rattle.std.specs.Prelude.{⊤};
+
+use super::checks::same;
+use super::following::{followed, no_naps, options};
+use snap_follow::{FolderTexts, Until};
+use snap_names::{Entry, Folders, Kind, Lengths, Opener, Trouble};
+use snap_testing::Drip;
+use std::alloc::{AllocError, Global};
+use std::sync::atomic::{AtomicUsize, Ordering};
+use std::test::Fail;
+
+// A text of a folder: its name there, and what it says; none where it can't be opened.
+type Page = (&'static str, Option<&'static str>);
+
+// A folder `t` whose listings show one more of its texts each time. Of one text the length is another than what is read.
+#[derive(Drop)]
+struct Binder {
+    pages: &'static [Page],
+    changed: &'static [u8],
+    listed: AtomicUsize,
+}
+
+impl Binder {
+    // What the text of a path says, if it has one and can be opened.
+    fn text(&self, path: &[u8]) -> Option<&'static str> {
+        for (name, text) in self.pages {
+            if path.strip_prefix(b"t/") == Some(name.as_bytes()) {
+                return *text;
+            }
+        }
+        None
+    }
+}
+
+impl Folders for Binder {
+    ghost lists = { λ _ _ _. ⊤ };
+
+    fn list(&self, alloc: Global, _folder: &[u8]) -> Result<Option<Vec<Entry>>, AllocError> {
+        let shown = self.listed.fetch_add(1, Ordering::Relaxed);
+        let mut entries = Vec::new(alloc);
+        for (name, _) in self.pages.iter().take(shown) {
+            let name = Vec::from_slice(alloc, name.as_bytes())?;
+            let kind = Kind::File;
+            entries.push(Entry { name, kind })?;
+        }
+        Ok(Some(entries))
+    }
+}
+
+impl Opener for Binder {
+    type Text = Drip<'static>;
+
+    ghost opens = { λ _ _ _. ⊤ };
+
+    fn open(&self, name: &[u8]) -> Result<Drip<'static>, Trouble> {
+        match self.text(name) {
+            Some(text) => Ok(Drip::new(text.as_bytes(), 0)),
+            None => Err(Trouble::Unopened),
+        }
+    }
+}
+
+impl Lengths for Binder {
+    fn length(&self, name: &[u8]) -> Option<u64> {
+        let more = u64::from(name == self.changed);
+        let text = self.text(name)?;
+        Some((text.len() as u64).saturating_add(more))
+    }
+}
+
+const FIRST: &str = "\
+event,process,op,data
+begin,0,update,0:1:7
+end,0,update,
+";
+
+const SECOND: &str = "\
+event,process,op,data
+begin,1,view,
+end,1,view,0:1:7
+";
+
+// The texts of a folder, the one that changes, how the run ends, its status, and the lines of the windows with the first of the sums.
+type Recording = (
+    &'static [Page],
+    &'static [u8],
+    &'static str,
+    Option<u8>,
+    &'static str,
+);
+
+const RECORDINGS: &[Recording] = &[
+    // a call is open at the end of each text, and what is no recording is left out
+    (
+        &[
+            (
+                "1.csv",
+                Some("event,process,op,data\nbegin,0,update,0:1:7\nend,0,update,\nbegin,1,view,\n"),
+            ),
+            ("2.txt", None),
+            (
+                "2.csv",
+                Some(
+                    "event,process,op,data\nend,1,view,0:1:7\nbegin,1,view,\nbegin,0,update,0:2:8\n",
+                ),
+            ),
+            (
+                "3.csv",
+                Some(
+                    "event,process,op,data\nend,1,view,0:2:8\nend,0,update,\nbegin,2,view,\nend,2,view,0:2:8\n",
+                ),
+            ),
+        ],
+        b"",
+        "whole",
+        Some(0),
+        "window 1 events 2 atomic from 2 of t/1.csv to 3 of t/1.csv\nwindow 2 events 2 atomic from 4 of t/1.csv to 2 of t/2.csv\n\
+         window 3 events 4 atomic from 3 of t/2.csv to 3 of t/3.csv\nwindow 4 events 2 atomic from 4 of t/3.csv to 5 of t/3.csv\n\
+         windows 4 events 10 views 3\n",
+    ),
+    // what the text before left is not shown
+    (
+        &[
+            ("1.csv", Some(FIRST)),
+            (
+                "a\nb.csv",
+                Some("event,process,op,data\nbegin,1,view,\nend,1,view,\n"),
+            ),
+        ],
+        b"",
+        "whole",
+        Some(2),
+        "window 1 events 2 atomic from 2 of t/1.csv to 3 of t/1.csv\n\
+         window 2 events 2 not-regular from 2 of t/a\\nb.csv to 3 of t/a\\nb.csv misses 0:1:7 in record 3 of t/a\\nb.csv\n\
+         windows 2 events 4 views 1\n",
+    ),
+    // the last line of a text that is whole needs no end
+    (
+        &[
+            (
+                "1.csv",
+                Some("event,process,op,data\nbegin,0,update,0:1:7\nend,0,update,"),
+            ),
+            ("2.csv", Some(SECOND)),
+        ],
+        b"",
+        "whole",
+        Some(0),
+        "window 1 events 2 atomic from 2 of t/1.csv to 3 of t/1.csv\nwindow 2 events 2 atomic from 2 of t/2.csv to 3 of t/2.csv\n\
+         windows 2 events 4 views 1\n",
+    ),
+    // numbers go on from text to text
+    (
+        &[("1.csv", Some(FIRST)), ("2.csv", Some(FIRST))],
+        b"",
+        "whole",
+        Some(3),
+        "window 1 events 2 atomic from 2 of t/1.csv to 3 of t/1.csv\nwindow 2 refused record 2 of t/2.csv: number\n\
+         windows 2 events 2 views 0\n",
+    ),
+    // a text without a header
+    (
+        &[("1.csv", Some("")), ("2.csv", Some(SECOND))],
+        b"",
+        "whole",
+        Some(3),
+        "window 1 refused record 1 of t/1.csv: header\nwindows 1 events 0 views 0\n",
+    ),
+    // an earlier text that comes late
+    (
+        &[("2.csv", Some(FIRST)), ("1.csv", Some(SECOND))],
+        b"",
+        "lost",
+        Some(4),
+        "window 1 events 2 atomic from 2 of t/2.csv to 3 of t/2.csv\nwindow 2 failed\nwindows 2 events 2 views 0\n",
+    ),
+    // an earlier text that changes
+    (
+        &[("1.csv", Some(FIRST)), ("2.csv", Some(SECOND))],
+        b"t/1.csv",
+        "lost",
+        Some(4),
+        "window 1 events 2 atomic from 2 of t/1.csv to 3 of t/1.csv\nwindow 2 events 2 atomic from 2 of t/2.csv to 3 of t/2.csv\n\
+         window 3 failed\nwindows 3 events 4 views 1\n",
+    ),
+    // a text that can't be opened
+    (
+        &[("1.csv", Some(FIRST)), ("2.csv", None)],
+        b"",
+        "lost",
+        Some(4),
+        "window 1 events 2 atomic from 2 of t/1.csv to 3 of t/1.csv\nwindow 2 failed\nwindows 2 events 2 views 0\n",
+    ),
+    (&[], b"", "no text", None, ""),
+];
+
+#[test]
+fn the_texts_of_a_folder_are_one_recording(rt: HostRuntime) -> Result<(), Fail> {
+    for (pages, changed, how, status, lines) in RECORDINGS {
+        let binder = Binder {
+            pages: *pages,
+            changed: *changed,
+            listed: AtomicUsize::new(0),
+        };
+        let mut texts = FolderTexts::new(rt.alloc(), &binder, &binder, b"t");
+        let asked = options(2, 100, Until::Idle(1), 0)?;
+        let (end, code, out) = followed(&rt, rt.alloc(), &mut texts, &no_naps(), asked);
+        same((end, code), (*how, *status))?;
+        assert!(rt; out.starts_with(lines.as_bytes()));
+    }
+    Ok(())
+}
