@@ -1,13 +1,17 @@
 -- What the lines of a recording say.
-use Rattle.std.specs.Prelude.{ℕ, true, false, List, [], ◌∷◌, ◌++◌, ◌≡◌, ◌⊎◌, ◌↔◌, Ok, map, flat_map}
+use Rattle.std.specs.Prelude.{⊤, ℕ, true, false, List, [], ◌∷◌, ◌++◌, ◌≡◌, ◌⊎◌, ◌↔◌, Ok, map, flat_map}
 use Rattle.snap_core.specs.declared.event.Event.{Event}
 use Rattle.snap_core.specs.Calls.{calls_of}
+use Rattle.snap_core.specs.Events.{IsHistory}
 use Rattle.snap_core.specs.Orders.{IsAtomic}
 use Rattle.snap_core.specs.Regular.{IsRegular}
 use Rattle.snap_csv.specs.Layout.{is_header_row}
 use Rattle.snap_csv.specs.Rows.{rows_of}
 use Rattle.snap_text.specs.Fields.{Fields, row_event}
+use Rattle.snap_follow.specs.declared.follow.Ended.{Ended}
+use Rattle.snap_follow.specs.declared.follow.Ended.TheVariants.{Refused, Memory}
 use Rattle.snap_follow.specs.declared.follow.Follow.{Follow}
+use Rattle.snap_text.specs.declared.fault.TextFault.TheVariants.{TooMany}
 use Rattle.snap_windows.specs.Taken.{HasTaken}
 
 -- records that begin with a header, and each other spells one of these events
@@ -45,6 +49,21 @@ pub record HasRead (follow : Follow) (texts : List (List (List ℕ))) (lines : L
 abbrev pub ReadsLine : Follow → Follow → List ℕ → Type 0
 ReadsLine old new line = (texts : List (List (List ℕ))) (lines : List (List ℕ)) (events : List Event) → HasRead old texts lines events →
     (more : List Event) × HasRead new texts (lines ++ line ∷ []) (events ++ more)
+
+-- records that go on with a recording of these events: none; the header alone, where none was read; or, where one was, one that
+-- spells an event with which the events are a history
+abbrev pub GoesOn : Follow → List Event → List Fields → Type 0
+GoesOn follow events rows = (rows ≡ []) ⊎ (((follow.headed ≡ false) × (head : Fields) × (rows ≡ head ∷ []) × (is_header_row head ≡ true))
+    ⊎ ((follow.headed ≡ true) × (row : Fields) × (x : Event) × (rows ≡ row ∷ []) × (row_event row ≡ Ok x) × IsHistory (events ++ x ∷ [])))
+
+-- a window has no room, or memory ran out
+abbrev pub IsLack : Ended → Type 0
+IsLack (Refused place fault) = fault ≡ TooMany
+IsLack Memory = ⊤
+
+-- a line is refused, and not for lack of room: it does not go on with the recording
+abbrev pub RefusesLine : Follow → List ℕ → Ended → Type 0
+RefusesLine old line why = (texts : List (List (List ℕ))) (lines : List (List ℕ)) (events : List Event) → HasRead old texts lines events → GoesOn old events (rows_of line) → IsLack why
 
 -- the text at hand has ended, and the next one begins
 abbrev pub EndsText : Follow → Follow → Type 0

@@ -1,12 +1,17 @@
 //! A recording that is followed, line by line.
-ghost use Rattle.std.specs.Prelude.{◌≡◌, ◌++◌, ◌∷◌, [], ◌↔◌, ℕ, List, IsTrue, IfOk, IfSome, OnOk, false};
+ghost use Rattle.std.specs.Prelude.{◌≡◌, ◌⊎◌, ◌++◌, ◌∷◌, [], ◌↔◌, ℕ, List, IsTrue, IfErr, IfOk, IfSome, OnOk, false};
 ghost use Rattle.snap_core.specs.declared.event.Event.{Event};
 ghost use Rattle.snap_core.specs.Calls.{calls_of};
+ghost use Rattle.snap_core.specs.Events.{IsHistory};
+ghost use Rattle.snap_core.specs.declared.history.EventRefusal.TheVariants as refusals;
+ghost use Rattle.snap_csv.specs.Faults.{fault_of};
+ghost use Rattle.snap_follow.specs.declared.follow.Ended.TheVariants as ends;
+ghost use Rattle.snap_text.specs.declared.fault.TextFault.TheVariants as faults;
 ghost use Rattle.snap_core.specs.Orders.{IsAtomic};
 ghost use Rattle.snap_core.specs.Regular.{IsRegular};
 ghost use Rattle.snap_windows.specs.Taken.{HasTaken};
 ghost use Rattle.snap_windows.specs.Verdicts.{IsVerdict};
-ghost use Rattle.snap_follow.specs.Followed.{EndsText, HasRead, ReadsLine};
+ghost use Rattle.snap_follow.specs.Followed.{EndsText, HasRead, IsLack, ReadsLine, RefusesLine};
 
 use snap_core::{Entry, Event, EventRefusal, Limit};
 use snap_csv::{ReadRefusal, is_header_line, read_line};
@@ -51,6 +56,8 @@ pub enum Ended {
 }
 
 impl From<AllocError> for Ended {
+    ghost from_gives = { λ _ ended. ended ≡ ends.Memory };
+
     fn from(_error: AllocError) -> Ended {
         Ended::Memory
     }
@@ -81,7 +88,9 @@ fn open_behind(open: u64, event: &Event) -> u64 {
 }
 
 // The fault that a refusal of an event stands for, want of memory aside.
-fn fault_for(refusal: EventRefusal) -> Option<TextFault> {
+fn fault_for(refusal: EventRefusal) -> Option<TextFault>
+    ensures { result ≡ fault_of refusal }
+{
     match refusal {
         EventRefusal::TooMany => Some(TextFault::TooMany),
         EventRefusal::Busy => Some(TextFault::Busy),
@@ -158,7 +167,9 @@ impl Follow {
     }
 
     // The refusal of the record that was read last.
-    fn refused(&self, fault: TextFault) -> Ended {
+    fn refused(&self, fault: TextFault) -> Ended
+        ensures { fault ≡ faults.TooMany → IsLack result }
+    {
         Ended::Refused {
             place: self.place,
             fault,
@@ -173,6 +184,16 @@ impl Follow {
         }
     }
 
+    // The same where the judge has refused its event.
+    fn refused_event(&self, refusal: EventRefusal) -> Ended
+        ensures { (refusal ≡ refusals.TooMany) ⊎ (refusal ≡ refusals.Memory) → IsLack result }
+    {
+        match fault_for(refusal) {
+            Some(fault) => self.refused(fault),
+            None => Ended::Memory,
+        }
+    }
+
     // The refusal of the next record.
     fn refused_next(&mut self, fault: TextFault) -> Ended {
         self.place = self.next_place();
@@ -182,7 +203,8 @@ impl Follow {
     // Reads the header.
     fn take_header(&mut self, alloc: Global, line: &[u8]) -> Result<(), Ended>
         requires { self.old.headed ≡ false }
-        ensures { OnOk result (ReadsLine self.old self.new line.now) }
+        ensures read { OnOk result (ReadsLine self.old self.new line.now) }
+        ensures refused { IfErr result (λ why. RefusesLine self.old line.now why) }
     {
         let Some(is_header) = is_header_line(alloc, line)? else {
             return Ok(());
@@ -199,15 +221,11 @@ impl Follow {
     fn take_event(&mut self, alloc: Global, event: &Event) -> Result<(), Ended>
         ensures taken { OnOk result ((before since : List Event) → HasTaken self.old.judge before since → HasTaken self.new.judge before (since ++ event.now ∷ [])) }
         ensures headed { self.new.headed ≡ self.old.headed }
+        ensures refused { IfErr result (λ why. (before since : List Event) → HasTaken self.old.judge before since → IsHistory (before ++ (since ++ event.now ∷ [])) → IsLack why) }
     {
         let missed = match self.judge.take(alloc, event) {
             Ok(missed) => missed,
-            Err(refusal) => {
-                return Err(match fault_for(refusal) {
-                    Some(fault) => self.refused(fault),
-                    None => Ended::Memory,
-                });
-            }
+            Err(refusal) => return Err(self.refused_event(refusal)),
         };
         self.span = self.span.with(event, self.place, missed);
         self.open = open_behind(self.open, event);
@@ -217,7 +235,8 @@ impl Follow {
     /// Reads the next line of the text at hand. A line without a record says nothing. The first record is the header, and each other
     /// one an event. After a refusal the recording is followed no further.
     pub fn take_line(&mut self, alloc: Global, line: &[u8]) -> Result<(), Ended>
-        ensures { OnOk result (ReadsLine self.old self.new line.now) }
+        ensures read { OnOk result (ReadsLine self.old self.new line.now) }
+        ensures refused { IfErr result (λ why. RefusesLine self.old line.now why) }
     {
         if !self.headed {
             return self.take_header(alloc, line);

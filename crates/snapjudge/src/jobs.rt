@@ -10,7 +10,7 @@ use crate::names::names_of;
 use crate::options::limit_of;
 use snap_check::{RunFault, Status};
 use snap_core::{Counted, Limit};
-use snap_files::SystemText;
+use snap_names::SystemText;
 use snap_picture::{Explained, Lines, Page, Svg, draw_explained_run, draw_run, draw_witness_run};
 use snap_runs::{explain_run, record_rounds, record_rounds_stamped, shrink_run};
 use snap_threads::Cutting;

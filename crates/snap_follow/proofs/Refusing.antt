@@ -1,0 +1,39 @@
+-- Why a line is refused.
+use Rattle.std.proofs.Common.{◌≡◌, ℕ, true, List, [], ◌∷◌, ◌++◌, append_assoc, length, Result, Ok, Err, sym, ap, ◌∙◌, subst, inl, inr, arith}
+use Rattle.std.specs.Prelude.{IfErr}
+use Rattle.std.proofs.lemmas.Bool.{false≢true}
+use Rattle.snap_core.specs.declared.event.Event.{Event}
+use Rattle.snap_core.specs.Events.{IsHistory}
+use Rattle.snap_csv.specs.Rows.{rows_of}
+use Rattle.snap_text.specs.Fields.{Fields, row_event}
+use Rattle.snap_windows.specs.Taken.{HasTaken}
+use Rattle.snap_follow.specs.declared.follow.Ended.{Ended}
+use Rattle.snap_follow.specs.declared.follow.Follow.{Follow}
+use Rattle.snap_follow.specs.Followed.{IsLack, RefusesLine}
+
+abbrev first_or : Fields → List Fields → Fields
+first_or row [] = row
+first_or row (x ∷ xs) = x
+
+abbrev event_or : {E : Type 0} → Event → Result Event E → Event
+event_or x (Ok y) = y
+event_or x (Err e) = x
+
+no_first : (x : Fields) (xs : List Fields) → x ∷ xs ≡ [] → ⊥
+no_first x xs e = omega (arith, ap length e)
+
+-- an event that the judge refuses
+pub event_refused : (f : Follow) (line : List ℕ) (why : Ended) (row : Fields) (x : Event) → f.headed ≡ true → rows_of line ≡ row ∷ [] → row_event row ≡ Ok x →
+    ((before since : List Event) → HasTaken f.judge before since → IsHistory (before ++ (since ++ x ∷ [])) → IsLack why) → RefusesLine f line why
+event_refused f line why row x old rows event refused texts lines events h (inl none) = absurd (no_first row [] (sym rows ∙ none))
+event_refused f line why row x old rows event refused texts lines events h (inr (inl (o, head, is, header))) = absurd (false≢true (sym o ∙ old))
+event_refused f line why row x old rows event refused texts lines events h (inr (inr (o, other, y, is, spelled, history))) =
+    refused h.before h.since h.taken (subst IsHistory (ap (λ z. z ++ y ∷ []) h.windows ∙ append_assoc h.before h.since (y ∷ []) ∙ ap (λ z. h.before ++ (h.since ++ z ∷ [])) same) history)
+  where
+    same : y ≡ x
+    same = sym (ap (event_or y) (ap row_event (ap (first_or row) (sym rows ∙ is)) ∙ spelled)) ∙ ap (event_or y) event
+
+-- a refusal that says one thing says another
+pub on_err : {X E : Type 0} (r : Result X E) (P Q : E → Type 0) → IfErr r P → ((e : E) → P e → Q e) → IfErr r Q
+on_err (Ok x) P Q h f = tt
+on_err (Err e) P Q h f = f e h
