@@ -5,6 +5,7 @@ The judge of windows of the program is proved, and the cutting of the module is 
 import io
 import os
 import random
+import shutil
 import subprocess
 import sys
 import tempfile
@@ -21,8 +22,8 @@ sys.path[:0] = [os.path.join(HERE, "..")]
 from differential import history  # noqa: E402
 
 PROGRAM = os.environ["SNAPJUDGE_PROGRAM"]
-# How many recordings are drawn.
-DRAWN = 400
+# How many recordings are drawn, and how many of folders.
+DRAWN, FOLDERS = 400, 100
 
 
 def by_program(text, *words):
@@ -31,17 +32,20 @@ def by_program(text, *words):
     return ran.returncode, ran.stdout.decode()
 
 
-def by_module(text, *words):
+def by_module(path, *words):
     """The same of the module, whose option for the least length of a window has another name."""
     lines = []
-    with tempfile.NamedTemporaryFile(suffix=".csv") as file:
-        file.write(text.encode())
-        file.flush()
-        with mock.patch("snapjudge.follow.write", lines.append), redirect_stderr(io.StringIO()), mock.patch("snapjudge.follow.say"):
-            asked = follow.words_of(["--once", *words, file.name])
-            with mock.patch.object(follow, "Interrupts", Calm):
-                code = follow.run(asked)
+    with mock.patch("snapjudge.follow.write", lines.append), redirect_stderr(io.StringIO()), mock.patch("snapjudge.follow.say"):
+        asked = follow.words_of(["--once", *words, path])
+        with mock.patch.object(follow, "Interrupts", Calm):
+            code = follow.run(asked)
     return code, b"".join(lines).decode()
+
+
+def program_over(path, *words, idle="1"):
+    """The program that follows a path."""
+    asked = [PROGRAM, "check", "--follow", "--idle", idle, *words, path]
+    return subprocess.Popen(asked, stdout=subprocess.PIPE, stderr=subprocess.PIPE, text=True)
 
 
 class Calm:
@@ -67,7 +71,10 @@ def changed(rows, draw):
 class Beside(unittest.TestCase):
     def same(self, text, least, *words):
         found = by_program(text, "--window", str(least), *words)
-        self.assertEqual(found, by_module(text, "--events", str(least), *words), text)
+        with tempfile.NamedTemporaryFile("w", suffix=".csv") as file:
+            file.write(text)
+            file.flush()
+            self.assertEqual(found, by_module(file.name, "--events", str(least), *words), text)
         return found[0]
 
     def test_drawn_recordings_have_the_same_lines(self):
@@ -85,6 +92,73 @@ class Beside(unittest.TestCase):
         text = text_of(CALM + LATER)
         self.assertEqual(by_program(text, "--window", "4", "--views", "3")[0], 0)
         self.assertEqual(by_program(text, "--window", "4", "--views", "4")[0], 3)
+
+    def test_drawn_folders_have_the_same_lines(self):
+        draw, seen = random.Random(30), [0] * 4
+        with tempfile.TemporaryDirectory() as room:
+            rounds = []
+            for number in range(FOLDERS):
+                folder = os.path.join(room, str(number))
+                os.mkdir(folder)
+                rows = changed(history(draw)[1:], draw)
+                places = sorted(draw.randint(0, len(rows)) for _ in range(draw.randrange(4)))
+                for name, (begin, end) in enumerate(zip([0, *places], [*places, len(rows)])):
+                    with open(os.path.join(folder, f"{name}.csv"), "w") as file:
+                        file.write(text_of(rows[begin:end]))
+                least = str(draw.choice((1, 2, 5)))
+                rounds.append((folder, least, program_over(folder, "--window", least)))
+            for folder, least, ran in rounds:
+                lines, _ = ran.communicate(timeout=PATIENCE)
+                self.assertEqual((ran.returncode, lines), by_module(folder, "--events", least), folder)
+                seen[ran.returncode] += 1
+        self.assertTrue(min(seen) > FOLDERS / 50, seen)
+
+    def test_files_come_while_a_folder_is_followed(self):
+        with tempfile.TemporaryDirectory() as room:
+            def put(name, rows):
+                with open(os.path.join(room, name), "w") as file:
+                    file.write(text_of(rows))
+
+            with program_over(room, "--window", "4") as ran:
+                time.sleep(0.3)
+                put("1.csv", CALM[:3])
+                time.sleep(0.3)
+                # a call may be open at the end of a file
+                put("2.csv", CALM[3:] + LATER[:2])
+                self.assertEqual(ran.stdout.readline(), f"window 1 events 4 atomic from 2 of {room}/1.csv to 2 of {room}/2.csv\n")
+                put("3.csv", LATER[2:])
+                put("notes.txt", ["no record"])
+                rest = ran.stdout.read()
+                self.assertEqual(ran.wait(PATIENCE), 0)
+        self.assertTrue(rest.startswith(f"window 2 events 4 atomic from 3 of {room}/2.csv to 3 of {room}/3.csv\n"
+                                        f"window 3 events 2 atomic from 4 of {room}/3.csv to 5 of {room}/3.csv\nwindows 3 events 10 views 3\n"), rest)
+
+    def test_a_folder_in_which_an_earlier_file_changes_has_failed(self):
+        for name, told in (("1.csv", "came too late: a later name is read"), ("2.csv", "has changed after a later file began"), (None, "can't be opened")):
+            with tempfile.TemporaryDirectory() as room:
+                folder = os.path.join(room, "runs")
+                os.mkdir(folder)
+                for file, rows in (("2.csv", CALM), ("3.csv", LATER)):
+                    with open(os.path.join(folder, file), "w") as to:
+                        to.write(text_of(rows))
+                with program_over(folder, "--window", "4", idle="20") as ran:
+                    for line in (f"window 1 events 4 atomic from 2 of {folder}/2.csv to 5 of {folder}/2.csv\n",
+                                 f"window 2 events 4 atomic from 2 of {folder}/3.csv to 5 of {folder}/3.csv\n"):
+                        self.assertEqual(ran.stdout.readline(), line)
+                    if name:
+                        with open(os.path.join(folder, name), "a") as to:
+                            to.write(text_of(LATER + LATER))
+                    else:
+                        shutil.rmtree(folder)
+                    lines, said = ran.communicate(timeout=PATIENCE)
+                at = os.path.join(folder, name) if name else folder
+                self.assertEqual((ran.returncode, lines.splitlines()[0], said), (4, "window 3 failed", f"snapjudge: {at}: {told}\n"))
+
+    def test_a_folder_without_recordings_has_no_verdict(self):
+        with tempfile.TemporaryDirectory() as room:
+            with program_over(room) as ran:
+                lines, said = ran.communicate(timeout=PATIENCE)
+            self.assertEqual((ran.returncode, lines, said), (4, "", "snapjudge: there are no recordings\n"))
 
     def test_a_file_is_followed_while_it_grows(self):
         with tempfile.TemporaryDirectory() as room:
