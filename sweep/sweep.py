@@ -308,14 +308,15 @@ class Tests:
         if not case.is_whole(run):
             yield f"{run}"
 
-    def reads_in_pieces(self, whole, in_pieces):
-        """A long text has one thread more than a short one with as many workers, since a second worker reads a piece of it."""
+    def reads_in_pieces(self, short, whole, in_pieces):
+        """How many threads two workers start. A short text has one worker. A second one judges pieces of a longer text, and of a
+        long one it reads a piece too."""
         started = []
-        for case in (whole, in_pieces):
+        for case in (short, whole, in_pieces):
             yield from self.unrefused(case)
             started.append(self.shim.page.threads)
-        if started[1] != started[0] + 1:
-            yield f"threads of a short and of a long text: {started}"
+        if started != [0, 1, 2]:
+            yield f"threads of a short, of a longer and of a long text: {started}"
 
     def refused_memory(self, case, all_after=0, thread=0):
         """Each allocation refused in turn, until a run meets no refusal."""
@@ -487,10 +488,16 @@ def long_texts():
 
 
 def updates_alone(count):
-    """So many updates, with few allocations. Of the text of 21,000 two workers read a piece each, and one reads that of 1,000."""
+    """So many updates, with few allocations. Of the text of 21,000 two workers read a piece each. One reads that of 11,000, and two
+    judge it. That of 1,000 has one worker."""
     turns = [b"begin,0,update,0:%d:0\nend,0,update,\n" % i for i in range(1, count + 1)]
     order = [(i, b"p0 update 0:%d:0" % i) for i in range(1, count + 1)]
     return f"{count} updates", HEADER + b"".join(turns), accepted((2 * count, count, 0, 0), order)
+
+
+def lengthened(name, text, report):
+    """The same history in a text that workers share, by empty lines."""
+    return f"long {name}", text + b"\n" * 400_000, report
 
 
 def awkward_texts(texts):
@@ -537,7 +544,8 @@ def main(folder):
     faulthandler.enable()
     signal.signal(signal.SIGALRM, give_up)
     given, small, recorded = list(examples()), list(small_texts()), list(recordings())
-    checks = [check(*each, workers) for each in given + small for workers in (1, 2, 8)]
+    checks = [check(*each) for each in given + small]
+    shared = [check(*lengthened(*each), workers) for each in given + small for workers in (2, 8)]
     # of these calls are left out
     longer = ("value-nobody-wrote", "recorded-1", "recorded-2", "recorded-3")
     others = [quiet(*each) for each in given] + [shrink(*each) for each in given if each[0] not in longer]
@@ -550,14 +558,14 @@ def main(folder):
     pictures = [picture(words, *each) for words in (["draw", "--text"], ["explain", "--draw"], ["shrink", "--draw"]) for each in chosen]
     colors = [colored(*each) for each in chosen]
     in_pieces = check(*updates_alone(21000), 2)
-    checks += [in_pieces] + [object_of(*each) for each in chosen] + several_files + pictures + colors
+    checks += shared + [in_pieces] + [object_of(*each) for each in chosen] + several_files + pictures + colors
     worked += several_files[:2] + colors
     jobless = [usage(), usage("judge"), usage("check", "--pieces", "0"), usage("record", "--help"), usage("shrink", "--help"), usage("explain", "--help"), usage("draw", "--help")]
     for case in checks + recorded + jobless:
         TESTS.add(f"{case.name}: each allocation", TESTS.refused_memory(case))
-    for case in worked + [in_pieces] + recorded + jobless:
+    for case in worked + shared + [in_pieces] + recorded + jobless:
         TESTS.add(f"{case.name}: all from each allocation on", TESTS.refused_memory(case, all_after=1))
-    for case in recorded + [in_pieces, check(*given[0], 8)]:
+    for case in recorded + [in_pieces, check(*lengthened(*given[0]), 8)]:
         TESTS.add(f"{case.name}: each allocation without threads", TESTS.refused_memory(case, thread=ALL))
     for program in sys.argv[3:]:
         TESTS.add("calls: each allocation", TESTS.refused_calls(program))
@@ -565,7 +573,7 @@ def main(folder):
         TESTS.add("calls: each allocation without threads", TESTS.refused_calls(program, thread=ALL))
     for case in checks + recorded:
         TESTS.add(f"{case.name}: threads", TESTS.refused_threads(case))
-    TESTS.add(f"{in_pieces.name}: read in pieces", TESTS.reads_in_pieces(check(*updates_alone(1000), 2), in_pieces))
+    TESTS.add(f"{in_pieces.name}: read in pieces", TESTS.reads_in_pieces(*(check(*updates_alone(count)) for count in (1000, 11000)), in_pieces))
     for case in worked:
         for error in (errno.EIO, errno.EINTR):
             TESTS.add(f"{case.name}: reads, {errno.errorcode[error]}", TESTS.failed_reads(case, 1, error))

@@ -11,6 +11,7 @@ ghost use Rattle.snap_check.specs.Runs.{JudgeCounts, JudgesBy, RunCounts, Wrote,
 use crate::fault::RunFault;
 use crate::options::CheckOptions;
 use crate::reading::{Reading, read_in};
+use crate::workers::cutting_for;
 use snap_conditions::Tally;
 use snap_core::{Counted, Gate, History};
 use snap_index::Index;
@@ -83,6 +84,7 @@ fn judge<Rt: Threads + Sync, R: Read, G: Gate>(
     let mut room = Vec::new(alloc);
     match read_in(rt, alloc, reader, &mut room, options.limit, cutting)? {
         Reading::History(history) => {
+            let cutting = cutting_for(room.len(), cutting);
             Ok(verdict(rt, alloc, &history, room, cutting, gate, options)?)
         }
         Reading::Refusal(line) => Ok((Some(Status::Refused), line)),

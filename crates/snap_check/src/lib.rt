@@ -5,9 +5,11 @@ mod check;
 mod fault;
 mod options;
 mod reading;
+mod workers;
 
 pub use check::{check_run, check_run_with, verdict};
 pub use fault::RunFault;
 pub use options::CheckOptions;
 pub use reading::{Reading, read_in};
 pub use snap_verdict::Status;
+pub use workers::{SHARED_FROM, cutting_for};

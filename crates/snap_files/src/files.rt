@@ -47,7 +47,7 @@ fn write_round<W: Write, E: Write>(
 }
 
 /// Checks the texts of some names, each as `check_run_with` does: as many at once as the cutting has workers, each by one of them,
-/// and a text alone by all of them. It writes their reports in the order of the names, each line with the name before it, and
+/// and a long text alone by all of them. It writes their reports in the order of the names, each line with the name before it, and
 /// answers the greatest exit status. A name of which there is no status, since
 /// its text can't be opened or read or memory did not suffice for it, has the exit status 4. The reason goes to the error output,
 /// and the other names are checked all the same. A failure of the error output is counted, and ends nothing.

@@ -30,6 +30,19 @@ pub(super) fn history(alloc: Global, records: &str) -> Result<String, AllocError
     format!(in alloc; "event,process,op,data\n{records}")
 }
 
+/// The same, with empty lines behind it up to so many bytes.
+pub(super) fn history_up_to(
+    alloc: Global,
+    records: &str,
+    bytes: usize,
+) -> Result<String, AllocError> {
+    let mut text = history(alloc, records)?;
+    for _ in text.len()..bytes {
+        text.push('\n')?;
+    }
+    Ok(text)
+}
+
 /// How a run ended.
 pub(super) fn end_of(answer: Result<Status, RunFault>) -> &'static str {
     match answer {
@@ -107,6 +120,20 @@ pub(super) fn expect<Rt: Threads + Wait + Sync, G: Gate>(
     same(str::from_utf8(&out)?, report)
 }
 
+/// The check of a worked history in a text of so many bytes ends and reports as it is to.
+pub(super) fn expect_up_to<Rt: Threads + Wait + Sync, G: Gate>(
+    rt: &Rt,
+    alloc: Global,
+    worked: Worked,
+    bytes: usize,
+    cutting: Cutting,
+    gate: &G,
+) -> Result<(), Fail> {
+    let (records, end, report) = worked;
+    let text = history_up_to(alloc, records, bytes)?;
+    expect(rt, alloc, text.as_bytes(), cutting, gate, end, report)
+}
+
 /// The check of a worked history ends and reports as it is to.
 pub(super) fn expect_worked<Rt: Threads + Wait + Sync, G: Gate>(
     rt: &Rt,
@@ -115,7 +142,5 @@ pub(super) fn expect_worked<Rt: Threads + Wait + Sync, G: Gate>(
     cutting: Cutting,
     gate: &G,
 ) -> Result<(), Fail> {
-    let (records, end, report) = worked;
-    let text = history(alloc, records)?;
-    expect(rt, alloc, text.as_bytes(), cutting, gate, end, report)
+    expect_up_to(rt, alloc, worked, 0, cutting, gate)
 }

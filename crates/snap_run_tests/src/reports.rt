@@ -1,5 +1,6 @@
 //! The whole reports of worked histories, as the format gives them.
-use super::checks::{Worked, cutting, expect_worked};
+use super::checks::{Worked, cutting, expect_up_to, expect_worked};
+use snap_check::SHARED_FROM;
 use snap_core::OpenGate;
 use snap_testing::Meeting;
 use std::alloc::Global;
@@ -227,7 +228,7 @@ fn expect_all<Rt: Threads + Wait + Sync>(
     Ok(())
 }
 
-// The history ends and reports so by every cutting.
+// The history ends and reports so by every cutting, in a text that the workers share.
 fn expect_by_every_cutting<Rt: Threads + Wait + Sync>(
     rt: &Rt,
     alloc: Global,
@@ -235,7 +236,8 @@ fn expect_by_every_cutting<Rt: Threads + Wait + Sync>(
 ) -> Result<(), Fail> {
     for pieces in [1, 2, 1024] {
         for workers in [1, 2, 8] {
-            expect_worked(rt, alloc, worked, cutting(pieces, workers)?, &OpenGate)?;
+            let cutting = cutting(pieces, workers)?;
+            expect_up_to(rt, alloc, worked, SHARED_FROM, cutting, &OpenGate)?;
         }
     }
     Ok(())
@@ -275,7 +277,24 @@ fn every_cutting_gives_the_same_report(rt: HostRuntime) -> Result<(), Fail> {
 #[test]
 fn two_workers_that_wait_for_each_other_both_come(rt: HostRuntime) -> Result<(), Fail> {
     let gate = Meeting::at_turn(0);
-    expect_worked(&rt, rt.alloc(), VIEWS_DISAGREE, cutting(2, 2)?, &gate)?;
+    let cutting = cutting(2, 2)?;
+    expect_up_to(&rt, rt.alloc(), VIEWS_DISAGREE, SHARED_FROM, cutting, &gate)?;
+    assert!(rt; gate.was_held());
+    Ok(())
+}
+
+#[test]
+fn a_text_one_byte_shorter_has_one_worker(rt: HostRuntime) -> Result<(), Fail> {
+    let gate = Meeting::of(1, 0);
+    let cutting = cutting(1024, 8)?;
+    expect_up_to(
+        &rt,
+        rt.alloc(),
+        VIEWS_DISAGREE,
+        SHARED_FROM - 1,
+        cutting,
+        &gate,
+    )?;
     assert!(rt; gate.was_held());
     Ok(())
 }

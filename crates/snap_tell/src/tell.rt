@@ -8,7 +8,7 @@ ghost use Rattle.snap_verdict.specs.Statuses.{code_of};
 ghost use Rattle.snap_verdict.specs.declared.status.Status.TheVariants.{Refused};
 ghost use Rattle.snap_tell.specs.Telling.{IsTold, IsToldHistory, TellsHistory};
 
-use snap_check::RunFault;
+use snap_check::{RunFault, cutting_for};
 use snap_core::{Counted, Gate, History, Limit};
 use snap_csv::{ReadRefusal, read_records_within};
 use snap_index::Index;
@@ -86,9 +86,10 @@ fn tell_input<Rt: Threads + Sync, R: Read, G: Gate>(
 {
     let mut room = Vec::new(alloc);
     match read_records_within(alloc, reader, &mut room, limit) {
-        Ok((history, records)) => Ok(told_of(
-            rt, alloc, name, &history, &records, cutting, gate, least,
-        )?),
+        Ok((history, records)) => {
+            let cutting = cutting_for(room.len(), cutting);
+            Ok(told_of(rt, alloc, name, &history, &records, cutting, gate, least)?)
+        }
         Err(ReadRefusal::Text { place, fault }) => {
             let line = refused(alloc, name, place, fault)?;
             Ok((Status::Refused, line))
