@@ -10,7 +10,7 @@ ghost use Rattle.snap_check.specs.Runs.{JudgeCounts, JudgesBy, RunCounts, WroteB
 ghost use Rattle.snap_picture.specs.Drawing.{DrawsHistory, IsDrawing, IsDrawn};
 
 use crate::markup::Markup;
-use snap_check::RunFault;
+use snap_check::{RunFault, cutting_for};
 use snap_conditions::Tally;
 use snap_core::{Counted, History, Limit, OpenGate};
 use snap_csv::{ReadRefusal, read_records_within};
@@ -66,9 +66,10 @@ fn picture_of<'x, M: Markup>(
     )
 }
 
-// How the faults of a picture are looked for. Who waits for a picture waits for one alone, so more workers share the pieces.
-fn cutting() -> Cutting {
-    Cutting::new(8, 4).unwrap_or(Cutting::usual())
+/// How the faults of the picture of a text of so many bytes are looked for. Who waits for a picture waits for one alone, so more
+/// workers share the pieces of a long text.
+pub(crate) fn cutting_of(bytes: usize) -> Cutting {
+    cutting_for(bytes, Cutting::new(8, 4).unwrap_or(Cutting::usual()))
 }
 
 /// The status of a history, and its picture by the records of its events.
@@ -78,12 +79,13 @@ pub(crate) fn drawn<Rt: Threads + Sync, M: Markup>(
     markup: &M,
     history: &History,
     records: &[u32],
+    cutting: Cutting,
 ) -> Result<(Status, Vec<u8>), AllocError>
     requires { length records.now ≡ length history.now }
     ensures { IfOk result (λ answer. DrawsHistory M.calls M.writes history.now records.now answer.0 answer.1.items) }
 {
     let index = Index::build(alloc, history)?;
-    let (tally, chain) = tally_and_chain(rt, alloc, &index, cutting(), &OpenGate)?;
+    let (tally, chain) = tally_and_chain(rt, alloc, &index, cutting, &OpenGate)?;
     let order = order_by(alloc, &index, &tally, chain)?;
     let text = picture_of(alloc, markup, &index, &tally, records, order.as_deref())?;
     Ok((status_of(&index, &tally), text))
@@ -102,7 +104,10 @@ fn draw_input<Rt: Threads + Sync, R: Read, M: Markup>(
 {
     let mut room = Vec::new(alloc);
     match read_records_within(alloc, reader, &mut room, limit) {
-        Ok((history, records)) => Ok(drawn(rt, alloc, markup, &history, &records)?),
+        Ok((history, records)) => {
+            let cutting = cutting_of(room.len());
+            Ok(drawn(rt, alloc, markup, &history, &records, cutting)?)
+        }
         Err(ReadRefusal::Text { place, fault }) => {
             let line = refusal_text(alloc, place, fault)?;
             Ok((Status::Refused, line))

@@ -3,7 +3,7 @@ ghost use Rattle.snap_core.specs.Counting.{failures_in, inner_of};
 ghost use Rattle.snap_check.specs.Runs.{JudgeCounts, JudgesBy, RunCounts, WroteBy};
 ghost use Rattle.snap_picture.specs.Explaining.{IsExplainedDrawn};
 
-use crate::draw::drawn;
+use crate::draw::{cutting_of, drawn};
 use crate::markup::Markup;
 use snap_check::RunFault;
 use snap_core::{Counted, Limit};
@@ -27,7 +27,10 @@ fn explain_input<Rt: Threads + Sync, R: Read, M: Markup>(
 {
     let mut room = Vec::new(alloc);
     match read_records_within(alloc, reader, &mut room, limit) {
-        Ok((history, records)) => Ok(drawn(rt, alloc, markup, &history, &records)?),
+        Ok((history, records)) => {
+            let cutting = cutting_of(room.len());
+            Ok(drawn(rt, alloc, markup, &history, &records, cutting)?)
+        }
         Err(ReadRefusal::Text { place, fault }) => {
             let text = explain_refusal(alloc, &room, place, fault, limit)?;
             Ok((Status::Refused, text))

@@ -7,7 +7,7 @@ ghost use Rattle.snap_check.specs.Runs.{JudgeCounts, JudgesBy, RunCounts, WroteB
 ghost use Rattle.snap_picture.specs.Drawing.{IsDrawing};
 ghost use Rattle.snap_picture.specs.Shrinking.{IsWitnessDrawn};
 
-use crate::draw::drawn;
+use crate::draw::{cutting_of, drawn};
 use crate::markup::Markup;
 use snap_check::{Reading, RunFault, read_in};
 use snap_core::{Counted, History, Limit};
@@ -32,11 +32,12 @@ fn picture_of<Rt: Threads + Sync, M: Markup>(
     alloc: Global,
     markup: &M,
     history: &History,
+    cutting: Cutting,
 ) -> Result<Vec<u8>, AllocError>
     ensures { IfOk result (λ text. IsDrawing M.calls M.writes history.now (range_with_len 2 (length history.now)) text.items) }
 {
     let records = records_of(alloc, history.len())?;
-    let (_, text) = drawn(rt, alloc, markup, history, &records)?;
+    let (_, text) = drawn(rt, alloc, markup, history, &records, cutting)?;
     Ok(text)
 }
 
@@ -54,8 +55,9 @@ fn shrink_input<Rt: Threads + Sync, R: Read, M: Markup>(
     let mut room = Vec::new(alloc);
     match read_in(rt, alloc, reader, &mut room, limit, Cutting::usual())? {
         Reading::History(history) => {
-            let (status, left) = cut(rt, alloc, history)?;
-            let text = picture_of(rt, alloc, markup, &left)?;
+            let cutting = cutting_of(room.len());
+            let (status, left) = cut(rt, alloc, history, cutting)?;
+            let text = picture_of(rt, alloc, markup, &left, cutting)?;
             Ok((status, text))
         }
         Reading::Refusal(line) => Ok((Status::Refused, line)),

@@ -7,7 +7,7 @@ ghost use Rattle.snap_explain.specs.Explanations.{IsExplanation};
 ghost use Rattle.snap_runs.specs.Explaining.{ExplainsHistory, IsExplained};
 ghost use Rattle.snap_check.specs.Runs.{JudgeCounts, JudgesBy, RunCounts, WroteBy};
 
-use snap_check::RunFault;
+use snap_check::{RunFault, cutting_for};
 use snap_core::{Counted, History, Limit, OpenGate};
 use snap_csv::{ReadRefusal, read_records_within};
 use snap_explain::{explain, explain_refusal};
@@ -25,12 +25,13 @@ fn explained<Rt: Threads + Sync>(
     alloc: Global,
     history: &History,
     records: &[u32],
+    cutting: Cutting,
 ) -> Result<(Status, Vec<u8>), AllocError>
     requires { length records.now ≡ length history.now }
     ensures { IfOk result (λ answer. ExplainsHistory history.now records.now answer.0 answer.1.items) }
 {
     let index = Index::build(alloc, history)?;
-    let (tally, chain) = tally_and_chain(rt, alloc, &index, Cutting::usual(), &OpenGate)?;
+    let (tally, chain) = tally_and_chain(rt, alloc, &index, cutting, &OpenGate)?;
     let order = order_by(alloc, &index, &tally, chain)?;
     let text = explain(alloc, &index, &tally, records, order.as_deref())?;
     Ok((status_of(&index, &tally), text))
@@ -48,7 +49,10 @@ fn explain_input<Rt: Threads + Sync, R: Read>(
 {
     let mut room = Vec::new(alloc);
     match read_records_within(alloc, reader, &mut room, limit) {
-        Ok((history, records)) => Ok(explained(rt, alloc, &history, &records)?),
+        Ok((history, records)) => {
+            let cutting = cutting_for(room.len(), Cutting::usual());
+            Ok(explained(rt, alloc, &history, &records, cutting)?)
+        }
         Err(ReadRefusal::Text { place, fault }) => {
             let text = explain_refusal(alloc, &room, place, fault, limit)?;
             Ok((Status::Refused, text))
