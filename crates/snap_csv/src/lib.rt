@@ -23,7 +23,7 @@ pub use law::{
 };
 pub use line::{is_header_line, read_line};
 pub use read::{
-    read_history, read_history_beside, read_history_in, read_history_within, read_text,
+    fault_for, read_history, read_history_beside, read_history_in, read_history_within, read_text,
     read_text_within,
 };
 pub use records::{read_records, read_records_within, record_of};

@@ -34,8 +34,8 @@ pub fn row_limit(limit: Limit) -> u32
     limit.events() as u32 + 1
 }
 
-// The fault that a refusal of a history stands for; memory aside.
-fn fault_for(refusal: EventRefusal) -> Option<TextFault>
+/// The fault of a text that a refused event stands for: none where memory ran out.
+pub fn fault_for(refusal: EventRefusal) -> Option<TextFault>
     ensures { result ≡ fault_of refusal }
 {
     match refusal {
