@@ -1,7 +1,8 @@
 //! The job that each command asks for by its options.
-ghost use Rattle.std.specs.Prelude.{◌≡◌, ℕ, Bool, List, Some, codes, IfSome, IsSomeAnd};
-ghost use Rattle.clap.specs.Words.{Row, found_of, rows_of, subcommand_rows_of};
+ghost use Rattle.std.specs.Prelude.{◌≡◌, ℕ, Bool, List, Some, IfSome, IsSomeAnd};
+ghost use Rattle.clap.specs.Words.{Row, Text, found_of, rows_of, subcommand_rows_of};
 ghost use Rattle.snap_words.specs.Drawing.{AsksDrawWithin};
+ghost use Rattle.snap_words.specs.inside.Found.{FindsJob};
 ghost use Rattle.snap_words.specs.Jobs.{AsksCheck, AsksPictureWithin, AsksRecordWithin, Flags, IsCheckWith, IsDraw, IsExplain, IsInRange, IsRecord, IsShrink};
 
 use crate::color::color_in;
@@ -119,16 +120,7 @@ fn explain_in(matches: &ArgMatches<'_>) -> Option<Job>
 /// The job that the words ask for, where each number is there and in its range.
 pub(crate) fn job_in(matches: &ArgMatches<'_>) -> Option<Job>
     ensures job { IfSome result IsInRange }
-    ensures check { (rows : List Row) (pieces workers : ℕ) (options : Options) → subcommand_rows_of matches.now ≡ Some (codes "check", rows)
-        → AsksCheck rows pieces workers options → IsSomeAnd result (IsCheckWith pieces workers options) }
-    ensures shrink { (rows : List Row) (events : ℕ) (drawn : Bool) → subcommand_rows_of matches.now ≡ Some (codes "shrink", rows)
-        → AsksPictureWithin events drawn rows → IsSomeAnd result (IsShrink events drawn) }
-    ensures explain { (rows : List Row) (events : ℕ) (drawn : Bool) → subcommand_rows_of matches.now ≡ Some (codes "explain", rows)
-        → AsksPictureWithin events drawn rows → IsSomeAnd result (IsExplain events drawn) }
-    ensures draw { (rows : List Row) (events : ℕ) (form : Form) → subcommand_rows_of matches.now ≡ Some (codes "draw", rows)
-        → AsksDrawWithin events rows form → IsSomeAnd result (IsDraw events form) }
-    ensures recording { (rows : List Row) (events workers rounds : ℕ) (flags : Flags) → subcommand_rows_of matches.now ≡ Some (codes "record", rows)
-        → AsksRecordWithin events rows workers rounds flags → IsSomeAnd result (IsRecord workers rounds flags) }
+    ensures asked { (command : Text) (rows : List Row) → subcommand_rows_of matches.now ≡ Some (command, rows) → FindsJob result command rows }
 {
     let (name, inner) = matches.subcommand()?;
     if name == "check" {

@@ -1,8 +1,9 @@
 //! The jobs, and the one that the words of a command line ask for.
-ghost use Rattle.std.specs.Prelude.{◌≡◌, ℕ, Bool, List, Option, codes, IfOk, MatchResult, map, string_bytes};
-ghost use Rattle.clap.specs.Words.{Text, kind_of};
+ghost use Rattle.std.specs.Prelude.{◌≡◌, ℕ, Bool, List, Option, Some, codes, IfOk, MatchResult, map, string_bytes};
+ghost use Rattle.clap.specs.Words.{Row, Text, kind_of, subcommand_rows_of};
 ghost use Rattle.snap_words.specs.Drawing.{AsksDrawWithin};
 ghost use Rattle.snap_words.specs.Jobs.{AsksCheck, AsksPictureWithin, AsksRecordWithin, Flags, IsCheckWith, IsDraw, IsExplain, IsInRange, IsOn, IsRecord, IsShrink};
+ghost use Rattle.snap_words.specs.inside.Found.{FindsAsked};
 ghost use Rattle.snap_words.specs.Lines.{Means};
 ghost use Rattle.snap_words.specs.Sources.{AreSources, NamesSources};
 
@@ -13,8 +14,8 @@ use crate::drawing::Form;
 use crate::files::files_named;
 use crate::refusals::usage_of;
 use crate::sources::{Sources, sources_named};
-use clap::Error;
 use clap::error::ErrorKind;
+use clap::{ArgMatches, Error};
 use snap_threads::Cutting;
 use std::alloc::{AllocError, Global};
 
@@ -118,6 +119,21 @@ fn fault_of(alloc: Global, error: &Error) -> JobFault
     }
 }
 
+// The job that is asked for by what the parser found, and its files.
+fn asked_by(alloc: Global, matches: &ArgMatches<'_>) -> Result<Asked, JobFault>
+    ensures job { IfOk result (λ asked. IsInRange asked.job) }
+    ensures asked { (command : Text) (rows : List Row) → subcommand_rows_of matches.now ≡ Some (command, rows) → FindsAsked result command rows }
+{
+    match job_in(matches) {
+        Some(job) => Ok(Asked {
+            job,
+            files: files_named(alloc, matches)?,
+            sources: sources_named(alloc, matches)?,
+        }),
+        None => Err(JobFault::Usage(usage_of(alloc, matches)?)),
+    }
+}
+
 /// The job that the words of a command line ask for, and its files; the program's name comes first. What the parser makes of
 /// words is the kit's: `Means` says it of [`program`], and the laws of this crate say it of whole lines.
 pub fn job_of(alloc: Global, words: Vec<String>) -> Result<Asked, JobFault>
@@ -144,13 +160,6 @@ pub fn job_of(alloc: Global, words: Vec<String>) -> Result<Asked, JobFault>
     let command = program(alloc)?;
     match command.try_get_matches_from(words.as_slice()) {
         Err(error) => Err(fault_of(alloc, &error)),
-        Ok(matches) => match job_in(&matches) {
-            Some(job) => Ok(Asked {
-                job,
-                files: files_named(alloc, &matches)?,
-                sources: sources_named(alloc, &matches)?,
-            }),
-            None => Err(JobFault::Usage(usage_of(alloc, &matches)?)),
-        },
+        Ok(matches) => asked_by(alloc, &matches),
     }
 }

@@ -1,0 +1,8 @@
+use Rattle.snap_words.proofs.Finding.{gives_more}
+use Rattle.snap_words.proofs.job.asked_by.Goals as goal
+
+pub returns-in_ok-sources_named-in-Some-clause-asked : goal.returns-in_ok-sources_named-in-Some-clause-asked
+returns-in_ok-sources_named-in-Some-clause-asked c = λ command rows named. record {
+  job = gives_more command rows _ _ (λ Is is. (is, c.in_ok-files_named-in-Some.ensures command rows named)) (c.in-Some.ensures.asked command rows named);
+  sources = c.in_ok-sources_named-in-Some.ensures command rows named;
+}
