@@ -64,23 +64,35 @@ fn word_at<Rt: Env>(rt: &Rt, alloc: Global, place: usize) -> Result<Option<Vec<u
     Err(AllocError)
 }
 
+// Adds a word that is not UTF-8 to those before it.
+fn add_other(alloc: Global, words: &mut Words, word: Vec<u8>) -> Result<(), AllocError> {
+    let mark = format!(in alloc; "{MARK}{}", words.others.len())?;
+    words.texts.push(mark)?;
+    words.others.push(word)?;
+    Ok(())
+}
+
+// Adds a word to those before it.
+fn add_word(alloc: Global, words: &mut Words, word: Vec<u8>) -> Result<(), AllocError> {
+    match String::from_utf8(word) {
+        Ok(text) => Ok(words.texts.push(text)?),
+        Err(error) => add_other(alloc, words, error.into_bytes()),
+    }
+}
+
 /// The words that a program is given, the name of the program first. The error is want of memory.
 pub fn words_of<Rt: Env>(rt: &Rt, alloc: Global) -> Result<Words, AllocError> {
-    let mut texts = Vec::new(alloc);
-    let mut others = Vec::new(alloc);
+    let mut words = Words {
+        texts: Vec::new(alloc),
+        others: Vec::new(alloc),
+    };
     for place in 0..usize::MAX {
         let Some(word) = word_at(rt, alloc, place)? else {
             break;
         };
-        match String::from_utf8(word) {
-            Ok(text) => texts.push(text)?,
-            Err(error) => {
-                texts.push(format!(in alloc; "{MARK}{}", others.len())?)?;
-                others.push(error.into_bytes())?;
-            }
-        }
+        add_word(alloc, &mut words, word)?;
     }
-    Ok(Words { texts, others })
+    Ok(words)
 }
 
 // The word that is not UTF-8 for which a text stands, if it stands for one.
@@ -250,6 +262,16 @@ fn refusal_of(files: &[Vec<u8>], places: &Places) -> Option<&'static str> {
     }
 }
 
+// Why what is wanted can't be done, if it can't.
+fn wanted_refusal(wanted: &Wanted) -> Option<&'static str>
+    ensures { IfNone result (FollowsOne wanted.now) }
+{
+    match refusal_of(&wanted.files, &wanted.places) {
+        Some(text) => Some(text),
+        None => following_refusal(&wanted.job, &wanted.files, &wanted.places),
+    }
+}
+
 /// The job that the words of the command line ask for, and its files. Standard input, `-`, can be read once. A recording that is
 /// judged while it grows is one.
 pub fn wanted_by(alloc: Global, words: Words) -> Result<Wanted, JobFault>
@@ -260,10 +282,7 @@ pub fn wanted_by(alloc: Global, words: Words) -> Result<Wanted, JobFault>
         return Err(fault);
     }
     let wanted = wanted_in(alloc, words)?;
-    if let Some(text) = refusal_of(&wanted.files, &wanted.places) {
-        return Err(told(String::from_str(alloc, text)));
-    }
-    match following_refusal(&wanted.job, &wanted.files, &wanted.places) {
+    match wanted_refusal(&wanted) {
         Some(text) => Err(told(String::from_str(alloc, text))),
         None => Ok(wanted),
     }
