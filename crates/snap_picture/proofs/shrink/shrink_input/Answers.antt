@@ -1,4 +1,4 @@
-use Rattle.std.proofs.Common.{inl, inr, refl}
+use Rattle.std.proofs.Common.{inl, inr}
 use Rattle.snap_core.specs.Counting.{inner_of}
 use Rattle.snap_check.proofs.Runs.{from_history, from_refusal}
 use Rattle.snap_picture.proofs.shrink.shrink_input.Goals as goal
@@ -13,3 +13,7 @@ returns-in-History-clause-answer g c =
       cut = c.in_ok-status-in-History.ensures;
       drawn = c.in_ok-text-in-History.ensures;
     }))
+
+pub returns-clause-answer : goal.returns-clause-answer
+returns-clause-answer g c =
+    from_refusal c.args.limit.events _ (g.R.Read.remaining (inner_of c.args.reader.now)) c.in_ok-history.field-0 c.in-Refusal.line c.in_ok-history.ensures.text c.in-Refusal.is (λ text refused. inl refused)
