@@ -4,7 +4,6 @@ ghost use Rattle.snap_core.specs.declared.event.Event.{Event};
 ghost use Rattle.snap_core.specs.Calls.{calls_of};
 ghost use Rattle.snap_core.specs.Events.{IsHistory};
 ghost use Rattle.snap_core.specs.declared.history.EventRefusal.TheVariants as refusals;
-ghost use Rattle.snap_csv.specs.Faults.{fault_of};
 ghost use Rattle.snap_follow.specs.declared.follow.Ended.TheVariants as ends;
 ghost use Rattle.snap_text.specs.declared.fault.TextFault.TheVariants as faults;
 ghost use Rattle.snap_core.specs.Orders.{IsAtomic};
@@ -14,7 +13,7 @@ ghost use Rattle.snap_windows.specs.Verdicts.{IsVerdict};
 ghost use Rattle.snap_follow.specs.Followed.{EndsText, HasRead, IsLack, ReadsLine, RefusesLine};
 
 use snap_core::{Entry, Event, EventRefusal, Limit};
-use snap_csv::{ReadRefusal, is_header_line, read_line};
+use snap_csv::{ReadRefusal, fault_for, is_header_line, read_line};
 use snap_text::{Known, TextFault};
 use snap_windows::{Verdict, WindowJudge};
 use std::alloc::{AllocError, Global};
@@ -84,21 +83,6 @@ fn open_behind(open: u64, event: &Event) -> u64 {
         open.saturating_add(1)
     } else {
         open.saturating_sub(1)
-    }
-}
-
-// The fault that a refusal of an event stands for, want of memory aside.
-fn fault_for(refusal: EventRefusal) -> Option<TextFault>
-    ensures { result ≡ fault_of refusal }
-{
-    match refusal {
-        EventRefusal::TooMany => Some(TextFault::TooMany),
-        EventRefusal::Busy => Some(TextFault::Busy),
-        EventRefusal::Idle => Some(TextFault::Idle),
-        EventRefusal::OtherOp => Some(TextFault::OtherOp),
-        EventRefusal::Writer => Some(TextFault::Writer),
-        EventRefusal::Number => Some(TextFault::Number),
-        EventRefusal::Memory => None,
     }
 }
 
