@@ -35,7 +35,7 @@ SIZES = (4096, 16384, 65536)
 ENOUGH = 4000
 
 
-def run(words, history, report, by_clock):
+def run(words, history, report, by_clock=False):
     """The status, the milliseconds of processor time or by the clock, and the peak memory in bytes of one run."""
     files = [(os.POSIX_SPAWN_OPEN, 0, history, os.O_RDONLY, 0), (os.POSIX_SPAWN_OPEN, 1, report, os.O_WRONLY | os.O_CREAT | os.O_TRUNC, 0o600),
              (os.POSIX_SPAWN_OPEN, 2, os.devnull, os.O_WRONLY, 0)]
