@@ -16,34 +16,14 @@ decimal_reads E G only n lt None h =
     let read : found ≡ Ok n = parse-decimal 32 n (decimal n) found lt (omega arith) refl (only (decimal n) found h.1) in
     absurd cc
 
-pub zero_text : decimal 0 ≡ codes "0"
-zero_text = decimal_digit 0 (omega arith)
-
 pub two_text : decimal 2 ≡ codes "2"
 two_text = decimal_digit 2 (omega arith)
-
-pub three_text : decimal 3 ≡ codes "3"
-three_text = decimal_digit 3 (omega arith)
-
-pub four_text : decimal 4 ≡ codes "4"
-four_text = decimal_digit 4 (omega arith)
 
 pub five_text : decimal 5 ≡ codes "5"
 five_text = decimal_digit 5 (omega arith)
 
-pub eight_text : decimal 8 ≡ codes "8"
-eight_text = decimal_digit 8 (omega arith)
-
 pub sixteen_text : decimal 16 ≡ codes "16"
 sixteen_text = decimal_step 16 (omega arith) (omega arith) ∙ ap (λ (t : List ℕ). t ++ (54 ∷ [])) (decimal_digit 1 (omega arith))
-
-pub thousand_text : decimal 1000 ≡ codes "1000"
-unfolding digits
-thousand_text = refl
-
-pub hundreds_text : decimal 500 ≡ codes "500"
-unfolding digits
-hundreds_text = refl
 
 pub usual_text : decimal 65536 ≡ codes "65536"
 unfolding digits
