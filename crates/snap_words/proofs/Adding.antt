@@ -12,13 +12,9 @@ is_no_leaf : (leaf : Bool) (commands : List App) (command : App) → stays_leaf 
 is_no_leaf leaf [] command = refl
 is_no_leaf leaf (first ∷ commands) command = refl
 
-one_more_command : (app : App) (commands : List App) (command : App) → with_subcommand (with_apps app commands) command.top ≡ with_apps app (commands ++ command ∷ [])
+pub one_more_command : (app : App) (commands : List App) (command : App) → with_subcommand (with_apps app commands) command.top ≡ with_apps app (commands ++ command ∷ [])
 one_more_command app commands command =
     let with_shapes : Bool → List Shape → App = λ leaf subs. record { top = record app.top { is_leaf = leaf }; subs = subs } in
     sym (ap₂ with_shapes (is_no_leaf app.top.is_leaf commands command)
     (ap (λ more. app.subs ++ more) (map-append (λ (c : App). c.top) commands (command ∷ []))
     ∙ sym (append_assoc app.subs (map (λ (c : App). c.top) commands) (command.top ∷ []))))
-
--- a program that has some commands, and then one more
-pub grown_by : (bare program after : App) (commands : List App) (command : App) → after ≡ with_subcommand program command.top → program ≡ with_apps bare commands → after ≡ with_apps bare (commands ++ command ∷ [])
-grown_by bare program after commands command is has = is ∙ ap (λ (app : App). with_subcommand app command.top) has ∙ one_more_command bare commands command

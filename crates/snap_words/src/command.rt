@@ -1,6 +1,6 @@
 //! The commands of the program, and its help.
 ghost use Rattle.std.specs.Prelude.{◌≡◌, IfOk, codes, false, map};
-ghost use Rattle.clap.specs.Words.{app_of, new_app, with_subcommand};
+ghost use Rattle.clap.specs.Words.{app_of, new_app};
 ghost use Rattle.clap.specs.declared.builder.command.Command.TheViews.{out-Command as fields_of};
 ghost use Rattle.snap_words.specs.CommandLine.{app_for, needs_subcommand, program_app};
 ghost use Rattle.snap_words.specs.inside.Tables.{rule_in};
@@ -103,25 +103,14 @@ fn bare_program<'a>(alloc: Global) -> Command<'a>
         .subcommand_required(true)
 }
 
-// A program with the command of a kind.
-fn with_command<'a>(
-    alloc: Global,
-    program: Command<'a>,
-    kind: Kind,
-) -> Result<Command<'a>, AllocError>
-    ensures { IfOk result (λ with. app_of with ≡ with_subcommand (app_of program.entry) (app_for kind).top) }
-{
-    let command = command_for(alloc, kind)?;
-    program.subcommand(command)
-}
-
 /// The program, with its commands and their words.
 pub fn program<'a>(alloc: Global) -> Result<Command<'a>, AllocError>
     ensures { IfOk result (λ command. app_of command ≡ program_app) }
 {
     let mut program = bare_program(alloc);
     for kind in KINDS {
-        program = with_command(alloc, program, *kind)?;
+        let command = command_for(alloc, *kind)?;
+        program = program.subcommand(command)?;
     }
     Ok(program)
 }
