@@ -55,7 +55,7 @@ pub(crate) fn options(
 }
 
 // How a run ended, in a word and a status.
-fn end_of(answer: &Result<Followed, FollowFault>) -> (&'static str, Option<u8>) {
+pub(crate) fn end_of(answer: &Result<Followed, FollowFault>) -> (&'static str, Option<u8>) {
     match answer {
         Ok(followed) if followed.lost.is_some() => ("lost", followed.code),
         Ok(followed) if followed.has_rest => ("with a rest", followed.code),
@@ -68,7 +68,7 @@ fn end_of(answer: &Result<Followed, FollowFault>) -> (&'static str, Option<u8>) 
 }
 
 // How a recording is followed, and what is written then.
-pub(crate) fn followed<Rt: Wait, T: Texts>(
+fn followed<Rt: Wait, T: Texts>(
     rt: &Rt,
     alloc: Global,
     texts: &mut T,

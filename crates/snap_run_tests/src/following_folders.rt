@@ -2,8 +2,9 @@
 ghost use Rattle.std.specs.Prelude.{⊤};
 
 use super::checks::same;
-use super::following::{followed, no_naps, options};
-use snap_follow::{FolderTexts, Until};
+use super::following::{end_of, no_naps, options};
+use snap_core::Counted;
+use snap_follow::{FolderTexts, Until, follow_run};
 use snap_names::{Entry, Folders, Kind, Lengths, Opener, Trouble};
 use snap_testing::Drip;
 use std::alloc::{AllocError, Global};
@@ -205,9 +206,10 @@ fn the_texts_of_a_folder_are_one_recording(rt: HostRuntime) -> Result<(), Fail> 
         };
         let mut texts = FolderTexts::new(rt.alloc(), &binder, &binder, b"t");
         let asked = options(2, 100, Until::Idle(1), 0)?;
-        let (end, code, out) = followed(&rt, rt.alloc(), &mut texts, &no_naps(), asked);
-        same((end, code), (*how, *status))?;
-        assert!(rt; out.starts_with(lines.as_bytes()));
+        let mut writer = Counted::new(Vec::new(rt.alloc()));
+        let answer = follow_run(&rt, rt.alloc(), &mut texts, &mut writer, &no_naps(), asked);
+        same(end_of(&answer), (*how, *status))?;
+        assert!(rt; writer.into_inner().starts_with(lines.as_bytes()));
     }
     Ok(())
 }
