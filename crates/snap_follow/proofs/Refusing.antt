@@ -1,5 +1,5 @@
 -- Why a line is refused.
-use Rattle.std.proofs.Common.{◌≡◌, ℕ, true, List, [], ◌∷◌, ◌++◌, append_assoc, length, Result, Ok, Err, sym, ap, ◌∙◌, subst, inl, inr, arith}
+use Rattle.std.proofs.Common.{◌≡◌, ◌≤◌, ◌⊎◌, ℕ, true, false, List, [], ◌∷◌, ◌++◌, append_assoc, flat_map, length, Result, Ok, Err, refl, sym, ap, ◌∙◌, subst, inl, inr, arith}
 use Rattle.std.specs.Prelude.{IfErr}
 use Rattle.std.proofs.lemmas.Bool.{false≢true}
 use Rattle.snap_core.specs.declared.event.Event.{Event}
@@ -9,7 +9,12 @@ use Rattle.snap_text.specs.Fields.{Fields, row_event}
 use Rattle.snap_windows.specs.Taken.{HasTaken}
 use Rattle.snap_follow.specs.declared.follow.Ended.{Ended}
 use Rattle.snap_follow.specs.declared.follow.Follow.{Follow}
-use Rattle.snap_follow.specs.Followed.{IsLack, RefusesLine}
+use Rattle.snap_follow.specs.declared.follow.Place.{Place}
+use Rattle.snap_follow.specs.Followed.{HasNoRecord, IsLack, RefusesLine, SaysSoFar}
+use Rattle.snap_follow.specs.inside.Refusals.{ended_by}
+use Rattle.snap_core.specs.declared.history.EventRefusal.{EventRefusal}
+use Rattle.snap_core.specs.declared.history.EventRefusal.TheVariants as refusals
+use Rattle.snap_windows.specs.declared.judge.WindowJudge.{WindowJudge}
 
 abbrev first_or : Fields → List Fields → Fields
 first_or row [] = row
@@ -24,7 +29,7 @@ no_first x xs e = omega (arith, ap length e)
 
 -- an event that the judge refuses
 pub event_refused : (f : Follow) (line : List ℕ) (why : Ended) (row : Fields) (x : Event) → f.headed ≡ true → rows_of line ≡ row ∷ [] → row_event row ≡ Ok x →
-    ((before since : List Event) → HasTaken f.judge before since → IsHistory (before ++ (since ++ x ∷ [])) → IsLack why) → RefusesLine f line why
+    ((before since : List Event) → HasTaken f.judge before since → IsHistory (before ++ (since ++ x ∷ [])) → IsLack f.judge since why) → RefusesLine f line why
 event_refused f line why row x old rows event refused texts lines events h (inl none) = absurd (no_first row [] (sym rows ∙ none))
 event_refused f line why row x old rows event refused texts lines events h (inr (inl (o, head, is, header))) = absurd (false≢true (sym o ∙ old))
 event_refused f line why row x old rows event refused texts lines events h (inr (inr (o, other, y, is, spelled, history))) =
@@ -37,3 +42,9 @@ event_refused f line why row x old rows event refused texts lines events h (inr 
 pub on_err : {X E : Type 0} (r : Result X E) (P Q : E → Type 0) → IfErr r P → ((e : E) → P e → Q e) → IfErr r Q
 on_err (Ok x) P Q h f = tt
 on_err (Err e) P Q h f = f e h
+
+-- an event with which the events are a history is refused for lack of room or of memory
+pub lack_by : (judge : WindowJudge) (since : List Event) (place : Place) (refusal : EventRefusal) → (refusal ≡ refusals.TooMany) ⊎ (refusal ≡ refusals.Memory) →
+    (refusal ≡ refusals.TooMany → judge.most.events ≤ length since) → IsLack judge since (ended_by place refusal)
+lack_by judge since place refusal (inl full) most = subst (λ z. IsLack judge since (ended_by place z)) (sym full) (refl, most full)
+lack_by judge since place refusal (inr lacking) most = subst (λ z. IsLack judge since (ended_by place z)) (sym lacking) tt

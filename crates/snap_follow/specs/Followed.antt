@@ -1,5 +1,5 @@
 -- What the lines of a recording say.
-use Rattle.std.specs.Prelude.{⊤, ℕ, true, false, List, [], ◌∷◌, ◌++◌, ◌≡◌, ◌⊎◌, ◌↔◌, Ok, map, flat_map}
+use Rattle.std.specs.Prelude.{⊤, ℕ, true, false, List, [], ◌∷◌, ◌++◌, ◌≡◌, ◌⊎◌, ◌↔◌, ◌≤◌, Ok, map, flat_map, length}
 use Rattle.snap_core.specs.declared.event.Event.{Event}
 use Rattle.snap_core.specs.Calls.{calls_of}
 use Rattle.snap_core.specs.Events.{IsHistory}
@@ -13,6 +13,7 @@ use Rattle.snap_follow.specs.declared.follow.Ended.TheVariants.{Refused, Memory}
 use Rattle.snap_follow.specs.declared.follow.Follow.{Follow}
 use Rattle.snap_text.specs.declared.fault.TextFault.TheVariants.{TooMany}
 use Rattle.snap_windows.specs.Taken.{HasTaken}
+use Rattle.snap_windows.specs.declared.judge.WindowJudge.{WindowJudge}
 
 -- records that begin with a header, and each other spells one of these events
 pub record Spells (rows : List Fields) (events : List Event) : Type 0 where
@@ -56,14 +57,19 @@ abbrev pub GoesOn : Follow → List Event → List Fields → Type 0
 GoesOn follow events rows = (rows ≡ []) ⊎ (((follow.headed ≡ false) × (head : Fields) × (rows ≡ head ∷ []) × (is_header_row head ≡ true))
     ⊎ ((follow.headed ≡ true) × (row : Fields) × (x : Event) × (rows ≡ row ∷ []) × (row_event row ≡ Ok x) × IsHistory (events ++ x ∷ [])))
 
--- a window has no room, or memory ran out
-abbrev pub IsLack : Ended → Type 0
-IsLack (Refused place fault) = fault ≡ TooMany
-IsLack Memory = ⊤
+-- the window of these events has as many as it may have, or memory ran out
+abbrev pub IsLack : WindowJudge → List Event → Ended → Type 0
+IsLack judge since (Refused place fault) = (fault ≡ TooMany) × (judge.most.events ≤ length since)
+IsLack judge since Memory = ⊤
 
--- a line is refused, and not for lack of room: it does not go on with the recording
+-- a line that goes on with the recording is refused for such a lack alone
 abbrev pub RefusesLine : Follow → List ℕ → Ended → Type 0
-RefusesLine old line why = (texts : List (List (List ℕ))) (lines : List (List ℕ)) (events : List Event) → HasRead old texts lines events → GoesOn old events (rows_of line) → IsLack why
+RefusesLine old line why = (texts : List (List (List ℕ))) (lines : List (List ℕ)) (events : List Event) (h : HasRead old texts lines events) →
+    GoesOn old events (rows_of line) → IsLack old.judge h.since why
+
+-- the text at hand has no record so far
+abbrev pub HasNoRecord : Follow → Type 0
+HasNoRecord follow = (texts : List (List (List ℕ))) (lines : List (List ℕ)) (events : List Event) → HasRead follow texts lines events → flat_map rows_of lines ≡ []
 
 -- the text at hand has ended, and the next one begins
 abbrev pub EndsText : Follow → Follow → Type 0

@@ -111,9 +111,10 @@ impl Course {
         Ok(true)
     }
 
-    /// Refuses a text without any record. Whether the recording has ended well.
+    /// Refuses a recording without any record. Whether the recording has ended well.
     pub(crate) fn has_records(&mut self) -> Result<bool, AllocError> {
-        if self.follow.place().record > 0 {
+        let last = self.follow.place();
+        if last.text > 0 || last.record > 0 {
             return Ok(true);
         }
         let place = self.follow.next_place();

@@ -82,18 +82,26 @@ impl<F, O: Lengths> FolderTexts<'_, F, O> {
     }
 }
 
-impl<F: Folders, O: Lengths> FolderTexts<'_, F, O> {
-    // Takes all names below the folder.
-    fn take_names(&mut self, alloc: Global) -> Result<(), TextsFault> {
-        let listed = match names_below(alloc, self.folders, self.folder) {
-            Ok(listed) => listed,
+impl<F: Folders, O> FolderTexts<'_, F, O> {
+    // The names below the folder.
+    fn listed(&self, alloc: Global) -> Result<Vec<Vec<u8>>, TextsFault> {
+        match names_below(alloc, self.folders, self.folder) {
+            Ok(names) => Ok(names),
             Err(NamesFault::TooManyFolders) => {
-                return Err(lost(alloc, self.folder, Reason::TooManyFolders));
+                Err(lost(alloc, self.folder, Reason::TooManyFolders))
             }
-            Err(_) => return Err(TextsFault::Memory),
-        };
-        for name in listed {
-            self.take_name(alloc, name)?;
+            Err(_) => Err(TextsFault::Memory),
+        }
+    }
+}
+
+impl<F: Folders, O: Lengths> FolderTexts<'_, F, O> {
+    // Takes the names below the folder up to this one.
+    fn take_names(&mut self, alloc: Global, last: &[u8]) -> Result<(), TextsFault> {
+        for name in self.listed(alloc)? {
+            if name.as_slice() <= last {
+                self.take_name(alloc, name)?;
+            }
         }
         Ok(())
     }
@@ -102,11 +110,17 @@ impl<F: Folders, O: Lengths> FolderTexts<'_, F, O> {
 impl<F: Folders, O: Opener + Lengths> Texts for FolderTexts<'_, F, O> {
     type Text = O::Text;
 
-    fn has_next(&mut self, alloc: Global) -> Result<bool, TextsFault> {
-        if self.opened == self.names.len() {
-            self.take_names(alloc)?;
+    fn has_next(&self) -> bool {
+        self.opened < self.names.len()
+    }
+
+    fn look(&mut self, alloc: Global) -> Result<(), TextsFault> {
+        // What comes while a folder is listed may be shown without what came before it. So the names up to the last one are listed
+        // once more, when all before that are there.
+        match self.listed(alloc)?.last() {
+            Some(last) => self.take_names(alloc, last),
+            None => Ok(()),
         }
-        Ok(self.opened < self.names.len())
     }
 
     fn open_next(

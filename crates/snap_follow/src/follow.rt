@@ -1,16 +1,15 @@
 //! A recording that is followed, line by line.
-ghost use Rattle.std.specs.Prelude.{◌≡◌, ◌⊎◌, ◌++◌, ◌∷◌, [], ◌↔◌, ℕ, List, IsTrue, IfErr, IfOk, IfSome, OnOk, false};
+ghost use Rattle.std.specs.Prelude.{◌≡◌, ◌++◌, ◌∷◌, [], ◌↔◌, ℕ, List, IsTrue, IfErr, IfOk, IfSome, OnErr, OnOk, false};
 ghost use Rattle.snap_core.specs.declared.event.Event.{Event};
 ghost use Rattle.snap_core.specs.Calls.{calls_of};
 ghost use Rattle.snap_core.specs.Events.{IsHistory};
-ghost use Rattle.snap_core.specs.declared.history.EventRefusal.TheVariants as refusals;
+ghost use Rattle.snap_follow.specs.inside.Refusals.{ended_by};
 ghost use Rattle.snap_follow.specs.declared.follow.Ended.TheVariants as ends;
-ghost use Rattle.snap_text.specs.declared.fault.TextFault.TheVariants as faults;
 ghost use Rattle.snap_core.specs.Orders.{IsAtomic};
 ghost use Rattle.snap_core.specs.Regular.{IsRegular};
 ghost use Rattle.snap_windows.specs.Taken.{HasTaken};
 ghost use Rattle.snap_windows.specs.Verdicts.{IsVerdict};
-ghost use Rattle.snap_follow.specs.Followed.{EndsText, HasRead, IsLack, ReadsLine, RefusesLine};
+ghost use Rattle.snap_follow.specs.Followed.{EndsText, HasNoRecord, HasRead, IsLack, ReadsLine, RefusesLine};
 
 use snap_core::{Entry, Event, EventRefusal, Limit};
 use snap_csv::{ReadRefusal, fault_for, is_header_line, read_line};
@@ -150,16 +149,6 @@ impl Follow {
         self.place
     }
 
-    // The refusal of the record that was read last.
-    fn refused(&self, fault: TextFault) -> Ended
-        ensures { fault ≡ faults.TooMany → IsLack result }
-    {
-        Ended::Refused {
-            place: self.place,
-            fault,
-        }
-    }
-
     /// Where the next record of the text at hand stands.
     pub fn next_place(&self) -> Place {
         Place {
@@ -168,9 +157,19 @@ impl Follow {
         }
     }
 
-    // The same where the judge has refused its event.
+    // The refusal of the record that was read last.
+    fn refused(&self, fault: TextFault) -> Ended
+        ensures { result ≡ ends.Refused self.now.place fault }
+    {
+        Ended::Refused {
+            place: self.place,
+            fault,
+        }
+    }
+
+    // The same where the judge has refused the event of that record.
     fn refused_event(&self, refusal: EventRefusal) -> Ended
-        ensures { (refusal ≡ refusals.TooMany) ⊎ (refusal ≡ refusals.Memory) → IsLack result }
+        ensures { result ≡ ended_by self.now.place refusal }
     {
         match fault_for(refusal) {
             Some(fault) => self.refused(fault),
@@ -205,7 +204,7 @@ impl Follow {
     fn take_event(&mut self, alloc: Global, event: &Event) -> Result<(), Ended>
         ensures taken { OnOk result ((before since : List Event) → HasTaken self.old.judge before since → HasTaken self.new.judge before (since ++ event.now ∷ [])) }
         ensures headed { self.new.headed ≡ self.old.headed }
-        ensures refused { IfErr result (λ why. (before since : List Event) → HasTaken self.old.judge before since → IsHistory (before ++ (since ++ event.now ∷ [])) → IsLack why) }
+        ensures refused { IfErr result (λ why. (before since : List Event) → HasTaken self.old.judge before since → IsHistory (before ++ (since ++ event.now ∷ [])) → IsLack self.old.judge since why) }
     {
         let missed = match self.judge.take(alloc, event) {
             Ok(missed) => missed,
@@ -238,7 +237,8 @@ impl Follow {
     /// Goes on to the next text of the recording, whose first record is a header too. Numbers go on, and calls may be open. A text
     /// without a header is refused.
     pub fn end_text(&mut self) -> Result<(), Ended>
-        ensures { OnOk result (EndsText self.old self.new) }
+        ensures ended { OnOk result (EndsText self.old self.new) }
+        ensures refused { OnErr result (HasNoRecord self.old) }
     {
         if !self.headed {
             return Err(self.refused_next(TextFault::Header));

@@ -206,6 +206,24 @@ fn end_reading<R>(
     Ok(())
 }
 
+// How many pauses there were since something has come, and in all, and whether to look for texts that have come.
+#[derive(Drop)]
+struct Pauses {
+    idle: u64,
+    all: u64,
+    is_look_due: bool,
+}
+
+impl Pauses {
+    // One pause more. Texts are looked for once a second, and before the end.
+    fn rest<C: Clock>(&mut self, clock: &C, until: Until) {
+        thread::sleep(clock, Duration::from_millis(PAUSE));
+        self.idle = self.idle.saturating_add(1);
+        self.all = self.all.saturating_add(1);
+        self.is_look_due = self.all % PAUSES_A_SECOND == 0 || is_over(until, self.idle);
+    }
+}
+
 // Reads what is there, and takes it, as long as that is asked for.
 fn read_all<Rt: Wait, T: Texts, W: Write, C: Clock>(
     rt: &Rt,
@@ -223,23 +241,29 @@ fn read_all<Rt: Wait, T: Texts, W: Write, C: Clock>(
         read: 0,
         has_next: false,
     };
-    let mut pauses = 0;
+    let mut pauses = Pauses {
+        idle: 0,
+        all: 0,
+        is_look_due: true,
+    };
     'pieces: for _ in rt.forever() {
         let length = at_hand.read(&mut piece)?;
         if length > 0 {
             take_piece(alloc, course, writer, &piece[..length])?;
-            pauses = 0;
+            pauses.idle = 0;
         } else if at_hand.has_next {
             // the next text was there before the last look at this one, so nothing more comes here
             open_next(alloc, texts, &mut at_hand, course)?;
-            pauses = 0;
-        } else if texts.has_next(alloc)? {
+            pauses.idle = 0;
+        } else if texts.has_next() {
             at_hand.has_next = true;
-        } else if is_over(until, pauses) {
+        } else if pauses.is_look_due {
+            texts.look(alloc)?;
+            pauses.is_look_due = false;
+        } else if is_over(until, pauses.idle) {
             break;
         } else {
-            thread::sleep(clock, Duration::from_millis(PAUSE));
-            pauses = pauses.saturating_add(1);
+            pauses.rest(clock, until);
         }
     }
     end_reading(alloc, &at_hand, course, until)

@@ -51,10 +51,13 @@ pub struct Opened<R> {
 pub trait Texts {
     type Text: Read + Drop;
 
-    /// Whether a text stands behind those that were opened.
-    fn has_next(&mut self, alloc: Global) -> Result<bool, TextsFault>;
+    /// Whether a text was found behind those that were opened.
+    fn has_next(&self) -> bool;
 
-    /// Opens it, and leaves the one before it, of which so many bytes were read.
+    /// Looks for texts that have come.
+    fn look(&mut self, alloc: Global) -> Result<(), TextsFault>;
+
+    /// Opens the next text that was found, and leaves the one before it, of which so many bytes were read.
     fn open_next(
         &mut self,
         alloc: Global,
@@ -78,8 +81,12 @@ impl<R> OneText<R> {
 impl<R: Read + Drop> Texts for OneText<R> {
     type Text = R;
 
-    fn has_next(&mut self, _alloc: Global) -> Result<bool, TextsFault> {
-        Ok(self.text.is_some())
+    fn has_next(&self) -> bool {
+        self.text.is_some()
+    }
+
+    fn look(&mut self, _alloc: Global) -> Result<(), TextsFault> {
+        Ok(())
     }
 
     fn open_next(&mut self, _alloc: Global, _read: u64) -> Result<Option<Opened<R>>, TextsFault> {

@@ -14,10 +14,12 @@ use std::test::Fail;
 // A text of a folder: its name there, and what it says; none where it can't be opened.
 type Page = (&'static str, Option<&'static str>);
 
-// A folder `t` whose listings show one more of its texts each time. Of one text the length is another than what is read.
+// A folder `t` that shows so many texts more at every second listing. If they are two, the listing leaves out the first of them. Of one
+// text the length is another than what is read.
 #[derive(Drop)]
 struct Binder {
     pages: &'static [Page],
+    step: usize,
     changed: &'static [u8],
     listed: AtomicUsize,
 }
@@ -38,12 +40,16 @@ impl Folders for Binder {
     ghost lists = { λ _ _ _. ⊤ };
 
     fn list(&self, alloc: Global, _folder: &[u8]) -> Result<Option<Vec<Entry>>, AllocError> {
-        let shown = self.listed.fetch_add(1, Ordering::Relaxed);
+        let listed = self.listed.fetch_add(1, Ordering::Relaxed);
+        let shown = (listed / 2).saturating_mul(self.step);
         let mut entries = Vec::new(alloc);
-        for (name, _) in self.pages.iter().take(shown) {
-            let name = Vec::from_slice(alloc, name.as_bytes())?;
-            let kind = Kind::File;
-            entries.push(Entry { name, kind })?;
+        for (place, (name, _)) in self.pages.iter().take(shown).enumerate() {
+            let is_left_out = self.step == 2 && listed % 2 == 0 && place.saturating_add(2) == shown;
+            if !is_left_out {
+                let name = Vec::from_slice(alloc, name.as_bytes())?;
+                let kind = Kind::File;
+                entries.push(Entry { name, kind })?;
+            }
         }
         Ok(Some(entries))
     }
@@ -82,9 +88,11 @@ begin,1,view,
 end,1,view,0:1:7
 ";
 
-// The texts of a folder, the one that changes, how the run ends, its status, and the lines of the windows with the first of the sums.
+// The texts of a folder, how many come at once, the one that changes, how the run ends, its status, and the lines of the windows with
+// the first of the sums.
 type Recording = (
     &'static [Page],
+    usize,
     &'static [u8],
     &'static str,
     Option<u8>,
@@ -113,6 +121,7 @@ const RECORDINGS: &[Recording] = &[
                 ),
             ),
         ],
+        1,
         b"",
         "whole",
         Some(0),
@@ -129,6 +138,7 @@ const RECORDINGS: &[Recording] = &[
                 Some("event,process,op,data\nbegin,1,view,\nend,1,view,\n"),
             ),
         ],
+        1,
         b"",
         "whole",
         Some(2),
@@ -145,6 +155,7 @@ const RECORDINGS: &[Recording] = &[
             ),
             ("2.csv", Some(SECOND)),
         ],
+        1,
         b"",
         "whole",
         Some(0),
@@ -154,6 +165,7 @@ const RECORDINGS: &[Recording] = &[
     // numbers go on from text to text
     (
         &[("1.csv", Some(FIRST)), ("2.csv", Some(FIRST))],
+        1,
         b"",
         "whole",
         Some(3),
@@ -163,6 +175,7 @@ const RECORDINGS: &[Recording] = &[
     // a text without a header
     (
         &[("1.csv", Some("")), ("2.csv", Some(SECOND))],
+        1,
         b"",
         "whole",
         Some(3),
@@ -171,6 +184,7 @@ const RECORDINGS: &[Recording] = &[
     // an earlier text that comes late
     (
         &[("2.csv", Some(FIRST)), ("1.csv", Some(SECOND))],
+        1,
         b"",
         "lost",
         Some(4),
@@ -179,6 +193,7 @@ const RECORDINGS: &[Recording] = &[
     // an earlier text that changes
     (
         &[("1.csv", Some(FIRST)), ("2.csv", Some(SECOND))],
+        1,
         b"t/1.csv",
         "lost",
         Some(4),
@@ -188,24 +203,45 @@ const RECORDINGS: &[Recording] = &[
     // a text that can't be opened
     (
         &[("1.csv", Some(FIRST)), ("2.csv", None)],
+        1,
         b"",
         "lost",
         Some(4),
         "window 1 events 2 atomic from 2 of t/1.csv to 3 of t/1.csv\nwindow 2 failed\nwindows 2 events 2 views 0\n",
     ),
-    (&[], b"", "no text", None, ""),
+    // a text that is listed before the one that came first
+    (
+        &[("1.csv", Some(FIRST)), ("2.csv", Some(SECOND))],
+        2,
+        b"",
+        "whole",
+        Some(0),
+        "window 1 events 2 atomic from 2 of t/1.csv to 3 of t/1.csv\nwindow 2 events 2 atomic from 2 of t/2.csv to 3 of t/2.csv\n\
+         windows 2 events 4 views 1\n",
+    ),
+    // a last text whose header has not come
+    (
+        &[("1.csv", Some(FIRST)), ("2.csv", Some("event,pro"))],
+        1,
+        b"",
+        "with a rest",
+        Some(0),
+        "window 1 events 2 atomic from 2 of t/1.csv to 3 of t/1.csv\nwindows 1 events 2 views 0\n",
+    ),
+    (&[], 1, b"", "no text", None, ""),
 ];
 
 #[test]
 fn the_texts_of_a_folder_are_one_recording(rt: HostRuntime) -> Result<(), Fail> {
-    for (pages, changed, how, status, lines) in RECORDINGS {
+    for (pages, step, changed, how, status, lines) in RECORDINGS {
         let binder = Binder {
             pages: *pages,
+            step: *step,
             changed: *changed,
             listed: AtomicUsize::new(0),
         };
         let mut texts = FolderTexts::new(rt.alloc(), &binder, &binder, b"t");
-        let asked = options(2, 100, Until::Idle(1), 0)?;
+        let asked = options(2, 100, Until::Idle(3), 0)?;
         let mut writer = Counted::new(Vec::new(rt.alloc()));
         let answer = follow_run(&rt, rt.alloc(), &mut texts, &mut writer, &no_naps(), asked);
         same(end_of(&answer), (*how, *status))?;

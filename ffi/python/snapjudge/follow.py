@@ -102,7 +102,9 @@ class Files:
 
     def _list(self):
         lost = []
-        names = names_below(self.folder, lost)
+        shown = names_below(self.folder, lost)
+        # what comes while a folder is listed may be shown without what came before it, so the names up to the last are listed again
+        names = [name for name in names_below(self.folder, lost) if name <= shown[-1]] if shown else []
         if lost:
             raise Trouble("can't be opened", lost[0])
         last = max(self._lengths, default=b"")
@@ -115,6 +117,11 @@ class Files:
                 with contextlib.suppress(FileNotFoundError):
                     if os.stat(name).st_size != self._lengths[name]:
                         raise Trouble("has changed after a later file began", name)
+
+    @property
+    def has_left(self):
+        """Whether a file stands before the one at hand."""
+        return len(self._lengths) > 1
 
     def open_next(self):
         file = File(self._next.popleft())
@@ -240,7 +247,7 @@ class Follow:
 
     def _leave_file(self, is_asked):
         """Ends a file that may not be whole, and says what is left out."""
-        require(self._reader.header, self._reader.place, "header")
+        require(self._reader.header or self._files.has_left, self._reader.place, "header")
         if self._reader.rest:
             self._say("the last line has no end, and is left out", self._file.path)
         if not is_asked:

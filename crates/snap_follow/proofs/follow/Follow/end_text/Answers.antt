@@ -2,5 +2,5 @@ use Rattle.std.proofs.Common.{refl}
 use Rattle.snap_follow.proofs.Reading.{text_ended}
 use Rattle.snap_follow.proofs.follow.Follow.end_text.Goals as goal
 
-pub returns : goal.returns
-returns c = text_ended c.args.self.now _ c.if-not-self.false refl refl
+pub returns-clause-ended : goal.returns-clause-ended
+returns-clause-ended c = text_ended c.args.self.now _ c.if-not-self.false refl refl
