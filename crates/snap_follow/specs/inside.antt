@@ -1,3 +1,4 @@
 -- What only the proofs of this crate need: no clause that a caller reads cites it.
+pub mod Courses
 pub mod Refusals
 pub mod Statuses

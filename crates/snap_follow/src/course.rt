@@ -1,7 +1,8 @@
 //! The course of a recording that is followed: its bytes are cut into lines, and its windows are answered.
-ghost use Rattle.std.specs.Prelude.{ℕ, List, IfOk};
+ghost use Rattle.std.specs.Prelude.{◌≡◌, ◌++◌, [], ℕ, List, true, IfOk};
 ghost use Rattle.snap_core.specs.declared.event.Event.{Event};
-ghost use Rattle.snap_follow.specs.Followed.{HasRead, IsStatusOf};
+ghost use Rattle.snap_follow.specs.Followed.{HasRead, IsStatusOf, ReadsLine};
+ghost use Rattle.snap_follow.specs.inside.Courses.{HasFollowed, TakesBytes};
 
 use crate::answers::Answers;
 use crate::follow::{Ended, Follow};
@@ -18,14 +19,17 @@ pub const RECORD_LIMIT: usize = 1_048_576;
 /// The course of a recording so far.
 #[derive(Drop)]
 pub(crate) struct Course {
-    follow: Follow,
+    pub(crate) follow: Follow,
     pub(crate) answers: Answers,
     // the begin of a line whose end has not come
-    rest: Vec<u8>,
+    pub(crate) rest: Vec<u8>,
 }
 
 impl Course {
-    pub(crate) fn new(alloc: Global, least: u32, most: Limit) -> Course {
+    /// A recording of which nothing was read.
+    pub(crate) fn new(alloc: Global, least: u32, most: Limit) -> Course
+        ensures { HasFollowed result [] [] [] }
+    {
         Course {
             follow: Follow::new(alloc, least, most),
             answers: Answers::new(alloc),
@@ -39,7 +43,9 @@ impl Course {
     }
 
     // Answers why the recording is followed no further.
-    fn refuse(&mut self, ended: Ended) -> Result<(), AllocError> {
+    fn refuse(&mut self, ended: Ended) -> Result<(), AllocError>
+        ensures rest { self.new.rest ≡ self.old.rest }
+    {
         match ended {
             Ended::Refused { place, fault } => self.answers.add_refusal(place, fault),
             Ended::Memory => Err(AllocError),
@@ -47,7 +53,10 @@ impl Course {
     }
 
     // Takes a line, and ends a window where one may end there. Whether the recording is followed further.
-    fn take_line(&mut self, alloc: Global, line: &[u8]) -> Result<bool, AllocError> {
+    fn take_line(&mut self, alloc: Global, line: &[u8]) -> Result<bool, AllocError>
+        ensures rest { self.new.rest ≡ self.old.rest }
+        ensures read { IfOk result (λ goes_on. goes_on ≡ true → ReadsLine self.old.follow self.new.follow line.now) }
+    {
         if let Err(ended) = self.follow.take_line(alloc, line) {
             self.refuse(ended)?;
             return Ok(false);
@@ -59,13 +68,18 @@ impl Course {
     }
 
     /// Takes the rest as a line. Whether the recording is followed further.
-    pub(crate) fn take_rest(&mut self, alloc: Global) -> Result<bool, AllocError> {
+    pub(crate) fn take_rest(&mut self, alloc: Global) -> Result<bool, AllocError>
+        ensures rest { self.new.rest.items ≡ [] }
+        ensures read { IfOk result (λ goes_on. goes_on ≡ true → ReadsLine self.old.follow self.new.follow self.old.rest.items) }
+    {
         let line = mem::replace(&mut self.rest, Vec::new(alloc));
         self.take_line(alloc, &line)
     }
 
     // Refuses the next record, where it has begun with more bytes than a record may have. Whether the recording is followed further.
-    fn has_end(&mut self) -> Result<bool, AllocError> {
+    fn check_length(&mut self) -> Result<bool, AllocError>
+        ensures same { (self.new.rest ≡ self.old.rest) × (self.new.follow ≡ self.old.follow) }
+    {
         if self.rest.len() <= RECORD_LIMIT {
             return Ok(true);
         }
@@ -75,28 +89,30 @@ impl Course {
     }
 
     // Takes the line that begins with the rest and ends with these bytes. Whether the recording is followed further.
-    fn take_joined(&mut self, alloc: Global, bytes: &[u8]) -> Result<bool, AllocError> {
+    fn take_joined(&mut self, alloc: Global, bytes: &[u8]) -> Result<bool, AllocError>
+        ensures rest { IfOk result (λ goes_on. goes_on ≡ true → self.new.rest.items ≡ []) }
+        ensures read { IfOk result (λ goes_on. goes_on ≡ true → ReadsLine self.old.follow self.new.follow (self.old.rest.items ++ bytes.now)) }
+    {
         if self.rest.is_empty() {
             return self.take_line(alloc, bytes);
         }
         self.rest.extend_from_slice(bytes)?;
-        Ok(self.has_end()? && self.take_rest(alloc)?)
+        Ok(self.check_length()? && self.take_rest(alloc)?)
     }
 
     /// Takes the lines of a piece. The begin of a line without an end is kept. Whether the recording is followed further.
-    pub(crate) fn take_piece(&mut self, alloc: Global, piece: &[u8]) -> Result<bool, AllocError> {
-        let mut from = 0;
-        'lines: for _ in 0..piece.len() {
-            let Some(at) = memchr2(b'\n', b'\r', &piece[from..]) else {
-                break;
-            };
-            if !self.take_joined(alloc, &piece[from..from + at])? {
+    pub(crate) fn take_piece(&mut self, alloc: Global, piece: &[u8]) -> Result<bool, AllocError>
+        ensures { IfOk result (λ goes_on. goes_on ≡ true → TakesBytes self.old self.new piece.now) }
+    {
+        let mut left = piece;
+        while let Some(at) = memchr2(b'\n', b'\r', left) {
+            if !self.take_joined(alloc, &left[..at])? {
                 return Ok(false);
             }
-            from += at + 1;
+            left = &left[at + 1..];
         }
-        self.rest.extend_from_slice(&piece[from..])?;
-        self.has_end()
+        self.rest.extend_from_slice(left)?;
+        self.check_length()
     }
 
     /// Goes on to the next text, since this one is whole. Whether the recording is followed further.

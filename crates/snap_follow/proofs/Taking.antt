@@ -1,0 +1,123 @@
+-- What the course of a recording has taken with more bytes.
+use Rattle.std.proofs.Common.{◌==◌, ◌+◌, false, ◌<◌, None, Option, Some, Result, Ok, Err, arith, add-one, drop, drop-cons, get_or, length, take, ◌≡◌, ◌++◌, ◌∙◌, ℕ, true, All, List, [], ◌∷◌, append-nil, append_assoc, map, flat_map, ap, subst, sym, refl}
+use Rattle.std.specs.Prelude.{IfOk, vec_len}
+use Rattle.std.specs.Global.{Vec}
+use Rattle.std.proofs.lemmas.Bool.Decides.{nat_tests}
+use Rattle.std.proofs.lemmas.List.{get_or-take, length-take, map-append, take-append-drop}
+use Rattle.std.proofs.lemmas.List.Elements.{All-append, All-from_get_or}
+use Rattle.std.proofs.lemmas.List.Concat.{flat_map-append}
+use Rattle.memchr.specs.Find.{IsFirstByte, is_byte2}
+use Rattle.snap_core.specs.declared.event.Event.{Event}
+use Rattle.snap_follow.specs.declared.course.Course.{Course}
+use Rattle.snap_follow.specs.Bytes.{AreLinesOf, Ended, EndsLine, HasNoEnd}
+use Rattle.snap_follow.specs.declared.follow.Follow.{Follow}
+use Rattle.snap_follow.specs.Followed.{HasRead, ReadsLine}
+use Rattle.snap_follow.specs.inside.Courses.{HasFollowed, TakesBytes}
+
+-- nothing
+pub takes_nothing : (c : Course) → TakesBytes c c []
+takes_nothing c texts bytes events h = ([], subst (λ z. HasFollowed c texts z (events ++ [])) (sym (append-nil bytes)) (subst (HasFollowed c texts bytes) (sym (append-nil events)) h))
+
+-- some bytes, and then others
+pub takes_both : (a b c : Course) (x y : List ℕ) → TakesBytes a b x → TakesBytes b c y → TakesBytes a c (x ++ y)
+takes_both a b c x y first second texts bytes events h =
+    let one = first texts bytes events h in
+    let two = second texts (bytes ++ x) (events ++ one.0) one.1 in
+    (one.0 ++ two.0, subst (λ z. HasFollowed c texts z (events ++ (one.0 ++ two.0))) (append_assoc bytes x y) (subst (HasFollowed c texts ((bytes ++ x) ++ y)) (append_assoc events one.0 two.0) two.1))
+
+-- the end of a line: the rest and these bytes are the line
+pub takes_line : (c d : Course) (front : List ℕ) (end : ℕ) → HasNoEnd front → EndsLine end → d.rest.items ≡ [] → ReadsLine c.follow d.follow (c.rest.items ++ front) → TakesBytes c d (front ++ end ∷ [])
+takes_line c d front end within ends none reads texts bytes events h =
+    let line = c.rest.items ++ front in
+    let read = reads texts h.lines events h.read in (
+      read.0,
+      record {
+        lines = h.lines ++ line ∷ [];
+        cut = subst (AreLinesOf (bytes ++ (front ++ end ∷ [])) (h.lines ++ line ∷ [])) (sym none) (record {
+          each = h.cut.each ++ one ∷ [];
+          lines_are = ap (λ z. z ++ line ∷ []) h.cut.lines_are ∙ sym (map-append (λ l. l.line) h.cut.each (one ∷ []));
+          spelled = spells;
+          unended = λ k d l. absurd (omega (arith, l));
+        });
+        read = read.1;
+      },
+    )
+  where
+    one : Ended
+    one = record { line = c.rest.items ++ front; end = end; within = All-append (λ b. ¬ EndsLine b) c.rest.items front h.cut.unended within; ends = ends }
+
+    before : List ℕ
+    before = flat_map (λ l. l.line ++ l.end ∷ []) h.cut.each
+
+    spells : bytes ++ (front ++ end ∷ []) ≡ flat_map (λ l. l.line ++ l.end ∷ []) (h.cut.each ++ one ∷ []) ++ []
+    spells =
+        ap (λ z. z ++ (front ++ end ∷ [])) h.cut.spelled
+        ∙ append_assoc before c.rest.items (front ++ end ∷ [])
+        ∙ ap (λ z. before ++ z) (sym (append_assoc c.rest.items front (end ∷ [])))
+        ∙ sym (flat_map-append (λ l. l.line ++ l.end ∷ []) h.cut.each (one ∷ []) ∙ ap (λ z. before ++ z) (append-nil ((c.rest.items ++ front) ++ end ∷ [])))
+        ∙ sym (append-nil (flat_map (λ l. l.line ++ l.end ∷ []) (h.cut.each ++ one ∷ [])))
+
+-- bytes within which no line ends
+pub takes_rest : (c d : Course) (bytes : List ℕ) → HasNoEnd bytes → d.rest.items ≡ c.rest.items ++ bytes → d.follow ≡ c.follow → TakesBytes c d bytes
+takes_rest c d piece within rest same texts bytes events h = (
+  [],
+  record {
+    lines = h.lines;
+    cut = subst (AreLinesOf (bytes ++ piece) h.lines) (sym rest) (record {
+      each = h.cut.each;
+      lines_are = h.cut.lines_are;
+      spelled = ap (λ z. z ++ piece) h.cut.spelled ∙ append_assoc (flat_map (λ l. l.line ++ l.end ∷ []) h.cut.each) c.rest.items piece;
+      unended = All-append (λ b. ¬ EndsLine b) c.rest.items piece h.cut.unended within;
+    });
+    read = subst (λ z. HasRead z texts h.lines (events ++ [])) (sym same) (subst (HasRead c.follow texts h.lines) (sym (append-nil events)) h.read);
+  },
+)
+
+-- the bytes before the first end, and those of bytes without any
+front_has_no_end : (k : ℕ) (bytes : List ℕ) → IsFirstByte (is_byte2 10 13) bytes (Some k) → HasNoEnd (take k bytes)
+front_has_no_end k bytes found =
+    All-from_get_or (λ b. ¬ EndsLine b) (take k bytes) 0 (λ i lt.
+    let below : i < k = omega (arith, length-take {A = ℕ}) in
+    rw (get_or-take k bytes i 0 below) (found.0.before i (omega arith) below))
+
+has_no_end : (bytes : List ℕ) → IsFirstByte (is_byte2 10 13) bytes None → HasNoEnd bytes
+has_no_end bytes found = All-from_get_or (λ b. ¬ EndsLine b) bytes 0 (λ i lt. found i (omega arith) lt)
+
+-- bytes are those before a place, the one there, and those behind it
+cut_at : (k : ℕ) (bytes : List ℕ) → k < length bytes → bytes ≡ take k bytes ++ get_or bytes k 0 ∷ drop (k + 1) bytes
+cut_at k bytes high = sym (take-append-drop k bytes) ∙ ap (λ rest. take k bytes ++ rest) (rw add-one (drop-cons bytes k 0 high))
+
+-- of a piece one line more was taken, up to its end
+pub line_more : (c d e : Course) (piece front left : List ℕ) (k : ℕ) → piece ≡ front ++ left → TakesBytes c d front → IsFirstByte (is_byte2 10 13) left (Some k) →
+    e.rest.items ≡ [] → ReadsLine d.follow e.follow (d.rest.items ++ take k left) → (more : List ℕ) × (piece ≡ more ++ drop (k + 1) left) × TakesBytes c e more
+line_more c d e piece front left k parts taken found none reads =
+    let end = get_or left k 0 in
+    let line = take k left ++ end ∷ [] in (
+      front ++ line,
+      parts ∙ ap (λ z. front ++ z) (cut_at k left found.0.high ∙ sym (append_assoc (take k left) (end ∷ []) (drop (k + 1) left))) ∙ sym (append_assoc front line (drop (k + 1) left)),
+      takes_both c d e front line taken (takes_line d e (take k left) end (front_has_no_end k left found) found.1 none reads),
+    )
+
+-- a piece was taken whole, whose last bytes end no line
+pub all_taken : (c d e : Course) (piece front left : List ℕ) → piece ≡ front ++ left → TakesBytes c d front → IsFirstByte (is_byte2 10 13) left None →
+    e.rest.items ≡ d.rest.items ++ left → e.follow ≡ d.follow → TakesBytes c e piece
+all_taken c d e piece front left parts taken found rest same = subst (TakesBytes c e) (sym parts) (takes_both c d e front left taken (takes_rest d e left (has_no_end left found) rest same))
+
+-- a line was read, and nothing changed behind it
+pub read_then : (f g h : Follow) (line : List ℕ) → ReadsLine f g line → ((texts : List (List (List ℕ))) (lines : List (List ℕ)) (events : List Event) → HasRead g texts lines events → HasRead h texts lines events) → ReadsLine f h line
+read_then f g h line reads same texts lines events r =
+    let read = reads texts lines events r in
+    (read.0, same texts (lines ++ line ∷ []) (events ++ read.0) read.1)
+
+-- what is so of each answer is so of this one
+pub if_ok : {X E : Type 0} (r : Result X E) (P : X → Type 0) → ((x : X) → P x) → IfOk r P
+if_ok (Ok x) P h = h x
+if_ok (Err e) P h = tt
+
+-- a list without length is empty
+no_length : (bytes : List ℕ) → length bytes ≡ 0 → bytes ≡ []
+no_length [] none = refl
+no_length (b ∷ bytes) none = absurd (omega (arith, none))
+
+pub no_bytes : (bytes : Vec ℕ) → true ≡ (vec_len bytes == 0) → bytes.items ≡ []
+no_bytes bytes is = let none : vec_len bytes ≡ 0 = grind (arith, nat_tests, is) in no_length bytes.items (omega (arith, none, bytes.ok))

@@ -1,0 +1,8 @@
+use Rattle.snap_follow.proofs.Taking.{read_then}
+use Rattle.snap_follow.proofs.course.Course.take_line.Goals as goal
+
+pub returns-in_ok-add_window-clause-read : goal.returns-in_ok-add_window-clause-read
+returns-in_ok-add_window-clause-read c = λ _. read_then c.args.self.now.follow c.take_line.new.self c.cut.new.self c.args.line.now c.in_default.ensures.read c.in_ok-window.ensures.same
+
+pub returns-in_default-2-clause-read : goal.returns-in_default-2-clause-read
+returns-in_default-2-clause-read c = λ _. read_then c.args.self.now.follow c.take_line.new.self c.cut.new.self c.args.line.now c.in_default.ensures.read c.in_ok-window.ensures.same

@@ -1,0 +1,18 @@
+use Rattle.std.proofs.Common.{◌+◌, [], refl}
+use Rattle.std.proofs.lemmas.List.{take_rest}
+use Rattle.snap_follow.proofs.Taking.{all_taken, if_ok, line_more, takes_nothing}
+use Rattle.snap_follow.proofs.course.Course.take_piece.Goals as goal
+
+pub loop-at-init : goal.loop-at-init
+loop-at-init c = ([], refl, takes_nothing c.args.self.now)
+
+pub loop-at-preserved : goal.loop-at-preserved
+loop-at-preserved c =
+    let left = c.loop-at.left.now in
+    rw (take_rest left (c.in-Some.at + 1)) (line_more c.args.self.now c.loop-at.self c.take_joined.new.self c.args.piece.now c.loop-at.invariant.0 left c.in-Some.at
+    c.loop-at.invariant.1 c.loop-at.invariant.2 c.in-Some.ensures (c.in_ok-take_joined.ensures.rest c.if-not-branch.false) (c.in_ok-take_joined.ensures.read c.if-not-branch.false))
+
+pub returns : goal.returns
+returns c =
+    if_ok c.check_length.result _ (λ goes_on is. all_taken c.args.self.now c.loop-at.self c.check_length.new.self c.args.piece.now c.loop-at.invariant.0 c.loop-at.left.now
+    c.loop-at.invariant.1 c.loop-at.invariant.2 c.in_default.ensures (rw c.check_length.ensures.same.0 c.in_ok-extend_from_slice.ensures.items) c.check_length.ensures.same.1)

@@ -1,0 +1,4 @@
+use Rattle.snap_follow.proofs.course.Course.take_rest.Goals as goal
+
+pub returns-clause-read : goal.returns-clause-read
+returns-clause-read c = rw (← c.replace-line.ensures.value, ← c.deref.ensures.value) c.take_line.ensures.read
