@@ -1,5 +1,5 @@
 -- Why a line is refused.
-use Rattle.std.proofs.Common.{◌≡◌, ◌≤◌, ◌⊎◌, ℕ, true, false, List, [], ◌∷◌, ◌++◌, append_assoc, flat_map, length, Result, Ok, Err, refl, sym, ap, ◌∙◌, subst, inl, inr, arith}
+use Rattle.std.proofs.Common.{◌≡◌, ◌≤◌, ◌⊎◌, ℕ, true, List, [], ◌∷◌, ◌++◌, append_assoc, length, Result, Ok, Err, refl, sym, ap, ◌∙◌, subst, inl, inr, arith}
 use Rattle.std.specs.Prelude.{IfErr}
 use Rattle.std.proofs.lemmas.Bool.{false≢true}
 use Rattle.snap_core.specs.declared.event.Event.{Event}
@@ -10,7 +10,7 @@ use Rattle.snap_windows.specs.Taken.{HasTaken}
 use Rattle.snap_follow.specs.declared.follow.Ended.{Ended}
 use Rattle.snap_follow.specs.declared.follow.Follow.{Follow}
 use Rattle.snap_follow.specs.declared.follow.Place.{Place}
-use Rattle.snap_follow.specs.Followed.{HasNoRecord, IsLack, RefusesLine, SaysSoFar}
+use Rattle.snap_follow.specs.Followed.{IsLack, RefusesLine}
 use Rattle.snap_follow.specs.inside.Refusals.{ended_by}
 use Rattle.snap_core.specs.declared.history.EventRefusal.{EventRefusal}
 use Rattle.snap_core.specs.declared.history.EventRefusal.TheVariants as refusals

@@ -1,5 +1,5 @@
 -- What the course of a recording has taken with more bytes.
-use Rattle.std.proofs.Common.{◌==◌, ◌+◌, false, ◌<◌, None, Option, Some, Result, Ok, Err, arith, add-one, drop, drop-cons, get_or, length, take, ◌≡◌, ◌++◌, ◌∙◌, ℕ, true, All, List, [], ◌∷◌, append-nil, append_assoc, map, flat_map, ap, subst, sym, refl}
+use Rattle.std.proofs.Common.{◌==◌, ◌+◌, false, ◌<◌, None, Some, Result, Ok, Err, arith, add-one, drop, drop-cons, get_or, length, take, ◌≡◌, ◌++◌, ◌∙◌, ℕ, true, List, [], ◌∷◌, append-nil, append_assoc, flat_map, ap, subst, sym, refl, inl, inr}
 use Rattle.std.specs.Prelude.{IfOk, vec_len}
 use Rattle.std.specs.Global.{Vec}
 use Rattle.std.proofs.lemmas.Bool.Decides.{nat_tests}
@@ -11,8 +11,8 @@ use Rattle.snap_core.specs.declared.event.Event.{Event}
 use Rattle.snap_follow.specs.declared.course.Course.{Course}
 use Rattle.snap_follow.specs.Bytes.{AreLinesOf, Ended, EndsLine, HasNoEnd}
 use Rattle.snap_follow.specs.declared.follow.Follow.{Follow}
-use Rattle.snap_follow.specs.Followed.{HasRead, ReadsLine}
-use Rattle.snap_follow.specs.inside.Courses.{HasFollowed, TakesBytes}
+use Rattle.snap_follow.specs.Followed.{EndsText, HasRead, ReadsLine}
+use Rattle.snap_follow.specs.inside.Courses.{EndsBytes, HasFollowed, TakesBytes, TakesLast}
 
 -- nothing
 pub takes_nothing : (c : Course) → TakesBytes c c []
@@ -109,6 +109,34 @@ read_then f g h line reads same texts lines events r =
     let read = reads texts lines events r in
     (read.0, same texts (lines ++ line ∷ []) (events ++ read.0) read.1)
 
+-- the bytes have ended, behind the end of a line or within one
+pub last_none : (c : Course) → c.rest.items ≡ [] → TakesLast c c
+last_none c none texts bytes events h = (h.lines, [], record { ended = h.lines; rest = c.rest.items; cut = h.cut; all = inl (none, refl) }, subst (HasRead c.follow texts h.lines) (sym (append-nil events)) h.read)
+
+pub last_line : (c d : Course) → (c.rest.items ≡ [] → ⊥) → ReadsLine c.follow d.follow c.rest.items → TakesLast c d
+last_line c d some reads texts bytes events h =
+    let read = reads texts h.lines events h.read in
+    (h.lines ++ c.rest.items ∷ [], read.0, record { ended = h.lines; rest = c.rest.items; cut = h.cut; all = inr (some, refl) }, read.1)
+
+-- a text has ended, and the next one begins
+pub text_done : (c d e : Course) → TakesLast c d → EndsText d.follow e.follow → e.rest.items ≡ [] → EndsBytes c e
+text_done c d e last ends none texts bytes events h =
+    let all = last texts bytes events h in (
+      all.0,
+      all.1,
+      all.2,
+      record {
+        lines = [];
+        cut = subst (AreLinesOf [] []) (sym none) (record { each = []; lines_are = refl; spelled = refl; unended = λ k d l. absurd (omega (arith, l)) });
+        read = ends texts all.0 (events ++ all.1) all.3;
+      },
+    )
+
+-- an answer of which one thing is so is one of which another is so
+pub if_ok_then : {X E : Type 0} (r : Result X E) (P Q : X → Type 0) → IfOk r P → ((x : X) → P x → Q x) → IfOk r Q
+if_ok_then (Ok x) P Q p h = h x p
+if_ok_then (Err e) P Q p h = tt
+
 -- what is so of each answer is so of this one
 pub if_ok : {X E : Type 0} (r : Result X E) (P : X → Type 0) → ((x : X) → P x) → IfOk r P
 if_ok (Ok x) P h = h x
@@ -118,6 +146,9 @@ if_ok (Err e) P h = tt
 no_length : (bytes : List ℕ) → length bytes ≡ 0 → bytes ≡ []
 no_length [] none = refl
 no_length (b ∷ bytes) none = absurd (omega (arith, none))
+
+pub some_bytes : (bytes : Vec ℕ) → false ≡ (vec_len bytes == 0) → bytes.items ≡ [] → ⊥
+some_bytes bytes is none = let some : vec_len bytes ≡ 0 → ⊥ = grind (arith, nat_tests, is) in some (omega (arith, ap length none, bytes.ok))
 
 pub no_bytes : (bytes : Vec ℕ) → true ≡ (vec_len bytes == 0) → bytes.items ≡ []
 no_bytes bytes is = let none : vec_len bytes ≡ 0 = grind (arith, nat_tests, is) in no_length bytes.items (omega (arith, none, bytes.ok))

@@ -1,5 +1,5 @@
 -- The lines of bytes.
-use Rattle.std.specs.Prelude.{◌≡◌, ◌++◌, ℕ, true, List, [], ◌∷◌, All, flat_map, map}
+use Rattle.std.specs.Prelude.{◌≡◌, ◌≢◌, ◌⊎◌, ◌++◌, ℕ, true, List, [], ◌∷◌, All, flat_map, map}
 use Rattle.memchr.specs.Find.{is_byte2}
 
 -- a byte that ends a line: LF or CR
@@ -23,3 +23,10 @@ pub record AreLinesOf (bytes : List ℕ) (lines : List (List ℕ)) (rest : List 
   pub lines_are : lines ≡ map (λ l. l.line) each
   pub spelled : bytes ≡ flat_map (λ l. l.line ++ l.end ∷ []) each ++ rest
   pub unended : HasNoEnd rest
+
+-- bytes to their end are these lines: the last need not end
+pub record AreAllLines (bytes : List ℕ) (lines : List (List ℕ)) : Type 0 where
+  pub ended : List (List ℕ)
+  pub rest : List ℕ
+  pub cut : AreLinesOf bytes ended rest
+  pub all : ((rest ≡ []) × (lines ≡ ended)) ⊎ ((rest ≢ []) × (lines ≡ ended ++ rest ∷ []))

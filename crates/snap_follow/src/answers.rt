@@ -34,17 +34,17 @@ impl Answers {
         &self.lines
     }
 
-    /// The lines were written.
+    /// Forgets the lines, which were written.
     pub(crate) fn clear_lines(&mut self) {
         self.lines.clear();
     }
 
-    /// A text of this name begins.
+    /// Notes the name of a text that begins.
     pub(crate) fn add_name(&mut self, name: Vec<u8>) -> Result<(), AllocError> {
         Ok(self.names.push(name)?)
     }
 
-    /// A window has ended.
+    /// Adds the line of a window that has ended, and counts it.
     pub(crate) fn add_window(&mut self, window: &Window) -> Result<(), AllocError> {
         put_window(&mut self.lines, self.sums.next(), window, &self.names)?;
         self.sums.add_span(window.span);
@@ -52,21 +52,21 @@ impl Answers {
         Ok(())
     }
 
-    /// A window is refused at a record.
+    /// The same of a window that is refused at a record.
     pub(crate) fn add_refusal(&mut self, place: Place, fault: TextFault) -> Result<(), AllocError> {
         put_refusal(&mut self.lines, self.sums.next(), place, fault, &self.names)?;
         self.sums.add(Kind::Refused);
         Ok(())
     }
 
-    /// A window can't be judged.
+    /// The same of a window that can't be judged.
     pub(crate) fn add_failure(&mut self) -> Result<(), AllocError> {
         put_failure(&mut self.lines, self.sums.next())?;
         self.sums.add(Kind::Failed);
         Ok(())
     }
 
-    /// No window comes any more.
+    /// Adds the lines of the sums.
     pub(crate) fn add_sums(&mut self) -> Result<(), AllocError> {
         self.sums.put(&mut self.lines)
     }

@@ -2,7 +2,7 @@
 ghost use Rattle.std.specs.Prelude.{◌≡◌, ◌++◌, [], ℕ, List, true, IfOk};
 ghost use Rattle.snap_core.specs.declared.event.Event.{Event};
 ghost use Rattle.snap_follow.specs.Followed.{HasRead, IsStatusOf, ReadsLine};
-ghost use Rattle.snap_follow.specs.inside.Courses.{HasFollowed, TakesBytes};
+ghost use Rattle.snap_follow.specs.inside.Courses.{EndsBytes, HasFollowed, TakesBytes, TakesLast};
 
 use crate::answers::Answers;
 use crate::follow::{Ended, Follow};
@@ -67,13 +67,24 @@ impl Course {
         Ok(true)
     }
 
-    /// Takes the rest as a line. Whether the recording is followed further.
-    pub(crate) fn take_rest(&mut self, alloc: Global) -> Result<bool, AllocError>
+    // Takes the rest as a line. Whether the recording is followed further.
+    fn take_rest(&mut self, alloc: Global) -> Result<bool, AllocError>
         ensures rest { self.new.rest.items ≡ [] }
         ensures read { IfOk result (λ goes_on. goes_on ≡ true → ReadsLine self.old.follow self.new.follow self.old.rest.items) }
     {
         let line = mem::replace(&mut self.rest, Vec::new(alloc));
         self.take_line(alloc, &line)
+    }
+
+    /// Takes the rest as a line, if there is any, since nothing comes behind it. Whether the recording is followed further.
+    pub(crate) fn take_last(&mut self, alloc: Global) -> Result<bool, AllocError>
+        ensures rest { self.new.rest.items ≡ [] }
+        ensures read { IfOk result (λ goes_on. goes_on ≡ true → TakesLast self.old self.new) }
+    {
+        if self.rest.is_empty() {
+            return Ok(true);
+        }
+        self.take_rest(alloc)
     }
 
     // Refuses the next record, where it has begun with more bytes than a record may have. Whether the recording is followed further.
@@ -116,8 +127,10 @@ impl Course {
     }
 
     /// Goes on to the next text, since this one is whole. Whether the recording is followed further.
-    pub(crate) fn end_text(&mut self, alloc: Global) -> Result<bool, AllocError> {
-        if self.has_rest() && !self.take_rest(alloc)? {
+    pub(crate) fn end_text(&mut self, alloc: Global) -> Result<bool, AllocError>
+        ensures { IfOk result (λ goes_on. goes_on ≡ true → EndsBytes self.old self.new) }
+    {
+        if !self.take_last(alloc)? {
             return Ok(false);
         }
         if let Err(ended) = self.follow.end_text() {
@@ -127,8 +140,8 @@ impl Course {
         Ok(true)
     }
 
-    /// Refuses a recording without any record. Whether the recording has ended well.
-    pub(crate) fn has_records(&mut self) -> Result<bool, AllocError> {
+    /// Refuses a recording without any record. Whether it is one.
+    pub(crate) fn check_begun(&mut self) -> Result<bool, AllocError> {
         let last = self.follow.place();
         if last.text > 0 || last.record > 0 {
             return Ok(true);

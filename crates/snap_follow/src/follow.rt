@@ -251,7 +251,7 @@ impl Follow {
         Ok(())
     }
 
-    /// Ends the window at hand where it has events enough and no call is open.
+    /// Ends the window at hand where it has events enough and no call is open. The error is want of memory.
     pub fn cut(&mut self, alloc: Global) -> Result<Option<Window>, AllocError>
         ensures same { OnOk result ((texts : List (List (List ℕ))) (lines : List (List ℕ)) (events : List Event) → HasRead self.old texts lines events → HasRead self.new texts lines events) }
         ensures window { IfOk result (λ found. IfSome found (λ window. (texts : List (List (List ℕ))) (lines : List (List ℕ)) (events : List Event) (h : HasRead self.old texts lines events) → IsVerdict window.verdict h.before h.since)) }
@@ -267,7 +267,7 @@ impl Follow {
         Ok(Some(Window { verdict, span }))
     }
 
-    /// Ends the recording, in which calls may be open: its last window, and what the whole is.
+    /// Ends the recording, in which calls may be open: its last window, and what the whole is. The error is want of memory.
     pub fn finish(self, alloc: Global) -> Result<(Window, Verdict), AllocError>
         ensures window { IfOk result (λ x. (texts : List (List (List ℕ))) (lines : List (List ℕ)) (events : List Event) (h : HasRead self texts lines events) → IsVerdict x.0.verdict h.before h.since) }
         ensures regular { IfOk result (λ x. (texts : List (List (List ℕ))) (lines : List (List ℕ)) (events : List Event) → HasRead self texts lines events → IsTrue x.1.regular ↔ IsRegular (calls_of events)) }

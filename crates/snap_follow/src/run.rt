@@ -39,20 +39,22 @@ pub enum Until {
 /// How a recording is followed.
 #[derive(Clone, Copy, Debug)]
 pub struct FollowOptions {
-    /// A window ends at the first moment without an open call from so many events on.
+    /// A window ends at the first moment without an open call from so many events on. If they are more than it may have, none ends
+    /// before the recording does.
     pub least: u32,
     /// How many events a window may have.
     pub most: Limit,
     /// How long it is followed.
     pub until: Until,
-    /// How many completed views the windows must have.
+    /// How many completed views all windows together must have.
     pub views: u32,
 }
 
-/// How it ended.
+/// How a recording ended.
 #[derive(Debug, Drop)]
 pub struct Followed {
-    /// The exit status, none where there are fewer completed views than were asked for.
+    /// The exit status: 0 where the whole is atomic, 1 where it is only regular, 2 where it is neither, 3 where a window was refused,
+    /// and 4 where it could not be followed further. None where there are fewer completed views than were asked for.
     pub code: Option<u8>,
     /// Whether the last line has no end. It is left out, since its writer may not have finished it.
     pub has_rest: bool,
@@ -199,8 +201,8 @@ fn end_reading<R>(
     if at_hand.text.is_none() {
         return Err(Stop::Fault(FollowFault::NoText));
     }
-    let is_refused = until == Until::End && course.has_rest() && !course.take_rest(alloc)?;
-    if is_refused || !course.has_records()? {
+    let is_refused = until == Until::End && !course.take_last(alloc)?;
+    if is_refused || !course.check_begun()? {
         return Err(Stop::Refused);
     }
     Ok(())
@@ -316,7 +318,7 @@ fn end_early<W: Write>(
 
 /// Follows a recording: reads its texts line by line, judges it window by window, and writes a line for each window and then the
 /// sums. A read that answers nothing is tried again after a pause, until another text is there. Each line goes out before more is
-/// read.
+/// read. A fault of a reader, of the writer or of memory ends it without sums, and so does a recording without any text.
 pub fn follow_run<Rt: Wait, T: Texts, W: Write, C: Clock>(
     rt: &Rt,
     alloc: Global,

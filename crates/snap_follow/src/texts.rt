@@ -57,7 +57,7 @@ pub trait Texts {
     /// Looks for texts that have come.
     fn look(&mut self, alloc: Global) -> Result<(), TextsFault>;
 
-    /// Opens the next text that was found, and leaves the one before it, of which so many bytes were read.
+    /// Opens the next text that was found, and leaves the one before it, of which so many bytes were read. None where none was found.
     fn open_next(
         &mut self,
         alloc: Global,

@@ -1,9 +1,9 @@
-//! Who opens a text by its name, and why a name has no status.
+//! What opens a text by its name, why that may fail, and what says how long a text is.
 ghost use Rattle.std.specs.Prelude.{ℕ, List, Option, Result, Ok, Err, MatchResult};
 
 use std::io::Read;
 
-/// Why a name has no status.
+/// Why the text of a name can't be had.
 #[derive(Clone, Copy, Debug, PartialEq, Eq)]
 pub enum Trouble {
     /// There is no such file.

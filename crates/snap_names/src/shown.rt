@@ -16,7 +16,7 @@ fn put_shown_byte(out: &mut Vec<u8>, byte: u8) -> Result<(), AllocError>
     }
 }
 
-/// Adds a name as it is shown: a line end in it, and a backslash, are escaped, so no two names look alike.
+/// Adds a name as it is shown: a line end in it, and a backslash, are escaped. So a name never breaks a line.
 pub fn put_shown(out: &mut Vec<u8>, name: &[u8]) -> Result<(), AllocError>
     ensures { OnOk result (out.new.items ≡ out.old.items ++ shown name.now) }
 {
