@@ -1,6 +1,6 @@
 #!/usr/bin/env bash
 # Proves and builds the judge as libsnapjudge.a and libsnapjudge.so, in the folder that is named or in ffi/build. One object
-# is made of the library and of the kit's few lines over malloc, and of its names only the two calls are seen.
+# is made of the library and of the kit's few lines over malloc, and of its names only its three calls are seen.
 # usage: build.sh [--built BEGUN] [FOLDER]; with --built it takes the libraries that a gate has proved since the file BEGUN
 unset CDPATH
 set -eu

@@ -67,7 +67,7 @@ compiled() {
     "$build/test_memory"
 }
 
-# only the two calls are seen
+# only the three calls are seen
 two_names() {
   [ "$(nm --defined-only -g --format=just-symbols "$build/libsnapjudge.a" | grep -v ':$' | sort | xargs)" = "snapjudge_check snapjudge_check_limit snapjudge_version" ] &&
     [ "$(nm -D --defined-only --format=just-symbols "$build/libsnapjudge.so" | grep '^snapjudge' | sort | xargs)" = "snapjudge_check snapjudge_check_limit snapjudge_version" ]
