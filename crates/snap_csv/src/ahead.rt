@@ -29,8 +29,8 @@ pub struct Ahead<'t> {
     pub left: &'t [u8],
 }
 
-/// What the workers of a cutting read ahead of lines: the first lines of rests of them, in their order. Lines with stamps and few
-/// lines are not read ahead.
+/// What the workers of a cutting read ahead of lines: the first lines of rests of them, in their order. Lines with stamps, few
+/// lines and those whose first one is refused are not read ahead.
 pub fn read_ahead<'t, R: Threads + Sync>(
     rt: &R,
     alloc: Global,
@@ -43,6 +43,9 @@ pub fn read_ahead<'t, R: Threads + Sync>(
     let Lines::Bare(lines) = lines else {
         return Ok(Vec::new(alloc));
     };
+    if event_first(alloc, &mut Known::new(alloc), lines).is_none() {
+        return Ok(Vec::new(alloc));
+    }
     each_job(
         rt,
         alloc,
