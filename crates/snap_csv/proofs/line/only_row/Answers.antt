@@ -1,4 +1,4 @@
-use Rattle.std.proofs.Common.{◌≡◌, ◌≢◌, ◌∷◌, [], sym, ◌∙◌}
+use Rattle.std.proofs.Common.{sym, ◌∙◌}
 use Rattle.snap_csv.specs.Rows.{rows_of}
 use Rattle.snap_csv.proofs.OneLine.{only_if}
 use Rattle.snap_csv.proofs.line.only_row.Goals as goal

@@ -1,8 +1,6 @@
-use Rattle.std.proofs.Common.{◌≡◌, ◌∙◌, true, refl, sym, ap, rules}
+use Rattle.std.proofs.Common.{◌∙◌, sym, rules}
 use Rattle.std.proofs.lemmas.Bool.{false≢true}
 use Rattle.std.proofs.lemmas.Result.{err_from_is_err_and}
-use Rattle.csv.specs.Records.{fields_of}
-use Rattle.snap_csv.specs.OneLine.{HasFirst}
 use Rattle.snap_csv.specs.Rows.{rows_of}
 use Rattle.snap_csv.proofs.OneLine.{no_event, only_event, only_fails}
 use Rattle.snap_csv.proofs.line.read_line.Goals.{then-only+in_default-four_fields, else-only}
