@@ -1,11 +1,11 @@
 -- The first refusal that applies, test by test.
-use Rattle.std.proofs.Common.{◌≡◌, ◌<◌, ◌≤◌, Bool, true, false, cond, List, length, Option, Some, None, refl, sym, ap, ◌∙◌, [], ◌∷◌, ◌++◌, arith, length-append}
+use Rattle.std.proofs.Common.{◌≡◌, ◌<◌, ◌≤◌, Bool, true, false, cond, List, length, Option, Some, None, refl, sym, ap, ℕ, ◌∙◌, [], ◌∷◌, ◌++◌, arith, length-append}
 use Rattle.std.specs.Prelude.{nat_le}
 use Rattle.snap_core.specs.declared.history.EventRefusal.{EventRefusal}
 use Rattle.snap_core.specs.declared.history.EventRefusal.TheVariants.{TooMany, Busy, Idle, OtherOp, Writer, Number}
 use Rattle.snap_core.specs.Events.{Event, EventFits, IsBoundedHistory, event_cap}
 use Rattle.snap_core.proofs.Pushes.{history_push}
-use Rattle.snap_core.specs.Refusals.{refusal_of, is_busy, is_idle, is_other, has_other_writer, has_other_number, IsAccepted}
+use Rattle.snap_core.specs.Refusals.{refusal_of, refusal_within, is_busy, is_idle, is_other, has_other_writer, has_other_number, IsAccepted}
 use Rattle.std.proofs.lemmas.List.Elements.{All-push}
 use Rattle.std.proofs.lemmas.Bool.{le-leb, lt-leb, leb-false}
 
@@ -49,3 +49,13 @@ kept_push es e k h b =
       short = let l = length-append es (e ∷ []) in omega (arith, l, a.1);
       fit = All-push EventFits es e k.fit b;
     }
+
+-- ---- where a limit was chosen
+
+pub within_full : (limit : ℕ) (es : List Event) (e : Event) → limit ≤ length es → refusal_within limit es e ≡ Some TooMany
+unfolding refusal_within
+within_full limit es e h = rw (le-leb limit (length es) h) refl
+
+pub within_room : (limit : ℕ) (es : List Event) (e : Event) → length es < limit → refusal_within limit es e ≡ refusal_of es e
+unfolding refusal_within
+within_room limit es e h = rw (lt-leb limit (length es) h) refl

@@ -10,4 +10,5 @@ pub mod Counting
 pub mod Sending
 pub mod Sums
 pub mod Limits
+pub mod Limited
 pub mod inside

@@ -74,3 +74,7 @@ refusal_of es e =
     else if has_other_writer es e then Some Writer
     else if has_other_number es e then Some Number
     else None
+
+-- the same where the list may have so many events
+unfoldable pub refusal_within : ℕ → List Event → Event → Option EventRefusal
+refusal_within limit es e = if nat_le limit (length es) then Some TooMany else refusal_of es e

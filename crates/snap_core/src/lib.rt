@@ -8,6 +8,7 @@ mod gate;
 mod history;
 mod law;
 mod limit;
+mod limited;
 mod tables;
 mod view;
 
@@ -18,4 +19,5 @@ pub use gate::{Gate, OpenGate};
 pub use history::{EVENT_CAP, EventRefusal, History};
 pub use law::histories_grow;
 pub use limit::{EVENT_LIMIT, Limit};
+pub use limited::LimitedHistory;
 pub use view::{View, ViewRefusal};

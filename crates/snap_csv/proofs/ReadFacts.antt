@@ -1,6 +1,6 @@
 -- Reading the records under the header in turn.
-use Rattle.std.proofs.Common.{◌≡◌, ◌<◌, ◌≤◌, ◌+◌, ◌++◌, cond, not, inl, inr, ℕ, suc, Bool, true, false, List, [], ◌∷◌, length, get_or, take, drop, Option, Some, None, Result, Ok, Err, refl, arith, ◌∙◌, sym, ap, add-one}
-use Rattle.std.specs.Prelude.{◌==◌, ◌≢◌, nat_le}
+use Rattle.std.proofs.Common.{◌≡◌, ◌<◌, ◌≤◌, ◌+◌, ◌++◌, cond, not, inl, inr, ℕ, suc, Bool, true, false, List, [], ◌∷◌, length, get_or, take, drop, Option, Some, None, Ok, refl, arith, ◌∙◌, sym, ap, add-one}
+use Rattle.std.specs.Prelude.{◌==◌, ◌≢◌, ◌⊎◌, MatchOption, nat_le, option_and_then}
 use Rattle.std.specs.Global.{Vec}
 use Rattle.std.specs.List.{range_with_len}
 use borrow.Author.Count.{below_more}
@@ -9,16 +9,20 @@ use Rattle.std.proofs.lemmas.Bool.Decides.{nat_tests}
 use Rattle.std.proofs.lemmas.List.{drop_all, length-append, length-drop, take_all}
 use Rattle.std.proofs.lemmas.List.Elements.{filter_map-append}
 use Rattle.std.proofs.Math.Seq.{drop-cons, take-suc}
+use Rattle.snap_core.proofs.Picks.{within_full, within_room}
 use Rattle.snap_core.specs.declared.event.Event.{Event}
+use Rattle.snap_core.specs.declared.history.EventRefusal.{EventRefusal}
+use Rattle.snap_core.specs.declared.history.EventRefusal.TheVariants as reasons
+use Rattle.snap_core.specs.Refusals.{refusal_within}
 use Rattle.snap_text.specs.declared.fault.TextFault.{TextFault}
 use Rattle.snap_text.specs.declared.fault.TextFault.TheVariants as faults
 use Rattle.snap_csv.specs.declared.refusal.ReadRefusal.{ReadRefusal}
 use Rattle.snap_csv.specs.declared.refusal.ReadRefusal.TheVariants as refusals
 use Rattle.snap_text.specs.Fields.{Fields, event_of, row_event}
 use Rattle.snap_csv.specs.Layout.{is_header_row, is_stamped_header_row}
-use Rattle.snap_csv.specs.Faults.{event_in, events_in, fault_with, fault_at, row_fault}
+use Rattle.snap_csv.specs.Faults.{event_in, events_in, fault_of, fault_with, fault_at, row_fault}
 use Rattle.snap_csv.specs.Texts.{RowsFault}
-use Rattle.snap_csv.specs.inside.Answers.{AnswersNumbered, AnswersStamps, FailsEvent, Midway, RefusesRow, RefusesRows, RefusesStamps, TakesEvent, TakesRow}
+use Rattle.snap_csv.specs.inside.Answers.{AnswersNumbered, AnswersStamps, FailsEvent, Midway, RefusesFault, RefusesRow, RefusesRows, RefusesStamps, TakesRow}
 
 -- ---- one record
 
@@ -51,13 +55,6 @@ row_fails limit place old r a p o d (refusals.Text q f) e h g = (g.0, row_fits l
 row_fails limit place old r a p o d refusals.Device e h g = g
 row_fails limit place old r a p o d refusals.Memory e h g = tt
 
-pub row_pushed : (limit : ℕ) (place : ℕ) (old new : List Event) (r : Fields) (a p o d : List ℕ) (x : Event) (res : Result (Unit {0}) ReadRefusal) → r ≡ a ∷ p ∷ o ∷ d ∷ [] → length old < limit
-    → event_of a p o d ≡ Ok x → TakesEvent place old new x res → TakesRow limit place old new r res
-row_pushed limit place old new r a p o d x (Ok u) e h is t = (row_fits limit old r a p o d e h ∙ rw is t.0, x, event_is r a p o d e ∙ is, t.1)
-row_pushed limit place old new r a p o d x (Err (refusals.Text q f)) e h is t = (t.0, row_fits limit old r a p o d e h ∙ rw is t.1)
-row_pushed limit place old new r a p o d x (Err refusals.Device) e h is t = t
-row_pushed limit place old new r a p o d x (Err refusals.Memory) e h is t = tt
-
 -- a record that spells an event has four fields
 pub four_of : (r : Fields) (x : Event) → row_event r ≡ Ok x → (a : List ℕ) × (p : List ℕ) × (o : List ℕ) × (d : List ℕ) × (r ≡ a ∷ p ∷ o ∷ d ∷ []) × (event_of a p o d ≡ Ok x)
 unfolding row_event
@@ -68,11 +65,35 @@ four_of (a ∷ p ∷ o ∷ []) x h = absurd cc
 four_of (a ∷ p ∷ o ∷ d ∷ []) x h = (a, p, o, d, refl, h)
 four_of (a ∷ p ∷ o ∷ d ∷ e ∷ r) x h = absurd cc
 
-pub event_full : (limit : ℕ) (old : List Event) (r : Fields) (x : Event) → row_event r ≡ Ok x → limit ≤ length old → row_fault limit old r ≡ Some faults.TooMany
-event_full limit old r x h le = let (a, p, o, d, is, spells) = four_of r x h in row_full limit old r a p o d is le
+-- the fault of a record that spells an event is the first refusal of that event
+pub row_within : (limit : ℕ) (old : List Event) (r : Fields) (x : Event) → row_event r ≡ Ok x → row_fault limit old r ≡ option_and_then fault_of (refusal_within limit old x)
+row_within limit old r x h =
+    let (a, p, o, d, is, spells) = four_of r x h in
+    elim (cases_lt (length old) limit) [
+      | inl lt ↦ row_fits limit old r a p o d is lt ∙ rw (spells, within_room limit old x lt) refl
+      | inr le ↦ row_full limit old r a p o d is le ∙ rw (within_full limit old x le) refl
+    ]
 
-pub event_pushed : (limit : ℕ) (place : ℕ) (old new : List Event) (r : Fields) (x : Event) (res : Result (Unit {0}) ReadRefusal) → row_event r ≡ Ok x → length old < limit → TakesEvent place old new x res → TakesRow limit place old new r res
-event_pushed limit place old new r x res h lt t = let (a, p, o, d, is, spells) = four_of r x h in row_pushed limit place old new r a p o d x res is lt spells t
+-- what a refused event is answered as
+pub refused_as : (place : ℕ) (first : Option EventRefusal) (why : EventRefusal) (e : ReadRefusal) → (first ≡ Some why) ⊎ (why ≡ reasons.Memory) → MatchOption (fault_of why) (e ≡ refusals.Memory) (λ f. e ≡ refusals.Text place f) → RefusesFault place (option_and_then fault_of first) e
+refused_as place first why e reason answer = go (fault_of why) refl answer
+  where
+    go : (o : Option TextFault) → fault_of why ≡ o → MatchOption o (e ≡ refusals.Memory) (λ f. e ≡ refusals.Text place f) → RefusesFault place (option_and_then fault_of first) e
+    go None none is = rw is tt
+    go (Some f) some is = rw is (
+      refl,
+      elim reason [
+        | inl g ↦ rw g some
+        | inr g ↦ absurd (let h = sym some ∙ ap fault_of g in cc)
+      ],
+    )
+
+pub row_refused : (limit : ℕ) (place : ℕ) (old : List Event) (r : Fields) (x : Event) (why : EventRefusal) (e : ReadRefusal) → row_event r ≡ Ok x → (refusal_within limit old x ≡ Some why) ⊎ (why ≡ reasons.Memory)
+    → MatchOption (fault_of why) (e ≡ refusals.Memory) (λ f. e ≡ refusals.Text place f) → RefusesRow limit place old r e
+row_refused limit place old r x why e h reason answer = rw (row_within limit old r x h) (refused_as place (refusal_within limit old x) why e reason answer)
+
+pub row_taken : (limit : ℕ) (place : ℕ) (old new : List Event) (r : Fields) (x : Event) → row_event r ≡ Ok x → refusal_within limit old x ≡ None → new ≡ old ++ x ∷ [] → TakesRow limit place old new r (Ok tt)
+row_taken limit place old new r x h none longer = (row_within limit old r x h ∙ rw none refl, x, h, longer)
 
 pub full_fails : (b c : Bool) (x y : TextFault) (o : Option TextFault) → c ≡ true → cond (not b) (Some x) (cond c (Some y) o) ≡ None → ⊥
 full_fails true true x y o e h = cc

@@ -1,16 +1,16 @@
 //! Lines that are read before it is their turn, each piece of a text by a worker of its own.
 ghost use Rattle.std.specs.Prelude.{◌≡◌, ◌<◌, ◌≤◌, ◌+◌, ◌∷◌, [], ℕ, true, Ok, List, All, IfOk, IfSome, length};
 ghost use Rattle.snap_csv.specs.Layout.{is_header_row};
-ghost use Rattle.snap_csv.specs.inside.Answers.{ReadsFront, TakesAhead, TakesRow};
+ghost use Rattle.snap_csv.specs.inside.Answers.{ReadsFront, TakesAhead};
 ghost use Rattle.snap_csv.specs.inside.Lines.{AreAhead, BeginsLine, BeginsLines, HasRows, IsAhead, SpellsAll};
 ghost use Rattle.snap_text.specs.Fields.{Fields, row_event};
 
 use crate::lines::{Lines, behind_newlines, four_first};
-use crate::read::{push_event, row_limit};
+use crate::read::{row_limit, take_event};
 use crate::refusal::ReadRefusal;
 use memchr::memchr;
-use snap_core::{Event, History, Limit};
-use snap_text::{Known, TextFault};
+use snap_core::{Event, History, Limit, LimitedHistory};
+use snap_text::Known;
 use snap_threads::{Cutting, each_job};
 use std::alloc::{AllocError, Global};
 use std::thread::Threads;
@@ -166,26 +166,14 @@ fn read_piece(alloc: Global, text: &[u8], stop: usize, limit: Limit) -> Ahead<'_
     }
 }
 
-// Adds the event of a record to a history.
-fn take_event(history: &mut History, limit: Limit, event: Event) -> Result<(), ReadRefusal>
-    ensures { (r : Fields) → row_event r ≡ Ok event → TakesRow limit.events (length history.old + 2) history.old history.new r result }
-{
-    let place = history.len() as u32 + 2;
-    if history.len() >= limit.events() {
-        return Err(ReadRefusal::Text {
-            place,
-            fault: TextFault::TooMany,
-        });
-    }
-    push_event(history, place, event)
-}
-
 // Adds events that were read ahead to a history, in their turn.
-fn take_all(history: &mut History, limit: Limit, events: Vec<Event>) -> Result<(), ReadRefusal>
-    ensures { (rest : List ℕ) → TakesAhead limit.events (SpellsAll events.items (HasRows rest)) (HasRows rest) history.old history.new result }
+fn take_all(history: &mut LimitedHistory, events: Vec<Event>) -> Result<(), ReadRefusal>
+    ensures takes { (rest : List ℕ) → TakesAhead history.old.limit (SpellsAll events.items (HasRows rest)) (HasRows rest) history.old.events history.new.events result }
+    ensures limit { history.new.limit ≡ history.old.limit }
 {
     'each: for event in events {
-        take_event(history, limit, event)?;
+        let place = history.len() as u32 + 2;
+        take_event(history, place, event)?;
     }
     Ok(())
 }
@@ -197,15 +185,16 @@ pub fn take_ahead<'t>(
     lines: &'t [u8],
     ahead: Vec<Ahead<'t>>,
     limit: Limit,
-) -> Result<(History, &'t [u8]), ReadRefusal>
+) -> Result<(LimitedHistory, &'t [u8]), ReadRefusal>
     requires { All (IsAhead lines.now) ahead.items }
-    ensures { (head : Fields) (later : List Fields) → is_header_row head ≡ true → HasRows lines.now later → ReadsFront limit.events (head ∷ later) result }
+    ensures front { (head : Fields) (later : List Fields) → is_header_row head ≡ true → HasRows lines.now later → ReadsFront limit.events (head ∷ later) result }
+    ensures limit { IfOk result (λ x. x.0.limit ≡ limit.events) }
 {
-    let mut history = History::new(alloc);
+    let mut history = History::with_limit(alloc, limit);
     let mut behind = lines;
     'each: for piece in ahead {
         if piece.text.len() == behind.len() {
-            take_all(&mut history, limit, piece.events)?;
+            take_all(&mut history, piece.events)?;
             behind = piece.left;
         }
     }

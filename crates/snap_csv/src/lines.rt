@@ -290,7 +290,7 @@ fn lines_history(
         let place = history.len() as u32 + 2;
         let line = behind_newlines(left);
         if line.is_empty() {
-            return Ok((history, None));
+            return Ok((history.into_history(), None));
         }
         let Some((fields, rest)) = four_first(line) else {
             return Err(ReadRefusal::Text {
@@ -298,7 +298,7 @@ fn lines_history(
                 fault: TextFault::Fields,
             });
         };
-        take_fields(alloc, &mut known, &mut history, limit, place, fields)?;
+        take_fields(alloc, &mut known, &mut history, place, fields)?;
         left = rest;
     }
     unreachable!()

@@ -1,5 +1,5 @@
 //! The history of a text, or the first fault.
-ghost use Rattle.std.specs.Prelude.{◌≡◌, ◌≤◌, ◌+◌, ◌∷◌, [], true, List, All, IfSome, IsTrue};
+ghost use Rattle.std.specs.Prelude.{◌≡◌, ◌≤◌, ◌+◌, ◌∷◌, [], true, Ok, List, All, IfSome, IsTrue, MatchOption};
 ghost use Rattle.snap_core.specs.Counting.{inner_of, failures_in};
 ghost use Rattle.snap_core.specs.Events.{event_cap};
 ghost use Rattle.snap_csv.specs.inside.Answers.{AnswersNumbered, AnswersRows, TakesEvent, TakesRow};
@@ -8,7 +8,7 @@ ghost use Rattle.snap_csv.specs.Faults.{fault_of};
 ghost use Rattle.snap_csv.specs.inside.Lines.{IsPlain};
 ghost use Rattle.snap_csv.specs.Layout.{is_header_row};
 ghost use Rattle.snap_csv.specs.Rows.{Stands, rows_of};
-ghost use Rattle.snap_text.specs.Fields.{Fields};
+ghost use Rattle.snap_text.specs.Fields.{Fields, row_event};
 ghost use Rattle.csv.specs.Records.{fields_of};
 
 use crate::ahead::read_ahead;
@@ -19,7 +19,7 @@ use crate::refusal::ReadRefusal;
 use crate::rows::{next_row, reader_of};
 use crate::stamped::stamped_history;
 use csv::{ByteRecord, Reader};
-use snap_core::{Counted, Event, EventRefusal, History, Limit};
+use snap_core::{Counted, Event, EventRefusal, History, Limit, LimitedHistory};
 use snap_text::{Known, TextFault};
 use snap_threads::Cutting;
 use std::alloc::Global;
@@ -53,12 +53,12 @@ pub fn fault_for(refusal: EventRefusal) -> Option<TextFault>
 fn take_row(
     alloc: Global,
     known: &mut Known,
-    history: &mut History,
-    limit: Limit,
+    history: &mut LimitedHistory,
     place: u32,
     row: &ByteRecord,
 ) -> Result<(), ReadRefusal>
-    ensures { TakesRow limit.events place history.old history.new (fields_of row.now) result }
+    ensures takes { TakesRow history.old.limit place history.old.events history.new.events (fields_of row.now) result }
+    ensures limit { history.new.limit ≡ history.old.limit }
 {
     let Some(fields) = four_fields(row) else {
         return Err(ReadRefusal::Text {
@@ -66,21 +66,21 @@ fn take_row(
             fault: TextFault::Fields,
         });
     };
-    take_fields(alloc, known, history, limit, place, fields)
+    take_fields(alloc, known, history, place, fields)
 }
 
 /// Adds the event of a record to a history, by the record's four fields.
 pub fn take_fields(
     alloc: Global,
     known: &mut Known,
-    history: &mut History,
-    limit: Limit,
+    history: &mut LimitedHistory,
     place: u32,
     fields: (&[u8], &[u8], &[u8], &[u8]),
 ) -> Result<(), ReadRefusal>
-    ensures { TakesRow limit.events place history.old history.new (fields.entry.0.now ∷ fields.entry.1.now ∷ fields.entry.2.now ∷ fields.entry.3.now ∷ []) result }
+    ensures takes { TakesRow history.old.limit place history.old.events history.new.events (fields.entry.0.now ∷ fields.entry.1.now ∷ fields.entry.2.now ∷ fields.entry.3.now ∷ []) result }
+    ensures limit { history.new.limit ≡ history.old.limit }
 {
-    if history.len() >= limit.events() {
+    if history.is_full() {
         return Err(ReadRefusal::Text {
             place,
             fault: TextFault::TooMany,
@@ -88,19 +88,37 @@ pub fn take_fields(
     }
     let (event, process, op, data) = fields;
     let event = event_of_record(alloc, known, place, event, process, op, data)?;
-    push_event(history, place, event)
+    take_event(history, place, event)
+}
+
+/// Adds the event of a record to a history.
+pub fn take_event(history: &mut LimitedHistory, place: u32, event: Event) -> Result<(), ReadRefusal>
+    ensures takes { (r : Fields) → row_event r ≡ Ok event → TakesRow history.old.limit place history.old.events history.new.events r result }
+    ensures limit { history.new.limit ≡ history.old.limit }
+{
+    if let Err((_, refusal)) = history.push(event) {
+        return Err(refused_at(place, refusal));
+    }
+    Ok(())
 }
 
 /// Adds an event to a history.
 pub fn push_event(history: &mut History, place: u32, event: Event) -> Result<(), ReadRefusal>
     ensures { TakesEvent place history.old history.new event result }
 {
-    match history.push(event) {
-        Ok(()) => Ok(()),
-        Err((_, refusal)) => match fault_for(refusal) {
-            Some(fault) => Err(ReadRefusal::Text { place, fault }),
-            None => Err(ReadRefusal::Memory),
-        },
+    if let Err((_, refusal)) = history.push(event) {
+        return Err(refused_at(place, refusal));
+    }
+    Ok(())
+}
+
+// What the refused event of a record is answered as.
+fn refused_at(place: u32, refusal: EventRefusal) -> ReadRefusal
+    ensures { MatchOption (fault_of refusal) (result ≡ ReadRefusal.Memory) (λ fault. result ≡ ReadRefusal.Text place fault) }
+{
+    match fault_for(refusal) {
+        Some(fault) => ReadRefusal::Text { place, fault },
+        None => ReadRefusal::Memory,
     }
 }
 
@@ -188,12 +206,12 @@ fn history_under_header(
     ensures { (head : Fields) (later : List Fields) → is_header_row head ≡ true → Stands reader.old later → AnswersNumbered limit.events (head ∷ later) result }
 {
     let mut known = Known::new(alloc);
-    let mut history = History::new(alloc);
+    let mut history = History::with_limit(alloc, limit);
     for i in 0..row_limit(limit) {
         if !next_row(reader, row)? {
-            return Ok((history, None));
+            return Ok((history.into_history(), None));
         }
-        take_row(alloc, &mut known, &mut history, limit, i + 2, row)?;
+        take_row(alloc, &mut known, &mut history, i + 2, row)?;
     }
     unreachable!()
 }

@@ -6,6 +6,7 @@ use Rattle.std.specs.List.{IsDistinct, list_any, range_with_len}
 use Rattle.std.specs.Ordering.{nat_cmp}
 use Rattle.snap_core.specs.declared.event.Event.{Event}
 use Rattle.snap_core.specs.Limits.{event_limit}
+use Rattle.snap_core.specs.Limited.{LimitedEvents}
 use Rattle.snap_text.specs.declared.fault.TextFault.{TextFault}
 use Rattle.snap_text.specs.declared.fault.TextFault.TheVariants as faults
 use Rattle.snap_csv.specs.declared.refusal.ReadRefusal.{ReadRefusal}
@@ -45,11 +46,15 @@ AnswersNumbered limit rows (Err e) = RefusesRows limit rows e
 abbrev pub RefusesText : List ℕ → ReadRefusal → Type 0
 RefusesText = RefusesTextWithin event_limit
 
+-- what a record with this fault is answered as
+abbrev pub RefusesFault : ℕ → Option TextFault → ReadRefusal → Type 0
+RefusesFault place fault (refusals.Text p f) = (p ≡ place) × (fault ≡ Some f)
+RefusesFault place fault refusals.Device = ⊥
+RefusesFault place fault refusals.Memory = Unit {0}
+
 -- what becomes of a history and a record under the header
 abbrev pub RefusesRow : ℕ → ℕ → List Event → Fields → ReadRefusal → Type 0
-RefusesRow limit place old r (refusals.Text p f) = (p ≡ place) × (row_fault limit old r ≡ Some f)
-RefusesRow limit place old r refusals.Device = ⊥
-RefusesRow limit place old r refusals.Memory = Unit {0}
+RefusesRow limit place old r e = RefusesFault place (row_fault limit old r) e
 
 abbrev pub TakesRow : ℕ → ℕ → List Event → List Event → Fields → Result (Unit {0}) ReadRefusal → Type 0
 TakesRow limit place old new r (Ok u) = (row_fault limit old r ≡ None) × (x : Event) × (row_event r ≡ Ok x) × (new ≡ old ++ x ∷ [])
@@ -74,15 +79,13 @@ TakesAhead limit Left Rest old new (Ok u) = (rows : List Fields) → Midway limi
 TakesAhead limit Left Rest old new (Err e) = (rows : List Fields) → Midway limit rows Left old (length old) → RefusesRows limit rows e
 
 -- the first records are taken, and a text has those behind them; or the first fault
-abbrev pub ReadsFront : ℕ → List Fields → Result (List Event × Bor (List ℕ)) ReadRefusal → Type 0
-ReadsFront limit rows (Ok x) = Midway limit rows (HasRows x.1.now) x.0 (length x.0)
+abbrev pub ReadsFront : ℕ → List Fields → Result (LimitedEvents × Bor (List ℕ)) ReadRefusal → Type 0
+ReadsFront limit rows (Ok x) = Midway limit rows (HasRows x.1.now) x.0.events (length x.0.events)
 ReadsFront limit rows (Err e) = RefusesRows limit rows e
 
 -- the same of an event
 abbrev pub RefusesEvent : ℕ → List Event → Event → ReadRefusal → Type 0
-RefusesEvent place old x (refusals.Text p f) = (p ≡ place) × (fault_with old (Ok x) ≡ Some f)
-RefusesEvent place old x refusals.Device = ⊥
-RefusesEvent place old x refusals.Memory = Unit {0}
+RefusesEvent place old x e = RefusesFault place (fault_with old (Ok x)) e
 
 abbrev pub TakesEvent : ℕ → List Event → List Event → Event → Result (Unit {0}) ReadRefusal → Type 0
 TakesEvent place old new x (Ok u) = (fault_with old (Ok x) ≡ None) × (new ≡ old ++ x ∷ [])

@@ -8,7 +8,8 @@ use Rattle.snap_csv.proofs.ahead.take_ahead.Given as goal
 
 abbrev pub invariant-each : goal.invariant-each
 invariant-each l = record {
-  taken : (head : Fields) (later : List Fields) → is_header_row head ≡ true → HasRows l.lines later → IsRest l.behind l.lines × Midway l.limit.events (head ∷ later) (HasRows l.behind) l.history (length l.history);
+  taken : (head : Fields) (later : List Fields) → is_header_row head ≡ true → HasRows l.lines later → IsRest l.behind l.lines × Midway l.fn.limit.events (head ∷ later) (HasRows l.behind) l.history.events (length l.history.events);
+  limit : l.history.limit ≡ l.fn.limit.events;
   pieces : All (IsAhead l.lines) (into_iter_items l.piece-iterator);
   left : into_iter_len l.piece-iterator ≡ length (into_iter_items l.piece-iterator);
 }

@@ -7,6 +7,7 @@ use Rattle.snap_csv.proofs.ahead.take_all.Given as goal
 
 abbrev pub invariant-each : goal.invariant-each
 invariant-each l = record {
-  taken : (rest : List ℕ) (rows : List Fields) → Midway l.limit.events rows (SpellsAll l.fn.events.items (HasRows rest)) l.fn.history (length l.fn.history) → Midway l.limit.events rows (SpellsAll (into_iter_items l.event-iterator) (HasRows rest)) l.history (length l.history);
+  taken : (rest : List ℕ) (rows : List Fields) → Midway l.fn.history.limit rows (SpellsAll l.fn.events.items (HasRows rest)) l.fn.history.events (length l.fn.history.events) → Midway l.fn.history.limit rows (SpellsAll (into_iter_items l.event-iterator) (HasRows rest)) l.history.events (length l.history.events);
+  limit : l.history.limit ≡ l.fn.history.limit;
   left : into_iter_len l.event-iterator ≡ length (into_iter_items l.event-iterator);
 }

@@ -7,7 +7,8 @@ use Rattle.snap_csv.proofs.lines.lines_history.Given as goal
 
 abbrev pub invariant-each : goal.invariant-each
 invariant-each l = record {
-  midway : (head : Fields) (later : List Fields) → is_header_row head ≡ true → HasRows l.lines later → Midway l.limit.events (head ∷ later) (HasRows l.left) l.history (length l.history);
-  count : l.counter ≤ length l.history;
-  room : l.counter ≤ l.limit.events;
+  midway : (head : Fields) (later : List Fields) → is_header_row head ≡ true → HasRows l.lines later → Midway l.fn.limit.events (head ∷ later) (HasRows l.left) l.history.events (length l.history.events);
+  limit : l.history.limit ≡ l.fn.limit.events;
+  count : l.counter ≤ length l.history.events;
+  room : l.counter ≤ l.fn.limit.events;
 }

@@ -1,0 +1,8 @@
+-- What contracts see of a history with a limit.
+use Rattle.std.specs.Prelude.{ℕ, List}
+use Rattle.snap_core.specs.declared.event.Event.{Event}
+
+-- its events, and how many it may have
+pub record LimitedEvents : Type 0 where
+  pub events : List Event
+  pub limit : ℕ
