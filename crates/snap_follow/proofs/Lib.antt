@@ -1,3 +1,4 @@
+pub mod Opening
 pub mod Reading
 pub mod Refusing
 pub mod Statuses

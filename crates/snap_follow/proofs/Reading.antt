@@ -1,24 +1,38 @@
 -- What a recording says with one line more, or with one text more.
-use Rattle.std.proofs.Common.{◌≡◌, ℕ, true, false, List, [], ◌∷◌, ◌++◌, append_assoc, append-nil, map, flat_map, Result, Ok, Err, refl, sym, ap, ◌∙◌, subst, inl, inr}
+use Rattle.std.proofs.Common.{◌≡◌, ◌≤◌, ℕ, true, false, List, [], ◌∷◌, ◌++◌, append_assoc, append-nil, map, flat_map, Result, Ok, Err, refl, sym, ap, ◌∙◌, subst, inl, inr}
 use Rattle.std.specs.Prelude.{OnOk}
 use Rattle.std.proofs.lemmas.Bool.{false≢true}
 use Rattle.std.proofs.lemmas.List.{map-append}
 use Rattle.std.proofs.lemmas.Grind.{flat_map-append}
 use Rattle.snap_core.specs.declared.event.Event.{Event}
+use Rattle.snap_core.specs.Events.{IsHistory}
 use Rattle.snap_csv.specs.Layout.{is_header_row}
 use Rattle.snap_csv.specs.Rows.{rows_of}
 use Rattle.snap_text.specs.Fields.{Fields, row_event}
 use Rattle.snap_windows.specs.Taken.{HasTaken}
 use Rattle.snap_follow.specs.declared.follow.Follow.{Follow}
-use Rattle.snap_follow.specs.Followed.{AllSpell, EndsText, HasRead, ReadsLine, SaysSoFar, Spells}
+use Rattle.snap_follow.specs.Followed.{AllSpell, EndsText, HasRead, ReadsLine, SaysSoFar, Spells, open_after}
+use Rattle.snap_follow.specs.inside.Counts.{CountsOpen}
+use Rattle.snap_follow.proofs.Opening.{open_more}
 
 rows_more : (lines : List (List ℕ)) (line : List ℕ) → flat_map rows_of (lines ++ line ∷ []) ≡ flat_map rows_of lines ++ rows_of line
 rows_more lines line = flat_map-append rows_of lines (line ∷ []) ∙ ap (λ z. flat_map rows_of lines ++ z) (append-nil (rows_of line))
 
+-- from how many events on a window ends, and how many it has at most, stay
+abbrev pub KeepsRule : Follow → Follow → Type 0
+KeepsRule f g = (g.least ≡ f.least) × (g.judge.most ≡ f.judge.most)
+
+-- with no event more as many calls count as open
+same_open : (f g : Follow) (events : List Event) → g.open_calls ≡ f.open_calls → f.open_calls ≤ open_after events → g.open_calls ≤ open_after (events ++ [])
+same_open f g events same opened = rw (append-nil events, same) opened
+
 -- what was read, with another state of the same judge, one line more, and what all lines of the text then say
-with_line : (f g : Follow) (texts : List (List (List ℕ))) (lines : List (List ℕ)) (line : List ℕ) (events more : List Event) (h : HasRead f texts lines events) →
-    HasTaken g.judge h.before (h.since ++ more) → SaysSoFar g (lines ++ line ∷ []) (h.here ++ more) → HasRead g texts (lines ++ line ∷ []) (events ++ more)
-with_line f g texts lines line events more h taken says = record {
+with_line : (f g : Follow) (least most : ℕ) (texts : List (List (List ℕ))) (lines : List (List ℕ)) (line : List ℕ) (events more : List Event) (h : HasRead f least most texts lines events) →
+    KeepsRule f g → g.open_calls ≤ open_after (events ++ more) → HasTaken g.judge h.before (h.since ++ more) → SaysSoFar g (lines ++ line ∷ []) (h.here ++ more) → HasRead g least most texts (lines ++ line ∷ []) (events ++ more)
+with_line f g least most texts lines line events more h keeps opened taken says = record {
+  least_is = keeps.0 ∙ h.least_is;
+  most_is = ap (λ z. z.events) keeps.1 ∙ h.most_is;
+  opened = opened;
   before = h.before;
   since = h.since ++ more;
   taken = taken;
@@ -35,8 +49,8 @@ same_judge : (f g : Follow) (before since : List Event) → g.judge ≡ f.judge 
 same_judge f g before since same taken = subst (λ z. HasTaken z before (since ++ [])) (sym same) (subst (λ z. HasTaken f.judge before z) (sym (append-nil since)) taken)
 
 -- a line without a record
-pub nothing_more : (f g : Follow) (line : List ℕ) → g.judge ≡ f.judge → g.headed ≡ f.headed → rows_of line ≡ [] → ReadsLine f g line
-nothing_more f g line same headed none texts lines events h = ([], with_line f g texts lines line events [] h (same_judge f g h.before h.since same h.taken) (go h.lines_say))
+pub nothing_more : (f g : Follow) (line : List ℕ) → g.judge ≡ f.judge → g.least ≡ f.least → g.open_calls ≡ f.open_calls → g.headed ≡ f.headed → rows_of line ≡ [] → ReadsLine f g line
+nothing_more f g line same least_same calls_same headed none least most texts lines events h = ([], with_line f g least most texts lines line events [] h (least_same, ap (λ z. z.most) same) (same_open f g events calls_same h.opened) (same_judge f g h.before h.since same h.taken) (go h.lines_say))
   where
     rows : flat_map rows_of (lines ++ line ∷ []) ≡ flat_map rows_of lines
     rows = rows_more lines line ∙ ap (λ z. flat_map rows_of lines ++ z) none ∙ append-nil (flat_map rows_of lines)
@@ -46,8 +60,8 @@ nothing_more f g line same headed none texts lines events h = ([], with_line f g
     go (inr q) = inr (headed ∙ q.0, record { head = q.1.head; later = q.1.later; whole = rows ∙ q.1.whole; header = q.1.header; spelled = q.1.spelled ∙ ap (map Ok) (sym (append-nil h.here)) })
 
 -- the header
-pub header_read : (f g : Follow) (line : List ℕ) (first : Fields) → f.headed ≡ false → g.headed ≡ true → g.judge ≡ f.judge → rows_of line ≡ first ∷ [] → is_header_row first ≡ true → ReadsLine f g line
-header_read f g line first old new same rows header texts lines events h = ([], with_line f g texts lines line events [] h (same_judge f g h.before h.since same h.taken) (go h.lines_say))
+pub header_read : (f g : Follow) (line : List ℕ) (first : Fields) → f.headed ≡ false → g.headed ≡ true → g.judge ≡ f.judge → g.least ≡ f.least → g.open_calls ≡ f.open_calls → rows_of line ≡ first ∷ [] → is_header_row first ≡ true → ReadsLine f g line
+header_read f g line first old new same least_same calls_same rows header least most texts lines events h = ([], with_line f g least most texts lines line events [] h (least_same, ap (λ z. z.most) same) (same_open f g events calls_same h.opened) (same_judge f g h.before h.since same h.taken) (go h.lines_say))
   where
     go : SaysSoFar f lines h.here → SaysSoFar g (lines ++ line ∷ []) (h.here ++ [])
     go (inl p) = inr (
@@ -62,10 +76,14 @@ header_read f g line first old new same rows header texts lines events h = ([], 
     )
     go (inr q) = absurd (false≢true (sym old ∙ q.0))
 
+-- the events are a history
+pub read_history : (f : Follow) {least most : ℕ} {texts : List (List (List ℕ))} {lines : List (List ℕ)} {events : List Event} → HasRead f least most texts lines events → IsHistory events
+read_history f h = subst IsHistory (sym h.windows) h.taken.history
+
 -- an event
 pub event_read : (f g : Follow) (line : List ℕ) (row : Fields) (x : Event) → f.headed ≡ true → g.headed ≡ f.headed → rows_of line ≡ row ∷ [] → row_event row ≡ Ok x →
-    ((before since : List Event) → HasTaken f.judge before since → HasTaken g.judge before (since ++ x ∷ [])) → ReadsLine f g line
-event_read f g line row x old headed rows event taken texts lines events h = (x ∷ [], with_line f g texts lines line events (x ∷ []) h (taken h.before h.since h.taken) (go h.lines_say))
+    KeepsRule f g → CountsOpen f.open_calls x g.open_calls → ((before since : List Event) → HasTaken f.judge before since → HasTaken g.judge before (since ++ x ∷ [])) → ReadsLine f g line
+event_read f g line row x old headed rows event keeps counts taken least most texts lines events h = (x ∷ [], with_line f g least most texts lines line events (x ∷ []) h keeps (open_more events x f.open_calls g.open_calls (read_history f h) h.opened counts) (taken h.before h.since h.taken) (go h.lines_say))
   where
     go : SaysSoFar f lines h.here → SaysSoFar g (lines ++ line ∷ []) (h.here ++ x ∷ [])
     go (inl p) = absurd (false≢true (sym p.0 ∙ old))
@@ -87,8 +105,11 @@ text_more (t ∷ texts) text earlier here (first, later, parts, says, all) spell
     (first, later ++ here, ap (λ z. z ++ here) parts ∙ append_assoc first later here, says, text_more texts text later here all spells)
 
 -- a text that has a header, and ends
-pub text_ended : (f g : Follow) → f.headed ≡ true → g.headed ≡ false → g.judge ≡ f.judge → EndsText f g
-text_ended f g old new same texts lines events h = record {
+pub text_ended : (f g : Follow) → f.headed ≡ true → g.headed ≡ false → g.judge ≡ f.judge → g.least ≡ f.least → g.open_calls ≡ f.open_calls → EndsText f g
+text_ended f g old new same least_same calls_same least most texts lines events h = record {
+  least_is = least_same ∙ h.least_is;
+  most_is = ap (λ z. z.most.events) same ∙ h.most_is;
+  opened = rw calls_same h.opened;
   before = h.before;
   since = h.since;
   taken = subst (λ z. HasTaken z h.before h.since) (sym same) h.taken;
@@ -104,7 +125,29 @@ text_ended f g old new same texts lines events h = record {
     go (inl p) = absurd (false≢true (sym p.0 ∙ old))
     go (inr q) = q.1
 
--- an answer that is given says more
-pub on_ok : {X E : Type 0} (r : Result X E) (A B : Type 0) → OnOk r A → (A → B) → OnOk r B
-on_ok (Ok x) A B h f = f h
-on_ok (Err e) A B h f = tt
+-- a window has ended
+pub window_ended : (f g : Follow) → g.headed ≡ f.headed → KeepsRule f g → g.open_calls ≡ f.open_calls → ((before since : List Event) → HasTaken f.judge before since → HasTaken g.judge (before ++ since) []) →
+    (least most : ℕ) (texts : List (List (List ℕ))) (lines : List (List ℕ)) (events : List Event) → HasRead f least most texts lines events → HasRead g least most texts lines events
+window_ended f g headed keeps calls_same ends least most texts lines events h = record {
+  least_is = keeps.0 ∙ h.least_is;
+  most_is = ap (λ z. z.events) keeps.1 ∙ h.most_is;
+  opened = rw calls_same h.opened;
+  before = h.before ++ h.since;
+  since = [];
+  taken = ends h.before h.since h.taken;
+  windows = h.windows ∙ sym (append-nil (h.before ++ h.since));
+  earlier = h.earlier;
+  here = h.here;
+  parts = h.parts;
+  texts_say = h.texts_say;
+  lines_say = says h.lines_say;
+}
+  where
+    says : SaysSoFar f lines h.here → SaysSoFar g lines h.here
+    says (inl p) = inl (headed ∙ p.0, p.1, p.2)
+    says (inr q) = inr (headed ∙ q.0, q.1)
+
+-- what an answer that is given says twice
+pub on_both : {X E : Type 0} (r : Result X E) (A B C : Type 0) → OnOk r A → OnOk r B → (A → B → C) → OnOk r C
+on_both (Ok x) A B C a b f = f a b
+on_both (Err e) A B C a b f = tt

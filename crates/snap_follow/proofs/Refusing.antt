@@ -8,10 +8,11 @@ use Rattle.snap_csv.specs.Rows.{rows_of}
 use Rattle.snap_text.specs.Fields.{Fields, row_event}
 use Rattle.snap_windows.specs.Taken.{HasTaken}
 use Rattle.snap_follow.specs.declared.follow.Ended.{Ended}
+use Rattle.snap_follow.specs.declared.follow.Ended.TheVariants.{Refused, Memory}
 use Rattle.snap_follow.specs.declared.follow.Follow.{Follow}
 use Rattle.snap_follow.specs.declared.follow.Place.{Place}
-use Rattle.snap_follow.specs.Followed.{IsLack, RefusesLine}
-use Rattle.snap_follow.specs.inside.Refusals.{ended_by}
+use Rattle.snap_follow.specs.Followed.{IsLack, RefusesLine, StopsAt}
+use Rattle.snap_follow.specs.inside.Refusals.{IsRefusal, ended_by}
 use Rattle.snap_core.specs.declared.history.EventRefusal.{EventRefusal}
 use Rattle.snap_core.specs.declared.history.EventRefusal.TheVariants as refusals
 use Rattle.snap_windows.specs.declared.judge.WindowJudge.{WindowJudge}
@@ -30,9 +31,9 @@ no_first x xs e = omega (arith, ap length e)
 -- an event that the judge refuses
 pub event_refused : (f : Follow) (line : List ℕ) (why : Ended) (row : Fields) (x : Event) → f.headed ≡ true → rows_of line ≡ row ∷ [] → row_event row ≡ Ok x →
     ((before since : List Event) → HasTaken f.judge before since → IsHistory (before ++ (since ++ x ∷ [])) → IsLack f.judge since why) → RefusesLine f line why
-event_refused f line why row x old rows event refused texts lines events h (inl none) = absurd (no_first row [] (sym rows ∙ none))
-event_refused f line why row x old rows event refused texts lines events h (inr (inl (o, head, is, header))) = absurd (false≢true (sym o ∙ old))
-event_refused f line why row x old rows event refused texts lines events h (inr (inr (o, other, y, is, spelled, history))) =
+event_refused f line why row x old rows event refused least most texts lines events h (inl none) = absurd (no_first row [] (sym rows ∙ none))
+event_refused f line why row x old rows event refused least most texts lines events h (inr (inl (o, head, is, header))) = absurd (false≢true (sym o ∙ old))
+event_refused f line why row x old rows event refused least most texts lines events h (inr (inr (o, other, y, is, spelled, history))) =
     refused h.before h.since h.taken (subst IsHistory (ap (λ z. z ++ y ∷ []) h.windows ∙ append_assoc h.before h.since (y ∷ []) ∙ ap (λ z. h.before ++ (h.since ++ z ∷ [])) same) history)
   where
     same : y ≡ x
@@ -48,3 +49,8 @@ pub lack_by : (judge : WindowJudge) (since : List Event) (place : Place) (refusa
     (refusal ≡ refusals.TooMany → judge.most.events ≤ length since) → IsLack judge since (ended_by place refusal)
 lack_by judge since place refusal (inl full) most = subst (λ z. IsLack judge since (ended_by place z)) (sym full) (refl, most full)
 lack_by judge since place refusal (inr lacking) most = subst (λ z. IsLack judge since (ended_by place z)) (sym lacking) tt
+
+-- a line that is refused, and not for want of memory, stops the recording
+pub stops_at : (f : Follow) (line : List ℕ) (why : Ended) → IsRefusal why → RefusesLine f line why → StopsAt f line
+stops_at f line (Refused place fault) is refuses least most texts lines events h goes_on = subst (λ z. z ≤ length h.since) h.most_is (refuses least most texts lines events h goes_on).1
+stops_at f line Memory is refuses least most texts lines events h goes_on = absurd is

@@ -1,5 +1,5 @@
 -- What the course of a recording has taken with more bytes.
-use Rattle.std.proofs.Common.{◌==◌, ◌+◌, false, ◌<◌, None, Some, Result, Ok, Err, arith, add-one, drop, drop-cons, get_or, length, take, ◌≡◌, ◌++◌, ◌∙◌, ℕ, true, List, [], ◌∷◌, append-nil, append_assoc, flat_map, ap, subst, sym, refl, inl, inr}
+use Rattle.std.proofs.Common.{◌==◌, ◌+◌, false, ◌<◌, None, Some, Result, Ok, Err, arith, add-one, drop, drop-cons, get_or, length, take, ◌≡◌, ◌⊎◌, ◌++◌, ◌∙◌, ℕ, true, List, [], ◌∷◌, append-nil, append_assoc, flat_map, ap, subst, sym, refl, inl, inr}
 use Rattle.std.specs.Prelude.{IfOk, vec_len}
 use Rattle.std.specs.Global.{Vec}
 use Rattle.std.proofs.lemmas.Bool.Decides.{nat_tests}
@@ -11,25 +11,25 @@ use Rattle.snap_core.specs.declared.event.Event.{Event}
 use Rattle.snap_follow.specs.declared.course.Course.{Course}
 use Rattle.snap_follow.specs.Bytes.{AreLinesOf, Ended, EndsLine, HasNoEnd}
 use Rattle.snap_follow.specs.declared.follow.Follow.{Follow}
-use Rattle.snap_follow.specs.Followed.{EndsText, HasRead, ReadsLine}
-use Rattle.snap_follow.specs.inside.Courses.{EndsBytes, HasFollowed, TakesBytes, TakesLast}
+use Rattle.snap_follow.specs.Followed.{EndsText, HasNoRecord, HasRead, ReadsLine, StopsAt}
+use Rattle.snap_follow.specs.inside.Courses.{BeginsWithEnd, EndsBytes, HasFollowed, HasNothing, IsTooLong, StopsIn, TakesBytes, TakesLast}
 
 -- nothing
 pub takes_nothing : (c : Course) → TakesBytes c c []
-takes_nothing c texts bytes events h = ([], subst (λ z. HasFollowed c texts z (events ++ [])) (sym (append-nil bytes)) (subst (HasFollowed c texts bytes) (sym (append-nil events)) h))
+takes_nothing c least most texts bytes events h = ([], subst (λ z. HasFollowed c least most texts z (events ++ [])) (sym (append-nil bytes)) (subst (HasFollowed c least most texts bytes) (sym (append-nil events)) h))
 
 -- some bytes, and then others
 pub takes_both : (a b c : Course) (x y : List ℕ) → TakesBytes a b x → TakesBytes b c y → TakesBytes a c (x ++ y)
-takes_both a b c x y first second texts bytes events h =
-    let one = first texts bytes events h in
-    let two = second texts (bytes ++ x) (events ++ one.0) one.1 in
-    (one.0 ++ two.0, subst (λ z. HasFollowed c texts z (events ++ (one.0 ++ two.0))) (append_assoc bytes x y) (subst (HasFollowed c texts ((bytes ++ x) ++ y)) (append_assoc events one.0 two.0) two.1))
+takes_both a b c x y first second least most texts bytes events h =
+    let one = first least most texts bytes events h in
+    let two = second least most texts (bytes ++ x) (events ++ one.0) one.1 in
+    (one.0 ++ two.0, subst (λ z. HasFollowed c least most texts z (events ++ (one.0 ++ two.0))) (append_assoc bytes x y) (subst (HasFollowed c least most texts ((bytes ++ x) ++ y)) (append_assoc events one.0 two.0) two.1))
 
 -- the end of a line: the rest and these bytes are the line
 pub takes_line : (c d : Course) (front : List ℕ) (end : ℕ) → HasNoEnd front → EndsLine end → d.rest.items ≡ [] → ReadsLine c.follow d.follow (c.rest.items ++ front) → TakesBytes c d (front ++ end ∷ [])
-takes_line c d front end within ends none reads texts bytes events h =
+takes_line c d front end within ends none reads least most texts bytes events h =
     let line = c.rest.items ++ front in
-    let read = reads texts h.lines events h.read in (
+    let read = reads least most texts h.lines events h.read in (
       read.0,
       record {
         lines = h.lines ++ line ∷ [];
@@ -59,7 +59,7 @@ takes_line c d front end within ends none reads texts bytes events h =
 
 -- bytes within which no line ends
 pub takes_rest : (c d : Course) (bytes : List ℕ) → HasNoEnd bytes → d.rest.items ≡ c.rest.items ++ bytes → d.follow ≡ c.follow → TakesBytes c d bytes
-takes_rest c d piece within rest same texts bytes events h = (
+takes_rest c d piece within rest same least most texts bytes events h = (
   [],
   record {
     lines = h.lines;
@@ -69,7 +69,7 @@ takes_rest c d piece within rest same texts bytes events h = (
       spelled = ap (λ z. z ++ piece) h.cut.spelled ∙ append_assoc (flat_map (λ l. l.line ++ l.end ∷ []) h.cut.each) c.rest.items piece;
       unended = All-append (λ b. ¬ EndsLine b) c.rest.items piece h.cut.unended within;
     });
-    read = subst (λ z. HasRead z texts h.lines (events ++ [])) (sym same) (subst (HasRead c.follow texts h.lines) (sym (append-nil events)) h.read);
+    read = subst (λ z. HasRead z least most texts h.lines (events ++ [])) (sym same) (subst (HasRead c.follow least most texts h.lines) (sym (append-nil events)) h.read);
   },
 )
 
@@ -103,32 +103,68 @@ pub all_taken : (c d e : Course) (piece front left : List ℕ) → piece ≡ fro
     e.rest.items ≡ d.rest.items ++ left → e.follow ≡ d.follow → TakesBytes c e piece
 all_taken c d e piece front left parts taken found rest same = subst (TakesBytes c e) (sym parts) (takes_both c d e front left taken (takes_rest d e left (has_no_end left found) rest same))
 
+-- the next line of a piece stops the recording, or the begin of it does
+pub line_stops : (c d : Course) (piece front left : List ℕ) (k : ℕ) → piece ≡ front ++ left → TakesBytes c d front → IsFirstByte (is_byte2 10 13) left (Some k) →
+    IsTooLong (d.rest.items ++ take k left) ⊎ StopsAt d.follow (d.rest.items ++ take k left) → StopsIn c piece
+line_stops c d piece front left k parts taken found stops = record {
+  at = d;
+  front = front;
+  line = take k left;
+  behind = get_or left k 0 ∷ drop (k + 1) left;
+  parts = parts ∙ ap (λ z. front ++ z) (cut_at k left found.0.high);
+  within = front_has_no_end k left found;
+  taken = taken;
+  stops = go stops;
+}
+  where
+    go : IsTooLong (d.rest.items ++ take k left) ⊎ StopsAt d.follow (d.rest.items ++ take k left) → IsTooLong (d.rest.items ++ take k left) ⊎ (BeginsWithEnd (get_or left k 0 ∷ drop (k + 1) left) × StopsAt d.follow (d.rest.items ++ take k left))
+    go (inl long) = inl long
+    go (inr at) = inr (found.1, at)
+
+pub rest_stops : (c d : Course) (piece front left : List ℕ) → piece ≡ front ++ left → TakesBytes c d front → IsFirstByte (is_byte2 10 13) left None → IsTooLong (d.rest.items ++ left) → StopsIn c piece
+rest_stops c d piece front left parts taken found long = record {
+  at = d;
+  front = front;
+  line = left;
+  behind = [];
+  parts = parts ∙ ap (λ z. front ++ z) (sym (append-nil left));
+  within = has_no_end left found;
+  taken = taken;
+  stops = inl long;
+}
+
 -- a line was read, and nothing changed behind it
-pub read_then : (f g h : Follow) (line : List ℕ) → ReadsLine f g line → ((texts : List (List (List ℕ))) (lines : List (List ℕ)) (events : List Event) → HasRead g texts lines events → HasRead h texts lines events) → ReadsLine f h line
-read_then f g h line reads same texts lines events r =
-    let read = reads texts lines events r in
-    (read.0, same texts (lines ++ line ∷ []) (events ++ read.0) read.1)
+pub read_then : (f g h : Follow) (line : List ℕ) → ReadsLine f g line → ((least most : ℕ) (texts : List (List (List ℕ))) (lines : List (List ℕ)) (events : List Event) → HasRead g least most texts lines events → HasRead h least most texts lines events) → ReadsLine f h line
+read_then f g h line reads same least most texts lines events r =
+    let read = reads least most texts lines events r in
+    (read.0, same least most texts (lines ++ line ∷ []) (events ++ read.0) read.1)
 
 -- the bytes have ended, behind the end of a line or within one
 pub last_none : (c : Course) → c.rest.items ≡ [] → TakesLast c c
-last_none c none texts bytes events h = (h.lines, [], record { ended = h.lines; rest = c.rest.items; cut = h.cut; all = inl (none, refl) }, subst (HasRead c.follow texts h.lines) (sym (append-nil events)) h.read)
+last_none c none least most texts bytes events h = (h.lines, [], record { ended = h.lines; rest = c.rest.items; cut = h.cut; all = inl (none, refl) }, subst (HasRead c.follow least most texts h.lines) (sym (append-nil events)) h.read)
 
 pub last_line : (c d : Course) → (c.rest.items ≡ [] → ⊥) → ReadsLine c.follow d.follow c.rest.items → TakesLast c d
-last_line c d some reads texts bytes events h =
-    let read = reads texts h.lines events h.read in
+last_line c d some reads least most texts bytes events h =
+    let read = reads least most texts h.lines events h.read in
     (h.lines ++ c.rest.items ∷ [], read.0, record { ended = h.lines; rest = c.rest.items; cut = h.cut; all = inr (some, refl) }, read.1)
+
+-- the text has no record to its end
+pub no_record : (c d : Course) → TakesLast c d → HasNoRecord d.follow → HasNothing c
+no_record c d last none least most texts bytes events h =
+    let all = last least most texts bytes events h in
+    (all.0, all.2, none least most texts all.0 (events ++ all.1) all.3)
 
 -- a text has ended, and the next one begins
 pub text_done : (c d e : Course) → TakesLast c d → EndsText d.follow e.follow → e.rest.items ≡ [] → EndsBytes c e
-text_done c d e last ends none texts bytes events h =
-    let all = last texts bytes events h in (
+text_done c d e last ends none least most texts bytes events h =
+    let all = last least most texts bytes events h in (
       all.0,
       all.1,
       all.2,
       record {
         lines = [];
         cut = subst (AreLinesOf [] []) (sym none) (record { each = []; lines_are = refl; spelled = refl; unended = λ k d l. absurd (omega (arith, l)) });
-        read = ends texts all.0 (events ++ all.1) all.3;
+        read = ends least most texts all.0 (events ++ all.1) all.3;
       },
     )
 

@@ -1,9 +1,10 @@
 -- What the lines of a recording say.
-use Rattle.std.specs.Prelude.{⊤, ℕ, true, false, List, [], ◌∷◌, ◌++◌, ◌≡◌, ◌⊎◌, ◌↔◌, ◌≤◌, Ok, map, flat_map, length}
+use Rattle.std.specs.Prelude.{⊤, ℕ, true, false, not, List, [], ◌∷◌, ◌++◌, ◌-◌, ◌≡◌, ◌⊎◌, ◌↔◌, ◌≤◌, Ok, count_by, map, flat_map, length}
 use Rattle.snap_core.specs.declared.event.Event.{Event}
 use Rattle.snap_core.specs.Calls.{calls_of}
 use Rattle.snap_core.specs.Events.{IsHistory}
 use Rattle.snap_core.specs.Orders.{IsAtomic}
+use Rattle.snap_core.specs.Refusals.{is_begin}
 use Rattle.snap_core.specs.Regular.{IsRegular}
 use Rattle.snap_csv.specs.Layout.{is_header_row}
 use Rattle.snap_csv.specs.Rows.{rows_of}
@@ -33,9 +34,17 @@ abbrev pub SaysSoFar : Follow → List (List ℕ) → List Event → Type 0
 SaysSoFar follow lines events =
     ((follow.headed ≡ false) × (flat_map rows_of lines ≡ []) × (events ≡ [])) ⊎ ((follow.headed ≡ true) × Spells (flat_map rows_of lines) events)
 
+-- how many more calls these events begin than they end
+abbrev pub open_after : List Event → ℕ
+open_after events = count_by is_begin events - count_by (λ x. not (is_begin x)) events
+
 -- a recording was followed so far: the records of some whole texts, and of the lines of the text at hand, spell these events, which
--- its judge has taken
-pub record HasRead (follow : Follow) (texts : List (List (List ℕ))) (lines : List (List ℕ)) (events : List Event) : Type 0 where
+-- its judge has taken. A window ends from `least` events on, and has at most `most`
+pub record HasRead (follow : Follow) (least most : ℕ) (texts : List (List (List ℕ))) (lines : List (List ℕ)) (events : List Event) : Type 0 where
+  pub least_is : follow.least ≡ least
+  pub most_is : follow.judge.most.events ≡ most
+  -- so many calls at most count as open
+  pub opened : follow.open_calls ≤ open_after events
   pub before : List Event
   pub since : List Event
   pub taken : HasTaken follow.judge before since
@@ -48,8 +57,8 @@ pub record HasRead (follow : Follow) (texts : List (List (List ℕ))) (lines : L
 
 -- a line more was read: it says nothing more, or one event
 abbrev pub ReadsLine : Follow → Follow → List ℕ → Type 0
-ReadsLine old new line = (texts : List (List (List ℕ))) (lines : List (List ℕ)) (events : List Event) → HasRead old texts lines events →
-    (more : List Event) × HasRead new texts (lines ++ line ∷ []) (events ++ more)
+ReadsLine old new line = (least most : ℕ) (texts : List (List (List ℕ))) (lines : List (List ℕ)) (events : List Event) → HasRead old least most texts lines events →
+    (more : List Event) × HasRead new least most texts (lines ++ line ∷ []) (events ++ more)
 
 -- records that go on with a recording of these events: none; the header alone, where none was read; or, where one was, one that
 -- spells an event with which the events are a history
@@ -64,16 +73,21 @@ IsLack judge since Memory = ⊤
 
 -- a line that goes on with the recording is refused for such a lack alone
 abbrev pub RefusesLine : Follow → List ℕ → Ended → Type 0
-RefusesLine old line why = (texts : List (List (List ℕ))) (lines : List (List ℕ)) (events : List Event) (h : HasRead old texts lines events) →
+RefusesLine old line why = (least most : ℕ) (texts : List (List (List ℕ))) (lines : List (List ℕ)) (events : List Event) (h : HasRead old least most texts lines events) →
     GoesOn old events (rows_of line) → IsLack old.judge h.since why
+
+-- a line stops a recording: it does not go on with it, or the window at hand has as many events as it may have
+abbrev pub StopsAt : Follow → List ℕ → Type 0
+StopsAt follow line = (least most : ℕ) (texts : List (List (List ℕ))) (lines : List (List ℕ)) (events : List Event) (h : HasRead follow least most texts lines events) →
+    GoesOn follow events (rows_of line) → most ≤ length h.since
 
 -- the text at hand has no record so far
 abbrev pub HasNoRecord : Follow → Type 0
-HasNoRecord follow = (texts : List (List (List ℕ))) (lines : List (List ℕ)) (events : List Event) → HasRead follow texts lines events → flat_map rows_of lines ≡ []
+HasNoRecord follow = (least most : ℕ) (texts : List (List (List ℕ))) (lines : List (List ℕ)) (events : List Event) → HasRead follow least most texts lines events → flat_map rows_of lines ≡ []
 
 -- the text at hand has ended, and the next one begins
 abbrev pub EndsText : Follow → Follow → Type 0
-EndsText old new = (texts : List (List (List ℕ))) (lines : List (List ℕ)) (events : List Event) → HasRead old texts lines events → HasRead new (texts ++ lines ∷ []) [] events
+EndsText old new = (least most : ℕ) (texts : List (List (List ℕ))) (lines : List (List ℕ)) (events : List Event) → HasRead old least most texts lines events → HasRead new least most (texts ++ lines ∷ []) [] events
 
 -- the exit status of a recording of these events
 pub record IsStatusOf (events : List Event) (code : ℕ) : Type 0 where

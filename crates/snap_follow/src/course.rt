@@ -1,8 +1,9 @@
 //! The course of a recording that is followed: its bytes are cut into lines, and its windows are answered.
-ghost use Rattle.std.specs.Prelude.{◌≡◌, ◌++◌, [], ℕ, List, true, IfOk};
+ghost use Rattle.std.specs.Prelude.{◌≡◌, ◌⊎◌, ◌++◌, [], ℕ, List, false, true, IfOk, OnOk};
 ghost use Rattle.snap_core.specs.declared.event.Event.{Event};
-ghost use Rattle.snap_follow.specs.Followed.{HasRead, IsStatusOf, ReadsLine};
-ghost use Rattle.snap_follow.specs.inside.Courses.{EndsBytes, HasFollowed, TakesBytes, TakesLast};
+ghost use Rattle.snap_follow.specs.Followed.{HasRead, IsStatusOf, ReadsLine, StopsAt};
+ghost use Rattle.snap_follow.specs.inside.Courses.{EndsBytes, HasFollowed, IsTooLong, StopsIn, StopsLast, TakesBytes, TakesLast};
+ghost use Rattle.snap_follow.specs.inside.Refusals.{IsRefusal};
 
 use crate::answers::Answers;
 use crate::follow::{Ended, Follow};
@@ -28,7 +29,7 @@ pub(crate) struct Course {
 impl Course {
     /// A recording of which nothing was read.
     pub(crate) fn new(alloc: Global, least: u32, most: Limit) -> Course
-        ensures { HasFollowed result [] [] [] }
+        ensures { HasFollowed result least most.events [] [] [] }
     {
         Course {
             follow: Follow::new(alloc, least, most),
@@ -45,6 +46,7 @@ impl Course {
     // Answers why the recording is followed no further.
     fn refuse(&mut self, ended: Ended) -> Result<(), AllocError>
         ensures rest { self.new.rest ≡ self.old.rest }
+        ensures refused { OnOk result (IsRefusal ended) }
     {
         match ended {
             Ended::Refused { place, fault } => self.answers.add_refusal(place, fault),
@@ -56,6 +58,7 @@ impl Course {
     fn take_line(&mut self, alloc: Global, line: &[u8]) -> Result<bool, AllocError>
         ensures rest { self.new.rest ≡ self.old.rest }
         ensures read { IfOk result (λ goes_on. goes_on ≡ true → ReadsLine self.old.follow self.new.follow line.now) }
+        ensures refused { IfOk result (λ goes_on. goes_on ≡ false → StopsAt self.old.follow line.now) }
     {
         if let Err(ended) = self.follow.take_line(alloc, line) {
             self.refuse(ended)?;
@@ -71,6 +74,7 @@ impl Course {
     fn take_rest(&mut self, alloc: Global) -> Result<bool, AllocError>
         ensures rest { self.new.rest.items ≡ [] }
         ensures read { IfOk result (λ goes_on. goes_on ≡ true → ReadsLine self.old.follow self.new.follow self.old.rest.items) }
+        ensures refused { IfOk result (λ goes_on. goes_on ≡ false → StopsAt self.old.follow self.old.rest.items) }
     {
         let line = mem::replace(&mut self.rest, Vec::new(alloc));
         self.take_line(alloc, &line)
@@ -80,6 +84,7 @@ impl Course {
     pub(crate) fn take_last(&mut self, alloc: Global) -> Result<bool, AllocError>
         ensures rest { self.new.rest.items ≡ [] }
         ensures read { IfOk result (λ goes_on. goes_on ≡ true → TakesLast self.old self.new) }
+        ensures refused { IfOk result (λ goes_on. goes_on ≡ false → StopsAt self.old.follow self.old.rest.items) }
     {
         if self.rest.is_empty() {
             return Ok(true);
@@ -90,6 +95,7 @@ impl Course {
     // Refuses the next record, where it has begun with more bytes than a record may have. Whether the recording is followed further.
     fn check_length(&mut self) -> Result<bool, AllocError>
         ensures same { (self.new.rest ≡ self.old.rest) × (self.new.follow ≡ self.old.follow) }
+        ensures refused { IfOk result (λ goes_on. goes_on ≡ false → IsTooLong self.old.rest.items) }
     {
         if self.rest.len() <= RECORD_LIMIT {
             return Ok(true);
@@ -103,6 +109,7 @@ impl Course {
     fn take_joined(&mut self, alloc: Global, bytes: &[u8]) -> Result<bool, AllocError>
         ensures rest { IfOk result (λ goes_on. goes_on ≡ true → self.new.rest.items ≡ []) }
         ensures read { IfOk result (λ goes_on. goes_on ≡ true → ReadsLine self.old.follow self.new.follow (self.old.rest.items ++ bytes.now)) }
+        ensures refused { IfOk result (λ goes_on. goes_on ≡ false → IsTooLong (self.old.rest.items ++ bytes.now) ⊎ StopsAt self.old.follow (self.old.rest.items ++ bytes.now)) }
     {
         if self.rest.is_empty() {
             return self.take_line(alloc, bytes);
@@ -113,7 +120,8 @@ impl Course {
 
     /// Takes the lines of a piece. The begin of a line without an end is kept. Whether the recording is followed further.
     pub(crate) fn take_piece(&mut self, alloc: Global, piece: &[u8]) -> Result<bool, AllocError>
-        ensures { IfOk result (λ goes_on. goes_on ≡ true → TakesBytes self.old self.new piece.now) }
+        ensures taken { IfOk result (λ goes_on. goes_on ≡ true → TakesBytes self.old self.new piece.now) }
+        ensures refused { IfOk result (λ goes_on. goes_on ≡ false → StopsIn self.old piece.now) }
     {
         let mut left = piece;
         while let Some(at) = memchr2(b'\n', b'\r', left) {
@@ -128,7 +136,8 @@ impl Course {
 
     /// Goes on to the next text, since this one is whole. Whether the recording is followed further.
     pub(crate) fn end_text(&mut self, alloc: Global) -> Result<bool, AllocError>
-        ensures { IfOk result (λ goes_on. goes_on ≡ true → EndsBytes self.old self.new) }
+        ensures ended { IfOk result (λ goes_on. goes_on ≡ true → EndsBytes self.old self.new) }
+        ensures refused { IfOk result (λ goes_on. goes_on ≡ false → StopsLast self.old) }
     {
         if !self.take_last(alloc)? {
             return Ok(false);
@@ -153,7 +162,7 @@ impl Course {
 
     /// Ends the recording, in which calls may be open. It answers the exit status of the whole.
     pub(crate) fn finish(self, alloc: Global) -> Result<(u8, Answers), AllocError>
-        ensures { IfOk result (λ x. (texts : List (List (List ℕ))) (lines : List (List ℕ)) (events : List Event) → HasRead self.follow texts lines events → IsStatusOf events x.0) }
+        ensures { IfOk result (λ x. (least most : ℕ) (texts : List (List (List ℕ))) (lines : List (List ℕ)) (events : List Event) → HasRead self.follow least most texts lines events → IsStatusOf events x.0) }
     {
         let Course {
             follow,

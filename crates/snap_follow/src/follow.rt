@@ -1,12 +1,14 @@
 //! A recording that is followed, line by line.
-ghost use Rattle.std.specs.Prelude.{◌≡◌, ◌++◌, ◌∷◌, [], ◌↔◌, ℕ, List, IsTrue, IfErr, IfOk, IfSome, OnErr, OnOk, false};
+ghost use Rattle.std.specs.Prelude.{◌≡◌, ◌≤◌, ◌<◌, ◌++◌, ◌∷◌, [], ◌↔◌, ℕ, List, IsTrue, IfErr, IfNone, IfOk, IfSome, OnErr, OnOk, false, length};
 ghost use Rattle.snap_core.specs.declared.event.Event.{Event};
 ghost use Rattle.snap_core.specs.Calls.{calls_of};
 ghost use Rattle.snap_core.specs.Events.{IsHistory};
+ghost use Rattle.snap_follow.specs.inside.Counts.{CountsOpen};
 ghost use Rattle.snap_follow.specs.inside.Refusals.{ended_by};
 ghost use Rattle.snap_follow.specs.declared.follow.Ended.TheVariants as ends;
 ghost use Rattle.snap_core.specs.Orders.{IsAtomic};
 ghost use Rattle.snap_core.specs.Regular.{IsRegular};
+ghost use Rattle.snap_theory.specs.Windows.{IsQuiet};
 ghost use Rattle.snap_windows.specs.Taken.{HasTaken};
 ghost use Rattle.snap_windows.specs.Verdicts.{IsVerdict};
 ghost use Rattle.snap_follow.specs.Followed.{EndsText, HasNoRecord, HasRead, IsLack, ReadsLine, RefusesLine};
@@ -71,17 +73,19 @@ pub struct Follow {
     place: Place,
     // from how many events on a window ends at a moment without an open call, and how many calls are open
     least: usize,
-    open: u64,
+    open_calls: u64,
     // the window at hand
     span: Span,
 }
 
 // How many calls are open behind an event.
-fn open_behind(open: u64, event: &Event) -> u64 {
+fn open_behind(before: u64, event: &Event) -> u64
+    ensures { CountsOpen before event.now result }
+{
     if event.is_begin() {
-        open.saturating_add(1)
+        before.saturating_add(1)
     } else {
-        open.saturating_sub(1)
+        before.saturating_sub(1)
     }
 }
 
@@ -130,7 +134,7 @@ impl Follow {
     /// A recording of which nothing was read. A window ends at the first moment without an open call from so many events on, and has
     /// as many as the limit says at most.
     pub fn new(alloc: Global, least: u32, most: Limit) -> Follow
-        ensures { HasRead result [] [] [] }
+        ensures { HasRead result least most.events [] [] [] }
     {
         let place = Place { text: 0, record: 0 };
         Follow {
@@ -139,7 +143,7 @@ impl Follow {
             headed: false,
             place,
             least: least as usize,
-            open: 0,
+            open_calls: 0,
             span: Span::behind(place),
         }
     }
@@ -204,6 +208,8 @@ impl Follow {
     fn take_event(&mut self, alloc: Global, event: &Event) -> Result<(), Ended>
         ensures taken { OnOk result ((before since : List Event) → HasTaken self.old.judge before since → HasTaken self.new.judge before (since ++ event.now ∷ [])) }
         ensures headed { self.new.headed ≡ self.old.headed }
+        ensures rule { (self.new.least ≡ self.old.least) × (self.new.judge.most ≡ self.old.judge.most) }
+        ensures counted { OnOk result (CountsOpen self.old.open_calls event.now self.new.open_calls) }
         ensures refused { IfErr result (λ why. (before since : List Event) → HasTaken self.old.judge before since → IsHistory (before ++ (since ++ event.now ∷ [])) → IsLack self.old.judge since why) }
     {
         let missed = match self.judge.take(alloc, event) {
@@ -211,7 +217,7 @@ impl Follow {
             Err(refusal) => return Err(self.refused_event(refusal)),
         };
         self.span = self.span.with(event, self.place, missed);
-        self.open = open_behind(self.open, event);
+        self.open_calls = open_behind(self.open_calls, event);
         Ok(())
     }
 
@@ -251,12 +257,16 @@ impl Follow {
         Ok(())
     }
 
-    /// Ends the window at hand where it has events enough and no call is open. The error is want of memory.
+    /// Ends the window at hand exactly where it has events enough and no call is open. The error is want of memory.
     pub fn cut(&mut self, alloc: Global) -> Result<Option<Window>, AllocError>
-        ensures same { OnOk result ((texts : List (List (List ℕ))) (lines : List (List ℕ)) (events : List Event) → HasRead self.old texts lines events → HasRead self.new texts lines events) }
-        ensures window { IfOk result (λ found. IfSome found (λ window. (texts : List (List (List ℕ))) (lines : List (List ℕ)) (events : List Event) (h : HasRead self.old texts lines events) → IsVerdict window.verdict h.before h.since)) }
+        ensures same { OnOk result ((least most : ℕ) (texts : List (List (List ℕ))) (lines : List (List ℕ)) (events : List Event) → HasRead self.old least most texts lines events → HasRead self.new least most texts lines events) }
+        ensures window { IfOk result (λ found. IfSome found (λ window. (least most : ℕ) (texts : List (List (List ℕ))) (lines : List (List ℕ)) (events : List Event) (h : HasRead self.old least most texts lines events) → IsVerdict window.verdict h.before h.since)) }
+        ensures enough { IfOk result (λ found. IfSome found (λ window. (least most : ℕ) (texts : List (List (List ℕ))) (lines : List (List ℕ)) (events : List Event) (h : HasRead self.old least most texts lines events) → least ≤ length h.since)) }
+        ensures begun { IfOk result (λ found. IfSome found (λ window. (least most : ℕ) (texts : List (List (List ℕ))) (lines : List (List ℕ)) (events : List Event) → HasRead self.old least most texts lines events → HasTaken self.new.judge events [])) }
+        ensures kept { IfOk result (λ found. IfNone found (self.new ≡ self.old)) }
+        ensures ends { IfOk result (λ found. IfNone found ((least most : ℕ) (texts : List (List (List ℕ))) (lines : List (List ℕ)) (events : List Event) (h : HasRead self.old least most texts lines events) → IsQuiet events → length h.since < least)) }
     {
-        if self.open > 0 || self.judge.len() < self.least {
+        if self.open_calls > 0 || self.judge.len() < self.least {
             return Ok(None);
         }
         let Some(verdict) = self.judge.cut(alloc)? else {
@@ -269,9 +279,9 @@ impl Follow {
 
     /// Ends the recording, in which calls may be open: its last window, and what the whole is. The error is want of memory.
     pub fn finish(self, alloc: Global) -> Result<(Window, Verdict), AllocError>
-        ensures window { IfOk result (λ x. (texts : List (List (List ℕ))) (lines : List (List ℕ)) (events : List Event) (h : HasRead self texts lines events) → IsVerdict x.0.verdict h.before h.since) }
-        ensures regular { IfOk result (λ x. (texts : List (List (List ℕ))) (lines : List (List ℕ)) (events : List Event) → HasRead self texts lines events → IsTrue x.1.regular ↔ IsRegular (calls_of events)) }
-        ensures atomic { IfOk result (λ x. (texts : List (List (List ℕ))) (lines : List (List ℕ)) (events : List Event) → HasRead self texts lines events → IsTrue x.1.atomic ↔ IsAtomic (calls_of events)) }
+        ensures window { IfOk result (λ x. (least most : ℕ) (texts : List (List (List ℕ))) (lines : List (List ℕ)) (events : List Event) (h : HasRead self least most texts lines events) → IsVerdict x.0.verdict h.before h.since) }
+        ensures regular { IfOk result (λ x. (least most : ℕ) (texts : List (List (List ℕ))) (lines : List (List ℕ)) (events : List Event) → HasRead self least most texts lines events → IsTrue x.1.regular ↔ IsRegular (calls_of events)) }
+        ensures atomic { IfOk result (λ x. (least most : ℕ) (texts : List (List (List ℕ))) (lines : List (List ℕ)) (events : List Event) → HasRead self least most texts lines events → IsTrue x.1.atomic ↔ IsAtomic (calls_of events)) }
     {
         let span = self.span;
         let (verdict, whole) = self.judge.finish(alloc)?;

@@ -61,7 +61,8 @@ fn has_other_writer(left: &[Option<Wrote>; COMPONENT_COUNT], event: &Event) -> b
 impl WindowJudge {
     /// The judge that has taken nothing. A window has at most as many events as the limit says.
     pub fn new(alloc: Global, most: Limit) -> WindowJudge
-        ensures { HasTaken result [] [] }
+        ensures taken { HasTaken result [] [] }
+        ensures limit { result.most ≡ most }
     {
         WindowJudge {
             left: none(),
@@ -103,6 +104,7 @@ impl WindowJudge {
         ensures kept { OnErr result (self.new ≡ self.old) }
         ensures refused { IfErr result (λ why. (before since : List Event) → HasTaken self.old before since → IsHistory (before ++ (since ++ event.now ∷ [])) → (why ≡ refusal.TooMany) ⊎ (why ≡ refusal.Memory)) }
         ensures most { IfErr result (λ why. (before since : List Event) → HasTaken self.old before since → why ≡ refusal.TooMany → self.old.most.events ≤ length since) }
+        ensures limit { self.new.most ≡ self.old.most }
     {
         event.fits();
         let Ok(renumbered) = renumbered_event(alloc, &self.left, event) else {
@@ -150,6 +152,7 @@ impl WindowJudge {
         ensures open { IfOk result (λ found. IfNone found ((before since : List Event) → HasTaken self.old before since → ¬ IsQuiet (before ++ since))) }
         ensures kept { IfOk result (λ found. IfNone found (self.new ≡ self.old)) }
         ensures lacking { OnErr result (self.new ≡ self.old) }
+        ensures limit { self.new.most ≡ self.old.most }
     {
         let (verdict, quiet) = self.judge(alloc)?;
         if !quiet {

@@ -1,27 +1,59 @@
 -- What the course of a recording has taken.
-use Rattle.std.specs.Prelude.{◌++◌, ℕ, List, [], ◌∷◌}
+use Rattle.std.specs.Prelude.{◌≡◌, ◌<◌, ◌++◌, ◌⊎◌, ℕ, List, [], ◌∷◌, flat_map, length}
 use Rattle.snap_core.specs.declared.event.Event.{Event}
 use Rattle.snap_follow.specs.declared.course.Course.{Course}
-use Rattle.snap_follow.specs.Bytes.{AreAllLines, AreLinesOf}
-use Rattle.snap_follow.specs.Followed.{HasRead}
+use Rattle.snap_csv.specs.Rows.{rows_of}
+use Rattle.snap_follow.specs.Bytes.{AreAllLines, AreLinesOf, EndsLine, HasNoEnd}
+use Rattle.snap_follow.specs.Followed.{HasRead, StopsAt}
+use Rattle.snap_follow.specs.declared.course.TheConstants.{RECORD_LIMIT}
 
 -- a recording was followed so far: the lines of some whole texts, and of the bytes of the text at hand, say these events
-pub record HasFollowed (course : Course) (texts : List (List (List ℕ))) (bytes : List ℕ) (events : List Event) : Type 0 where
+pub record HasFollowed (course : Course) (least most : ℕ) (texts : List (List (List ℕ))) (bytes : List ℕ) (events : List Event) : Type 0 where
   pub lines : List (List ℕ)
   pub cut : AreLinesOf bytes lines course.rest.items
-  pub read : HasRead course.follow texts lines events
+  pub read : HasRead course.follow least most texts lines events
 
 -- bytes were taken
 abbrev pub TakesBytes : Course → Course → List ℕ → Type 0
-TakesBytes old new piece = (texts : List (List (List ℕ))) (bytes : List ℕ) (events : List Event) → HasFollowed old texts bytes events →
-    (more : List Event) × HasFollowed new texts (bytes ++ piece) (events ++ more)
+TakesBytes old new piece = (least most : ℕ) (texts : List (List (List ℕ))) (bytes : List ℕ) (events : List Event) → HasFollowed old least most texts bytes events →
+    (more : List Event) × HasFollowed new least most texts (bytes ++ piece) (events ++ more)
 
 -- the bytes of the text at hand have ended: all their lines were taken
 abbrev pub TakesLast : Course → Course → Type 0
-TakesLast old new = (texts : List (List (List ℕ))) (bytes : List ℕ) (events : List Event) → HasFollowed old texts bytes events →
-    (lines : List (List ℕ)) × (more : List Event) × AreAllLines bytes lines × HasRead new.follow texts lines (events ++ more)
+TakesLast old new = (least most : ℕ) (texts : List (List (List ℕ))) (bytes : List ℕ) (events : List Event) → HasFollowed old least most texts bytes events →
+    (lines : List (List ℕ)) × (more : List Event) × AreAllLines bytes lines × HasRead new.follow least most texts lines (events ++ more)
 
 -- and the next text begins
 abbrev pub EndsBytes : Course → Course → Type 0
-EndsBytes old new = (texts : List (List (List ℕ))) (bytes : List ℕ) (events : List Event) → HasFollowed old texts bytes events →
-    (lines : List (List ℕ)) × (more : List Event) × AreAllLines bytes lines × HasFollowed new (texts ++ lines ∷ []) [] (events ++ more)
+EndsBytes old new = (least most : ℕ) (texts : List (List (List ℕ))) (bytes : List ℕ) (events : List Event) → HasFollowed old least most texts bytes events →
+    (lines : List (List ℕ)) × (more : List Event) × AreAllLines bytes lines × HasFollowed new least most (texts ++ lines ∷ []) [] (events ++ more)
+
+-- a line has more bytes than a record may have
+abbrev pub IsTooLong : List ℕ → Type 0
+IsTooLong line = RECORD_LIMIT < length line
+
+-- the first of these bytes ends a line
+abbrev pub BeginsWithEnd : List ℕ → Type 0
+BeginsWithEnd [] = ⊥
+BeginsWithEnd (b ∷ bytes) = EndsLine b
+
+-- a piece stops a recording: some of its bytes were taken, and the line behind them has more bytes than a record may have, or has
+-- its end in the piece and stops the recording
+pub record StopsIn (old : Course) (piece : List ℕ) : Type 0 where
+  pub at : Course
+  pub front : List ℕ
+  pub line : List ℕ
+  pub behind : List ℕ
+  pub parts : piece ≡ front ++ (line ++ behind)
+  pub within : HasNoEnd line
+  pub taken : TakesBytes old at front
+  pub stops : IsTooLong (at.rest.items ++ line) ⊎ (BeginsWithEnd behind × StopsAt at.follow (at.rest.items ++ line))
+
+-- the text at hand ends without any record
+abbrev pub HasNothing : Course → Type 0
+HasNothing old = (least most : ℕ) (texts : List (List (List ℕ))) (bytes : List ℕ) (events : List Event) → HasFollowed old least most texts bytes events →
+    (lines : List (List ℕ)) × AreAllLines bytes lines × (flat_map rows_of lines ≡ [])
+
+-- the end of the text at hand stops a recording: its last line does, which need not end, or the text has no record
+abbrev pub StopsLast : Course → Type 0
+StopsLast old = StopsAt old.follow old.rest.items ⊎ HasNothing old

@@ -1,5 +1,5 @@
 -- What ends a recording where the judge refuses an event.
-use Rattle.std.specs.Prelude.{Option, Some, None}
+use Rattle.std.specs.Prelude.{⊤, Option, Some, None}
 use Rattle.snap_core.specs.declared.history.EventRefusal.{EventRefusal}
 use Rattle.snap_csv.specs.Faults.{fault_of}
 use Rattle.snap_follow.specs.declared.follow.Ended.{Ended}
@@ -15,3 +15,8 @@ ended_with place None = Memory
 -- by a refusal of an event at a place
 abbrev pub ended_by : Place → EventRefusal → Ended
 ended_by place refusal = ended_with place (fault_of refusal)
+
+-- a record is refused, and memory has not run out
+abbrev pub IsRefusal : Ended → Type 0
+IsRefusal (Refused place fault) = ⊤
+IsRefusal Memory = ⊥

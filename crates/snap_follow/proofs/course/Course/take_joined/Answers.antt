@@ -1,7 +1,7 @@
-use Rattle.std.proofs.Common.{◌≡◌, ◌++◌, true, sym, subst}
+use Rattle.std.proofs.Common.{◌≡◌, ◌++◌, true, sym, subst, inr}
 use Rattle.std.specs.Prelude.{IfOk}
-use Rattle.snap_follow.specs.Followed.{ReadsLine}
-use Rattle.snap_follow.proofs.Taking.{no_bytes}
+use Rattle.snap_follow.specs.Followed.{ReadsLine, StopsAt}
+use Rattle.snap_follow.proofs.Taking.{if_ok_then, no_bytes}
 use Rattle.snap_follow.proofs.course.Course.take_joined.Goals as goal
 
 pub returns-then-is_empty-clause-read : goal.returns-then-is_empty-clause-read
@@ -10,3 +10,11 @@ returns-then-is_empty-clause-read c =
 
 pub returns-in_ok-take_rest-clause-read : goal.returns-in_ok-take_rest-clause-read
 returns-in_ok-take_rest-clause-read c = λ goes_on. rw (← c.in_ok-extend_from_slice.ensures.items, ← c.in_ok-check_length.ensures.same.0, ← c.in_ok-check_length.ensures.same.1) (c.in_ok-take_rest.ensures.read goes_on)
+
+pub returns-then-is_empty-clause-refused : goal.returns-then-is_empty-clause-refused
+returns-then-is_empty-clause-refused c =
+    if_ok_then c.take_line.result _ _ c.take_line.ensures.refused
+    (λ goes_on stops no. inr (subst (λ z. StopsAt c.args.self.now.follow (z ++ c.args.bytes.now)) (sym (no_bytes c.args.self.now.rest c.if-is_empty.ensures)) (stops no)))
+
+pub returns-in_ok-take_rest-clause-refused : goal.returns-in_ok-take_rest-clause-refused
+returns-in_ok-take_rest-clause-refused c = λ no. inr (rw (← c.in_ok-extend_from_slice.ensures.items, ← c.in_ok-check_length.ensures.same.0, ← c.in_ok-check_length.ensures.same.1) (c.in_ok-take_rest.ensures.refused no))

@@ -1,4 +1,23 @@
+use Rattle.std.proofs.Common.{arith, refl, subst}
+use Rattle.snap_theory.specs.Windows.{IsQuiet}
+use Rattle.snap_follow.proofs.Opening.{none_open}
+use Rattle.snap_follow.proofs.Reading.{read_history, window_ended}
+use Rattle.snap_follow.proofs.follow.Follow.cut.Goals.{then-self-gt0-via-then-self-gt0, then-self-gt0-via-else-self-gt0+then-len-self}
 use Rattle.snap_follow.proofs.follow.Follow.cut.Goals as goal
 
 pub returns-clause-window : goal.returns-clause-window
-returns-clause-window c = λ texts lines events h. (rw c.in-Some.is at c.in_ok-verdict.ensures.window) h.before h.since h.taken
+returns-clause-window c = λ least most texts lines events h. (rw c.in-Some.is at c.in_ok-verdict.ensures.window) h.before h.since h.taken
+
+pub returns-clause-same : goal.returns-clause-same
+returns-clause-same c = window_ended c.args.self.now _ refl (refl, c.cut.ensures.limit) refl (rw c.in-Some.is at c.in_ok-verdict.ensures.cut)
+
+pub returns-then-self-gt0-clause-ends : goal.returns-then-self-gt0-clause-ends
+returns-then-self-gt0-clause-ends c = λ least most texts lines events h quiet.
+    let none = none_open events (read_history c.args.self.now h) quiet in
+    elim c.then-self-gt0.branch [
+      | then-self-gt0-via-then-self-gt0 w ↦ omega (arith, none, h.opened)
+      | then-self-gt0-via-else-self-gt0+then-len-self w ↦ omega (arith, w.len.ensures h.before h.since h.taken, h.least_is)
+    ]
+
+pub returns-in_default-clause-ends : goal.returns-in_default-clause-ends
+returns-in_default-clause-ends c = λ least most texts lines events h quiet. absurd ((rw c.in_default.is at c.in_ok-verdict.ensures.open) h.before h.since h.taken (subst IsQuiet h.windows quiet))

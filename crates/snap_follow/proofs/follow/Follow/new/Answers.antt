@@ -1,0 +1,18 @@
+use Rattle.std.proofs.Common.{[], ap, arith, inl, refl}
+use Rattle.snap_follow.proofs.follow.Follow.new.Goals as goal
+
+pub returns : goal.returns
+returns c = record {
+  least_is = refl;
+  most_is = ap (λ z. z.events) c.new.ensures.limit;
+  opened = omega arith;
+  before = [];
+  since = [];
+  taken = c.new.ensures.taken;
+  windows = refl;
+  earlier = [];
+  here = [];
+  parts = refl;
+  texts_say = refl;
+  lines_say = inl (refl, refl, refl);
+}
