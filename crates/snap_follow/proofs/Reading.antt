@@ -106,20 +106,23 @@ text_more (t ∷ texts) text earlier here (first, later, parts, says, all) spell
 
 -- a text that has a header, and ends
 pub text_ended : (f g : Follow) → f.headed ≡ true → g.headed ≡ false → g.judge ≡ f.judge → g.least ≡ f.least → g.open_calls ≡ f.open_calls → EndsText f g
-text_ended f g old new same least_same calls_same least most texts lines events h = record {
-  least_is = least_same ∙ h.least_is;
-  most_is = ap (λ z. z.most.events) same ∙ h.most_is;
-  opened = rw calls_same h.opened;
-  before = h.before;
-  since = h.since;
-  taken = subst (λ z. HasTaken z h.before h.since) (sym same) h.taken;
-  windows = h.windows;
-  earlier = h.earlier ++ h.here;
-  here = [];
-  parts = h.parts ∙ sym (append-nil (h.earlier ++ h.here));
-  texts_say = text_more texts lines h.earlier h.here h.texts_say (go h.lines_say);
-  lines_say = inl (new, refl, refl);
-}
+text_ended f g old new same least_same calls_same least most texts lines events h = (
+  record {
+    least_is = least_same ∙ h.least_is;
+    most_is = ap (λ z. z.most.events) same ∙ h.most_is;
+    opened = rw calls_same h.opened;
+    before = h.before;
+    since = h.since;
+    taken = subst (λ z. HasTaken z h.before h.since) (sym same) h.taken;
+    windows = h.windows;
+    earlier = h.earlier ++ h.here;
+    here = [];
+    parts = h.parts ∙ sym (append-nil (h.earlier ++ h.here));
+    texts_say = text_more texts lines h.earlier h.here h.texts_say (go h.lines_say);
+    lines_say = inl (new, refl, refl);
+  },
+  refl,
+)
   where
     go : SaysSoFar f lines h.here → Spells (flat_map rows_of lines) h.here
     go (inl p) = absurd (false≢true (sym p.0 ∙ old))
@@ -127,21 +130,25 @@ text_ended f g old new same least_same calls_same least most texts lines events 
 
 -- a window has ended
 pub window_ended : (f g : Follow) → g.headed ≡ f.headed → KeepsRule f g → g.open_calls ≡ f.open_calls → ((before since : List Event) → HasTaken f.judge before since → HasTaken g.judge (before ++ since) []) →
-    (least most : ℕ) (texts : List (List (List ℕ))) (lines : List (List ℕ)) (events : List Event) → HasRead f least most texts lines events → HasRead g least most texts lines events
-window_ended f g headed keeps calls_same ends least most texts lines events h = record {
-  least_is = keeps.0 ∙ h.least_is;
-  most_is = ap (λ z. z.events) keeps.1 ∙ h.most_is;
-  opened = rw calls_same h.opened;
-  before = h.before ++ h.since;
-  since = [];
-  taken = ends h.before h.since h.taken;
-  windows = h.windows ∙ sym (append-nil (h.before ++ h.since));
-  earlier = h.earlier;
-  here = h.here;
-  parts = h.parts;
-  texts_say = h.texts_say;
-  lines_say = says h.lines_say;
-}
+    (least most : ℕ) (texts : List (List (List ℕ))) (lines : List (List ℕ)) (events : List Event) → HasRead f least most texts lines events →
+    (n : HasRead g least most texts lines events) × (n.since ≡ [])
+window_ended f g headed keeps calls_same ends least most texts lines events h = (
+  record {
+    least_is = keeps.0 ∙ h.least_is;
+    most_is = ap (λ z. z.events) keeps.1 ∙ h.most_is;
+    opened = rw calls_same h.opened;
+    before = h.before ++ h.since;
+    since = [];
+    taken = ends h.before h.since h.taken;
+    windows = h.windows ∙ sym (append-nil (h.before ++ h.since));
+    earlier = h.earlier;
+    here = h.here;
+    parts = h.parts;
+    texts_say = h.texts_say;
+    lines_say = says h.lines_say;
+  },
+  refl,
+)
   where
     says : SaysSoFar f lines h.here → SaysSoFar g lines h.here
     says (inl p) = inl (headed ∙ p.0, p.1, p.2)

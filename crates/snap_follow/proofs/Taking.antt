@@ -8,11 +8,12 @@ use Rattle.std.proofs.lemmas.List.Elements.{All-append, All-from_get_or}
 use Rattle.std.proofs.lemmas.List.Concat.{flat_map-append}
 use Rattle.memchr.specs.Find.{IsFirstByte, is_byte2}
 use Rattle.snap_core.specs.declared.event.Event.{Event}
+use Rattle.snap_theory.specs.Windows.{IsQuiet}
 use Rattle.snap_follow.specs.declared.course.Course.{Course}
 use Rattle.snap_follow.specs.Bytes.{AreLinesOf, Ended, EndsLine, HasNoEnd}
 use Rattle.snap_follow.specs.declared.follow.Follow.{Follow}
 use Rattle.snap_follow.specs.Followed.{EndsText, HasNoRecord, HasRead, ReadsLine, StopsAt}
-use Rattle.snap_follow.specs.inside.Courses.{BeginsWithEnd, EndsBytes, HasFollowed, HasNothing, IsTooLong, StopsIn, TakesBytes, TakesLast}
+use Rattle.snap_follow.specs.inside.Courses.{BeginsWithEnd, EndsBytes, HasFollowed, HasJudged, HasNothing, IsTooLong, StopsIn, TakesBytes, TakesLast, TakesLine}
 
 -- nothing
 pub takes_nothing : (c : Course) → TakesBytes c c []
@@ -26,10 +27,10 @@ takes_both a b c x y first second least most texts bytes events h =
     (one.0 ++ two.0, subst (λ z. HasFollowed c least most texts z (events ++ (one.0 ++ two.0))) (append_assoc bytes x y) (subst (HasFollowed c least most texts ((bytes ++ x) ++ y)) (append_assoc events one.0 two.0) two.1))
 
 -- the end of a line: the rest and these bytes are the line
-pub takes_line : (c d : Course) (front : List ℕ) (end : ℕ) → HasNoEnd front → EndsLine end → d.rest.items ≡ [] → ReadsLine c.follow d.follow (c.rest.items ++ front) → TakesBytes c d (front ++ end ∷ [])
+pub takes_line : (c d : Course) (front : List ℕ) (end : ℕ) → HasNoEnd front → EndsLine end → d.rest.items ≡ [] → TakesLine c.follow d.follow (c.rest.items ++ front) → TakesBytes c d (front ++ end ∷ [])
 takes_line c d front end within ends none reads least most texts bytes events h =
     let line = c.rest.items ++ front in
-    let read = reads least most texts h.lines events h.read in (
+    let read = reads least most texts h.lines events h.read.0 in (
       read.0,
       record {
         lines = h.lines ++ line ∷ [];
@@ -69,7 +70,7 @@ takes_rest c d piece within rest same least most texts bytes events h = (
       spelled = ap (λ z. z ++ piece) h.cut.spelled ∙ append_assoc (flat_map (λ l. l.line ++ l.end ∷ []) h.cut.each) c.rest.items piece;
       unended = All-append (λ b. ¬ EndsLine b) c.rest.items piece h.cut.unended within;
     });
-    read = subst (λ z. HasRead z least most texts h.lines (events ++ [])) (sym same) (subst (HasRead c.follow least most texts h.lines) (sym (append-nil events)) h.read);
+    read = subst (λ z. HasJudged z least most texts h.lines (events ++ [])) (sym same) (subst (HasJudged c.follow least most texts h.lines) (sym (append-nil events)) h.read);
   },
 )
 
@@ -89,7 +90,7 @@ cut_at k bytes high = sym (take-append-drop k bytes) ∙ ap (λ rest. take k byt
 
 -- of a piece one line more was taken, up to its end
 pub line_more : (c d e : Course) (piece front left : List ℕ) (k : ℕ) → piece ≡ front ++ left → TakesBytes c d front → IsFirstByte (is_byte2 10 13) left (Some k) →
-    e.rest.items ≡ [] → ReadsLine d.follow e.follow (d.rest.items ++ take k left) → (more : List ℕ) × (piece ≡ more ++ drop (k + 1) left) × TakesBytes c e more
+    e.rest.items ≡ [] → TakesLine d.follow e.follow (d.rest.items ++ take k left) → (more : List ℕ) × (piece ≡ more ++ drop (k + 1) left) × TakesBytes c e more
 line_more c d e piece front left k parts taken found none reads =
     let end = get_or left k 0 in
     let line = take k left ++ end ∷ [] in (
@@ -133,40 +134,58 @@ rest_stops c d piece front left parts taken found long = record {
   stops = inl long;
 }
 
--- a line was read, and nothing changed behind it
-pub read_then : (f g h : Follow) (line : List ℕ) → ReadsLine f g line → ((least most : ℕ) (texts : List (List (List ℕ))) (lines : List (List ℕ)) (events : List Event) → HasRead g least most texts lines events → HasRead h least most texts lines events) → ReadsLine f h line
-read_then f g h line reads same least most texts lines events r =
+-- a line was read, and a window ended behind it
+pub cut_then : (f g h : Follow) (line : List ℕ) → ReadsLine f g line →
+    ((least most : ℕ) (texts : List (List (List ℕ))) (lines : List (List ℕ)) (events : List Event) → HasRead g least most texts lines events → (n : HasRead h least most texts lines events) × (n.since ≡ [])) → TakesLine f h line
+cut_then f g h line reads ends least most texts lines events r =
     let read = reads least most texts lines events r in
-    (read.0, same least most texts (lines ++ line ∷ []) (events ++ read.0) read.1)
+    let next = ends least most texts (lines ++ line ∷ []) (events ++ read.0) read.1 in
+    (read.0, (next.0, λ quiet. inr next.1))
+
+-- or none could end there
+pub none_then : (f g h : Follow) (line : List ℕ) → ReadsLine f g line → h ≡ g →
+    ((least most : ℕ) (texts : List (List (List ℕ))) (lines : List (List ℕ)) (events : List Event) (r : HasRead g least most texts lines events) → IsQuiet events → length r.since < least) → TakesLine f h line
+none_then f g h line reads same short = subst (λ z. TakesLine f z line) (sym same) (λ least most texts lines events r.
+    let read = reads least most texts lines events r in
+    (read.0, (read.1, λ quiet. inl (short least most texts (lines ++ line ∷ []) (events ++ read.0) read.1 quiet))))
 
 -- the bytes have ended, behind the end of a line or within one
 pub last_none : (c : Course) → c.rest.items ≡ [] → TakesLast c c
-last_none c none least most texts bytes events h = (h.lines, [], record { ended = h.lines; rest = c.rest.items; cut = h.cut; all = inl (none, refl) }, subst (HasRead c.follow least most texts h.lines) (sym (append-nil events)) h.read)
+last_none c none least most texts bytes events h = (h.lines, [], record { ended = h.lines; rest = c.rest.items; cut = h.cut; all = inl (none, refl) }, subst (HasJudged c.follow least most texts h.lines) (sym (append-nil events)) h.read)
 
-pub last_line : (c d : Course) → (c.rest.items ≡ [] → ⊥) → ReadsLine c.follow d.follow c.rest.items → TakesLast c d
+pub last_line : (c d : Course) → (c.rest.items ≡ [] → ⊥) → TakesLine c.follow d.follow c.rest.items → TakesLast c d
 last_line c d some reads least most texts bytes events h =
-    let read = reads least most texts h.lines events h.read in
+    let read = reads least most texts h.lines events h.read.0 in
     (h.lines ++ c.rest.items ∷ [], read.0, record { ended = h.lines; rest = c.rest.items; cut = h.cut; all = inr (some, refl) }, read.1)
 
 -- the text has no record to its end
 pub no_record : (c d : Course) → TakesLast c d → HasNoRecord d.follow → HasNothing c
 no_record c d last none least most texts bytes events h =
     let all = last least most texts bytes events h in
-    (all.0, all.2, none least most texts all.0 (events ++ all.1) all.3)
+    (all.0, all.2, none least most texts all.0 (events ++ all.1) all.3.0)
+
+-- no bytes have no lines
+no_lines : (c : Course) → c.rest.items ≡ [] → AreLinesOf [] [] c.rest.items
+no_lines c none = subst (AreLinesOf [] []) (sym none) (record { each = []; lines_are = refl; spelled = refl; unended = λ k d l. absurd (omega (arith, l)) })
 
 -- a text has ended, and the next one begins
 pub text_done : (c d e : Course) → TakesLast c d → EndsText d.follow e.follow → e.rest.items ≡ [] → EndsBytes c e
 text_done c d e last ends none least most texts bytes events h =
-    let all = last least most texts bytes events h in (
+    let all = last least most texts bytes events h in
+    let next = ends least most texts all.0 (events ++ all.1) all.3.0 in (
       all.0,
       all.1,
       all.2,
-      record {
-        lines = [];
-        cut = subst (AreLinesOf [] []) (sym none) (record { each = []; lines_are = refl; spelled = refl; unended = λ k d l. absurd (omega (arith, l)) });
-        read = ends least most texts all.0 (events ++ all.1) all.3;
-      },
+      record { lines = []; cut = no_lines e none; read = (next.0, λ quiet. subst (λ z. (length z < least) ⊎ (z ≡ [])) (sym next.1) (all.3.1 quiet)) },
     )
+
+-- a recording of which nothing was read
+nothing_since : (before since : List Event) → [] ≡ before ++ since → since ≡ []
+nothing_since [] since none = sym none
+nothing_since (x ∷ before) since none = absurd (omega (arith, ap length none))
+
+pub none_followed : (c : Course) (least most : ℕ) → c.rest.items ≡ [] → HasRead c.follow least most [] [] [] → HasFollowed c least most [] [] []
+none_followed c least most none read = record { lines = []; cut = no_lines c none; read = (read, λ quiet. inr (nothing_since read.before read.since read.windows)) }
 
 -- an answer of which one thing is so is one of which another is so
 pub if_ok_then : {X E : Type 0} (r : Result X E) (P Q : X → Type 0) → IfOk r P → ((x : X) → P x → Q x) → IfOk r Q

@@ -1,5 +1,5 @@
 -- What the lines of a recording say.
-use Rattle.std.specs.Prelude.{⊤, ℕ, true, false, not, List, [], ◌∷◌, ◌++◌, ◌-◌, ◌≡◌, ◌⊎◌, ◌↔◌, ◌≤◌, Ok, count_by, map, flat_map, length}
+use Rattle.std.specs.Prelude.{⊤, ℕ, true, false, not, List, [], ◌∷◌, ◌++◌, ◌-◌, ◌≡◌, ◌⊎◌, ◌↔◌, ◌≤◌, ◌<◌, Ok, count_by, map, flat_map, length}
 use Rattle.snap_core.specs.declared.event.Event.{Event}
 use Rattle.snap_core.specs.Calls.{calls_of}
 use Rattle.snap_core.specs.Events.{IsHistory}
@@ -13,6 +13,7 @@ use Rattle.snap_follow.specs.declared.follow.Ended.{Ended}
 use Rattle.snap_follow.specs.declared.follow.Ended.TheVariants.{Refused, Memory}
 use Rattle.snap_follow.specs.declared.follow.Follow.{Follow}
 use Rattle.snap_text.specs.declared.fault.TextFault.TheVariants.{TooMany}
+use Rattle.snap_theory.specs.Windows.{IsQuiet}
 use Rattle.snap_windows.specs.Taken.{HasTaken}
 use Rattle.snap_windows.specs.declared.judge.WindowJudge.{WindowJudge}
 
@@ -85,9 +86,14 @@ StopsAt follow line = (least most : ℕ) (texts : List (List (List ℕ))) (lines
 abbrev pub HasNoRecord : Follow → Type 0
 HasNoRecord follow = (least most : ℕ) (texts : List (List (List ℕ))) (lines : List (List ℕ)) (events : List Event) → HasRead follow least most texts lines events → flat_map rows_of lines ≡ []
 
--- the text at hand has ended, and the next one begins
+-- no window is overdue: where no call is open behind these events, the window at hand has fewer than `least` of them, or none
+abbrev pub IsInTime : ℕ → List Event → List Event → Type 0
+IsInTime least events since = IsQuiet events → (length since < least) ⊎ (since ≡ [])
+
+-- the text at hand has ended, and the next one begins, in the same window
 abbrev pub EndsText : Follow → Follow → Type 0
-EndsText old new = (least most : ℕ) (texts : List (List (List ℕ))) (lines : List (List ℕ)) (events : List Event) → HasRead old least most texts lines events → HasRead new least most (texts ++ lines ∷ []) [] events
+EndsText old new = (least most : ℕ) (texts : List (List (List ℕ))) (lines : List (List ℕ)) (events : List Event) (h : HasRead old least most texts lines events) →
+    (n : HasRead new least most (texts ++ lines ∷ []) [] events) × (n.since ≡ h.since)
 
 -- the exit status of a recording of these events
 pub record IsStatusOf (events : List Event) (code : ℕ) : Type 0 where

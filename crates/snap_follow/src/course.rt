@@ -1,8 +1,8 @@
 //! The course of a recording that is followed: its bytes are cut into lines, and its windows are answered.
 ghost use Rattle.std.specs.Prelude.{◌≡◌, ◌⊎◌, ◌++◌, [], ℕ, List, false, true, IfOk, OnOk};
 ghost use Rattle.snap_core.specs.declared.event.Event.{Event};
-ghost use Rattle.snap_follow.specs.Followed.{HasRead, IsStatusOf, ReadsLine, StopsAt};
-ghost use Rattle.snap_follow.specs.inside.Courses.{EndsBytes, HasFollowed, IsTooLong, StopsIn, StopsLast, TakesBytes, TakesLast};
+ghost use Rattle.snap_follow.specs.Followed.{HasRead, IsStatusOf, StopsAt};
+ghost use Rattle.snap_follow.specs.inside.Courses.{EndsBytes, HasFollowed, IsTooLong, StopsIn, StopsLast, TakesBytes, TakesLast, TakesLine};
 ghost use Rattle.snap_follow.specs.inside.Refusals.{IsRefusal};
 
 use crate::answers::Answers;
@@ -57,7 +57,7 @@ impl Course {
     // Takes a line, and ends a window where one may end there. Whether the recording is followed further.
     fn take_line(&mut self, alloc: Global, line: &[u8]) -> Result<bool, AllocError>
         ensures rest { self.new.rest ≡ self.old.rest }
-        ensures read { IfOk result (λ goes_on. goes_on ≡ true → ReadsLine self.old.follow self.new.follow line.now) }
+        ensures read { IfOk result (λ goes_on. goes_on ≡ true → TakesLine self.old.follow self.new.follow line.now) }
         ensures refused { IfOk result (λ goes_on. goes_on ≡ false → StopsAt self.old.follow line.now) }
     {
         if let Err(ended) = self.follow.take_line(alloc, line) {
@@ -73,7 +73,7 @@ impl Course {
     // Takes the rest as a line. Whether the recording is followed further.
     fn take_rest(&mut self, alloc: Global) -> Result<bool, AllocError>
         ensures rest { self.new.rest.items ≡ [] }
-        ensures read { IfOk result (λ goes_on. goes_on ≡ true → ReadsLine self.old.follow self.new.follow self.old.rest.items) }
+        ensures read { IfOk result (λ goes_on. goes_on ≡ true → TakesLine self.old.follow self.new.follow self.old.rest.items) }
         ensures refused { IfOk result (λ goes_on. goes_on ≡ false → StopsAt self.old.follow self.old.rest.items) }
     {
         let line = mem::replace(&mut self.rest, Vec::new(alloc));
@@ -108,7 +108,7 @@ impl Course {
     // Takes the line that begins with the rest and ends with these bytes. Whether the recording is followed further.
     fn take_joined(&mut self, alloc: Global, bytes: &[u8]) -> Result<bool, AllocError>
         ensures rest { IfOk result (λ goes_on. goes_on ≡ true → self.new.rest.items ≡ []) }
-        ensures read { IfOk result (λ goes_on. goes_on ≡ true → ReadsLine self.old.follow self.new.follow (self.old.rest.items ++ bytes.now)) }
+        ensures read { IfOk result (λ goes_on. goes_on ≡ true → TakesLine self.old.follow self.new.follow (self.old.rest.items ++ bytes.now)) }
         ensures refused { IfOk result (λ goes_on. goes_on ≡ false → IsTooLong (self.old.rest.items ++ bytes.now) ⊎ StopsAt self.old.follow (self.old.rest.items ++ bytes.now)) }
     {
         if self.rest.is_empty() {

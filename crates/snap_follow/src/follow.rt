@@ -262,7 +262,7 @@ impl Follow {
         ensures same { OnOk result ((least most : ℕ) (texts : List (List (List ℕ))) (lines : List (List ℕ)) (events : List Event) → HasRead self.old least most texts lines events → HasRead self.new least most texts lines events) }
         ensures window { IfOk result (λ found. IfSome found (λ window. (least most : ℕ) (texts : List (List (List ℕ))) (lines : List (List ℕ)) (events : List Event) (h : HasRead self.old least most texts lines events) → IsVerdict window.verdict h.before h.since)) }
         ensures enough { IfOk result (λ found. IfSome found (λ window. (least most : ℕ) (texts : List (List (List ℕ))) (lines : List (List ℕ)) (events : List Event) (h : HasRead self.old least most texts lines events) → least ≤ length h.since)) }
-        ensures begun { IfOk result (λ found. IfSome found (λ window. (least most : ℕ) (texts : List (List (List ℕ))) (lines : List (List ℕ)) (events : List Event) → HasRead self.old least most texts lines events → HasTaken self.new.judge events [])) }
+        ensures begun { IfOk result (λ found. IfSome found (λ window. (least most : ℕ) (texts : List (List (List ℕ))) (lines : List (List ℕ)) (events : List Event) → HasRead self.old least most texts lines events → (n : HasRead self.new least most texts lines events) × (n.since ≡ []))) }
         ensures kept { IfOk result (λ found. IfNone found (self.new ≡ self.old)) }
         ensures ends { IfOk result (λ found. IfNone found ((least most : ℕ) (texts : List (List (List ℕ))) (lines : List (List ℕ)) (events : List Event) (h : HasRead self.old least most texts lines events) → IsQuiet events → length h.since < least)) }
     {

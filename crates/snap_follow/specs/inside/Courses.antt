@@ -2,16 +2,26 @@
 use Rattle.std.specs.Prelude.{◌≡◌, ◌<◌, ◌++◌, ◌⊎◌, ℕ, List, [], ◌∷◌, flat_map, length}
 use Rattle.snap_core.specs.declared.event.Event.{Event}
 use Rattle.snap_follow.specs.declared.course.Course.{Course}
+use Rattle.snap_follow.specs.declared.follow.Follow.{Follow}
 use Rattle.snap_csv.specs.Rows.{rows_of}
 use Rattle.snap_follow.specs.Bytes.{AreAllLines, AreLinesOf, EndsLine, HasNoEnd}
-use Rattle.snap_follow.specs.Followed.{HasRead, StopsAt}
+use Rattle.snap_follow.specs.Followed.{HasRead, IsInTime, StopsAt}
 use Rattle.snap_follow.specs.declared.course.TheConstants.{RECORD_LIMIT}
+
+-- some lines of a recording were read, and each window has ended in time
+abbrev pub HasJudged : Follow → ℕ → ℕ → List (List (List ℕ)) → List (List ℕ) → List Event → Type 0
+HasJudged follow least most texts lines events = (read : HasRead follow least most texts lines events) × IsInTime least events read.since
+
+-- a line was taken
+abbrev pub TakesLine : Follow → Follow → List ℕ → Type 0
+TakesLine old new line = (least most : ℕ) (texts : List (List (List ℕ))) (lines : List (List ℕ)) (events : List Event) → HasRead old least most texts lines events →
+    (more : List Event) × HasJudged new least most texts (lines ++ line ∷ []) (events ++ more)
 
 -- a recording was followed so far: the lines of some whole texts, and of the bytes of the text at hand, say these events
 pub record HasFollowed (course : Course) (least most : ℕ) (texts : List (List (List ℕ))) (bytes : List ℕ) (events : List Event) : Type 0 where
   pub lines : List (List ℕ)
   pub cut : AreLinesOf bytes lines course.rest.items
-  pub read : HasRead course.follow least most texts lines events
+  pub read : HasJudged course.follow least most texts lines events
 
 -- bytes were taken
 abbrev pub TakesBytes : Course → Course → List ℕ → Type 0
@@ -21,7 +31,7 @@ TakesBytes old new piece = (least most : ℕ) (texts : List (List (List ℕ))) (
 -- the bytes of the text at hand have ended: all their lines were taken
 abbrev pub TakesLast : Course → Course → Type 0
 TakesLast old new = (least most : ℕ) (texts : List (List (List ℕ))) (bytes : List ℕ) (events : List Event) → HasFollowed old least most texts bytes events →
-    (lines : List (List ℕ)) × (more : List Event) × AreAllLines bytes lines × HasRead new.follow least most texts lines (events ++ more)
+    (lines : List (List ℕ)) × (more : List Event) × AreAllLines bytes lines × HasJudged new.follow least most texts lines (events ++ more)
 
 -- and the next text begins
 abbrev pub EndsBytes : Course → Course → Type 0

@@ -1,12 +1,13 @@
 use Rattle.std.proofs.Common.{◌≡◌, ◌++◌, true, sym, subst, inr}
 use Rattle.std.specs.Prelude.{IfOk}
-use Rattle.snap_follow.specs.Followed.{ReadsLine, StopsAt}
+use Rattle.snap_follow.specs.Followed.{StopsAt}
+use Rattle.snap_follow.specs.inside.Courses.{TakesLine}
 use Rattle.snap_follow.proofs.Taking.{if_ok_then, no_bytes}
 use Rattle.snap_follow.proofs.course.Course.take_joined.Goals as goal
 
 pub returns-then-is_empty-clause-read : goal.returns-then-is_empty-clause-read
 returns-then-is_empty-clause-read c =
-    subst (λ z. IfOk c.take_line.result (λ goes_on. goes_on ≡ true → ReadsLine c.args.self.now.follow c.take_line.new.self.follow (z ++ c.args.bytes.now))) (sym (no_bytes c.args.self.now.rest c.if-is_empty.ensures)) c.take_line.ensures.read
+    subst (λ z. IfOk c.take_line.result (λ goes_on. goes_on ≡ true → TakesLine c.args.self.now.follow c.take_line.new.self.follow (z ++ c.args.bytes.now))) (sym (no_bytes c.args.self.now.rest c.if-is_empty.ensures)) c.take_line.ensures.read
 
 pub returns-in_ok-take_rest-clause-read : goal.returns-in_ok-take_rest-clause-read
 returns-in_ok-take_rest-clause-read c = λ goes_on. rw (← c.in_ok-extend_from_slice.ensures.items, ← c.in_ok-check_length.ensures.same.0, ← c.in_ok-check_length.ensures.same.1) (c.in_ok-take_rest.ensures.read goes_on)
