@@ -10,7 +10,8 @@ use Rattle.std.proofs.lemmas.List.Elements.{All-push}
 use Rattle.std.proofs.lemmas.List.Sorted.{IsPermutation-map}
 use Rattle.snap_names.specs.Lists.{byte_lists}
 use Rattle.snap_names.specs.declared.folders.Entry.{Entry}
-use Rattle.snap_names.specs.Walks.{IsWalk, Visit, found_listed, found_of, inner_listed, inner_of}
+use Rattle.snap_names.specs.declared.walk.TheConstants.{FOLDER_LIMIT}
+use Rattle.snap_names.specs.Walks.{FindsMore, IsWalk, Visit, found_listed, found_of, inner_listed, inner_of}
 
 -- the first folders of those that wait were listed, and nothing else waits or is found
 pub record Walked (lists : List ℕ → Option (List Entry) → Type 0) (start : List ℕ) (at : ℕ) (waiting names : List (List ℕ)) : Type 0 where
@@ -52,4 +53,14 @@ walk_ends lists start at waiting names ordered all walked moved sorted = record 
   whole = walked.visited ∙ take_all at (byte_lists waiting) (omega (arith, length-map waiting (λ (name : Vec ℕ). name.items))) ∙ walked.whole;
   found = subst (λ xs. IsPermutation xs (byte_lists ordered)) walked.found (IsPermutation-map (λ name. name.items) names ordered moved);
   ordered = sorted;
+}
+
+-- as many folders as may be were listed, and one more waits
+pub walk_stops : (lists : List ℕ → Option (List Entry) → Type 0) (start : List ℕ) (at : ℕ) (waiting : List (Vec ℕ)) (names : List (List ℕ)) → at < length waiting → at ≡ FOLDER_LIMIT
+    → Walked lists start at (byte_lists waiting) names → FindsMore lists start
+walk_stops lists start at waiting names more full walked = record {
+  visits = walked.visits;
+  listed = walked.listed;
+  first = walked.visited ∙ ap (λ z. take z (byte_lists waiting)) full ∙ ap (take FOLDER_LIMIT) walked.whole;
+  more = omega (arith, more, full, length-map waiting (λ (name : Vec ℕ). name.items), ap length walked.whole);
 }

@@ -1,13 +1,16 @@
 -- What stands below a folder.
-use Rattle.std.specs.Prelude.{◌≡◌, ◌==◌, ◌++◌, ℕ, Bool, true, false, if◌then◌else◌, List, [], ◌∷◌, All, Option, Some, None, IsPermutation, IsSorted, codes, flat_map, map}
+use Rattle.std.specs.Prelude.{◌≡◌, ◌==◌, ◌<◌, ◌++◌, ℕ, Bool, true, false, if◌then◌else◌, List, [], ◌∷◌, All, Option, Some, None, IsPermutation, IsSorted, codes, flat_map, length, map, take}
 use Rattle.std.specs.Global.{Vec}
 use Rattle.std.specs.List.{ends_with}
 use Rattle.std.specs.Cmp.Lexicographic.{slice_cmp}
 use Rattle.std.specs.Ordering.{nat_cmp}
 use Rattle.snap_names.specs.Lists.{byte_lists}
+use Rattle.snap_names.specs.declared.fault.NamesFault.{NamesFault}
+use Rattle.snap_names.specs.declared.fault.NamesFault.TheVariants.{Unread, TooLong, Empty, TooManyFolders, Memory}
 use Rattle.snap_names.specs.declared.folders.Entry.{Entry}
 use Rattle.snap_names.specs.declared.folders.Kind.{Kind}
 use Rattle.snap_names.specs.declared.folders.Kind.TheVariants.{Folder, Link, File, Other, Unknown}
+use Rattle.snap_names.specs.declared.walk.TheConstants.{FOLDER_LIMIT}
 
 -- the path of what stands in a folder under a name
 abbrev pub path_in : List ℕ → List ℕ → List ℕ
@@ -71,3 +74,18 @@ pub record IsWalk (lists : List ℕ → Option (List Entry) → Type 0) (start :
   pub whole : map (λ visit. visit.folder) visits ≡ start ∷ flat_map inner_of visits
   pub found : IsPermutation (flat_map found_of visits) (byte_lists names)
   pub ordered : IsSorted (λ a b. slice_cmp nat_cmp a.items b.items) names
+
+-- a walk finds more folders than are listed: so many were listed, the first one and those found in another, and more were found
+pub record FindsMore (lists : List ℕ → Option (List Entry) → Type 0) (start : List ℕ) : Type 0 where
+  pub visits : List Visit
+  pub listed : All (λ visit. lists visit.folder visit.entries) visits
+  pub first : map (λ visit. visit.folder) visits ≡ take FOLDER_LIMIT (start ∷ flat_map inner_of visits)
+  pub more : FOLDER_LIMIT < length (start ∷ flat_map inner_of visits)
+
+-- why a walk gives no names: it finds too many folders, or memory ran out
+abbrev pub EndsWalk : (List ℕ → Option (List Entry) → Type 0) → List ℕ → NamesFault → Type 0
+EndsWalk lists start TooManyFolders = FindsMore lists start
+EndsWalk lists start Memory = Unit {0}
+EndsWalk lists start Unread = ⊥
+EndsWalk lists start TooLong = ⊥
+EndsWalk lists start (Empty number) = ⊥

@@ -1,7 +1,7 @@
 //! The recordings below a folder.
-ghost use Rattle.std.specs.Prelude.{◌≡◌, ◌<◌, ◌++◌, [], IfOk, OnOk, flat_map, length, option_map, slice_index_or};
+ghost use Rattle.std.specs.Prelude.{◌≡◌, ◌<◌, ◌++◌, [], IfErr, IfOk, OnOk, flat_map, length, option_map, slice_index_or};
 ghost use Rattle.snap_names.specs.Lists.{byte_lists};
-ghost use Rattle.snap_names.specs.Walks.{IsWalk, found_in, found_listed, inner_in, inner_listed, is_taken, path_in};
+ghost use Rattle.snap_names.specs.Walks.{EndsWalk, IsWalk, found_in, found_listed, inner_in, inner_listed, is_taken, path_in};
 
 use crate::fault::NamesFault;
 use crate::folders::{Entry, Folders, Kind};
@@ -84,13 +84,14 @@ fn copy_at(alloc: Global, names: &[Vec<u8>], at: usize) -> Result<Vec<u8>, Alloc
 }
 
 /// The names of the recordings below a folder, in the order of their bytes. A folder that can't be listed stands among them itself, so
-/// that a check says why. A link to a folder is not followed.
+/// that a check says why. A link to a folder is not followed. Only more folders than `FOLDER_LIMIT` are refused.
 pub fn names_below<F: Folders>(
     alloc: Global,
     folders: &F,
     start: &[u8],
 ) -> Result<Vec<Vec<u8>>, NamesFault>
-    ensures { IfOk result (λ names. IsWalk (F.lists folders.now) start.now names.items) }
+    ensures walk { IfOk result (λ names. IsWalk (F.lists folders.now) start.now names.items) }
+    ensures refused { IfErr result (λ why. EndsWalk (F.lists folders.now) start.now why) }
 {
     let mut waiting = Vec::new(alloc);
     let mut names = Vec::new(alloc);

@@ -8,7 +8,7 @@ use Rattle.snap_follow.specs.Bytes.{AreAllLines, AreLinesOf, EndsLine, HasNoEnd}
 use Rattle.snap_follow.specs.Followed.{HasRead, IsInTime, StopsAt}
 use Rattle.snap_follow.specs.declared.course.TheConstants.{RECORD_LIMIT}
 
--- some lines of a recording were read, and each window has ended in time
+-- some lines of a recording were read, and no window is overdue
 abbrev pub HasJudged : Follow → ℕ → ℕ → List (List (List ℕ)) → List (List ℕ) → List Event → Type 0
 HasJudged follow least most texts lines events = (read : HasRead follow least most texts lines events) × IsInTime least events read.since
 
