@@ -123,7 +123,8 @@ expect "a list for another command" 5 "" ./second shrink --files-from list
 expect "a list of recordings to follow" 5 "" ./second check --follow --files-from list
 expect_said "the reason" "error: the argument '--follow' cannot be used with '--files-from <LIST>'"
 expect "a folder of recordings to follow" 5 "" ./second check -r . --follow
-expect_said "the reason" "error: the argument '--follow' cannot be used with '--recursive <FOLDER>'"
+expect_said "the reason" "error: the argument '--follow' cannot be used with '--recursive <FOLDER>'
+  tip: '--follow FOLDER' follows all recordings below a folder"
 expect "two recordings to follow" 5 "" ./second check old.csv --follow -
 expect_said "the reason" "error: --follow takes one recording"
 

@@ -192,6 +192,7 @@ tells() {
 }
 for words in --help -h help; do
   tells "$words" "snapjudge check first.csv second.csv"
+  tells "$words" "snapjudge check --follow --idle 60 grows.csv"
   tells "$words" "snapjudge --version"
 done
 tells "check --help" "snapjudge check [OPTIONS] [FILE]..."

@@ -131,6 +131,9 @@ fn check_takes_what_is_shown(rt: HostRuntime) -> Result<(), Fail> {
 const FOLLOWED: &[(&str, bool, u32, u32)] = &[
     ("snapjudge check", false, 1000, 0),
     ("snapjudge check --follow", true, 1000, 0),
+    ("snapjudge check --follow --events 1999", true, 1000, 0),
+    ("snapjudge check --events 500 --follow", true, 250, 0),
+    ("snapjudge check --follow --events 1", true, 1, 0),
     (
         "snapjudge check --window 1 --follow --idle=4294967295",
         true,
@@ -144,12 +147,11 @@ const FOLLOWED: &[(&str, bool, u32, u32)] = &[
         5,
     ),
     (
-        "snapjudge check --events 7 --window 1048576",
-        false,
+        "snapjudge check --events 1048576 --window 1048576 --follow",
+        true,
         1048576,
         0,
     ),
-    ("snapjudge check --idle 3 --quiet", false, 1000, 3),
 ];
 
 // How a check that a line asks for goes by windows.

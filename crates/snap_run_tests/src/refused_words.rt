@@ -126,7 +126,7 @@ const BEYOND: &[(&str, &str)] = &[
         "error: invalid value '4' for '--views <N>': 4 is not in 0..=3\n\nFor more information, try '--help'.\n",
     ),
     (
-        "snapjudge check --follow --events 999",
+        "snapjudge check --follow --events 999 --window 1000",
         "error: invalid value '1000' for '--window <N>': 1000 is not in 1..=999\n\nFor more information, try '--help'.\n",
     ),
     (
@@ -148,7 +148,7 @@ fn a_number_beyond_the_limit_of_events_is_refused_as_the_parser_does(
     Ok(())
 }
 
-// Lines with forms of answer that do not go together, and what is said of them.
+// Lines with options that do not go together, or with one that needs another, and what is said of them.
 const TOGETHER: &[(&str, &str)] = &[
     (
         "snapjudge check --quiet --format json",
@@ -170,10 +170,18 @@ const TOGETHER: &[(&str, &str)] = &[
         "snapjudge check --summary --follow",
         "error: the argument '--follow' cannot be used with '--summary'\n",
     ),
+    (
+        "snapjudge check --window 1000 --quiet",
+        "error: the argument '--window <N>' needs '--follow'\n",
+    ),
+    (
+        "snapjudge check --idle=0",
+        "error: the argument '--idle <SECONDS>' needs '--follow'\n",
+    ),
 ];
 
 #[test]
-fn forms_of_answer_do_not_go_together(rt: HostRuntime) -> Result<(), Fail> {
+fn options_go_together(rt: HostRuntime) -> Result<(), Fail> {
     for (line, text) in TOGETHER {
         match job_of(rt.alloc(), words(rt.alloc(), line)?) {
             Err(JobFault::Usage(said)) => assert_eq!(rt; said.as_str(), *text),

@@ -44,13 +44,13 @@ summary_rule = record (new_rule (codes "summary")) { long = Some (codes "summary
 abbrev pub follow_rule : Rule
 follow_rule = record (new_rule (codes "follow")) { long = Some (codes "follow"); action = Some SetTrue }
 
--- --window N, 1000 where it is not given
+-- --window N
 abbrev pub window_rule : Rule
-window_rule = record (new_rule (codes "window")) { long = Some (codes "window"); value_names = 1; parser = Some (Signed (pos 1) (pos event_cap)); defaults = codes "1000" ∷ [] }
+window_rule = record (new_rule (codes "window")) { long = Some (codes "window"); value_names = 1; parser = Some (Signed (pos 1) (pos event_cap)) }
 
--- --idle SECONDS, 0 where it is not given; any number of 32 bits is taken here
+-- --idle SECONDS; any number of 32 bits is taken here
 abbrev pub idle_rule : Rule
-idle_rule = record (new_rule (codes "idle")) { long = Some (codes "idle"); value_names = 1; parser = Some (Signed (pos 0) (pos NUMBER_LIMIT)); defaults = codes "0" ∷ [] }
+idle_rule = record (new_rule (codes "idle")) { long = Some (codes "idle"); value_names = 1; parser = Some (Signed (pos 0) (pos NUMBER_LIMIT)) }
 
 -- --no-progress
 abbrev pub no_progress_rule : Rule

@@ -1,5 +1,5 @@
 -- What the words of a command line ask for.
-use Rattle.std.specs.Prelude.{◌≡◌, ◌*◌, ◌<◌, ◌≤◌, ℕ, Bool, true, false, List, [], Option, Some, None, codes, decimal, map, string_bytes}
+use Rattle.std.specs.Prelude.{◌≡◌, ◌-◌, ◌*◌, ◌/◌, ◌<◌, ◌≤◌, ◌||◌, min, ℕ, Bool, true, false, List, [], Option, Some, None, codes, decimal, is_some, map, string_bytes}
 use Rattle.clap.specs.Words.{Row, Text, all_of, first_of, one_of}
 use Rattle.snap_core.specs.Limits.{IsLimit, event_limit}
 use Rattle.snap_record.specs.Plans.{AreWorkers, AreRounds, worker_limit}
@@ -127,8 +127,27 @@ color_text Auto = codes "auto"
 color_text Always = codes "always"
 color_text Never = codes "never"
 
+-- the number of events from which on a window ends where --window is not given: 1000, or half of those that a history may have, if
+-- that is less
+abbrev pub usual_window : ℕ → ℕ
+usual_window events = min 1000 (events - events / 2)
+
+-- an option with this text, or without one, says this number, or the usual one
+abbrev pub SaysOr : ℕ → Option Text → ℕ → Type 0
+SaysOr usual None n = n ≡ usual
+SaysOr usual (Some text) n = text ≡ decimal n
+
+-- whether --window or --idle is given
+abbrev pub names_windows : List Row → Bool
+names_windows rows = is_some (first_of (codes "window") rows) || is_some (first_of (codes "idle") rows)
+
+-- --window or --idle is given, and --follow is not: that asks for no job
+pub record LacksFollow (rows : List Row) : Type 0 where
+  pub no_follow : one_of (codes "follow") rows ≡ Some (flag_text false)
+  pub windows_named : names_windows rows ≡ true
+
 -- the options of `check` have these numbers, which are in their ranges, each flag is given or not, and the format and the colours
--- have their words; one form of answer is asked for
+-- have their words; one form of answer is asked for, and windows only where a recording is judged while it grows
 pub record AsksCheck (rows : List Row) (pieces : ℕ) (workers : ℕ) (options : Options) : Type 0 where
   pub pieces_fit : IsPieces pieces
   pub workers_fit : IsWorkers workers
@@ -137,6 +156,7 @@ pub record AsksCheck (rows : List Row) (pieces : ℕ) (workers : ℕ) (options :
   pub one_form : IsOneForm options
   pub window_fits : IsWindow options
   pub idle_fits : options.idle ≤ NUMBER_LIMIT
+  pub windows_follow : names_windows rows ≡ true → options.follow ≡ true
   pub pieces_are : one_of (codes "pieces") rows ≡ Some (decimal pieces)
   pub workers_are : one_of (codes "workers") rows ≡ Some (decimal workers)
   pub views_are : one_of (codes "views") rows ≡ Some (decimal options.views)
@@ -144,8 +164,8 @@ pub record AsksCheck (rows : List Row) (pieces : ℕ) (workers : ℕ) (options :
   pub format_is : first_of (codes "format") rows ≡ Some (format_text options.json)
   pub summary_is : one_of (codes "summary") rows ≡ Some (flag_text options.summary)
   pub follow_is : one_of (codes "follow") rows ≡ Some (flag_text options.follow)
-  pub window_is : one_of (codes "window") rows ≡ Some (decimal options.window)
-  pub idle_is : one_of (codes "idle") rows ≡ Some (decimal options.idle)
+  pub window_is : SaysOr (usual_window options.events) (one_of (codes "window") rows) options.window
+  pub idle_is : SaysOr 0 (one_of (codes "idle") rows) options.idle
   pub no_progress_is : one_of (codes "no-progress") rows ≡ Some (flag_text options.no_progress)
   pub color_is : first_of (codes "color") rows ≡ Some (color_text options.color)
 

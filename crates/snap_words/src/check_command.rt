@@ -81,7 +81,7 @@ const WORDS: &[Word<'static>] = &[
         id: "pieces",
         long: Some("pieces"),
         short: None,
-        takes: Takes::Number {
+        takes: Takes::NumberOr {
             name: "P",
             least: 1,
             most: PIECE_LIMIT as i64,
@@ -93,7 +93,7 @@ const WORDS: &[Word<'static>] = &[
         id: "workers",
         long: Some("workers"),
         short: None,
-        takes: Takes::Number {
+        takes: Takes::NumberOr {
             name: "W",
             least: 1,
             most: WORKER_LIMIT as i64,
@@ -133,7 +133,7 @@ const WORDS: &[Word<'static>] = &[
         id: "views",
         long: Some("views"),
         short: None,
-        takes: Takes::Number {
+        takes: Takes::NumberOr {
             name: "N",
             least: 0,
             most: NUMBER_LIMIT as i64,
@@ -174,9 +174,8 @@ const WORDS: &[Word<'static>] = &[
             name: "N",
             least: 1,
             most: EVENT_CAP as i64,
-            usual: "1000",
         },
-        help: "With --follow, end a window at the first moment without an open call from N events on",
+        help: "With --follow, end a window at the first moment without an open call from N events on: 1000, or half of --events if that is less",
     },
     Word {
         id: "idle",
@@ -186,9 +185,8 @@ const WORDS: &[Word<'static>] = &[
             name: "SECONDS",
             least: 0,
             most: NUMBER_LIMIT as i64,
-            usual: "0",
         },
-        help: "With --follow, end once nothing has come for so long; 0 waits for ever",
+        help: "With --follow, end once nothing has come for so long; else, and of 0, wait for ever",
     },
     Word {
         id: "no-progress",

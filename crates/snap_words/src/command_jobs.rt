@@ -1,15 +1,16 @@
 //! The job that each command asks for by its options.
-ghost use Rattle.std.specs.Prelude.{◌≡◌, ℕ, Bool, List, Some, IfSome, IsSomeAnd};
+ghost use Rattle.std.specs.Prelude.{◌≡◌, ℕ, Bool, List, Some, codes, IfSome, IsNone, IsSomeAnd};
 ghost use Rattle.clap.specs.Words.{Row, Text, found_of, rows_of, subcommand_rows_of};
 ghost use Rattle.snap_words.specs.Drawing.{AsksDrawWithin};
 ghost use Rattle.snap_words.specs.inside.Found.{FindsJob};
-ghost use Rattle.snap_words.specs.Jobs.{AsksCheck, AsksPictureWithin, AsksRecordWithin, Flags, IsCheckWith, IsDraw, IsExplain, IsInRange, IsRecord, IsShrink};
+ghost use Rattle.snap_words.specs.Jobs.{AsksCheck, AsksPictureWithin, AsksRecordWithin, Flags, IsCheckWith, IsDraw, IsExplain, IsInRange, IsRecord, IsShrink, LacksFollow};
 
 use crate::color::color_in;
 use crate::drawing::{Form, form_in};
 use crate::job::{Job, Options};
-use crate::option_values::{events_in, flag_in, json_in, number_in};
-use crate::ranges::{are_rounds, are_views, is_limit, is_one_form, is_window};
+use crate::option_values::{events_in, flag_in, json_in, number_in, number_or};
+use crate::ranges::{are_rounds, are_views, is_limit, is_one_form, is_window, window_for};
+use crate::refusals::follow_refusal;
 use clap::ArgMatches;
 use snap_record::{LEAST_WORKERS, WORKER_LIMIT};
 use snap_threads::Cutting;
@@ -24,8 +25,8 @@ fn options_in(matches: &ArgMatches<'_>) -> Option<Options>
     let json = json_in(matches)?;
     let summary = flag_in(matches, "summary");
     let follow = flag_in(matches, "follow");
-    let window = number_in(matches, "window")?;
-    let idle = number_in(matches, "idle")?;
+    let window = number_or(matches, "window", window_for(events));
+    let idle = number_or(matches, "idle", 0);
     let no_progress = flag_in(matches, "no-progress");
     let color = color_in(matches)?;
     Some(Options {
@@ -46,7 +47,11 @@ fn options_in(matches: &ArgMatches<'_>) -> Option<Options>
 fn check_in(matches: &ArgMatches<'_>) -> Option<Job>
     ensures job { IfSome result IsInRange }
     ensures asked { (pieces workers : ℕ) (options : Options) → AsksCheck (rows_of (found_of matches.now)) pieces workers options → IsSomeAnd result (IsCheckWith pieces workers options) }
+    ensures unfollowed { LacksFollow (rows_of (found_of matches.now)) → IsNone result }
 {
+    if follow_refusal(matches).is_some() {
+        return None;
+    }
     let pieces = number_in(matches, "pieces")?;
     let workers = number_in(matches, "workers")?;
     let options = options_in(matches)?;
@@ -121,6 +126,7 @@ fn explain_in(matches: &ArgMatches<'_>) -> Option<Job>
 pub(crate) fn job_in(matches: &ArgMatches<'_>) -> Option<Job>
     ensures job { IfSome result IsInRange }
     ensures asked { (command : Text) (rows : List Row) → subcommand_rows_of matches.now ≡ Some (command, rows) → FindsJob result command rows }
+    ensures unfollowed { (rows : List Row) → subcommand_rows_of matches.now ≡ Some (codes "check", rows) → LacksFollow rows → IsNone result }
 {
     let (name, inner) = matches.subcommand()?;
     if name == "check" {

@@ -243,7 +243,9 @@ fn following_refusal(job: &Job, files: &[Vec<u8>], places: &Places) -> Option<&'
     } else if places.list.is_some() {
         Some("error: the argument '--follow' cannot be used with '--files-from <LIST>'\n")
     } else if places.folder.is_some() {
-        Some("error: the argument '--follow' cannot be used with '--recursive <FOLDER>'\n")
+        Some(
+            "error: the argument '--follow' cannot be used with '--recursive <FOLDER>'\n  tip: '--follow FOLDER' follows all recordings below a folder\n",
+        )
     } else if files.len() > 1 {
         Some("error: --follow takes one recording\n")
     } else {

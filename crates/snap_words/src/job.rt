@@ -1,8 +1,8 @@
 //! The jobs, and the one that the words of a command line ask for.
-ghost use Rattle.std.specs.Prelude.{◌≡◌, ℕ, Bool, List, Option, Some, codes, IfOk, MatchResult, map, string_bytes};
+ghost use Rattle.std.specs.Prelude.{◌≡◌, ℕ, Bool, List, Option, Some, codes, IfOk, IsErr, MatchResult, map, string_bytes};
 ghost use Rattle.clap.specs.Words.{Row, Text, kind_of, subcommand_rows_of};
 ghost use Rattle.snap_words.specs.Drawing.{AsksDrawWithin};
-ghost use Rattle.snap_words.specs.Jobs.{AsksCheck, AsksPictureWithin, AsksRecordWithin, Flags, IsCheckWith, IsDraw, IsExplain, IsInRange, IsOn, IsRecord, IsShrink};
+ghost use Rattle.snap_words.specs.Jobs.{AsksCheck, AsksPictureWithin, AsksRecordWithin, Flags, IsCheckWith, IsDraw, IsExplain, IsInRange, IsOn, IsRecord, IsShrink, LacksFollow};
 ghost use Rattle.snap_words.specs.inside.Found.{FindsAsked};
 ghost use Rattle.snap_words.specs.Lines.{Means};
 ghost use Rattle.snap_words.specs.Sources.{AreSources, NamesSources};
@@ -34,7 +34,7 @@ pub struct Options {
     pub summary: bool,
     /// One recording is judged while it grows, window by window; not with `quiet`, `json` or `summary`.
     pub follow: bool,
-    /// With `follow`: a window ends at the first moment without an open call from so many events on, 1 to `EVENT_CAP`.
+    /// With `follow`: a window ends at the first moment without an open call from so many events on, 1 to `events`.
     pub window: u32,
     /// With `follow`: seconds without anything new after which it ends; 0 for none.
     pub idle: u32,
@@ -123,6 +123,7 @@ fn fault_of(alloc: Global, error: &Error) -> JobFault
 fn asked_by(alloc: Global, matches: &ArgMatches<'_>) -> Result<Asked, JobFault>
     ensures job { IfOk result (λ asked. IsInRange asked.job) }
     ensures asked { (command : Text) (rows : List Row) → subcommand_rows_of matches.now ≡ Some (command, rows) → FindsAsked result command rows }
+    ensures unfollowed { (rows : List Row) → subcommand_rows_of matches.now ≡ Some (codes "check", rows) → LacksFollow rows → IsErr result }
 {
     match job_in(matches) {
         Some(job) => Ok(Asked {
@@ -141,6 +142,7 @@ pub fn job_of(alloc: Global, words: Vec<String>) -> Result<Asked, JobFault>
     ensures check { (pieces workers : ℕ) (options : Options) (files : List Text)
         → Means (map string_bytes words.items) (codes "check") (λ rows. AsksCheck rows pieces workers options) files
         → MatchResult result (IsOn files (IsCheckWith pieces workers options)) (λ fault. fault ≡ JobFault.Memory) }
+    ensures unfollowed { (files : List Text) → Means (map string_bytes words.items) (codes "check") LacksFollow files → IsErr result }
     ensures sources { (list folder : Option Text) (null : Bool) (files : List Text)
         → Means (map string_bytes words.items) (codes "check") (λ rows. NamesSources rows list null folder) files
         → IfOk result (λ asked. AreSources list null folder asked.sources) }

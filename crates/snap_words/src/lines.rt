@@ -2,13 +2,14 @@
 ghost use Rattle.std.specs.Prelude.{◌∷◌, [], Some, None, codes, false, true};
 ghost use Rattle.clap.specs.Words.{Text};
 ghost use Rattle.snap_words.specs.Drawing.{AsksDraw, AsksDrawWithin};
-ghost use Rattle.snap_words.specs.Jobs.{AsksCheck, AsksPicture, AsksPictureWithin, AsksRecord, AsksRecordWithin, no_flags, no_options};
+ghost use Rattle.snap_words.specs.Jobs.{AsksCheck, AsksPicture, AsksPictureWithin, AsksRecord, AsksRecordWithin, LacksFollow, no_flags, no_options};
 ghost use Rattle.snap_words.specs.Lines.{Means};
 ghost use Rattle.snap_words.specs.Sources.{NamesSources};
 ghost use Rattle.snap_words.specs.declared.color.Color.TheVariants.{Never};
 ghost use Rattle.snap_words.specs.declared.drawing.Form.TheVariants.{Lines, Page, Svg};
 
-/// What lines of `check` ask for: 8 pieces and 2 workers where nothing else is said, and what each option says.
+/// What lines of `check` ask for: 8 pieces and 2 workers where nothing else is said, and what each option says. A window alone asks
+/// for nothing.
 pub fn check_lines()
     ensures alone { (name : Text) → Means (name ∷ codes "check" ∷ []) (codes "check") (λ rows. AsksCheck rows 8 2 no_options) [] }
     ensures cut { (name : Text) → Means (name ∷ codes "check" ∷ codes "--pieces" ∷ codes "3" ∷ codes "--workers" ∷ codes "4" ∷ []) (codes "check") (λ rows. AsksCheck rows 3 4 no_options) [] }
@@ -17,6 +18,8 @@ pub fn check_lines()
     ensures json { (name : Text) → Means (name ∷ codes "check" ∷ codes "--format" ∷ codes "json" ∷ []) (codes "check") (λ rows. AsksCheck rows 8 2 (record no_options { json = true })) [] }
     ensures summary { (name : Text) → Means (name ∷ codes "check" ∷ codes "--summary" ∷ []) (codes "check") (λ rows. AsksCheck rows 8 2 (record no_options { summary = true })) [] }
     ensures follow { (name : Text) → Means (name ∷ codes "check" ∷ codes "--follow" ∷ codes "--window" ∷ codes "500" ∷ codes "--idle" ∷ codes "5" ∷ []) (codes "check") (λ rows. AsksCheck rows 8 2 (record no_options { follow = true; window = 500; idle = 5 })) [] }
+    ensures few { (name : Text) → Means (name ∷ codes "check" ∷ codes "--follow" ∷ codes "--events" ∷ codes "500" ∷ []) (codes "check") (λ rows. AsksCheck rows 8 2 (record no_options { events = 500; follow = true; window = 250 })) [] }
+    ensures unfollowed { (name : Text) → Means (name ∷ codes "check" ∷ codes "--window" ∷ codes "500" ∷ []) (codes "check") LacksFollow [] }
     ensures color { (name : Text) → Means (name ∷ codes "check" ∷ codes "--color" ∷ codes "never" ∷ []) (codes "check") (λ rows. AsksCheck rows 8 2 (record no_options { color = Never })) [] }
     ensures events { (name : Text) → Means (name ∷ codes "check" ∷ codes "--events" ∷ codes "1048576" ∷ []) (codes "check") (λ rows. AsksCheck rows 8 2 (record no_options { events = 1048576 })) [] }
     ensures files { (name : Text) → Means (name ∷ codes "check" ∷ codes "a.csv" ∷ codes "-" ∷ []) (codes "check") (λ rows. AsksCheck rows 8 2 no_options) (codes "a.csv" ∷ codes "-" ∷ []) }

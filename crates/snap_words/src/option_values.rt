@@ -1,8 +1,8 @@
 //! What the options of a command say.
-ghost use Rattle.std.specs.Prelude.{◌≡◌, ◌<◌, ◌^◌, ℕ, Bool, Some, None, false, codes, decimal, IfSome};
+ghost use Rattle.std.specs.Prelude.{◌≡◌, ◌<◌, ◌^◌, ℕ, Bool, Some, None, false, codes, decimal, is_some, IfSome};
 ghost use Rattle.clap.specs.Words.{first_of, found_of, one_of, rows_of};
 ghost use Rattle.snap_core.specs.Limits.{IsLimit};
-ghost use Rattle.snap_words.specs.Jobs.{AsksLimit, flag_text, format_text};
+ghost use Rattle.snap_words.specs.Jobs.{AsksLimit, SaysOr, flag_text, format_text};
 
 use crate::ranges::is_limit;
 use clap::ArgMatches;
@@ -13,6 +13,20 @@ pub(crate) fn number_in(matches: &ArgMatches<'_>, id: &str) -> Option<u32>
     ensures absent { one_of id.now (rows_of (found_of matches.now)) ≡ None → result ≡ None }
 {
     matches.get_one::<u32>(id)
+}
+
+/// The number that an option has, or the usual one if it was not given.
+pub(crate) fn number_or(matches: &ArgMatches<'_>, id: &str, usual: u32) -> u32
+    ensures { (n : ℕ) → n < 2 ^ 32 → SaysOr usual (one_of id.now (rows_of (found_of matches.now))) n → result ≡ n }
+{
+    number_in(matches, id).unwrap_or(usual)
+}
+
+/// Whether an option without a usual value was given.
+pub(crate) fn is_given(matches: &ArgMatches<'_>, id: &str) -> bool
+    ensures { result ≡ is_some (first_of id.now (rows_of (found_of matches.now))) }
+{
+    matches.get_str(id).is_some()
 }
 
 /// Whether a flag was given.

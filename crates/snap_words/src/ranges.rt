@@ -1,7 +1,7 @@
 //! Which numbers are in their ranges, and which options go together.
 ghost use Rattle.std.specs.Prelude.{◌≡◌, true};
 ghost use Rattle.snap_core.specs.Limits.{IsLimit};
-ghost use Rattle.snap_words.specs.Jobs.{AreRoundsWithin, AreViews, IsOneForm, IsWindow};
+ghost use Rattle.snap_words.specs.Jobs.{AreRoundsWithin, AreViews, IsOneForm, IsWindow, usual_window};
 
 use crate::job::Options;
 use snap_core::EVENT_CAP;
@@ -43,6 +43,13 @@ pub(crate) fn is_one_form(options: Options) -> bool
     } else {
         !(options.quiet && options.json)
     }
+}
+
+/// From how many events on windows end, where nothing is said of that: half of a history, or more, is left for them to end in.
+pub(crate) fn window_for(events: u32) -> u32
+    ensures { result ≡ usual_window events }
+{
+    (events - events / 2).min(1000)
 }
 
 /// Whether windows may end from so many events on.

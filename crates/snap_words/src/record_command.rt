@@ -53,7 +53,7 @@ const WORDS: &[Word<'static>] = &[
         id: "workers",
         long: Some("workers"),
         short: None,
-        takes: Takes::Number {
+        takes: Takes::NumberOr {
             name: "W",
             least: LEAST_WORKERS as i64,
             most: WORKER_LIMIT as i64,
@@ -65,7 +65,7 @@ const WORDS: &[Word<'static>] = &[
         id: "rounds",
         long: Some("rounds"),
         short: None,
-        takes: Takes::Number {
+        takes: Takes::NumberOr {
             name: "R",
             least: 0,
             most: NUMBER_LIMIT as i64,

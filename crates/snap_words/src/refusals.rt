@@ -1,6 +1,11 @@
 //! What is said of words that the parser takes, and that ask for no job.
+ghost use Rattle.std.specs.Prelude.{ℕ, IsNone, IsSome};
+ghost use Rattle.clap.specs.Words.{found_of, rows_of};
+ghost use Rattle.snap_words.specs.Jobs.{AsksCheck, LacksFollow};
+ghost use Rattle.snap_words.specs.declared.job.Options.{Options};
+
 use crate::color::color_in;
-use crate::option_values::{flag_in, json_in, number_in};
+use crate::option_values::{flag_in, is_given, json_in, number_in};
 use crate::ranges::{are_rounds, are_views};
 use clap::ArgMatches;
 use snap_record::WORKER_LIMIT;
@@ -14,6 +19,22 @@ fn window_refusal(matches: &ArgMatches<'_>, json: bool) -> &'static str {
         "error: the argument '--follow' cannot be used with '--format json'\n"
     } else {
         "error: the argument '--follow' cannot be used with '--summary'\n"
+    }
+}
+
+/// Which option of windows a check has that judges nothing while it grows.
+pub(crate) fn follow_refusal(matches: &ArgMatches<'_>) -> Option<&'static str>
+    ensures lacks { LacksFollow (rows_of (found_of matches.now)) → IsSome result }
+    ensures asked { (pieces workers : ℕ) (options : Options) → AsksCheck (rows_of (found_of matches.now)) pieces workers options → IsNone result }
+{
+    if flag_in(matches, "follow") {
+        None
+    } else if is_given(matches, "window") {
+        Some("error: the argument '--window <N>' needs '--follow'\n")
+    } else if is_given(matches, "idle") {
+        Some("error: the argument '--idle <SECONDS>' needs '--follow'\n")
+    } else {
+        None
     }
 }
 
@@ -31,6 +52,8 @@ fn refusal_of(matches: &ArgMatches<'_>) -> &'static str {
     };
     if color_in(inner).is_none() {
         "error: invalid value for '--color <WHEN>'\n  [possible values: auto, always, never]\n\nFor more information, try '--help'.\n"
+    } else if let Some(text) = follow_refusal(inner) {
+        text
     } else if flag_in(inner, "follow") {
         window_refusal(inner, json)
     } else if !flag_in(inner, "summary") {

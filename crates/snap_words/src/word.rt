@@ -26,8 +26,14 @@ pub(crate) enum Takes<'a> {
     Texts {
         name: &'a str,
     },
-    /// A number from the least to the most, which is the usual one if the word is not given.
+    /// A number from the least to the most, if the word is given.
     Number {
+        name: &'a str,
+        least: i64,
+        most: i64,
+    },
+    /// A number from the least to the most, which is the usual one if the word is not given.
+    NumberOr {
         name: &'a str,
         least: i64,
         most: i64,
@@ -56,7 +62,7 @@ pub(crate) const EVENTS: Word<'static> = Word {
     id: "events",
     long: Some("events"),
     short: None,
-    takes: Takes::Number {
+    takes: Takes::NumberOr {
         name: "N",
         least: 1,
         most: EVENT_CAP as i64,
@@ -107,7 +113,10 @@ pub(crate) fn argument_of<'a>(alloc: Global, word: &Word<'a>) -> Arg<'a>
         Takes::Text { name } => argument.value_name(name),
         Takes::TextOr { name, usual } => argument.value_name(name).default_value(usual),
         Takes::Texts { name } => argument.value_name(name).action(ArgAction::Append),
-        Takes::Number {
+        Takes::Number { name, least, most } => argument
+            .value_name(name)
+            .value_parser(number_parser(least, most)),
+        Takes::NumberOr {
             name,
             least,
             most,

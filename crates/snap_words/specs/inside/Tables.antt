@@ -5,7 +5,7 @@ use Rattle.clap.specs.Words.{Rule, new_rule, signed_between}
 use Rattle.clap.specs.declared.builder.action.ArgAction.TheVariants.{Append, SetTrue}
 use Rattle.clap.specs.declared.builder.value_parser.ValueParser.{ValueParser}
 use Rattle.snap_words.specs.declared.word.Takes.{Takes}
-use Rattle.snap_words.specs.declared.word.Takes.TheVariants.{Nothing, Text, TextOr, Texts, Number}
+use Rattle.snap_words.specs.declared.word.Takes.TheVariants.{Nothing, Text, TextOr, Texts, Number, NumberOr}
 use Rattle.snap_words.specs.declared.word.Word.{Word}
 
 -- a word, but for what stands behind it
@@ -22,7 +22,8 @@ rule_taking rule Nothing = record rule { action = Some SetTrue }
 rule_taking rule (Text name) = record rule { value_names = 1 }
 rule_taking rule (TextOr name usual) = record rule { value_names = 1; defaults = usual.now ∷ [] }
 rule_taking rule (Texts name) = record rule { value_names = 1; action = Some Append }
-rule_taking rule (Number name least most usual) = record rule { value_names = 1; parser = Some (number_between least most); defaults = usual.now ∷ [] }
+rule_taking rule (Number name least most) = record rule { value_names = 1; parser = Some (number_between least most) }
+rule_taking rule (NumberOr name least most usual) = record rule { value_names = 1; parser = Some (number_between least most); defaults = usual.now ∷ [] }
 
 abbrev pub rule_in : Word → Rule
 rule_in word = rule_taking (named_rule word) word.takes

@@ -1,7 +1,7 @@
 use Rattle.std.proofs.Common.{◌∙◌, List, codes, refl, subst, sym}
 use Rattle.clap.specs.Words.{Row}
 use Rattle.snap_words.specs.Drawing.{AsksDrawWithin}
-use Rattle.snap_words.specs.Jobs.{AsksCheck, AsksPictureWithin, AsksRecordWithin}
+use Rattle.snap_words.specs.Jobs.{AsksCheck, AsksPictureWithin, AsksRecordWithin, LacksFollow}
 use Rattle.snap_words.proofs.Finding.{command_found, has_name, lacks_name}
 use Rattle.snap_words.proofs.Rows.{none_found, rows_found}
 use Rattle.snap_words.proofs.command_jobs.job_in.Goals as goal
@@ -68,3 +68,26 @@ returns-else-eq-4-clause-asked c = λ command rows named.
       draw = λ events form other _. absurd (lacks_name _ (codes "draw") c.if-eq-4.ensures refl (sym is ∙ other));
       recording = λ events workers rounds flags _ asks. c.record_in.ensures.asked events workers rounds flags (subst (λ (rs : List Row). AsksRecordWithin events rs workers rounds flags) same asks);
     }
+
+pub returns-then-eq-clause-unfollowed : goal.returns-then-eq-clause-unfollowed
+returns-then-eq-clause-unfollowed c = λ rows named lacks. c.check_in.ensures.unfollowed (subst LacksFollow (sym (rows_found _ rows (codes "check") _ c.in_ok-name.ensures.rows named)) lacks)
+
+pub returns-then-eq-2-clause-unfollowed : goal.returns-then-eq-2-clause-unfollowed
+returns-then-eq-2-clause-unfollowed c = λ rows named lacks.
+    let is = command_found _ c.in_ok-name.name.now (codes "check") rows c.in_ok-name.ensures.name named in
+    absurd (has_name _ _ (codes "check") c.if-eq-2.ensures refl (sym is))
+
+pub returns-then-eq-3-clause-unfollowed : goal.returns-then-eq-3-clause-unfollowed
+returns-then-eq-3-clause-unfollowed c = λ rows named lacks.
+    let is = command_found _ c.in_ok-name.name.now (codes "check") rows c.in_ok-name.ensures.name named in
+    absurd (has_name _ _ (codes "check") c.if-eq-3.ensures refl (sym is))
+
+pub returns-then-eq-4-clause-unfollowed : goal.returns-then-eq-4-clause-unfollowed
+returns-then-eq-4-clause-unfollowed c = λ rows named lacks.
+    let is = command_found _ c.in_ok-name.name.now (codes "check") rows c.in_ok-name.ensures.name named in
+    absurd (has_name _ _ (codes "check") c.if-eq-4.ensures refl (sym is))
+
+pub returns-else-eq-4-clause-unfollowed : goal.returns-else-eq-4-clause-unfollowed
+returns-else-eq-4-clause-unfollowed c = λ rows named lacks.
+    let is = command_found _ c.in_ok-name.name.now (codes "check") rows c.in_ok-name.ensures.name named in
+    absurd (lacks_name _ (codes "check") c.if-eq.ensures refl (sym is))

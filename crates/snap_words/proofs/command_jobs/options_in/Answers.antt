@@ -1,4 +1,6 @@
-use Rattle.std.proofs.Common.{◌≡◌, Some, arith}
+use Rattle.std.proofs.Common.{◌≡◌, ◌∙◌, Some, ap, arith, codes, subst, sym}
+use Rattle.clap.specs.Words.{found_of, one_of, rows_of}
+use Rattle.snap_words.specs.Jobs.{SaysOr, usual_window}
 use Rattle.snap_words.proofs.command_jobs.options_in.Goals as goal
 
 pub returns : goal.returns
@@ -14,10 +16,10 @@ returns c = λ pieces workers options asks.
     let json : c.in_ok-json.json ≡ options.json = cc in
     let summary = c.flag_in-summary.ensures.given options.summary asks.summary_is in
     let follow = c.flag_in-follow.ensures.given options.follow asks.follow_is in
-    let window_given = c.in_ok-window.ensures.given options.window (omega (arith, asks.window_fits)) asks.window_is in
-    let idle_given = c.in_ok-idle.ensures.given options.idle (omega (arith, asks.idle_fits)) asks.idle_is in
-    let window : c.in_ok-window.window ≡ options.window = cc in
-    let idle : c.in_ok-idle.idle ≡ options.idle = cc in
+    let usual : usual_window options.events ≡ c.window_for.result = sym (c.window_for.ensures ∙ ap usual_window events) in
+    let window_says = subst (λ n. SaysOr n (one_of (codes "window") (rows_of (found_of c.args.matches.now))) options.window) usual asks.window_is in
+    let window = c.number_or-window.ensures options.window (omega (arith, asks.window_fits)) window_says in
+    let idle = c.number_or-idle.ensures options.idle (omega (arith, asks.idle_fits)) asks.idle_is in
     let no_progress = c.flag_in-no_progress.ensures.given options.no_progress asks.no_progress_is in
     let color : c.in_ok-color.color ≡ options.color = cc in
     λ i. Some (record {

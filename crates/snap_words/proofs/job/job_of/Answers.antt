@@ -55,3 +55,6 @@ returns-clause-recording c = λ events workers rounds flags files means.
 
 pub returns-clause-sources : goal.returns-clause-sources
 returns-clause-sources c = λ list folder null files means. (c.asked_by.ensures.asked (codes "check") means.rows (found c _ means.rows_are)).sources list null folder means.asks
+
+pub returns-clause-unfollowed : goal.returns-clause-unfollowed
+returns-clause-unfollowed c = λ files means. c.asked_by.ensures.unfollowed means.rows (found c _ means.rows_are) means.asks

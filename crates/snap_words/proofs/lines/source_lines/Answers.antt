@@ -1,4 +1,4 @@
-use Rattle.std.proofs.Common.{◌∷◌, [], arith, codes, refl}
+use Rattle.std.proofs.Common.{◌∷◌, [], None, arith, codes, refl}
 use Rattle.std.specs.Fmt.{digits}
 use Rattle.clap.specs.Words.{Text}
 use Rattle.clap.proofs.OnLiterals.{clap_on_literals}
@@ -10,8 +10,8 @@ pub returns-clause-without : goal.returns-clause-without
 unfolding clap_on_literals
 returns-clause-without c = λ name. means _ _ _ _ refl refl (record { list_is = refl; null_is = refl; folder_is = refl }) refl
 
-plain_fit : Fit no_options
-plain_fit = usual_fit _ (omega arith, omega arith) (omega arith) (whole _ refl refl refl) refl refl refl
+plain_fit : Fit no_options None None
+plain_fit = usual_fit _ (omega arith, omega arith) (omega arith) (whole _ refl refl refl) refl refl refl refl
 
 asks : (name : Text) → AsksCheck (rows_by (name ∷ codes "check" ∷ codes "--files-from" ∷ codes "-" ∷ codes "-0" ∷ codes "-r" ∷ codes "runs" ∷ [])) 8 2 no_options
 unfolding clap_on_literals digits
