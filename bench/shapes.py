@@ -1,14 +1,15 @@
 #!/usr/bin/env python3
 """Prints a table of what `snapjudge check` costs by shape of history and size, beside another judge of the same text and report.
 
-usage: shapes.py [--against PROGRAM] [--repeats N] [--sizes N,N,..] [--workers N] [--clock] PROGRAM [SHAPE ..]
+usage: shapes.py [--against PROGRAM [--stamped]] [--repeats N] [--sizes N,N,..] [--workers N] [--clock] PROGRAM [SHAPE ..]
        shapes.py --list
        shapes.py --write SHAPE EVENTS
 
 PROGRAM is called as `PROGRAM check`, with the history on its standard input; words that stand behind the other judge in one
 argument, as in `--against "judge --monotone"`, are put behind `check`. The shapes are those of histories.py; where words are
-given, those whose names have one of them. A judge that reads no stamps is given the same history without them. Where a size is
-greater than 65,536, the program is called with `--events`; tell the other judge the same by a word of its own.
+given, those whose names have one of them. The other judge is given the same history without stamps, in order, or with --stamped
+the same text. Where a size is greater than 65,536, the program is called with `--events`; tell the other judge the same by a word
+of its own.
 
 Times are processor time, user and system, of all threads, or with --clock the time by the clock. The judges are called in turn, N times (5, if not said) or until they
 have taken four seconds, and the least time of each counts. In the row of a shape stand for each size the milliseconds of the
@@ -76,7 +77,7 @@ def row_of(name, programs, room, asked, start):
         if size > bytes_of(max(*asked.sizes, MOST_EVENTS)) + 1:
             cells += ["-"] * (3 if len(programs) > 1 else 1)
             continue
-        costs, reports = measure(programs, histories, room, asked)
+        costs, reports = measure(programs, histories[:1] * 2 if asked.stamped else histories, room, asked)
         said[reports] = None
         times, peak = [ms for ms, _ in costs], costs[0][1]
         by_byte.append(max(times[0] - start, 0) / size)
@@ -110,6 +111,7 @@ def main():
     words = argparse.ArgumentParser(description="what `snapjudge check` costs by shape and size")
     words.add_argument("program", metavar="PROGRAM", nargs="?")
     words.add_argument("--against", metavar="PROGRAM", help="another judge of the same text and report, and what is to stand behind `check`")
+    words.add_argument("--stamped", action="store_true", help="the other judge reads stamps too, and is given them")
     words.add_argument("--repeats", type=int, default=5)
     words.add_argument("--sizes", type=lambda text: [int(size) for size in text.split(",")], default=SIZES)
     words.add_argument("--workers", default="2")
