@@ -1,18 +1,21 @@
 #!/usr/bin/env python3
 """Prints a table of the time and the peak memory of `snapjudge check`, by kind of history, size and number of workers.
 
-usage: run.py [--against PROGRAM] [--repeats N] [--workers W] [KIND ..]
+usage: run.py [--against PROGRAM] [--repeats N] [--workers W] [--events N] [--most COMPONENTS] [KIND ..]
 
 Each history is made by generate.py from the number 1. With one worker, with W (2, if not said) and, where another judge of the
 same text and report is given, by that one, it is judged in turn, N times (7, if not said), and the least time of each counts. The
-reports are compared byte for byte. PROGRAM is called as `PROGRAM check`, with the history on its standard input. All run in an environment in
-which the C library takes memory in large pages, as docs/MANY.md tells how to ask for them.
+reports are compared byte for byte. PROGRAM is called as `PROGRAM check`, with the history on its standard input; words that stand
+behind it in one argument are put behind `check`. With --events each kind and number of components is judged once, with so many
+events, and with --most only histories of at most so many components. All run in an environment in which the C library takes
+memory in large pages, as docs/MANY.md tells how to ask for them.
 
 The first row is of a process that does nothing.
 """
 import argparse
 import filecmp
 import os
+import shlex
 import subprocess
 import sys
 import tempfile
@@ -60,24 +63,34 @@ def measure(programs, history, room, repeats):
     return seen
 
 
+def cases_of(asked):
+    """The histories that were asked for."""
+    cases = [case for case in CASES if (not asked.kinds or case[0] in asked.kinds) and case[2] <= asked.most]
+    if not asked.events:
+        return cases
+    return list(dict.fromkeys((kind, asked.events, components) for kind, _, components in cases if kind != "newlines"))
+
+
 def main():
     words = argparse.ArgumentParser(description="times of `snapjudge check`")
     words.add_argument("--against", metavar="PROGRAM", help="another judge of the same text and report")
     words.add_argument("--repeats", type=int, default=7)
     words.add_argument("--workers", default="2")
+    words.add_argument("--events", metavar="N", help="judge each kind and number of components with so many events")
+    words.add_argument("--most", type=int, default=256, metavar="COMPONENTS", help="judge none with more components")
     words.add_argument("kinds", nargs="*", metavar="KIND")
     asked = words.parse_args()
-    programs = [[SNAPJUDGE, "check", "--workers", count] for count in ("1", asked.workers)]
+    limit = ["--events", asked.events] if asked.events else []
+    programs = [[SNAPJUDGE, "check", "--workers", count, *limit] for count in ("1", asked.workers)]
     if asked.against:
-        programs.append([asked.against, "check"])
+        other, *options = shlex.split(asked.against)
+        programs.append([other, "check", *options])
     print(f"| kind | events | components | bytes | status | 1 worker, ms | of that user, ms | {asked.workers} workers, ms | ratio | peak, MB | other judge, ms | ratio to it | reports |")
     print("|---|---|---|---|---|---|---|---|---|---|---|---|---|")
     with tempfile.TemporaryDirectory() as room:
         idle = min(run(["/bin/true"], os.devnull, os.devnull)[1] for _ in range(20))
         print(f"| nothing | 0 | 0 | 0 | 0 | {idle:.1f} | 0.0 | {idle:.1f} | 1.00 | - | - | - | - |")
-        for kind, events, components in CASES:
-            if asked.kinds and kind not in asked.kinds:
-                continue
+        for kind, events, components in cases_of(asked):
             history = os.path.join(room, "history.csv")
             with open(history, "wb") as text:
                 subprocess.run([sys.executable, os.path.join(HERE, "generate.py"), kind, str(events), str(components)], stdout=text, check=True)
