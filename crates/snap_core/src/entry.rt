@@ -1,5 +1,5 @@
 //! Entries, which updates write and views show.
-ghost use Rattle.std.specs.Prelude.{◌≡◌, ◌↔◌, IsTrue};
+ghost use Rattle.std.specs.Prelude.{◌≡◌, ◌↔◌, IsTrue, length};
 ghost use Rattle.snap_core.specs.Entries.{EntryFits};
 
 /// How many components there are: each is a byte.
@@ -18,9 +18,47 @@ pub(crate) fn fields_fit(component: u8, number: u32, value: u32)
     ensures { EntryFits (record { component = component; number = number; value = value }) }
 {}
 
+// Whether two entries are the same, without a branch.
+#[inline(always)]
+fn is_same(a: &Entry, b: &Entry) -> bool
+    ensures { IsTrue result ↔ (a.now ≡ b.now) }
+{
+    (a.component == b.component) & (a.number == b.number) & (a.value == b.value)
+}
+
+// Whether as many entries are the same, without a branch for each.
+#[inline(always)]
+fn are_all_same(a: &[Entry], b: &[Entry]) -> bool
+    requires { length a.now ≡ length b.now }
+    ensures { IsTrue result ↔ (a.now ≡ b.now) }
+{
+    let mut same = true;
+    for i in 0..a.len() {
+        same &= is_same(&a[i], &b[i]);
+    }
+    same
+}
+
+// How many entries are compared without a branch between.
+const PIECE: usize = 8;
+
 /// Whether two lists of entries are the same, entry by entry.
 pub fn are_same(a: &[Entry], b: &[Entry]) -> bool
     ensures { IsTrue result ↔ (a.now ≡ b.now) }
 {
-    a == b
+    if a.len() != b.len() {
+        return false;
+    }
+    let mut left = a;
+    let mut others = b;
+    while left.len() >= PIECE {
+        let (piece, rest) = left.split_at(PIECE);
+        let (other, other_rest) = others.split_at(PIECE);
+        if !are_all_same(piece, other) {
+            return false;
+        }
+        left = rest;
+        others = other_rest;
+    }
+    are_all_same(left, others)
 }

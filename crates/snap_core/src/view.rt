@@ -1,9 +1,12 @@
 //! Views, and why entries are none.
 ghost use Rattle.std.specs.Prelude.{◌≡◌, ◌<◌, All, IfOk, IfErr, OnOk};
 ghost use Rattle.snap_core.specs.Entries.{EntryFits, view_refusal, entry_of, number_in, value_in, AreEntries};
+ghost use Rattle.snap_core.specs.inside.Shown.{shown_in};
 
 use crate::entry::{Entry, fields_fit};
+use std::alloc::AllocError;
 use std::marker::Model;
+use std::sync::Arc;
 
 /// Why entries are no view, in the order in which the reasons are tested.
 #[derive(Clone, Copy, PartialEq, Eq, Debug)]
@@ -14,22 +17,42 @@ pub enum ViewRefusal {
     ZeroNumber,
 }
 
+// The entries of a view: its own, or those that it shares with other views.
+#[derive(Debug, Drop)]
+enum Shown {
+    Own(Vec<Entry>),
+    Shared(Arc<Vec<Entry>>),
+}
+
+impl Shown {
+    // The entries.
+    fn entries(&self) -> &[Entry]
+        ensures { result.now ≡ shown_in self.now }
+    {
+        match self {
+            Shown::Own(entries) => entries,
+            Shown::Shared(entries) => entries,
+        }
+    }
+}
+
 /// What a completed view shows: entries strictly rising by component, each number at least 1.
 #[derive(Debug, Drop)]
 pub struct View {
-    entries: Vec<Entry>,
+    shown: Shown,
 }
 
 impl Model for View {
     ghost use Rattle.std.specs.Prelude.{List};
     ghost use Rattle.snap_core.specs.declared.entry.Entry.{Entry};
     ghost use Rattle.snap_core.specs.Entries.{AreEntries};
+    ghost use Rattle.snap_core.specs.inside.Shown.{shown_in};
 
     ghost Value = { List Entry };
 
-    ghost view = { λ v. v.entries.items };
+    ghost view = { λ v. shown_in v.shown };
 
-    ghost invariant = { λ v. AreEntries v.entries.items };
+    ghost invariant = { λ v. AreEntries (shown_in v.shown) };
 }
 
 fn entries_fit(entries: &[Entry])
@@ -85,14 +108,38 @@ impl View {
             return Err(refusal);
         }
         entries_fit(&entries);
-        Ok(View { entries })
+        Ok(View {
+            shown: Shown::Own(entries),
+        })
+    }
+
+    /// A view that shows the same. Others can share its entries.
+    pub fn shared(self) -> Result<View, AllocError>
+        ensures { IfOk result (λ view. view ≡ self) }
+    {
+        let shown = match self.shown {
+            Shown::Own(entries) => Shown::Shared(Arc::new(*entries.allocator(), entries)?),
+            shared => shared,
+        };
+        Ok(View { shown })
+    }
+
+    /// Another view that shows the same. Of a view whose entries others can share, they are not copied.
+    pub fn again(&self) -> Result<View, AllocError>
+        ensures { IfOk result (λ view. view ≡ self.now) }
+    {
+        let shown = match &self.shown {
+            Shown::Own(entries) => Shown::Own(entries.clone()?),
+            Shown::Shared(entries) => Shown::Shared(entries.clone()?),
+        };
+        Ok(View { shown })
     }
 
     /// The number shown for a component, 0 where it is not listed.
     pub fn number(&self, k: u8) -> u32
         ensures { result ≡ number_in (entry_of k self.now) }
     {
-        match find_entry(&self.entries, k) {
+        match find_entry(self.shown.entries(), k) {
             Some(e) => e.number,
             None => 0,
         }
@@ -102,7 +149,7 @@ impl View {
     pub fn value(&self, k: u8) -> u32
         ensures { result ≡ value_in (entry_of k self.now) }
     {
-        match find_entry(&self.entries, k) {
+        match find_entry(self.shown.entries(), k) {
             Some(e) => e.value,
             None => 0,
         }
@@ -113,6 +160,6 @@ impl View {
         ensures entries { result.now ≡ self.now }
         ensures view { AreEntries self.now }
     {
-        &self.entries
+        self.shown.entries()
     }
 }

@@ -23,13 +23,23 @@ fn update_of(text: &[u8]) -> Option<Entry>
 fn view_of(alloc: Global, known: &mut Known, text: &[u8]) -> Result<Option<View>, AllocError>
     ensures { IfOk result (λ o. o ≡ view_at text.now) }
 {
+    let again = known.is_of(text);
+    if again && let Some(view) = known.view() {
+        return Ok(Some(view.again()?));
+    }
     let Some(entries) = entries_of(alloc, known, text)? else {
         return Ok(None);
     };
-    known.keep(alloc, text, &entries)?;
-    match View::from_entries(entries) {
-        Ok(view) => Ok(Some(view)),
-        Err(_) => Ok(None),
+    if !again {
+        known.keep(alloc, text, &entries)?;
+    }
+    let Ok(view) = View::from_entries(entries) else {
+        return Ok(None);
+    };
+    if again {
+        Ok(Some(known.keep_view(alloc, view)?))
+    } else {
+        Ok(Some(view))
     }
 }
 

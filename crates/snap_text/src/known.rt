@@ -1,18 +1,22 @@
 //! What is kept of the view that was read last. A view mostly shows what the view before it showed, so a text is first compared
 //! with the one before it: where views have hundreds of entries, that spares nearly all of the reading.
-ghost use Rattle.std.specs.Prelude.{◌≡◌, ◌<◌, ◌≤◌, ◌==◌, Some, length, count_by, take};
-ghost use Rattle.snap_text.specs.Fields.{entries_at};
+ghost use Rattle.std.specs.Prelude.{◌≡◌, ◌<◌, ◌≤◌, ◌==◌, IfOk, IfSome, IsTrue, Some, length, count_by, take};
+ghost use Rattle.std.specs.Option.{ForSome};
+ghost use Rattle.snap_text.specs.Fields.{entries_at, view_at};
 ghost use Rattle.snap_text.specs.inside.Fronts.{AreSpelled};
 
-use snap_core::Entry;
+use snap_core::{Entry, View};
 use std::alloc::{AllocError, Global};
 
-/// The entries of the view that was read last, and their text.
+/// The entries of the view that was read last, and their text. Where that text came twice or more, there is a view of them, whose
+/// entries the next ones with that text share.
 #[derive(Drop)]
 pub struct Known {
     text: Vec<u8>,
     entries: Vec<Entry>,
+    view: Option<View>,
     ghost spelled: { AreSpelled entries.items text.items },
+    ghost viewed: { ForSome view (λ v. view_at text.items ≡ Some v) },
 }
 
 impl Known {
@@ -21,6 +25,7 @@ impl Known {
         Known {
             text: Vec::new(alloc),
             entries: Vec::new(alloc),
+            view: None,
         }
     }
 
@@ -39,6 +44,48 @@ impl Known {
         &self.entries
     }
 
+    /// Whether a text is that of the view.
+    pub(crate) fn is_of(&self, text: &[u8]) -> bool
+        ensures { IsTrue result → text.now ≡ self.now.text.items }
+    {
+        self.text.as_slice() == text
+    }
+
+    /// The view, where its text came twice or more.
+    pub(crate) fn view(&self) -> Option<&View>
+        ensures { IfSome result (λ v. view_at self.now.text.items ≡ Some v.now) }
+    {
+        self.view.as_ref()
+    }
+
+    /// Keeps the view, whose text came again, and gives another one that shows the same.
+    pub(crate) fn keep_view(&mut self, alloc: Global, view: View) -> Result<View, AllocError>
+        requires { view_at self.old.text.items ≡ Some view }
+        ensures { IfOk result (λ v. v ≡ view) }
+    {
+        let known = std::mem::replace(self, Known::new(alloc));
+        let kept = view.shared()?;
+        let other = kept.again()?;
+        *self = known.with(kept);
+        Ok(other)
+    }
+
+    // With its view.
+    fn with(self, view: View) -> Known
+        requires { view_at self.text.items ≡ Some view }
+    {
+        let Known {
+            text,
+            entries,
+            view: _,
+        } = self;
+        Known {
+            text,
+            entries,
+            view: Some(view),
+        }
+    }
+
     // Of another view, which has these entries and this text, in the same memory.
     fn of(self, text: &[u8], entries: &[Entry]) -> Result<Known, AllocError>
         requires { entries_at text.now ≡ Some entries.now }
@@ -46,6 +93,7 @@ impl Known {
         let Known {
             text: mut text_room,
             entries: mut entries_room,
+            view: _,
         } = self;
         text_room.clear();
         text_room.extend_from_slice(text)?;
@@ -54,6 +102,7 @@ impl Known {
         Ok(Known {
             text: text_room,
             entries: entries_room,
+            view: None,
         })
     }
 
