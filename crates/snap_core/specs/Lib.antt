@@ -1,4 +1,5 @@
 pub mod Entries
+pub mod Shown
 pub mod Events
 pub mod Calls
 pub mod Orders

@@ -1,7 +1,7 @@
 //! Views, and why entries are none.
 ghost use Rattle.std.specs.Prelude.{◌≡◌, ◌<◌, All, IfOk, IfErr, OnOk};
 ghost use Rattle.snap_core.specs.Entries.{EntryFits, view_refusal, entry_of, number_in, value_in, AreEntries};
-ghost use Rattle.snap_core.specs.inside.Shown.{shown_in};
+ghost use Rattle.snap_core.specs.Shown.{shown_in};
 
 use crate::entry::{Entry, fields_fit};
 use std::alloc::AllocError;
@@ -46,7 +46,7 @@ impl Model for View {
     ghost use Rattle.std.specs.Prelude.{List};
     ghost use Rattle.snap_core.specs.declared.entry.Entry.{Entry};
     ghost use Rattle.snap_core.specs.Entries.{AreEntries};
-    ghost use Rattle.snap_core.specs.inside.Shown.{shown_in};
+    ghost use Rattle.snap_core.specs.Shown.{shown_in};
 
     ghost Value = { List Entry };
 
