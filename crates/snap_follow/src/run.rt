@@ -181,10 +181,10 @@ fn open_next<T: Texts>(
     }
     if let Some(opened) = texts.open_next(alloc, at_hand.read)? {
         let Opened { text, name } = opened;
+        at_hand.text = Some(text);
         if let Some(name) = name {
             course.answers.add_name(name)?;
         }
-        at_hand.text = Some(text);
     }
     at_hand.read = 0;
     at_hand.has_next = false;
@@ -226,7 +226,63 @@ impl Pauses {
     }
 }
 
+// Goes on where nothing comes from the text at hand: to the next text, to a look for one, or to a pause. Whether the reading goes on.
+fn go_on<T: Texts, C: Clock>(
+    alloc: Global,
+    texts: &mut T,
+    clock: &C,
+    at_hand: &mut AtHand<T::Text>,
+    pauses: &mut Pauses,
+    course: &mut Course,
+    until: Until,
+) -> Result<bool, Stop> {
+    if at_hand.has_next {
+        // the next text was there before the last look at this one, so nothing more comes here
+        open_next(alloc, texts, at_hand, course)?;
+        pauses.idle = 0;
+    } else if texts.has_next() {
+        at_hand.has_next = true;
+    } else if pauses.is_look_due {
+        texts.look(alloc)?;
+        pauses.is_look_due = false;
+    } else if is_over(until, pauses.idle) {
+        return Ok(false);
+    } else {
+        pauses.rest(clock, until);
+    }
+    Ok(true)
+}
+
 // Reads what is there, and takes it, as long as that is asked for.
+fn read_pieces<Rt: Wait, T: Texts, W: Write, C: Clock>(
+    rt: &Rt,
+    alloc: Global,
+    texts: &mut T,
+    writer: &mut Counted<W>,
+    clock: &C,
+    course: &mut Course,
+    until: Until,
+    at_hand: &mut AtHand<T::Text>,
+    piece: &mut [u8],
+) -> Result<(), Stop> {
+    let mut pauses = Pauses {
+        idle: 0,
+        all: 0,
+        is_look_due: true,
+    };
+    'pieces: for _ in rt.forever() {
+        let length = at_hand.read(piece)?;
+        if length > 0 {
+            take_piece(alloc, course, writer, &piece[..length])?;
+            pauses.idle = 0;
+        } else if !go_on(alloc, texts, clock, at_hand, &mut pauses, course, until)? {
+            break;
+        }
+    }
+    end_reading(alloc, at_hand, course, until)
+}
+
+// The same from the begin on.
 fn read_all<Rt: Wait, T: Texts, W: Write, C: Clock>(
     rt: &Rt,
     alloc: Global,
@@ -243,32 +299,17 @@ fn read_all<Rt: Wait, T: Texts, W: Write, C: Clock>(
         read: 0,
         has_next: false,
     };
-    let mut pauses = Pauses {
-        idle: 0,
-        all: 0,
-        is_look_due: true,
-    };
-    'pieces: for _ in rt.forever() {
-        let length = at_hand.read(&mut piece)?;
-        if length > 0 {
-            take_piece(alloc, course, writer, &piece[..length])?;
-            pauses.idle = 0;
-        } else if at_hand.has_next {
-            // the next text was there before the last look at this one, so nothing more comes here
-            open_next(alloc, texts, &mut at_hand, course)?;
-            pauses.idle = 0;
-        } else if texts.has_next() {
-            at_hand.has_next = true;
-        } else if pauses.is_look_due {
-            texts.look(alloc)?;
-            pauses.is_look_due = false;
-        } else if is_over(until, pauses.idle) {
-            break;
-        } else {
-            pauses.rest(clock, until);
-        }
-    }
-    end_reading(alloc, &at_hand, course, until)
+    read_pieces(
+        rt,
+        alloc,
+        texts,
+        writer,
+        clock,
+        course,
+        until,
+        &mut at_hand,
+        &mut piece,
+    )
 }
 
 // Writes the last lines, and the sums.
@@ -296,19 +337,19 @@ fn end_whole<W: Write>(
 
 // The end of a recording that was followed no further.
 fn end_early<W: Write>(
-    mut course: Course,
+    answers: &mut Answers,
     writer: &mut Counted<W>,
     stop: Stop,
 ) -> Result<Followed, FollowFault> {
     let (code, lost) = match stop {
         Stop::Refused => (REFUSED, None),
         Stop::Lost(lost) => {
-            course.answers.add_failure()?;
+            answers.add_failure()?;
             (FAILED, Some(lost))
         }
         Stop::Fault(fault) => return Err(fault),
     };
-    write_end(writer, &mut course.answers)?;
+    write_end(writer, answers)?;
     Ok(Followed {
         code: Some(code),
         has_rest: false,
@@ -330,6 +371,6 @@ pub fn follow_run<Rt: Wait, T: Texts, W: Write, C: Clock>(
     let mut course = Course::new(alloc, asked.least, asked.most);
     match read_all(rt, alloc, texts, writer, clock, &mut course, asked.until) {
         Ok(()) => end_whole(alloc, course, writer, asked.views),
-        Err(stop) => end_early(course, writer, stop),
+        Err(stop) => end_early(&mut course.answers, writer, stop),
     }
 }
