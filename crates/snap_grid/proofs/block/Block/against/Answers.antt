@@ -1,3 +1,4 @@
+use Rattle.std.proofs.lemmas.Result.{IfOk-from_err}
 use Rattle.std.proofs.Common.{◌≡◌, ◌+◌, ◌*◌, ◌<◌, ◌++◌, ◌∷◌, [], ℕ, length, get_or, sym, ap, ◌∙◌, arith}
 use Rattle.std.specs.Prelude.{true, false}
 use Rattle.std.proofs.lemmas.Bool.{eqb-false, eqb-true}
@@ -75,3 +76,21 @@ loop-j-preserved c =
             less = λ h a i k m. faces_passed_over false b.columns.now j (b.from + a) (c.args.block * 512 + i) _ l (none_passes false _ _ c.bounds-ours.result c.bounds-theirs.result (ours a k) (theirs i m) (c.is_open.ensures.less w.if-is_open.false h)) (before.less h a i k m);
           })
     ]
+
+pub returns-in_err-push-clause-rows : goal.returns-in_err-push-clause-rows
+returns-in_err-push-clause-rows c = IfOk-from_err c.from_residual.result _ c.from_residual.ensures.0
+
+pub returns-in_err-push-clause-more : goal.returns-in_err-push-clause-more
+returns-in_err-push-clause-more c = IfOk-from_err c.from_residual.result _ c.from_residual.ensures.0
+
+pub returns-in_err-push-clause-less : goal.returns-in_err-push-clause-less
+returns-in_err-push-clause-less c = IfOk-from_err c.from_residual.result _ c.from_residual.ensures.0
+
+pub returns-in_err-push-2-clause-rows : goal.returns-in_err-push-2-clause-rows
+returns-in_err-push-2-clause-rows c = IfOk-from_err c.from_residual-in_err-push-2.result _ c.from_residual-in_err-push-2.ensures.0
+
+pub returns-in_err-push-2-clause-more : goal.returns-in_err-push-2-clause-more
+returns-in_err-push-2-clause-more c = IfOk-from_err c.from_residual-in_err-push-2.result _ c.from_residual-in_err-push-2.ensures.0
+
+pub returns-in_err-push-2-clause-less : goal.returns-in_err-push-2-clause-less
+returns-in_err-push-2-clause-less c = IfOk-from_err c.from_residual-in_err-push-2.result _ c.from_residual-in_err-push-2.ensures.0

@@ -1,3 +1,4 @@
+use Rattle.std.proofs.lemmas.Result.{IfOk-from_err}
 use Rattle.std.proofs.Common.{◌≡◌, ◌≤◌, ◌+◌, ◌*◌, ◌<◌, ℕ, Bool, List, length, get_or, ap, subst, ◌∙◌, arith}
 use Rattle.std.specs.Prelude.{true, false, nat_lt, bit_and, bit_or, take, drop}
 use Rattle.snap_grid.specs.Columns.{GridValue, HaveSameRows, number, any_passes, clashes, drops}
@@ -112,3 +113,63 @@ kinds_clashing-requires-then-bounds-begins-clause-apart c = λ a i k l.
     let count = ap length c.requires.ends ∙ row_count g.ends b.from b.count (omega (arith, same.ended, c.requires.within)) in
     let end = (c.bounds-2.ensures a (omega (arith, k, count))).1 in
     lt-ltb _ _ (omega (arith, begins, begin, end, end_at g b.from b.count a c.args.ends.now c.requires.ends k, c.if-bounds-begins.true))
+
+pub are_apart-requires-clause-columns : goal.are_apart-requires-clause-columns
+are_apart-requires-clause-columns c = c.requires.columns
+
+pub are_apart-requires-clause-ends : goal.are_apart-requires-clause-ends
+are_apart-requires-clause-ends c = c.requires.ends
+
+pub are_apart-requires-clause-within : goal.are_apart-requires-clause-within
+are_apart-requires-clause-within c = c.requires.within
+
+pub are_apart-requires-clause-some : goal.are_apart-requires-clause-some
+are_apart-requires-clause-some c = c.requires.some
+
+pub are_apart-requires-clause-few : goal.are_apart-requires-clause-few
+are_apart-requires-clause-few c = omega (arith, c.requires.whole)
+
+pub are_apart-requires-clause-rows : goal.are_apart-requires-clause-rows
+are_apart-requires-clause-rows c = omega (arith, c.requires.whole)
+
+pub against-requires-clause-some : goal.against-requires-clause-some
+against-requires-clause-some c = c.requires.some
+
+pub kinds_clashing-requires-clause-columns : goal.kinds_clashing-requires-clause-columns
+kinds_clashing-requires-clause-columns c = c.requires.columns
+
+pub kinds_clashing-requires-clause-some : goal.kinds_clashing-requires-clause-some
+kinds_clashing-requires-clause-some c = c.requires.some
+
+pub kinds_clashing-requires-clause-whole : goal.kinds_clashing-requires-clause-whole
+kinds_clashing-requires-clause-whole c = c.requires.whole
+
+pub kinds_clashing-requires-clause-rows : goal.kinds_clashing-requires-clause-rows
+kinds_clashing-requires-clause-rows c = c.in_ok-against.ensures.rows
+
+pub kinds_clashing-requires-clause-more : goal.kinds_clashing-requires-clause-more
+kinds_clashing-requires-clause-more c = c.in_ok-against.ensures.more
+
+pub kinds_clashing-requires-clause-less : goal.kinds_clashing-requires-clause-less
+kinds_clashing-requires-clause-less c = c.in_ok-against.ensures.less
+
+pub kinds_clashing-requires-then-bounds-begins-clause-columns : goal.kinds_clashing-requires-then-bounds-begins-clause-columns
+kinds_clashing-requires-then-bounds-begins-clause-columns c = c.requires.columns
+
+pub kinds_clashing-requires-then-bounds-begins-clause-some : goal.kinds_clashing-requires-then-bounds-begins-clause-some
+kinds_clashing-requires-then-bounds-begins-clause-some c = c.requires.some
+
+pub kinds_clashing-requires-then-bounds-begins-clause-whole : goal.kinds_clashing-requires-then-bounds-begins-clause-whole
+kinds_clashing-requires-then-bounds-begins-clause-whole c = c.requires.whole
+
+pub kinds_clashing-requires-then-bounds-begins-clause-rows : goal.kinds_clashing-requires-then-bounds-begins-clause-rows
+kinds_clashing-requires-then-bounds-begins-clause-rows c = c.in_ok-against.ensures.rows
+
+pub kinds_clashing-requires-then-bounds-begins-clause-more : goal.kinds_clashing-requires-then-bounds-begins-clause-more
+kinds_clashing-requires-then-bounds-begins-clause-more c = c.in_ok-against.ensures.more
+
+pub kinds_clashing-requires-then-bounds-begins-clause-less : goal.kinds_clashing-requires-then-bounds-begins-clause-less
+kinds_clashing-requires-then-bounds-begins-clause-less c = c.in_ok-against.ensures.less
+
+pub returns-in_err-against : goal.returns-in_err-against
+returns-in_err-against c = IfOk-from_err c.from_residual.result _ c.from_residual.ensures.0
