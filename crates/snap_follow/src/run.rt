@@ -26,7 +26,7 @@ const REFUSED: u8 = 3;
 const FAILED: u8 = 4;
 
 /// How long a recording is followed.
-#[derive(Clone, Copy, PartialEq, Eq, Debug)]
+#[derive(Clone, Copy)]
 pub enum Until {
     /// For ever.
     Ever,
@@ -37,7 +37,7 @@ pub enum Until {
 }
 
 /// How a recording is followed.
-#[derive(Clone, Copy, Debug)]
+#[derive(Clone, Copy)]
 pub struct FollowOptions {
     /// A window ends at the first moment without an open call from so many events on. If they are more than it may have, none ends
     /// before the recording does.
@@ -51,7 +51,7 @@ pub struct FollowOptions {
 }
 
 /// How a recording ended.
-#[derive(Debug, Drop)]
+#[derive(Drop)]
 pub struct Followed {
     /// The exit status: 0 where the whole is atomic, 1 where it is only regular, 2 where it is neither, 3 where a window was refused,
     /// and 4 where it could not be followed further. None where there are fewer completed views than were asked for.
@@ -201,7 +201,7 @@ fn end_reading<R>(
     if at_hand.text.is_none() {
         return Err(Stop::Fault(FollowFault::NoText));
     }
-    let is_refused = until == Until::End && !course.take_last(alloc)?;
+    let is_refused = matches!(until, Until::End) && !course.take_last(alloc)?;
     if is_refused || !course.check_begun()? {
         return Err(Stop::Refused);
     }

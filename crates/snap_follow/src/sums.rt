@@ -8,7 +8,7 @@ use snap_windows::Verdict;
 use std::alloc::AllocError;
 
 /// What a window comes to, in the order of the exit statuses.
-#[derive(Clone, Copy, PartialEq, Eq, Debug)]
+#[derive(Clone, Copy)]
 pub(crate) enum Kind {
     Atomic,
     OnlyRegular,

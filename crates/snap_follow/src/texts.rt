@@ -4,7 +4,7 @@ use std::alloc::{AllocError, Global};
 use std::io::Read;
 
 /// Why no text comes any more.
-#[derive(Clone, Copy, Debug, PartialEq, Eq)]
+#[derive(Clone, Copy, Debug)]
 pub enum Reason {
     /// The text can't be opened.
     Unopened(Trouble),
