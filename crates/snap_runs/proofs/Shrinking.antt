@@ -28,6 +28,17 @@ first_witness_is es status (Some w) s none calls few_calls few_events fault not_
   record { calls = calls; few_calls = few_calls; few_events = few_events; fault = fault; not_atomic = not_atomic; regular = regular },
 )
 
+-- what a history is cut down to: the witness of its fault, or itself where it has none
+pub cut_to_witness : (es : List Event) (status : Status) (found : Option (List Event)) (w : List Event) → found ≡ Some w → IsFirstWitness es status found → IsCutTo es status w
+cut_to_witness es status found w is h =
+    let first : IsFirstWitness es status (Some w) = subst (IsFirstWitness es status) is h in
+    record { answers = first.0; atomic = λ a. absurd (first.1 a); not_atomic = λ _. first.2 }
+
+pub cut_to_itself : (es : List Event) (status : Status) (found : Option (List Event)) → found ≡ None → IsFirstWitness es status found → IsCutTo es status es
+cut_to_itself es status found is h =
+    let first : IsFirstWitness es status None = subst (IsFirstWitness es status) is h in
+    record { answers = first.0; atomic = λ _. refl; not_atomic = λ no. absurd (no first.1) }
+
 cut_text : (limit : ℕ) (text : List ℕ) (es left : List Event) (status answer : Status) (out : List ℕ) → IsTextWithin limit text es → IsCutTo es status left → answer ≡ status → out ≡ history_text left → IsShrunk limit text answer out
 cut_text limit text es left status answer out reads cut same e = inr (record { events = es; left = left; history = reads; cut = subst (λ t. IsCutTo es t left) (sym same) cut; writes = e })
 
