@@ -19,6 +19,23 @@ use std::alloc::{AllocError, Global};
 use std::io::{Read, Write};
 use std::thread::Threads;
 
+// The status of a history, and its explanation by its index and the records of its events.
+fn explained_by<Rt: Threads + Sync>(
+    rt: &Rt,
+    alloc: Global,
+    index: &Index<'_>,
+    records: &[u32],
+    cutting: Cutting,
+) -> Result<(Status, Vec<u8>), AllocError>
+    requires { length records.now ≡ length index.now }
+    ensures { IfOk result (λ answer. ExplainsHistory index.now records.now answer.0 answer.1.items) }
+{
+    let (tally, chain) = tally_and_chain(rt, alloc, index, cutting, &OpenGate)?;
+    let order = order_by(alloc, index, &tally, chain)?;
+    let text = explain(alloc, index, &tally, records, order.as_deref())?;
+    Ok((status_of(index, &tally), text))
+}
+
 // The status of a history, and its explanation by the records of its events.
 fn explained<Rt: Threads + Sync>(
     rt: &Rt,
@@ -31,10 +48,7 @@ fn explained<Rt: Threads + Sync>(
     ensures { IfOk result (λ answer. ExplainsHistory history.now records.now answer.0 answer.1.items) }
 {
     let index = Index::build(alloc, history)?;
-    let (tally, chain) = tally_and_chain(rt, alloc, &index, cutting, &OpenGate)?;
-    let order = order_by(alloc, &index, &tally, chain)?;
-    let text = explain(alloc, &index, &tally, records, order.as_deref())?;
-    Ok((status_of(&index, &tally), text))
+    explained_by(rt, alloc, &index, records, cutting)
 }
 
 // The status of the text that a reader has, and its explanation.
