@@ -72,6 +72,24 @@ pub(crate) fn cutting_of(bytes: usize) -> Cutting {
     cutting_for(bytes, Cutting::new(8, 4).unwrap_or(Cutting::usual()))
 }
 
+// The status of a history, and its picture by its index and the records of its events.
+fn drawn_by<Rt: Threads + Sync, M: Markup>(
+    rt: &Rt,
+    alloc: Global,
+    markup: &M,
+    index: &Index<'_>,
+    records: &[u32],
+    cutting: Cutting,
+) -> Result<(Status, Vec<u8>), AllocError>
+    requires { length records.now ≡ length index.now }
+    ensures { IfOk result (λ answer. DrawsHistory M.calls M.writes index.now records.now answer.0 answer.1.items) }
+{
+    let (tally, chain) = tally_and_chain(rt, alloc, index, cutting, &OpenGate)?;
+    let order = order_by(alloc, index, &tally, chain)?;
+    let text = picture_of(alloc, markup, &*index, &tally, records, order.as_deref())?;
+    Ok((status_of(index, &tally), text))
+}
+
 /// The status of a history, and its picture by the records of its events.
 pub(crate) fn drawn<Rt: Threads + Sync, M: Markup>(
     rt: &Rt,
@@ -85,10 +103,7 @@ pub(crate) fn drawn<Rt: Threads + Sync, M: Markup>(
     ensures { IfOk result (λ answer. DrawsHistory M.calls M.writes history.now records.now answer.0 answer.1.items) }
 {
     let index = Index::build(alloc, history)?;
-    let (tally, chain) = tally_and_chain(rt, alloc, &index, cutting, &OpenGate)?;
-    let order = order_by(alloc, &index, &tally, chain)?;
-    let text = picture_of(alloc, markup, &index, &tally, records, order.as_deref())?;
-    Ok((status_of(&index, &tally), text))
+    drawn_by(rt, alloc, markup, &index, records, cutting)
 }
 
 // The status of the text that a reader has, and its picture, or the line of its first fault.
