@@ -39,7 +39,9 @@ STUB
 }
 
 stub gate share/test-gate.sh 'echo "3 passed, 0 failed"'
-stub proofs ../bin/rt 'echo "3 passed, 0 failed"'
+stub wrong-bodies share/test-wrong-bodies.py 'echo "3 passed, 0 failed"'
+stub proofs share/wrong_bodies.py 'echo "3 passed, 0 failed"'
+stub rt ../bin/rt 'exit 0'
 stub must-catch sweep/must_catch.py 'echo "3 passed, 0 failed"'
 stub build build 'exit 0'
 stub examples snapjudge 'cat examples/one.report'
@@ -69,8 +71,8 @@ expect() {
   fi
 }
 
-parts="gate proofs must-catch build examples launcher library pages pictures package recorders systems scans sweep"
-expect "all parts pass" 0 "38 passed, 0 failed"
+parts="gate wrong-bodies proofs must-catch build examples launcher library pages pictures package recorders systems scans sweep"
+expect "all parts pass" 0 "41 passed, 0 failed"
 for part in $parts; do
   for way in fails dies "ends early" "denies its failure" "denies its status"; do
     case "$part $way" in
@@ -83,16 +85,16 @@ for part in $parts; do
   rm "$room/$part"
 done
 echo fails >"$room/build"
-expect "parts that need the program are named" 1 "9 passed, 11 failed" "launcher was not reached: there is no program"
+expect "parts that need the program are named" 1 "12 passed, 11 failed" "launcher was not reached: there is no program"
 rm "$room/build"
 echo skips >"$room/recorders"
-expect "what is skipped is said" 0 "37 passed, 0 failed, 1 skipped" "recorders: java: skipped, there is no javac"
+expect "what is skipped is said" 0 "40 passed, 0 failed, 1 skipped" "recorders: java: skipped, there is no javac"
 echo fails >"$room/recorders"
-expect "what failed is said at the end" 1 "37 passed, 1 failed" "recorders: java: FAILED"
+expect "what failed is said at the end" 1 "40 passed, 1 failed" "recorders: java: FAILED"
 echo "fails without a name" >"$room/recorders"
-expect "the last lines stand for a name" 1 "37 passed, 1 failed" "recorders: no name"
+expect "the last lines stand for a name" 1 "40 passed, 1 failed" "recorders: no name"
 echo "names an edit of skipped" >"$room/recorders"
-expect "a name with the word is not skipped" 0 "37 passed, 0 failed"
+expect "a name with the word is not skipped" 0 "40 passed, 0 failed"
 if grep -q "^recorders: must-fail" "$room/out"; then
   failed=$((failed + 1))
   echo "gate: FAILED: a wrong body with the word skipped in its name counts as skipped"
@@ -101,9 +103,9 @@ else
 fi
 rm "$room/recorders"
 echo "has a bad edit" >"$room/proofs"
-expect "a wrong body that can't be applied" 1 "38 passed, 1 failed" "proofs: must-fail snap_core/push.edit: BAD EDIT"
+expect "a wrong body that can't be applied" 1 "41 passed, 1 failed" "proofs: must-fail snap_core/push.edit: BAD EDIT"
 rm "$room/proofs"
-for file in share/test-pages.py share/test-draw.py share/test.sh ffi/test.sh share/test-package.sh ffi/record/test.sh examples/systems/test.sh sweep/scans.sh sweep/test.sh sweep/must_catch.py build; do
+for file in share/test-wrong-bodies.py share/wrong_bodies.py share/test-pages.py share/test-draw.py share/test.sh ffi/test.sh share/test-package.sh ffi/record/test.sh examples/systems/test.sh sweep/scans.sh sweep/test.sh sweep/must_catch.py build; do
   mv "$room/tree/$file" "$room/kept"
   expect "$file is not there" 1 '[0-9]+ passed, [1-9][0-9]* failed'
   mv "$room/kept" "$room/tree/$file"
@@ -115,8 +117,11 @@ expect "nothing has changed" 0 "4 passed, 0 failed" "left out: snap_core, since 
 echo snap_core >"$room/touched"
 expect "a crate has changed" 0 "6 passed, 0 failed" "left out: launcher, since nothing of snapjudge share has changed"
 echo fails >"$room/proofs"
-expect "a changed crate fails" 1 "3 passed, 3 failed" "program was not reached: a crate has failed"
+expect "a wrong body of a changed crate is let through" 1 "4 passed, 2 failed" "program was not reached: a crate has failed"
 rm "$room/proofs"
+echo fails >"$room/rt"
+expect "a changed crate fails" 1 "3 passed, 3 failed" "program was not reached: a crate has failed"
+rm "$room/rt"
 rm "$room/tree/built/passed"
 expect "no gate has passed" 1 "no gate has passed here yet.*"
 words=(--slow)

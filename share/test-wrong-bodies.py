@@ -1,0 +1,125 @@
+#!/usr/bin/env python3
+"""Tries how wrong bodies are tried, over a small crate: each is refused in its own function, and what is right is let through.
+
+The last line is 'N passed, M failed'.
+"""
+import os
+import sys
+import tempfile
+
+import wrong_bodies
+from wrong_bodies import rt
+
+FILES = {
+    "crates.txt": "few:\n",
+    "HANDLES": "Handles allowed: none.\n",
+    "crates/few/src/lib.rt": """//! A step.
+#![tactic(auto)]
+ghost use Rattle.std.specs.Prelude.{◌≡◌, ◌<◌, ◌+◌};
+
+pub mod steps;
+
+// How far a step goes.
+const STEP: u8 = 1;
+
+pub fn next(place: u8) -> u8
+    requires { place < 200 }
+    ensures { result ≡ place + 1 }
+{
+    place + STEP
+}
+
+pub fn same(seat: u8) -> u8
+    ensures { result ≡ seat }
+{
+    seat
+}
+""",
+    "crates/few/src/steps.rt": """//! More steps.
+ghost use Rattle.std.specs.Prelude.{◌≡◌, ◌<◌, ◌+◌};
+
+use crate::next;
+
+#[inline(always)]
+pub fn two_on(place: u8) -> u8
+    requires { place < 200 }
+    ensures { result ≡ place + 1 + 1 }
+{
+    let first = next(place);
+    if first < 200 { next(first) } else { first + 1 }
+}
+
+pub struct Place {
+    pub at: u8,
+}
+
+impl Place {
+    pub fn at(&self) -> u8
+        ensures { result ≡ self.now.at }
+    {
+        self.at
+    }
+}
+""",
+}
+# What is said of a wrong body.
+REFUSED, LET_THROUGH, BAD = "refused, as it must be", "NOT REFUSED", "BAD EDIT"
+# Each edit: what must be said of it, its file, the text that goes, and the one that comes.
+EDITS = {
+    "lib.next.no-step": (REFUSED, "lib", "    place + STEP", "    place"),
+    "lib.next.two-steps": (REFUSED, "lib", "    place + STEP", "    place + STEP + STEP"),
+    "lib.next.longer-step": (REFUSED, "lib", "STEP: u8 = 1", "STEP: u8 = 2"),
+    "steps.two_on.one-step": (REFUSED, "steps", "{ next(first) }", "{ first }"),
+    "steps.at.half-way": (REFUSED, "steps", "        self.at", "        self.at / 2"),
+    "longer-step": (REFUSED, "lib", "STEP: u8 = 1", "STEP: u8 = 2"),
+    "lib.same.right": (LET_THROUGH, "lib", "    seat", "    seat - 0"),
+    "lib.same.no-such-text": (BAD, "lib", "    place - STEP", "    seat"),
+    "lib.same.no-such-type": (BAD, "lib", "same(seat: u8)", "same(seat: u9)"),
+}
+# Edits that are tried in one run, and those of them that the toolchain has to try alone.
+RUNS = [
+    (["lib.next.no-step", "lib.next.two-steps", "lib.next.longer-step", "steps.two_on.one-step", "steps.at.half-way"], []),
+    (["lib.next.no-step", "lib.same.right", "steps.two_on.one-step", "lib.same.no-such-text"], ["lib.same.right", "lib.same.no-such-text"]),
+    (["lib.same.no-such-type", "longer-step"], ["lib.same.no-such-type", "longer-step"]),
+]
+
+
+def try_edits(names):
+    """What is said of each of these edits, and which the toolchain tried alone."""
+    left = []
+    wrong_bodies.try_alone = lambda crate, edits, flags: left.extend(map(name_of, edits)) or rt.must_fail_all(crate, edits, flags)
+    with tempfile.TemporaryDirectory() as room:
+        os.makedirs(f"{room}/crates/few/src")
+        os.mkdir(f"{room}/crates/few/must-fail")
+        texts = FILES | {f"crates/few/must-fail/{it}.edit": "file: src/{}.rt\nold: {}\nnew: {}\n".format(*EDITS[it][1:]) for it in names}
+        for file, text in texts.items():
+            with open(f"{room}/{file}", "w", encoding="utf-8") as out:
+                out.write(text)
+        crate = rt.Crate(f"{room}/crates/few", room, {})
+        edits, _ = rt.edits_of(crate)
+        said = wrong_bodies.try_together(crate, edits, ["--jobs", "1"])
+    return {name_of(edit): it for edit, it in zip(edits, said)}, left
+
+
+def name_of(edit):
+    return os.path.basename(edit).removesuffix(".edit")
+
+
+def main():
+    rt.rtlib.guarded()
+    passed = failed = 0
+    for names, alone in RUNS:
+        said, left = try_edits(names)
+        wrong = [f"{it}: {said[it][1]}" for it in names if EDITS[it][0] not in said[it][1] or said[it][0] != (EDITS[it][0] == REFUSED)]
+        if sorted(left) != sorted(alone):
+            wrong.append(f"tried alone: {', '.join(left) or 'none'}; and to be tried so: {', '.join(alone) or 'none'}")
+        for it in wrong:
+            print(f"wrong-bodies: failed: {it}")
+        failed += bool(wrong)
+        passed += not wrong
+    print(f"{passed} passed, {failed} failed")
+    return bool(failed)
+
+
+if __name__ == "__main__":
+    sys.exit(main())
