@@ -1,12 +1,10 @@
 #!/usr/bin/env python3
-"""Processor seconds that each wrong body of a crate takes in the gate, the dearest first.
+"""Processor seconds that each wrong body of a crate takes alone, the dearest first.
 
 usage: edits.py CRATE ..        (after ./build, which leaves the libraries below the crates)
 
-As in the gate, the crate is proved once, and each of its edits is tried over a copy of what that has kept.
+The crate is proved once, and each of its edits is tried over a copy of what that has kept. The gate tries many edits in one check.
 """
-import importlib.machinery
-import importlib.util
 import os
 import resource
 import shutil
@@ -14,17 +12,8 @@ import sys
 import tempfile
 
 TOP = os.path.dirname(os.path.dirname(os.path.abspath(__file__)))
-RT = os.path.realpath(shutil.which("rt") or sys.exit("there is no rt on the path"))
-sys.path.insert(0, os.path.dirname(RT))
-import rtlib  # noqa: E402
-
-
-def toolchain():
-    """The toolchain's command `rt`, as a module."""
-    loader = importlib.machinery.SourceFileLoader("rt_command", RT)
-    module = importlib.util.module_from_spec(importlib.util.spec_from_loader("rt_command", loader))
-    loader.exec_module(module)
-    return module
+sys.path.insert(0, f"{TOP}/share")
+from wrong_bodies import rt  # noqa: E402
 
 
 def processor_seconds():
@@ -36,8 +25,7 @@ def main(names):
     if not names:
         print(__doc__, file=sys.stderr)
         return 5
-    rtlib.guarded()
-    rt = toolchain()
+    rt.rtlib.guarded()
     rows = []
     for name in names:
         crate = rt.Crate(f"{TOP}/crates/{name}", TOP, {})

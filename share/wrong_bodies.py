@@ -16,13 +16,14 @@ import re
 import shutil
 import sys
 import tempfile
+import time
 from dataclasses import dataclass
 
 RT = os.path.realpath(shutil.which("rt") or sys.exit("there is no rt on the path"))
 # A check of more functions would need more memory than the proof of the crate.
 MOST = 24
 # The first line of a function, as `rt fmt` lays it out. The last is a brace as far to the right, if the first does not end it.
-BEGIN = re.compile(r"( *)(?:pub(?:\(\w+\))? )?(?:const )?(?:unsafe )?fn (\w+)")
+BEGIN = re.compile(r'( *)(?:pub(?:\(\w+\))? )?(?:const )?(?:unsafe )?(?:extern "C" )?fn (\w+)')
 # The first line of a block of methods: the trait and what it is of, if there is one, and the type. And that of a type.
 BLOCK = re.compile(r"impl(?:<.*?>)? (?:(?:\w+::)*(\w+)(?:<(\w+)>)? for )?(\w+)")
 TYPE = re.compile(r"(?:pub(?:\(\w+\))? )?(?:struct|enum) (\w+)")
@@ -146,11 +147,11 @@ class Crate:
 
     def control(self, wrongs):
         """The shortest function with a contract that is right here and calls none of the crate."""
-        calls = re.compile(rf"\b(?:{'|'.join(it.name for it in self.functions)})(?:::<[^>]*>)?\(")
+        calls = re.compile(rf"\b({'|'.join(it.name for it in self.functions)})(?:::<[^>]*>)?\(")
         wrong = {it.function.path for it in wrongs}
         for it in self.functions:
-            text = "\n".join(self.lines[it.file][it.first + 1 : it.last + 1])
-            if it.path not in wrong and "ensures" in text and not calls.search(text):
+            text = "\n".join(self.lines[it.file][it.first : it.last + 1])
+            if it.path not in wrong and "ensures" in text and set(calls.findall(text)) <= {it.name}:
                 return it
         return None
 
@@ -159,7 +160,9 @@ class Crate:
         texts, functions = self.together(wrongs)
         control = self.control(wrongs)
         asked = [it.path for it in [*functions, *([control] if control else [])]]
+        begun = time.monotonic()
         said = rt.checked(self.crate, texts, [*flags, *(word for path in asked for word in ("--only", path))], kept).stdout
+        print(f"{self.crate.name}: a check of {len(wrongs)} wrong bodies took {time.monotonic() - begun:.0f} s", flush=True)
         lines = said.rstrip("\n").split("\n")
         is_read = lines[-1].startswith("only=") and not any(rt.unread(it, texts) for it in lines)
         if not is_read or control and f"fn {self.crate.name}::{control.path}: proved" not in lines:
