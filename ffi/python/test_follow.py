@@ -607,6 +607,11 @@ failed 0
             ran = subprocess.run(command_of(["--once", "-"]), env=environment(), stdin=file, capture_output=True, timeout=PATIENCE, check=False)
         self.assertEqual((ran.returncode, ran.stdout.splitlines()[0], ran.stderr), (0, b"window 1 events 10 atomic from 2 to 11", b""))
 
+    def test_a_standard_input_that_is_closed_is_told_of(self):
+        command = f"'{sys.executable}' -B -m snapjudge.follow --once - <&-"
+        ran = subprocess.run(["sh", "-c", command], env=environment(), capture_output=True, timeout=PATIENCE, check=False)
+        self.assertEqual((ran.returncode, ran.stdout, ran.stderr), (4, b"", b"snapjudge: -: can't be opened\n"))
+
     def test_a_record_without_an_end_is_refused(self):
         for device in ("/dev/zero", "run.csv"):
             self.put("run.csv", ["begin,0,view," + "x" * (1 << 20)])

@@ -48,6 +48,9 @@ class File:
     def __init__(self, path):
         self.path = path
         try:
+            if path == b"-" and sys.stdin is None:
+                # it is closed, and another file may have its number by now
+                raise ValueError
             # a pipe without a writer would let it wait, and hold an interrupt up
             self.number = 0 if path == b"-" else os.open(path, os.O_RDONLY | os.O_NONBLOCK)
             self.is_plain = stat.S_ISREG(os.fstat(self.number).st_mode)
