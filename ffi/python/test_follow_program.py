@@ -15,6 +15,7 @@ from contextlib import redirect_stderr
 from unittest import mock
 
 from snapjudge import follow
+from snapjudge.windows import RECORD
 from test_follow import CALM, HEADER, LATER, PATIENCE, shapes_of, text_of
 
 HERE = os.path.dirname(os.path.abspath(__file__))
@@ -87,6 +88,16 @@ class Beside(unittest.TestCase):
     def test_long_recordings_have_the_same_lines(self):
         for name in ("none overlaps, width 8", "atomic, width 8", "toggling views", "wrong values, the last view"):
             self.same(shapes_of(name, 4096)[1], 100)
+
+    def test_the_longest_record_has_the_same_lines(self):
+        begin = "begin,0,view,"
+        for quote in ("", '"'):
+            for size, word in ((RECORD, "data"), (RECORD + 1, "toolong")):
+                row = begin + quote + "x" * (size - len(begin) - 2 * len(quote)) + quote
+                for text in (text_of([row]), text_of([row]).rstrip("\n")):
+                    status, lines = by_program(text)
+                    self.assertEqual((status, lines.partition("\n")[0]), (3, f"window 1 refused record 2: {word}"))
+                    self.same(text, 1)
 
     def test_few_views_are_told_of(self):
         text = text_of(CALM + LATER)

@@ -16,7 +16,7 @@ PLAIN, STAMPED = [b"event", b"process", b"op", b"data"], [b"at", b"event", b"pro
 HEADER = b",".join(PLAIN) + b"\n"
 # The greatest process, component, number or value, and stamp.
 PROCESS, COMPONENT, GREATEST, STAMP = 2**16 - 1, 255, 2**32 - 1, 2**64 - 1
-# The most bytes of a record, which is far more than a record of a history can have.
+# The most bytes of a record without its line end, which is far more than a record of a history can have.
 RECORD = 2**20
 
 # A byte order mark, which may stand at the begin of a text.
@@ -44,7 +44,7 @@ def require(is_so, place, word):
 
 
 class Records:
-    """Cuts the bytes of a file, which come piece by piece, into records, each a list of fields and its size."""
+    """Cuts the bytes of a file, which come piece by piece, into records, each a list of fields and its size with a line end."""
 
     def __init__(self):
         self._rest, self._begun = b"", False
@@ -83,7 +83,7 @@ class Records:
                 begin, fields = at, []
         self._rest = text[begin:]
         if is_end and self._rest:
-            found.append((fields + [last_field(text[at:])], len(self._rest)))
+            found.append((fields + [last_field(text[at:])], len(self._rest) + 1))
             self._rest = b""
         return found
 
@@ -156,7 +156,7 @@ class Reader:
         """The events that are whole now."""
         for fields, size in self._records.take(piece, is_end):
             self._count += 1
-            require(size <= RECORD, self.place, "toolong")
+            require(size <= RECORD + 1, self.place, "toolong")
             if self.header is None:
                 require(fields in self._headers, self.place, "header")
                 self.header = fields
