@@ -126,9 +126,11 @@ class OneMachine(Recordings):
     def test_no_status_of_a_verdict_comes_without_sums(self):
         for words, status, told in ((["--scheduler"], 5, b"expected one argument"), ([], 5, b"there is no recording"),
                                     (["--help"], 5, b""), (["--views", "-1", "."], 5, b"--views"), (["--scheduler", "", "."], 5, b"no address"),
-                                    (["--workers", "0", "."], 5, b"invalid positive value"),
-                                    (["--events", "0", "."], 5, b"invalid limit value"), (["--events", "1048577", "."], 5, b"invalid limit value"),
-                                    (["--files-from", "none"], 4, b"none: No such file"), (["--files-from", "-"], 4, b"there are no recordings")):
+                                    (["--workers", "0", "."], 5, b"--workers: '0' is no whole number from 1 to "),
+                                    (["--events", "0", "."], 5, b"--events: '0' is no whole number from 1 to 1048576"),
+                                    (["--events", "1048577", "."], 5, b"--events: '1048577' is no whole number"), (["--bag", "x", "."], 5, b"--bag: 'x' is no"),
+                                    (["--views", "1" * 5000, "."], 5, b"--views"),
+                                    (["--files-from", "none"], 4, b"none: no such file"), (["--files-from", "."], 4, b".: is a directory"), (["--files-from", "-"], 4, b"there are no recordings")):
             found = self.ran(*words)
             self.assertEqual((found[0], b"files" in found[1].splitlines()[:1]), (status, False))
             self.assertIn(told, found[2])

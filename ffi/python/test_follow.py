@@ -630,7 +630,7 @@ failed 0
         self.put("run.csv", CALM)
         for words, status, told in ((["none.csv"], 4, "none.csv: no such file"), (["--once", "."], 0, ""), ([], 5, "PATH"), (["--help"], 5, ""),
                                     (["--events", "0", "run.csv"], 5, "--events"), (["--events", "65537", "run.csv"], 5, "--events"),
-                                    (["--idle", "-1", "run.csv"], 5, "--idle"), (["--interval", "nan", "run.csv"], 5, "--interval"),
+                                    (["--idle", "-1", "run.csv"], 5, "--idle"), (["--interval", "nan", "run.csv"], 5, "/--interval: 'nan' is no number above 0 and below 1000000000"),
                                     (["--once", "--idle", "1", "run.csv"], 5, "not allowed with"), (["--rounds", "run.csv"], 5, "--rounds wants a folder")):
             found = self.ran(*words)
             self.assertEqual((found[0], told in found[2]), (status, True), (words, found))

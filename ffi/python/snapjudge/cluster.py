@@ -19,7 +19,7 @@ import time
 import traceback
 
 from snapjudge import MOST_EVENTS
-from snapjudge.bags import FAILED, USUAL, Limits, judge_bag
+from snapjudge.bags import FAILED, UNOPENED, USUAL, Limits, judge_bag
 
 # The lines of the sums, by the exit status.
 KINDS = ("atomic", "only-regular", "not-regular", "refused", "failed")
@@ -242,13 +242,15 @@ def names_below(folder, lost):
 def names_in(path, end):
     """The names in a list, each ended by a byte; the last need not be."""
     try:
-        if path == "-":
-            text = sys.stdin.buffer.read()
-        else:
-            with open(path, "rb") as file:
-                text = file.read()
-    except (OSError, AttributeError) as error:
-        raise Unable(f"{path}: {getattr(error, 'strerror', None) or 'read failed'}") from None
+        # a standard input that is closed is none
+        found = contextlib.nullcontext(sys.stdin and sys.stdin.buffer) if path == "-" else open(path, "rb")
+    except (OSError, ValueError) as error:
+        raise Unable(f"{path}: " + UNOPENED.get(getattr(error, "errno", None), "can't be opened")) from None
+    try:
+        with found as file:
+            text = file.read()
+    except (OSError, AttributeError):
+        raise Unable(f"{path}: read failed") from None
     names = text.removesuffix(end).split(end) if text else []
     if b"" in names:
         raise Unable(f"{path}: name {names.index(b'') + 1} is empty")
@@ -262,24 +264,19 @@ class Words(argparse.ArgumentParser):
         super().exit(USAGE, message)
 
 
-def natural(word):
-    if not word.isdecimal():
-        raise ValueError(word)
-    return int(word)
+def whole(least, most=sys.maxsize):
+    """What reads a whole number of a range, and says the range where a word is none."""
+
+    def read(word):
+        is_number = word.isascii() and word.isdecimal() and len(word) < 20
+        if not is_number or not least <= int(word) <= most:
+            raise argparse.ArgumentTypeError(f"{word!r} is no whole number from {least} to {most}")
+        return int(word)
+
+    return read
 
 
-def positive(word):
-    number = natural(word)
-    if number == 0:
-        raise ValueError(word)
-    return number
-
-
-def limit(word):
-    number = positive(word)
-    if number > MOST_EVENTS:
-        raise ValueError(word)
-    return number
+natural, positive, limit = whole(0), whole(1), whole(1, MOST_EVENTS)
 
 
 def words_of(arguments):

@@ -3,6 +3,7 @@
 How it is cut into windows is in windows.py beside this file, and the judge of each is the library, whose answer is proved. This file
 reads what comes: a file, a pipe, or the files of a folder.
 """
+import argparse
 import collections
 import contextlib
 import os
@@ -15,12 +16,14 @@ import traceback
 
 from snapjudge import MOST_EVENTS, STATUSES, report
 from snapjudge.bags import BYTES_AN_EVENT, FAILED, PIECE, REFUSED, UNOPENED, USUAL
-from snapjudge.cluster import INTERRUPTED, KINDS, Unable, Words, names_below, natural, positive, say, shown, write
+from snapjudge.cluster import INTERRUPTED, KINDS, Unable, Words, limit, names_below, natural, positive, say, shown, write
 from snapjudge.windows import HEADER, PLAIN, RECORD, STAMPED, Cutter, Reader, Refusal, Waiting, require, window_of
 
 # Of how many events a window is at least, if not said.
 LEAST = 1000
 IRREGULAR = STATUSES.index("irregular")
+# No number of seconds on the command line is as great.
+LONGEST = 1_000_000_000
 # How many of the last bytes are compared when a file has grown, to see that it is still the same.
 TAIL = 256
 
@@ -330,16 +333,12 @@ def told_place(place):
 
 
 def seconds(word):
-    number = float(word)
-    if not 0 < number < 1e9:
-        raise ValueError(word)
-    return number
-
-
-def window_length(word):
-    number = positive(word)
-    if number > MOST_EVENTS:
-        raise ValueError(word)
+    try:
+        number = float(word)
+    except ValueError:
+        number = 0
+    if not 0 < number < LONGEST:
+        raise argparse.ArgumentTypeError(f"{word!r} is no number above 0 and below {LONGEST}")
     return number
 
 
@@ -352,9 +351,9 @@ def words_of(arguments):
     when.add_argument("--idle", metavar="SECONDS", type=seconds, help="end if nothing has come for so long")
     when.add_argument("--pid", metavar="PID", type=positive, help="end when this process, which records, is gone")
     words.add_argument("-s", "--interval", metavar="SECONDS", type=seconds, default=1.0, help="look for more so often; 1 if not said")
-    words.add_argument("--events", metavar="N", type=window_length,
+    words.add_argument("--events", metavar="N", type=limit,
                        help=f"end a window at the first such moment from N events on; {LEAST} if not said")
-    words.add_argument("--most", metavar="N", type=window_length, default=USUAL,
+    words.add_argument("--most", metavar="N", type=limit, default=USUAL,
                        help=f"let a window have so many events; {USUAL} if not said, and {MOST_EVENTS} at most")
     words.add_argument("--rounds", action="store_true", help="each file of the folder is a round, whose numbers begin at 1")
     words.add_argument("--keep", metavar="FOLDER", help="write each window that is not atomic into this folder")
