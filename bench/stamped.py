@@ -9,7 +9,7 @@ import subprocess
 import sys
 import tempfile
 
-from run import HERE, SNAPJUDGE, measure
+from run import HERE, SNAPJUDGE, run
 
 CASES = [("atomic", 16384, 8), ("overlapping", 16384, 4), ("atomic", 16384, 256)]
 
@@ -33,12 +33,16 @@ def main():
             for name, text in ((plain, made), (turned, stamped(made))):
                 with open(name, "wb") as file:
                     file.write(text)
-            done = {plain: [], turned: []}
+            done, reports = {plain: [], turned: []}, set()
             for _ in range(runs):
                 for name in done:
-                    done[name].append(measure([[SNAPJUDGE, "check"]], name, room, 1)[0])
-            without, reverse = (min(ms for _, ms, *_ in done[name]) for name in (plain, turned))
-            same = "same" if done[plain][0][-1] == done[turned][0][-1] else "DIFFERENT"
+                    report = os.path.join(room, "report")
+                    status, taken, *_ = run([SNAPJUDGE, "check"], name, report)
+                    done[name].append(taken)
+                    with open(report, "rb") as file:
+                        reports.add((status, file.read()))
+            without, reverse = (min(done[name]) for name in (plain, turned))
+            same = "same" if len(reports) == 1 else "DIFFERENT"
             print(f"| {kind} | {events} | {components} | {without:.1f} | {reverse:.1f} | {reverse / without:.2f} | {same} |", flush=True)
 
 
