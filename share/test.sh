@@ -452,6 +452,11 @@ expect "what is there of the library" 0 "" find bare -name 'libsnapjudge*' -o -n
 expect "a full disk" 1 "" sh -c 'ulimit -f 500; "$1" "pre fix" 2>/dev/null' sh "$top/install"
 expect "the program that was there" 2 "$stale" "pre fix/bin/snapjudge" check "$examples/stale-view.csv"
 expect "what it left by halves" 0 "" find "pre fix" -name '*.new'
+mkdir stopped
+printf '#!/bin/sh\n"%s" "$@" && kill -TERM "$PPID"\n' "$room/tools/cp" >stopped/cp
+chmod +x stopped/cp
+expect "an installation that is interrupted" 130 "" env PATH="$room/stopped:$room/tools" "$top/install" "pre fix"
+expect "what that left by halves" 0 "" find "pre fix" -name '*.new'
 expect "no output for what it says" 1 "" sh -c '"$1" "pre fix" >/dev/full' sh "$top/install"
 mkdir -p "pre fix/share/fish/mine"
 rm "pre fix/share/man/man1/snapjudge.1"
