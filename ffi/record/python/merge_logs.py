@@ -1,6 +1,6 @@
 """Puts the logs of several processes together as one history for `snapjudge check`.
 
-    python3 merge_logs.py [--error NS] [--initial VALUE[,VALUE..]] [--part K[,K..]] [--table FILE] LOG.. > history.csv
+    python3 merge_logs.py [--error NS] [--initial VALUE[,VALUE..]] [--part K[,K..]] [--table FILE] [--events N] LOG.. > history.csv
 
 One file, Python 3.8 or later, no dependencies: copy it into a harness. docs/RECORDING.md of snapjudge has the form of a log.
 
@@ -8,6 +8,7 @@ One file, Python 3.8 or later, no dependencies: copy it into a harness. docs/REC
     --initial VALUE  the value that each component has at first, 0 where it is not given; or those of components 0, 1 and so on
     --part K,..      takes these components alone, and the views that list each of them
     --table FILE     values may be any words, and FILE then has the number that stands for each: lines NUMBER,WORD
+    --events N       how many events the history may have, 65536 where it is not given; `snapjudge check` then needs the same
 
 The status is 0 where the history was written, and 3 where the logs are none: standard error then has the log, the line, a word
 and a sentence. It is 4 where reading or writing failed, and 5 where the words of the command line were not taken.
@@ -27,7 +28,8 @@ import re
 import sys
 
 HEADER = "ns,event,process,op,data"
-EVENT_LIMIT = 65536  # of a history; a call has two, its begin and its end
+EVENT_LIMIT = 65536  # of a history, if not said; a call has two, its begin and its end
+MOST_EVENTS = 1048576
 COMPONENT_LIMIT = 256
 PROCESS_LIMIT = 65536
 HAVE_DATA = (("begin", "update"), ("end", "view"))
@@ -52,7 +54,7 @@ FAULTS = {
     "same": "a component gets one value twice, or the one that it has at first: make its values differ",
     "initial": "--initial has no value for this component",
     "part": "the view does not list each component: choose a part by --part",
-    "toomany": f"the logs have more than {EVENT_LIMIT} events",
+    "toomany": f"the logs have more events than --events allows, or than {EVENT_LIMIT} where it is not given",
     "span": "the readings lie too far apart for a stamp of 64 bits",
 }
 
@@ -219,7 +221,7 @@ def chosen(calls, part):
     return updates + views
 
 
-def stamped(calls):
+def stamped(calls, limit):
     """The events, by stamps that rise: at one reading the begins stand before the ends, so that such calls overlap."""
     places = {process: place for place, process in enumerate(sorted({call.process for call in calls}))}
     least = min((call.begun for call in calls), default=0)
@@ -230,14 +232,14 @@ def stamped(calls):
     begins = [(stamp(call, call.begun, False), "begin", call) for call in calls]
     ends = [(stamp(call, call.ended, True), "end", call) for call in calls if call.ended is not None]
     events = sorted(begins + ends, key=lambda event: event[0])
-    if len(events) > EVENT_LIMIT:
+    if len(events) > limit:
         raise LogError("toomany")
     if events and events[-1][0] >= 1 << 64:
         raise LogError("span")
     return events
 
 
-def merge(calls, initials=("0",), part=None, has_words=False):
+def merge(calls, initials=("0",), part=None, has_words=False, limit=EVENT_LIMIT):
     """The history of the calls of all logs, and its table of words."""
     calls = chosen(calls, part)
     board, lines, table = Board(calls, initials), ["at,event,process,op,data"], {}
@@ -245,7 +247,7 @@ def merge(calls, initials=("0",), part=None, has_words=False):
     def spelled(value):
         return table.setdefault(value, len(table)) if has_words else value
 
-    for stamp, event, call in stamped(calls):
+    for stamp, event, call in stamped(calls, limit):
         entries = board.entries(call) if (event, call.op) in HAVE_DATA else []
         data = " ".join(f"{component}:{number}:{spelled(value)}" for component, number, value in entries)
         lines.append(f"{stamp},{event},{call.process},{call.op},{data}")
@@ -279,6 +281,12 @@ def words_of_command():
             raise argparse.ArgumentTypeError(f"{word} is no number of nanoseconds")
         return number
 
+    def events(word):
+        number = number_below(MOST_EVENTS + 1, word)
+        if not number:
+            raise argparse.ArgumentTypeError(f"{word} is no number from 1 to {MOST_EVENTS}")
+        return number
+
     def components(word):
         numbers = [number_below(COMPONENT_LIMIT, part) for part in word.split(",")]
         if None in numbers:
@@ -294,6 +302,7 @@ def words_of_command():
     option("--initial", "VALUE[,VALUE..]", told, type=lambda word: word.split(","), default=["0"])
     option("--part", "K[,K..]", "takes these components alone, and the views that list each of them", type=components)
     option("--table", "FILE", "values may be any words; FILE then has the number for each, in lines NUMBER,WORD")
+    option("--events", "N", f"how many events the history may have, {EVENT_LIMIT} if not said", type=events, default=EVENT_LIMIT)
     option("logs", "LOG", "the log of one process", nargs="+")
     words = parser.parse_args()
     if words.table is None and not all(number_below(1 << 32, value) is not None for value in words.initial):
@@ -305,7 +314,7 @@ def main():
     words = words_of_command()
     has_words = words.table is not None
     try:
-        history, table = merge(read_logs(words.logs, words.error, has_words), words.initial, words.part, has_words)
+        history, table = merge(read_logs(words.logs, words.error, has_words), words.initial, words.part, has_words, words.events)
         if has_words:
             with open(words.table, "w", encoding="utf-8", errors="surrogateescape") as file:
                 file.writelines(f"{number},{word}\n" for word, number in table.items())

@@ -281,7 +281,11 @@ class Logs(unittest.TestCase):
     def test_too_many_events(self):
         views = [line for at in range(0, 65536, 2) for line in view(0, at, at + 1, "")]
         self.assertEqual(judge(self.merged([log_of(*views)]), "--quiet")[0], 0)
+        more = log_of(*views, *view(0, 65536, 65537, ""))
         self.assertRefused("", "toomany", [log_of(*views, "65536,begin,0,view,")])
+        self.assertRefused("", "toomany", [more], "--events", "65537")
+        self.assertEqual(judge(self.merged([more], "--events", "65538"), "--quiet", "--events", "65538")[0], 0)
+        self.assertRefused("", "toomany", [log_of(*view(0, 0, 1, ""))], "--events", "1")
 
     def test_readings_that_lie_too_far_apart(self):
         self.merged([log_of(*view(0, 0, (1 << 63) - 1, ""))])
@@ -289,7 +293,7 @@ class Logs(unittest.TestCase):
         self.assertRefused("", "span", [log_of(*view(0, 0, 1, ""), f"{1 << 63},begin,0,view,")])
 
     def test_words_of_the_command(self):
-        for words in (["--error", "-1"], ["--part", "256"], ["--part", ""], ["--initial", "x"], ["--unknown"]):
+        for words in (["--error", "-1"], ["--part", "256"], ["--part", ""], ["--initial", "x"], ["--unknown"], ["--events", "0"], ["--events", "1048577"]):
             self.assertEqual(self.merge([log_of()], *words)[:2], (5, ""))
         self.assertEqual(self.merge([], "--help")[0], 0)
 
