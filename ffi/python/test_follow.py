@@ -489,6 +489,10 @@ failed 0
                 self.assertEqual((status, out.splitlines()[0], out.splitlines()[-1]), (4, "window 2 failed", "failed 1 first 2"))
                 self.assertEqual(said.partition(" while")[0].strip(), f"snapjudge: run.csv: {told}")
 
+    def test_an_idle_time_may_be_shorter_than_the_interval(self):
+        self.put("run.csv", CALM)
+        self.assertEqual(self.ran("-s", str(2 * PATIENCE), "--idle", "0.2", "run.csv")[0::2], (0, ""))
+
     def test_a_file_that_is_removed_is_followed_as_it_is(self):
         self.put("run.csv", CALM)
         with self.following("--events", "4", "--idle", "0.5", "run.csv") as it:

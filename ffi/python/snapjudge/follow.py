@@ -385,7 +385,7 @@ def follow_to_the_end(follow, words, interrupts):
             follow.end(is_whole and not is_asked, is_asked)
             return is_asked
         if not found:
-            interrupts.wait(words.interval, follow.pipes)
+            interrupts.wait(min(words.interval, words.idle or words.interval), follow.pipes)
 
 
 def is_there(process):
