@@ -7,6 +7,7 @@ top=$(cd "$(dirname "$0")/.." && pwd)
 examples=$top/examples
 room=$(mktemp -d) || exit 1
 trap 'rm -rf "$room"' EXIT
+trap 'exit 130' INT TERM HUP
 passed=0
 failed=0
 skipped=0
