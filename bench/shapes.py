@@ -122,6 +122,8 @@ def main():
     words.add_argument("shapes", nargs="*", metavar="SHAPE", help="only shapes whose name has this text")
     asked = words.parse_args()
     if asked.write:
+        if asked.write[0] not in SHAPES:
+            words.error(f"there is no shape {asked.write[0]}; --list prints them")
         texts = texts_of(asked.write[0], int(asked.write[1]))
         for text, path in zip(texts, asked.into or ["/dev/stdout"]):
             with open(path, "w", newline="", encoding="utf-8") as file:
