@@ -1,7 +1,7 @@
 #!/usr/bin/env python3
 """Tries how wrong bodies are tried, over a small crate: each is refused in its own function, and what is right is let through.
 
-The last line is 'N passed, M failed'.
+The last line is 'N passed, M failed', with ', K skipped' behind it where the toolchain tries them in its own way.
 """
 import os
 import sys
@@ -106,6 +106,9 @@ def name_of(edit):
 
 
 def main():
+    if not wrong_bodies.is_known():
+        print("wrong bodies in one check: skipped, since this toolchain tries them in its own way\n0 passed, 0 failed, 1 skipped")
+        return 0
     rt.rtlib.guarded()
     passed = failed = 0
     for names, alone in RUNS:

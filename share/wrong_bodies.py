@@ -8,9 +8,11 @@ The toolchain checks a crate once for each wrong body, and proves it once more b
 the crate depends on. So here a check has wrong bodies of many functions, and proves only these and what they call. A wrong body is
 refused if the check names a goal of its function that is not proved. One function more is as it was, and must be proved: otherwise
 the check shows nothing. What is not refused so, or stands in no function, is tried as the toolchain tries it, and that decides.
+A toolchain with other calls than this file knows tries all in its own way.
 """
 import importlib.machinery
 import importlib.util
+import inspect
 import os
 import re
 import shutil
@@ -43,7 +45,13 @@ def toolchain():
 
 
 rt = toolchain()
-try_alone = rt.must_fail_all
+try_alone = getattr(rt, "must_fail_all", None)
+
+
+def is_known():
+    """Whether the toolchain tries wrong bodies by the calls that this file knows. Otherwise it tries them in its own way."""
+    known = {"must_fail_all": ["crate", "edits", "flags"], "checked": ["crate", "texts", "flags", "kept"], "read_edit": ["edit", "folder"], "unread": ["line", "changed"]}
+    return all(callable(getattr(rt, name, None)) and [*inspect.signature(getattr(rt, name)).parameters] == has for name, has in known.items())
 
 
 @dataclass(frozen=True)
@@ -210,11 +218,14 @@ def main(words):
     if not words:
         print(__doc__, file=sys.stderr)
         return 5
-    rt.must_fail_all = try_together
+    if is_known():
+        rt.must_fail_all = try_together
+    else:
+        print("this toolchain tries each wrong body in its own way", flush=True)
     if words != ["ci"]:
         return rt.edits_alone(words)
     # while wrong bodies wait for a processor, a second job of a proof costs more than it saves
-    os.environ.setdefault("RT_JOBS", str(rt.processors()))
+    os.environ.setdefault("RT_JOBS", str(len(os.sched_getaffinity(0))))
     return rt.ci()
 
 
