@@ -29,5 +29,6 @@ complete -c snapjudge -n '__fish_seen_subcommand_from record' -x -l rounds -d 'R
 complete -c snapjudge -n '__fish_seen_subcommand_from record' -l scan -d 'Scans in place of collects'
 complete -c snapjudge -n '__fish_seen_subcommand_from record' -l judge -d 'Write the report'
 complete -c snapjudge -n '__fish_seen_subcommand_from record' -l stamped -d 'Write stamps'
-complete -c snapjudge -n '__fish_seen_subcommand_from check shrink explain draw record' -x -l events -d 'Events that a history may have, 1 to 1048576'
+complete -c snapjudge -n '__fish_seen_subcommand_from check shrink explain draw' -x -l events -d 'Events that a history may have, 1 to 1048576'
+complete -c snapjudge -n '__fish_seen_subcommand_from record' -x -l events -d 'Events that a history may have, 32 to 1048576'
 complete -c snapjudge -s h -l help -d 'Say how it is used'

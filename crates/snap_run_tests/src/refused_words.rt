@@ -22,6 +22,7 @@ const OTHER_LINES: &[&str] = &[
     "snapjudge record --rounds 2048 --events 65535",
     "snapjudge record --rounds 1 --events 31",
     "snapjudge record --rounds 32769 --events 1048576",
+    "snapjudge record --events 31",
     "snapjudge record --events 0",
     "snapjudge record --events 1048577",
     "snapjudge record a.csv",
@@ -103,7 +104,8 @@ fn other_words_get_the_usage(rt: HostRuntime) -> Result<(), Fail> {
     Ok(())
 }
 
-// Lines with a number beyond the limit of events, and what is said of it: as of a number that the parser refuses.
+// Lines with a number beyond the limit of events, or with a limit that allows no round, and what is said of it: as of a number that
+// the parser refuses.
 const BEYOND: &[(&str, &str)] = &[
     (
         "snapjudge record --rounds 2049",
@@ -116,6 +118,18 @@ const BEYOND: &[(&str, &str)] = &[
     (
         "snapjudge record --events 1048576 --rounds 32769",
         "error: invalid value '32769' for '--rounds <R>': 32769 is not in 1..=32768\n\nFor more information, try '--help'.\n",
+    ),
+    (
+        "snapjudge record --events 100 --rounds 4",
+        "error: invalid value '4' for '--rounds <R>': 4 is not in 1..=3\n\nFor more information, try '--help'.\n",
+    ),
+    (
+        "snapjudge record --events 31",
+        "error: invalid value '31' for '--events <N>': 31 is not in 32..=1048576\n\nFor more information, try '--help'.\n",
+    ),
+    (
+        "snapjudge record --rounds 1 --events 31",
+        "error: invalid value '31' for '--events <N>': 31 is not in 32..=1048576\n\nFor more information, try '--help'.\n",
     ),
     (
         "snapjudge check --views 32769",

@@ -6,11 +6,11 @@ use Rattle.clap.specs.Words.{Row, Text, first_of, one_of, subcommand_of, takes}
 use Rattle.snap_core.specs.Limits.{IsLimit, event_limit}
 use Rattle.snap_threads.specs.Cuttings.{IsPieces, IsWorkers}
 use Rattle.snap_words.specs.CommandLine.{program_app}
-use Rattle.snap_words.specs.Jobs.{AreRoundsWithin, AreViews, AsksCheck, AsksLimit, AsksRecordWithin, Flags, IsOneForm, IsWindow, SaysOr, color_text, files_of, flag_text, format_text, names_windows, usual_window}
+use Rattle.snap_words.specs.Jobs.{AreRoundsWithin, AreViews, AsksCheck, AsksLimit, AsksRecordWithin, Flags, IsOneForm, IsWindow, SaysOr, color_text, files_of, flag_text, format_text, names_windows, usual_rounds, usual_window}
 use Rattle.snap_words.specs.Lines.{Means}
 use Rattle.snap_words.specs.declared.job.Options.{Options}
 use Rattle.snap_words.specs.declared.word.TheConstants.{NUMBER_LIMIT}
-use Rattle.snap_words.proofs.Numbers.{million_text, two_text, usual_text}
+use Rattle.snap_words.proofs.Numbers.{hundred_text, million_text, two_text, usual_text}
 use Rattle.snap_words.proofs.Rows.{rows_in}
 
 abbrev pub rows_by : List Text → List Row
@@ -38,6 +38,9 @@ usual_limit rows is = record { events_fit = (omega arith, omega arith); events_a
 
 pub greatest_limit : (rows : List Row) → one_of (codes "events") rows ≡ Some (codes "1048576") → AsksLimit 1048576 rows
 greatest_limit rows is = record { events_fit = (omega arith, omega arith); events_are = is ∙ ap Some (sym million_text) }
+
+pub small_limit : (rows : List Row) → one_of (codes "events") rows ≡ Some (codes "100") → AsksLimit 100 rows
+small_limit rows is = record { events_fit = (omega arith, omega arith); events_are = is ∙ ap Some (sym hundred_text) }
 
 -- a whole report is one form of answer, and so is an object
 pub whole : (options : Options) → options.quiet ≡ false → options.summary ≡ false → options.follow ≡ false → IsOneForm options
@@ -170,21 +173,21 @@ pub usual_check : {window idle : Option Text} → (words : List Text) (options :
 usual_check words options files fit = check_of words 8 2 options files (omega arith, omega arith) (omega arith, omega arith) fit
 
 -- lines of `record` with 2 workers, as where nothing else is said
-pub usual_record : (events : ℕ) (words : List Text) (rounds : ℕ) (flags : Flags)
+pub usual_record : {said : Option Text} → (events : ℕ) (words : List Text) (rounds : ℕ) (flags : Flags)
     → takes program_app words ≡ true → command_in (subcommand_of program_app words) ≡ Some (codes "record")
     → AsksLimit events (rows_by words) → AreRoundsWithin events rounds → (flags.judge ≡ true → flags.stamped ≡ false)
-    → one_of (codes "workers") (rows_by words) ≡ Some (codes "2") → one_of (codes "rounds") (rows_by words) ≡ Some (decimal rounds)
+    → one_of (codes "workers") (rows_by words) ≡ Some (codes "2") → one_of (codes "rounds") (rows_by words) ≡ said → SaysOr (usual_rounds events) said rounds
     → one_of (codes "judge") (rows_by words) ≡ Some (flag_text flags.judge) → one_of (codes "scan") (rows_by words) ≡ Some (flag_text flags.scan)
     → one_of (codes "stamped") (rows_by words) ≡ Some (flag_text flags.stamped) → files_of (rows_by words) ≡ []
     → Means words (codes "record") (λ rows. AsksRecordWithin events rows 2 rounds flags) []
-usual_record events words rounds flags taken named limit rounds_fit one_output workers rounds_are judge_is scan_is stamped_is files_are =
+usual_record events words rounds flags taken named limit rounds_fit one_output workers said_is rounds_are judge_is scan_is stamped_is files_are =
     means words (codes "record") (λ rows. AsksRecordWithin events rows 2 rounds flags) [] taken named (record {
       limit = limit;
       workers_fit = (omega arith, omega arith);
       rounds_fit = rounds_fit;
       one_output = one_output;
       workers_are = workers ∙ ap Some (sym two_text);
-      rounds_are = rounds_are;
+      rounds_are = subst (λ text. SaysOr (usual_rounds events) text rounds) (sym said_is) rounds_are;
       judge_is = judge_is;
       scan_is = scan_is;
       stamped_is = stamped_is;

@@ -1,9 +1,9 @@
 -- What a getter reads of the text of a number, and the texts of the numbers that are spelled out.
-use Rattle.std.proofs.Common.{◌≡◌, ℕ, ◌<◌, ◌^◌, ◌++◌, List, Option, Some, None, Result, Ok, Err, [], ◌∷◌, codes, refl, ap, arith, sym, ◌∙◌}
+use Rattle.std.proofs.Common.{◌≡◌, ℕ, ◌<◌, ◌^◌, List, Option, Some, None, Result, Ok, Err, codes, refl, ap, arith, sym, ◌∙◌}
 use Rattle.std.specs.Prelude.{decimal, unwrap_or}
 use Rattle.std.specs.Fmt.{digits}
 use Rattle.std.specs.Str.Parse.{ParsesUnsigned}
-use Rattle.std.proofs.lemmas.Fmt.{decimal_digit, decimal_step, parse-decimal}
+use Rattle.std.proofs.lemmas.Fmt.{decimal_digit, parse-decimal}
 use Rattle.clap.specs.Words.{ReadsOne, Text}
 use Rattle.snap_words.specs.Jobs.{SaysOr}
 
@@ -29,8 +29,9 @@ two_text = decimal_digit 2 (omega arith)
 pub five_text : decimal 5 ≡ codes "5"
 five_text = decimal_digit 5 (omega arith)
 
-pub sixteen_text : decimal 16 ≡ codes "16"
-sixteen_text = decimal_step 16 (omega arith) (omega arith) ∙ ap (λ (t : List ℕ). t ++ (54 ∷ [])) (decimal_digit 1 (omega arith))
+pub hundred_text : decimal 100 ≡ codes "100"
+unfolding digits
+hundred_text = refl
 
 pub usual_text : decimal 65536 ≡ codes "65536"
 unfolding digits

@@ -1,5 +1,5 @@
 -- The command line, as the parser sees it.
-use Rattle.std.specs.Prelude.{Some, true, codes, pos, [], ◌∷◌}
+use Rattle.std.specs.Prelude.{◌*◌, Some, true, codes, pos, [], ◌∷◌}
 use Rattle.clap.specs.Words.{App, Rule, new_app, new_rule}
 use Rattle.clap.specs.declared.builder.action.ArgAction.TheVariants.{Append, SetTrue}
 use Rattle.clap.specs.declared.builder.value_parser.ValueParser.TheVariants.{Signed}
@@ -115,9 +115,13 @@ draw_app = with_rules (new_app (codes "draw")) (svg_rule ∷ text_rule ∷ event
 abbrev pub recorders_rule : Rule
 recorders_rule = record (new_rule (codes "workers")) { long = Some (codes "workers"); value_names = 1; parser = Some (Signed (pos LEAST_WORKERS) (pos worker_limit)); defaults = codes "2" ∷ [] }
 
--- --rounds R, 16 where it is not given; any number of 32 bits is taken here
+-- --rounds R; any number of 32 bits is taken here
 abbrev pub rounds_rule : Rule
-rounds_rule = record (new_rule (codes "rounds")) { long = Some (codes "rounds"); value_names = 1; parser = Some (Signed (pos 0) (pos NUMBER_LIMIT)); defaults = codes "16" ∷ [] }
+rounds_rule = record (new_rule (codes "rounds")) { long = Some (codes "rounds"); value_names = 1; parser = Some (Signed (pos 0) (pos NUMBER_LIMIT)) }
+
+-- --events N of a recording, 65536 where it is not given: as many as a round of the most workers has, or more
+abbrev pub recorded_rule : Rule
+recorded_rule = record (new_rule (codes "events")) { long = Some (codes "events"); value_names = 1; parser = Some (Signed (pos (4 * worker_limit)) (pos event_cap)); defaults = codes "65536" ∷ [] }
 
 -- --judge
 abbrev pub judge_rule : Rule
@@ -133,7 +137,7 @@ stamped_rule = record (new_rule (codes "stamped")) { long = Some (codes "stamped
 
 -- record [--workers W] [--rounds R] [--events N] [--judge] [--scan] [--stamped]
 abbrev pub record_app : App
-record_app = with_rules (new_app (codes "record")) (recorders_rule ∷ rounds_rule ∷ events_rule ∷ judge_rule ∷ scan_rule ∷ stamped_rule ∷ [])
+record_app = with_rules (new_app (codes "record")) (recorders_rule ∷ rounds_rule ∷ recorded_rule ∷ judge_rule ∷ scan_rule ∷ stamped_rule ∷ [])
 
 -- the command of a kind
 abbrev pub app_for : Kind → App

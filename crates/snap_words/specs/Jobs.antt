@@ -169,15 +169,19 @@ pub record AsksCheck (rows : List Row) (pieces : ℕ) (workers : ℕ) (options :
   pub no_progress_is : one_of (codes "no-progress") rows ≡ Some (flag_text options.no_progress)
   pub color_is : first_of (codes "color") rows ≡ Some (color_text options.color)
 
--- the options of `record` have these numbers of workers and rounds, which are in their ranges for the limit of events, and each flag is
--- given or not, but not a report with stamps
+-- the rounds where --rounds is not given: 16, or as many as the limit of events allows, if that is less
+abbrev pub usual_rounds : ℕ → ℕ
+usual_rounds events = min 16 (events / (4 * worker_limit))
+
+-- the options of `record` have these numbers of workers and rounds, the rounds those of --rounds or the usual ones, which are in their
+-- ranges for the limit of events, and each flag is given or not, but not a report with stamps
 pub record AsksRecordWithin (events : ℕ) (rows : List Row) (workers rounds : ℕ) (flags : Flags) : Type 0 where
   pub limit : AsksLimit events rows
   pub workers_fit : AreWorkers workers
   pub rounds_fit : AreRoundsWithin events rounds
   pub one_output : flags.judge ≡ true → flags.stamped ≡ false
   pub workers_are : one_of (codes "workers") rows ≡ Some (decimal workers)
-  pub rounds_are : one_of (codes "rounds") rows ≡ Some (decimal rounds)
+  pub rounds_are : SaysOr (usual_rounds events) (one_of (codes "rounds") rows) rounds
   pub judge_is : one_of (codes "judge") rows ≡ Some (flag_text flags.judge)
   pub scan_is : one_of (codes "scan") rows ≡ Some (flag_text flags.scan)
   pub stamped_is : one_of (codes "stamped") rows ≡ Some (flag_text flags.stamped)

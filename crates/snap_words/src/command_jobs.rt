@@ -9,7 +9,7 @@ use crate::color::color_in;
 use crate::drawing::{Form, form_in};
 use crate::job::{Job, Options};
 use crate::option_values::{events_in, flag_in, json_in, number_in, number_or};
-use crate::ranges::{are_rounds, are_views, is_limit, is_one_form, is_window, window_for};
+use crate::ranges::{are_rounds, are_views, is_limit, is_one_form, is_window, rounds_for, window_for};
 use crate::refusals::follow_refusal;
 use clap::ArgMatches;
 use snap_record::{LEAST_WORKERS, WORKER_LIMIT};
@@ -73,7 +73,7 @@ fn record_in(matches: &ArgMatches<'_>) -> Option<Job>
 {
     let events = events_in(matches)?;
     let workers = number_in(matches, "workers")?;
-    let rounds = number_in(matches, "rounds")?;
+    let rounds = number_or(matches, "rounds", rounds_for(events));
     let judge = flag_in(matches, "judge");
     let scan = flag_in(matches, "scan");
     let stamped = flag_in(matches, "stamped");

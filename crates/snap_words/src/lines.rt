@@ -45,11 +45,13 @@ pub fn picture_lines()
     ensures draw_events { (name : Text) → Means (name ∷ codes "draw" ∷ codes "--events" ∷ codes "1048576" ∷ []) (codes "draw") (λ rows. AsksDrawWithin 1048576 rows Page) [] }
 {}
 
-/// What lines of `record` ask for: 2 workers and 16 rounds of views where nothing else is said.
+/// What lines of `record` ask for: 2 workers and 16 rounds of views where nothing else is said, and fewer rounds where the limit of
+/// events allows no more.
 pub fn record_lines()
     ensures alone { (name : Text) → Means (name ∷ codes "record" ∷ []) (codes "record") (λ rows. AsksRecord rows 2 16 no_flags) [] }
     ensures judged { (name : Text) → Means (name ∷ codes "record" ∷ codes "--rounds" ∷ codes "5" ∷ codes "--judge" ∷ []) (codes "record") (λ rows. AsksRecord rows 2 5 (record no_flags { judge = true })) [] }
     ensures scanned { (name : Text) → Means (name ∷ codes "record" ∷ codes "--scan" ∷ []) (codes "record") (λ rows. AsksRecord rows 2 16 (record no_flags { scan = true })) [] }
     ensures stamped { (name : Text) → Means (name ∷ codes "record" ∷ codes "--stamped" ∷ []) (codes "record") (λ rows. AsksRecord rows 2 16 (record no_flags { stamped = true })) [] }
     ensures events { (name : Text) → Means (name ∷ codes "record" ∷ codes "--events" ∷ codes "1048576" ∷ codes "--rounds" ∷ codes "32768" ∷ []) (codes "record") (λ rows. AsksRecordWithin 1048576 rows 2 32768 no_flags) [] }
+    ensures few { (name : Text) → Means (name ∷ codes "record" ∷ codes "--events" ∷ codes "100" ∷ []) (codes "record") (λ rows. AsksRecordWithin 100 rows 2 3 no_flags) [] }
 {}

@@ -1,11 +1,14 @@
 //! Which numbers are in their ranges, and which options go together.
 ghost use Rattle.std.specs.Prelude.{◌≡◌, true};
 ghost use Rattle.snap_core.specs.Limits.{IsLimit};
-ghost use Rattle.snap_words.specs.Jobs.{AreRoundsWithin, AreViews, IsOneForm, IsWindow, usual_window};
+ghost use Rattle.snap_words.specs.Jobs.{AreRoundsWithin, AreViews, IsOneForm, IsWindow, usual_rounds, usual_window};
 
 use crate::job::Options;
 use snap_core::EVENT_CAP;
 use snap_record::WORKER_LIMIT;
+
+/// How many events a round may have: two calls of each worker.
+pub(crate) const ROUND_EVENTS: u32 = 4 * WORKER_LIMIT;
 
 /// Whether there is such a limit of events.
 pub(crate) fn is_limit(events: u32) -> bool
@@ -28,7 +31,14 @@ pub(crate) fn are_rounds(events: u32, rounds: u32) -> bool
     ensures one { result ≡ true → AreRoundsWithin events rounds }
     ensures asked { AreRoundsWithin events rounds → result ≡ true }
 {
-    0 < rounds && u64::from(4 * WORKER_LIMIT) * u64::from(rounds) <= u64::from(events)
+    0 < rounds && u64::from(ROUND_EVENTS) * u64::from(rounds) <= u64::from(events)
+}
+
+/// How many rounds a recording has, where nothing is said of that: no more than so many events allow.
+pub(crate) fn rounds_for(events: u32) -> u32
+    ensures { result ≡ usual_rounds events }
+{
+    (events / ROUND_EVENTS).min(16)
 }
 
 /// Whether one form of answer is asked for.

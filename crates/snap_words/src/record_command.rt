@@ -5,8 +5,10 @@ ghost use Rattle.clap.specs.declared.builder.command.Command.TheViews.{out-Comma
 ghost use Rattle.snap_words.specs.CommandLine.{record_app};
 
 use crate::command::command_of;
-use crate::word::{EVENTS, NUMBER_LIMIT, Takes, Word};
+use crate::ranges::ROUND_EVENTS;
+use crate::word::{NUMBER_LIMIT, Takes, Word};
 use clap::Command;
+use snap_core::EVENT_CAP;
 use snap_record::{LEAST_WORKERS, WORKER_LIMIT};
 use std::alloc::{AllocError, Global};
 
@@ -40,7 +42,8 @@ With --judge it prints the history's report in place of the history: see
 fields, and the header the word at. Not both can be asked for.
 
 There are at most 2,048 rounds, of four events for each of eight workers. With --events N there
-may be N / 32 rounds. To judge such a history, give `snapjudge check` the same N.
+may be N / 32 rounds, and without --rounds there are no more than that. To judge such a history,
+give `snapjudge check` the same N.
 
 Exit status:
     0  the history was written, or with --judge it is atomic
@@ -65,15 +68,25 @@ const WORDS: &[Word<'static>] = &[
         id: "rounds",
         long: Some("rounds"),
         short: None,
-        takes: Takes::NumberOr {
+        takes: Takes::Number {
             name: "R",
             least: 0,
             most: NUMBER_LIMIT as i64,
-            usual: "16",
         },
-        help: "In how many rounds each of them stores and views, from 1 to a 32nd of the events: 2048",
+        help: "In how many rounds each of them stores and views, from 1 to a 32nd of the events, which is 2048: 16, or a 32nd of --events if that is less",
     },
-    EVENTS,
+    Word {
+        id: "events",
+        long: Some("events"),
+        short: None,
+        takes: Takes::NumberOr {
+            name: "N",
+            least: ROUND_EVENTS as i64,
+            most: EVENT_CAP as i64,
+            usual: "65536",
+        },
+        help: "How many events a history may have, from 32 to 1048576, of 1024 bytes of text each",
+    },
     Word {
         id: "judge",
         long: Some("judge"),

@@ -6,9 +6,8 @@ ghost use Rattle.snap_words.specs.declared.job.Options.{Options};
 
 use crate::color::color_in;
 use crate::option_values::{flag_in, is_given, json_in, number_in};
-use crate::ranges::{are_rounds, are_views};
+use crate::ranges::{ROUND_EVENTS, are_rounds, are_views};
 use clap::ArgMatches;
-use snap_record::WORKER_LIMIT;
 use std::alloc::{AllocError, Global};
 
 // With which option a recording can't be judged while it grows.
@@ -111,8 +110,7 @@ fn number_refusal(alloc: Global, matches: &ArgMatches<'_>) -> Result<Option<Stri
             return Ok(None);
         };
         if !are_rounds(events, rounds) {
-            let most = events / (4 * WORKER_LIMIT);
-            let text = range_refusal(alloc, "--rounds <R>", rounds, 1, most)?;
+            let text = range_refusal(alloc, "--rounds <R>", rounds, 1, events / ROUND_EVENTS)?;
             return Ok(Some(text));
         }
     }

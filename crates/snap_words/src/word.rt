@@ -57,7 +57,7 @@ pub(crate) struct Word<'a> {
 /// The greatest number that a word can have.
 pub(crate) const NUMBER_LIMIT: u32 = 4_294_967_295;
 
-/// The limit of events of a command.
+/// The limit of events of a command that reads a history.
 pub(crate) const EVENTS: Word<'static> = Word {
     id: "events",
     long: Some("events"),
