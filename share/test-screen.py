@@ -50,7 +50,7 @@ def painted(report):
     for line in report.splitlines(keepends=True):
         verdict = line.rstrip(b"\n").split(b": ")[-1]
         color = {b"yes": GREEN, b"no": RED}.get(verdict.split(b" ")[-1]) if verdict.split(b" ")[0] in (b"regular", b"monotone", b"atomic") else None
-        lines.append(color + line + PLAIN if color else line)
+        lines.append(color + line.rstrip(b"\n") + PLAIN + b"\n" if color else line)
     return b"".join(lines)
 
 

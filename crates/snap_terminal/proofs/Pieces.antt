@@ -1,6 +1,5 @@
 -- Painted texts one behind the other, and what goes out of them.
-use Rattle.std.proofs.Common.{◌≡◌, ◌≤◌, ◌+◌, ◌-◌, ◌++◌, ◌∷◌, [], ◌∙◌, inl, List, Option, Result, Ok, Err, OnErr, OnOk, ap, ap₂, arith, drop, length, length-append, refl, subst, sym, take, ℕ}
-use Rattle.std.specs.Prelude.{flat_map}
+use Rattle.std.proofs.Common.{◌≡◌, ◌≤◌, ◌+◌, ◌-◌, ◌++◌, ◌∷◌, [], ◌∙◌, inl, List, Option, Result, Ok, Err, OnErr, OnOk, ap, ap₂, append_assoc, arith, drop, length, length-append, refl, subst, sym, take, ℕ}
 use Rattle.std.specs.Io.KnownBytes.{Appends}
 use Rattle.std.proofs.KnownBytes.{Appends-nil, Appends-trans}
 use Rattle.std.proofs.lemmas.List.{append-nil, drop-drop, take-append-drop, take-append-le}
@@ -30,11 +29,11 @@ painted_both xs ys us vs a b =
       all = ap₂ (λ (l m : List ℕ). l ++ m) a.all b.all ∙ sym (flat_map-append (λ (p : Piece). p.escape ++ p.part) a.pieces b.pieces);
     }
 
--- a line between an escape and the one that ends the colour
-pub colored : (escape line plain : List ℕ) → IsEscape escape → IsEscape plain → IsPainted line ((escape ++ line) ++ plain)
-colored escape line plain is ends =
-    subst (λ (l : List ℕ). IsPainted l ((escape ++ line) ++ plain)) (append-nil line)
-    (painted_both line [] (escape ++ line) plain (one_piece escape line is) (subst (λ (l : List ℕ). IsPainted [] l) (append-nil plain) (one_piece plain [] ends)))
+-- the front of a line between an escape and the one that ends the colour, and the rest of the line behind that
+pub colored : (escape front plain rest : List ℕ) → IsEscape escape → IsEscape plain → IsPainted (front ++ rest) (((escape ++ front) ++ plain) ++ rest)
+colored escape front plain rest is ends =
+    subst (λ (l : List ℕ). IsPainted (front ++ rest) l) (sym (append_assoc (escape ++ front) plain rest))
+    (painted_both front rest (escape ++ front) (plain ++ rest) (one_piece escape front is) (one_piece plain rest ends))
 
 -- what goes out behind what has gone out
 

@@ -40,15 +40,27 @@ fn color_of(line: &[u8]) -> Option<&'static [u8]>
     }
 }
 
-// Sends a line in a colour.
+// Where the end of a line begins: at its line feed, if it has one.
+fn end_of(line: &[u8]) -> usize
+    ensures { result ≤ length line.now }
+{
+    match line.strip_suffix(b"\n") {
+        Some(front) => front.len(),
+        None => line.len(),
+    }
+}
+
+// Sends a line in a colour, which ends before the line feed: whoever reads lines then has no colour left.
 fn send_colored<W: Write>(writer: &mut Counted<W>, color: &[u8], line: &[u8]) -> io::Result<()>
     requires { IsEscape color.now }
     ensures sent { OnOk result (SendsPainted (W.contents (inner_of writer.old)) (W.contents (inner_of writer.new)) line.now) }
     ensures cut { OnErr result (CutsPainted (W.contents (inner_of writer.old)) (W.contents (inner_of writer.new)) line.now) }
 {
+    let end = end_of(line);
     writer.send(color)?;
-    writer.send(line)?;
-    writer.send(PLAIN)
+    writer.send(&line[..end])?;
+    writer.send(PLAIN)?;
+    writer.send(&line[end..])
 }
 
 // Sends a line of a text up to its end, if it has a colour, and before it what of the text is not sent yet. Answers how much of the

@@ -1,6 +1,6 @@
-use Rattle.std.proofs.Common.{◌++◌, inr, refl}
+use Rattle.std.proofs.Common.{◌≡◌, ◌-◌, ◌++◌, List, arith, drop, inr, length, length-drop, refl, subst, take, ℕ}
 use Rattle.std.proofs.KnownBytes.{Appends-trans}
-use Rattle.snap_core.specs.Counting.{inner_of}
+use Rattle.std.proofs.lemmas.List.{take-append-drop, take_all}
 use Rattle.snap_terminal.specs.Painting.{IsEscape, IsPainted}
 use Rattle.snap_terminal.specs.declared.verdicts.TheConstants.{PLAIN}
 use Rattle.snap_terminal.proofs.Pieces.{colored, front_longer, front_more, front_sent, sends_more, whatever_error, whole_sent}
@@ -9,38 +9,75 @@ use Rattle.snap_terminal.proofs.verdicts.send_colored.Goals as goal
 plain_is : IsEscape PLAIN.now
 plain_is = inr (inr (inr refl))
 
+-- a line in a colour up to an end, as it is sent
+abbrev in_color : List ℕ → List ℕ → ℕ → List ℕ
+in_color color line end = (color ++ take end line) ++ PLAIN.now
+
+painted : (color line : List ℕ) (end : ℕ) → IsEscape color → IsPainted line (in_color color line end ++ drop end line)
+painted color line end is =
+    subst (λ (l : List ℕ). IsPainted l (in_color color line end ++ drop end line)) (take-append-drop end line) (colored color (take end line) PLAIN.now (drop end line) is plain_is)
+
+-- the rest of a line as the code cuts it off
+rest_is : (line : List ℕ) (end : ℕ) → take (length line - end) (drop end line) ≡ drop end line
+rest_is line end = take_all (length line - end) (drop end line) (omega (arith, length-drop end line))
+
 pub returns-in_err-send-clause-cut : goal.returns-in_err-send-clause-cut
 returns-in_err-send-clause-cut g c =
     let color = c.args.color.now in
     let line = c.args.line.now in
+    let end = c.end_of-end.result in
     whatever_error _ c.from_residual.result
     (record {
-      out = (color ++ line) ++ PLAIN.now;
-      painted = colored color line PLAIN.now c.requires plain_is;
-      sent = front_longer _ _ (color ++ line) PLAIN.now (front_longer _ _ color line c.in_err-send.ensures.bytes);
+      out = in_color color line end ++ drop end line;
+      painted = painted color line end c.requires;
+      sent = front_longer _ _ (in_color color line end) (drop end line)
+          (front_longer _ _ (color ++ take end line) PLAIN.now (front_longer _ _ color (take end line) c.in_err-send.ensures.bytes));
     })
 
 pub returns-in_err-send-2-clause-cut : goal.returns-in_err-send-2-clause-cut
 returns-in_err-send-2-clause-cut g c =
     let color = c.args.color.now in
     let line = c.args.line.now in
+    let end = c.end_of-end.result in
     whatever_error _ c.from_residual-in_err-send-2.result
     (record {
-      out = (color ++ line) ++ PLAIN.now;
-      painted = colored color line PLAIN.now c.requires plain_is;
-      sent = front_longer _ _ (color ++ line) PLAIN.now (front_more _ _ _ color line c.in_ok-send.ensures.bytes c.in_err-send-2.ensures.bytes);
+      out = in_color color line end ++ drop end line;
+      painted = painted color line end c.requires;
+      sent = front_longer _ _ (in_color color line end) (drop end line)
+          (front_longer _ _ (color ++ take end line) PLAIN.now (front_more _ _ _ color (take end line) c.in_ok-send.ensures.bytes c.in_err-send-2.ensures.bytes));
+    })
+
+pub returns-in_err-send-3-clause-cut : goal.returns-in_err-send-3-clause-cut
+returns-in_err-send-3-clause-cut g c =
+    let color = c.args.color.now in
+    let line = c.args.line.now in
+    let end = c.end_of-end.result in
+    let both = Appends-trans _ _ _ color (take end line) c.in_ok-send.ensures.bytes c.in_ok-send-2.ensures.bytes in
+    whatever_error _ c.from_residual-in_err-send-3.result
+    (record {
+      out = in_color color line end ++ drop end line;
+      painted = painted color line end c.requires;
+      sent = front_longer _ _ (in_color color line end) (drop end line) (front_more _ _ _ (color ++ take end line) PLAIN.now both c.in_err-send-3.ensures.bytes);
     })
 
 pub returns-clause-sent : goal.returns-clause-sent
 returns-clause-sent g c =
     let color = c.args.color.now in
     let line = c.args.line.now in
-    let both = Appends-trans _ _ _ color line c.in_ok-send.ensures.bytes c.in_ok-send-2.ensures.bytes in
-    whole_sent _ _ line ((color ++ line) ++ PLAIN.now) c.send-3.result (colored color line PLAIN.now c.requires plain_is) (sends_more _ _ _ (color ++ line) PLAIN.now c.send-3.result both c.send-3.ensures.bytes)
+    let end = c.end_of-end.result in
+    let both = Appends-trans _ _ _ color (take end line) c.in_ok-send.ensures.bytes c.in_ok-send-2.ensures.bytes in
+    let colors = Appends-trans _ _ _ (color ++ take end line) PLAIN.now both c.in_ok-send-3.ensures.bytes in
+    let rest = rw (rest_is line end) at c.send-4.ensures.bytes in
+    whole_sent _ _ line (in_color color line end ++ drop end line) c.send-4.result (painted color line end c.requires)
+    (sends_more _ _ _ (in_color color line end) (drop end line) c.send-4.result colors rest)
 
 pub returns-clause-cut : goal.returns-clause-cut
 returns-clause-cut g c =
     let color = c.args.color.now in
     let line = c.args.line.now in
-    let both = Appends-trans _ _ _ color line c.in_ok-send.ensures.bytes c.in_ok-send-2.ensures.bytes in
-    front_sent _ _ line ((color ++ line) ++ PLAIN.now) c.send-3.result (colored color line PLAIN.now c.requires plain_is) (sends_more _ _ _ (color ++ line) PLAIN.now c.send-3.result both c.send-3.ensures.bytes)
+    let end = c.end_of-end.result in
+    let both = Appends-trans _ _ _ color (take end line) c.in_ok-send.ensures.bytes c.in_ok-send-2.ensures.bytes in
+    let colors = Appends-trans _ _ _ (color ++ take end line) PLAIN.now both c.in_ok-send-3.ensures.bytes in
+    let rest = rw (rest_is line end) at c.send-4.ensures.bytes in
+    front_sent _ _ line (in_color color line end ++ drop end line) c.send-4.result (painted color line end c.requires)
+    (sends_more _ _ _ (in_color color line end) (drop end line) c.send-4.result colors rest)

@@ -1,4 +1,4 @@
-use Rattle.std.proofs.Common.{◌≡◌, ◌-◌, ◌++◌, List, drop, subst, take, ℕ}
+use Rattle.std.proofs.Common.{◌-◌, List, drop, subst, take, ℕ}
 use Rattle.snap_core.specs.Counting.{inner_of}
 use Rattle.snap_terminal.specs.Painting.{CutsPainted, SendsPainted}
 use Rattle.snap_terminal.proofs.Pieces.{cut_behind, part_cut, part_sent, parts_joined, sent_both, whatever_error}
