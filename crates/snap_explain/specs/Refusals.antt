@@ -1,6 +1,7 @@
 -- Why a text is no history: the rule that it breaks, and the record that breaks it.
-use Rattle.std.specs.Prelude.{◌≡◌, ℕ, List, [], ◌++◌, codes, decimal, Option, Some, None}
+use Rattle.std.specs.Prelude.{◌≡◌, ℕ, List, [], ◌++◌, codes, decimal, Option, Some, None, if◌then◌else◌, nat_lt}
 use Rattle.std.specs.List.{flat_map}
+use Rattle.snap_core.specs.Events.{event_cap}
 use Rattle.snap_text.specs.declared.fault.TextFault.{TextFault}
 use Rattle.snap_text.specs.declared.fault.TextFault.TheVariants as faults
 use Rattle.snap_csv.specs.Records.{record_at}
@@ -30,10 +31,18 @@ rule_of faults.TooLong = codes "a text has at most "
 rule_of faults.BadAt = codes "the field at is a number from 0 to 18446744073709551615, without a sign or leading zeros\n"
 rule_of faults.Repeated = codes "no two records have the same stamp\n"
 
+-- the words behind the events that a history may have, and behind the bytes of its text: where this is not the greatest limit, also
+-- which option allows more
+abbrev pub event_words : ℕ → List ℕ
+event_words limit = if nat_lt limit event_cap then codes " events; --events N allows up to 1048576\n" else codes " events\n"
+
+abbrev pub byte_words : ℕ → List ℕ
+byte_words limit = if nat_lt limit event_cap then codes " bytes; --events N allows 1024 for each of up to 1048576 events\n" else codes " bytes\n"
+
 -- the number of the limit that a fault breaks, where a history may have so many events, and the words behind it
 abbrev pub limit_of : ℕ → TextFault → List ℕ
-limit_of limit faults.TooMany = decimal limit ++ codes " events\n"
-limit_of limit faults.TooLong = decimal (bytes_within limit) ++ codes " bytes\n"
+limit_of limit faults.TooMany = decimal limit ++ event_words limit
+limit_of limit faults.TooLong = decimal (bytes_within limit) ++ byte_words limit
 limit_of limit _ = []
 
 -- a field in quotes, behind a space: its bytes as they stand

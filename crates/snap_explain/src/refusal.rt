@@ -1,11 +1,12 @@
 //! Why a text is no history.
-ghost use Rattle.std.specs.Prelude.{◌≡◌, ◌++◌, IfOk, OnOk, decimal, map};
+ghost use Rattle.std.specs.Prelude.{◌≡◌, ◌++◌, IfOk, OnOk, decimal, map, nat_lt};
 ghost use Rattle.std.specs.List.{flat_map};
+ghost use Rattle.snap_core.specs.Events.{event_cap};
 ghost use Rattle.snap_csv.specs.Records.{record_at};
 ghost use Rattle.snap_csv.specs.Rows.{rows_of};
-ghost use Rattle.snap_explain.specs.Refusals.{IsRefusalExplanation, limit_of, quoted, record_text, rule_of as spec_rule_of};
+ghost use Rattle.snap_explain.specs.Refusals.{IsRefusalExplanation, byte_words as spec_byte_words, event_words as spec_event_words, limit_of, quoted, record_text, rule_of as spec_rule_of};
 
-use snap_core::Limit;
+use snap_core::{EVENT_CAP, Limit};
 use snap_csv::{bytes_within, record_of};
 use snap_report::{put_number, refusal_text};
 use snap_text::TextFault;
@@ -53,13 +54,42 @@ fn put_most(out: &mut Vec<u8>, number: usize, words: &[u8]) -> Result<(), AllocE
     out.extend_from_slice(words)
 }
 
+// Whether a greater limit may be chosen.
+fn has_more(limit: Limit) -> bool
+    ensures { result ≡ nat_lt limit.events event_cap }
+{
+    limit.events() < EVENT_CAP
+}
+
+// The words behind the number of events that a history may have: where there may be more, also by which option.
+fn event_words(limit: Limit) -> &'static str
+    ensures { result.now ≡ spec_event_words limit.events }
+{
+    if has_more(limit) {
+        " events; --events N allows up to 1048576\n"
+    } else {
+        " events\n"
+    }
+}
+
+// The words behind the number of bytes that a text may have: where there may be more, also by which option.
+fn byte_words(limit: Limit) -> &'static str
+    ensures { result.now ≡ spec_byte_words limit.events }
+{
+    if has_more(limit) {
+        " bytes; --events N allows 1024 for each of up to 1048576 events\n"
+    } else {
+        " bytes\n"
+    }
+}
+
 // Adds the number of the limit that a fault breaks, and the words behind it; nothing where the rule is no limit.
 fn put_limit(out: &mut Vec<u8>, fault: TextFault, limit: Limit) -> Result<(), AllocError>
     ensures { OnOk result (out.new.items ≡ out.old.items ++ limit_of limit.events fault) }
 {
     match fault {
-        TextFault::TooMany => put_most(out, limit.events(), b" events\n"),
-        TextFault::TooLong => put_most(out, bytes_within(limit), b" bytes\n"),
+        TextFault::TooMany => put_most(out, limit.events(), event_words(limit).as_bytes()),
+        TextFault::TooLong => put_most(out, bytes_within(limit), byte_words(limit).as_bytes()),
         _ => Ok(()),
     }
 }

@@ -156,7 +156,7 @@ const REFUSED: &[(u32, TextFault, &str)] = &[
         0,
         TextFault::TooLong,
         "refused record 0: toolong\n\
-        a text has at most 67108864 bytes\n\
+        a text has at most 67108864 bytes; --events N allows 1024 for each of up to 1048576 events\n\
         \x20 no record of the text has that number\n",
     ),
     (
@@ -170,7 +170,7 @@ const REFUSED: &[(u32, TextFault, &str)] = &[
         2,
         TextFault::TooMany,
         "refused record 2: toomany\n\
-        a history has at most 65536 events\n\
+        a history has at most 65536 events; --events N allows up to 1048576\n\
         \x20 record 2 has the fields \"end\" \"1\" \"view\" \"0:1:7  1:1:8\"\n",
     ),
     (
@@ -196,14 +196,34 @@ fn a_fault_of_a_text_has_its_rule_and_the_record_of_its_place(rt: HostRuntime) -
 
 #[test]
 fn a_rule_names_the_limit_that_holds(rt: HostRuntime) -> Result<(), Fail> {
-    let limit = Limit::new(131_072).ok_or("a limit")?;
-    for (fault, rule) in [
+    for (events, fault, rule) in [
         (
+            131_072,
             TextFault::TooMany,
-            "\na history has at most 131072 events\n",
+            "\na history has at most 131072 events; --events N allows up to 1048576\n",
         ),
-        (TextFault::TooLong, "\na text has at most 134217728 bytes\n"),
+        (
+            131_072,
+            TextFault::TooLong,
+            "\na text has at most 134217728 bytes; --events N allows 1024 for each of up to 1048576 events\n",
+        ),
+        (
+            1_048_575,
+            TextFault::TooMany,
+            "\na history has at most 1048575 events; --events N allows up to 1048576\n",
+        ),
+        (
+            1_048_576,
+            TextFault::TooMany,
+            "\na history has at most 1048576 events\n",
+        ),
+        (
+            1_048_576,
+            TextFault::TooLong,
+            "\na text has at most 1073741824 bytes\n",
+        ),
     ] {
+        let limit = Limit::new(events).ok_or("a limit")?;
         let said = explain_refusal(rt.alloc(), b"", 0, fault, limit)?;
         assert!(rt; str::from_utf8(&said)?.contains(rule));
     }
