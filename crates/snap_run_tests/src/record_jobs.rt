@@ -60,7 +60,12 @@ const RECORDS: &[(&str, u32, u32, Flags)] = &[
     ("snapjudge record --events 32 --rounds 1", 2, 1, NO_FLAGS),
     ("snapjudge record --events 32", 2, 1, NO_FLAGS),
     ("snapjudge record --events 63", 2, 1, NO_FLAGS),
-    ("snapjudge record --events 64 --scan", 2, 2, (false, true, false)),
+    (
+        "snapjudge record --events 64 --scan",
+        2,
+        2,
+        (false, true, false),
+    ),
     ("snapjudge record --workers 8 --events 100", 8, 3, NO_FLAGS),
     ("snapjudge record --events 511", 2, 15, NO_FLAGS),
     ("snapjudge record --events 512", 2, 16, NO_FLAGS),

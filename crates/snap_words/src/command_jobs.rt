@@ -9,7 +9,9 @@ use crate::color::color_in;
 use crate::drawing::{Form, form_in};
 use crate::job::{Job, Options};
 use crate::option_values::{events_in, flag_in, json_in, number_in, number_or};
-use crate::ranges::{are_rounds, are_views, is_limit, is_one_form, is_window, rounds_for, window_for};
+use crate::ranges::{
+    are_rounds, are_views, is_limit, is_one_form, is_window, rounds_for, window_for,
+};
 use crate::refusals::follow_refusal;
 use clap::ArgMatches;
 use snap_record::{LEAST_WORKERS, WORKER_LIMIT};
