@@ -116,12 +116,12 @@ def quiet(name, text, report):
 
 
 def painted(report):
-    """A report with its verdicts in colours, alone or behind names."""
+    """A report with its verdicts in colours, alone or behind names. A colour ends before the line does."""
     lines = []
-    for line in report.splitlines(keepends=True):
-        verdict, _, answer = line.rstrip(b"\n").split(b": ")[-1].partition(b" ")
+    for line in report.splitlines():
+        verdict, _, answer = line.split(b": ")[-1].partition(b" ")
         is_verdict = verdict in map(str.encode, VERDICTS) and answer in COLORS
-        lines.append(COLORS[answer] + line + b"\x1b[0m" if is_verdict else line)
+        lines.append((COLORS[answer] + line + b"\x1b[0m" if is_verdict else line) + b"\n")
     return b"".join(lines)
 
 
