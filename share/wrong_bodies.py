@@ -165,15 +165,17 @@ class Crate:
 
     def refused(self, wrongs, flags, kept):
         """Checks some wrong bodies together. For each that is refused it tells why, by its edit."""
-        texts, functions = self.together(wrongs)
         control = self.control(wrongs)
-        asked = [it.path for it in [*functions, *([control] if control else [])]]
+        if not control:
+            return {}
+        texts, functions = self.together(wrongs)
+        asked = [it.path for it in [*functions, control]]
         begun = time.monotonic()
         said = rt.checked(self.crate, texts, [*flags, *(word for path in asked for word in ("--only", path))], kept).stdout
         print(f"{self.crate.name}: a check of {len(wrongs)} wrong bodies took {time.monotonic() - begun:.0f} s", flush=True)
         lines = said.rstrip("\n").split("\n")
         is_read = lines[-1].startswith("only=") and not any(rt.unread(it, texts) for it in lines)
-        if not is_read or control and f"fn {self.crate.name}::{control.path}: proved" not in lines:
+        if not is_read or f"fn {self.crate.name}::{control.path}: proved" not in lines:
             return {}
         unproved = re.findall(r"^fn \w+?::(\S+): (?:not proved|no proof)", said, re.M)
         found = {}
