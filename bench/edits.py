@@ -38,8 +38,8 @@ def main(names):
             for edit in rt.edits_of(crate)[0]:
                 shutil.copytree(kept, over, copy_function=os.link)
                 before = processor_seconds()
-                is_refused, said = rt.must_fail(crate, edit, ["--jobs", "1"], over)
-                rows.append((processor_seconds() - before, name, os.path.basename(edit)[:-5], "refused" if is_refused else said))
+                kind, said = rt.must_fail(crate, edit, ["--jobs", "1"], over)
+                rows.append((processor_seconds() - before, name, os.path.basename(edit)[:-5], kind if kind == rt.REFUSED else said))
                 shutil.rmtree(over)
     print("| seconds | crate | wrong body | |\n|---|---|---|---|")
     for seconds, name, edit, said in sorted(rows, reverse=True):

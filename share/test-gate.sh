@@ -40,7 +40,7 @@ STUB
 
 stub gate share/test-gate.sh 'echo "3 passed, 0 failed"'
 stub wrong-bodies share/test-wrong-bodies.py 'echo "3 passed, 0 failed"'
-stub proofs share/wrong_bodies.py 'echo "3 passed, 0 failed"'
+stub proofs share/wrong_bodies.py 'echo "proved: $*."; echo "3 passed, 0 failed"'
 stub rt ../bin/rt 'exit 0'
 stub must-catch sweep/must_catch.py 'echo "3 passed, 0 failed"'
 stub build build 'exit 0'
@@ -72,7 +72,10 @@ expect() {
 }
 
 parts="gate wrong-bodies proofs must-catch build examples launcher library pages pictures package recorders systems scans sweep"
-expect "all parts pass" 0 "41 passed, 0 failed"
+expect "all parts pass" 0 "41 passed, 0 failed" "proved: ci."
+words=(--anew)
+expect "all is proved anew" 0 "41 passed, 0 failed" "proved: ci --anew."
+words=()
 for part in $parts; do
   for way in fails dies "ends early" "denies its failure" "denies its status"; do
     case "$part $way" in

@@ -1,5 +1,6 @@
 #!/usr/bin/env python3
-"""Tries how wrong bodies are tried, over a small crate: each is refused in its own function, and what is right is let through.
+"""Tries how wrong bodies are tried, over a small crate: each is refused in its own function, and what is right is let through. What an
+earlier run on this machine came to is tried again only where something has changed.
 
 The last line is 'N passed, M failed', with ', K skipped' behind it where the toolchain tries them in its own way.
 """
@@ -62,9 +63,9 @@ impl Place {
 }
 """,
 }
-# What is said of a wrong body.
-REFUSED, LET_THROUGH, BAD = "refused, as it must be", "NOT REFUSED", "BAD EDIT"
-# Each edit: what must be said of it, its file, the text that goes, and the one that comes.
+# What the toolchain calls the answers to a wrong body.
+REFUSED, LET_THROUGH, BAD = "REFUSED", "MISSED", "BAD"
+# Each edit: the answer that it must get, its file, the text that goes, and the one that comes.
 EDITS = {
     "lib.next.no-step": (REFUSED, "lib", "    place + STEP", "    place"),
     "lib.next.two-steps": (REFUSED, "lib", "    place + STEP", "    place + STEP + STEP"),
@@ -84,25 +85,60 @@ RUNS = [
 ]
 
 
-def try_edits(names):
-    """What is said of each of these edits, and which the toolchain tried alone."""
-    left = []
-    wrong_bodies.try_alone = lambda crate, edits, flags: left.extend(map(name_of, edits)) or rt.must_fail_all(crate, edits, flags)
-    with tempfile.TemporaryDirectory() as room:
-        os.makedirs(f"{room}/crates/few/src")
-        os.mkdir(f"{room}/crates/few/must-fail")
-        texts = FILES | {f"crates/few/must-fail/{it}.edit": "file: src/{}.rt\nold: {}\nnew: {}\n".format(*EDITS[it][1:]) for it in names}
-        for file, text in texts.items():
-            with open(f"{room}/{file}", "w", encoding="utf-8") as out:
-                out.write(text)
-        crate = rt.Crate(f"{room}/crates/few", room, {})
-        edits, _ = rt.edits_of(crate)
-        said = wrong_bodies.try_together(crate, edits, ["--jobs", "1"])
-    return {name_of(edit): it for edit, it in zip(edits, said)}, left
-
-
 def name_of(edit):
     return os.path.basename(edit).removesuffix(".edit")
+
+
+def write_crate(room, names):
+    """Writes the crate with these edits, and returns it, and the edits' files."""
+    os.makedirs(f"{room}/crates/few/src")
+    os.mkdir(f"{room}/crates/few/must-fail")
+    texts = FILES | {f"crates/few/must-fail/{it}.edit": "file: src/{}.rt\nold: {}\nnew: {}\n".format(*EDITS[it][1:]) for it in names}
+    for file, text in texts.items():
+        with open(f"{room}/{file}", "w", encoding="utf-8") as out:
+            out.write(text)
+    crate = rt.Crate(f"{room}/crates/few", room, {})
+    return crate, rt.edits_of(crate)[0]
+
+
+def misjudged(names, alone):
+    """Tries these edits in one run. It returns what is wrong with the answers, or with which edits the toolchain tried alone."""
+    left = []
+    try_alone = wrong_bodies.try_alone
+    wrong_bodies.try_alone = lambda crate, edits, flags: left.extend(map(name_of, edits)) or try_alone(crate, edits, flags)
+    try:
+        with tempfile.TemporaryDirectory() as room:
+            crate, edits = write_crate(room, names)
+            said = {name_of(edit): it for edit, it in zip(edits, wrong_bodies.try_together(crate, edits, ["--jobs", "1"]))}
+    finally:
+        wrong_bodies.try_alone = try_alone
+    wrong = [f"{it}: {said[it][1]}" for it in names if said[it][0] != getattr(rt, EDITS[it][0])]
+    if sorted(left) != sorted(alone):
+        wrong.append(f"tried alone: {', '.join(left) or 'none'}; and to be tried so: {', '.join(alone) or 'none'}")
+    return wrong
+
+
+def tried_again(room, crate, edits):
+    """Tries the edits as a gate does that finds what earlier ones kept in this room. It returns the numbers of those that it tried."""
+    rt.STORE = f"{room}/store"
+    kept, tasks = rt.Kept([crate]), {}
+    results, known = wrong_bodies.add_edits(tasks, crate, edits, [], [], lambda given, new=0: True, kept)
+    answers = results(rt.in_lanes(tasks))
+    if [kind for kind, _ in answers] != [getattr(rt, EDITS[name_of(it)][0]) for it in edits]:
+        return answers
+    return [at for at in range(len(edits)) if at not in known()]
+
+
+def forgotten():
+    """What is wrong with what a second and a third run find of the first. Before the third an edit changes, and nothing else."""
+    with tempfile.TemporaryDirectory() as room:
+        crate, edits = write_crate(room, ["lib.next.no-step", "steps.at.half-way"])
+        first, second = [tried_again(room, crate, edits) for _ in range(2)]
+        with open(edits[1], "a", encoding="utf-8") as edit:
+            edit.write("# once more\n")
+        found = first, second, tried_again(room, crate, edits)
+    wanted = [0, 1], [], [1]
+    return [] if found == wanted else [f"three runs tried {found}, and had to try {wanted}"]
 
 
 def main():
@@ -111,11 +147,7 @@ def main():
         return 0
     rt.rtlib.guarded()
     passed = failed = 0
-    for names, alone in RUNS:
-        said, left = try_edits(names)
-        wrong = [f"{it}: {said[it][1]}" for it in names if EDITS[it][0] not in said[it][1] or said[it][0] != (EDITS[it][0] == REFUSED)]
-        if sorted(left) != sorted(alone):
-            wrong.append(f"tried alone: {', '.join(left) or 'none'}; and to be tried so: {', '.join(alone) or 'none'}")
+    for wrong in [*(misjudged(*it) for it in RUNS), forgotten()]:
         for it in wrong:
             print(f"wrong-bodies: failed: {it}")
         failed += bool(wrong)

@@ -1,15 +1,17 @@
 #!/usr/bin/env python3
 """Tries the wrong bodies of crates, those of many functions in one check.
 
-usage: wrong_bodies.py ci          the toolchain's gate, `rt ci`, with the wrong bodies tried so
-       wrong_bodies.py CRATE ..    those of some crates, over the libraries below them, as `rt must-fail` does
+usage: wrong_bodies.py ci [--anew]    the toolchain's gate, `rt ci`, with the wrong bodies tried so
+       wrong_bodies.py CRATE ..       those of some crates, over the libraries below them, as `rt must-fail` does
 
-The toolchain checks a crate once for each wrong body, and proves it once more before the first. Most of a check goes into loading what
+The toolchain proves a crate once more for its wrong bodies, and then checks it once for each. Most of a check goes into loading what
 the crate depends on. So here a check has wrong bodies of many functions, and proves only these and what they call. A wrong body is
 refused if the check names a goal of its function that is not proved. One function more is as it was, and must be proved: otherwise
 the check shows nothing. What is not refused so, or stands in no function, is tried as the toolchain tries it, and that decides.
 A toolchain with other calls than this file knows tries all in its own way.
 """
+import functools
+import hashlib
 import importlib.machinery
 import importlib.util
 import inspect
@@ -45,13 +47,25 @@ def toolchain():
 
 
 rt = toolchain()
-try_alone = getattr(rt, "must_fail_all", None)
+# The calls of the toolchain that this file takes or replaces, each with its parameters.
+CALLS = {
+    "add_edits": "tasks crate edits first waits is_well kept start in_ci",
+    "checked": "crate texts flags kept",
+    "must_fail": "crate edit flags kept",
+    "seeded": "crate flags start",
+    "read_edit": "edit folder",
+    "unread": "line changed",
+    "stamp_of": "crate seen",
+    "need": "crate",
+}
+# What is kept of a wrong body counts only for those who try it as this file does.
+with open(__file__, "rb") as own:
+    OWN = hashlib.sha256(own.read()).hexdigest()
 
 
 def is_known():
     """Whether the toolchain tries wrong bodies by the calls that this file knows. Otherwise it tries them in its own way."""
-    known = {"must_fail_all": ["crate", "edits", "flags"], "checked": ["crate", "texts", "flags", "kept"], "read_edit": ["edit", "folder"], "unread": ["line", "changed"]}
-    return all(callable(getattr(rt, name, None)) and [*inspect.signature(getattr(rt, name)).parameters] == has for name, has in known.items())
+    return all(callable(getattr(rt, name, None)) and [*inspect.signature(getattr(rt, name)).parameters] == has.split() for name, has in CALLS.items())
 
 
 @dataclass(frozen=True)
@@ -169,9 +183,9 @@ class Crate:
         if not control:
             return {}
         texts, functions = self.together(wrongs)
-        asked = [it.path for it in [*functions, control]]
+        asked = [word for it in [*functions, control] for word in ("--only", it.path)]
         begun = time.monotonic()
-        said = rt.checked(self.crate, texts, [*flags, *(word for path in asked for word in ("--only", path))], kept).stdout
+        said = rt.checked(self.crate, texts, [*flags, *asked], kept).stdout
         print(f"{self.crate.name}: a check of {len(wrongs)} wrong bodies took {time.monotonic() - begun:.0f} s", flush=True)
         lines = said.rstrip("\n").split("\n")
         is_read = lines[-1].startswith("only=") and not any(rt.unread(it, texts) for it in lines)
@@ -202,8 +216,26 @@ def checks_of(wrongs):
             yield [it]
 
 
+def try_alone(crate, edits, flags):
+    """Tries each wrong body in a check of its own, as the toolchain does: over what a check of the crate as it stands has proved, and
+    from nothing where that does not settle it."""
+    tried = []
+    seed = rt.seeded(crate, flags) if len(edits) > 1 else None
+    for edit in edits:
+        kind = None
+        if seed:
+            with tempfile.TemporaryDirectory(prefix="wrong-bodies-") as room:
+                over = shutil.copytree(f"{seed}/seed", f"{room}/kept")
+                kind, text = rt.must_fail(crate, edit, flags, over)
+        if kind not in rt.SETTLED:
+            kind, text = rt.must_fail(crate, edit, flags)
+        tried.append((kind, text))
+    shutil.rmtree(seed or "", ignore_errors=True)
+    return tried
+
+
 def try_together(crate, edits, flags):
-    """As the toolchain's `must_fail_all`: for each edit whether it is refused, and a line that says so."""
+    """What the try of each edit comes to, as the toolchain's `must_fail` says it: the kind of answer, and a line."""
     tried = Crate(crate)
     wrongs = [it for it in map(tried.wrong_of, edits) if it]
     why = {}
@@ -213,7 +245,36 @@ def try_together(crate, edits, flags):
     left = [it for it in edits if it not in why]
     alone = dict(zip(left, try_alone(crate, left, flags)))
     said = lambda it: f"must-fail {crate.name}/{os.path.basename(it)}: refused, as it must be: {why[it][:160]}"
-    return [alone[it] if it in alone else (True, said(it)) for it in edits]
+    return [alone[it] if it in alone else (rt.REFUSED, said(it)) for it in edits]
+
+
+def add_edits(tasks, crate, edits, first, waits, is_well, kept, start=None, in_ci=True):
+    """As the toolchain's call of that name: adds the task that tries a crate's wrong bodies once the crate is proved, and returns what gives
+    its results, and what gives those of earlier runs on this machine, by their numbers."""
+    task = crate.name, "edits", 0
+
+    def names():
+        stands_on = kept.key(crate) if in_ci else rt.stamp_of(crate, {})
+        return [kept.of_edit(it, f"{OWN} {stands_on}") for it in edits]
+
+    @functools.cache
+    def known():
+        return {at: told for at, told in enumerate(map(kept.tried, names())) if told}
+
+    def try_new(given, jobs):
+        new = [at for at in range(len(edits)) if at not in known()]
+        if not is_well(given, len(new)):
+            return None
+        tried = dict(zip(new, try_together(crate, [edits[at] for at in new], ["--jobs", "1"])))
+        if all(map(kept.is_untouched, [crate, *([] if in_ci else crate.below())])):
+            for at, name in enumerate(names()):
+                if at in tried and tried[at][0] in rt.SETTLED:
+                    kept.keep_tried(name, *tried[at])
+        return [known().get(at) or tried[at] for at in range(len(edits))]
+
+    if edits:
+        tasks[task] = (waits, crate.count(rb"\n"), rt.need(crate), try_new)
+    return lambda given: given[task] if edits else [], known
 
 
 def main(words):
@@ -221,14 +282,14 @@ def main(words):
         print(__doc__, file=sys.stderr)
         return 5
     if is_known():
-        rt.must_fail_all = try_together
+        rt.add_edits = add_edits
     else:
         print("this toolchain tries each wrong body in its own way", flush=True)
-    if words != ["ci"]:
-        return rt.edits_alone(words)
+    if words[0] != "ci":
+        return rt.main(["must-fail", *words])
     # while wrong bodies wait for a processor, a second job of a proof costs more than it saves
     os.environ.setdefault("RT_JOBS", str(len(os.sched_getaffinity(0))))
-    return rt.ci()
+    return rt.main(words)
 
 
 if __name__ == "__main__":
