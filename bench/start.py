@@ -5,7 +5,8 @@ starts the program, and by the launcher of this checkout. What the launcher take
 usage: start.py [RUNS [PROGRAM]]
 
 All are run in turn, 400 times where nothing else is said. Of the milliseconds by the clock and of processor time the table has
-the least and the median. The last line has the load before it.
+the least and the median. A line behind it tells how long a second thread of a C program takes to begin while the first goes on, as
+workers of a check do. The last line has the load before it.
 """
 import os
 import statistics
@@ -21,16 +22,48 @@ from shapes import run
 RUNS = int(sys.argv[1]) if len(sys.argv) > 1 else 400
 TOP = os.path.dirname(os.path.dirname(os.path.abspath(__file__)))
 PROGRAM = os.path.abspath(sys.argv[2]) if len(sys.argv) > 2 else SNAPJUDGE
+EMPTY = "int main(void) { return 0; }\n"
+# prints after how many milliseconds a second thread began; the first one is busy for 20
+THREAD = """#include <pthread.h>
+#include <stdio.h>
+#include <time.h>
+static double begun;
+static double now(void) {
+    struct timespec time;
+    clock_gettime(CLOCK_MONOTONIC, &time);
+    return time.tv_sec * 1e3 + time.tv_nsec / 1e6;
+}
+static void *begin(void *unused) {
+    begun = now();
+    return unused;
+}
+int main(void) {
+    pthread_t thread;
+    double before = now();
+    if (pthread_create(&thread, NULL, begin, NULL) != 0) return 1;
+    while (now() < before + 20) {}
+    pthread_join(thread, NULL);
+    printf("%f\\n", begun - before);
+    return 0;
+}
+"""
+
+
+def compiled(room, name, text):
+    """A program in C, made of this text."""
+    made = os.path.join(room, name)
+    with open(f"{made}.c", "w", encoding="utf-8") as source:
+        source.write(text)
+    subprocess.run(["cc", "-O2", "-pthread", "-o", made, f"{made}.c"], check=True)
+    return made
 
 
 def main():
     with tempfile.TemporaryDirectory() as room:
-        history, source, empty = (os.path.join(room, name) for name in ("history.csv", "empty.c", "empty"))
-        for path, text in ((history, texts_of("atomic, width 2", 10)[0]), (source, "int main(void) { return 0; }\n")):
-            with open(path, "w", encoding="utf-8") as file:
-                file.write(text)
-        subprocess.run(["cc", "-O2", "-o", empty, source], check=True)
-        cases = {"an empty C program": [empty]} | {f"check, workers: {n}": [PROGRAM, "check", "--workers", str(n)] for n in (1, 2)}
+        history, thread = os.path.join(room, "history.csv"), compiled(room, "thread", THREAD)
+        with open(history, "w", encoding="utf-8") as file:
+            file.write(texts_of("atomic, width 2", 10)[0])
+        cases = {"an empty C program": [compiled(room, "empty", EMPTY)]} | {f"check, workers: {n}": [PROGRAM, "check", "--workers", str(n)] for n in (1, 2)}
         cases["by a shell"] = ["/bin/sh", "-c", 'exec "$0" "$@"', PROGRAM, "check", "--workers", "1"]
         cases["by the launcher"] = [f"{TOP}/snapjudge", "check", "--workers", "1"]
         load = os.getloadavg()
@@ -40,10 +73,12 @@ def main():
                 begun = time.perf_counter()
                 _, processor, _ = run(words, history, os.devnull)
                 taken[name].append(((time.perf_counter() - begun) * 1000, processor))
+        begins = [float(subprocess.run([thread], stdout=subprocess.PIPE, check=True).stdout) for _ in range(RUNS)]
     print("| program | by the clock, ms | median | processor time, ms | median |\n|---|---|---|---|---|")
     for name, runs in taken.items():
         cells = [f"{of(times):.2f}" for times in zip(*runs) for of in (min, statistics.median)]
         print(f"| {name} | {' | '.join(cells)} |")
+    print(f"a second thread begins after {min(begins):.2f} ms at best, {statistics.median(begins):.2f} by the median, {statistics.mean(begins):.2f} on average")
     print("load", *(f"{it:.1f}" for it in load))
 
 

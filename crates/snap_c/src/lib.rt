@@ -92,6 +92,3 @@ pub extern "C" fn snapjudge_version() -> u32
 {
     VERSION
 }
-
-#[cfg(test)]
-mod tests;

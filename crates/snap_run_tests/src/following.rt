@@ -1,11 +1,11 @@
 //! Recordings that are followed, window by window.
-use super::checks::{history, same};
+use super::checks::same;
 use snap_core::{Counted, Limit};
 use snap_follow::{FollowFault, FollowOptions, Followed, OneText, Texts, Until, follow_run};
 use snap_testing::{Cup, Drip};
 use std::alloc::Global;
 use std::io;
-use std::io::Write;
+use std::io::{Read, Write};
 use std::sync::Wait;
 use std::sync::atomic::{AtomicU32, Ordering};
 use std::test::Fail;
@@ -230,59 +230,72 @@ const RECORDINGS: &[Recording] = &[
     ),
 ];
 
+// Following what a reader has ends so, in a word and a status, and writes these lines.
+fn expect_followed<Rt: Wait, R: Read + Drop>(
+    rt: &Rt,
+    alloc: Global,
+    reader: R,
+    naps: &Naps,
+    asked: FollowOptions,
+    ended: (&'static str, Option<u8>),
+    wanted: &str,
+) -> Result<(), Fail> {
+    let (end, code, out) = followed(rt, alloc, &mut OneText::new(reader), naps, asked);
+    same((end, code), ended)?;
+    same(str::from_utf8(&out)?, wanted)
+}
+
+// A recording is cut into the same windows whether its text comes whole or byte by byte.
+fn expect_windows<Rt: Wait>(rt: &Rt, alloc: Global, recording: &Recording) -> Result<(), Fail> {
+    let (text, least, most, code, windows, sums) = *recording;
+    let wanted = format!(in alloc; "{windows}{sums}")?;
+    let asked = options(least, most, Until::End, 0)?;
+    let ended = ("whole", Some(code));
+    let naps = no_naps();
+    expect_followed(rt, alloc, text.as_bytes(), &naps, asked, ended, &wanted)?;
+    let drip = Drip::new(text.as_bytes(), 0);
+    expect_followed(rt, alloc, drip, &naps, asked, ended, &wanted)
+}
+
 #[test]
 fn recordings_are_cut_into_windows(rt: HostRuntime) -> Result<(), Fail> {
-    for (text, least, most, code, windows, sums) in RECORDINGS {
-        let wanted = format!(in rt.alloc(); "{windows}{sums}")?;
-        let asked = options(*least, *most, Until::End, 0)?;
-        let (end, found, out) = followed(
-            &rt,
-            rt.alloc(),
-            &mut OneText::new(text.as_bytes()),
-            &no_naps(),
-            asked,
-        );
-        same((end, found), ("whole", Some(*code)))?;
-        same(str::from_utf8(&out)?, wanted.as_str())?;
-        // byte by byte it is the same
-        let drip = Drip::new(text.as_bytes(), 0);
-        let (end, found, out) = followed(
-            &rt,
-            rt.alloc(),
-            &mut OneText::new(drip),
-            &no_naps(),
-            asked,
-        );
-        same((end, found), ("whole", Some(*code)))?;
-        same(str::from_utf8(&out)?, wanted.as_str())?;
+    for recording in RECORDINGS {
+        expect_windows(&rt, rt.alloc(), recording)?;
     }
     Ok(())
 }
 
+const WITH_ITS_LAST_LINE: &str = "\
+window 1 events 2 atomic from 2 to 3
+windows 1 events 2 views 1
+atomic 1 first 1
+only-regular 0
+not-regular 0
+refused 0
+failed 0
+";
+
+const WITHOUT_ITS_LAST_LINE: &str = "\
+window 1 events 1 atomic from 2 to 2
+windows 1 events 1 views 0
+atomic 1 first 1
+only-regular 0
+not-regular 0
+refused 0
+failed 0
+";
+
 #[test]
 fn a_last_line_without_an_end_counts_where_the_text_is_whole(rt: HostRuntime) -> Result<(), Fail> {
-    let text = history(rt.alloc(), "begin,0,view,\nend,0,view,")?;
+    let text = b"event,process,op,data\nbegin,0,view,\nend,0,view,".as_slice();
     let naps = no_naps();
-    let asked = options(1, 100, Until::End, 0)?;
-    let (end, code, out) = followed(
-        &rt,
-        rt.alloc(),
-        &mut OneText::new(text.as_bytes()),
-        &naps,
-        asked,
-    );
-    same((end, code), ("whole", Some(0)))?;
-    assert!(rt; out.starts_with(b"window 1 events 2 atomic from 2 to 3\n"));
-    let asked = options(1, 100, Until::Idle(2), 0)?;
-    let (end, code, out) = followed(
-        &rt,
-        rt.alloc(),
-        &mut OneText::new(text.as_bytes()),
-        &naps,
-        asked,
-    );
-    same((end, code), ("with a rest", Some(0)))?;
-    assert!(rt; out.starts_with(b"window 1 events 1 atomic from 2 to 2\n"));
+    for (until, end, lines) in [
+        (Until::End, "whole", WITH_ITS_LAST_LINE),
+        (Until::Idle(2), "with a rest", WITHOUT_ITS_LAST_LINE),
+    ] {
+        let asked = options(1, 100, until, 0)?;
+        expect_followed(&rt, rt.alloc(), text, &naps, asked, (end, Some(0)), lines)?;
+    }
     // ten pauses are a second
     assert_eq!(rt; naps.taken.load(Ordering::Relaxed), 20);
     Ok(())
@@ -308,12 +321,9 @@ fn fewer_views_than_were_asked_for_have_no_status(rt: HostRuntime) -> Result<(),
 fn a_read_that_fails_ends_it_behind_the_windows(rt: HostRuntime) -> Result<(), Fail> {
     let asked = options(4, 100, Until::End, 0)?;
     let drip = Drip::new(LONG.as_bytes(), LONG.len() as u64);
-    let (end, code, out) = followed(&rt, rt.alloc(), &mut OneText::new(drip), &no_naps(), asked);
-    same((end, code), ("read failed", None))?;
-    same(
-        str::from_utf8(&out)?,
-        "window 1 events 4 atomic from 2 to 5\nwindow 2 events 4 atomic from 6 to 9\n",
-    )
+    let lines = "window 1 events 4 atomic from 2 to 5\nwindow 2 events 4 atomic from 6 to 9\n";
+    let ended = ("read failed", None);
+    expect_followed(&rt, rt.alloc(), drip, &no_naps(), asked, ended, lines)
 }
 
 #[test]

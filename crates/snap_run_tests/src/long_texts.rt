@@ -57,15 +57,26 @@ fn expect_all<Rt: Threads + Wait + Sync>(
     Ok(())
 }
 
+// The checks of a text with so many updates before its first fault name that fault.
+fn expect_fault<Rt: Threads + Wait + Sync>(
+    rt: &Rt,
+    alloc: Global,
+    text: &str,
+    before: u32,
+    fault: &str,
+) -> Result<(), Fail> {
+    let place = u64::from(before) * 2 + 2;
+    let report = format!(in alloc; "refused record {place}: {fault}\n")?;
+    expect_all(rt, alloc, text, "refused", &report)
+}
+
 #[test]
 fn the_first_fault_of_a_long_text_is_found_wherever_it_stands(rt: HostRuntime) -> Result<(), Fail> {
     let alloc = rt.alloc();
     for (before, record, fault) in FAULTS {
         let line = format!(in alloc; "{record}\n")?;
         let text = text_with(alloc, (*before, &line), (UPDATES, ""))?;
-        let place = before * 2 + 2;
-        let report = format!(in alloc; "refused record {place}: {fault}\n")?;
-        expect_all(&rt, alloc, &text, "refused", &report)?;
+        expect_fault(&rt, alloc, &text, *before, fault)?;
     }
     Ok(())
 }
@@ -80,27 +91,36 @@ fn of_two_faults_in_two_pieces_the_first_counts(rt: HostRuntime) -> Result<(), F
     for (line, fault, other) in faults {
         for (before, behind) in [(10, 18_000), (13_000, 13_001), (18_100, 24_000)] {
             let text = text_with(alloc, (before, line), (behind, other))?;
-            let place = before * 2 + 2;
-            let report = format!(in alloc; "refused record {place}: {fault}\n")?;
-            expect_all(&rt, alloc, &text, "refused", &report)?;
+            expect_fault(&rt, alloc, &text, before, fault)?;
         }
     }
     Ok(())
 }
 
-#[test]
-fn empty_lines_between_the_records_of_a_long_text_are_none(rt: HostRuntime) -> Result<(), Fail> {
-    let alloc = rt.alloc();
+// The report of all updates.
+fn updates_report(alloc: Global) -> Result<String, Fail> {
     let order = updates_order(alloc, UPDATES)?;
     let head = "regular yes\nmonotone yes\natomic yes\n";
-    let report = format!(in alloc;
+    Ok(format!(in alloc;
         "events {} calls {UPDATES} pending 0 views 0\n{head}order {UPDATES}\n{order}",
         UPDATES * 2
-    )?;
+    )?)
+}
+
+// 400,000 empty lines.
+fn blank_lines(alloc: Global) -> Result<String, Fail> {
     let mut blank = String::new(alloc);
     for _ in 0..400_000 {
         blank.push_str("\n")?;
     }
+    Ok(blank)
+}
+
+#[test]
+fn empty_lines_between_the_records_of_a_long_text_are_none(rt: HostRuntime) -> Result<(), Fail> {
+    let alloc = rt.alloc();
+    let report = updates_report(alloc)?;
+    let blank = blank_lines(alloc)?;
     for before in [0, 5, 12_000, UPDATES] {
         let text = text_with(alloc, (before, &blank), (UPDATES, "\n"))?;
         expect_all(&rt, alloc, &text, "atomic", &report)?;

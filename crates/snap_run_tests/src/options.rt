@@ -100,6 +100,22 @@ fn run_with<Rt: Threads + Sync, R: Read, W: Write>(
     Ok(end_with(answer))
 }
 
+// A check of what a reader has ends so, and writes this.
+fn expect_with<Rt: Threads + Sync, R: Read + Drop>(
+    rt: &Rt,
+    alloc: Global,
+    reader: R,
+    options: CheckOptions,
+    end: &str,
+    report: &str,
+) -> Result<(), Fail> {
+    let mut reader = Counted::new(reader);
+    let mut writer = Counted::new(Vec::new(alloc));
+    let found = run_with(rt, alloc, &mut reader, &mut writer, options)?;
+    same(found, end)?;
+    same(str::from_utf8(&writer.into_inner())?, report)
+}
+
 #[test]
 fn what_is_asked_for_is_written(rt: HostRuntime) -> Result<(), Fail> {
     let alloc = rt.alloc();
@@ -110,13 +126,7 @@ fn what_is_asked_for_is_written(rt: HostRuntime) -> Result<(), Fail> {
             limit: Limit::usual(),
         };
         let text = history(alloc, records)?;
-        let mut reader = Counted::new(text.as_bytes());
-        let mut writer = Counted::new(Vec::new(alloc));
-        same(
-            run_with(&rt, alloc, &mut reader, &mut writer, options)?,
-            *end,
-        )?;
-        same(str::from_utf8(&writer.into_inner())?, *report)?;
+        expect_with(&rt, alloc, text.as_bytes(), options, end, report)?;
     }
     Ok(())
 }
@@ -171,13 +181,7 @@ fn a_history_has_at_most_as_many_events_as_are_asked_for(rt: HostRuntime) -> Res
     let text = history(alloc, STALE_VIEW)?;
     for (events, end, report) in LIMITS {
         let limit = Limit::new(*events).ok_or("a limit")?;
-        let mut reader = Counted::new(text.as_bytes());
-        let mut writer = Counted::new(Vec::new(alloc));
-        same(
-            run_with(&rt, alloc, &mut reader, &mut writer, quiet(limit))?,
-            *end,
-        )?;
-        same(str::from_utf8(&writer.into_inner())?, *report)?;
+        expect_with(&rt, alloc, text.as_bytes(), quiet(limit), end, report)?;
     }
     Ok(())
 }
@@ -191,11 +195,7 @@ fn a_text_has_1024_bytes_for_each_event(rt: HostRuntime) -> Result<(), Fail> {
         (2049, "refused record 0: toolong\n"),
     ] {
         let text = vec![in alloc; b'\n'; bytes]?;
-        let mut reader = Counted::new(text.as_slice());
-        let mut writer = Counted::new(Vec::new(alloc));
-        let end = run_with(&rt, alloc, &mut reader, &mut writer, quiet(limit))?;
-        same(end, "refused")?;
-        same(str::from_utf8(&writer.into_inner())?, report)?;
+        expect_with(&rt, alloc, text.as_slice(), quiet(limit), "refused", report)?;
     }
     Ok(())
 }

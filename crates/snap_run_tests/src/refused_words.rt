@@ -1,4 +1,5 @@
 //! Words that ask for no job, and what is said of them.
+use crate::checks::same;
 use crate::jobs::words;
 use snap_words::{JobFault, job_of};
 use std::alloc::{AllocError, Global};
@@ -149,17 +150,27 @@ const BEYOND: &[(&str, &str)] = &[
     ),
 ];
 
+// What is said of a line that asks for no job.
+fn said_of(alloc: Global, line: &str) -> Result<String, Fail> {
+    match job_of(alloc, words(alloc, line)?) {
+        Err(JobFault::Usage(said)) => Ok(said),
+        _ => Err(Fail::from(line)),
+    }
+}
+
+// Of each line this is said.
+fn expect_said(alloc: Global, known: &[(&str, &str)]) -> Result<(), Fail> {
+    for (line, text) in known {
+        same(said_of(alloc, line)?.as_str(), *text)?;
+    }
+    Ok(())
+}
+
 #[test]
 fn a_number_beyond_the_limit_of_events_is_refused_as_the_parser_does(
     rt: HostRuntime,
 ) -> Result<(), Fail> {
-    for (line, text) in BEYOND {
-        match job_of(rt.alloc(), words(rt.alloc(), line)?) {
-            Err(JobFault::Usage(said)) => assert_eq!(rt; said.as_str(), *text),
-            _ => return Err(Fail::from(*line)),
-        }
-    }
-    Ok(())
+    expect_said(rt.alloc(), BEYOND)
 }
 
 // Lines with options that do not go together, or with one that needs another, and what is said of them.
@@ -196,11 +207,5 @@ const TOGETHER: &[(&str, &str)] = &[
 
 #[test]
 fn options_go_together(rt: HostRuntime) -> Result<(), Fail> {
-    for (line, text) in TOGETHER {
-        match job_of(rt.alloc(), words(rt.alloc(), line)?) {
-            Err(JobFault::Usage(said)) => assert_eq!(rt; said.as_str(), *text),
-            _ => return Err(Fail::from(*line)),
-        }
-    }
-    Ok(())
+    expect_said(rt.alloc(), TOGETHER)
 }
