@@ -27,13 +27,14 @@ fn records_from(alloc: Global, history: &History, first: u16) -> Result<Vec<u32>
     Ok(records)
 }
 
-// The explanation of a history whose events stand in records from a number on.
-fn explained(alloc: Global, history: &History, first: u16) -> Result<Vec<u8>, Fail> {
+// The explanation of a history whose events stand in these records.
+fn explained(alloc: Global, history: &History, records: &[u32]) -> Result<Vec<u8>, AllocError>
+    requires { length records.now ≡ length history.now }
+{
     let index = Index::build(alloc, history)?;
     let (tally, chain) = tally_and_chain_alone(alloc, &index)?;
-    let records = records_from(alloc, history, first)?;
     let order = order_by(alloc, &index, &tally, chain)?;
-    Ok(explain(alloc, &index, &tally, &records, order.as_deref())?)
+    explain(alloc, &index, &tally, records, order.as_deref())
 }
 
 // An update that is shown by a view that ends before it, and that never ends.
@@ -144,7 +145,8 @@ fn each_worked_history_has_its_explanation_with_records_from_the_first_on(
 ) -> Result<(), Fail> {
     for (steps, first, text) in WORKED {
         let history = history_of(rt.alloc(), steps)?;
-        let found = explained(rt.alloc(), &history, *first)?;
+        let records = records_from(rt.alloc(), &history, *first)?;
+        let found = explained(rt.alloc(), &history, &records)?;
         assert_eq!(rt; str::from_utf8(&found)?, *text);
     }
     Ok(())
@@ -194,38 +196,41 @@ fn a_fault_of_a_text_has_its_rule_and_the_record_of_its_place(rt: HostRuntime) -
     Ok(())
 }
 
+// Limits of events, faults, and the rule that is then said.
+const RULES: &[(u32, TextFault, &str)] = &[
+    (
+        131_072,
+        TextFault::TooMany,
+        "\na history has at most 131072 events; --events N allows up to 1048576\n",
+    ),
+    (
+        131_072,
+        TextFault::TooLong,
+        "\na text has at most 134217728 bytes; --events N allows 1024 for each of up to 1048576 events\n",
+    ),
+    (
+        1_048_575,
+        TextFault::TooMany,
+        "\na history has at most 1048575 events; --events N allows up to 1048576\n",
+    ),
+    (
+        1_048_576,
+        TextFault::TooMany,
+        "\na history has at most 1048576 events\n",
+    ),
+    (
+        1_048_576,
+        TextFault::TooLong,
+        "\na text has at most 1073741824 bytes\n",
+    ),
+];
+
 #[test]
 fn a_rule_names_the_limit_that_holds(rt: HostRuntime) -> Result<(), Fail> {
-    for (events, fault, rule) in [
-        (
-            131_072,
-            TextFault::TooMany,
-            "\na history has at most 131072 events; --events N allows up to 1048576\n",
-        ),
-        (
-            131_072,
-            TextFault::TooLong,
-            "\na text has at most 134217728 bytes; --events N allows 1024 for each of up to 1048576 events\n",
-        ),
-        (
-            1_048_575,
-            TextFault::TooMany,
-            "\na history has at most 1048575 events; --events N allows up to 1048576\n",
-        ),
-        (
-            1_048_576,
-            TextFault::TooMany,
-            "\na history has at most 1048576 events\n",
-        ),
-        (
-            1_048_576,
-            TextFault::TooLong,
-            "\na text has at most 1073741824 bytes\n",
-        ),
-    ] {
-        let limit = Limit::new(events).ok_or("a limit")?;
-        let said = explain_refusal(rt.alloc(), b"", 0, fault, limit)?;
-        assert!(rt; str::from_utf8(&said)?.contains(rule));
+    for (events, fault, rule) in RULES {
+        let limit = Limit::new(*events).ok_or("a limit")?;
+        let said = explain_refusal(rt.alloc(), b"", 0, *fault, limit)?;
+        assert!(rt; str::from_utf8(&said)?.contains(*rule));
     }
     Ok(())
 }

@@ -2,8 +2,9 @@
 use snap_conditions::{is_atomic, tally_range};
 use snap_index::Index;
 use snap_report::{refusal_text, report, verdict_text};
-use snap_testing::{history_of, worked};
+use snap_testing::{Step, history_of, worked};
 use snap_text::TextFault;
+use std::alloc::Global;
 use std::test::Fail;
 
 #[test]
@@ -13,14 +14,28 @@ fn a_refusal_names_the_record_and_its_fault(rt: HostRuntime) -> Result<(), Fail>
     Ok(())
 }
 
-#[test]
-fn a_stale_view_is_reported_with_the_number_that_it_shows(rt: HostRuntime) -> Result<(), Fail> {
-    let alloc = rt.alloc();
-    let history = history_of(alloc, worked::STALE_VIEW)?;
+// The report of a history that is not atomic.
+fn reported(alloc: Global, steps: &[Step<'_>]) -> Result<Vec<u8>, Fail> {
+    let history = history_of(alloc, steps)?;
     let index = Index::build(alloc, &history)?;
     let tally = tally_range(&index, 0, index.view_count());
-    assert!(rt; !is_atomic(&tally));
-    let text = report(alloc, &index, &tally, None)?;
+    if is_atomic(&tally) {
+        return Err(Fail::from("atomic"));
+    }
+    Ok(report(alloc, &index, &tally, None)?)
+}
+
+// The lines of the verdicts on a history.
+fn verdicts_of(alloc: Global, steps: &[Step<'_>]) -> Result<Vec<u8>, Fail> {
+    let history = history_of(alloc, steps)?;
+    let index = Index::build(alloc, &history)?;
+    let tally = tally_range(&index, 0, index.view_count());
+    Ok(verdict_text(alloc, &tally)?)
+}
+
+#[test]
+fn a_stale_view_is_reported_with_the_number_that_it_shows(rt: HostRuntime) -> Result<(), Fail> {
+    let text = reported(rt.alloc(), worked::STALE_VIEW)?;
     let expected =
         b"events 4 calls 2 pending 0 views 1\nregular no\nmonotone yes\natomic no\nproximity 1 first view 2 entry 0:0 old\n";
     assert_eq!(rt; text.as_slice(), expected.as_slice());
@@ -29,11 +44,7 @@ fn a_stale_view_is_reported_with_the_number_that_it_shows(rt: HostRuntime) -> Re
 
 #[test]
 fn the_verdicts_alone_are_three_lines(rt: HostRuntime) -> Result<(), Fail> {
-    let alloc = rt.alloc();
-    let history = history_of(alloc, worked::NEW_THEN_OLD)?;
-    let index = Index::build(alloc, &history)?;
-    let tally = tally_range(&index, 0, index.view_count());
-    let text = verdict_text(alloc, &tally)?;
+    let text = verdicts_of(rt.alloc(), worked::NEW_THEN_OLD)?;
     let expected = b"regular yes\nmonotone no\natomic no\n";
     assert_eq!(rt; text.as_slice(), expected.as_slice());
     Ok(())

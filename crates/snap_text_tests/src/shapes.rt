@@ -6,6 +6,7 @@ use snap_testing::worked::{ATOMIC_RUN, MISSED_UPDATE, NEW_THEN_OLD, NOTHING, SEE
 use snap_testing::{Step, history_of};
 use snap_verdict::order_by;
 use std::alloc::Global;
+use std::process::Abort;
 use std::test::Fail;
 
 // A bar: the number of its call, its lane, the columns of its begin and its end, and its place in the printed order.
@@ -99,20 +100,25 @@ fn is_mark(mark: &Mark, known: &(Kind, u32)) -> bool {
     mark.kind == known.0 && mark.call == known.1
 }
 
+// The shapes are these.
+fn expect_shapes(rt: &impl Abort, shapes: &Shapes, known: &Known) {
+    let (lanes, bars, columns, marks) = *known;
+    assert_eq!(rt; shapes.lanes.as_slice(), lanes);
+    assert_eq!(rt; shapes.columns, columns);
+    assert_eq!(rt; shapes.bars.len(), bars.len());
+    for (bar, known) in shapes.bars.iter().zip(bars.iter()) {
+        assert!(rt; is_bar(bar, known), "{bar:?}");
+    }
+    assert_eq!(rt; shapes.marks.len(), marks.len());
+    for (mark, known) in shapes.marks.iter().zip(marks.iter()) {
+        assert!(rt; is_mark(mark, known), "{mark:?}");
+    }
+}
+
 #[test]
 fn each_worked_history_has_its_lanes_bars_columns_and_marks(rt: HostRuntime) -> Result<(), Fail> {
-    for (steps, limit, (lanes, bars, columns, marks)) in WORKED {
-        let shapes = drawn(rt.alloc(), steps, *limit)?;
-        assert_eq!(rt; shapes.lanes.as_slice(), *lanes);
-        assert_eq!(rt; shapes.columns, *columns);
-        assert_eq!(rt; shapes.bars.len(), bars.len());
-        for (bar, known) in shapes.bars.iter().zip(bars.iter()) {
-            assert!(rt; is_bar(bar, known), "{bar:?}");
-        }
-        assert_eq!(rt; shapes.marks.len(), marks.len());
-        for (mark, known) in shapes.marks.iter().zip(marks.iter()) {
-            assert!(rt; is_mark(mark, known), "{mark:?}");
-        }
+    for (steps, limit, known) in WORKED {
+        expect_shapes(&rt, &drawn(rt.alloc(), steps, *limit)?, known);
     }
     Ok(())
 }

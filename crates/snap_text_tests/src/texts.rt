@@ -241,7 +241,7 @@ fn expect_fields(
     rt: &impl Abort,
     alloc: Global,
     event: &Event,
-    known: [&str; 4],
+    known: &[&str],
 ) -> Result<(), Fail> {
     let fields = fields_of(alloc, event)?;
     for (field, known) in fields.iter().zip(known) {
@@ -258,7 +258,7 @@ fn spells_the_four_fields_of_an_event(rt: HostRuntime) -> Result<(), Fail> {
         value: 3,
     };
     let begin = Event::BeginUpdate { process: 0, entry };
-    expect_fields(&rt, rt.alloc(), &begin, ["begin", "0", "update", "0:1:3"])?;
+    expect_fields(&rt, rt.alloc(), &begin, &["begin", "0", "update", "0:1:3"])?;
     let shown = vec![in rt.alloc();
         entry,
         Entry {
@@ -273,7 +273,7 @@ fn spells_the_four_fields_of_an_event(rt: HostRuntime) -> Result<(), Fail> {
         view,
     };
     let known = ["end", "65535", "view", "0:1:3 255:4294967295:0"];
-    expect_fields(&rt, rt.alloc(), &end, known)
+    expect_fields(&rt, rt.alloc(), &end, &known)
 }
 
 #[test]
@@ -303,7 +303,7 @@ fn a_failed_write_or_flush_is_the_answer(rt: HostRuntime) -> Result<(), Fail> {
     let mut history = History::new(rt.alloc());
     assert!(rt; history.push(Event::BeginView { process: 0 }).is_ok());
     let text = b"event,process,op,data\nbegin,0,view,\n".as_slice();
-    for (room, fails_at_flush) in [(0, false), (10, false), (36, true)] {
+    for &(room, fails_at_flush) in &[(0, false), (10, false), (36, true)] {
         let mut writer = Counted::new(Cup::new(rt.alloc(), room, 3, false, fails_at_flush));
         let answer = write_history(rt.alloc(), &mut writer, &history);
         assert_eq!(rt; answer, Err(WriteRefusal::Device));

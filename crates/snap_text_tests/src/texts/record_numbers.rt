@@ -4,6 +4,7 @@ use snap_core::Counted;
 use snap_csv::{ReadRefusal, read_records, record_of};
 use snap_text::TextFault;
 use std::alloc::{AllocError, Global};
+use std::process::Abort;
 use std::test::Fail;
 
 // The numbers of the records of a text's events.
@@ -30,6 +31,19 @@ fn barred(alloc: Global, text: &[u8], place: u32) -> Result<Vec<u8>, AllocError>
     Ok(barred)
 }
 
+// A record of a text has these fields, each behind a bar.
+fn expect_barred(
+    rt: &impl Abort,
+    alloc: Global,
+    text: &[u8],
+    place: u32,
+    known: &str,
+) -> Result<(), Fail> {
+    let found = barred(alloc, text, place)?;
+    assert_eq!(rt; found.as_slice(), known.as_bytes());
+    Ok(())
+}
+
 #[test]
 fn numbers_records_without_stamps_in_turn(rt: HostRuntime) -> Result<(), Fail> {
     let records = records_in(rt.alloc(), VIEW_BESIDE_UPDATE)?;
@@ -41,11 +55,7 @@ fn numbers_records_without_stamps_in_turn(rt: HostRuntime) -> Result<(), Fail> {
 fn numbers_records_and_no_lines(rt: HostRuntime) -> Result<(), Fail> {
     let text = b"event,process,op,data\r\n\r\nbegin,0,view,\r\n\r\n\r\nend,0,view,\r\n".as_slice();
     assert_eq!(rt; records_in(rt.alloc(), text)?.as_slice(), [2, 3].as_slice());
-    assert_eq!(rt;
-        barred(rt.alloc(), text, 3)?.as_slice(),
-        b"|end|0|view|".as_slice()
-    );
-    Ok(())
+    expect_barred(&rt, rt.alloc(), text, 3, "|end|0|view|")
 }
 
 #[test]
@@ -66,19 +76,15 @@ fn looks_up_the_record_at_which_a_text_was_refused(rt: HostRuntime) -> Result<()
         fault: TextFault::BadData,
     };
     assert_eq!(rt; answer, Some(refusal));
-    let refused = barred(rt.alloc(), &room, 3)?;
-    assert_eq!(rt; refused.as_slice(), b"|end|0|view|0:1:1, \"x\"".as_slice());
-    Ok(())
+    expect_barred(&rt, rt.alloc(), &room, 3, "|end|0|view|0:1:1, \"x\"")
 }
 
 #[test]
 fn looks_up_the_first_and_the_last_record_and_none_beside(rt: HostRuntime) -> Result<(), Fail> {
-    let header = barred(rt.alloc(), STALE_VIEW, 1)?;
-    assert_eq!(rt; header.as_slice(), b"|event|process|op|data".as_slice());
-    let last = barred(rt.alloc(), STALE_VIEW, 5)?;
-    assert_eq!(rt; last.as_slice(), b"|end|1|view|".as_slice());
-    for place in [0, 6, 4294967295] {
-        assert!(rt; record_of(rt.alloc(), STALE_VIEW, place)?.is_none());
+    expect_barred(&rt, rt.alloc(), STALE_VIEW, 1, "|event|process|op|data")?;
+    expect_barred(&rt, rt.alloc(), STALE_VIEW, 5, "|end|1|view|")?;
+    for place in &[0, 6, 4294967295] {
+        assert!(rt; record_of(rt.alloc(), STALE_VIEW, *place)?.is_none());
     }
     Ok(())
 }

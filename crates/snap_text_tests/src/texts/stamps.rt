@@ -209,7 +209,7 @@ fn a_failed_write_of_stamps_is_the_answer(rt: HostRuntime) -> Result<(), Fail> {
     let mut history = History::new(rt.alloc());
     assert!(rt; history.push(Event::BeginView { process: 0 }).is_ok());
     let text = b"at,event,process,op,data\n7,begin,0,view,\n".as_slice();
-    for (room, fails_at_flush) in [(0, false), (10, false), (41, true)] {
+    for &(room, fails_at_flush) in &[(0, false), (10, false), (41, true)] {
         let mut writer = Counted::new(Cup::new(rt.alloc(), room, 3, false, fails_at_flush));
         let answer = write_history_stamped(rt.alloc(), &mut writer, &history, &[7]);
         assert_eq!(rt; answer, Err(WriteRefusal::Device));
