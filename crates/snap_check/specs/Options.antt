@@ -2,7 +2,7 @@
 use Rattle.std.specs.Prelude.{◌≡◌, ◌<◌, ◌≤◌, ◌⊎◌, ℕ, Bool, true, false, List, [], length, Option, Some, None}
 use Rattle.snap_core.specs.declared.event.Event.{Event}
 use Rattle.snap_core.specs.Calls.{calls_of, views_of}
-use Rattle.snap_csv.specs.Texts.{IsTextWithin}
+use Rattle.snap_format.specs.Texts.{IsTextWithin}
 use Rattle.snap_verdict.specs.declared.status.Status.{Status}
 use Rattle.snap_verdict.specs.Reports.{IsRefusedWithin}
 use Rattle.snap_verdict.specs.Verdicts.{IsBriefVerdict, IsVerdict}

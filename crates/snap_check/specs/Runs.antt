@@ -4,7 +4,7 @@ use Rattle.std.specs.Global.{Vec}
 use Rattle.std.specs.Io.KnownBytes.{Appends, Keeps}
 use Rattle.snap_core.specs.Counting.{Rose}
 use Rattle.snap_core.specs.Sending.{SendsFront}
-use Rattle.snap_csv.specs.Texts.{IsTextWithin}
+use Rattle.snap_format.specs.Texts.{IsTextWithin}
 use Rattle.snap_check.specs.declared.fault.RunFault.{RunFault}
 use Rattle.snap_check.specs.declared.fault.RunFault.TheVariants as faults
 use Rattle.snap_check.specs.declared.reading.Reading.{Reading}

@@ -6,11 +6,11 @@ use Rattle.std.proofs.lemmas.Bool.{false≢true}
 use Rattle.snap_core.specs.declared.event.Event.{Event}
 use Rattle.snap_text.specs.declared.fault.TextFault.TheVariants as faults
 use Rattle.snap_text.specs.Fields.{Fields, event_of, row_event}
-use Rattle.snap_csv.specs.declared.refusal.ReadRefusal.{ReadRefusal}
-use Rattle.snap_csv.specs.declared.refusal.ReadRefusal.TheVariants as refusals
+use Rattle.snap_format.specs.declared.refusal.ReadRefusal.{ReadRefusal}
+use Rattle.snap_format.specs.declared.refusal.ReadRefusal.TheVariants as refusals
 use Rattle.snap_csv.specs.OneLine.{AnswersLine, HasFirst}
-use Rattle.snap_csv.specs.inside.Answers.{FailsEvent}
-use Rattle.snap_csv.proofs.ReadFacts.{event_is}
+use Rattle.snap_rows.specs.Taking.{FailsEvent}
+use Rattle.snap_rows.proofs.ReadFacts.{event_is}
 
 -- whether another record is behind one
 pub only_if : (more : Bool) (later : List Fields) (Next : Type 0) → (Next → later ≢ []) → MatchBool more Next (later ≡ []) → IsTrue (not more) ↔ (later ≡ [])

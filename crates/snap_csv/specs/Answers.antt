@@ -4,10 +4,10 @@ use Rattle.std.specs.Global.{Vec}
 use Rattle.snap_core.specs.declared.event.Event.{Event}
 use Rattle.snap_core.specs.Counting.{Rose}
 use Rattle.snap_core.specs.Limits.{event_limit}
-use Rattle.snap_csv.specs.declared.refusal.ReadRefusal.{ReadRefusal}
-use Rattle.snap_csv.specs.declared.refusal.ReadRefusal.TheVariants as refusals
-use Rattle.snap_csv.specs.Texts.{IsTextWithin, HasFaultWithin}
-use Rattle.snap_csv.specs.Records.{HaveRecordsWithin}
+use Rattle.snap_format.specs.declared.refusal.ReadRefusal.{ReadRefusal}
+use Rattle.snap_format.specs.declared.refusal.ReadRefusal.TheVariants as refusals
+use Rattle.snap_format.specs.Texts.{IsTextWithin, HasFaultWithin}
+use Rattle.snap_format.specs.Records.{HaveRecordsWithin}
 
 -- what an answer says of a text, whose history may have so many events
 abbrev pub RefusesTextWithin : ℕ → List ℕ → ReadRefusal → Type 0

@@ -1,11 +1,4 @@
-pub mod Rows
-pub mod Layout
-pub mod Faults
-pub mod Stamps
-pub mod Texts
-pub mod Records
 pub mod Answers
 pub mod OneLine
 pub mod Writing
-pub mod Laws
 pub mod inside

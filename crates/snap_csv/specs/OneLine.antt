@@ -2,9 +2,9 @@
 use Rattle.std.specs.Prelude.{◌≡◌, ◌≢◌, ◌↔◌, ◌⊎◌, ⊤, ℕ, Bool, true, IsTrue, List, [], ◌∷◌, Option, Some, None, Result, Ok, Err}
 use Rattle.std.specs.declared.alloc.AllocError.{AllocError}
 use Rattle.snap_core.specs.declared.event.Event.{Event}
-use Rattle.snap_csv.specs.declared.refusal.ReadRefusal.{ReadRefusal}
-use Rattle.snap_csv.specs.declared.refusal.ReadRefusal.TheVariants as refusals
-use Rattle.snap_csv.specs.Layout.{is_header_row}
+use Rattle.snap_format.specs.declared.refusal.ReadRefusal.{ReadRefusal}
+use Rattle.snap_format.specs.declared.refusal.ReadRefusal.TheVariants as refusals
+use Rattle.snap_format.specs.Layout.{is_header_row}
 use Rattle.snap_text.specs.declared.fault.TextFault.TheVariants as faults
 use Rattle.snap_text.specs.Fields.{Fields, row_event}
 

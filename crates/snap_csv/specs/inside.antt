@@ -1,3 +1,3 @@
 -- What only the proofs of this crate need: no clause that a caller reads cites it.
-pub mod Answers
-pub mod Lines
+pub mod Intake
+pub mod Rows

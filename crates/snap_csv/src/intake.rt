@@ -4,20 +4,17 @@ ghost use Rattle.std.specs.Io.{ReadsAtMost};
 ghost use Rattle.std.specs.Io.KnownBytes.{ReadConsumes};
 ghost use Rattle.snap_core.specs.Counting.{counted, inner_of, failures_in};
 ghost use Rattle.snap_csv.specs.Answers.{Counts};
-ghost use Rattle.snap_csv.specs.inside.Answers.{TakesIn};
-ghost use Rattle.snap_csv.specs.inside.Lines.{IsPlain};
+ghost use Rattle.snap_csv.specs.inside.Intake.{TakesIn};
+ghost use Rattle.snap_plain.specs.Lines.{IsPlain};
 ghost use Rattle.snap_core.specs.Events.{event_cap};
-ghost use Rattle.snap_csv.specs.Texts.{bytes_within};
+ghost use Rattle.snap_format.specs.Texts.{bytes_within};
 
-use crate::lines::is_plain;
-use crate::refusal::ReadRefusal;
 use snap_core::{Counted, Limit};
+use snap_format::{ReadRefusal, bytes_within};
+use snap_plain::is_plain;
 use snap_text::TextFault;
 use std::alloc::{AllocError, Global};
 use std::io::{self, Read};
-
-/// How many bytes a text may have for each event that its history may have.
-const BYTES_EACH: usize = 1024;
 
 // For how many bytes a text makes room at a time.
 const PIECE: usize = 65_536;
@@ -26,14 +23,6 @@ const PIECE: usize = 65_536;
 pub struct Taken {
     pub text: Vec<u8>,
     pub plain: bool,
-}
-
-/// How many bytes a text may have.
-pub fn bytes_within(limit: Limit) -> usize
-    ensures bytes { result ≡ bytes_within limit.events }
-    ensures most { result ≤ bytes_within event_cap }
-{
-    limit.events() * BYTES_EACH
 }
 
 // Makes room for a piece, where a text has no room left behind the bytes that are filled.

@@ -1,17 +1,16 @@
 //! The record of one line, where a text is read line by line.
-ghost use Rattle.std.specs.Prelude.{◌≡◌, ◌∷◌, [], Ok, IfOk, IfSome, MatchOption};
+ghost use Rattle.std.specs.Prelude.{◌≡◌, [], IfOk, MatchOption};
 ghost use Rattle.csv.specs.Records.{fields_of};
 ghost use Rattle.snap_csv.specs.OneLine.{AnswersHeader, AnswersLine, HasFirst};
-ghost use Rattle.snap_csv.specs.Rows.{rows_of};
-ghost use Rattle.snap_text.specs.Fields.{Fields, row_event};
+ghost use Rattle.snap_format.specs.Rows.{rows_of};
 
-use crate::ahead::event_first;
-use crate::fields::{event_of_record, four_fields, is_header};
-use crate::lines::{behind_order_mark, is_plain};
-use crate::refusal::ReadRefusal;
+use crate::fields::{four_fields, is_header};
 use crate::rows::{next_row, reader_of};
 use csv::ByteRecord;
 use snap_core::Event;
+use snap_format::ReadRefusal;
+use snap_plain::plain_event;
+use snap_rows::event_of_record;
 use snap_text::{Known, TextFault};
 use std::alloc::{AllocError, Global};
 
@@ -37,20 +36,6 @@ pub fn is_header_line(alloc: Global, line: &[u8]) -> Result<Option<bool>, AllocE
         None => Ok(None),
         Some(only) => Ok(Some(only && is_header(&row))),
     }
-}
-
-// The event of a plain line without a fault, where memory serves. It needs no `csv`.
-fn plain_event(alloc: Global, known: &mut Known, line: &[u8]) -> Option<Event>
-    ensures { IfSome result (λ x. (row : Fields) × (rows_of line.now ≡ row ∷ []) × (row_event row ≡ Ok x)) }
-{
-    if !is_plain(line) {
-        return None;
-    }
-    let (event, rest) = event_first(alloc, known, behind_order_mark(line))?;
-    if !rest.is_empty() {
-        return None;
-    }
-    Some(event)
 }
 
 /// The event that the record of a line spells, or the fault of the line, at the place that is given: none where the line has no

@@ -1,53 +1,29 @@
 //! The history of a text, or the first fault.
-ghost use Rattle.std.specs.Prelude.{◌≡◌, ◌≤◌, ◌+◌, ◌∷◌, [], true, Ok, List, All, IfSome, IsTrue, MatchOption};
+ghost use Rattle.std.specs.Prelude.{◌≡◌, ◌∷◌, true, List, All, IfSome, IsTrue};
 ghost use Rattle.snap_core.specs.Counting.{inner_of, failures_in};
-ghost use Rattle.snap_core.specs.Events.{event_cap};
-ghost use Rattle.snap_csv.specs.inside.Answers.{AnswersNumbered, AnswersRows, TakesEvent, TakesRow};
 ghost use Rattle.snap_csv.specs.Answers.{AnswersText, AnswersTextWithin, AnswersWhole, AnswersWholeWithin, Counts, Leaves};
-ghost use Rattle.snap_csv.specs.Faults.{fault_of};
-ghost use Rattle.snap_csv.specs.inside.Lines.{IsPlain};
-ghost use Rattle.snap_csv.specs.Layout.{is_header_row};
-ghost use Rattle.snap_csv.specs.Rows.{Stands, rows_of};
-ghost use Rattle.snap_text.specs.Fields.{Fields, row_event};
+ghost use Rattle.snap_csv.specs.inside.Rows.{Stands};
+ghost use Rattle.snap_format.specs.Layout.{is_header_row};
+ghost use Rattle.snap_format.specs.Rows.{rows_of};
+ghost use Rattle.snap_plain.specs.Lines.{IsPlain};
+ghost use Rattle.snap_rows.specs.Taking.{AnswersNumbered, AnswersRows, TakesRow};
+ghost use Rattle.snap_text.specs.Fields.{Fields};
 ghost use Rattle.csv.specs.Records.{fields_of};
 
-use crate::ahead::read_ahead;
-use crate::fields::{event_of_record, four_fields, is_header, is_stamped_header};
-use crate::intake::{Taken, bytes_within, take_in};
-use crate::lines::{history_of_lines, is_plain, lines_of};
-use crate::refusal::ReadRefusal;
+use crate::fields::{four_fields, is_header, is_stamped_header};
+use crate::intake::{Taken, take_in};
 use crate::rows::{next_row, reader_of};
 use crate::stamped::stamped_history;
 use csv::{ByteRecord, Reader};
-use snap_core::{Counted, Event, EventRefusal, History, Limit, LimitedHistory};
+use snap_core::{Counted, History, Limit, LimitedHistory};
+use snap_format::{ReadRefusal, bytes_within};
+use snap_plain::{history_of_lines, is_plain, lines_of, read_ahead};
+use snap_rows::{row_limit, take_fields};
 use snap_text::{Known, TextFault};
 use snap_threads::Cutting;
 use std::alloc::Global;
 use std::io::Read;
 use std::thread::Threads;
-
-/// One record more than a history may have events: that one has a fault.
-pub fn row_limit(limit: Limit) -> u32
-    ensures rows { result ≡ limit.events + 1 }
-    ensures most { result ≤ event_cap + 1 }
-{
-    limit.events() as u32 + 1
-}
-
-/// The fault of a text that a refused event stands for: none where memory ran out.
-pub fn fault_for(refusal: EventRefusal) -> Option<TextFault>
-    ensures { result ≡ fault_of refusal }
-{
-    match refusal {
-        EventRefusal::TooMany => Some(TextFault::TooMany),
-        EventRefusal::Busy => Some(TextFault::Busy),
-        EventRefusal::Idle => Some(TextFault::Idle),
-        EventRefusal::OtherOp => Some(TextFault::OtherOp),
-        EventRefusal::Writer => Some(TextFault::Writer),
-        EventRefusal::Number => Some(TextFault::Number),
-        EventRefusal::Memory => None,
-    }
-}
 
 // Adds the event of a record to a history.
 fn take_row(
@@ -67,59 +43,6 @@ fn take_row(
         });
     };
     take_fields(alloc, known, history, place, fields)
-}
-
-/// Adds the event of a record to a history, by the record's four fields.
-pub fn take_fields(
-    alloc: Global,
-    known: &mut Known,
-    history: &mut LimitedHistory,
-    place: u32,
-    fields: (&[u8], &[u8], &[u8], &[u8]),
-) -> Result<(), ReadRefusal>
-    ensures takes { TakesRow history.old.limit place history.old.events history.new.events (fields.entry.0.now ∷ fields.entry.1.now ∷ fields.entry.2.now ∷ fields.entry.3.now ∷ []) result }
-    ensures limit { history.new.limit ≡ history.old.limit }
-{
-    if history.is_full() {
-        return Err(ReadRefusal::Text {
-            place,
-            fault: TextFault::TooMany,
-        });
-    }
-    let (event, process, op, data) = fields;
-    let event = event_of_record(alloc, known, place, event, process, op, data)?;
-    take_event(history, place, event)
-}
-
-/// Adds the event of a record to a history.
-pub fn take_event(history: &mut LimitedHistory, place: u32, event: Event) -> Result<(), ReadRefusal>
-    ensures takes { (r : Fields) → row_event r ≡ Ok event → TakesRow history.old.limit place history.old.events history.new.events r result }
-    ensures limit { history.new.limit ≡ history.old.limit }
-{
-    if let Err((_, refusal)) = history.push(event) {
-        return Err(refused_at(place, refusal));
-    }
-    Ok(())
-}
-
-/// Adds an event to a history.
-pub fn push_event(history: &mut History, place: u32, event: Event) -> Result<(), ReadRefusal>
-    ensures { TakesEvent place history.old history.new event result }
-{
-    if let Err((_, refusal)) = history.push(event) {
-        return Err(refused_at(place, refusal));
-    }
-    Ok(())
-}
-
-// What the refused event of a record is answered as.
-fn refused_at(place: u32, refusal: EventRefusal) -> ReadRefusal
-    ensures { MatchOption (fault_of refusal) (result ≡ ReadRefusal.Memory) (λ fault. result ≡ ReadRefusal.Text place fault) }
-{
-    match fault_for(refusal) {
-        Some(fault) => ReadRefusal::Text { place, fault },
-        None => ReadRefusal::Memory,
-    }
 }
 
 /// The history of a text, or its first fault; and the numbers of its events' records where these have stamps. Records

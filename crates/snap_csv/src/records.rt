@@ -5,17 +5,18 @@ ghost use Rattle.csv.specs.Records.{fields_of};
 ghost use Rattle.snap_core.specs.Counting.{inner_of, failures_in};
 ghost use Rattle.snap_core.specs.Events.{event_cap};
 ghost use Rattle.snap_csv.specs.Answers.{AnswersRecords, AnswersRecordsWithin, Counts, Leaves};
-ghost use Rattle.snap_csv.specs.inside.Answers.{numbers_kept};
-ghost use Rattle.snap_csv.specs.Records.{record_at};
-ghost use Rattle.snap_csv.specs.Rows.{Stands, rows_of};
+ghost use Rattle.snap_csv.specs.inside.Rows.{Stands};
+ghost use Rattle.snap_format.specs.Records.{record_at};
+ghost use Rattle.snap_format.specs.Rows.{rows_of};
+ghost use Rattle.snap_rows.specs.Taking.{numbers_kept};
 ghost use Rattle.snap_text.specs.Fields.{Fields};
 
 use crate::intake::{Taken, take_in};
 use crate::read::numbered_history;
-use crate::refusal::ReadRefusal;
 use crate::rows::{next_row, reader_of};
 use csv::{ByteRecord, Reader};
 use snap_core::{Counted, History, Limit};
+use snap_format::ReadRefusal;
 use std::alloc::{AllocError, Global};
 use std::io::Read;
 

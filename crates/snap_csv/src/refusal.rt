@@ -1,37 +1,8 @@
-//! Why a text was not read, or not written.
+//! Why a history was not written.
 ghost use Rattle.std.specs.Prelude.{◌≡◌};
-ghost use Rattle.snap_csv.specs.declared.refusal.ReadRefusal.TheVariants as read;
 ghost use Rattle.snap_csv.specs.declared.refusal.WriteRefusal.TheVariants as write;
 
-use snap_text::TextFault;
-use std::alloc::{AllocError, AllocFailed};
-
-/// Why no history was read.
-#[derive(Clone, Copy, Debug, PartialEq, Eq)]
-pub enum ReadRefusal {
-    /// The text has a fault, at a record counted from 1, or 0 for the text as a whole.
-    Text { place: u32, fault: TextFault },
-    /// The reader failed.
-    Device,
-    /// Memory ran out.
-    Memory,
-}
-
-impl From<AllocError> for ReadRefusal {
-    ghost from_gives = { λ _ e. e ≡ read.Memory };
-
-    fn from(_e: AllocError) -> ReadRefusal {
-        ReadRefusal::Memory
-    }
-}
-
-impl<T: Drop> From<AllocFailed<T>> for ReadRefusal {
-    ghost from_gives = { λ _ e. e ≡ read.Memory };
-
-    fn from(_e: AllocFailed<T>) -> ReadRefusal {
-        ReadRefusal::Memory
-    }
-}
+use std::alloc::AllocError;
 
 /// Why a history was not written.
 #[derive(Clone, Copy, Debug, PartialEq, Eq)]

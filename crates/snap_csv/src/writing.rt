@@ -3,9 +3,9 @@ ghost use Rattle.std.specs.Prelude.{◌≡◌, ◌<◌, ◌^◌, ◌++◌, ◌�
 ghost use Rattle.std.specs.List.Sorted.{IsStrictlyIncreasing};
 ghost use Rattle.csv.specs.Writing.{default_writer, row_text};
 ghost use Rattle.snap_core.specs.Counting.{inner_of, failures_in};
-ghost use Rattle.snap_csv.specs.Layout.{history_text, stamped_lines, stamped_text};
-ghost use Rattle.snap_text.specs.Spelling.{spelled};
 ghost use Rattle.snap_csv.specs.Writing.{CountsWrite, Holds, Writes};
+ghost use Rattle.snap_format.specs.Layout.{history_text, stamped_lines, stamped_text};
+ghost use Rattle.snap_text.specs.Spelling.{spelled};
 
 use crate::refusal::WriteRefusal;
 use csv::{Writer, WriterBuilder};

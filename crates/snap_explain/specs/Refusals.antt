@@ -4,10 +4,10 @@ use Rattle.std.specs.List.{flat_map}
 use Rattle.snap_core.specs.Events.{event_cap}
 use Rattle.snap_text.specs.declared.fault.TextFault.{TextFault}
 use Rattle.snap_text.specs.declared.fault.TextFault.TheVariants as faults
-use Rattle.snap_csv.specs.Records.{record_at}
+use Rattle.snap_format.specs.Records.{record_at}
 use Rattle.snap_text.specs.Fields.{Fields}
-use Rattle.snap_csv.specs.Rows.{rows_of}
-use Rattle.snap_csv.specs.Texts.{bytes_within}
+use Rattle.snap_format.specs.Rows.{rows_of}
+use Rattle.snap_format.specs.Texts.{bytes_within}
 use Rattle.snap_report.specs.Lines.{line_text}
 use Rattle.snap_report.specs.Refusals.{refusal_line}
 

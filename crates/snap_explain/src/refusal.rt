@@ -2,8 +2,8 @@
 ghost use Rattle.std.specs.Prelude.{◌≡◌, ◌++◌, IfOk, OnOk, decimal, map, nat_lt};
 ghost use Rattle.std.specs.List.{flat_map};
 ghost use Rattle.snap_core.specs.Events.{event_cap};
-ghost use Rattle.snap_csv.specs.Records.{record_at};
-ghost use Rattle.snap_csv.specs.Rows.{rows_of};
+ghost use Rattle.snap_format.specs.Records.{record_at};
+ghost use Rattle.snap_format.specs.Rows.{rows_of};
 ghost use Rattle.snap_explain.specs.Refusals.{IsRefusalExplanation, byte_words as spec_byte_words, event_words as spec_event_words, limit_of, quoted, record_text, rule_of as spec_rule_of};
 
 use snap_core::{EVENT_CAP, Limit};

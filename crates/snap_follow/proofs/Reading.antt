@@ -6,8 +6,8 @@ use Rattle.std.proofs.lemmas.List.{map-append}
 use Rattle.std.proofs.lemmas.Grind.{flat_map-append}
 use Rattle.snap_core.specs.declared.event.Event.{Event}
 use Rattle.snap_core.specs.Events.{IsHistory}
-use Rattle.snap_csv.specs.Layout.{is_header_row}
-use Rattle.snap_csv.specs.Rows.{rows_of}
+use Rattle.snap_format.specs.Layout.{is_header_row}
+use Rattle.snap_format.specs.Rows.{rows_of}
 use Rattle.snap_text.specs.Fields.{Fields, row_event}
 use Rattle.snap_windows.specs.Taken.{HasTaken}
 use Rattle.snap_follow.specs.declared.follow.Follow.{Follow}

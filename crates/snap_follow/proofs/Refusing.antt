@@ -4,7 +4,7 @@ use Rattle.std.specs.Prelude.{IfErr}
 use Rattle.std.proofs.lemmas.Bool.{false≢true}
 use Rattle.snap_core.specs.declared.event.Event.{Event}
 use Rattle.snap_core.specs.Events.{IsHistory}
-use Rattle.snap_csv.specs.Rows.{rows_of}
+use Rattle.snap_format.specs.Rows.{rows_of}
 use Rattle.snap_text.specs.Fields.{Fields, row_event}
 use Rattle.snap_windows.specs.Taken.{HasTaken}
 use Rattle.snap_follow.specs.declared.follow.Ended.{Ended}

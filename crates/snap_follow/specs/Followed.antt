@@ -6,8 +6,8 @@ use Rattle.snap_core.specs.Events.{IsHistory}
 use Rattle.snap_core.specs.Orders.{IsAtomic}
 use Rattle.snap_core.specs.Refusals.{is_begin}
 use Rattle.snap_core.specs.Regular.{IsRegular}
-use Rattle.snap_csv.specs.Layout.{is_header_row}
-use Rattle.snap_csv.specs.Rows.{rows_of}
+use Rattle.snap_format.specs.Layout.{is_header_row}
+use Rattle.snap_format.specs.Rows.{rows_of}
 use Rattle.snap_text.specs.Fields.{Fields, row_event}
 use Rattle.snap_follow.specs.declared.follow.Ended.{Ended}
 use Rattle.snap_follow.specs.declared.follow.Ended.TheVariants.{Refused, Memory}

@@ -2,7 +2,7 @@
 use Rattle.std.specs.Prelude.{◌⊎◌, ℕ, List, length}
 use Rattle.std.specs.List.{range_with_len}
 use Rattle.snap_core.specs.declared.event.Event.{Event}
-use Rattle.snap_csv.specs.Texts.{IsTextWithin}
+use Rattle.snap_format.specs.Texts.{IsTextWithin}
 use Rattle.snap_runs.specs.Shrinking.{IsCutTo}
 use Rattle.snap_verdict.specs.declared.status.Status.{Status}
 use Rattle.snap_verdict.specs.Reports.{IsRefusedWithin}

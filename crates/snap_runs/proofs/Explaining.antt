@@ -3,10 +3,10 @@ use Rattle.std.proofs.Common.{◌≡◌, ◌<◌, ◌∙◌, inl, inr, ℕ, zero
 use Rattle.std.specs.Prelude.{IfSome}
 use Rattle.snap_core.specs.declared.event.Event.{Event}
 use Rattle.snap_text.specs.declared.fault.TextFault.{TextFault}
-use Rattle.snap_csv.specs.declared.refusal.ReadRefusal.{ReadRefusal}
-use Rattle.snap_csv.specs.declared.refusal.ReadRefusal.TheVariants as refusals
+use Rattle.snap_format.specs.declared.refusal.ReadRefusal.{ReadRefusal}
+use Rattle.snap_format.specs.declared.refusal.ReadRefusal.TheVariants as refusals
 use Rattle.snap_csv.specs.Answers.{RefusalLeaves, RefusesTextWithin}
-use Rattle.snap_csv.specs.Records.{HaveRecordsWithin}
+use Rattle.snap_format.specs.Records.{HaveRecordsWithin}
 use Rattle.snap_explain.specs.Refusals.{IsRefusalExplanation, refusal_explanation}
 use Rattle.snap_verdict.specs.declared.status.Status.{Status}
 use Rattle.snap_verdict.specs.declared.status.Status.TheVariants.{Refused}

@@ -6,10 +6,10 @@ use Rattle.snap_core.specs.declared.entry.Entry.{Entry}
 use Rattle.snap_core.specs.declared.event.Event.{Event}
 use Rattle.snap_core.specs.declared.event.Event.TheVariants.{BeginUpdate, BeginView, EndUpdate, EndView}
 use Rattle.snap_core.specs.Events.{IsBoundedHistory}
-use Rattle.snap_csv.specs.Laws.{ListsAtMost}
-use Rattle.snap_csv.specs.Layout.{history_text}
-use Rattle.snap_csv.specs.Texts.{bytes_within}
-use Rattle.snap_csv.proofs.LengthFacts.{narrow_text_short}
+use Rattle.snap_format.specs.Laws.{ListsAtMost}
+use Rattle.snap_format.specs.Layout.{history_text}
+use Rattle.snap_format.specs.Texts.{bytes_within}
+use Rattle.snap_format.proofs.LengthFacts.{narrow_text_short}
 use Rattle.snap_record.specs.Calls.{Mem}
 use Rattle.snap_record.specs.declared.plan.Step.{Step}
 use Rattle.snap_record.specs.Recording.{AreStamped}

@@ -4,9 +4,9 @@ use Rattle.std.specs.Prelude.{IfOk}
 use Rattle.snap_core.specs.declared.event.Event.{Event}
 use Rattle.snap_core.specs.Calls.{calls_of}
 use Rattle.snap_core.specs.Orders.{IsAtomic}
-use Rattle.snap_csv.specs.Layout.{history_text, stamped_text}
-use Rattle.snap_csv.specs.Texts.{bytes_within}
-use Rattle.snap_csv.proofs.TextFacts.{text_reads}
+use Rattle.snap_format.specs.Layout.{history_text, stamped_text}
+use Rattle.snap_format.specs.Texts.{bytes_within}
+use Rattle.snap_format.proofs.TextFacts.{text_reads}
 use Rattle.snap_record.specs.declared.plan.Step.{Step}
 use Rattle.snap_record.specs.Plans.{steps_in}
 use Rattle.snap_check.specs.declared.fault.RunFault.{RunFault}

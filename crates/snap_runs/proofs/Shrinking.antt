@@ -5,8 +5,8 @@ use Rattle.snap_core.specs.declared.event.Event.{Event}
 use Rattle.snap_core.specs.Calls.{calls_of}
 use Rattle.snap_core.specs.Orders.{IsAtomic}
 use Rattle.snap_core.specs.Regular.{IsRegular}
-use Rattle.snap_csv.specs.Layout.{history_text}
-use Rattle.snap_csv.specs.Texts.{IsTextWithin}
+use Rattle.snap_format.specs.Layout.{history_text}
+use Rattle.snap_format.specs.Texts.{IsTextWithin}
 use Rattle.snap_verdict.specs.declared.status.Status.{Status}
 use Rattle.snap_verdict.specs.Verdicts.{HasStatus}
 use Rattle.snap_theory.specs.First.{AreWholeCalls, HasFirstFault}

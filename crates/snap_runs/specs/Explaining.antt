@@ -3,8 +3,8 @@ use Rattle.std.specs.Prelude.{◌≡◌, ◌⊎◌, ℕ, List}
 use Rattle.snap_core.specs.declared.event.Event.{Event}
 use Rattle.snap_core.specs.Calls.{calls_of}
 use Rattle.snap_text.specs.declared.fault.TextFault.{TextFault}
-use Rattle.snap_csv.specs.Records.{HaveRecordsWithin}
-use Rattle.snap_csv.specs.Texts.{HasFaultWithin}
+use Rattle.snap_format.specs.Records.{HaveRecordsWithin}
+use Rattle.snap_format.specs.Texts.{HasFaultWithin}
 use Rattle.snap_verdict.specs.declared.status.Status.{Status}
 use Rattle.snap_verdict.specs.declared.status.Status.TheVariants.{Refused}
 use Rattle.snap_verdict.specs.Verdicts.{HasStatus}

@@ -9,7 +9,7 @@ use Rattle.snap_core.specs.Events.{IsBoundedHistory}
 use Rattle.snap_core.specs.Monotone.{IsMonotone}
 use Rattle.snap_core.specs.Orders.{IsAtomic}
 use Rattle.snap_core.specs.Regular.{IsRegular}
-use Rattle.snap_csv.specs.Layout.{history_text, stamped_text}
+use Rattle.snap_format.specs.Layout.{history_text, stamped_text}
 use Rattle.snap_record.specs.declared.plan.Step.{Step}
 use Rattle.snap_record.specs.History.{AllCompleted}
 use Rattle.snap_record.specs.Plans.{HasScripts, HasWholeScripts, HasNoScans, HasNoViews, steps_in}

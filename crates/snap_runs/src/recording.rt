@@ -2,7 +2,7 @@
 ghost use Rattle.std.specs.Prelude.{◌≡◌, ◌<◌, ◌≤◌, IfOk, OnOk, length, true};
 ghost use Rattle.std.specs.List.Sorted.{IsStrictlyIncreasing};
 ghost use Rattle.snap_core.specs.Counting.{failures_in, inner_of};
-ghost use Rattle.snap_csv.specs.Layout.{history_text, stamped_text};
+ghost use Rattle.snap_format.specs.Layout.{history_text, stamped_text};
 ghost use Rattle.snap_record.specs.Plans.{AreWorkers, HasNoViews};
 ghost use Rattle.snap_runs.specs.Recordings.{HasStamps, IsRecorded, IsRecordingOf, IsStampedRecording, WriteCounts, WroteAs};
 ghost use Rattle.snap_verdict.specs.Verdicts.{IsVerdict};

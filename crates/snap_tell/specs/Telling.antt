@@ -5,8 +5,8 @@ use Rattle.snap_core.specs.Calls.{calls_of, views_of}
 use Rattle.snap_conditions.specs.declared.tally.Tally.{Tally}
 use Rattle.snap_conditions.specs.Tally.{tally_of}
 use Rattle.snap_text.specs.declared.fault.TextFault.{TextFault}
-use Rattle.snap_csv.specs.Records.{HaveRecordsWithin}
-use Rattle.snap_csv.specs.Texts.{HasFaultWithin}
+use Rattle.snap_format.specs.Records.{HaveRecordsWithin}
+use Rattle.snap_format.specs.Texts.{HasFaultWithin}
 use Rattle.snap_verdict.specs.declared.status.Status.{Status}
 use Rattle.snap_verdict.specs.declared.status.Status.TheVariants.{Refused}
 use Rattle.snap_verdict.specs.Statuses.{code_of}

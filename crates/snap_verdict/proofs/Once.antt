@@ -3,8 +3,8 @@ use Rattle.std.proofs.Common.{◌≡◌, ◌∙◌, ℕ, Bool, true, false, List
 use Rattle.std.specs.Prelude.{IsTrue}
 use Rattle.snap_core.specs.declared.event.Event.{Event}
 use Rattle.snap_core.specs.Calls.{calls_of}
-use Rattle.snap_csv.specs.Rows.{rows_of}
-use Rattle.snap_csv.proofs.Exclusive.{apart, fault_once, read_once}
+use Rattle.snap_format.specs.Rows.{rows_of}
+use Rattle.snap_format.proofs.Exclusive.{apart, fault_once, read_once}
 use Rattle.snap_report.specs.Lines.{line_text}
 use Rattle.snap_report.specs.Refusals.{refusal_line}
 use Rattle.snap_report.specs.Reports.{report_lines}

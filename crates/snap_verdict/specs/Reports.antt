@@ -3,7 +3,7 @@ use Rattle.std.specs.Prelude.{ℕ, List, ◌≡◌, ◌⊎◌}
 use Rattle.snap_core.specs.declared.event.Event.{Event}
 use Rattle.snap_text.specs.declared.fault.TextFault.{TextFault}
 use Rattle.snap_core.specs.Limits.{event_limit}
-use Rattle.snap_csv.specs.Texts.{HasFaultWithin, IsTextWithin}
+use Rattle.snap_format.specs.Texts.{HasFaultWithin, IsTextWithin}
 use Rattle.snap_report.specs.Lines.{line_text}
 use Rattle.snap_report.specs.Refusals.{refusal_line}
 use Rattle.snap_verdict.specs.declared.status.Status.{Status}

@@ -1,7 +1,7 @@
 -- What ends a recording where the judge refuses an event.
 use Rattle.std.specs.Prelude.{⊤, Option, Some, None}
 use Rattle.snap_core.specs.declared.history.EventRefusal.{EventRefusal}
-use Rattle.snap_csv.specs.Faults.{fault_of}
+use Rattle.snap_format.specs.Faults.{fault_of}
 use Rattle.snap_follow.specs.declared.follow.Ended.{Ended}
 use Rattle.snap_follow.specs.declared.follow.Ended.TheVariants.{Refused, Memory}
 use Rattle.snap_follow.specs.declared.follow.Place.{Place}

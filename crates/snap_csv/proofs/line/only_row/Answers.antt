@@ -1,5 +1,5 @@
 use Rattle.std.proofs.Common.{sym, ◌∙◌}
-use Rattle.snap_csv.specs.Rows.{rows_of}
+use Rattle.snap_format.specs.Rows.{rows_of}
 use Rattle.snap_csv.proofs.OneLine.{only_if}
 use Rattle.snap_csv.proofs.line.only_row.Goals as goal
 

@@ -1,7 +1,7 @@
 use Rattle.std.proofs.Common.{◌∙◌, sym, rules}
 use Rattle.std.proofs.lemmas.Bool.{false≢true}
 use Rattle.std.proofs.lemmas.Result.{err_from_is_err_and}
-use Rattle.snap_csv.specs.Rows.{rows_of}
+use Rattle.snap_format.specs.Rows.{rows_of}
 use Rattle.snap_csv.proofs.OneLine.{no_event, only_event, only_fails}
 use Rattle.snap_csv.proofs.line.read_line.Goals.{then-only+in_default-four_fields, else-only}
 use Rattle.snap_csv.proofs.line.read_line.Goals as goal

@@ -1,4 +1,4 @@
-use Rattle.snap_csv.specs.Rows.{rows_of}
+use Rattle.snap_format.specs.Rows.{rows_of}
 use Rattle.snap_csv.proofs.read.history_beside.Goals as goal
 
 pub returns : goal.returns

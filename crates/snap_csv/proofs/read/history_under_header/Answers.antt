@@ -2,8 +2,8 @@ use Rattle.std.proofs.Common.{◌∷◌, ◌∙◌, [], refl, arith, ap, length}
 use Rattle.std.proofs.lemmas.List.{length-append}
 use Rattle.std.proofs.lemmas.Result.{err_from_is_err_and}
 use Rattle.csv.specs.Records.{fields_of}
-use Rattle.snap_csv.specs.Rows.{Stands}
-use Rattle.snap_csv.proofs.ReadFacts.{begun, done, has_room, more, stopped}
+use Rattle.snap_csv.specs.inside.Rows.{Stands}
+use Rattle.snap_rows.proofs.ReadFacts.{begun, done, has_room, more, stopped}
 use Rattle.snap_csv.proofs.read.history_under_header.Goals as goal
 
 pub loop-i-init : goal.loop-i-init

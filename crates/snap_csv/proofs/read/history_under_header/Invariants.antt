@@ -1,8 +1,8 @@
 use Rattle.std.proofs.Common.{◌≡◌, ◌≤◌, ◌∷◌, true, List, length}
 use Rattle.snap_text.specs.Fields.{Fields}
-use Rattle.snap_csv.specs.Layout.{is_header_row}
-use Rattle.snap_csv.specs.Rows.{Stands}
-use Rattle.snap_csv.specs.inside.Answers.{Midway}
+use Rattle.snap_format.specs.Layout.{is_header_row}
+use Rattle.snap_csv.specs.inside.Rows.{Stands}
+use Rattle.snap_rows.specs.Taking.{Midway}
 use Rattle.snap_csv.proofs.read.history_under_header.Given as goal
 
 abbrev pub invariant-loop-i : goal.invariant-loop-i

@@ -1,7 +1,7 @@
 use Rattle.std.proofs.Common.{◌∙◌, ap, length}
-use Rattle.snap_csv.specs.inside.Answers.{numbers_kept}
-use Rattle.snap_csv.specs.Rows.{rows_of}
-use Rattle.snap_csv.proofs.RecordFacts.{rows_spell}
+use Rattle.snap_rows.specs.Taking.{numbers_kept}
+use Rattle.snap_format.specs.Rows.{rows_of}
+use Rattle.snap_format.proofs.RecordFacts.{rows_spell}
 use Rattle.snap_csv.proofs.records.read_records_within.Goals as goal
 
 pub returns-clause-each : goal.returns-clause-each

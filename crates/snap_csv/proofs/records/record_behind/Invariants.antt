@@ -1,6 +1,6 @@
 use Rattle.std.proofs.Common.{List, drop}
 use Rattle.snap_text.specs.Fields.{Fields}
-use Rattle.snap_csv.specs.Rows.{Stands}
+use Rattle.snap_csv.specs.inside.Rows.{Stands}
 use Rattle.snap_csv.proofs.records.record_behind.Given as goal
 
 abbrev pub invariant-loop : goal.invariant-loop

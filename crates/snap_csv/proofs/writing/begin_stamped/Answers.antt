@@ -1,6 +1,6 @@
 use Rattle.std.proofs.Common.{List, ℕ, subst}
 use Rattle.snap_csv.specs.Writing.{Holds}
-use Rattle.snap_csv.proofs.LineFacts.{stamped_header_line}
+use Rattle.snap_format.proofs.LineFacts.{stamped_header_line}
 use Rattle.snap_csv.proofs.writing.begin_stamped.Goals as goal
 
 pub returns : goal.returns

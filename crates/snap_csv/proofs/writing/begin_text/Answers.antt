@@ -1,6 +1,6 @@
 use Rattle.std.proofs.Common.{List, ℕ, subst}
 use Rattle.snap_csv.specs.Writing.{Holds}
-use Rattle.snap_csv.proofs.LineFacts.{header_line}
+use Rattle.snap_format.proofs.LineFacts.{header_line}
 use Rattle.snap_csv.proofs.writing.begin_text.Goals as goal
 
 pub returns : goal.returns

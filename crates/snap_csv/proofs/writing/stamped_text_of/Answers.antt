@@ -1,9 +1,9 @@
 use Rattle.std.proofs.Common.{◌≡◌, ◌<◌, ◌≤◌, List, ℕ, length, take, zip, arith, subst, sym, ap, ◌∙◌}
 use Rattle.std.proofs.lemmas.List.{take_all}
 use Rattle.std.proofs.lemmas.Slice.Zip.{length-zip}
-use Rattle.snap_csv.specs.Layout.{stamped_lines, stamped_text}
+use Rattle.snap_format.specs.Layout.{stamped_lines, stamped_text}
 use Rattle.snap_csv.specs.Writing.{Holds}
-use Rattle.snap_csv.proofs.LineFacts.{stamped_next}
+use Rattle.snap_csv.proofs.WriteFacts.{stamped_next}
 use Rattle.snap_csv.proofs.writing.stamped_text_of.Goals as goal
 
 pub loop-i-preserved : goal.loop-i-preserved

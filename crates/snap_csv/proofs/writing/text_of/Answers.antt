@@ -1,8 +1,9 @@
 use Rattle.std.proofs.Common.{◌++◌, List, ℕ, take, subst, sym, ap, ◌∙◌}
 use Rattle.std.proofs.lemmas.List.{take_all}
-use Rattle.snap_csv.specs.Layout.{history_text}
+use Rattle.snap_format.specs.Layout.{history_text}
 use Rattle.snap_csv.specs.Writing.{Holds}
-use Rattle.snap_csv.proofs.LineFacts.{history_more, line_of}
+use Rattle.snap_csv.proofs.WriteFacts.{history_more}
+use Rattle.snap_format.proofs.LineFacts.{line_of}
 use Rattle.snap_csv.proofs.writing.text_of.Goals as goal
 
 pub loop-event-init : goal.loop-event-init

@@ -1,5 +1,5 @@
 use Rattle.std.proofs.Common.{take}
-use Rattle.snap_csv.specs.Layout.{history_text}
+use Rattle.snap_format.specs.Layout.{history_text}
 use Rattle.snap_csv.specs.Writing.{Holds}
 use Rattle.snap_csv.proofs.writing.text_of.Given as goal
 

@@ -1,5 +1,5 @@
 use Rattle.std.proofs.Common.{sym}
-use Rattle.snap_csv.proofs.LineFacts.{four_items}
+use Rattle.snap_csv.proofs.WriteFacts.{four_items}
 use Rattle.snap_csv.proofs.writing.write_event.Goals as goal
 
 pub returns : goal.returns

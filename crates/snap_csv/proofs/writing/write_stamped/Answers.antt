@@ -1,7 +1,7 @@
 use Rattle.std.proofs.Common.{◌∷◌, ◌++◌, List, ℕ, subst, ◌∙◌}
 use Rattle.csv.specs.Writing.{default_writer, row_text}
 use Rattle.snap_csv.specs.Writing.{Holds}
-use Rattle.snap_csv.proofs.LineFacts.{four_items}
+use Rattle.snap_csv.proofs.WriteFacts.{four_items}
 use Rattle.snap_csv.proofs.writing.write_stamped.Goals as goal
 
 pub returns-clause-line : goal.returns-clause-line

@@ -1,8 +1,8 @@
 use Rattle.std.proofs.Common.{◌≡◌, ◌++◌, ◌∙◌, Some, ap, sym, codes, decimal, map}
 use Rattle.std.specs.List.{flat_map}
 use Rattle.std.specs.Option.{option_map}
-use Rattle.snap_csv.specs.Records.{record_at}
-use Rattle.snap_csv.specs.Rows.{rows_of}
+use Rattle.snap_format.specs.Records.{record_at}
+use Rattle.snap_format.specs.Rows.{rows_of}
 use Rattle.snap_report.proofs.Pieces.{piece_added}
 use Rattle.snap_explain.specs.Refusals.{quoted, record_text}
 use Rattle.snap_explain.proofs.Pieces.{five_pieces}

@@ -1,6 +1,6 @@
 use Rattle.std.proofs.Common.{inl, inr, refl}
 use Rattle.snap_core.specs.Counting.{inner_of}
-use Rattle.snap_csv.specs.Records.{HaveRecordsWithin}
+use Rattle.snap_format.specs.Records.{HaveRecordsWithin}
 use Rattle.snap_check.proofs.Runs.{with_text}
 use Rattle.snap_runs.proofs.Explaining.{explained_refusal}
 use Rattle.snap_picture.proofs.Drawings.{drawn_text}

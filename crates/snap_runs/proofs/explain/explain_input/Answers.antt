@@ -1,5 +1,5 @@
 use Rattle.snap_core.specs.Counting.{inner_of}
-use Rattle.snap_csv.specs.Records.{HaveRecordsWithin}
+use Rattle.snap_format.specs.Records.{HaveRecordsWithin}
 use Rattle.snap_runs.proofs.Explaining.{explained_refusal, explained_text}
 use Rattle.snap_check.proofs.Runs.{with_text}
 use Rattle.snap_runs.proofs.explain.explain_input.Goals as goal

@@ -1,5 +1,5 @@
 use Rattle.snap_core.specs.Counting.{inner_of}
-use Rattle.snap_csv.specs.Texts.{IsTextWithin}
+use Rattle.snap_format.specs.Texts.{IsTextWithin}
 use Rattle.snap_check.proofs.Runs.{from_history}
 use Rattle.snap_runs.proofs.Shrinking.{cut_written}
 use Rattle.snap_runs.proofs.shrink.shrink_run.Goals as goal

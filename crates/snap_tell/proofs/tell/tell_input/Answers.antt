@@ -1,6 +1,6 @@
 use Rattle.std.proofs.Common.{refl}
 use Rattle.snap_core.specs.Counting.{inner_of}
-use Rattle.snap_csv.specs.Records.{HaveRecordsWithin}
+use Rattle.snap_format.specs.Records.{HaveRecordsWithin}
 use Rattle.snap_check.proofs.Runs.{with_text}
 use Rattle.snap_tell.proofs.Telling.{told_refusal, told_text}
 use Rattle.snap_tell.proofs.tell.tell_input.Goals as goal

@@ -1,5 +1,0 @@
-use Rattle.snap_csv.proofs.LengthFacts.{narrow_text_short}
-use Rattle.snap_csv.proofs.law.narrow_texts_are_short.Goals as goal
-
-pub returns : goal.returns
-returns c = narrow_text_short

@@ -1,5 +1,0 @@
-use Rattle.snap_csv.proofs.StampText.{stamped_reads}
-use Rattle.snap_csv.proofs.law.stamped_texts_read_back.Goals as goal
-
-pub returns : goal.returns
-returns c = stamped_reads

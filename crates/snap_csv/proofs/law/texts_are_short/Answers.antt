@@ -1,5 +1,0 @@
-use Rattle.snap_csv.proofs.LengthFacts.{text_short}
-use Rattle.snap_csv.proofs.law.texts_are_short.Goals as goal
-
-pub returns : goal.returns
-returns c = text_short

@@ -1,5 +1,0 @@
-use Rattle.snap_csv.proofs.Exclusive.{apart}
-use Rattle.snap_csv.proofs.law.texts_have_no_fault.Goals as goal
-
-pub returns : goal.returns
-returns c = apart

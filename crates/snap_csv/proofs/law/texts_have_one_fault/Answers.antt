@@ -1,5 +1,0 @@
-use Rattle.snap_csv.proofs.Exclusive.{fault_once}
-use Rattle.snap_csv.proofs.law.texts_have_one_fault.Goals as goal
-
-pub returns : goal.returns
-returns c = fault_once

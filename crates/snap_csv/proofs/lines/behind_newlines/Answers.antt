@@ -1,5 +1,0 @@
-use Rattle.snap_csv.proofs.AheadFacts.{whole}
-use Rattle.snap_csv.proofs.lines.behind_newlines.Goals as goal
-
-pub returns-then-is_empty-clause-rest : goal.returns-then-is_empty-clause-rest
-returns-then-is_empty-clause-rest c = whole c.args.text.now

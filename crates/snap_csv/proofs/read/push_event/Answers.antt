@@ -1,6 +1,0 @@
-use Rattle.snap_core.specs.Refusals.{refusal_of}
-use Rattle.snap_csv.proofs.ReadFacts.{refused_as}
-use Rattle.snap_csv.proofs.read.push_event.Goals as goal
-
-pub returns-in-Err : goal.returns-in-Err
-returns-in-Err c = refused_as c.args.place (refusal_of c.args.history.now c.args.event) c.in-Err.refusal c.refused_at.result c.in-Err.ensures.reason c.refused_at.ensures

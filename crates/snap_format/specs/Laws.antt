@@ -1,0 +1,69 @@
+-- What is proved of all histories and texts.
+use Rattle.std.specs.Prelude.{◌≡◌, ◌<◌, ◌^◌, ◌*◌, ⊤, All, ◌≤◌, ℕ, List, length, true}
+use Rattle.std.specs.List.Sorted.{IsStrictlyIncreasing}
+use Rattle.snap_core.specs.declared.event.Event.{Event}
+use Rattle.snap_core.specs.declared.event.Event.TheVariants.{EndView}
+use Rattle.snap_core.specs.Events.{IsBoundedHistory}
+use Rattle.snap_text.specs.declared.fault.TextFault.{TextFault}
+use Rattle.snap_text.specs.Fields.{Fields}
+use Rattle.snap_format.specs.Rows.{rows_of}
+use Rattle.snap_format.specs.Layout.{history_text, is_header_row, is_stamped_header_row, stamped_text}
+use Rattle.snap_format.specs.Texts.{HasFaultWithin, IsTextWithin, bytes_within}
+use Rattle.snap_format.specs.Records.{HaveRecordsWithin, SpellEvents}
+
+-- the text of every history of at most a quarter of so many events is within the limit of bytes for them
+abbrev pub TextsAreShort : Type 0
+TextsAreShort =
+    (limit : ℕ) (events : List Event) → 1 ≤ limit → IsBoundedHistory events → 4 * length events ≤ limit →
+    length (history_text events) ≤ bytes_within limit
+
+-- the end of a view lists at most so many entries
+abbrev pub ListsAtMost : ℕ → Event → Type 0
+ListsAtMost n (EndView p entries) = length entries ≤ n
+ListsAtMost n _ = ⊤
+
+-- so is that of every history of at most so many events whose views list at most 36 entries each
+abbrev pub NarrowTextsAreShort : Type 0
+NarrowTextsAreShort =
+    (limit : ℕ) (events : List Event) → 1 ≤ limit → IsBoundedHistory events → length events ≤ limit → All (ListsAtMost 36) events →
+    length (history_text events) ≤ bytes_within limit
+
+-- the text of a history has no fault and is that of this history, where events and bytes are within the limit
+abbrev pub TextsReadBack : Type 0
+TextsReadBack =
+    (limit : ℕ) (events : List Event) → IsBoundedHistory events → length events ≤ limit → length (history_text events) ≤ bytes_within limit →
+    IsTextWithin limit (history_text events) events
+
+-- a text that is one of a history has no fault
+abbrev pub TextsHaveNoFault : Type 0
+TextsHaveNoFault =
+    (limit : ℕ) (text : List ℕ) (events : List Event) (place : ℕ) (fault : TextFault) → IsTextWithin limit text events →
+    HasFaultWithin limit text place fault → ⊥
+
+-- a text is one of at most one history
+abbrev pub TextsHaveOneReading : Type 0
+TextsHaveOneReading = (limit : ℕ) (text : List ℕ) (xs ys : List Event) → IsTextWithin limit text xs → IsTextWithin limit text ys → xs ≡ ys
+
+-- and has at most one first fault, at one place
+abbrev pub TextsHaveOneFault : Type 0
+TextsHaveOneFault =
+    (limit : ℕ) (text : List ℕ) (place other : ℕ) (fault another : TextFault) → HasFaultWithin limit text place fault →
+    HasFaultWithin limit text other another →
+    (place ≡ other) × (fault ≡ another)
+
+-- no record is the header of texts without stamps and of texts with them
+abbrev pub HeadersDiffer : Type 0
+HeadersDiffer = (r : Fields) → is_header_row r ≡ true → is_stamped_header_row r ≡ true → ⊥
+
+-- the text of a history with strictly rising stamps has no fault and is that of this history, where events and bytes are within the limit
+abbrev pub StampedTextsReadBack : Type 0
+StampedTextsReadBack =
+    (limit : ℕ) (at : List ℕ) (events : List Event) → IsBoundedHistory events → length events ≤ limit → length at ≡ length events →
+    IsStrictlyIncreasing at → All (λ n. n < 2 ^ 64) at → length (stamped_text at events) ≤ bytes_within limit →
+    IsTextWithin limit (stamped_text at events) events
+
+-- the record of each event's number spells that event
+abbrev pub RecordsSpellEvents : Type 0
+RecordsSpellEvents =
+    (limit : ℕ) (text : List ℕ) (events : List Event) (records : List ℕ) → HaveRecordsWithin limit text events records →
+    SpellEvents (rows_of text) events records

@@ -1,0 +1,52 @@
+-- When a byte text is one of a history, and where else its first fault is.
+use Rattle.std.specs.Prelude.{◌≡◌, ◌≤◌, ◌<◌, ◌+◌, ◌*◌, ◌⊎◌, ℕ, true, false, List, [], ◌∷◌, length}
+use Rattle.snap_core.specs.declared.event.Event.{Event}
+use Rattle.snap_core.specs.Limits.{event_limit}
+use Rattle.snap_format.specs.declared.size.TheConstants.{BYTES_EACH}
+use Rattle.snap_text.specs.declared.fault.TextFault.{TextFault}
+use Rattle.snap_text.specs.declared.fault.TextFault.TheVariants as faults
+use Rattle.snap_text.specs.Fields.{Fields}
+use Rattle.snap_format.specs.Rows.{rows_of}
+use Rattle.snap_format.specs.Layout.{is_header_row, is_stamped_header_row}
+use Rattle.snap_format.specs.Faults.{events_in, NoFault, FirstFault}
+use Rattle.snap_format.specs.Stamps.{StampedFault, StampedRead}
+
+-- how many bytes a text may have where its history may have so many events
+abbrev pub bytes_within : ℕ → ℕ
+bytes_within limit = limit * BYTES_EACH
+
+-- how many bytes a text may have where no limit of events is chosen
+abbrev pub byte_limit : ℕ
+byte_limit = bytes_within event_limit
+
+-- what records are a history of so many events at most, without stamps or with them: none where the first is neither header
+abbrev pub RowsRead : ℕ → List Fields → List Event → Type 0
+RowsRead limit [] events = ⊥
+RowsRead limit (head ∷ rows) events =
+    ((is_header_row head ≡ true) × NoFault limit rows × (events ≡ events_in rows))
+    ⊎ ((is_stamped_header_row head ≡ true) × StampedRead limit rows events)
+
+-- where records have their first fault
+abbrev pub RowsFault : ℕ → List Fields → ℕ → TextFault → Type 0
+RowsFault limit [] place f = (place ≡ 1) × (f ≡ faults.Header)
+RowsFault limit (head ∷ rows) place f =
+    ((is_header_row head ≡ false) × (is_stamped_header_row head ≡ false) × (place ≡ 1) × (f ≡ faults.Header))
+    ⊎ (((is_header_row head ≡ true) × (i : ℕ) × (place ≡ i + 2) × FirstFault limit rows i f)
+    ⊎ ((is_stamped_header_row head ≡ true) × StampedFault limit rows place f))
+
+-- a text without a fault, and its history of so many events at most
+abbrev pub IsTextWithin : ℕ → List ℕ → List Event → Type 0
+IsTextWithin limit text events = (length text ≤ bytes_within limit) × RowsRead limit (rows_of text) events
+
+-- the first fault of a text, and its place
+abbrev pub HasFaultWithin : ℕ → List ℕ → ℕ → TextFault → Type 0
+HasFaultWithin limit text place f =
+    ((bytes_within limit < length text) × (place ≡ 0) × (f ≡ faults.TooLong))
+    ⊎ ((length text ≤ bytes_within limit) × RowsFault limit (rows_of text) place f)
+
+-- the same where no limit is chosen
+abbrev pub IsText : List ℕ → List Event → Type 0
+IsText = IsTextWithin event_limit
+
+abbrev pub HasFault : List ℕ → ℕ → TextFault → Type 0
+HasFault = HasFaultWithin event_limit

@@ -1,0 +1,49 @@
+//! Laws of texts.
+ghost use Rattle.snap_format.specs.Laws.{HeadersDiffer, NarrowTextsAreShort, RecordsSpellEvents, StampedTextsReadBack, TextsAreShort, TextsHaveNoFault, TextsHaveOneFault, TextsHaveOneReading, TextsReadBack};
+
+/// The text of a history has no fault and is that of this history, within every limit of events and its limit of bytes.
+pub fn texts_read_back()
+    ensures { TextsReadBack }
+{}
+
+/// Within no limit is a text one of a history and has a fault.
+pub fn texts_have_no_fault()
+    ensures { TextsHaveNoFault }
+{}
+
+/// The text of every history of at most a quarter of the events of a limit is within its limit of bytes.
+pub fn texts_are_short()
+    ensures { TextsAreShort }
+{}
+
+/// The text of every history within a limit whose views list at most 36 entries each is within its limit of bytes.
+pub fn narrow_texts_are_short()
+    ensures { NarrowTextsAreShort }
+{}
+
+/// Within a limit a text is one of at most one history.
+pub fn texts_have_one_reading()
+    ensures { TextsHaveOneReading }
+{}
+
+/// Within a limit a text has at most one first fault.
+pub fn texts_have_one_fault()
+    ensures { TextsHaveOneFault }
+{}
+
+/// No record is the header of both kinds of text.
+pub fn headers_differ()
+    ensures { HeadersDiffer }
+{}
+
+/// The text of a history with strictly rising stamps has no fault and is that of this history, within every limit of events and
+/// its limit of bytes.
+pub fn stamped_texts_read_back()
+    ensures { StampedTextsReadBack }
+{}
+
+/// Where a text is one of a history with these records, there are as many of them as events, no two the same, and the record
+/// of each event's number has that event's four fields, behind a stamp where the text has stamps.
+pub fn records_spell_events()
+    ensures { RecordsSpellEvents }
+{}

@@ -1,0 +1,4 @@
+pub mod PlainFacts
+pub mod MarkFacts
+pub mod FrontFacts
+pub mod AheadFacts

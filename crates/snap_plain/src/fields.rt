@@ -1,0 +1,172 @@
+//! The fields of a line. In a plain text a field ends at a comma, so that it is cut by a search for that mark and for line ends.
+ghost use Rattle.std.specs.Prelude.{◌≡◌, ◌≢◌, ◌<◌, ◌≤◌, ◌+◌, ◌-◌, take, drop, ◌∷◌, ◌++◌, [], List, ℕ, All, IfSome, MatchOption, get_or, length};
+ghost use Rattle.snap_plain.specs.Lines.{EndsField, EndsWith, EndsWithOthers, FieldGoesOn, FieldIsLast, IsInner};
+
+use std::simd::prelude::*;
+
+/// How many bytes are looked at together.
+pub(crate) const LANES: usize = 32;
+
+// How many bytes of a text, from a place on, come before the first that is a mark, as far as so many are looked at together.
+#[inline(always)]
+fn before_mark(text: &[u8], from: usize, mark: u8) -> u32
+    requires { from + 32 ≤ length text.now }
+    ensures before { (i : ℕ) → i < result → i < 32 → get_or text.now (from + i) 0 ≢ mark }
+    ensures here { result < 32 → get_or text.now (from + result) 0 ≡ mark }
+{
+    u8x32::from_slice(&text[from..])
+        .simd_eq(u8x32::splat(mark))
+        .to_bitmask()
+        .trailing_zeros()
+}
+
+// How many bytes the field has that a text begins with. So many at its front are inside it.
+fn field_size_from(text: &[u8], from: usize) -> usize
+    requires from { from ≤ length text.now }
+    requires inner { All IsInner (take from text.now) }
+    ensures within { result ≤ length text.now }
+    ensures inner { All IsInner (take result text.now) }
+    ensures ends { EndsField (drop result text.now) }
+{
+    for at in from..text.len() {
+        if text[at] == b',' || text[at] == b'\n' {
+            return at;
+        }
+    }
+    text.len()
+}
+
+// How many bytes the field has that a text begins with.
+#[inline(always)]
+fn field_size(text: &[u8]) -> usize
+    ensures within { result ≤ length text.now }
+    ensures inner { All IsInner (take result text.now) }
+    ensures ends { EndsField (drop result text.now) }
+{
+    let mut at = 0;
+    while text.len() - at >= LANES {
+        let before = before_mark(text, at, b',').min(before_mark(text, at, b'\n')) as usize;
+        if before < LANES {
+            return at + before;
+        }
+        at += LANES;
+    }
+    field_size_from(text, at)
+}
+
+// The field that a text begins with, and what is behind it: nothing, or the mark that ends it and more.
+#[inline(always)]
+fn field_first(text: &[u8]) -> (&[u8], &[u8])
+    ensures inner { All IsInner result.0.now }
+    ensures whole { text.now ≡ result.0.now ++ result.1.now }
+    ensures ends { EndsField result.1.now }
+{
+    text.split_at(field_size(text))
+}
+
+// The field that a text begins with, where a comma ends it, and what is behind the comma.
+#[inline(always)]
+fn field_and_comma(text: &[u8]) -> Option<(&[u8], &[u8])>
+    ensures { MatchOption result ((f : List ℕ) × (rest : List ℕ) × FieldIsLast f rest text.now) (λ x. FieldGoesOn x.0.now x.1.now text.now) }
+{
+    let (field, behind) = field_first(text);
+    let (mark, rest) = behind.split_first()?;
+    if *mark == b',' {
+        Some((field, rest))
+    } else {
+        None
+    }
+}
+
+// The field that a text begins with, where this and its comma are a word, and what is behind the comma.
+#[inline(always)]
+fn word_and_comma<'t>(text: &'t [u8], word: &[u8]) -> Option<(&'t [u8], &'t [u8])>
+    requires comma { (0 < length word.now) × (get_or word.now (length word.now - 1) 0 ≡ 44) }
+    requires inner { All IsInner (take (length word.now - 1) word.now) }
+    ensures { IfSome result (λ x. FieldGoesOn x.0.now x.1.now text.now) }
+{
+    if text.starts_with(word) {
+        Some((&text[..word.len() - 1], &text[word.len()..]))
+    } else {
+        None
+    }
+}
+
+// As `field_and_comma`, where the field and its comma are mostly one of two words.
+#[inline(always)]
+fn either_and_comma<'t>(text: &'t [u8], one: &[u8], other: &[u8]) -> Option<(&'t [u8], &'t [u8])>
+    requires one { (0 < length one.now) × (get_or one.now (length one.now - 1) 0 ≡ 44) × All IsInner (take (length one.now - 1) one.now) }
+    requires other { (0 < length other.now) × (get_or other.now (length other.now - 1) 0 ≡ 44) × All IsInner (take (length other.now - 1) other.now) }
+    ensures { MatchOption result ((f : List ℕ) × (rest : List ℕ) × FieldIsLast f rest text.now) (λ x. FieldGoesOn x.0.now x.1.now text.now) }
+{
+    if let Some(found) = word_and_comma(text, one) {
+        return Some(found);
+    }
+    if let Some(found) = word_and_comma(text, other) {
+        return Some(found);
+    }
+    field_and_comma(text)
+}
+
+// How many digits a text begins with.
+#[inline(always)]
+fn digits(text: &[u8]) -> usize
+    ensures within { result ≤ length text.now }
+    ensures inner { All IsInner (take result text.now) }
+{
+    let mut count = 0;
+    while count < text.len() && text[count].is_ascii_digit() {
+        count += 1;
+    }
+    count
+}
+
+// As `field_and_comma`, where the field is mostly a number.
+#[inline(always)]
+fn number_and_comma(text: &[u8]) -> Option<(&[u8], &[u8])>
+    ensures { MatchOption result ((f : List ℕ) × (rest : List ℕ) × FieldIsLast f rest text.now) (λ x. FieldGoesOn x.0.now x.1.now text.now) }
+{
+    let (number, behind) = text.split_at(digits(text));
+    match behind.split_first() {
+        Some((mark, rest)) if *mark == b',' => Some((number, rest)),
+        _ => field_and_comma(text),
+    }
+}
+
+// The field that a text begins with, where its line ends there, and the lines behind it.
+#[inline(always)]
+fn last_field(text: &[u8]) -> Option<(&[u8], &[u8])>
+    ensures { MatchOption result ((f : List ℕ) × (rest : List ℕ) × FieldGoesOn f rest text.now) (λ x. FieldIsLast x.0.now x.1.now text.now) }
+{
+    let (field, behind) = field_first(text);
+    match behind.split_first() {
+        Some((mark, rest)) => {
+            if *mark == b',' {
+                None
+            } else {
+                Some((field, rest))
+            }
+        }
+        None => Some((field, &[])),
+    }
+}
+
+/// The fields that a line has left, where these are four, and the lines behind it.
+pub(crate) fn four_first(text: &[u8]) -> Option<((&[u8], &[u8], &[u8], &[u8]), &[u8])>
+    ensures { MatchOption result (EndsWithOthers 4 text.now) (λ x. EndsWith (x.0.0.now ∷ x.0.1.now ∷ x.0.2.now ∷ x.0.3.now ∷ []) x.1.now text.now) }
+{
+    let (event, rest) = either_and_comma(text, b"begin,", b"end,")?;
+    let (process, rest) = number_and_comma(rest)?;
+    let (op, rest) = either_and_comma(rest, b"view,", b"update,")?;
+    let (data, rest) = last_field(rest)?;
+    Some(((event, process, op, data), rest))
+}
+
+/// The fields that a line has left, where these are five, and the lines behind it.
+pub(crate) fn five_first(text: &[u8]) -> Option<((&[u8], &[u8], &[u8], &[u8], &[u8]), &[u8])>
+    ensures { MatchOption result (EndsWithOthers 5 text.now) (λ x. EndsWith (x.0.0.now ∷ x.0.1.now ∷ x.0.2.now ∷ x.0.3.now ∷ x.0.4.now ∷ []) x.1.now text.now) }
+{
+    let (at, rest) = number_and_comma(text)?;
+    let ((event, process, op, data), rest) = four_first(rest)?;
+    Some(((at, event, process, op, data), rest))
+}

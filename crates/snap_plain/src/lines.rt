@@ -1,0 +1,146 @@
+//! Histories in plain texts. Without quotes and carriage returns a record is a line. Any other text is read byte by byte, by `csv`.
+ghost use Rattle.std.specs.Prelude.{◌≡◌, ◌↔◌, ◌∷◌, [], List, true, All, IsTrue};
+ghost use Rattle.snap_format.specs.Layout.{is_header_row};
+ghost use Rattle.snap_format.specs.Rows.{rows_of};
+ghost use Rattle.snap_plain.specs.Lines.{AreAhead, HasLines, HasRows, IsAhead, IsPlain};
+ghost use Rattle.snap_rows.specs.Stamping.{AnswersStamps, ReadsStamped};
+ghost use Rattle.snap_rows.specs.Taking.{AnswersNumbered};
+ghost use Rattle.snap_text.specs.Fields.{Fields};
+
+use crate::ahead::{Ahead, take_ahead};
+use crate::fields::{five_first, four_first};
+use crate::front::{
+    behind_newlines, behind_order_mark, lines_under_header, lines_under_stamped_header,
+};
+use memchr::memchr2;
+use snap_core::{History, Limit};
+use snap_format::{ReadRefusal, Stamped};
+use snap_rows::{history_by_stamps, row_limit, take_fields, take_stamped};
+use snap_text::{Known, TextFault};
+use std::alloc::Global;
+
+/// Whether a text is plain: it has no quote and no carriage return.
+pub fn is_plain(text: &[u8]) -> bool
+    ensures { IsTrue result ↔ All IsPlain text.now }
+{
+    memchr2(b'"', b'\r', text).is_none()
+}
+
+// The history of the lines under the header, or the first fault. Some of them were read ahead.
+fn lines_history(
+    alloc: Global,
+    lines: &[u8],
+    ahead: Vec<Ahead<'_>>,
+    limit: Limit,
+) -> Result<(History, Option<Vec<u32>>), ReadRefusal>
+    requires { All (IsAhead lines.now) ahead.items }
+    ensures { (head : Fields) (later : List Fields) → is_header_row head ≡ true → HasRows lines.now later → AnswersNumbered limit.events (head ∷ later) result }
+{
+    let (mut history, mut left) = take_ahead(alloc, lines, ahead, limit)?;
+    let mut known = Known::new(alloc);
+    'each: for _ in 0..row_limit(limit) {
+        let place = history.len() as u32 + 2;
+        let line = behind_newlines(left);
+        if line.is_empty() {
+            return Ok((history.into_history(), None));
+        }
+        let Some((fields, rest)) = four_first(line) else {
+            return Err(ReadRefusal::Text {
+                place,
+                fault: TextFault::Fields,
+            });
+        };
+        take_fields(alloc, &mut known, &mut history, place, fields)?;
+        left = rest;
+    }
+    unreachable!()
+}
+
+// Takes the stamped events of the lines under the header, up to the first with a fault other than a repeated stamp.
+fn read_stamped_lines(
+    alloc: Global,
+    lines: &[u8],
+    limit: Limit,
+    stamped: &mut Vec<Stamped>,
+) -> Result<(), ReadRefusal>
+    requires { stamped.old.items ≡ [] }
+    ensures { (rows : List Fields) → HasRows lines.now rows → ReadsStamped limit.events rows stamped.new.items result }
+{
+    let mut known = Known::new(alloc);
+    let mut left = lines;
+    for i in 0..row_limit(limit) {
+        let line = behind_newlines(left);
+        if line.is_empty() {
+            return Ok(());
+        }
+        let Some((fields, rest)) = five_first(line) else {
+            return Err(ReadRefusal::Text {
+                place: i + 2,
+                fault: TextFault::Fields,
+            });
+        };
+        take_stamped(alloc, &mut known, stamped, limit, i + 2, fields)?;
+        left = rest;
+    }
+    unreachable!()
+}
+
+// The history of the lines under the header, each with a stamp, and the number of each event's record; or the first fault.
+fn stamped_lines_history(
+    alloc: Global,
+    lines: &[u8],
+    limit: Limit,
+) -> Result<(History, Vec<u32>), ReadRefusal>
+    ensures { (rows : List Fields) → HasRows lines.now rows → AnswersStamps limit.events rows result }
+{
+    let mut stamped = Vec::new(alloc);
+    let read = read_stamped_lines(alloc, lines, limit, &mut stamped);
+    history_by_stamps(alloc, stamped, read)
+}
+
+/// A plain text behind its header: lines without stamps, or with them, or anything where it has no header.
+#[derive(Clone, Copy)]
+pub enum Lines<'t> {
+    Bare(&'t [u8]),
+    Stamped(&'t [u8]),
+    Headless,
+}
+
+/// The lines of a plain text.
+pub fn lines_of(text: &[u8]) -> Lines<'_>
+    requires { All IsPlain text.now }
+    ensures { HasLines (rows_of text.now) result }
+{
+    let line = behind_newlines(behind_order_mark(text));
+    if let Some(lines) = lines_under_header(line) {
+        return Lines::Bare(lines);
+    }
+    if let Some(lines) = lines_under_stamped_header(line) {
+        return Lines::Stamped(lines);
+    }
+    Lines::Headless
+}
+
+/// The history of the lines of a plain text, or the text's first fault; and the numbers of its events' records where these have
+/// stamps. Some lines without stamps were read ahead.
+pub fn history_of_lines(
+    alloc: Global,
+    lines: Lines<'_>,
+    ahead: Vec<Ahead<'_>>,
+    limit: Limit,
+) -> Result<(History, Option<Vec<u32>>), ReadRefusal>
+    requires { AreAhead lines ahead.items }
+    ensures { (rows : List Fields) → HasLines rows lines.entry → AnswersNumbered limit.events rows result }
+{
+    match lines {
+        Lines::Bare(lines) => lines_history(alloc, lines, ahead, limit),
+        Lines::Stamped(lines) => {
+            let (history, records) = stamped_lines_history(alloc, lines, limit)?;
+            Ok((history, Some(records)))
+        }
+        Lines::Headless => Err(ReadRefusal::Text {
+            place: 1,
+            fault: TextFault::Header,
+        }),
+    }
+}

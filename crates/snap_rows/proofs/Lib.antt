@@ -1,0 +1,3 @@
+pub mod ReadFacts
+pub mod StampFacts
+pub mod RepeatFacts

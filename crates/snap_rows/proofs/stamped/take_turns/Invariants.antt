@@ -1,0 +1,10 @@
+use Rattle.std.proofs.Common.{◌≡◌, length}
+use Rattle.std.specs.Vec.Iter.{into_iter_items, into_iter_len}
+use Rattle.snap_rows.proofs.StampFacts.{MidTurns}
+use Rattle.snap_rows.proofs.stamped.take_turns.Given as goal
+
+abbrev pub invariant-each : goal.invariant-each
+invariant-each l = record {
+  turns : MidTurns l.fn.stamped.items (into_iter_items l.place-iterator) l.history;
+  left : into_iter_len l.place-iterator ≡ length (into_iter_items l.place-iterator);
+}

@@ -1,0 +1,47 @@
+//! The fields of one record: whether they are a header, and the event that they spell.
+ghost use Rattle.std.specs.Prelude.{◌≡◌, ◌∷◌, []};
+ghost use Rattle.snap_format.specs.Layout.{is_header_row, is_stamped_header_row};
+ghost use Rattle.snap_rows.specs.Taking.{GivesEvent};
+ghost use Rattle.snap_text.specs.Fields.{event_of};
+
+use snap_core::Event;
+use snap_format::ReadRefusal;
+use snap_text::Known;
+use std::alloc::Global;
+
+/// Whether four fields are those of the header.
+pub fn are_header(fields: (&[u8], &[u8], &[u8], &[u8])) -> bool
+    ensures { result ≡ is_header_row (fields.entry.0.now ∷ fields.entry.1.now ∷ fields.entry.2.now ∷ fields.entry.3.now ∷ []) }
+{
+    let (a, b, c, d) = fields;
+    a == b"event".as_slice()
+        && b == b"process".as_slice()
+        && c == b"op".as_slice()
+        && d == b"data".as_slice()
+}
+
+/// Whether five fields are those of the header of a text whose records have stamps.
+pub fn are_stamped_header(fields: (&[u8], &[u8], &[u8], &[u8], &[u8])) -> bool
+    ensures { result ≡ is_stamped_header_row (fields.entry.0.now ∷ fields.entry.1.now ∷ fields.entry.2.now ∷ fields.entry.3.now ∷ fields.entry.4.now ∷ []) }
+{
+    let (t, a, b, c, d) = fields;
+    t == b"at".as_slice() && are_header((a, b, c, d))
+}
+
+/// The event that the four fields of a record at a place spell, or the first fault in them.
+pub fn event_of_record(
+    alloc: Global,
+    known: &mut Known,
+    place: u32,
+    event: &[u8],
+    process: &[u8],
+    op: &[u8],
+    text: &[u8],
+) -> Result<Event, ReadRefusal>
+    ensures { GivesEvent place result (event_of event.now process.now op.now text.now) }
+{
+    match snap_text::event_of_fields(alloc, known, event, process, op, text)? {
+        Ok(event) => Ok(event),
+        Err(fault) => Err(ReadRefusal::Text { place, fault }),
+    }
+}

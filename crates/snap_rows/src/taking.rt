@@ -1,0 +1,73 @@
+//! Records that a history takes in their turn.
+ghost use Rattle.std.specs.Prelude.{◌≡◌, ◌≤◌, ◌+◌, ◌∷◌, [], Ok, MatchOption};
+ghost use Rattle.snap_core.specs.Events.{event_cap};
+ghost use Rattle.snap_format.specs.Faults.{fault_of};
+ghost use Rattle.snap_rows.specs.Taking.{TakesEvent, TakesRow};
+ghost use Rattle.snap_text.specs.Fields.{Fields, row_event};
+
+use crate::fields::event_of_record;
+use snap_core::{Event, EventRefusal, History, Limit, LimitedHistory};
+use snap_format::{ReadRefusal, fault_for};
+use snap_text::{Known, TextFault};
+use std::alloc::Global;
+
+/// One record more than a history may have events: that one has a fault.
+pub fn row_limit(limit: Limit) -> u32
+    ensures rows { result ≡ limit.events + 1 }
+    ensures most { result ≤ event_cap + 1 }
+{
+    limit.events() as u32 + 1
+}
+
+/// Adds the event of a record to a history, by the record's four fields.
+pub fn take_fields(
+    alloc: Global,
+    known: &mut Known,
+    history: &mut LimitedHistory,
+    place: u32,
+    fields: (&[u8], &[u8], &[u8], &[u8]),
+) -> Result<(), ReadRefusal>
+    ensures takes { TakesRow history.old.limit place history.old.events history.new.events (fields.entry.0.now ∷ fields.entry.1.now ∷ fields.entry.2.now ∷ fields.entry.3.now ∷ []) result }
+    ensures limit { history.new.limit ≡ history.old.limit }
+{
+    if history.is_full() {
+        return Err(ReadRefusal::Text {
+            place,
+            fault: TextFault::TooMany,
+        });
+    }
+    let (event, process, op, data) = fields;
+    let event = event_of_record(alloc, known, place, event, process, op, data)?;
+    take_event(history, place, event)
+}
+
+/// Adds the event of a record to a history.
+pub fn take_event(history: &mut LimitedHistory, place: u32, event: Event) -> Result<(), ReadRefusal>
+    ensures takes { (r : Fields) → row_event r ≡ Ok event → TakesRow history.old.limit place history.old.events history.new.events r result }
+    ensures limit { history.new.limit ≡ history.old.limit }
+{
+    if let Err((_, refusal)) = history.push(event) {
+        return Err(refused_at(place, refusal));
+    }
+    Ok(())
+}
+
+/// Adds an event to a history.
+pub fn push_event(history: &mut History, place: u32, event: Event) -> Result<(), ReadRefusal>
+    ensures { TakesEvent place history.old history.new event result }
+{
+    if let Err((_, refusal)) = history.push(event) {
+        return Err(refused_at(place, refusal));
+    }
+    Ok(())
+}
+
+// What the refused event of a record is answered as.
+fn refused_at(place: u32, refusal: EventRefusal) -> ReadRefusal
+    ensures { MatchOption (fault_of refusal) (result ≡ ReadRefusal.Memory) (λ fault. result ≡ ReadRefusal.Text place fault) }
+{
+    match fault_for(refusal) {
+        Some(fault) => ReadRefusal::Text { place, fault },
+        None => ReadRefusal::Memory,
+    }
+}
