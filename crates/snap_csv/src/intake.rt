@@ -19,12 +19,6 @@ use std::io::{self, Read};
 // For how many bytes a text makes room at a time.
 const PIECE: usize = 65_536;
 
-/// A text that was taken from a reader, and whether it is plain.
-pub struct Taken {
-    pub text: Vec<u8>,
-    pub plain: bool,
-}
-
 // Makes room for a piece, where a text has no room left behind the bytes that are filled.
 fn make_room(text: &mut Vec<u8>, filled: usize) -> Result<(), AllocError>
     requires within { filled ≤ bytes_within event_cap }
@@ -54,25 +48,24 @@ fn read_behind<R: Read>(
     reader.read(&mut text[filled..])
 }
 
-/// All that a reader has left, where that is within the limit. Each piece is searched for quotes and carriage returns when it
-/// was just read, so that the text is not gone through again for these.
-pub fn take_in<R: Read>(
-    alloc: Global,
+// Fills a text with all that a reader has left, where that is within the limit, and tells whether it is plain. Each piece is
+// searched for quotes and carriage returns when it was just read, so that the text is not gone through again for these.
+fn fill<R: Read>(
     reader: &mut Counted<R>,
+    text: &mut Vec<u8>,
     limit: Limit,
-) -> Result<Taken, ReadRefusal>
-    ensures text { TakesIn limit.events (R.remaining (inner_of reader.old)) result }
-    ensures plain { IfOk result (λ taken. IsTrue taken.plain ↔ All IsPlain taken.text.items) }
+) -> Result<bool, ReadRefusal>
+    ensures text { TakesIn limit.events (R.remaining (inner_of reader.old)) text.new.items result }
+    ensures plain { IfOk result (λ plain. IsTrue plain ↔ All IsPlain text.new.items) }
     ensures counts { Counts (failures_in reader.old) (failures_in reader.new) result }
 {
     let most = bytes_within(limit);
-    let mut text = Vec::new(alloc);
     let mut filled = 0;
     let mut plain = true;
     let mut ended = false;
     while !ended {
-        make_room(&mut text, filled)?;
-        match read_behind(reader, &mut text, filled) {
+        make_room(text, filled)?;
+        match read_behind(reader, text, filled) {
             Err(_) => return Err(ReadRefusal::Device),
             Ok(n) => {
                 if n > most - filled {
@@ -88,5 +81,23 @@ pub fn take_in<R: Read>(
         }
     }
     text.truncate(filled);
-    Ok(Taken { text, plain })
+    Ok(plain)
+}
+
+/// Takes all that a reader has left into a room, where that is within the limit, and tells whether it is plain. What the room
+/// had is then lost.
+pub fn take_in<R: Read>(
+    alloc: Global,
+    reader: &mut Counted<R>,
+    room: &mut Vec<u8>,
+    limit: Limit,
+) -> Result<bool, ReadRefusal>
+    ensures text { TakesIn limit.events (R.remaining (inner_of reader.old)) room.new.items result }
+    ensures plain { IfOk result (λ plain. IsTrue plain ↔ All IsPlain room.new.items) }
+    ensures counts { Counts (failures_in reader.old) (failures_in reader.new) result }
+{
+    let mut text = Vec::new(alloc);
+    let plain = fill(reader, &mut text, limit)?;
+    *room = text;
+    Ok(plain)
 }

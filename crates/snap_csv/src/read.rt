@@ -1,17 +1,17 @@
 //! The history of a text, or the first fault.
-ghost use Rattle.std.specs.Prelude.{◌≡◌, ◌∷◌, true, List, All, IfSome, IsTrue};
+ghost use Rattle.std.specs.Prelude.{◌≡◌, ◌∷◌, [], true, List, All, IfSome, IsTrue};
 ghost use Rattle.snap_core.specs.Counting.{inner_of, failures_in};
 ghost use Rattle.snap_csv.specs.Answers.{AnswersText, AnswersTextWithin, AnswersWhole, AnswersWholeWithin, Counts, Leaves};
 ghost use Rattle.snap_csv.specs.inside.Rows.{Stands};
 ghost use Rattle.snap_format.specs.Layout.{is_header_row};
 ghost use Rattle.snap_format.specs.Rows.{rows_of};
 ghost use Rattle.snap_plain.specs.Lines.{IsPlain};
-ghost use Rattle.snap_rows.specs.Taking.{AnswersNumbered, AnswersRows, TakesRow};
+ghost use Rattle.snap_rows.specs.Taking.{AnswersNumbered, AnswersRows, Midway, TakesRest, TakesRow};
 ghost use Rattle.snap_text.specs.Fields.{Fields};
 ghost use Rattle.csv.specs.Records.{fields_of};
 
 use crate::fields::{four_fields, is_header, is_stamped_header};
-use crate::intake::{Taken, take_in};
+use crate::intake::take_in;
 use crate::rows::{next_row, reader_of};
 use crate::stamped::stamped_history;
 use csv::{ByteRecord, Reader};
@@ -65,7 +65,7 @@ pub fn numbered_history(
 }
 
 // The same, where the workers of a cutting read ahead.
-fn history_beside<Rt: Threads + Sync>(
+fn numbered_beside<Rt: Threads + Sync>(
     rt: &Rt,
     alloc: Global,
     text: &[u8],
@@ -128,13 +128,36 @@ fn history_under_header(
 ) -> Result<(History, Option<Vec<u32>>), ReadRefusal>
     ensures { (head : Fields) (later : List Fields) → is_header_row head ≡ true → Stands reader.old later → AnswersNumbered limit.events (head ∷ later) result }
 {
-    let mut known = Known::new(alloc);
     let mut history = History::with_limit(alloc, limit);
+    take_rows(
+        alloc,
+        &mut Known::new(alloc),
+        reader,
+        row,
+        limit,
+        &mut history,
+    )?;
+    Ok((history.into_history(), None))
+}
+
+// Adds the events of the records that a reader has left to an empty history, up to the first fault.
+fn take_rows(
+    alloc: Global,
+    known: &mut Known,
+    reader: &mut Reader<&[u8]>,
+    row: &mut ByteRecord,
+    limit: Limit,
+    history: &mut LimitedHistory,
+) -> Result<(), ReadRefusal>
+    requires limit { history.old.limit ≡ limit.events }
+    requires empty { history.old.events ≡ [] }
+    ensures { (rows : List Fields) → Midway limit.events rows (Stands reader.old) history.old.events 0 → TakesRest limit.events rows history.new.events result }
+{
     for i in 0..row_limit(limit) {
         if !next_row(reader, row)? {
-            return Ok((history.into_history(), None));
+            return Ok(());
         }
-        take_row(alloc, &mut known, &mut history, i + 2, row)?;
+        take_row(alloc, known, history, i + 2, row)?;
     }
     unreachable!()
 }
@@ -145,6 +168,22 @@ fn history_of(alloc: Global, text: &[u8], plain: bool, limit: Limit) -> Result<H
     ensures { AnswersRows limit.events (rows_of text.now) result }
 {
     let (history, _) = numbered_history(alloc, text, plain, limit)?;
+    Ok(history)
+}
+
+// The same, where the workers of a cutting read ahead.
+fn history_beside<Rt: Threads + Sync>(
+    rt: &Rt,
+    alloc: Global,
+    text: &[u8],
+    plain: bool,
+    limit: Limit,
+    cutting: Cutting,
+) -> Result<History, ReadRefusal>
+    requires { IsTrue plain → All IsPlain text.now }
+    ensures { AnswersRows limit.events (rows_of text.now) result }
+{
+    let (history, _) = numbered_beside(rt, alloc, text, plain, limit, cutting)?;
     Ok(history)
 }
 
@@ -187,8 +226,7 @@ pub fn read_history_within<R: Read>(
     ensures counts { Counts (failures_in reader.old) (failures_in reader.new) result }
     ensures room { IfSome (R.remaining (inner_of reader.old)) (λ text. Leaves text room.new.items result) }
 {
-    let Taken { text, plain } = take_in(alloc, reader, limit)?;
-    *room = text;
+    let plain = take_in(alloc, reader, room, limit)?;
     history_of(alloc, room, plain, limit)
 }
 
@@ -206,10 +244,8 @@ pub fn read_history_beside<Rt: Threads + Sync, R: Read>(
     ensures counts { Counts (failures_in reader.old) (failures_in reader.new) result }
     ensures room { IfSome (R.remaining (inner_of reader.old)) (λ text. Leaves text room.new.items result) }
 {
-    let Taken { text, plain } = take_in(alloc, reader, limit)?;
-    *room = text;
-    let (history, _) = history_beside(rt, alloc, room, plain, limit, cutting)?;
-    Ok(history)
+    let plain = take_in(alloc, reader, room, limit)?;
+    history_beside(rt, alloc, room, plain, limit, cutting)
 }
 
 /// Reads the history of a text in memory, as `read_history` does of a reader: the text is not copied, and no device can fail.

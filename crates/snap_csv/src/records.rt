@@ -1,17 +1,18 @@
 //! Histories with the numbers of their records, and records by number.
-ghost use Rattle.std.specs.Prelude.{◌≡◌, ◌≤◌, ◌+◌, IfOk, IfSome, List, length, map, option_map};
+ghost use Rattle.std.specs.Prelude.{◌≡◌, ◌≤◌, ◌+◌, All, IfOk, IfSome, IsTrue, List, length, map, option_map};
 ghost use Rattle.std.specs.List.{range_with_len};
 ghost use Rattle.csv.specs.Records.{fields_of};
 ghost use Rattle.snap_core.specs.Counting.{inner_of, failures_in};
 ghost use Rattle.snap_core.specs.Events.{event_cap};
 ghost use Rattle.snap_csv.specs.Answers.{AnswersRecords, AnswersRecordsWithin, Counts, Leaves};
-ghost use Rattle.snap_csv.specs.inside.Rows.{Stands};
+ghost use Rattle.snap_csv.specs.inside.Rows.{AnswersListed, Stands};
 ghost use Rattle.snap_format.specs.Records.{record_at};
 ghost use Rattle.snap_format.specs.Rows.{rows_of};
+ghost use Rattle.snap_plain.specs.Lines.{IsPlain};
 ghost use Rattle.snap_rows.specs.Taking.{numbers_kept};
 ghost use Rattle.snap_text.specs.Fields.{Fields};
 
-use crate::intake::{Taken, take_in};
+use crate::intake::take_in;
 use crate::read::numbered_history;
 use crate::rows::{next_row, reader_of};
 use csv::{ByteRecord, Reader};
@@ -37,6 +38,22 @@ fn numbers_in(alloc: Global, count: usize, kept: Option<Vec<u32>>) -> Result<Vec
         Some(numbers) => Ok(numbers),
         None => in_turn(alloc, count),
     }
+}
+
+// The history of a text and the number of each event's record, or the first fault.
+fn listed_history(
+    alloc: Global,
+    text: &[u8],
+    plain: bool,
+    limit: Limit,
+) -> Result<(History, Vec<u32>), ReadRefusal>
+    requires { IsTrue plain → All IsPlain text.now }
+    ensures rows { AnswersListed limit.events (rows_of text.now) result }
+    ensures each { IfOk result (λ x. length x.1.items ≡ length x.0) }
+{
+    let (history, kept) = numbered_history(alloc, text, plain, limit)?;
+    let records = numbers_in(alloc, history.len(), kept)?;
+    Ok((history, records))
 }
 
 /// Reads as `read_history_in`, and gives with the history the number of each event's record, counted from 1: the header is
@@ -66,11 +83,8 @@ pub fn read_records_within<R: Read>(
     ensures counts { Counts (failures_in reader.old) (failures_in reader.new) result }
     ensures room { IfSome (R.remaining (inner_of reader.old)) (λ text. Leaves text room.new.items result) }
 {
-    let Taken { text, plain } = take_in(alloc, reader, limit)?;
-    *room = text;
-    let (history, kept) = numbered_history(alloc, room, plain, limit)?;
-    let records = numbers_in(alloc, history.len(), kept)?;
-    Ok((history, records))
+    let plain = take_in(alloc, reader, room, limit)?;
+    listed_history(alloc, room, plain, limit)
 }
 
 // The fields of a record.

@@ -37,6 +37,7 @@ fn take_stamped_row(
 // Takes the stamped events of the records that are left, up to the first with a fault other than a repeated stamp.
 fn read_stamped(
     alloc: Global,
+    known: &mut Known,
     reader: &mut Reader<&[u8]>,
     row: &mut ByteRecord,
     limit: Limit,
@@ -45,12 +46,11 @@ fn read_stamped(
     requires { stamped.old.items ≡ [] }
     ensures { (rows : List Fields) → Stands reader.old rows → ReadsStamped limit.events rows stamped.new.items result }
 {
-    let mut known = Known::new(alloc);
     for i in 0..row_limit(limit) {
         if !next_row(reader, row)? {
             return Ok(());
         }
-        take_stamped_row(alloc, &mut known, stamped, limit, i + 2, row)?;
+        take_stamped_row(alloc, known, stamped, limit, i + 2, row)?;
     }
     unreachable!()
 }
@@ -66,6 +66,13 @@ pub fn stamped_history(
     ensures { (rows : List Fields) → Stands reader.old rows → AnswersStamps limit.events rows result }
 {
     let mut stamped = Vec::new(alloc);
-    let read = read_stamped(alloc, reader, row, limit, &mut stamped);
+    let read = read_stamped(
+        alloc,
+        &mut Known::new(alloc),
+        reader,
+        row,
+        limit,
+        &mut stamped,
+    );
     history_by_stamps(alloc, stamped, read)
 }

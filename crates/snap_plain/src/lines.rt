@@ -1,10 +1,10 @@
 //! Histories in plain texts. Without quotes and carriage returns a record is a line. Any other text is read byte by byte, by `csv`.
-ghost use Rattle.std.specs.Prelude.{◌≡◌, ◌↔◌, ◌∷◌, [], List, true, All, IsTrue};
+ghost use Rattle.std.specs.Prelude.{◌≡◌, ◌↔◌, ◌∷◌, [], List, true, All, IsTrue, length};
 ghost use Rattle.snap_format.specs.Layout.{is_header_row};
 ghost use Rattle.snap_format.specs.Rows.{rows_of};
 ghost use Rattle.snap_plain.specs.Lines.{AreAhead, HasLines, HasRows, IsAhead, IsPlain};
 ghost use Rattle.snap_rows.specs.Stamping.{AnswersStamps, ReadsStamped};
-ghost use Rattle.snap_rows.specs.Taking.{AnswersNumbered};
+ghost use Rattle.snap_rows.specs.Taking.{AnswersNumbered, Midway, TakesRest};
 ghost use Rattle.snap_text.specs.Fields.{Fields};
 
 use crate::ahead::{Ahead, take_ahead};
@@ -13,7 +13,7 @@ use crate::front::{
     behind_newlines, behind_order_mark, lines_under_header, lines_under_stamped_header,
 };
 use memchr::memchr2;
-use snap_core::{History, Limit};
+use snap_core::{History, Limit, LimitedHistory};
 use snap_format::{ReadRefusal, Stamped};
 use snap_rows::{history_by_stamps, row_limit, take_fields, take_stamped};
 use snap_text::{Known, TextFault};
@@ -26,6 +26,36 @@ pub fn is_plain(text: &[u8]) -> bool
     memchr2(b'"', b'\r', text).is_none()
 }
 
+// Takes the events of the lines that are left, up to the first fault.
+fn take_lines(
+    alloc: Global,
+    known: &mut Known,
+    lines: &[u8],
+    limit: Limit,
+    history: &mut LimitedHistory,
+) -> Result<(), ReadRefusal>
+    requires { history.old.limit ≡ limit.events }
+    ensures { (rows : List Fields) → Midway limit.events rows (HasRows lines.now) history.old.events (length history.old.events) → TakesRest limit.events rows history.new.events result }
+{
+    let mut left = lines;
+    'each: for _ in 0..row_limit(limit) {
+        let place = history.len() as u32 + 2;
+        let line = behind_newlines(left);
+        if line.is_empty() {
+            return Ok(());
+        }
+        let Some((fields, rest)) = four_first(line) else {
+            return Err(ReadRefusal::Text {
+                place,
+                fault: TextFault::Fields,
+            });
+        };
+        take_fields(alloc, known, history, place, fields)?;
+        left = rest;
+    }
+    unreachable!()
+}
+
 // The history of the lines under the header, or the first fault. Some of them were read ahead.
 fn lines_history(
     alloc: Global,
@@ -36,29 +66,15 @@ fn lines_history(
     requires { All (IsAhead lines.now) ahead.items }
     ensures { (head : Fields) (later : List Fields) → is_header_row head ≡ true → HasRows lines.now later → AnswersNumbered limit.events (head ∷ later) result }
 {
-    let (mut history, mut left) = take_ahead(alloc, lines, ahead, limit)?;
-    let mut known = Known::new(alloc);
-    'each: for _ in 0..row_limit(limit) {
-        let place = history.len() as u32 + 2;
-        let line = behind_newlines(left);
-        if line.is_empty() {
-            return Ok((history.into_history(), None));
-        }
-        let Some((fields, rest)) = four_first(line) else {
-            return Err(ReadRefusal::Text {
-                place,
-                fault: TextFault::Fields,
-            });
-        };
-        take_fields(alloc, &mut known, &mut history, place, fields)?;
-        left = rest;
-    }
-    unreachable!()
+    let (mut history, left) = take_ahead(alloc, lines, ahead, limit)?;
+    take_lines(alloc, &mut Known::new(alloc), left, limit, &mut history)?;
+    Ok((history.into_history(), None))
 }
 
 // Takes the stamped events of the lines under the header, up to the first with a fault other than a repeated stamp.
 fn read_stamped_lines(
     alloc: Global,
+    known: &mut Known,
     lines: &[u8],
     limit: Limit,
     stamped: &mut Vec<Stamped>,
@@ -66,7 +82,6 @@ fn read_stamped_lines(
     requires { stamped.old.items ≡ [] }
     ensures { (rows : List Fields) → HasRows lines.now rows → ReadsStamped limit.events rows stamped.new.items result }
 {
-    let mut known = Known::new(alloc);
     let mut left = lines;
     for i in 0..row_limit(limit) {
         let line = behind_newlines(left);
@@ -79,7 +94,7 @@ fn read_stamped_lines(
                 fault: TextFault::Fields,
             });
         };
-        take_stamped(alloc, &mut known, stamped, limit, i + 2, fields)?;
+        take_stamped(alloc, known, stamped, limit, i + 2, fields)?;
         left = rest;
     }
     unreachable!()
@@ -94,7 +109,7 @@ fn stamped_lines_history(
     ensures { (rows : List Fields) → HasRows lines.now rows → AnswersStamps limit.events rows result }
 {
     let mut stamped = Vec::new(alloc);
-    let read = read_stamped_lines(alloc, lines, limit, &mut stamped);
+    let read = read_stamped_lines(alloc, &mut Known::new(alloc), lines, limit, &mut stamped);
     history_by_stamps(alloc, stamped, read)
 }
 

@@ -75,3 +75,8 @@ FailsEvent place refusals.Memory read = Unit {0}
 abbrev pub GivesEvent : ℕ → Result Event ReadRefusal → Result Event TextFault → Type 0
 GivesEvent place (Ok x) read = read ≡ Ok x
 GivesEvent place (Err e) read = FailsEvent place e read
+
+-- all records that were left are taken, or the first fault
+abbrev pub TakesRest : ℕ → List Fields → List Event → Result (Unit {0}) ReadRefusal → Type 0
+TakesRest limit rows new (Ok u) = AnswersNumbered limit rows (Ok (new, None))
+TakesRest limit rows new (Err e) = RefusesRows limit rows e

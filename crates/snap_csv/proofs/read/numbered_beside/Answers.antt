@@ -1,5 +1,5 @@
 use Rattle.snap_format.specs.Rows.{rows_of}
-use Rattle.snap_csv.proofs.read.history_beside.Goals as goal
+use Rattle.snap_csv.proofs.read.numbered_beside.Goals as goal
 
 pub returns : goal.returns
 returns g c = c.history_of_lines.ensures (rows_of c.args.text.now) c.lines_of-lines.ensures

@@ -4,7 +4,7 @@ use Rattle.std.proofs.Math.Seq.{take-add}
 use Rattle.std.proofs.lemmas.Bool.Decides.{nat_tests}
 use Rattle.snap_core.specs.Counting.{inner_of}
 use Rattle.snap_plain.proofs.PlainFacts.{plain_with}
-use Rattle.snap_csv.proofs.intake.take_in.Goals as goal
+use Rattle.snap_csv.proofs.intake.fill.Goals as goal
 
 pub loop-ended-preserved : goal.loop-ended-preserved
 loop-ended-preserved g c =
