@@ -1,0 +1,50 @@
+-- A text that was taken into a room, and what is answered of it there.
+use Rattle.std.proofs.Common.{◌≡◌, ◌≤◌, ℕ, List, length, inr, Option, Some, None, Result, Ok, Err, refl, subst}
+use Rattle.std.specs.Prelude.{IfSome}
+use Rattle.std.specs.Global.{Vec}
+use Rattle.snap_core.specs.declared.event.Event.{Event}
+use Rattle.snap_format.specs.declared.refusal.ReadRefusal.{ReadRefusal}
+use Rattle.snap_format.specs.declared.refusal.ReadRefusal.TheVariants as refusals
+use Rattle.snap_format.specs.Rows.{rows_of}
+use Rattle.snap_format.specs.Texts.{bytes_within}
+use Rattle.snap_rows.specs.Taking.{AnswersRows, RefusesRows}
+use Rattle.snap_csv.specs.Answers.{AnswersRecordsWithin, AnswersTextWithin, Leaves, RefusalLeaves, RefusesTextWithin}
+use Rattle.snap_csv.specs.inside.Rows.{AnswersListed}
+
+-- the room holds the text
+leaves : {A : Type 0} (text : List ℕ) (result : Result A ReadRefusal) → Leaves text text result
+leaves text (Ok x) = refl
+leaves text (Err e) = refused e
+  where
+    refused : (e : ReadRefusal) → RefusalLeaves text text e
+    refused (refusals.Text place f) = λ some. refl
+    refused refusals.Device = tt
+    refused refusals.Memory = tt
+
+pub room_leaves : {A : Type 0} (known : Option (List ℕ)) (room : List ℕ) (result : Result A ReadRefusal) → IfSome known (λ text. room ≡ text) → IfSome known (λ text. Leaves text room result)
+room_leaves None room result is = tt
+room_leaves (Some text) room result is = subst (λ t. Leaves t room result) is (leaves room result)
+
+-- and what is said of its records is said of the text
+refuses : (limit : ℕ) (text : List ℕ) (e : ReadRefusal) → length text ≤ bytes_within limit → RefusesRows limit (rows_of text) e → RefusesTextWithin limit text e
+refuses limit text (refusals.Text place f) short says = inr (short, says)
+refuses limit text refusals.Device short says = tt
+refuses limit text refusals.Memory short says = tt
+
+answers_text : (limit : ℕ) (text : List ℕ) (result : Result (List Event) ReadRefusal) → length text ≤ bytes_within limit → AnswersRows limit (rows_of text) result → AnswersTextWithin limit text result
+answers_text limit text (Ok events) short says = (short, says)
+answers_text limit text (Err e) short says = refuses limit text e short says
+
+pub room_answers : (limit : ℕ) (known : Option (List ℕ)) (room : List ℕ) (result : Result (List Event) ReadRefusal) → (length room ≤ bytes_within limit) × IfSome known (λ text. room ≡ text)
+    → AnswersRows limit (rows_of room) result → IfSome known (λ text. AnswersTextWithin limit text result)
+room_answers limit None room result (short, is) says = tt
+room_answers limit (Some text) room result (short, is) says = subst (λ t. AnswersTextWithin limit t result) is (answers_text limit room result short says)
+
+answers_records : (limit : ℕ) (text : List ℕ) (result : Result (List Event × Vec ℕ) ReadRefusal) → length text ≤ bytes_within limit → AnswersListed limit (rows_of text) result → AnswersRecordsWithin limit text result
+answers_records limit text (Ok x) short says = record { history = (short, says.0); numbers = says.1 }
+answers_records limit text (Err e) short says = refuses limit text e short says
+
+pub room_lists : (limit : ℕ) (known : Option (List ℕ)) (room : List ℕ) (result : Result (List Event × Vec ℕ) ReadRefusal) → (length room ≤ bytes_within limit) × IfSome known (λ text. room ≡ text)
+    → AnswersListed limit (rows_of room) result → IfSome known (λ text. AnswersRecordsWithin limit text result)
+room_lists limit None room result (short, is) says = tt
+room_lists limit (Some text) room result (short, is) says = subst (λ t. AnswersRecordsWithin limit t result) is (answers_records limit room result short says)

@@ -1,0 +1,9 @@
+use Rattle.snap_core.specs.Counting.{inner_of}
+use Rattle.snap_csv.proofs.RoomFacts.{room_leaves, room_lists}
+use Rattle.snap_csv.proofs.records.read_records_within.Goals as goal
+
+pub returns-clause-text : goal.returns-clause-text
+returns-clause-text g c = room_lists c.args.limit.events (g.R.Read.remaining (inner_of c.args.reader.now)) c.take_in.new.room.items c.listed_history.result c.in_ok-plain.ensures.text (rw c.deref.ensures.value at c.listed_history.ensures.rows)
+
+pub returns-clause-room : goal.returns-clause-room
+returns-clause-room g c = room_leaves (g.R.Read.remaining (inner_of c.args.reader.now)) c.take_in.new.room.items c.listed_history.result c.in_ok-plain.ensures.text.1
