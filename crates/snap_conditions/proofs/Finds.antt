@@ -29,7 +29,7 @@ use Rattle.snap_conditions.proofs.Leasts.{find_same}
 use Rattle.snap_conditions.proofs.Places.{integrity_by_update, old_by_place, early_by_place, write_by_place, behind_none}
 use Rattle.snap_conditions.proofs.OneView.{missed_part}
 use Rattle.snap_theory.proofs.FaultLists.{filter_none}
-use Rattle.snap_views.proofs.Grids.{small}
+use Rattle.snap_views.proofs.Shown.{small}
 use Rattle.snap_views.proofs.Rows.{entry_at}
 
 -- what a view shows of a component that it lists

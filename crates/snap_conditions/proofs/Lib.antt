@@ -10,7 +10,6 @@ pub mod Ranges
 pub mod Missed
 pub mod StaleViews
 pub mod Limits
-pub mod Faultless
 mod Worked
 mod Surrounded
 mod Left

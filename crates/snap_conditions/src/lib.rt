@@ -1,7 +1,6 @@
 //! The tally of the faults of a history over a range of views, and what it says of the history.
 #![tactic(auto)]
 
-mod by_grid;
 mod fault;
 mod integrity;
 mod law;
@@ -14,13 +13,11 @@ mod shown_and_next;
 mod stale;
 mod tally;
 mod updates;
-mod whole;
 mod write;
 
-pub use by_grid::tally_by_grid;
 pub use fault::{IntegrityFault, ProximityFault, ReadFault, Side, WriteFault};
 pub use law::{conditions_by_tally, monotone_by_tally, regular_by_tally, tallies_join};
 pub use part::Part;
 pub use range::{tally_range, tally_without_read};
+pub use read::read_fault_of;
 pub use tally::{Tally, is_atomic, is_monotone, is_regular, merge};
-pub use whole::tally_and_chain_alone;

@@ -35,8 +35,8 @@ impl<F> Part<F> {
         }
     }
 
-    // So many faults, of which this is the first.
-    pub(crate) fn of(count: u64, first: F) -> Part<F>
+    /// So many faults, of which this is the first.
+    pub fn of(count: u64, first: F) -> Part<F>
         requires { 0 < count }
         ensures { result ≡ record { count = count; first = Some first } }
     {

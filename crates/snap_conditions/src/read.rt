@@ -78,10 +78,9 @@ pub(crate) fn read_part(index: &Index<'_>, place: u32) -> Part<ReadFault>
     part
 }
 
-// The read fault of the completed views at two places.
-pub(crate) fn read_fault_of(index: &Index<'_>, place: u32, other: u32) -> ReadFault
-    requires places { AreViewPlaces (calls_of index.now) (place, other) }
-    requires kept { IsBoundedHistory index.now }
+/// The completed views at two places as a read fault, of which the first view shows more of some component.
+pub fn read_fault_of(index: &Index<'_>, place: u32, other: u32) -> ReadFault
+    requires { AreViewPlaces (calls_of index.now) (place, other) }
     ensures { result ≡ reported_read (views_at (calls_of index.now) (place, other)) }
 {
     let view = view_at(index, place);

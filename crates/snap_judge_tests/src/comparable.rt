@@ -4,14 +4,15 @@ ghost use Rattle.snap_views.specs.Chains.{IsViewChain};
 ghost use Rattle.snap_views.specs.Quick.{AreComparable};
 ghost use Rattle.std.specs.Prelude.{◌≡◌, IfOk};
 
-use snap_conditions::{ReadFault, Tally, tally_and_chain_alone, tally_by_grid, tally_range};
+use snap_conditions::{ReadFault, Tally, tally_range};
 use snap_core::OpenGate;
 use snap_index::Index;
 use snap_pairs::tally_and_chain;
+use snap_tally::{ViewGrid, tally_and_chain_alone, tally_by_grid};
 use snap_testing::Step::{Update, Updated, View, Viewed};
 use snap_testing::{Step, history_of};
 use snap_threads::Cutting;
-use snap_views::{ViewChain, ViewGrid, ViewOrder, view_order, view_sums};
+use snap_views::{ViewChain, ViewOrder, view_order, view_sums};
 use std::alloc::Global;
 use std::process::Abort;
 use std::test::Fail;

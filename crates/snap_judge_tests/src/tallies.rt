@@ -4,16 +4,16 @@ ghost use Rattle.std.specs.Prelude.{◌≡◌};
 use histories::WORKED;
 use snap_conditions::{
     IntegrityFault, ProximityFault, ReadFault, Side, Tally, WriteFault, is_atomic, is_monotone,
-    is_regular, tally_by_grid, tally_range,
+    is_regular, tally_range,
 };
 use snap_core::Entry;
 use snap_index::Index;
+use snap_tally::{ViewGrid, tally_by_grid};
 use snap_testing::worked::{
     ATOMIC_RUN, CROSSED_VIEWS, LARGEST_NUMBER, MISSED_UPDATE, NEVER_WRITTEN, NEW_THEN_OLD,
     SHOWN_TOO_EARLY, STALE_AND_WRONG, STALE_VIEW, WRONG_VALUE,
 };
 use snap_testing::{Shown, Step, entry, history_of};
-use snap_views::ViewGrid;
 use std::alloc::{AllocError, Global};
 use std::process::Abort;
 use std::test::Fail;

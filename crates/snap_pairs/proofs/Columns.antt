@@ -5,8 +5,8 @@ use Rattle.std.specs.declared.alloc.AllocError.{AllocError}
 use Rattle.std.proofs.Math.Seq.{get_or-append_seam}
 use Rattle.std.proofs.lemmas.List.{get_or_append_left}
 use Rattle.snap_core.specs.Calls.{Call}
-use Rattle.snap_views.specs.Grids.{AreColumnsOf}
-use Rattle.snap_views.proofs.Grids.{columns_join}
+use Rattle.snap_tally.specs.Grids.{AreColumnsOf}
+use Rattle.snap_tally.proofs.Grids.{columns_join}
 use Rattle.snap_pairs.specs.inside.Reads.{AreParts, part_start}
 use Rattle.snap_pairs.proofs.Starts.{starts_grow, starts_inside}
 

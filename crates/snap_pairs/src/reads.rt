@@ -4,7 +4,7 @@ ghost use Rattle.snap_core.specs.Calls.{calls_of, views_of};
 ghost use Rattle.snap_views.specs.Chains.{AreViewSums, IsViewChain};
 ghost use Rattle.snap_core.specs.Entries.{component_count};
 ghost use Rattle.snap_theory.specs.Faults.{read_faults};
-ghost use Rattle.snap_views.specs.Grids.{AreColumnsOf};
+ghost use Rattle.snap_tally.specs.Grids.{AreColumnsOf};
 ghost use Rattle.snap_views.specs.Quick.{shown_sum};
 ghost use Rattle.snap_views.specs.Seen.{view_in};
 ghost use Rattle.snap_conditions.specs.Tally.{tally_of};
@@ -12,12 +12,13 @@ ghost use Rattle.snap_views.specs.Seen.{views_between};
 ghost use Rattle.snap_pairs.specs.inside.Reads.{AreParts, IsGridFor, part_start};
 
 use rayon::prelude::*;
-use snap_conditions::{Tally, tally_by_grid, tally_without_read};
+use snap_conditions::{Tally, tally_without_read};
 use snap_core::COMPONENT_COUNT;
 use snap_grid::Column;
 use snap_index::Index;
+use snap_tally::{ViewGrid, columns_between, tally_by_grid};
 use snap_threads::{Cutting, each_job};
-use snap_views::{ViewChain, ViewGrid, ViewOrder, columns_between, view_order, view_sum};
+use snap_views::{ViewChain, ViewOrder, view_order, view_sum};
 use std::alloc::{AllocError, Global};
 use std::thread::Threads;
 

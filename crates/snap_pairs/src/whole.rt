@@ -15,8 +15,9 @@ use crate::worker::{Answer, draw_all};
 use snap_conditions::Tally;
 use snap_core::Gate;
 use snap_index::Index;
+use snap_tally::ViewGrid;
 use snap_threads::{Cutting, each_job};
-use snap_views::{ViewChain, ViewGrid};
+use snap_views::ViewChain;
 use std::alloc::{AllocError, Global};
 use std::thread::Threads;
 

@@ -11,8 +11,8 @@ use crate::reads::piece_tally;
 use snap_conditions::Tally;
 use snap_core::Gate;
 use snap_index::Index;
+use snap_tally::ViewGrid;
 use snap_threads::Cutting;
-use snap_views::ViewGrid;
 use std::alloc::{AllocError, Global};
 
 /// A piece that was drawn, and its tally.

@@ -4,7 +4,7 @@ ghost use Rattle.std.specs.Prelude.{◌≡◌};
 ghost use Rattle.snap_conditions.specs.Tally.{tally_of};
 
 use crate::fault::{Fault, expect};
-use snap_conditions::{Tally, is_atomic, tally_and_chain_alone, tally_range};
+use snap_conditions::{Tally, is_atomic, tally_range};
 use snap_core::{Counted, Event, History};
 use snap_csv::{
     WriteRefusal, read_history, read_history_in, read_records, read_text, record_of, write_history,
@@ -14,6 +14,7 @@ use snap_index::Index;
 use snap_report::{
     put_call, put_entry, put_number, put_update, refusal_text, report, report_in, verdict_text,
 };
+use snap_tally::tally_and_chain_alone;
 use snap_testing::worked::{CROSSED_VIEWS, STALE_AND_WRONG, VIEW_BESIDE_UPDATE};
 use snap_testing::{Cup, entry, history_of};
 use snap_text::{TextFault, fields_of};

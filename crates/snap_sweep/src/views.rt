@@ -1,12 +1,13 @@
 //! The sums, the chains and the grids of views.
 use crate::fault::{Fault, expect};
-use snap_conditions::{Tally, tally_and_chain_alone, tally_by_grid};
+use snap_conditions::Tally;
 use snap_core::COMPONENT_COUNT;
 use snap_index::Index;
+use snap_tally::{ViewGrid, columns_between, tally_and_chain_alone, tally_by_grid};
 use snap_testing::Step::{Update, Updated, View, Viewed};
 use snap_testing::worked::{ATOMIC_RUN, CROSSED_VIEWS, NEW_THEN_OLD};
 use snap_testing::{Step, history_of};
-use snap_views::{ViewGrid, ViewOrder, chain, columns_between, ordered, view_order, view_sums};
+use snap_views::{ViewOrder, chain, ordered, view_order, view_sums};
 use std::alloc::Global;
 
 // Beside an open update of component 1 seven views show it, one after another, and a later one does not.

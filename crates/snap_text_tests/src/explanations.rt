@@ -1,10 +1,10 @@
 //! The explanations of worked histories, against texts written by hand.
 ghost use Rattle.std.specs.Prelude.{◌≡◌, length, IfOk};
 
-use snap_conditions::tally_and_chain_alone;
 use snap_core::{History, Limit};
 use snap_explain::{explain, explain_refusal};
 use snap_index::Index;
+use snap_tally::tally_and_chain_alone;
 use snap_testing::Step::{Update, Updated, View, Viewed};
 use snap_testing::worked::{
     ATOMIC_RUN, CROSSED_VIEWS, MISSED_UPDATE, NEVER_WRITTEN, NEW_THEN_OLD, NOTHING, SEEN_PENDING,

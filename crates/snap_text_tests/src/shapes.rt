@@ -1,7 +1,7 @@
 //! What is drawn of worked histories, against shapes worked out by hand.
-use snap_conditions::tally_and_chain_alone;
 use snap_draw::{Bar, Kind, LINE_CALLS, Mark, Shapes, shapes_of};
 use snap_index::Index;
+use snap_tally::tally_and_chain_alone;
 use snap_testing::worked::{ATOMIC_RUN, MISSED_UPDATE, NEW_THEN_OLD, NOTHING, SEEN_PENDING};
 use snap_testing::{Step, history_of};
 use snap_verdict::order_by;

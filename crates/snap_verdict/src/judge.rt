@@ -11,12 +11,13 @@ ghost use Rattle.snap_verdict.specs.Verdicts.{HasStatus, IsBriefVerdict, IsVerdi
 ghost use Rattle.snap_verdict.specs.Reports.{IsReport, IsReportWithin};
 
 use crate::status::{Status, status_by};
-use snap_conditions::{Tally, is_atomic, tally_and_chain_alone};
+use snap_conditions::{Tally, is_atomic};
 use snap_core::{History, Limit};
 use snap_csv::{ReadRefusal, read_text_within};
 use snap_index::Index;
 use snap_order::build;
 use snap_report::{refusal_text, report_in, verdict_text};
+use snap_tally::tally_and_chain_alone;
 use snap_views::ViewChain;
 use std::alloc::{AllocError, Global};
 

@@ -21,8 +21,7 @@ use Rattle.snap_views.proofs.Rows.{entry_at}
 use Rattle.snap_views.proofs.Sums.{sum_none, sum_more, sum_skip, sum_le, sum_less}
 use Rattle.snap_views.proofs.Chains.{view_is}
 use Rattle.snap_theory.proofs.Exceeding.{exceeds_not, not_exceeds}
-use Rattle.snap_views.proofs.Grids.{small}
-use Rattle.snap_views.proofs.Grids.{seen_number}
+use Rattle.snap_views.proofs.Shown.{seen_number, small}
 use Rattle.snap_theory.proofs.Components.{fit_views}
 
 -- a row of which the numbers of the entries before place i were taken in

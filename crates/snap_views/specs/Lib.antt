@@ -3,5 +3,4 @@ pub mod Rows
 pub mod Quick
 pub mod Chains
 pub mod Orders
-pub mod Grids
 pub mod inside

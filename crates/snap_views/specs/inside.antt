@@ -1,5 +1,3 @@
 -- What only the proofs of this crate need: no clause that a caller reads cites it.
 pub mod Chains
-pub mod Grids
-pub mod NumberTables
 pub mod Sweeps

@@ -17,9 +17,10 @@ ghost use Rattle.snap_windows.specs.inside.Refused.{first_refusal};
 use crate::last::{Wrote, none, note};
 use crate::missed::missed_by;
 use crate::renumber::renumbered_event;
-use snap_conditions::{is_atomic, is_regular, tally_and_chain_alone};
+use snap_conditions::{is_atomic, is_regular};
 use snap_core::{COMPONENT_COUNT, Entry, Event, EventRefusal, History, Limit};
 use snap_index::Index;
+use snap_tally::tally_and_chain_alone;
 use std::alloc::{AllocError, Global};
 
 /// Whether events are regular, and atomic: of a window, from what the windows before it left.

@@ -7,7 +7,7 @@ use Rattle.snap_core.specs.declared.event.Event.{Event}
 use Rattle.snap_core.specs.Calls.{Call, calls_of, views_of}
 use Rattle.snap_core.specs.Entries.{component_count}
 use Rattle.snap_theory.specs.Faults.{read_faults}
-use Rattle.snap_views.specs.Grids.{AreColumnsOf}
+use Rattle.snap_tally.specs.Grids.{AreColumnsOf}
 
 -- the grid is of the events; where there is none, no two views are a read fault
 abbrev pub IsGridFor : List Event → Option (List Event) → Type 0

@@ -1,6 +1,6 @@
 use Rattle.std.proofs.Common.{rules, arith, ◌≡◌, ◌<◌, ◌≤◌, ◌+◌, ◌++◌, ◌∷◌, [], ◌∙◌, length, vec_items, sym, ap, subst, length-append}
 use Rattle.snap_core.specs.Calls.{calls_of}
-use Rattle.snap_views.specs.Grids.{AreColumnsOf}
+use Rattle.snap_tally.specs.Grids.{AreColumnsOf}
 use Rattle.snap_pairs.specs.inside.Reads.{AreParts, part_start}
 use Rattle.snap_pairs.proofs.Columns.{AreMade, last_part, parts_before, part_joined}
 use Rattle.snap_pairs.proofs.Starts.{ends_whole, starts_at_zero}

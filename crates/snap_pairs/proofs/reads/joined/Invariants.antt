@@ -1,6 +1,6 @@
 use Rattle.std.proofs.Common.{◌≤◌, length, vec_items, vec_len}
 use Rattle.snap_core.specs.Calls.{calls_of}
-use Rattle.snap_views.specs.Grids.{AreColumnsOf}
+use Rattle.snap_tally.specs.Grids.{AreColumnsOf}
 use Rattle.snap_pairs.specs.inside.Reads.{AreParts, part_start}
 use Rattle.snap_pairs.proofs.reads.joined.Given as goal
 

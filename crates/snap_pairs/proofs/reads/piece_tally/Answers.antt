@@ -1,7 +1,7 @@
 use Rattle.std.proofs.Common.{◌∙◌, subst}
 use Rattle.snap_core.specs.Calls.{calls_of}
 use Rattle.snap_pairs.specs.inside.Reads.{IsGridFor}
-use Rattle.snap_conditions.proofs.Faultless.{faultless_tally}
+use Rattle.snap_tally.proofs.Faultless.{faultless_tally}
 use Rattle.snap_pairs.proofs.reads.piece_tally.Goals as goal
 
 pub returns-in-None : goal.returns-in-None

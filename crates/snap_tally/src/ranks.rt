@@ -1,0 +1,35 @@
+//! The ranks of the sums of the completed views.
+ghost use Rattle.std.specs.Prelude.{IfOk};
+ghost use Rattle.snap_core.specs.Calls.{calls_of};
+ghost use Rattle.snap_core.specs.Events.{IsBoundedHistory};
+ghost use Rattle.snap_grid.specs.Columns.{IsOrderedAs};
+ghost use Rattle.snap_views.specs.Chains.{IsViewChain};
+
+use snap_index::Index;
+use snap_views::ViewChain;
+use std::alloc::{AllocError, Global};
+
+// The rank of the sum of each completed view, by call number: how many views have a lesser sum.
+pub(crate) fn ranks(
+    alloc: Global,
+    index: &Index<'_>,
+    chain: &ViewChain,
+) -> Result<Vec<u32>, AllocError>
+    requires kept { IsBoundedHistory index.now }
+    requires chain { IsViewChain (calls_of index.now) chain.now }
+    ensures { IfOk result (λ ranks. IsOrderedAs chain.now.sums.items ranks.items) }
+{
+    let mut ranks = Vec::from_elem(alloc, 0u32, index.view_count() as usize)?;
+    let mut last = 0;
+    let mut rank = 0;
+    for at in 0..index.view_count() {
+        let place = chain.places[at as usize] as usize;
+        let sum = chain.sums[place];
+        if last < sum {
+            last = sum;
+            rank = at;
+        }
+        ranks[place] = rank;
+    }
+    Ok(ranks)
+}

@@ -1,6 +1,0 @@
-use Rattle.snap_core.specs.Calls.{calls_of}
-use Rattle.snap_views.specs.inside.NumberTables.{AreFilled}
-use Rattle.snap_views.proofs.columns.numbers_between.Given as goal
-
-abbrev pub invariant-loop-place : goal.invariant-loop-place
-invariant-loop-place l = AreFilled (calls_of l.index) l.from l.to l.place l.table

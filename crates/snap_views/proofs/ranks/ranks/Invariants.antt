@@ -1,5 +1,0 @@
-use Rattle.snap_views.proofs.Ranked.{AreRanked}
-use Rattle.snap_views.proofs.ranks.ranks.Given as goal
-
-abbrev pub invariant-loop-at : goal.invariant-loop-at
-invariant-loop-at l = AreRanked l.chain.sums.items l.chain.places.items l.ranks.items l.at l.rank l.last

@@ -1,6 +1,0 @@
-use Rattle.snap_core.specs.Calls.{calls_of}
-use Rattle.snap_views.specs.inside.Grids.{ArePlaced}
-use Rattle.snap_views.proofs.view_grid.places_of.Given as goal
-
-abbrev pub invariant-loop-place : goal.invariant-loop-place
-invariant-loop-place l = ArePlaced (calls_of l.index) l.place l.begins.items l.ends.items
