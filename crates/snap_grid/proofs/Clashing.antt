@@ -1,21 +1,21 @@
 -- How clashes are counted, and which rows have one.
-use Rattle.std.proofs.Common.{◌≡◌, ℕ, zero, suc, ◌+◌, ◌-◌, ◌*◌, ◌<◌, ◌≤◌, Bool, true, false, cond, ◌&&◌, ◌||◌, List, [], ◌∷◌, ◌++◌, Option, Some, None, take, drop, length, get_or, min, max, refl, sym, ap, ◌∙◌, subst, inl, inr, arith}
+use Rattle.std.proofs.Common.{◌≡◌, ℕ, zero, suc, ◌+◌, ◌-◌, ◌*◌, ◌<◌, ◌≤◌, Bool, true, false, cond, ◌&&◌, ◌||◌, List, [], ◌∷◌, ◌++◌, Option, Some, None, take, drop, length, get_or, refl, sym, ap, ◌∙◌, subst, inl, inr, arith}
 use Rattle.std.specs.Prelude.{nat_lt, bit_or, bit_and, sum_by, count_by, count_ones, find}
 use Rattle.std.specs.List.{list_any, range_with_len}
 use Rattle.std.specs.Int.{bit_at}
 use Rattle.std.proofs.lemmas.Bool.{cases_lt, false≢true, le-ltb}
-use Rattle.std.proofs.lemmas.Nat.Bits.{bit_at_or, bit_at_and, bit_at-zero}
+use Rattle.std.proofs.lemmas.Nat.Bits.{bit_at-zero}
 use Rattle.std.proofs.lemmas.List.{get_or_default}
 use Rattle.std.proofs.lemmas.List.Sums.{sum_by-cons, sum_by-append, count_by-le-length}
 use Rattle.std.proofs.lemmas.List.Folds.{list_any-append, find-append}
 use Rattle.std.specs.Option.{is_some, option_or}
 use Rattle.std.proofs.lemmas.List.FromFn.{length-range_with_len}
 use Rattle.snap_grid.specs.Columns.{GridValue, number, any_passes, clashes, clash_count, drops, drop_count, has_clash, rows_of}
-use Rattle.snap_grid.specs.inside.Masks.{mask_by, mask_below}
+use Rattle.snap_masks.specs.Masks.{mask_by, mask_below}
 use Rattle.snap_grid.specs.inside.Clashes.{AreApart, ClashesWith, pair_count}
-use Rattle.snap_grid.proofs.Bits.{bit_by, bit_past, bit_below, bit_not_below, mask_from_bits, ones_below}
+use Rattle.snap_masks.proofs.Bits.{bit_by, bit_past, mask_and, mask_from_bits, mask_or, ones_below}
 use Rattle.snap_grid.proofs.Passing.{row_at, row_count}
-use Rattle.snap_grid.specs.Limits.{row_limit}
+use Rattle.snap_masks.specs.Limits.{row_limit}
 
 -- ranges in two parts
 pub range-append : (a m n : ℕ) → range_with_len a (m + n) ≡ range_with_len a m ++ range_with_len (a + m) n
@@ -40,30 +40,6 @@ any_more p a n = ap (list_any p) (range-append a n 1) ∙ list_any-append p (ran
     or_none : (b : Bool) → (b || false) ≡ b
     or_none true = refl
     or_none false = refl
-
--- masks of rows that pass two tests, or one of them
-
-pub mask_or : (n : ℕ) (p q r : ℕ → Bool) → ((a : ℕ) → r a ≡ (p a || q a)) → bit_or (mask_below p n) (mask_below q n) ≡ mask_below r n
-mask_or n p q r h = mask_from_bits r n (bit_or (mask_below p n) (mask_below q n))
-    (λ a l. bit_at_or (mask_below p n) (mask_below q n) a ∙ both (p a) (q a) (bit_at (mask_below p n) a) (bit_at (mask_below q n) a) (bit_below p n a l) (bit_below q n a l) ∙ sym (ap {B = ℕ} (λ z. cond z 1 0) (h a)))
-    (λ a l. omega (arith, bit_at_or (mask_below p n) (mask_below q n) a, bit_not_below p n a l, bit_not_below q n a l))
-  where
-    both : (p q : Bool) (x y : ℕ) → x ≡ cond p 1 0 → y ≡ cond q 1 0 → max x y ≡ cond (p || q) 1 0
-    both true true x y a b = omega (arith, a, b)
-    both true false x y a b = omega (arith, a, b)
-    both false true x y a b = omega (arith, a, b)
-    both false false x y a b = omega (arith, a, b)
-
-pub mask_and : (n : ℕ) (p q r : ℕ → Bool) → ((a : ℕ) → r a ≡ (p a && q a)) → bit_and (mask_below p n) (mask_below q n) ≡ mask_below r n
-mask_and n p q r h = mask_from_bits r n (bit_and (mask_below p n) (mask_below q n))
-    (λ a l. bit_at_and (mask_below p n) (mask_below q n) a ∙ both (p a) (q a) (bit_at (mask_below p n) a) (bit_at (mask_below q n) a) (bit_below p n a l) (bit_below q n a l) ∙ sym (ap {B = ℕ} (λ z. cond z 1 0) (h a)))
-    (λ a l. omega (arith, bit_at_and (mask_below p n) (mask_below q n) a, bit_not_below p n a l))
-  where
-    both : (p q : Bool) (x y : ℕ) → x ≡ cond p 1 0 → y ≡ cond q 1 0 → min x y ≡ cond (p && q) 1 0
-    both true true x y a b = omega (arith, a, b)
-    both true false x y a b = omega (arith, a, b)
-    both false true x y a b = omega (arith, a, b)
-    both false false x y a b = omega (arith, a, b)
 
 -- the mask of the rows that end before one begins
 before_below : (g : GridValue) (from n s before : ℕ) → before ≡ mask_by (λ x. nat_lt x (number g.begins s)) (take n (drop from g.ends)) → from + n ≤ length g.ends →

@@ -7,13 +7,13 @@ use Rattle.std.proofs.lemmas.Bool.{lt-ltb, le-ltb, cases_lt}
 use Rattle.std.proofs.lemmas.List.{get_or_default, take-append-drop}
 use Rattle.std.proofs.lemmas.Nat.Bits.{bit_at-zero, bit_at_xor}
 use Rattle.std.proofs.lemmas.List.Folds.{list_any-append, list_any_more}
-use Rattle.snap_grid.specs.declared.facing.Facing.{Facing}
+use Rattle.snap_masks.specs.declared.facing.Facing.{Facing}
 use Rattle.snap_grid.specs.Columns.{number, passes, any_passes}
 use Rattle.snap_grid.specs.inside.Facing.{any_faces}
 use Rattle.snap_grid.specs.inside.Kept.{HaveRows, AreRows}
-use Rattle.snap_grid.specs.inside.Masks.{mask_by, mask_below}
-use Rattle.snap_grid.proofs.Bits.{bit_below, bit_not_below, mask_from_bits, mask_below_same, mask_places}
-use Rattle.snap_grid.proofs.Clashing.{mask_or, mask_and}
+use Rattle.snap_masks.specs.Masks.{mask_by, mask_below}
+use Rattle.snap_masks.proofs.Bits.{bit_below, bit_not_below, mask_from_bits, mask_below_same, mask_places}
+use Rattle.snap_masks.proofs.Bits.{mask_or, mask_and}
 use Rattle.snap_grid.proofs.Passing.{row_at, row_count, any_more}
 
 -- the columns that are asked tell as much as the first j of all

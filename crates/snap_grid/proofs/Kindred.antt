@@ -7,9 +7,9 @@ use Rattle.std.proofs.lemmas.List.Sums.{sum_by-cons}
 use Rattle.snap_grid.specs.declared.kind.Kind.{Kind}
 use Rattle.snap_grid.specs.Columns.{GridValue, number, passes, any_passes, clashes, drops}
 use Rattle.snap_grid.specs.inside.Kinds.{AreAlike, AreKinds, sum_of_kinds}
-use Rattle.snap_grid.specs.inside.Masks.{mask_below}
+use Rattle.snap_masks.specs.Masks.{mask_below}
 use Rattle.snap_grid.specs.inside.Clashes.{ClashesWith, pair_count}
-use Rattle.snap_grid.proofs.Bits.{mask_below_same, ones_below}
+use Rattle.snap_masks.proofs.Bits.{mask_below_same, ones_below}
 
 -- whether a row clashes with one that begins behind its end, or with one that does not
 abbrev pub tells : List (List ℕ) → Bool → ℕ → ℕ → Bool

@@ -1,11 +1,8 @@
-pub mod Bits
-pub mod Lanes
 pub mod Passing
 pub mod Clashing
 pub mod Faces
 pub mod Joining
 pub mod Kindred
-pub mod Ranking
 pub mod Trees
 pub mod Sweeps
 pub mod OneColumn

@@ -4,9 +4,10 @@ use Rattle.std.specs.Prelude.{nat_lt}
 use Rattle.std.proofs.lemmas.Bool.{lt-ltb, le-ltb, ltb-true, ltb-false}
 use Rattle.std.proofs.lemmas.List.{get_or_default, get_or-drop, get_or-take, length-take, length-drop}
 use Rattle.std.proofs.lemmas.List.Folds.{list_any_at, list_any_more}
-use Rattle.snap_grid.specs.declared.bounds.Bounds.{Bounds}
+use Rattle.snap_masks.specs.declared.bounds.Bounds.{Bounds}
 use Rattle.snap_grid.specs.Columns.{number, passes, any_passes}
-use Rattle.snap_grid.specs.inside.Kept.{IsBounded, HaveRows, AreRows}
+use Rattle.snap_masks.specs.Numbers.{IsBounded}
+use Rattle.snap_grid.specs.inside.Kept.{HaveRows, AreRows}
 
 pub row_at : (column : List ℕ) (from n a : ℕ) → a < n → get_or (take n (drop from column)) a 0 ≡ number column (from + a)
 row_at column from n a l = get_or-take n (drop from column) a 0 l ∙ get_or-drop from column a 0

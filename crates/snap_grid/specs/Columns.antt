@@ -1,11 +1,8 @@
 -- Rows of numbers, kept by columns, and which of two rows has a greater number in some column.
 use Rattle.std.specs.Prelude.{true, false, ℕ, ◌<◌, ◌≤◌, ◌≡◌, Bool, ◌&&◌, ◌||◌, cond, List, [], length, get_or, nat_lt}
 use Rattle.std.specs.List.{list_any, range_with_len, count_by}
-use Rattle.snap_grid.specs.Limits.{row_limit}
-
--- the number of a row in a column
-abbrev pub number : List ℕ → ℕ → ℕ
-number column place = get_or column place 0
+pub use Rattle.snap_masks.specs.Numbers.{number, IsOrderedAs, AreOrderedAs}
+use Rattle.snap_masks.specs.Limits.{row_limit}
 
 -- the first number is greater than the second, or less
 abbrev pub passes : Bool → ℕ → ℕ → Bool
@@ -14,16 +11,6 @@ passes more n x = cond more (nat_lt x n) (nat_lt n x)
 -- the first row has a greater number than the second in some column, or a lesser one
 unfoldable pub any_passes : Bool → List (List ℕ) → ℕ → ℕ → Bool
 any_passes more columns a b = list_any (λ column. passes more (number column a) (number column b)) columns
-
--- two rows compare in one column as they do in the other
-pub record IsOrderedAs (column keys : List ℕ) : Type 0 where
-  pub count : length keys ≡ length column
-  pub order : (a b : ℕ) → a < length column → b < length column → nat_lt (number keys a) (number keys b) ≡ nat_lt (number column a) (number column b)
-
--- for each of some columns there is one of the others in which rows compare so, and for each of those one of these
-pub record AreOrderedAs (columns keys : List (List ℕ)) : Type 0 where
-  pub each : (t : ℕ) → t < length keys → (j : ℕ) × (j < length columns) × IsOrderedAs (get_or columns j []) (get_or keys t [])
-  pub all : (j : ℕ) → j < length columns → (t : ℕ) × (t < length keys) × IsOrderedAs (get_or columns j []) (get_or keys t [])
 
 -- what a grid has of its rows: the columns, and where each row begins and ends
 pub record GridValue : Type 0 where

@@ -1,3 +1,3 @@
-pub mod Limits
+pub use Rattle.snap_masks.specs.Limits
 pub mod Columns
 pub mod inside

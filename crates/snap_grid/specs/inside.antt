@@ -3,8 +3,5 @@ pub mod Clashes
 pub mod Facing
 pub mod Kept
 pub mod Kinds
-pub mod Masks
-pub mod Ranked
 pub mod Sweeps
-pub mod Tables
 pub mod Trees

@@ -1,16 +1,12 @@
 //! Blocks of rows, and which rows of a block pass or clash with another row.
 ghost use Rattle.std.specs.Prelude.{◌≡◌, ◌≤◌, ◌<◌, ◌+◌, ◌*◌, ◌-◌, ◌&&◌, ◌||◌, true, false, not, [], Bool, ℕ, cond, length, get_or, nat_lt, IsTrue, IfOk};
 ghost use Rattle.snap_grid.specs.Columns.{any_passes};
-ghost use Rattle.snap_grid.specs.inside.Masks.{mask_below};
+ghost use Rattle.snap_masks.specs.Masks.{mask_below};
 ghost use Rattle.snap_grid.specs.inside.Kept.{AreRows, HaveRows};
 ghost use Rattle.snap_grid.specs.inside.Facing.{AreFacing, AreFar, AreTabled, IsWhole, any_faces, faces};
-ghost use Rattle.snap_grid.specs.Limits.{row_limit};
+ghost use Rattle.snap_masks.specs.Limits.{row_limit};
 
-use crate::bounds::Bounds;
-use crate::column::Column;
-use crate::facing::Facing;
-use crate::mask::{Mask, WIDTH, mask_of_all};
-use crate::masks::Masks;
+use snap_masks::{Bounds, Column, Facing, Mask, Masks, WIDTH, mask_of_all};
 use std::alloc::{AllocError, Global};
 
 // After so many columns it is tested whether those that are left can still tell something.

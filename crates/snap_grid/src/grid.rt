@@ -4,17 +4,15 @@ ghost use Rattle.std.specs.List.{range_with_len, list_any};
 ghost use Rattle.snap_grid.specs.Columns.{GridValue, any_passes, clashes, number, passes as spec_passes, rows_of, clash_count, drop_count, has_clash, HaveSameRows};
 ghost use Rattle.snap_grid.specs.inside.Facing.{faces};
 ghost use Rattle.snap_grid.specs.inside.Kinds.{AreKinds};
-ghost use Rattle.snap_grid.specs.inside.Masks.{mask_below};
+ghost use Rattle.snap_masks.specs.Masks.{mask_below};
 ghost use Rattle.snap_grid.specs.inside.Clashes.{AreApart, ClashesWith};
-ghost use Rattle.snap_grid.specs.Limits.{row_limit};
+ghost use Rattle.snap_masks.specs.Limits.{row_limit};
 
 use crate::block::{Against, Block};
-use crate::column::{Column, TABLE_LIMIT};
 use crate::kind::Kind;
 use crate::kinds::Kinds;
-use crate::mask::{Mask, WIDTH};
-use crate::masks::Masks;
 use crate::one_column::{clashes_of_one, drops_of_one};
+use snap_masks::{Column, Mask, Masks, TABLE_LIMIT, WIDTH};
 use std::alloc::{AllocError, Global};
 use std::marker::Model;
 

@@ -2,10 +2,10 @@
 ghost use Rattle.std.specs.Prelude.{◌≡◌, ◌≤◌, ◌<◌, ◌+◌, IsTrue, IfOk};
 ghost use Rattle.snap_grid.specs.inside.Kept.{HaveRows};
 ghost use Rattle.snap_grid.specs.inside.Kinds.{AreAlike, AreKinds};
-ghost use Rattle.snap_grid.specs.Limits.{row_limit};
+ghost use Rattle.snap_masks.specs.Limits.{row_limit};
 
-use crate::column::Column;
 use crate::kind::Kind;
+use snap_masks::Column;
 use std::alloc::{AllocError, Global};
 use std::marker::Model;
 

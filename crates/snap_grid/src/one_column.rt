@@ -2,12 +2,12 @@
 ghost use Rattle.std.specs.Prelude.{◌≡◌, ◌≤◌, ◌<◌, ◌+◌, ℕ, Bool, length, nat_lt, sum_by, find, IfOk, IfSome};
 ghost use Rattle.std.specs.List.{range_with_len};
 ghost use Rattle.snap_grid.specs.Columns.{HaveSameRows, number};
-ghost use Rattle.snap_grid.specs.Limits.{row_limit};
+ghost use Rattle.snap_masks.specs.Limits.{row_limit};
 ghost use Rattle.snap_grid.specs.inside.Sweeps.{AreDropsOfOne};
 
-use crate::column::Column;
 use crate::grid::Clashes;
 use crate::sweep::{drops_of, rises};
+use snap_masks::Column;
 use std::alloc::{AllocError, Global};
 
 // How often each row drops, where there is one column and no row begins before an earlier one.

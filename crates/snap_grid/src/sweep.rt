@@ -1,12 +1,11 @@
 //! How often the rows of one column drop, by a sweep over their ends and a tree of their ranks.
 ghost use Rattle.std.specs.Prelude.{◌≡◌, ◌≤◌, ◌<◌, ◌-◌, ◌+◌, ℕ, length, get_or, IfOk, IsTrue};
 ghost use Rattle.snap_grid.specs.Columns.{IsOrderedAs, number};
-ghost use Rattle.snap_grid.specs.Limits.{row_limit};
+ghost use Rattle.snap_masks.specs.Limits.{row_limit};
 ghost use Rattle.snap_grid.specs.inside.Sweeps.{AreDrops, AreEndsInOrder, HasCounted, Rises};
 
-use crate::bounds::Bounds;
-use crate::ranked::{distinct_of, ranks_of};
 use crate::tree::{empty_tree, raise, sum_below};
+use snap_masks::{Bounds, distinct_of, ranks_of};
 use std::alloc::{AllocError, Global};
 
 // Whether none of the numbers is less than one before it.

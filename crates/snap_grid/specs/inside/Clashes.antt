@@ -3,7 +3,7 @@ use Rattle.std.specs.Prelude.{ℕ, ◌+◌, ◌<◌, ◌≡◌, Bool, false, sum
 use Rattle.std.specs.List.{range_with_len, list_any}
 use Rattle.snap_grid.specs.declared.grid.Clashing.{Clashing}
 use Rattle.snap_grid.specs.Columns.{GridValue, clashes, drops}
-use Rattle.snap_grid.specs.inside.Masks.{mask_below}
+use Rattle.snap_masks.specs.Masks.{mask_below}
 
 -- how many pairs a test lets through, of n rows from one on and m rows from another on
 abbrev pub pair_count : (ℕ → ℕ → Bool) → ℕ → ℕ → ℕ → ℕ → ℕ

@@ -1,9 +1,9 @@
 -- Our rows against those of another block, in some columns.
 use Rattle.std.specs.Prelude.{ℕ, true, ◌<◌, ◌≤◌, ◌≡◌, Bool, ◌||◌, List, length, get_or}
 use Rattle.std.specs.List.{list_any}
-use Rattle.snap_grid.specs.declared.facing.Facing.{Facing}
+use Rattle.snap_masks.specs.declared.facing.Facing.{Facing}
 use Rattle.snap_grid.specs.Columns.{number, passes}
-use Rattle.snap_grid.specs.inside.Masks.{mask_below}
+use Rattle.snap_masks.specs.Masks.{mask_below}
 
 -- our row has a greater number than theirs in some of the columns, or a lesser one
 abbrev pub any_faces : Bool → List Facing → ℕ → ℕ → Bool

@@ -4,8 +4,8 @@ use Rattle.std.specs.Prelude.{find}
 use Rattle.std.specs.List.{range_with_len}
 use Rattle.std.proofs.lemmas.Bool.{cases_lt}
 use Rattle.std.proofs.lemmas.Nat.Bits.{bit_at-zero}
-use Rattle.snap_grid.specs.inside.Masks.{mask_below, IsFirstBit}
-use Rattle.snap_grid.proofs.Bits.{bit_below, bit_not_below}
+use Rattle.snap_masks.specs.Masks.{mask_below, IsFirstBit}
+use Rattle.snap_masks.proofs.Bits.{bit_below, bit_not_below}
 use Rattle.snap_grid.proofs.Clashing.{find_first, find_nothing}
 use Rattle.snap_grid.proofs.grid.first_row.Goals as goal
 

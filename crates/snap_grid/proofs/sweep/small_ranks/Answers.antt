@@ -1,6 +1,6 @@
 use Rattle.std.proofs.Common.{subst, rules}
-use Rattle.snap_grid.specs.inside.Ranked.{AreRanks}
-use Rattle.snap_grid.proofs.Ranking.{ordered}
+use Rattle.snap_masks.specs.Ranks.{AreRanks}
+use Rattle.snap_masks.proofs.Ranking.{ordered}
 use Rattle.snap_grid.proofs.sweep.small_ranks.Goals as goal
 
 pub returns-clause-order : goal.returns-clause-order

@@ -1,6 +1,6 @@
 use Rattle.std.proofs.Common.{sym, ◌∙◌, ap, cond, ℕ}
 use Rattle.std.proofs.lemmas.Nat.Bits.{bit_at-zero}
-use Rattle.snap_grid.proofs.Bits.{mask_from_bits}
+use Rattle.snap_masks.proofs.Bits.{mask_from_bits}
 use Rattle.snap_grid.proofs.block.Against.all_if.Goals as goal
 
 pub returns-else-all : goal.returns-else-all

@@ -1,8 +1,8 @@
 use Rattle.std.proofs.Common.{◌≡◌, ◌&&◌, ◌||◌, Bool, refl, sym, ap, ◌∙◌}
 use Rattle.std.specs.Prelude.{true, false, bit_and}
 use Rattle.snap_grid.specs.inside.Facing.{faces}
-use Rattle.snap_grid.proofs.Bits.{mask_below_same}
-use Rattle.snap_grid.proofs.Clashing.{mask_and}
+use Rattle.snap_masks.proofs.Bits.{mask_below_same}
+use Rattle.snap_masks.proofs.Bits.{mask_and}
 use Rattle.snap_grid.proofs.block.Against.clashing.Goals as goal
 
 always : (p : Bool) → (p && true) ≡ p

@@ -2,13 +2,13 @@ use Rattle.std.proofs.Common.{◌+◌, ◌<◌, ◌||◌, ◌≡◌, not, length
 use Rattle.std.specs.Prelude.{true, false, nat_lt}
 use Rattle.std.proofs.lemmas.Bool.{eqb-true}
 use Rattle.std.proofs.lemmas.List.{take_all}
-use Rattle.snap_grid.specs.declared.facing.Facing.{Facing}
+use Rattle.snap_masks.specs.declared.facing.Facing.{Facing}
 use Rattle.snap_grid.specs.Columns.{number}
 use Rattle.snap_grid.specs.inside.Facing.{any_faces}
-use Rattle.snap_grid.specs.inside.Masks.{mask_by, mask_below}
-use Rattle.snap_grid.proofs.Bits.{mask_others}
+use Rattle.snap_masks.specs.Masks.{mask_by, mask_below}
+use Rattle.snap_masks.proofs.Bits.{mask_others}
 use Rattle.snap_grid.proofs.Faces.{or_false, at_most_joined, less_joined, full_more, full_less, full_still, none_face}
-use Rattle.snap_grid.proofs.Lanes.{or_none}
+use Rattle.snap_masks.proofs.Lanes.{or_none}
 use Rattle.snap_grid.proofs.block.Against.passing.Goals as goal
 
 pub loop-done-init : goal.loop-done-init

@@ -1,7 +1,7 @@
 use Rattle.std.proofs.Common.{◌≡◌, ◌≤◌, ◌-◌, ◌||◌, length, not, take}
 use Rattle.std.specs.Prelude.{true, false}
 use Rattle.snap_grid.specs.inside.Facing.{any_faces}
-use Rattle.snap_grid.specs.inside.Masks.{mask_below}
+use Rattle.snap_masks.specs.Masks.{mask_below}
 use Rattle.snap_grid.proofs.block.Against.passing.Given as goal
 
 abbrev pub invariant-loop-done : goal.invariant-loop-done

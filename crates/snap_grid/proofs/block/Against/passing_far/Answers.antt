@@ -1,13 +1,13 @@
 use Rattle.std.proofs.Common.{◌+◌, ◌<◌, ◌||◌, length, ap, sym, ◌∙◌, not, arith}
 use Rattle.std.specs.Prelude.{true, false, nat_lt}
 use Rattle.std.proofs.lemmas.List.{take_all}
-use Rattle.snap_grid.specs.declared.facing.Facing.{Facing}
+use Rattle.snap_masks.specs.declared.facing.Facing.{Facing}
 use Rattle.snap_grid.specs.Columns.{number}
 use Rattle.snap_grid.specs.inside.Facing.{any_faces, faces}
-use Rattle.snap_grid.specs.inside.Masks.{mask_by, mask_below}
-use Rattle.snap_grid.proofs.Bits.{mask_others}
+use Rattle.snap_masks.specs.Masks.{mask_by, mask_below}
+use Rattle.snap_masks.proofs.Bits.{mask_others}
 use Rattle.snap_grid.proofs.Faces.{at_most_joined, less_joined, full_more, full_less}
-use Rattle.snap_grid.proofs.Lanes.{or_none}
+use Rattle.snap_masks.proofs.Lanes.{or_none}
 use Rattle.snap_grid.proofs.block.Against.passing_far.Goals as goal
 
 pub loop-j-preserved : goal.loop-j-preserved

@@ -2,7 +2,7 @@ use Rattle.std.proofs.lemmas.Result.{IfOk-from_err}
 use Rattle.std.proofs.Common.{◌≡◌, ◌+◌, ◌*◌, ◌<◌, ◌++◌, ◌∷◌, [], ℕ, length, get_or, sym, ap, ◌∙◌, arith}
 use Rattle.std.specs.Prelude.{true, false}
 use Rattle.std.proofs.lemmas.Bool.{eqb-false, eqb-true}
-use Rattle.snap_grid.specs.declared.facing.Facing.{Facing}
+use Rattle.snap_masks.specs.declared.facing.Facing.{Facing}
 use Rattle.snap_grid.proofs.Faces.{far_pushed, near_pushed, faces_passed_over, ours_length}
 use Rattle.snap_grid.proofs.Joining.{pushed}
 use Rattle.snap_grid.proofs.Passing.{any_none, none_passes, ours_at, theirs_at, theirs_count}

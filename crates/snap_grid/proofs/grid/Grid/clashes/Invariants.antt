@@ -3,7 +3,7 @@ use Rattle.std.specs.Prelude.{find, sum_by}
 use Rattle.std.specs.List.{range_with_len}
 use Rattle.snap_grid.specs.Columns.{clash_count, drop_count, has_clash}
 use Rattle.snap_grid.proofs.grid.Grid.clashes.Given as goal
-use Rattle.snap_grid.specs.Limits.{row_limit}
+use Rattle.snap_masks.specs.Limits.{row_limit}
 
 abbrev pub invariant-loop-start : goal.invariant-loop-start
 invariant-loop-start l = record {

@@ -2,10 +2,10 @@ use Rattle.std.proofs.lemmas.Result.{IfOk-from_err}
 use Rattle.std.proofs.Common.{◌≡◌, ◌≤◌, ◌+◌, ◌*◌, ◌<◌, ℕ, Bool, List, length, get_or, ap, subst, ◌∙◌, arith}
 use Rattle.std.specs.Prelude.{true, false, nat_lt, bit_and, bit_or, take, drop}
 use Rattle.snap_grid.specs.Columns.{GridValue, HaveSameRows, number, any_passes, clashes, drops}
-use Rattle.snap_grid.specs.inside.Masks.{mask_by, mask_below}
+use Rattle.snap_masks.specs.Masks.{mask_by, mask_below}
 use Rattle.snap_grid.specs.inside.Facing.{faces}
 use Rattle.std.proofs.lemmas.Bool.{lt-ltb}
-use Rattle.snap_grid.proofs.Bits.{mask_below_same}
+use Rattle.snap_masks.proofs.Bits.{mask_below_same}
 use Rattle.snap_grid.proofs.Passing.{row_at, row_count}
 use Rattle.snap_grid.proofs.Clashing.{drop_lane, few_ones, few_pairs, lane, with_more, with_none, with_nothing}
 use Rattle.snap_grid.proofs.grid.Grid.clashing.Goals as goal

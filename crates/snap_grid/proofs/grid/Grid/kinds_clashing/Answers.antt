@@ -9,11 +9,12 @@ use Rattle.snap_grid.specs.declared.kind.Kind.{Kind}
 use Rattle.snap_grid.specs.Columns.{GridValue, any_passes}
 use Rattle.snap_grid.specs.inside.Facing.{faces}
 use Rattle.snap_grid.specs.inside.Kinds.{AreKinds, sum_of_kinds}
-use Rattle.snap_grid.specs.inside.Masks.{mask_below}
+use Rattle.snap_masks.specs.Masks.{mask_below}
 use Rattle.std.proofs.lemmas.Nat.{mul-le}
 use Rattle.std.proofs.lemmas.Nat.Bits.{bit_at-zero}
-use Rattle.snap_grid.proofs.Bits.{mask_below_same, mask_from_bits, ones_below}
-use Rattle.snap_grid.proofs.Clashing.{mask_or, sum_small}
+use Rattle.snap_masks.proofs.Bits.{mask_below_same, mask_from_bits, ones_below}
+use Rattle.snap_masks.proofs.Bits.{mask_or}
+use Rattle.snap_grid.proofs.Clashing.{sum_small}
 use Rattle.snap_grid.proofs.Joining.{few_times}
 use Rattle.snap_grid.proofs.Kindred.{sum_told, tells, with_kinds}
 use Rattle.snap_grid.proofs.grid.Grid.kinds_clashing.Goals as goal

@@ -2,7 +2,7 @@ use Rattle.std.proofs.Common.{◌≡◌, ◌+◌, ◌*◌, take}
 use Rattle.std.specs.Prelude.{count_by}
 use Rattle.std.specs.List.{list_any, range_with_len}
 use Rattle.snap_grid.specs.inside.Kinds.{sum_of_kinds}
-use Rattle.snap_grid.specs.inside.Masks.{mask_below}
+use Rattle.snap_masks.specs.Masks.{mask_below}
 use Rattle.snap_grid.proofs.Kindred.{tells}
 use Rattle.snap_grid.proofs.grid.Grid.kinds_clashing.Given as goal
 

@@ -1,5 +1,0 @@
-use Rattle.std.proofs.Common.{rules}
-use Rattle.snap_grid.proofs.column.Column.by_rank.Goals as goal
-
-pub returns : goal.returns
-returns c = search rules

@@ -1,9 +1,0 @@
-use Rattle.std.proofs.Common.{◌≡◌, ◌<◌, ℕ, length, get_or}
-use Rattle.snap_grid.specs.inside.Ranked.{IsRank}
-use Rattle.snap_grid.proofs.ranked.ranks_of.Given as goal
-
-abbrev pub invariant-loop-i : goal.invariant-loop-i
-invariant-loop-i l = record {
-  size : length l.ranks.items ≡ l.i;
-  each : (a : ℕ) → a < l.i → IsRank l.distinct (get_or l.numbers a 0) (get_or l.ranks.items a 0);
-}

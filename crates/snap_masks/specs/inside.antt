@@ -1,0 +1,4 @@
+-- What only the proofs of this crate need: no clause that a caller reads cites it.
+pub mod Kept
+pub mod Ranked
+pub mod Tables
