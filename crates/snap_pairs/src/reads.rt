@@ -1,29 +1,23 @@
 //! The read faults of the pieces: none where the quick test passes, else by a grid of the views.
 ghost use Rattle.std.specs.Prelude.{◌≡◌, ◌<◌, ◌≤◌, ◌+◌, ◌↔◌, [], ℕ, length, get_or, IfOk, IfSome, IsSome};
 ghost use Rattle.snap_core.specs.Calls.{calls_of, views_of};
-ghost use Rattle.snap_views.specs.Chains.{AreViewSums, IsViewChain};
+ghost use Rattle.snap_views.specs.Chains.{IsViewChain};
 ghost use Rattle.snap_core.specs.Entries.{component_count};
 ghost use Rattle.snap_theory.specs.Faults.{read_faults};
 ghost use Rattle.snap_tally.specs.Grids.{AreColumnsOf};
-ghost use Rattle.snap_views.specs.Quick.{shown_sum};
-ghost use Rattle.snap_views.specs.Seen.{view_in};
 ghost use Rattle.snap_conditions.specs.Tally.{tally_of};
 ghost use Rattle.snap_views.specs.Seen.{views_between};
 ghost use Rattle.snap_pairs.specs.inside.Reads.{AreParts, IsGridFor, part_start};
 
-use rayon::prelude::*;
 use snap_conditions::{Tally, tally_without_read};
 use snap_core::COMPONENT_COUNT;
 use snap_grid::Column;
 use snap_index::Index;
 use snap_tally::{ViewGrid, columns_between, tally_by_grid};
 use snap_threads::{Cutting, each_job};
-use snap_views::{ViewChain, ViewOrder, view_order, view_sum};
+use snap_views::{ViewChain, ViewOrder, view_order, view_sums};
 use std::alloc::{AllocError, Global};
 use std::thread::Threads;
-
-// So many views are worth a thread of their own: the sums of fewer take less time than its start.
-const VIEWS_A_THREAD: usize = 4096;
 
 // The columns of so many components take less time than the start of a thread.
 const FEW_COMPONENTS: usize = 64;
@@ -39,7 +33,7 @@ pub(crate) fn grid_or_chain<'i, 'h, R: Threads + Sync>(
     ensures chain { IfOk result (λ found. IfSome found.1 (IsViewChain (calls_of index.entry.now))) }
     ensures found { IfOk result (λ found. IsSome found.1 ↔ (read_faults (calls_of index.entry.now) (views_of (calls_of index.entry.now)) ≡ [])) }
 {
-    let sums = view_sums(rt, alloc, index)?;
+    let sums = view_sums(alloc, index)?;
     match view_order(alloc, index, sums)? {
         ViewOrder::Faultless(chain) => Ok((None, Some(chain))),
         ViewOrder::Comparable(chain) => {
@@ -69,26 +63,6 @@ pub(crate) fn piece_tally(
         Some(grid) => tally_by_grid(alloc, grid, from, to),
         None => Ok(tally_without_read(index, from, to)),
     }
-}
-
-// The sums of the numbers that the completed views show, by call number.
-fn view_sums<R: Threads + Sync>(
-    rt: &R,
-    alloc: Global,
-    index: &Index<'_>,
-) -> Result<Vec<u64>, AllocError>
-    ensures { IfOk result (λ sums. AreViewSums (calls_of index.now) sums.items) }
-{
-    (0..index.view_count())
-        .into_par_iter()
-        .map(
-            |place: u32| -> u64
-                requires { place < length (views_of (calls_of index.now)) }
-                ensures { result ≡ shown_sum (view_in (calls_of index.entry.now) place) }
-            { view_sum(index, place) },
-        )
-        .with_min_len(VIEWS_A_THREAD)
-        .collect(rt, alloc)
 }
 
 // A column for each component that some completed view lists, made by the workers of the cutting, each its part of the components.
