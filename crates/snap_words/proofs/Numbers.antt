@@ -44,3 +44,8 @@ million_text = refl
 pub rounds_text : decimal 32768 ≡ codes "32768"
 unfolding digits
 rounds_text = refl
+
+-- a round more than the usual limit of events has room for
+pub round_more_text : decimal 2049 ≡ codes "2049"
+unfolding digits
+round_more_text = refl

@@ -186,6 +186,15 @@ pub record AsksRecordWithin (events : ℕ) (rows : List Row) (workers rounds : �
   pub scan_is : one_of (codes "scan") rows ≡ Some (flag_text flags.scan)
   pub stamped_is : one_of (codes "stamped") rows ≡ Some (flag_text flags.stamped)
 
+-- --rounds names more rounds than the limit of events has room for: that asks for no job
+pub record AsksTooManyRounds (rows : List Row) : Type 0 where
+  pub events : ℕ
+  pub rounds : ℕ
+  pub limit : AsksLimit events rows
+  pub rounds_are : one_of (codes "rounds") rows ≡ Some (decimal rounds)
+  pub is_number : rounds ≤ NUMBER_LIMIT
+  pub too_many : events < 4 * worker_limit * rounds
+
 -- the same where no limit of events is chosen
 abbrev pub AsksRecord : List Row → ℕ → ℕ → Flags → Type 0
 AsksRecord = AsksRecordWithin event_limit

@@ -3,7 +3,7 @@ ghost use Rattle.std.specs.Prelude.{◌≡◌, ℕ, Bool, List, Some, codes, IfS
 ghost use Rattle.clap.specs.Words.{Row, Text, found_of, rows_of, subcommand_rows_of};
 ghost use Rattle.snap_words.specs.Drawing.{AsksDrawWithin};
 ghost use Rattle.snap_words.specs.inside.Found.{FindsJob};
-ghost use Rattle.snap_words.specs.Jobs.{AsksCheck, AsksPictureWithin, AsksRecordWithin, Flags, IsCheckWith, IsDraw, IsExplain, IsInRange, IsRecord, IsShrink, LacksFollow};
+ghost use Rattle.snap_words.specs.Jobs.{AsksCheck, AsksPictureWithin, AsksRecordWithin, AsksTooManyRounds, Flags, IsCheckWith, IsDraw, IsExplain, IsInRange, IsRecord, IsShrink, LacksFollow};
 
 use crate::color::color_in;
 use crate::drawing::{Form, form_in};
@@ -72,6 +72,7 @@ fn check_in(matches: &ArgMatches<'_>) -> Option<Job>
 fn record_in(matches: &ArgMatches<'_>) -> Option<Job>
     ensures job { IfSome result IsInRange }
     ensures asked { (events workers rounds : ℕ) (flags : Flags) → AsksRecordWithin events (rows_of (found_of matches.now)) workers rounds flags → IsSomeAnd result (IsRecord workers rounds flags) }
+    ensures overfull { AsksTooManyRounds (rows_of (found_of matches.now)) → IsNone result }
 {
     let events = events_in(matches)?;
     let workers = number_in(matches, "workers")?;
@@ -129,6 +130,7 @@ pub(crate) fn job_in(matches: &ArgMatches<'_>) -> Option<Job>
     ensures job { IfSome result IsInRange }
     ensures asked { (command : Text) (rows : List Row) → subcommand_rows_of matches.now ≡ Some (command, rows) → FindsJob result command rows }
     ensures unfollowed { (rows : List Row) → subcommand_rows_of matches.now ≡ Some (codes "check", rows) → LacksFollow rows → IsNone result }
+    ensures overfull { (rows : List Row) → subcommand_rows_of matches.now ≡ Some (codes "record", rows) → AsksTooManyRounds rows → IsNone result }
 {
     let (name, inner) = matches.subcommand()?;
     if name == "check" {

@@ -2,7 +2,7 @@
 ghost use Rattle.std.specs.Prelude.{◌≡◌, ℕ, Bool, List, Option, Some, codes, IfOk, IsErr, MatchResult, map, string_bytes};
 ghost use Rattle.clap.specs.Words.{Row, Text, kind_of, subcommand_rows_of};
 ghost use Rattle.snap_words.specs.Drawing.{AsksDrawWithin};
-ghost use Rattle.snap_words.specs.Jobs.{AsksCheck, AsksPictureWithin, AsksRecordWithin, Flags, IsCheckWith, IsDraw, IsExplain, IsInRange, IsOn, IsRecord, IsShrink, LacksFollow};
+ghost use Rattle.snap_words.specs.Jobs.{AsksCheck, AsksPictureWithin, AsksRecordWithin, AsksTooManyRounds, Flags, IsCheckWith, IsDraw, IsExplain, IsInRange, IsOn, IsRecord, IsShrink, LacksFollow};
 ghost use Rattle.snap_words.specs.inside.Found.{FindsAsked};
 ghost use Rattle.snap_words.specs.Lines.{Means};
 ghost use Rattle.snap_words.specs.Sources.{AreSources, NamesSources};
@@ -124,6 +124,7 @@ fn asked_by(alloc: Global, matches: &ArgMatches<'_>) -> Result<Asked, JobFault>
     ensures job { IfOk result (λ asked. IsInRange asked.job) }
     ensures asked { (command : Text) (rows : List Row) → subcommand_rows_of matches.now ≡ Some (command, rows) → FindsAsked result command rows }
     ensures unfollowed { (rows : List Row) → subcommand_rows_of matches.now ≡ Some (codes "check", rows) → LacksFollow rows → IsErr result }
+    ensures overfull { (rows : List Row) → subcommand_rows_of matches.now ≡ Some (codes "record", rows) → AsksTooManyRounds rows → IsErr result }
 {
     match job_in(matches) {
         Some(job) => Ok(Asked {
@@ -158,6 +159,7 @@ pub fn job_of(alloc: Global, words: Vec<String>) -> Result<Asked, JobFault>
     ensures recording { (events workers rounds : ℕ) (flags : Flags) (files : List Text)
         → Means (map string_bytes words.items) (codes "record") (λ rows. AsksRecordWithin events rows workers rounds flags) files
         → MatchResult result (IsOn files (IsRecord workers rounds flags)) (λ fault. fault ≡ JobFault.Memory) }
+    ensures overfull { (files : List Text) → Means (map string_bytes words.items) (codes "record") AsksTooManyRounds files → IsErr result }
 {
     let command = program(alloc)?;
     match command.try_get_matches_from(words.as_slice()) {

@@ -2,7 +2,7 @@
 ghost use Rattle.std.specs.Prelude.{◌∷◌, [], Some, None, codes, false, true};
 ghost use Rattle.clap.specs.Words.{Text};
 ghost use Rattle.snap_words.specs.Drawing.{AsksDraw, AsksDrawWithin};
-ghost use Rattle.snap_words.specs.Jobs.{AsksCheck, AsksPicture, AsksPictureWithin, AsksRecord, AsksRecordWithin, LacksFollow, no_flags, no_options};
+ghost use Rattle.snap_words.specs.Jobs.{AsksCheck, AsksPicture, AsksPictureWithin, AsksRecord, AsksRecordWithin, AsksTooManyRounds, LacksFollow, no_flags, no_options};
 ghost use Rattle.snap_words.specs.Lines.{Means};
 ghost use Rattle.snap_words.specs.Sources.{NamesSources};
 ghost use Rattle.snap_words.specs.declared.color.Color.TheVariants.{Never};
@@ -46,7 +46,7 @@ pub fn picture_lines()
 {}
 
 /// What lines of `record` ask for: 2 workers and 16 rounds of views where nothing else is said, and fewer rounds where the limit of
-/// events allows no more.
+/// events allows no more. More rounds than that are refused where they are asked for.
 pub fn record_lines()
     ensures alone { (name : Text) → Means (name ∷ codes "record" ∷ []) (codes "record") (λ rows. AsksRecord rows 2 16 no_flags) [] }
     ensures judged { (name : Text) → Means (name ∷ codes "record" ∷ codes "--rounds" ∷ codes "5" ∷ codes "--judge" ∷ []) (codes "record") (λ rows. AsksRecord rows 2 5 (record no_flags { judge = true })) [] }
@@ -54,4 +54,5 @@ pub fn record_lines()
     ensures stamped { (name : Text) → Means (name ∷ codes "record" ∷ codes "--stamped" ∷ []) (codes "record") (λ rows. AsksRecord rows 2 16 (record no_flags { stamped = true })) [] }
     ensures events { (name : Text) → Means (name ∷ codes "record" ∷ codes "--events" ∷ codes "1048576" ∷ codes "--rounds" ∷ codes "32768" ∷ []) (codes "record") (λ rows. AsksRecordWithin 1048576 rows 2 32768 no_flags) [] }
     ensures few { (name : Text) → Means (name ∷ codes "record" ∷ codes "--events" ∷ codes "100" ∷ []) (codes "record") (λ rows. AsksRecordWithin 100 rows 2 3 no_flags) [] }
+    ensures overfull { (name : Text) → Means (name ∷ codes "record" ∷ codes "--rounds" ∷ codes "2049" ∷ []) (codes "record") AsksTooManyRounds [] }
 {}

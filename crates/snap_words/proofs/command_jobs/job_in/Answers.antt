@@ -1,7 +1,7 @@
 use Rattle.std.proofs.Common.{◌∙◌, List, codes, refl, subst, sym}
 use Rattle.clap.specs.Words.{Row}
 use Rattle.snap_words.specs.Drawing.{AsksDrawWithin}
-use Rattle.snap_words.specs.Jobs.{AsksCheck, AsksPictureWithin, AsksRecordWithin, LacksFollow}
+use Rattle.snap_words.specs.Jobs.{AsksCheck, AsksPictureWithin, AsksRecordWithin, AsksTooManyRounds, LacksFollow}
 use Rattle.snap_words.proofs.Finding.{command_found, has_name, lacks_name}
 use Rattle.snap_words.proofs.Rows.{none_found, rows_found}
 use Rattle.snap_words.proofs.command_jobs.job_in.Goals as goal
@@ -91,3 +91,26 @@ pub returns-else-eq-4-clause-unfollowed : goal.returns-else-eq-4-clause-unfollow
 returns-else-eq-4-clause-unfollowed c = λ rows named lacks.
     let is = command_found _ c.in_ok-name.name.now (codes "check") rows c.in_ok-name.ensures.name named in
     absurd (lacks_name _ (codes "check") c.if-eq.ensures refl (sym is))
+
+pub returns-then-eq-clause-overfull : goal.returns-then-eq-clause-overfull
+returns-then-eq-clause-overfull c = λ rows named asks.
+    let is = command_found _ c.in_ok-name.name.now (codes "record") rows c.in_ok-name.ensures.name named in
+    absurd (has_name _ _ (codes "record") c.if-eq.ensures refl (sym is))
+
+pub returns-then-eq-2-clause-overfull : goal.returns-then-eq-2-clause-overfull
+returns-then-eq-2-clause-overfull c = λ rows named asks.
+    let is = command_found _ c.in_ok-name.name.now (codes "record") rows c.in_ok-name.ensures.name named in
+    absurd (has_name _ _ (codes "record") c.if-eq-2.ensures refl (sym is))
+
+pub returns-then-eq-3-clause-overfull : goal.returns-then-eq-3-clause-overfull
+returns-then-eq-3-clause-overfull c = λ rows named asks.
+    let is = command_found _ c.in_ok-name.name.now (codes "record") rows c.in_ok-name.ensures.name named in
+    absurd (has_name _ _ (codes "record") c.if-eq-3.ensures refl (sym is))
+
+pub returns-then-eq-4-clause-overfull : goal.returns-then-eq-4-clause-overfull
+returns-then-eq-4-clause-overfull c = λ rows named asks.
+    let is = command_found _ c.in_ok-name.name.now (codes "record") rows c.in_ok-name.ensures.name named in
+    absurd (has_name _ _ (codes "record") c.if-eq-4.ensures refl (sym is))
+
+pub returns-else-eq-4-clause-overfull : goal.returns-else-eq-4-clause-overfull
+returns-else-eq-4-clause-overfull c = λ rows named asks. c.record_in.ensures.overfull (subst AsksTooManyRounds (sym (rows_found _ rows (codes "record") _ c.in_ok-name.ensures.rows named)) asks)

@@ -10,3 +10,6 @@ returns-in_ok-sources_named-in-Some-clause-asked c = λ command rows named. reco
 
 pub returns-in_ok-sources_named-in-Some-clause-unfollowed : goal.returns-in_ok-sources_named-in-Some-clause-unfollowed
 returns-in_ok-sources_named-in-Some-clause-unfollowed c = λ rows named lacks. sym (c.in-Some.ensures.unfollowed rows named lacks)
+
+pub returns-in_ok-sources_named-in-Some-clause-overfull : goal.returns-in_ok-sources_named-in-Some-clause-overfull
+returns-in_ok-sources_named-in-Some-clause-overfull c = λ rows named asks. sym (c.in-Some.ensures.overfull rows named asks)

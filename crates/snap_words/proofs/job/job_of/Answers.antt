@@ -58,3 +58,6 @@ returns-clause-sources c = λ list folder null files means. (c.asked_by.ensures.
 
 pub returns-clause-unfollowed : goal.returns-clause-unfollowed
 returns-clause-unfollowed c = λ files means. c.asked_by.ensures.unfollowed means.rows (found c _ means.rows_are) means.asks
+
+pub returns-clause-overfull : goal.returns-clause-overfull
+returns-clause-overfull c = λ files means. c.asked_by.ensures.overfull means.rows (found c _ means.rows_are) means.asks

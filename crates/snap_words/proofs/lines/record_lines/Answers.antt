@@ -1,8 +1,10 @@
-use Rattle.std.proofs.Common.{arith, refl, sym}
+use Rattle.std.proofs.Common.{Some, ap, arith, codes, refl, sym, ◌∷◌, []}
 use Rattle.std.proofs.lemmas.Bool.{false≢true}
 use Rattle.clap.proofs.OnLiterals.{clap_on_literals}
-use Rattle.snap_words.proofs.Meanings.{greatest_limit, small_limit, usual_limit, usual_record}
-use Rattle.snap_words.proofs.Numbers.{five_text, rounds_text}
+use Rattle.snap_words.proofs.Meanings.{greatest_limit, means, small_limit, usual_limit, usual_record}
+use Rattle.snap_words.proofs.Numbers.{five_text, round_more_text, rounds_text}
+use Rattle.snap_core.specs.Limits.{event_limit}
+use Rattle.snap_words.specs.Jobs.{AsksTooManyRounds}
 use Rattle.snap_words.proofs.lines.record_lines.Goals as goal
 
 pub returns-clause-alone : goal.returns-clause-alone
@@ -28,3 +30,14 @@ returns-clause-events c = λ name. usual_record _ _ _ _ refl refl (greatest_limi
 pub returns-clause-few : goal.returns-clause-few
 unfolding clap_on_literals
 returns-clause-few c = λ name. usual_record _ _ _ _ refl refl (small_limit _ refl) (omega arith, omega arith) (λ judged. absurd (false≢true judged)) refl refl refl refl refl refl refl
+
+pub returns-clause-overfull : goal.returns-clause-overfull
+unfolding clap_on_literals
+returns-clause-overfull c = λ name. means (name ∷ codes "record" ∷ codes "--rounds" ∷ codes "2049" ∷ []) (codes "record") AsksTooManyRounds [] refl refl (record {
+  events = event_limit;
+  rounds = 2049;
+  limit = usual_limit _ refl;
+  rounds_are = ap Some (sym round_more_text);
+  is_number = omega arith;
+  too_many = omega arith;
+}) refl
