@@ -1,9 +1,11 @@
 -- The workers of a recorder one by one: they start, run their scripts and give their desks back.
-use Rattle.std.proofs.Common.{◌≡◌, ℕ, zero, suc, ◌+◌, ◌<◌, ◌≤◌, ◌==◌, Bool, true, false, cond, Option, Some, List, [], ◌∷◌, ◌++◌, length, map, get_or, eq-eqb, sym, refl, ap, ◌∙◌, subst, inl, inr, ⊎_elim, arith, length-append}
-use Rattle.std.specs.Prelude.{find, IsSome}
+use Rattle.std.proofs.Common.{◌≡◌, ℕ, zero, suc, ◌+◌, ◌<◌, ◌≤◌, ◌==◌, Bool, true, false, cond, Option, Some, Result, Ok, Err, List, [], ◌∷◌, ◌++◌, length, map, get_or, eq-eqb, sym, refl, ap, ◌∙◌, subst, inl, inr, ⊎_elim, arith, length-append}
+use Rattle.std.specs.Prelude.{find, IfOk, IsErr, IsSome, MatchResult}
+use Rattle.std.specs.declared.alloc.AllocError.{AllocError}
 use Rattle.std.specs.declared.alloc.Global.{Global}
 use Rattle.std.proofs.lemmas.List.{get_or_append_left, get_or_push}
 use Rattle.std.proofs.lemmas.Bool.Decides.{eqb_tells}
+use Rattle.std.proofs.lemmas.Result.{IfOk-from_err, IfOk-weaker}
 use Rattle.crossbeam_queue.specs.SegTies.{SegId}
 use Rattle.snap_core.specs.Sums.{total}
 use Rattle.snap_account.specs.declared.account.Account.{Account}
@@ -68,6 +70,12 @@ pub run_push : (r : Recorder) (scripts : List (List Step)) (rans : List Ran) (x 
 run_push r scripts rans x d old new at =
     each_push (λ k y. HasRun r y.worker.desk.desk (get_or scripts y.worker.desk.desk []) y × (y.worker.desk.desk + k + 1 ≡ length scripts)) rans x old
     (subst (λ z. HasRun r z (get_or scripts z []) x) (sym new.desk) new, omega (arith, at, new.desk))
+
+-- what holds of the workers that ran, if it holds of those of other threads with one behind them
+pub one_behind : {V W : Type 0} (others_of : V → List Ran) (all_of : W → List Ran) (P : List Ran → Type 0) (own : Ran) (others : Result V AllocError) (result : Result W AllocError) → IfOk others (λ v. P (others_of v ++ own ∷ []))
+    → MatchResult others (λ v. IfOk result (λ w. all_of w ≡ others_of v ++ own ∷ [])) (λ _. IsErr result) → IfOk result (λ w. P (all_of w))
+one_behind others_of all_of P own (Ok v) result h e = IfOk-weaker result _ _ (λ w is. subst P (sym is) h) e
+one_behind others_of all_of P own (Err error) result h e = IfOk-from_err result _ e
 
 pub run_last : (r : Recorder) (scripts : List (List Step)) (rans rest : List Ran) (x : Ran) → HaveRun r scripts rans → rans ≡ rest ++ x ∷ []
     → HasRun r x.worker.desk.desk (get_or scripts x.worker.desk.desk []) x × (x.worker.desk.desk + length rest + 1 ≡ length scripts)

@@ -1,5 +1,5 @@
 //! A run of a plan on a new board, and the history that it leaves.
-ghost use Rattle.std.specs.Prelude.{◌≡◌, ◌*◌, ◌≤◌, [], IfOk, OnOk, length, true, ◌<◌, All, slice_index_or};
+ghost use Rattle.std.specs.Prelude.{◌≡◌, ◌*◌, ◌≤◌, [], IfOk, OnOk, length, true, ◌<◌, ◌∷◌, ◌++◌, All, IsErr, MatchResult, Ok, slice_index_or};
 ghost use Rattle.std.specs.List.Sorted.{IsStrictlyIncreasing};
 ghost use Rattle.snap_core.specs.Events.{event_cap};
 ghost use Rattle.snap_core.specs.Calls.{calls_of};
@@ -11,7 +11,8 @@ ghost use Rattle.snap_record.specs.Plans.{HasScripts, HasWholeScripts, HasNoScan
 ghost use Rattle.snap_core.specs.Orders.{IsAtomic};
 ghost use Rattle.snap_record.specs.Recording.{ArePlaces, AreStamped};
 ghost use Rattle.snap_record.specs.inside.Recording.{DidScripts};
-ghost use Rattle.snap_record.specs.Relays.{IsSenderOf, IsTakerOf};
+ghost use Rattle.snap_account.specs.Rule.{newcomers};
+ghost use Rattle.snap_record.specs.Relays.{AreNew, IsSenderOf, IsTakerOf};
 ghost use Rattle.snap_record.specs.inside.Workers.{IsWorkerOf, IsUnused, AreUnused, HasRun, HaveRun, HaveClosed, IsTakenOf};
 
 use crate::plan::Plan;
@@ -53,6 +54,30 @@ impl From<AllocError> for RecordRefusal {
     }
 }
 
+// A worker for each sender, the last sender's first, each at the highest desk that is in.
+fn workers_of(
+    alloc: Global,
+    recorder: &Recorder,
+    gathered: &mut Gathered,
+    mut senders: Vec<Sender>,
+) -> Result<Vec<Worker>, AllocError>
+    requires gathered { IsGatheredOf recorder.now.board gathered.old }
+    requires rest { accounts gathered.old ≡ newcomers (length senders.items) }
+    requires senders { AreNew recorder.now.relay.queue (length senders.items) senders.items }
+    ensures gathered { OnOk result (IsGatheredOf recorder.now.board gathered.new × (accounts gathered.new ≡ [])) }
+    ensures count { IfOk result (λ all. length all.items ≡ length senders.items) }
+    ensures unused { IfOk result (λ all. AreUnused recorder.now (length senders.items) all.items) }
+{
+    let mut all = Vec::new(alloc);
+    'places: while let Some(sender) = senders.pop() {
+        let Some(desk) = recorder.board.take(alloc, gathered)? else {
+            unreachable!()
+        };
+        all.push(Worker { desk, sender })?;
+    }
+    Ok(all)
+}
+
 // A board with pauses and a relay for so many workers, the board's gathered desks, which are none, a worker for each desk,
 // the highest first, and the relay's taker.
 fn start_workers(
@@ -70,18 +95,12 @@ fn start_workers(
     let Ok((board, mut gathered)) = Board::open(alloc, workers) else {
         return Err(AllocError);
     };
-    let (relay, mut senders, taker) = Relay::start(alloc, workers)?;
+    let (relay, senders, taker) = Relay::start(alloc, workers)?;
     let recorder = Recorder {
         board: board.with_pauses(),
         relay,
     };
-    let mut all = Vec::new(alloc);
-    'places: while let Some(sender) = senders.pop() {
-        let Some(desk) = recorder.board.take(alloc, &mut gathered)? else {
-            unreachable!()
-        };
-        all.push(Worker { desk, sender })?;
-    }
+    let all = workers_of(alloc, &recorder, &mut gathered, senders)?;
     Ok((recorder, gathered, all, taker))
 }
 
@@ -104,6 +123,20 @@ fn run_first<R: Wait, G: Gate>(
     let ran = run_script(rt, alloc, recorder, plan, worker, gate);
     let taken = take_some(rt, alloc, &recorder.relay, taker);
     (ran, taken)
+}
+
+// The workers that ran, one behind the others, and what was taken, unless memory was refused.
+fn all_done(
+    others: Result<Vec<Ran>, AllocError>,
+    own: Ran,
+    taken: Result<Taken, AllocError>,
+) -> Result<(Vec<Ran>, Taken), AllocError>
+    ensures ran { MatchResult others (λ rest. IfOk result (λ r. r.0.items ≡ rest.items ++ own ∷ [])) (λ _. IsErr result) }
+    ensures taken { IfOk result (λ r. taken ≡ Ok r.1) }
+{
+    let mut all = others?;
+    all.push(own)?;
+    Ok((all, taken?))
 }
 
 // Runs the scripts of all workers at the same time, that of worker 0 on the calling thread, which then takes records until
@@ -143,9 +176,7 @@ fn run_all<R: Threads + Wait + Sync, G: Gate>(
             ensures taken { IfOk result.1 (IsTakenOf recorder.entry.now.relay) }
         { run_first(rt, alloc, recorder, plan, first, taker, gate) },
     );
-    let mut all = others?;
-    all.push(own)?;
-    Ok((all, taken?))
+    all_done(others, own, taken)
 }
 
 // All desks come in, and the board is closed. Gives the relay and its senders, the lowest first, and how many scans have
