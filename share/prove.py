@@ -34,10 +34,11 @@ UNKNOWN = (60, 1500)
 # Further jobs serve crates over so few libraries. Over many, each job takes as long to load them as it then spares.
 FEW_BELOW = 1
 MOST_JOBS = 3
-# How many lines are told of what a failed check said: first those that name what was wrong. How those begin that only count.
+# How many lines are told of what a failed check said: first those that name what was wrong. Those that only count, or say what is
+# proved, are left out.
 TOLD = 20
 WRONG = re.compile(r"\berror\b|not proved")
-COUNTS = ("statements ", "crate ", "rattle build: ")
+LEFT_OUT = re.compile(r"statements |crate |rattle build: |.*: proved\b")
 # How long standard error is silent at most, in seconds, where it is no terminal.
 SILENCE = 60
 
@@ -141,7 +142,7 @@ class Check:
         self.most = used.ru_maxrss // 1024
         with self.log:
             self.log.seek(0)
-            said = [line for line in self.log.read().splitlines() if line and not line.startswith(COUNTS)]
+            said = [line for line in self.log.read().splitlines() if line and not LEFT_OUT.match(line)]
         if self.run.returncode:
             said.sort(key=lambda line: not WRONG.search(line))
             return "\n".join([f"{self.crate.name} was not proved", *said[:TOLD]])
