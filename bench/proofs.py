@@ -1,5 +1,5 @@
 #!/usr/bin/env python3
-"""Seconds of the proofs by crate and by function, from the times of the files that the prover wrote.
+"""Seconds of the proofs by crate, by function and by part of a proof, from the times of the files that the prover wrote.
 
 usage: proofs.py [MOST]        (after a first `./build --keep`; MOST functions are told, 30 where it is not said)
 
@@ -14,6 +14,14 @@ import sys
 TOP = os.path.dirname(os.path.dirname(os.path.abspath(__file__)))
 # A longer span is no proof: the check was run again later.
 PAUSE = 120
+# The parts of a proof, each with what the names of its files have; the first that fits counts.
+PARTS = [
+    ("each value that a function owns, followed to each end", re.compile(r"\.Lts(-|\.|$)")),
+    ("goals, searched for or answered", re.compile(r"\.(Proof|Answers|Invariants|Goals)(-[\w-]+)?(\.decls)?$")),
+    ("what the code means, and how its parts are put together", re.compile(r"\.(Tie|TheLink|Code|Mir|Layout|Kinds|Carried|Reads|Met|Named|Given|Statement|Paired|Symbol|Key|View)")),
+    ("definitions and contracts", re.compile("-specs")),
+    ("lemmas", re.compile("")),
+]
 # The last words of a file's name that tell the part of a function's proof and not the function.
 PART = re.compile(r"[A-Z]\w*$|decls$|\w*-\w*$")
 
@@ -36,17 +44,18 @@ def function_of(name):
 
 def main(words):
     most = int(words[0]) if words else 30
-    crates, functions = collections.Counter(), collections.Counter()
+    crates, functions, parts = collections.Counter(), collections.Counter(), collections.Counter()
     for crate in sorted(os.listdir(f"{TOP}/crates")):
         files = files_of(crate)
         for (before, _), (after, name) in zip(files, files[1:]):
             if after - before < PAUSE:
                 crates[crate] += after - before
                 functions[f"{crate} {function_of(name)}"] += after - before
+                parts[next(part for part, has in PARTS if has.search(name))] += after - before
     if not crates:
         print("nothing is kept here: run ./build --keep first", file=sys.stderr)
         return 1
-    for title, counts in (("crate", crates), ("function", functions)):
+    for title, counts in (("crate", crates), ("function", functions), ("part of a proof", parts)):
         print(f"| seconds | {title} |\n|---|---|")
         for name, seconds in counts.most_common(most):
             print(f"| {seconds:.0f} | {name} |")

@@ -115,6 +115,12 @@ def link(program):
     return ran.stdout + ran.stderr if ran.returncode else None
 
 
+def told(said):
+    """The lines that are told of what a failed check said, first those that name what was wrong."""
+    lines = [line for line in said.splitlines() if line and not LEFT_OUT.match(line)]
+    return sorted(lines, key=lambda line: not WRONG.search(line))[:TOLD]
+
+
 class Check:
     """A run of the prover over one crate."""
 
@@ -142,10 +148,9 @@ class Check:
         self.most = used.ru_maxrss // 1024
         with self.log:
             self.log.seek(0)
-            said = [line for line in self.log.read().splitlines() if line and not LEFT_OUT.match(line)]
+            said = self.log.read()
         if self.run.returncode:
-            said.sort(key=lambda line: not WRONG.search(line))
-            return "\n".join([f"{self.crate.name} was not proved", *said[:TOLD]])
+            return "\n".join([f"{self.crate.name} was not proved", *told(said)])
         sum_of.cache_clear()
         if self.sum != sum_of(self.crate):
             return f"{self.crate.name} was changed while it was proved"

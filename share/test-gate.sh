@@ -143,5 +143,25 @@ else
   cat "$room/out"
 fi
 
+# A check that fails tells the goals first, and nothing that is proved.
+if python3 -B - "$top/share" >"$room/out" 2>&1 <<'PY'
+import sys
+
+sys.path.insert(0, sys.argv[1])
+import prove
+
+said = "fn a::b: proved\nfn a::c: proved, may wait\nstatements std: 1\nnote: a help\nfn a::d: not proved\n./proofs/d: error: a goal\n"
+told = prove.told(said)
+print(told)
+sys.exit(told != ["fn a::d: not proved", "./proofs/d: error: a goal", "note: a help"])
+PY
+then
+  passed=$((passed + 1))
+else
+  failed=$((failed + 1))
+  echo "gate: failed: what is told of a failed check"
+  cat "$room/out"
+fi
+
 echo "$passed passed, $failed failed"
 [ "$failed" = 0 ]
