@@ -1,7 +1,7 @@
 //! What a running program keeps of a desk.
 /// What the running program keeps of a desk.
 #[derive(Clone, Copy, Debug)]
-pub struct DeskState {
+pub(crate) struct DeskState {
     /// How many ticks it drew.
     pub ticks: u32,
     /// How often it stored, which is the number of its last store.

@@ -7,7 +7,7 @@ use csv::ByteRecord;
 use snap_rows::{are_header, are_stamped_header};
 
 /// The fields of a record that has four.
-pub fn four_fields(row: &ByteRecord) -> Option<(&[u8], &[u8], &[u8], &[u8])>
+pub(crate) fn four_fields(row: &ByteRecord) -> Option<(&[u8], &[u8], &[u8], &[u8])>
     ensures { MatchOption result (length (fields_of row.now) ≢ 4) (λ x. fields_of row.now ≡ x.0.now ∷ x.1.now ∷ x.2.now ∷ x.3.now ∷ []) }
 {
     if row.len() != 4 {
@@ -17,7 +17,7 @@ pub fn four_fields(row: &ByteRecord) -> Option<(&[u8], &[u8], &[u8], &[u8])>
 }
 
 /// The fields of a record that has five.
-pub fn five_fields(row: &ByteRecord) -> Option<(&[u8], &[u8], &[u8], &[u8], &[u8])>
+pub(crate) fn five_fields(row: &ByteRecord) -> Option<(&[u8], &[u8], &[u8], &[u8], &[u8])>
     ensures { MatchOption result (length (fields_of row.now) ≢ 5) (λ x. fields_of row.now ≡ x.0.now ∷ x.1.now ∷ x.2.now ∷ x.3.now ∷ x.4.now ∷ []) }
 {
     if row.len() != 5 {
@@ -33,7 +33,7 @@ pub fn five_fields(row: &ByteRecord) -> Option<(&[u8], &[u8], &[u8], &[u8], &[u8
 }
 
 /// Whether a record is the header.
-pub fn is_header(row: &ByteRecord) -> bool
+pub(crate) fn is_header(row: &ByteRecord) -> bool
     ensures { result ≡ is_header_row (fields_of row.now) }
 {
     match four_fields(row) {
@@ -43,7 +43,7 @@ pub fn is_header(row: &ByteRecord) -> bool
 }
 
 /// Whether a record is the header of a text whose records have stamps.
-pub fn is_stamped_header(row: &ByteRecord) -> bool
+pub(crate) fn is_stamped_header(row: &ByteRecord) -> bool
     ensures { result ≡ is_stamped_header_row (fields_of row.now) }
 {
     match five_fields(row) {

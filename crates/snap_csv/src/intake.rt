@@ -86,7 +86,7 @@ fn fill<R: Read>(
 
 /// Takes all that a reader has left into a room, where that is within the limit, and tells whether it is plain. What the room
 /// had is then lost.
-pub fn take_in<R: Read>(
+pub(crate) fn take_in<R: Read>(
     alloc: Global,
     reader: &mut Counted<R>,
     room: &mut Vec<u8>,

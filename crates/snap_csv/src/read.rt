@@ -48,7 +48,7 @@ fn take_row(
 /// The history of a text, or its first fault; and the numbers of its events' records where these have stamps. Records
 /// without stamps stand one after the other, and their numbers are not kept. A text that is known to be plain may be cut at
 /// its marks.
-pub fn numbered_history(
+pub(crate) fn numbered_history(
     alloc: Global,
     text: &[u8],
     plain: bool,

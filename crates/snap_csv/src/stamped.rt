@@ -57,7 +57,7 @@ fn read_stamped(
 
 /// The history of the records that a reader has left, each with a stamp, and the number of each event's record; or the
 /// first fault.
-pub fn stamped_history(
+pub(crate) fn stamped_history(
     alloc: Global,
     reader: &mut Reader<&[u8]>,
     row: &mut ByteRecord,

@@ -4,10 +4,10 @@ use snap_threads::Cutting;
 use std::collections::LinkedList;
 
 /// What one seat knows: the numbers that each of its claims drew. No value of it is made.
-pub type Hand = LinkedList<LinkedList<u64>>;
+pub(crate) type Hand = LinkedList<LinkedList<u64>>;
 
 /// The rule of the counter, which holds between any two steps.
-pub struct Draws;
+pub(crate) struct Draws;
 
 impl TableRule<(), Hand, Cutting> for Draws {
     ghost use Rattle.snap_pairs.specs.inside.Draws.{IsDrawn, empties};
@@ -18,7 +18,7 @@ impl TableRule<(), Hand, Cutting> for Draws {
 }
 
 /// One claim draws the number that it finds in the counter.
-pub struct Draw;
+pub(crate) struct Draw;
 
 impl Play<(), Hand> for Draw {
     ghost use Rattle.snap_pairs.specs.inside.Draws.{DrawsFound};
@@ -27,7 +27,7 @@ impl Play<(), Hand> for Draw {
 }
 
 /// One claim is cut off from those that were not dealt yet.
-pub struct Deal;
+pub(crate) struct Deal;
 
 impl Split<Hand> for Deal {
     ghost use Rattle.snap_pairs.specs.inside.Draws.{but_first, only_first};
@@ -38,7 +38,7 @@ impl Split<Hand> for Deal {
 }
 
 /// The claims of two seats are put together, each still by itself.
-pub struct Collect;
+pub(crate) struct Collect;
 
 impl Join<Hand> for Collect {
     ghost use Rattle.std.specs.Prelude.{◌++◌, []};

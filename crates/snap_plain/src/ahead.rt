@@ -182,7 +182,7 @@ fn take_all(history: &mut LimitedHistory, events: Vec<Event>) -> Result<(), Read
 
 /// The history of what was read ahead of some lines, as far as each piece begins where the one before it ends, and the lines behind
 /// these; or the first fault.
-pub fn take_ahead<'t>(
+pub(crate) fn take_ahead<'t>(
     alloc: Global,
     lines: &'t [u8],
     ahead: Vec<Ahead<'t>>,

@@ -5,13 +5,13 @@ use snap_board::Record;
 use std::collections::LinkedList;
 
 /// A sender that was taken in again: its place, and what it sent. No value of it is made.
-pub struct Ended {
+pub(crate) struct Ended {
     pub place: u64,
     pub sent: LinkedList<Record>,
 }
 
 /// What a pass knows. No value of it is made.
-pub enum Role {
+pub(crate) enum Role {
     /// A sender: its place, and what it sent.
     Sends(u64, LinkedList<Record>),
     /// The taker: what it took, how many senders it made, and those that it took in again.
@@ -21,7 +21,7 @@ pub enum Role {
 }
 
 /// What holds between any two steps on the queue.
-pub struct InOrder;
+pub(crate) struct InOrder;
 
 impl Protocol<Record, Role> for InOrder {
     ghost use Rattle.snap_record.specs.inside.Delivery.{Delivers, new_taker};
@@ -32,7 +32,7 @@ impl Protocol<Record, Role> for InOrder {
 }
 
 /// The taker makes the sender of the next place.
-pub struct MakeSender;
+pub(crate) struct MakeSender;
 
 impl Split<Role> for MakeSender {
     ghost use Rattle.snap_record.specs.inside.Delivery.{one_made, next_sender};
@@ -43,7 +43,7 @@ impl Split<Role> for MakeSender {
 }
 
 /// The taker takes a sender in again.
-pub struct TakeIn;
+pub(crate) struct TakeIn;
 
 impl Join<Role> for TakeIn {
     ghost use Rattle.snap_record.specs.inside.Delivery.{taken_in};
@@ -55,7 +55,7 @@ impl Join<Role> for TakeIn {
 }
 
 /// A sender's record joins at the back.
-pub struct PushRecord;
+pub(crate) struct PushRecord;
 
 impl Outcome<Record, Role> for PushRecord {
     ghost use Rattle.std.specs.Prelude.{◌≡◌};
@@ -65,7 +65,7 @@ impl Outcome<Record, Role> for PushRecord {
 }
 
 /// The record at the front leaves to the taker.
-pub struct PopRecord;
+pub(crate) struct PopRecord;
 
 impl Outcome<Record, Role> for PopRecord {
     ghost use Rattle.std.specs.Prelude.{◌≡◌};
@@ -81,7 +81,7 @@ impl Lesson<Record, Role> for PopRecord {
 }
 
 /// The taker learns what stands in the queue, beside what it took and what the senders sent.
-pub struct SumUp;
+pub(crate) struct SumUp;
 
 impl Lesson<Record, Role> for SumUp {
     ghost use Rattle.snap_record.specs.inside.Delivery.{AddsUp};
@@ -89,6 +89,6 @@ impl Lesson<Record, Role> for SumUp {
     ghost fact = { AddsUp };
 }
 
-pub type Queue = RuledSegQueue<Record, Role, InOrder>;
+pub(crate) type Queue = RuledSegQueue<Record, Role, InOrder>;
 
-pub type Pass = SegPass<Record, Role>;
+pub(crate) type Pass = SegPass<Record, Role>;

@@ -12,7 +12,7 @@ use std::alloc::{AllocError, Global};
 use std::collections::BTreeSet;
 
 /// Sorts events by their stamps.
-pub fn sort_by_stamp(stamped: &mut Vec<Stamped>)
+pub(crate) fn sort_by_stamp(stamped: &mut Vec<Stamped>)
     ensures same { IsPermutation stamped.old.items stamped.new.items }
     ensures rising { IsNonDecreasingBy (λ (x : Stamped). x.at) stamped.new.items }
 {
@@ -36,7 +36,7 @@ fn sort_by_place(stamped: &mut Vec<Stamped>)
 }
 
 /// Whether each stamp is greater than the one before it.
-pub fn are_rising(stamped: &[Stamped]) -> bool
+pub(crate) fn are_rising(stamped: &[Stamped]) -> bool
     ensures { IsTrue result ↔ IsStrictlyIncreasing (stamps_of stamped.now) }
 {
     for i in 1..stamped.len() {
@@ -48,7 +48,7 @@ pub fn are_rising(stamped: &[Stamped]) -> bool
 }
 
 /// The number of the first record whose stamp an earlier one has, by the events in any order.
-pub fn repeated_place(alloc: Global, mut stamped: Vec<Stamped>) -> Result<u32, AllocError>
+pub(crate) fn repeated_place(alloc: Global, mut stamped: Vec<Stamped>) -> Result<u32, AllocError>
     requires { ¬ IsDistinct (λ (a : ℕ) (b : ℕ). a == b) (stamps_of stamped.items) }
     ensures { IfOk result (λ place. (xs : List Stamped) → IsPermutation xs stamped.items → IsStrictlyIncreasing (places_of xs) → FirstRepeat xs place) }
 {

@@ -53,7 +53,7 @@ pub fn take_event(history: &mut LimitedHistory, place: u32, event: Event) -> Res
 }
 
 /// Adds an event to a history.
-pub fn push_event(history: &mut History, place: u32, event: Event) -> Result<(), ReadRefusal>
+pub(crate) fn push_event(history: &mut History, place: u32, event: Event) -> Result<(), ReadRefusal>
     ensures { TakesEvent place history.old history.new event result }
 {
     if let Err((_, refusal)) = history.push(event) {

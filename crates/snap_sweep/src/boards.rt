@@ -63,7 +63,7 @@ fn opened(alloc: Global) -> Result<(Board, Gathered, Desk), Fault>
 
 /// The first desk stores and collects. After a refusal the next `take` gives the same desk, and the next collect has the
 /// stamps that the refused one would have had.
-pub fn collect(alloc: Global) -> Result<(), Fault> {
+pub(crate) fn collect(alloc: Global) -> Result<(), Fault> {
     let (board, gathered, mut desk) = opened(alloc)?;
     store_and_collect(alloc, &board, &mut desk)?;
     let gathered = board.give_back(gathered, desk);
@@ -89,7 +89,7 @@ fn store_and_scan(alloc: Global, board: &Board, desk: &mut Desk) -> Result<(), F
 }
 
 /// The first desk stores and scans. After a refusal the next scan has the stamps that the refused one would have had.
-pub fn scan(alloc: Global) -> Result<(), Fault> {
+pub(crate) fn scan(alloc: Global) -> Result<(), Fault> {
     let (board, _gathered, mut desk) = opened(alloc)?;
     store_and_scan(alloc, &board, &mut desk)
 }

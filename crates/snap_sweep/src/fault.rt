@@ -7,7 +7,7 @@ use std::alloc::{AllocError, AllocFailed};
 
 /// Why a case has not its whole answer.
 #[derive(Clone, Copy, PartialEq, Eq, Debug)]
-pub enum Fault {
+pub(crate) enum Fault {
     /// Memory was refused.
     Memory,
     /// An answer is another than the worked one, or a refusal changed what it was to leave.
@@ -15,7 +15,7 @@ pub enum Fault {
 }
 
 /// Something is as it is to be.
-pub fn expect(holds: bool) -> Result<(), Fault> {
+pub(crate) fn expect(holds: bool) -> Result<(), Fault> {
     if holds { Ok(()) } else { Err(Fault::Wrong) }
 }
 

@@ -71,7 +71,7 @@ const LAST: Entry = Entry {
 };
 
 /// Events of many processes, the last process and the last component among them, and one that is refused.
-pub fn push(alloc: Global) -> Result<(), Fault> {
+pub(crate) fn push(alloc: Global) -> Result<(), Fault> {
     let mut history = History::new(alloc);
     push_begins(&mut history)?;
     push_end(alloc, &mut history)?;
@@ -80,7 +80,7 @@ pub fn push(alloc: Global) -> Result<(), Fault> {
 }
 
 /// Of two pending updates one is shown by the view.
-pub fn index(alloc: Global) -> Result<(), Fault> {
+pub(crate) fn index(alloc: Global) -> Result<(), Fault> {
     let history = history_of(alloc, SEEN_PENDING)?;
     let index = Index::build(alloc, &history)?;
     expect(index.call_count() == 3 && index.pending_count() == 2 && index.view_count() == 1)?;
@@ -119,7 +119,7 @@ fn expect_order(alloc: Global, index: &Index<'_>) -> Result<(), Fault> {
 }
 
 /// The update that was shown and then the view are a legal order, and the one that is printed.
-pub fn order(alloc: Global) -> Result<(), Fault> {
+pub(crate) fn order(alloc: Global) -> Result<(), Fault> {
     let history = history_of(alloc, SEEN_PENDING)?;
     let index = Index::build(alloc, &history)?;
     expect_order(alloc, &index)
@@ -152,7 +152,7 @@ fn expect_read_faults<R: Threads + Sync>(
 }
 
 /// Two views disagree, and as many workers as there may be see it.
-pub fn tally_of_pieces<R: Threads + Sync>(rt: &R, alloc: Global) -> Result<(), Fault> {
+pub(crate) fn tally_of_pieces<R: Threads + Sync>(rt: &R, alloc: Global) -> Result<(), Fault> {
     let Ok(cutting) = Cutting::new(PIECE_LIMIT, WORKER_LIMIT) else {
         return Err(Fault::Wrong);
     };
@@ -160,7 +160,7 @@ pub fn tally_of_pieces<R: Threads + Sync>(rt: &R, alloc: Global) -> Result<(), F
 }
 
 /// Four views disagree about components far from one another, whose numbers several threads take up.
-pub fn tally_of_parts<R: Threads + Sync>(rt: &R, alloc: Global) -> Result<(), Fault> {
+pub(crate) fn tally_of_parts<R: Threads + Sync>(rt: &R, alloc: Global) -> Result<(), Fault> {
     expect_read_faults(rt, alloc, FOUR_WAYS, Cutting::usual(), 12)
 }
 
@@ -197,7 +197,7 @@ fn expect_tally_and_chain<R: Threads + Sync>(
 }
 
 /// Tallies by two workers, with a chain where there is no read fault.
-pub fn tallies_and_chains<R: Threads + Sync>(rt: &R, alloc: Global) -> Result<(), Fault> {
+pub(crate) fn tallies_and_chains<R: Threads + Sync>(rt: &R, alloc: Global) -> Result<(), Fault> {
     expect_tally_and_chain(rt, alloc, ATOMIC_RUN, 0, true)?;
     expect_tally_and_chain(rt, alloc, CROSSED_VIEWS, 2, false)
 }
@@ -214,7 +214,7 @@ fn draw_three(counter: &Claims, first: &mut Claim, second: &mut Claim) -> Result
 }
 
 /// Of three pieces the first claim draws two, and both claims close the counter.
-pub fn claims(alloc: Global) -> Result<(), Fault> {
+pub(crate) fn claims(alloc: Global) -> Result<(), Fault> {
     let Ok(cutting) = Cutting::new(3, 2) else {
         return Err(Fault::Wrong);
     };

@@ -65,7 +65,7 @@ fn start_two(alloc: Global) -> Result<(Relay, Sender, Sender, Taker), Fault>
 }
 
 /// Records of two senders come in the order in which they were sent.
-pub fn relay<R: Wait>(rt: &R, alloc: Global) -> Result<(), Fault> {
+pub(crate) fn relay<R: Wait>(rt: &R, alloc: Global) -> Result<(), Fault> {
     let (relay, mut zero, mut one, mut taker) = start_two(alloc)?;
     expect(relay.next(rt, &mut taker).is_none())?;
     send(rt, alloc, &relay, &mut one, 1)?;
@@ -86,7 +86,7 @@ fn expect_rounds(recording: &Recording, has_scans: bool) -> Result<(), Fault> {
 
 /// Two workers in three rounds of a store and a view each make 24 events with as many stamps, and two fewer for each scan
 /// that was interfered with.
-pub fn recording<R: Threads + Wait + Sync>(
+pub(crate) fn recording<R: Threads + Wait + Sync>(
     rt: &R,
     alloc: Global,
     has_scans: bool,

@@ -52,7 +52,7 @@ fn expect_read(alloc: Global, text: &[u8]) -> Result<(), Fault> {
 }
 
 /// A text of each version is read.
-pub fn read(alloc: Global) -> Result<(), Fault> {
+pub(crate) fn read(alloc: Global) -> Result<(), Fault> {
     expect_read(alloc, VIEW_BESIDE_UPDATE_TEXT)?;
     expect_read(alloc, VIEW_BESIDE_UPDATE_STAMPED)
 }
@@ -65,13 +65,13 @@ fn expect_records(alloc: Global, text: &[u8]) -> Result<(), Fault> {
 }
 
 /// A text of each version is read with the numbers of its records.
-pub fn read_with_records(alloc: Global) -> Result<(), Fault> {
+pub(crate) fn read_with_records(alloc: Global) -> Result<(), Fault> {
     expect_records(alloc, VIEW_BESIDE_UPDATE_TEXT)?;
     expect_records(alloc, VIEW_BESIDE_UPDATE_STAMPED)
 }
 
 /// The last record of a text has four fields, and there is none behind it.
-pub fn record(alloc: Global) -> Result<(), Fault> {
+pub(crate) fn record(alloc: Global) -> Result<(), Fault> {
     expect(record_of(alloc, VIEW_BESIDE_UPDATE_TEXT, 6)?.is_none())?;
     match record_of(alloc, VIEW_BESIDE_UPDATE_TEXT, 5)? {
         Some(fields) => expect(fields.len() == 4 && fields[0].as_slice() == b"end".as_slice()),
@@ -95,7 +95,7 @@ fn expect_read_in_memory(alloc: Global, text: &[u8]) -> Result<(), Fault> {
 }
 
 /// A text of each version is read from memory, and from a reader into a vector.
-pub fn read_in_memory(alloc: Global) -> Result<(), Fault> {
+pub(crate) fn read_in_memory(alloc: Global) -> Result<(), Fault> {
     expect_read_in_memory(alloc, VIEW_BESIDE_UPDATE_TEXT)?;
     expect_read_in_memory(alloc, VIEW_BESIDE_UPDATE_STAMPED)
 }
@@ -131,13 +131,13 @@ fn expect_text(alloc: Global, history: &History, text: &[u8]) -> Result<(), Faul
 }
 
 /// A text is written whole, or nothing of it.
-pub fn write(alloc: Global) -> Result<(), Fault> {
+pub(crate) fn write(alloc: Global) -> Result<(), Fault> {
     let history = history_of(alloc, VIEW_BESIDE_UPDATE)?;
     expect_text(alloc, &history, VIEW_BESIDE_UPDATE_TEXT)
 }
 
 /// The same with stamps.
-pub fn write_stamped(alloc: Global) -> Result<(), Fault> {
+pub(crate) fn write_stamped(alloc: Global) -> Result<(), Fault> {
     let history = history_of(alloc, VIEW_BESIDE_UPDATE)?;
     if history.len() != 4 {
         return Err(Fault::Wrong);
@@ -156,7 +156,7 @@ fn are_of_begin(fields: &[Vec<u8>; 4]) -> bool {
 }
 
 /// The four fields of an event.
-pub fn fields(alloc: Global) -> Result<(), Fault> {
+pub(crate) fn fields(alloc: Global) -> Result<(), Fault> {
     let event = Event::BeginUpdate {
         process: 0,
         entry: entry(0, 1, 3),
@@ -181,7 +181,7 @@ fn expect_verdict(
 
 /// What is made of a history with faults.
 #[derive(Clone, Copy)]
-pub enum Made {
+pub(crate) enum Made {
     /// Its report.
     Report,
     /// The same in the memory of a vector.
@@ -228,7 +228,7 @@ fn expect_made(alloc: Global, index: &Index<'_>, made: Made) -> Result<(), Fault
 
 /// A report or the verdicts of two views that disagree. The witness is that of a view that misses an update and one that shows a
 /// value that nobody wrote: the latter, with the update.
-pub fn text_made(alloc: Global, made: Made) -> Result<(), Fault> {
+pub(crate) fn text_made(alloc: Global, made: Made) -> Result<(), Fault> {
     let steps = match made {
         Made::Witness => STALE_AND_WRONG,
         _ => CROSSED_VIEWS,
@@ -248,7 +248,7 @@ fn report_along_chain(alloc: Global) -> Result<(Status, Vec<u8>), Fault> {
 }
 
 /// The status and the report along a chain. Where memory is refused both are made once more.
-pub fn verdict_along_chain(alloc: Global) -> Result<(), Fault> {
+pub(crate) fn verdict_along_chain(alloc: Global) -> Result<(), Fault> {
     let (status, report) = match report_along_chain(alloc) {
         Err(Fault::Memory) => report_along_chain(alloc)?,
         answer => answer?,
@@ -287,7 +287,7 @@ fn expect_line(alloc: Global, what: Put, known: &[u8]) -> Result<(), Fault> {
 }
 
 /// Words of lines.
-pub fn words(alloc: Global) -> Result<(), Fault> {
+pub(crate) fn words(alloc: Global) -> Result<(), Fault> {
     expect_line(alloc, Put::Number, b"component 255")?;
     expect_line(alloc, Put::Call, b"view 1")?;
     expect_line(alloc, Put::Update, b"update 255:2")?;
@@ -295,7 +295,7 @@ pub fn words(alloc: Global) -> Result<(), Fault> {
 }
 
 /// The line of a text that is refused.
-pub fn refusal(alloc: Global) -> Result<(), Fault> {
+pub(crate) fn refusal(alloc: Global) -> Result<(), Fault> {
     expect_bytes(
         refusal_text(alloc, 3, TextFault::Busy),
         b"refused record 3: busy\n",
@@ -303,7 +303,7 @@ pub fn refusal(alloc: Global) -> Result<(), Fault> {
 }
 
 /// The status and the report of a text, and of one that is no history.
-pub fn verdict(alloc: Global) -> Result<(), Fault> {
+pub(crate) fn verdict(alloc: Global) -> Result<(), Fault> {
     let made = judge_text(alloc, VIEW_BESIDE_UPDATE_TEXT);
     expect_verdict(made, Status::Atomic, VIEW_BESIDE_UPDATE_REPORT)?;
     let made = judge_text(alloc, BUSY_TEXT);

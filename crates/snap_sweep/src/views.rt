@@ -106,7 +106,7 @@ fn expect_chain(
 }
 
 /// Views that disagree are no chain, a view after a newer one is one out of order, and those of an atomic run are one in order.
-pub fn chains(alloc: Global) -> Result<(), Fault> {
+pub(crate) fn chains(alloc: Global) -> Result<(), Fault> {
     expect_chain(alloc, CROSSED_VIEWS, &[1, 1], None, true)?;
     expect_chain(alloc, NEW_THEN_OLD, &[1, 0], Some(&[1, 0]), false)?;
     expect_chain(alloc, ATOMIC_RUN, &[1, 3], Some(&[0, 1]), true)
@@ -190,7 +190,7 @@ fn expect_far(alloc: Global, steps: &[Step<'_>], integrity: u64, read: u64) -> R
 }
 
 /// Grids of few views, of views most of which leave a component out, and of a number far off.
-pub fn grids(alloc: Global) -> Result<(), Fault> {
+pub(crate) fn grids(alloc: Global) -> Result<(), Fault> {
     expect_tally(alloc, CROSSED_VIEWS, Way::Views, 2, 0)?;
     expect_tally(alloc, NEW_THEN_OLD, Way::Views, 1, 1)?;
     expect_tally(alloc, ATOMIC_RUN, Way::Views, 0, 0)?;
@@ -199,12 +199,12 @@ pub fn grids(alloc: Global) -> Result<(), Fault> {
 }
 
 /// Columns, and a grid of them. Where memory is refused both are made once more.
-pub fn columns(alloc: Global) -> Result<(), Fault> {
+pub(crate) fn columns(alloc: Global) -> Result<(), Fault> {
     expect_tally(alloc, SEVEN_NEW_THEN_OLD, Way::Columns, 7, 7)
 }
 
 /// A grid of the chain of views. Where memory is refused it is made once more.
-pub fn grid_of_chain(alloc: Global) -> Result<(), Fault> {
+pub(crate) fn grid_of_chain(alloc: Global) -> Result<(), Fault> {
     expect_tally(alloc, SEVEN_NEW_THEN_OLD, Way::Chain, 7, 7)
 }
 
@@ -239,7 +239,7 @@ fn expect_tally_and_chain(
 }
 
 /// Tallies on one thread, with a chain where there is no read fault.
-pub fn tallies_and_chains(alloc: Global) -> Result<(), Fault> {
+pub(crate) fn tallies_and_chains(alloc: Global) -> Result<(), Fault> {
     expect_tally_and_chain(alloc, ATOMIC_RUN, 0, 0, true)?;
     expect_tally_and_chain(alloc, SEVEN_NEW_THEN_OLD, 7, 7, false)
 }

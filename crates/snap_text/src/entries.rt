@@ -47,7 +47,7 @@ fn entry_first(text: &[u8]) -> Option<(Entry, &[u8])>
 }
 
 /// The entry that is spelled by its component, number and value, with colons between.
-pub fn entry_of(text: &[u8]) -> Option<Entry>
+pub(crate) fn entry_of(text: &[u8]) -> Option<Entry>
     ensures { result ≡ entry_at text.now }
 {
     let (entry, rest) = entry_first(text)?;
@@ -163,7 +163,7 @@ const LOOK: usize = 4;
 const LOOKS: usize = 32;
 
 /// The entries that are spelled with one space between two.
-pub fn entries_of(
+pub(crate) fn entries_of(
     alloc: Global,
     known: &Known,
     text: &[u8],

@@ -139,7 +139,7 @@ fn skip_same(a: &[u8], b: &[u8], from: usize, step: usize) -> usize
 }
 
 /// How many bytes two texts have alike at their fronts.
-pub fn same_front(a: &[u8], b: &[u8]) -> usize
+pub(crate) fn same_front(a: &[u8], b: &[u8]) -> usize
     ensures within { (result ≤ length a.now) × (result ≤ length b.now) }
     ensures same { take result a.now ≡ take result b.now }
 {
@@ -164,7 +164,7 @@ fn few_spaces(text: &[u8]) -> u8
 const PIECE: usize = 192;
 
 /// How many spaces a text has.
-pub fn spaces(text: &[u8]) -> usize
+pub(crate) fn spaces(text: &[u8]) -> usize
     ensures { result ≡ count_by (λ b. b == 32) text.now }
 {
     let mut count = 0;

@@ -10,7 +10,7 @@ const DIGIT_LIMIT: usize = 11;
 
 /// The number below 2^32 whose decimal a text begins with, and the text behind its last digit.
 #[inline(always)]
-pub fn number_first(text: &[u8]) -> Option<(u32, &[u8])>
+pub(crate) fn number_first(text: &[u8]) -> Option<(u32, &[u8])>
     ensures { MatchOption result ((n : ℕ) (rest : List ℕ) → NumberThen n rest text.now → ⊥) (λ x. NumberThen x.0 x.1.now text.now) }
 {
     let limit = text.len().min(DIGIT_LIMIT);
@@ -27,7 +27,7 @@ pub fn number_first(text: &[u8]) -> Option<(u32, &[u8])>
 }
 
 /// The number below 2^32 whose decimal a field is.
-pub fn number_of(field: &[u8]) -> Option<u32>
+pub(crate) fn number_of(field: &[u8]) -> Option<u32>
     ensures { result ≡ number_at (2 ^ 32) field.now }
 {
     let (number, rest) = number_first(field)?;
@@ -35,7 +35,7 @@ pub fn number_of(field: &[u8]) -> Option<u32>
 }
 
 /// The process that a field names.
-pub fn process_of(field: &[u8]) -> Option<u16>
+pub(crate) fn process_of(field: &[u8]) -> Option<u16>
     ensures { result ≡ number_at (2 ^ 16) field.now }
 {
     match number_of(field) {

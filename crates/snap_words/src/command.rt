@@ -105,7 +105,7 @@ fn bare_program<'a>(alloc: Global) -> Command<'a>
 }
 
 /// The program, with its commands and their words.
-pub fn program<'a>(alloc: Global) -> Result<Command<'a>, AllocError>
+pub(crate) fn program<'a>(alloc: Global) -> Result<Command<'a>, AllocError>
     ensures { IfOk result (λ command. app_of command ≡ program_app) }
 {
     let mut program = bare_program(alloc);

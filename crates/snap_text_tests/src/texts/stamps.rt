@@ -176,7 +176,7 @@ fn takes_as_many_records_in_reverse_order_as_a_history_may_have(
     Ok(())
 }
 
-pub const STALE_VIEW_STAMPED: &[u8] =
+pub(crate) const STALE_VIEW_STAMPED: &[u8] =
     b"at,event,process,op,data\n9,end,1,view,\n2,begin,0,update,0:1:7\n3,end,0,update,\n5,begin,1,view,\n";
 
 #[test]
