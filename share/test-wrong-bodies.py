@@ -4,6 +4,7 @@ earlier run on this machine came to is tried again only where something has chan
 
 The last line is 'N passed, M failed', with ', K skipped' behind it where the toolchain tries them in its own way.
 """
+import contextlib
 import os
 import sys
 import tempfile
@@ -61,6 +62,23 @@ impl Place {
         self.at
     }
 }
+
+pub trait Far {
+    fn far(&self) -> u8
+        ensures { result < 200 };
+}
+
+impl Far for Place {
+    fn far(&self) -> u8 {
+        100
+    }
+}
+""",
+    "crates/few/proofs/next/Answers.antt": """use Rattle.std.proofs.Common.{refl}
+use Rattle.few.proofs.next.Goals as goal
+
+pub returns : goal.returns
+returns c = refl
 """,
 }
 # What the toolchain calls the answers to a wrong body.
@@ -72,16 +90,31 @@ EDITS = {
     "lib.next.longer-step": (REFUSED, "lib", "STEP: u8 = 1", "STEP: u8 = 2"),
     "steps.two_on.one-step": (REFUSED, "steps", "{ next(first) }", "{ first }"),
     "steps.at.half-way": (REFUSED, "steps", "        self.at", "        self.at / 2"),
+    "steps.at.nowhere": (REFUSED, "steps", "        self.at", "        0"),
+    "steps.far.too-far": (REFUSED, "steps", "        100", "        200"),
+    "steps.far.much-too-far": (REFUSED, "steps", "        100", "        255"),
+    "lib.next.right": (LET_THROUGH, "lib", "    place + STEP", "    let step = STEP; place + step"),
     "longer-step": (REFUSED, "lib", "STEP: u8 = 1", "STEP: u8 = 2"),
     "lib.same.right": (LET_THROUGH, "lib", "    seat", "    seat - 0"),
     "lib.same.no-such-text": (BAD, "lib", "    place - STEP", "    seat"),
     "lib.same.no-such-type": (BAD, "lib", "same(seat: u8)", "same(seat: u9)"),
 }
-# Edits that are tried in one run, and those of them that the toolchain has to try alone.
+# Edits that are tried in one run, those of them that the toolchain has to try alone, and how many of them each check before that has.
 RUNS = [
-    (["lib.next.no-step", "lib.next.two-steps", "lib.next.longer-step", "steps.two_on.one-step", "steps.at.half-way"], []),
-    (["lib.next.no-step", "lib.same.right", "steps.two_on.one-step", "lib.same.no-such-text"], ["lib.same.right", "lib.same.no-such-text"]),
-    (["lib.same.no-such-type", "longer-step"], ["lib.same.no-such-type", "longer-step"]),
+    (["lib.next.no-step", "lib.next.two-steps", "lib.next.longer-step", "lib.same.right", "steps.two_on.one-step", "steps.far.too-far", "steps.far.much-too-far"],
+     ["lib.same.right"], [5, 1, 1]),
+    (["lib.next.no-step", "lib.next.right", "steps.at.half-way", "steps.at.nowhere", "lib.same.no-such-text"],
+     ["lib.next.right", "lib.same.no-such-text"], [4]),
+    (["lib.same.no-such-type", "longer-step"], ["lib.same.no-such-type", "longer-step"], [1]),
+]
+# The text of a function's wrong body, and whether it can stand beside another one of the function `far`.
+ROOMS = [
+    ("fn far(place: u8) -> u8 {\n    place.far() + near(place)\n}", True),
+    ("fn far(place: u8) -> u8 {\n    near(far(place))\n}", False),
+    ("fn far<T>(place: T) -> u8 {\n    near(far::<T>(place))\n}", False),
+    ("fn far(&self) -> u8 {\n    self.far()\n}", False),
+    ("fn far(&self) -> u8 {\n    Place::far(self)\n}", False),
+    ('#[unsafe(no_mangle)]\npub extern "C" fn far(place: u8) -> u8 {\n    place\n}', False),
 ]
 
 
@@ -91,30 +124,62 @@ def name_of(edit):
 
 def write_crate(room, names):
     """Writes the crate with these edits, and returns it, and the edits' files."""
-    os.makedirs(f"{room}/crates/few/src")
-    os.mkdir(f"{room}/crates/few/must-fail")
     texts = FILES | {f"crates/few/must-fail/{it}.edit": "file: src/{}.rt\nold: {}\nnew: {}\n".format(*EDITS[it][1:]) for it in names}
     for file, text in texts.items():
+        os.makedirs(os.path.dirname(f"{room}/{file}"), exist_ok=True)
         with open(f"{room}/{file}", "w", encoding="utf-8") as out:
             out.write(text)
     crate = rt.Crate(f"{room}/crates/few", room, {})
     return crate, rt.edits_of(crate)[0]
 
 
-def misjudged(names, alone):
-    """Tries these edits in one run. It returns what is wrong with the answers, or with which edits the toolchain tried alone."""
-    left = []
-    try_alone = wrong_bodies.try_alone
-    wrong_bodies.try_alone = lambda crate, edits, flags: left.extend(map(name_of, edits)) or try_alone(crate, edits, flags)
+@contextlib.contextmanager
+def replaced(holder, name, other):
+    """Puts another function in the place of one."""
+    old = getattr(holder, name)
+    setattr(holder, name, other)
     try:
-        with tempfile.TemporaryDirectory() as room:
-            crate, edits = write_crate(room, names)
-            said = {name_of(edit): it for edit, it in zip(edits, wrong_bodies.try_together(crate, edits, ["--jobs", "1"]))}
+        yield old
     finally:
-        wrong_bodies.try_alone = try_alone
+        setattr(holder, name, old)
+
+
+def misjudged(names, alone, together):
+    """Tries these edits in one run. It returns what is wrong with the answers, with which edits the toolchain tried alone, or with how
+    many the checks before had."""
+    left, checks = [], []
+    try_alone, refused = wrong_bodies.try_alone, wrong_bodies.Crate.refused
+    with (
+        replaced(wrong_bodies, "try_alone", lambda crate, edits, flags: left.extend(map(name_of, edits)) or try_alone(crate, edits, flags)),
+        replaced(wrong_bodies.Crate, "refused", lambda crate, wrongs, *others: checks.append(len(wrongs)) or refused(crate, wrongs, *others)),
+        tempfile.TemporaryDirectory() as room,
+    ):
+        crate, edits = write_crate(room, names)
+        said = {name_of(edit): it for edit, it in zip(edits, wrong_bodies.try_together(crate, edits, ["--jobs", "1"]))}
     wrong = [f"{it}: {said[it][1]}" for it in names if said[it][0] != getattr(rt, EDITS[it][0])]
     if sorted(left) != sorted(alone):
         wrong.append(f"tried alone: {', '.join(left) or 'none'}; and to be tried so: {', '.join(alone) or 'none'}")
+    if checks != together:
+        wrong.append(f"the checks had {checks} wrong bodies, and should have {together}")
+    return wrong
+
+
+def misled():
+    """What is wrong where a proof does not serve for another name: then nothing is known of a second wrong body, and it is tried alone."""
+    spoilt = lambda crate, one, to: {it: text.replace("Goals", "Nothing") for it, text in proofs_of(crate, one, to).items()}
+    with replaced(wrong_bodies.Crate, "proofs_of", spoilt) as proofs_of:
+        return misjudged(["lib.next.no-step", "lib.next.two-steps"], ["lib.next.two-steps"], [2])
+
+
+def crowded():
+    """What is wrong with which wrong bodies have room beside another one."""
+    wrong = []
+    for text, has_room in ROOMS:
+        function = wrong_bodies.Function("src/lib.rt", "far", 0, text.count("\n"))
+        for is_of_trait in (False, True):
+            it = wrong_bodies.Wrong("", {}, wrong_bodies.replace(function, is_of_trait=is_of_trait), tuple(text.split("\n")))
+            if it.has_room() != (has_room and not is_of_trait):
+                wrong.append(f"has room, of a trait {is_of_trait}: {it.has_room()}: {text}")
     return wrong
 
 
@@ -147,7 +212,7 @@ def main():
         return 0
     rt.rtlib.guarded()
     passed = failed = 0
-    for wrong in [*(misjudged(*it) for it in RUNS), forgotten()]:
+    for wrong in [crowded(), *(misjudged(*it) for it in RUNS), misled(), forgotten()]:
         for it in wrong:
             print(f"wrong-bodies: failed: {it}")
         failed += bool(wrong)

@@ -5,26 +5,30 @@ usage: wrong_bodies.py ci [--anew]    the toolchain's gate, `rt ci`, with the wr
        wrong_bodies.py CRATE ..       those of some crates, over the libraries below them, as `rt must-fail` does
 
 The toolchain proves a crate once more for its wrong bodies, and then checks it once for each. Most of a check goes into loading what
-the crate depends on. So here a check has wrong bodies of many functions, and proves only these and what they call. A wrong body is
-refused if the check names a goal of its function that is not proved. One function more is as it was, and must be proved: otherwise
-the check shows nothing. What is not refused so, or stands in no function, is tried as the toolchain tries it, and that decides.
-A toolchain with other calls than this file knows tries all in its own way.
+the crate depends on. So here a check has many wrong bodies, and proves only their functions and what these call. A second wrong body
+of a function stands behind it, as a function with another name and with the same contract and proof. So does the right one, which must
+be proved: otherwise nothing is known of the second. A wrong body is refused if the check names a goal of its function that is not
+proved. One function more is as it was, and must be proved: otherwise the check shows nothing. What is not refused so, or stands in no
+function, is tried as the toolchain tries it, and that decides. A toolchain with other calls than this file knows tries all in its own
+way.
 """
+import copy
 import functools
 import hashlib
 import importlib.machinery
 import importlib.util
 import inspect
+import itertools
 import os
 import re
 import shutil
 import sys
 import tempfile
 import time
-from dataclasses import dataclass
+from dataclasses import dataclass, replace
 
 RT = os.path.realpath(shutil.which("rt") or sys.exit("there is no rt on the path"))
-# A check of more functions would need more memory than the proof of the crate.
+# A check of more wrong bodies would need more memory than the proof of the crate.
 MOST = 24
 # The first line of a function, as `rt fmt` lays it out. The last is a brace as far to the right, if the first does not end it.
 BEGIN = re.compile(r'( *)(?:pub(?:\(\w+\))? )?(?:const )?(?:unsafe )?(?:extern "C" )?fn (\w+)')
@@ -70,21 +74,24 @@ def is_known():
 
 @dataclass(frozen=True)
 class Function:
-    """A function of a crate: its file, its path as a check prints it, and its first and last line, counted from 0."""
+    """A function of a crate: its file, its path as a check prints it, its first and last line, counted from 0, and whether it is a
+    method of a trait."""
 
     file: str
     path: str
     first: int
     last: int
+    is_of_trait: bool = False
 
     @property
     def name(self):
         return self.path.rsplit("::", 1)[-1]
 
     @property
-    def proof(self):
-        """Where the answers to its goals stand."""
-        return f"proofs/{self.path.replace('::', '/')}/"
+    def proofs(self):
+        """The folders with the answers to its goals, and to those of its closures."""
+        *above, name = self.path.split("::")
+        return ["/".join(["proofs", *above, *inner, name, ""]) for inner in ([], ["fn"])]
 
     def has(self, first, last):
         return self.first <= first and last <= self.last
@@ -96,16 +103,17 @@ def module_of(file):
 
 def functions_in(file, lines, modules):
     """The functions of a file, with their attributes. Methods of a type have its path, wherever they stand."""
-    path, found, begin = module_of(file), [], 0
+    path, is_of_trait, found, begin = module_of(file), False, [], 0
     for at, line in enumerate(lines):
         if opened := BLOCK.match(line):
             path = [*(module_of(file) if opened[1] else modules.get(opened[3], [])), f"{opened[3]}{opened[1] or ''}{opened[2] or ''}"]
+            is_of_trait = bool(opened[1])
         elif line == "}":
-            path = module_of(file)
+            path, is_of_trait = module_of(file), False
         if begun := BEGIN.match(line):
             ends = (f"{begun[1]}}}", f"{begun[1]}{{}}")
             last = at if line.endswith("{}") else next((it for it in range(at, len(lines)) if lines[it] in ends), at)
-            found.append(Function(file, "::".join([*path, begun[2]]), begin, last))
+            found.append(Function(file, "::".join([*path, begun[2]]), begin, last, is_of_trait))
         if not line.lstrip().startswith("#["):
             begin = at + 1
     return found
@@ -120,6 +128,32 @@ class Wrong:
     texts: dict
     function: Function
     lines: tuple | None
+
+    def has_room(self):
+        """Whether it can stand beside another wrong body of its function: no method of a trait can, nor what calls itself or keeps its
+        name for callers in C."""
+        if self.lines is None or self.function.is_of_trait:
+            return False
+        text = "\n".join(self.lines)
+        return not re.search(rf"(?:^|[^\w. ]|::|\bself\.|[^n] )\s*\b{self.function.name}(?:::<[^>]*>)?\(|no_mangle", text)
+
+
+def named_anew(function, lines, number):
+    """A function with these lines under another name: the function and its lines."""
+    name = f"{function.name}_{number}"
+    text = re.sub(rf"\bfn {function.name}\b", f"fn {name}", "\n".join(lines), count=1)
+    return replace(function, path=f"{function.path.removesuffix(function.name)}{name}"), text.split("\n")
+
+
+@dataclass
+class Tried:
+    """Wrong bodies in one check: the texts of the files with them; those of the proofs of further functions; the function of each, by
+    its edit; and the further functions that are right, each by the path of that which it is like."""
+
+    texts: dict
+    proofs: dict
+    functions: dict
+    right: dict
 
 
 class Crate:
@@ -153,19 +187,61 @@ class Crate:
         return None
 
     def together(self, wrongs):
-        """The texts of the files with all of some wrong bodies, and their functions in these."""
+        """Some wrong bodies in one check."""
         if wrongs[0].lines is None:
-            return wrongs[0].texts, [wrongs[0].function]
-        texts, functions = {}, []
+            return Tried(wrongs[0].texts, {}, {wrongs[0].edit: wrongs[0].function}, {})
+        tried = Tried({}, {}, {}, {})
         for file in {it.function.file for it in wrongs}:
             lines, moved = [*self.lines[file]], 0
-            for it in sorted((it for it in wrongs if it.function.file == file), key=lambda it: it.function.first):
-                first, last = it.function.first + moved, it.function.last + moved
-                lines[first : last + 1] = it.lines
-                functions.append(Function(file, it.function.path, first, first + len(it.lines) - 1))
-                moved += len(it.lines) - (last + 1 - first)
-            texts[file] = "\n".join(lines)
-        return texts, functions
+            here = sorted((it for it in wrongs if it.function.file == file), key=lambda it: it.function.first)
+            for function, bodies in itertools.groupby(here, key=lambda it: it.function):
+                first = function.first + moved
+                new = self.put_bodies(tried, function, list(bodies), first)
+                lines[first : function.last + moved + 1] = new
+                moved = first + len(new) - (function.last + 1)
+            tried.texts[file] = "\n".join(lines)
+        return tried
+
+    def put_bodies(self, tried, function, bodies, first):
+        """Notes the wrong bodies of a function that begins at a line, and returns all lines: one in its place, and further functions."""
+        all_lines = [*bodies[0].lines]
+        tried.functions[bodies[0].edit] = replace(function, first=first, last=first + len(all_lines) - 1)
+        further = [(it.edit, it.lines) for it in bodies[1:]]
+        if further and self.proofs_of(function, function):
+            further.append((None, self.lines[function.file][function.first : function.last + 1]))
+        for number, (edit, lines) in enumerate(further, 2):
+            other, lines = named_anew(function, lines, number)
+            other = replace(other, first=first + len(all_lines), last=first + len(all_lines) + len(lines) - 1)
+            all_lines += lines
+            tried.proofs |= self.proofs_of(function, other)
+            if edit:
+                tried.functions[edit] = other
+            else:
+                tried.right[function.path] = other
+        return all_lines
+
+    def proofs_of(self, function, other):
+        """The texts of the proofs of one function, for another that is like it."""
+        found = {}
+        for one, to in zip(function.proofs, other.proofs):
+            old, new = (it.replace("/", ".") for it in (one, to))
+            for file in rt.rtlib.files_of(self.crate.folder):
+                path = os.path.relpath(file, self.crate.folder)
+                if path.startswith(one):
+                    found[to + path.removeprefix(one)] = re.sub(rf"\b{re.escape(old)}", new, rt.rtlib.text_of(file))
+        return found
+
+    def checked(self, texts, flags, kept):
+        """What a check says of the crate with these texts, of which some may stand in new folders."""
+        with tempfile.TemporaryDirectory(prefix="wrong-bodies-") as room:
+            for part in rt.rtlib.PARTS:
+                if os.path.isdir(f"{self.crate.folder}/{part}"):
+                    shutil.copytree(f"{self.crate.folder}/{part}", f"{room}/{part}")
+            for file in texts:
+                os.makedirs(os.path.dirname(f"{room}/{file}"), exist_ok=True)
+            crate = copy.copy(self.crate)
+            crate.folder = room
+            return rt.checked(crate, texts, flags, kept).stdout
 
     def control(self, wrongs):
         """The shortest function with a contract that is right here and calls none of the crate."""
@@ -182,33 +258,44 @@ class Crate:
         control = self.control(wrongs)
         if not control:
             return {}
-        texts, functions = self.together(wrongs)
-        asked = [word for it in [*functions, control] for word in ("--only", it.path)]
+        tried = self.together(wrongs)
+        asked = [word for it in [*tried.functions.values(), *tried.right.values(), control] for word in ("--only", it.path)]
         begun = time.monotonic()
-        said = rt.checked(self.crate, texts, [*flags, *asked], kept).stdout
+        said = self.checked(tried.texts | tried.proofs, [*flags, *asked], kept)
         print(f"{self.crate.name}: a check of {len(wrongs)} wrong bodies took {time.monotonic() - begun:.0f} s", flush=True)
         lines = said.rstrip("\n").split("\n")
-        is_read = lines[-1].startswith("only=") and not any(rt.unread(it, texts) for it in lines)
-        if not is_read or f"fn {self.crate.name}::{control.path}: proved" not in lines:
+        states = dict(re.findall(r"^fn \w+?::(\S+): (proved|not proved|no proof)", said, re.M))
+        is_read = lines[-1].startswith("only=") and not any(rt.unread(it, tried.texts) for it in lines)
+        if not is_read or states.get(control.path) != "proved":
             return {}
-        unproved = re.findall(r"^fn \w+?::(\S+): (?:not proved|no proof)", said, re.M)
+        wanted = {}
+        for it in wrongs:
+            function, right = tried.functions[it.edit], tried.right.get(it.function.path)
+            is_known = function.path == it.function.path or not right or states.get(right.path) == "proved"
+            if is_known and states.get(function.path) in ("not proved", "no proof"):
+                wanted[it.edit] = function
         found = {}
         for line in lines:
             at = PLACE.match(line)
             if not at or not UNPROVED.match(at[3]) or at[1].startswith("proofs/") and MISSES.search(at[3]):
                 continue
             number = int(at[2]) - 1
-            for it in functions:
-                if it.path in unproved and (it.file == at[1] and it.has(number, number) or at[1].startswith(it.proof)):
-                    found.setdefault(it.path, line)
-        return {it.edit: found[it.function.path] for it in wrongs if it.function.path in found}
+            for edit, it in wanted.items():
+                if it.file == at[1] and it.has(number, number) or at[1].startswith(tuple(it.proofs)):
+                    found.setdefault(edit, line)
+        return found
 
 
 def checks_of(wrongs):
-    """Which wrong bodies are tried together: one of a function, and alone those that change more than a function."""
+    """Which wrong bodies are tried together: of a function that has no room for others one, and alone those that change more than a
+    function."""
     left = [it for it in wrongs if it.lines is not None]
     while left:
-        first = list({it.function.path: it for it in reversed(left)}.values())[:MOST]
+        first, functions = [], set()
+        for it in left:
+            if len(first) < MOST and (it.has_room() or it.function.path not in functions):
+                first.append(it)
+                functions.add(it.function.path)
         yield first
         left = [it for it in left if it not in first]
     for it in wrongs:
