@@ -1,5 +1,5 @@
 -- Views sorted by their sums are a chain exactly where each shows no more than the next.
-use Rattle.std.proofs.Common.{◌≡◌, ℕ, zero, suc, ◌+◌, ◌-◌, ◌<◌, ◌≤◌, false, List, [], ◌∷◌, map, length, get_or, eqb, refl, sym, ap, ◌∙◌, subst, inl, inr, arith}
+use Rattle.std.proofs.Common.{◌≡◌, ℕ, zero, suc, ◌+◌, ◌-◌, ◌<◌, ◌≤◌, Bool, true, false, List, [], ◌∷◌, map, length, get_or, eqb, refl, sym, ap, ◌∙◌, subst, inl, inr, arith}
 use Rattle.std.specs.List.{All, AllPairs, Contains, IsDistinct, range_with_len}
 use Rattle.std.specs.List.Sorted.{IsPermutation, IsSorted}
 use Rattle.std.proofs.lemmas.Bool.{false_from_ne_true, false≢true, cases_lt, ne_eqb}
@@ -32,12 +32,14 @@ sum_in calls sums place d h l = ap (λ z. get_or z place d) h ∙ get_or-map sho
 pub sums_count : (calls : List Call) (sums : List ℕ) → AreViewSums calls sums → length sums ≡ length (views_of calls)
 sums_count calls sums h = ap length h ∙ length-map (views_of calls) shown_sum
 
-pub all_summed : (calls : List Call) (keys : List (ℕ × ℕ)) → IsPermutation (summed_views calls) keys → All (IsSummed calls) keys
-all_summed calls keys p =
+pub summed : (calls : List Call) → All (IsSummed calls) (summed_views calls)
+summed calls =
     let n = length (views_of calls) in
-    All-permutation (IsSummed calls) (summed_views calls) keys p
-    (All-map (IsSummed calls) (summed_at calls) (range_with_len 0 n)
-    (λ k d l. let inside : k < n = omega (arith, l, length-range_with_len 0 n) in let e = get_or-range_with_len 0 n k d inside in (omega (arith, e, inside), refl)))
+    All-map (IsSummed calls) (summed_at calls) (range_with_len 0 n)
+    (λ k d l. let inside : k < n = omega (arith, l, length-range_with_len 0 n) in let e = get_or-range_with_len 0 n k d inside in (omega (arith, e, inside), refl))
+
+pub all_summed : (calls : List Call) (keys : List (ℕ × ℕ)) → IsPermutation (summed_views calls) keys → All (IsSummed calls) keys
+all_summed calls keys p = All-permutation (IsSummed calls) (summed_views calls) keys p (summed calls)
 
 -- where each view shows no component above the next, none shows one above any that follows
 far : (calls : List Call) (keys : List (ℕ × ℕ)) (n : ℕ) → Climbs calls keys n → (i m : ℕ) (d : ℕ × ℕ) (k : ℕ) → i + m < n → shown_number (view_in calls (get_or keys i d).1) k ≤ shown_number (view_in calls (get_or keys (i + m) d).1) k
@@ -106,6 +108,28 @@ climbs_from es kept c keys all sorted = record {
       let rises : (get_or keys i d).0 ≤ (get_or keys (suc i) d).0 = elim (sorted i (suc i) d (omega arith) l) [ inl m ↦ omega (arith, m) | inr m ↦ omega (arith, m.0) ] in
       no_more_by_sum es kept c _ _ (view_is (calls_of es) _ a.0) (view_is (calls_of es) _ b.0) (omega (arith, a.1, b.1, rises));
 }
+
+-- two views of which neither shows no component above the other's cross
+
+one_climb : (calls : List Call) (p q : ℕ × ℕ) → exceeds (view_in calls p.1) (view_in calls q.1) ≡ false → Climbs calls (p ∷ q ∷ []) 2
+one_climb calls p q e = record { each = λ i d l. go i d l }
+  where
+    go : (i : ℕ) (d : ℕ × ℕ) → suc i < 2 → exceeds (view_in calls (get_or (p ∷ q ∷ []) i d).1) (view_in calls (get_or (p ∷ q ∷ []) (suc i) d).1) ≡ false
+    go zero d l = e
+    go (suc i) d l = absurd (omega (arith, l))
+
+pub crossing : (calls : List Call) (p q : ℕ × ℕ) → IsSummed calls p → IsSummed calls q → ¬ Climbs calls (p ∷ q ∷ []) 2 → ¬ Climbs calls (q ∷ p ∷ []) 2 → ¬ AreComparable calls
+crossing calls p q a b m n c = at (exceeds r s) refl
+  where
+    r : Call
+    r = view_in calls p.1
+
+    s : Call
+    s = view_in calls q.1
+
+    at : (x : Bool) → exceeds r s ≡ x → ⊥
+    at false e = m (one_climb calls p q e)
+    at true e = n (one_climb calls q p (c r s (view_is calls p.1 a.0) (view_is calls q.1 b.0) e))
 
 -- the places of sorted keys
 

@@ -34,11 +34,45 @@ pub fn chain(alloc: Global, index: &Index<'_>, sums: &[u64]) -> Result<Option<Ve
     // what is known of the history that the index is of
     let _events = index.event_count();
     let mut keys = keys(alloc, index, sums)?;
+    if some_cross(index, &keys) {
+        return Ok(None);
+    }
     keys.sort_unstable();
     if !climbs(index, &keys) {
         return Ok(None);
     }
     Ok(Some(places(alloc, &keys)?))
+}
+
+// So many pairs of neighbours by call number are compared before the views are sorted.
+const PAIRS_TRIED: usize = 256;
+
+// Whether some two views cross, of pairs of neighbours by call number that lie at even spaces. Then no chain is sorted in vain.
+fn some_cross(index: &Index<'_>, keys: &[(u64, u32)]) -> bool
+    requires kept { IsBoundedHistory index.now }
+    requires keys { All (IsSummed (calls_of index.now)) keys.now }
+    ensures { IsTrue result → ¬ AreComparable (calls_of index.now) }
+{
+    let last = keys.len().saturating_sub(1);
+    let step = (last / PAIRS_TRIED).max(1);
+    let mut at = 0;
+    while at < last {
+        if cross(index, keys[at], keys[at + 1]) {
+            return true;
+        }
+        at = at.saturating_add(step);
+    }
+    false
+}
+
+// Whether each of two views shows a component above the other's.
+fn cross(index: &Index<'_>, one: (u64, u32), other: (u64, u32)) -> bool
+    requires kept { IsBoundedHistory index.now }
+    requires one { IsSummed (calls_of index.now) one }
+    requires other { IsSummed (calls_of index.now) other }
+    ensures { IsTrue result → ¬ AreComparable (calls_of index.now) }
+{
+    !climbs(index, &[one, other]) && !climbs(index, &[other, one])
 }
 
 // The sum of each completed view, and its place.

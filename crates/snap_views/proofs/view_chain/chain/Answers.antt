@@ -5,15 +5,20 @@ use Rattle.std.proofs.lemmas.Bool.{false≢true}
 use Rattle.snap_core.specs.Calls.{calls_of}
 use Rattle.snap_views.specs.inside.Chains.{IsSummed, Climbs}
 use Rattle.snap_views.specs.Chains.{IsChain}
-use Rattle.snap_views.proofs.Chains.{all_summed, sorted_views, is_chain, comparable_from, climbs_from}
+use Rattle.snap_views.proofs.Chains.{summed, all_summed, sorted_views, is_chain, comparable_from, climbs_from}
 use Rattle.snap_views.proofs.view_chain.chain.Goals as goal
+
+pub some_cross-requires-clause-keys : goal.some_cross-requires-clause-keys
+some_cross-requires-clause-keys c =
+    let calls = calls_of c.args.index.now in
+    subst (All (IsSummed calls)) (sym c.deref.ensures.value) (subst (All (IsSummed calls)) (sym c.in_ok-keys.ensures) (summed calls))
 
 pub climbs-requires-clause-keys : goal.climbs-requires-clause-keys
 climbs-requires-clause-keys c =
     let calls = calls_of c.args.index.now in
     let keys = c.sort_unstable.new.self.items in
     let same = subst (λ z. IsPermutation z keys) c.in_ok-keys.ensures c.sort_unstable.ensures.permutation in
-    subst (All (IsSummed calls)) (sym c.deref.ensures.value) (all_summed calls keys same)
+    subst (All (IsSummed calls)) (sym c.deref-2.ensures.value) (all_summed calls keys same)
 
 pub returns-then-not-climbs-clause-comparable : goal.returns-then-not-climbs-clause-comparable
 returns-then-not-climbs-clause-comparable c =
@@ -23,7 +28,7 @@ returns-then-not-climbs-clause-comparable c =
       λ t. absurd (false≢true t),
       λ h.
           let up = climbs_from c.args.index.now c.event_count-events.ensures.kept h keys (all_summed calls keys same) (sorted_views calls keys same c.sort_unstable.ensures.sorted) in
-          absurd (false≢true (sym c.if-not-climbs.true ∙ c.climbs.ensures.1 (subst (λ z. Climbs calls z (length z)) (sym c.deref.ensures.value) up))),
+          absurd (false≢true (sym c.if-not-climbs.true ∙ c.climbs.ensures.1 (subst (λ z. Climbs calls z (length z)) (sym c.deref-2.ensures.value) up))),
     )
 
 pub returns-clause-sorted : goal.returns-clause-sorted
@@ -31,11 +36,11 @@ returns-clause-sorted c =
     let calls = calls_of c.args.index.now in
     let keys = c.sort_unstable.new.self.items in
     let same = subst (λ z. IsPermutation z keys) c.in_ok-keys.ensures c.sort_unstable.ensures.permutation in
-    subst (IsChain calls) (sym (c.in_ok-places.ensures ∙ ap (map (λ (key : ℕ × ℕ). key.1)) c.deref-2.ensures.value)) (is_chain calls keys same (sorted_views calls keys same c.sort_unstable.ensures.sorted))
+    subst (IsChain calls) (sym (c.in_ok-places.ensures ∙ ap (map (λ (key : ℕ × ℕ). key.1)) c.deref-3.ensures.value)) (is_chain calls keys same (sorted_views calls keys same c.sort_unstable.ensures.sorted))
 
 pub returns-clause-comparable : goal.returns-clause-comparable
 returns-clause-comparable c =
     let calls = calls_of c.args.index.now in
     let keys = c.sort_unstable.new.self.items in
     let same = subst (λ z. IsPermutation z keys) c.in_ok-keys.ensures c.sort_unstable.ensures.permutation in
-    (λ t. comparable_from calls keys same (subst (λ z. Climbs calls z (length z)) c.deref.ensures.value (c.climbs.ensures.0 c.if-not-climbs.false)), λ h. refl)
+    (λ t. comparable_from calls keys same (subst (λ z. Climbs calls z (length z)) c.deref-2.ensures.value (c.climbs.ensures.0 c.if-not-climbs.false)), λ h. refl)
