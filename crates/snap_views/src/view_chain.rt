@@ -44,8 +44,8 @@ pub fn chain(alloc: Global, index: &Index<'_>, sums: &[u64]) -> Result<Option<Ve
     Ok(Some(places(alloc, &keys)?))
 }
 
-// So many pairs of neighbours by call number are compared before the views are sorted.
-const PAIRS_TRIED: usize = 256;
+// About so many pairs of neighbours by call number are compared before the views are sorted: few, since views of a chain gain nothing.
+const PAIRS_TRIED: usize = 16;
 
 // Whether some two views cross, of pairs of neighbours by call number that lie at even spaces. Then no chain is sorted in vain.
 fn some_cross(index: &Index<'_>, keys: &[(u64, u32)]) -> bool
