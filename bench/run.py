@@ -1,14 +1,14 @@
 #!/usr/bin/env python3
 """Prints a table of the time and the peak memory of `snapjudge check`, by kind of history, size and number of workers.
 
-usage: run.py [--against PROGRAM] [--repeats N] [--workers W] [--events N] [--most COMPONENTS] [KIND ..]
+usage: run.py [--against PROGRAM] [--repeats N] [--workers W] [--pieces P] [--events N] [--most COMPONENTS] [KIND ..]
 
-Each history is made by generate.py from the number 1. With one worker, with W (2, if not said) and, where another judge of the
-same text and report is given, by that one, it is judged in turn, N times (7, if not said), and the least time of each counts. The
+Each history is made by generate.py from the number 1. With one worker, with W (2, if not said) and, where another judge of the same
+text and report is given, by that one, it is judged in turn, N times (7, if not said), and the least time of each counts. The
 reports are compared byte for byte. PROGRAM is called as `PROGRAM check`, with the history on its standard input; words that stand
-behind it in one argument are put behind `check`. With --events each kind and number of components is judged once, with so many
-events, and with --most only histories of at most so many components. All run in an environment in which the C library takes
-memory in large pages, as docs/MANY.md tells how to ask for them.
+behind it in one argument are put behind `check`. With --pieces the views are cut into so many pieces. With --events each kind and
+number of components is judged once, with so many events, and with --most only histories of at most so many components. All run in
+an environment in which the C library takes memory in large pages, as docs/MANY.md tells how to ask for them.
 
 The first row is of a process that does nothing.
 """
@@ -76,11 +76,12 @@ def main():
     words.add_argument("--against", metavar="PROGRAM", help="another judge of the same text and report")
     words.add_argument("--repeats", type=int, default=7)
     words.add_argument("--workers", default="2")
+    words.add_argument("--pieces", metavar="P", help="cut the views into so many pieces")
     words.add_argument("--events", metavar="N", help="judge each kind and number of components with so many events")
     words.add_argument("--most", type=int, default=256, metavar="COMPONENTS", help="judge none with more components")
     words.add_argument("kinds", nargs="*", metavar="KIND")
     asked = words.parse_args()
-    limit = ["--events", asked.events] if asked.events else []
+    limit = [word for option in ("events", "pieces") if getattr(asked, option) for word in (f"--{option}", getattr(asked, option))]
     programs = [[SNAPJUDGE, "check", "--workers", count, *limit] for count in ("1", asked.workers)]
     if asked.against:
         other, *options = shlex.split(asked.against)

@@ -5,9 +5,11 @@ starts the program, and by the launcher of this checkout. What the launcher take
 usage: start.py [RUNS [PROGRAM]]
 
 All are run in turn, 400 times where nothing else is said. Of the milliseconds by the clock and of processor time the table has
-the least and the median. A line behind it tells how long a second thread of a C program takes to begin while the first goes on, as
-workers of a check do. The last line has the load before it.
+the least and the median. Lines behind it tell how long a second thread of a C program takes to begin while the first goes on, as
+workers of a check do: where the system chooses its processor, where another one is named for it, and with the priority of real time
+where that is allowed. The last line has the load before it.
 """
+import contextlib
 import os
 import statistics
 import subprocess
@@ -23,8 +25,11 @@ RUNS = int(sys.argv[1]) if len(sys.argv) > 1 else 400
 TOP = os.path.dirname(os.path.dirname(os.path.abspath(__file__)))
 PROGRAM = os.path.abspath(sys.argv[2]) if len(sys.argv) > 2 else SNAPJUDGE
 EMPTY = "int main(void) { return 0; }\n"
-# prints after how many milliseconds a second thread began; the first one is busy for 20
-THREAD = """#include <pthread.h>
+# prints after how many milliseconds a second thread began; the first one is busy for 20. With a word, the thread may not begin on the
+# processor of the first
+THREAD = """#define _GNU_SOURCE
+#include <pthread.h>
+#include <sched.h>
 #include <stdio.h>
 #include <time.h>
 static double begun;
@@ -37,10 +42,17 @@ static void *begin(void *unused) {
     begun = now();
     return unused;
 }
-int main(void) {
+int main(int words, char **word) {
+    (void)word;
     pthread_t thread;
+    pthread_attr_t kind;
+    cpu_set_t others;
+    pthread_attr_init(&kind);
+    sched_getaffinity(0, sizeof others, &others);
+    CPU_CLR(sched_getcpu(), &others);
+    if (words > 1) pthread_attr_setaffinity_np(&kind, sizeof others, &others);
     double before = now();
-    if (pthread_create(&thread, NULL, begin, NULL) != 0) return 1;
+    if (pthread_create(&thread, &kind, begin, NULL) != 0) return 1;
     while (now() < before + 20) {}
     pthread_join(thread, NULL);
     printf("%f\\n", begun - before);
@@ -73,12 +85,18 @@ def main():
                 begun = time.perf_counter()
                 _, processor, _ = run(words, history, os.devnull)
                 taken[name].append(((time.perf_counter() - begun) * 1000, processor))
-        begins = [float(subprocess.run([thread], stdout=subprocess.PIPE, check=True).stdout) for _ in range(RUNS)]
+        ways = {"": [thread], ", on another processor": [thread, "other"]}
+        real_time = ["chrt", "-r", "10", thread]
+        with contextlib.suppress(FileNotFoundError):
+            if subprocess.run(real_time, stdout=subprocess.DEVNULL, stderr=subprocess.DEVNULL).returncode == 0:
+                ways[", with the priority of real time"] = real_time
+        begins = {way: [float(subprocess.run(words, stdout=subprocess.PIPE, check=True).stdout) for _ in range(RUNS)] for way, words in ways.items()}
     print("| program | by the clock, ms | median | processor time, ms | median |\n|---|---|---|---|---|")
     for name, runs in taken.items():
         cells = [f"{of(times):.2f}" for times in zip(*runs) for of in (min, statistics.median)]
         print(f"| {name} | {' | '.join(cells)} |")
-    print(f"a second thread begins after {min(begins):.2f} ms at best, {statistics.median(begins):.2f} by the median, {statistics.mean(begins):.2f} on average")
+    for way, took in begins.items():
+        print(f"a second thread{way} begins after {min(took):.2f} ms at best, {statistics.median(took):.2f} by the median, {statistics.mean(took):.2f} on average")
     print("load", *(f"{it:.1f}" for it in load))
 
 
