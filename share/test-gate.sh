@@ -29,6 +29,7 @@ case \$(cat "$room/$1" 2>/dev/null) in
   "ends early") echo "half of it"; exit 0 ;;
   "denies its failure") echo "3 passed, 1 failed"; exit 0 ;;
   "denies its status") echo "3 passed, 0 failed"; exit 1 ;;
+  waits) echo \$\$ >"$room/waiting"; sleep 300 ;;
   "has a bad edit") echo "must-fail snap_core/push.edit: BAD EDIT: its old text stands there twice"; echo "3 passed, 0 failed"; exit 0 ;;
   "names an edit of skipped") echo "must-fail push.renumbers-skipped.edit: refused"; echo "2 passed, 0 failed"; exit 0 ;;
   skips) echo "java: skipped, there is no javac"; echo "2 passed, 0 failed, 1 skipped"; exit 0 ;;
@@ -103,6 +104,23 @@ if grep -q "^recorders: must-fail" "$room/out"; then
   echo "gate: FAILED: a wrong body with the word skipped in its name counts as skipped"
 else
   passed=$((passed + 1))
+fi
+# what runs beside other parts ends with the gate
+echo waits >"$room/recorders"
+PATH="$room/bin:$PATH" "$room/tree/test" >"$room/out" 2>&1 &
+gate=$!
+for _ in {1..600}; do
+  [ ! -s "$room/waiting" ] || break
+  sleep 0.1
+done
+kill "$gate"
+wait "$gate"
+if [ -s "$room/waiting" ] && ! kill -0 "$(cat "$room/waiting")" 2>/dev/null; then
+  passed=$((passed + 1))
+else
+  failed=$((failed + 1))
+  echo "gate: FAILED: an interrupted gate leaves a part that waits"
+  tail -n 16 "$room/out"
 fi
 rm "$room/recorders"
 echo "has a bad edit" >"$room/proofs"

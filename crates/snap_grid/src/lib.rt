@@ -10,4 +10,4 @@ mod sweep;
 mod tree;
 
 pub use grid::{Clashes, Grid};
-pub use snap_masks::{Bounds, Column, ROW_LIMIT, TABLE_LIMIT, by_ranks};
+pub use snap_masks::{Bounds, Column, ROW_LIMIT, TABLE_LIMIT, WIDTH, by_ranks};

@@ -7,9 +7,9 @@ use snap_core::{Gate, OpenGate};
 use snap_index::Index;
 use snap_pairs::{Claim, Claims, tally_and_chain};
 use snap_testing::worked::{ATOMIC_RUN, CROSSED_VIEWS, FOUR_WAYS, STALE_AND_WRONG};
-use snap_testing::{Arrivals, Meeting, Step, entry, history_of};
+use snap_testing::{Arrivals, Meeting, Shown, Step, entry, history_of};
 use snap_threads::{Cutting, CuttingRefusal};
-use std::alloc::Global;
+use std::alloc::{AllocError, Global};
 use std::process::Abort;
 use std::test::Fail;
 use std::thread::Threads;
@@ -271,8 +271,51 @@ fn a_close_that_is_refused_between_two_draws_loses_no_piece(rt: HostRuntime) -> 
 #[test]
 fn two_workers_get_a_piece_each_at_the_same_time(rt: HostRuntime) -> Result<(), Fail> {
     let gate = Meeting::at_turn(0);
-    let all = tally_by(&rt, rt.alloc(), CROSSED_VIEWS, 2, 2, &gate)?;
-    assert!(rt; is_of_crossed_views(&all));
+    let all = tally_by(&rt, rt.alloc(), STALE_AND_WRONG, 2, 2, &gate)?;
+    assert!(rt; is_of_stale_and_wrong(&all));
+    assert!(rt; gate.was_held());
+    Ok(())
+}
+
+// Puts so many views, one after another, that show the same.
+fn put_views(
+    steps: &mut Vec<Step<'static>>,
+    count: u32,
+    shown: &'static [Shown],
+) -> Result<(), AllocError> {
+    for _view in 0..count {
+        steps.push(Step::View(2))?;
+        steps.push(Step::Viewed(2, shown))?;
+    }
+    Ok(())
+}
+
+// So many views that show the one of two open updates, and then so many that show the other.
+fn views_of_two(alloc: Global, count: u32) -> Result<Vec<Step<'static>>, AllocError> {
+    let mut steps = Vec::new(alloc);
+    steps.push(Step::Update(0, (0, 1, 1)))?;
+    steps.push(Step::Update(1, (1, 1, 1)))?;
+    put_views(&mut steps, count, &[(0, 1, 1)])?;
+    put_views(&mut steps, count, &[(1, 1, 1)])?;
+    Ok(steps)
+}
+
+// The faults of `views_of_two`, 300 views each: each view of the one update is a read fault with each of the other, both ways.
+fn is_of_views_of_two(tally: &Tally) -> bool {
+    let first = ReadFault {
+        view: 2,
+        other: 302,
+        component: 0,
+    };
+    counts(tally) == [0, 0, 180_000, 0] && tally.read.first() == Some(first)
+}
+
+#[test]
+fn views_with_read_faults_are_cut_into_blocks(rt: HostRuntime) -> Result<(), Fail> {
+    let gate = Meeting::at_turn(0);
+    let steps = views_of_two(rt.alloc(), 300)?;
+    let all = tally_by(&rt, rt.alloc(), &steps, 1, 2, &gate)?;
+    assert!(rt; is_of_views_of_two(&all));
     assert!(rt; gate.was_held());
     Ok(())
 }
@@ -298,8 +341,8 @@ fn a_worker_goes_on_to_the_next_piece_while_the_other_is_held(rt: HostRuntime) -
     let gate = HeldAtTheFirst {
         third: Arrivals::none(),
     };
-    let all = tally_by(&rt, rt.alloc(), CROSSED_VIEWS, 4, 2, &gate)?;
-    assert!(rt; is_of_crossed_views(&all));
+    let all = tally_by(&rt, rt.alloc(), STALE_AND_WRONG, 4, 2, &gate)?;
+    assert!(rt; is_of_stale_and_wrong(&all));
     assert!(rt; gate.third.were(1));
     Ok(())
 }
