@@ -7,7 +7,7 @@ use snap_core::{Gate, OpenGate};
 use snap_index::Index;
 use snap_pairs::{Claim, Claims, tally_and_chain};
 use snap_testing::worked::{ATOMIC_RUN, CROSSED_VIEWS, FOUR_WAYS, STALE_AND_WRONG};
-use snap_testing::{Arrivals, Meeting, Shown, Step, entry, history_of};
+use snap_testing::{Arrivals, Meeting, Step, entry, history_of};
 use snap_threads::{Cutting, CuttingRefusal};
 use std::alloc::{AllocError, Global};
 use std::process::Abort;
@@ -277,26 +277,19 @@ fn two_workers_get_a_piece_each_at_the_same_time(rt: HostRuntime) -> Result<(), 
     Ok(())
 }
 
-// Puts so many views, one after another, that show the same.
-fn put_views(
-    steps: &mut Vec<Step<'static>>,
-    count: u32,
-    shown: &'static [Shown],
-) -> Result<(), AllocError> {
-    for _view in 0..count {
-        steps.push(Step::View(2))?;
-        steps.push(Step::Viewed(2, shown))?;
-    }
-    Ok(())
-}
-
-// So many views that show the one of two open updates, and then so many that show the other.
+// So many views, one after another, that show the one of two open updates, and then so many that show the other.
 fn views_of_two(alloc: Global, count: u32) -> Result<Vec<Step<'static>>, AllocError> {
     let mut steps = Vec::new(alloc);
     steps.push(Step::Update(0, (0, 1, 1)))?;
     steps.push(Step::Update(1, (1, 1, 1)))?;
-    put_views(&mut steps, count, &[(0, 1, 1)])?;
-    put_views(&mut steps, count, &[(1, 1, 1)])?;
+    for _view in 0..count {
+        steps.push(Step::View(2))?;
+        steps.push(Step::Viewed(2, &[(0, 1, 1)]))?;
+    }
+    for _view in 0..count {
+        steps.push(Step::View(2))?;
+        steps.push(Step::Viewed(2, &[(1, 1, 1)]))?;
+    }
     Ok(steps)
 }
 
