@@ -29,6 +29,7 @@ case \$(cat "$room/$1" 2>/dev/null) in
   "ends early") echo "half of it"; exit 0 ;;
   "denies its failure") echo "3 passed, 1 failed"; exit 0 ;;
   "denies its status") echo "3 passed, 0 failed"; exit 1 ;;
+  works) python3 -c 'while __import__("time").process_time() < 2: pass' ;;
   waits) echo \$\$ >"$room/waiting"; sleep 300 ;;
   "has a bad edit") echo "must-fail snap_core/push.edit: BAD EDIT: its old text stands there twice"; echo "3 passed, 0 failed"; exit 0 ;;
   "names an edit of skipped") echo "must-fail push.renumbers-skipped.edit: refused"; echo "2 passed, 0 failed"; exit 0 ;;
@@ -105,6 +106,21 @@ if grep -q "^recorders: must-fail" "$room/out"; then
 else
   passed=$((passed + 1))
 fi
+# each part's own processor time is told, also where it runs beside others
+for part in launcher recorders; do
+  echo works >"$room/$part"
+done
+expect "parts that take processor time" 0 "41 passed, 0 failed"
+for part in launcher recorders; do
+  if grep -Eq "^$part +3 +0 +0 +[0-9]+:[0-9]+ +0:0[1-9]$" "$room/out"; then
+    passed=$((passed + 1))
+  else
+    failed=$((failed + 1))
+    echo "gate: FAILED: the processor time of $part"
+    grep "^$part " "$room/out"
+  fi
+  rm "$room/$part"
+done
 # what runs beside other parts ends with the gate
 echo waits >"$room/recorders"
 PATH="$room/bin:$PATH" "$room/tree/test" >"$room/out" 2>&1 &
@@ -115,6 +131,11 @@ for _ in {1..600}; do
 done
 kill "$gate"
 wait "$gate"
+# it is gone once its parent, which ended too, has been waited for by another
+for _ in {1..600}; do
+  kill -0 "$(cat "$room/waiting")" 2>/dev/null || break
+  sleep 0.1
+done
 if [ -s "$room/waiting" ] && ! kill -0 "$(cat "$room/waiting")" 2>/dev/null; then
   passed=$((passed + 1))
 else
