@@ -6,16 +6,18 @@ use snap_grid::WIDTH;
 use snap_tally::ViewGrid;
 use snap_threads::{Cutting, PIECE_LIMIT};
 
-// The cutting of so many views, for the workers of the one that was asked for. Where they have read faults, each piece has as many
-// views as a grid compares at once: to compare a part of these takes as long.
+// The cutting of so many views, for the workers of the one that was asked for. Where they have read faults, each piece has at most as
+// many views as a grid compares at once, for to compare a part of these takes as long; and each worker has as many pieces.
 pub(crate) fn cutting_of(asked: Cutting, reads: &Option<ViewGrid<'_, '_>>, views: u32) -> Cutting
     ensures workers { result.workers ≡ asked.workers }
 {
     if reads.is_none() {
         return asked;
     }
-    let blocks = views.div_ceil(WIDTH as u32).clamp(1, PIECE_LIMIT);
-    Cutting::new(blocks, asked.workers()).unwrap_or(asked)
+    let workers = asked.workers();
+    let rounds = views.div_ceil(WIDTH as u32).div_ceil(workers).max(1);
+    let pieces = rounds.saturating_mul(workers).min(PIECE_LIMIT);
+    Cutting::new(pieces, workers).unwrap_or(asked)
 }
 
 // The first view of a piece, which is the end of the piece before it.
