@@ -7,7 +7,7 @@ use snap_tally::ViewGrid;
 use snap_threads::{Cutting, PIECE_LIMIT};
 
 // The cutting of so many views, for the workers of the one that was asked for. Where they have read faults, each piece has at most as
-// many views as a grid compares at once, for to compare a part of these takes as long; and each worker has as many pieces.
+// many views as a grid compares at once, for to compare a part of these takes as long; and there is one at least for each worker.
 pub(crate) fn cutting_of(asked: Cutting, reads: &Option<ViewGrid<'_, '_>>, views: u32) -> Cutting
     ensures workers { result.workers ≡ asked.workers }
 {
