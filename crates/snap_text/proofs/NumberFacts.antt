@@ -46,6 +46,10 @@ number_none limit f h = none_of (number_at limit f) (λ n e. let (lt, is) = numb
 pub number_below : (small n : ℕ) (f : List ℕ) → number_at (2 ^ 32) f ≡ Some n → n < small → small ≤ 2 ^ 32 → number_at small f ≡ Some n
 number_below small n f e lt le = number_some small n f lt (omega (arith, le)) (number_is (2 ^ 32) n f e).1
 
+-- the number below a greater one
+pub number_wider : (wide n : ℕ) (f : List ℕ) → number_at (2 ^ 32) f ≡ Some n → 2 ^ 32 ≤ wide → wide ≤ 2 ^ 64 → number_at wide f ≡ Some n
+number_wider wide n f e le small = let (lt, is) = number_is (2 ^ 32) n f e in number_some wide n f (omega (arith, lt, le)) small is
+
 pub number_above : (small n : ℕ) (f : List ℕ) → number_at (2 ^ 32) f ≡ Some n → small ≤ n → small ≤ 2 ^ 32 → number_at small f ≡ None
 number_above small n f e ge le = number_none small f (λ m lt is.
     let again = number_some (2 ^ 32) m f (omega arith) (omega arith) is in

@@ -4,7 +4,7 @@ ghost use Rattle.snap_core.specs.declared.entry.Entry.{Entry};
 ghost use Rattle.snap_text.specs.Fields.{entries_at, entry_at};
 ghost use Rattle.snap_text.specs.inside.Fronts.{AddsFront, AreSpelled, EntriesThen, EntryThen, NumberThen};
 
-use crate::known::{Known, same_front, spaces};
+use crate::known::{Known, LOOK, same_front, spaces};
 use crate::number::number_first;
 use snap_core::Entry;
 use std::alloc::{AllocError, Global};
@@ -156,46 +156,40 @@ fn add_front<'a, 'k>(
     }
 }
 
-// What a look for the next entries among those of the view before costs, where each entry that is found there gives 1.
-const LOOK: usize = 4;
-
-// What there is for looks at first. So a view of which few entries stood in the view before it is read nearly as if none did.
-const LOOKS: usize = 32;
-
-/// The entries that are spelled with one space between two.
+/// The entries that are spelled with one space between two, and what is left for looks at those of the view before.
 pub(crate) fn entries_of(
     alloc: Global,
     known: &Known,
     text: &[u8],
-) -> Result<Option<Vec<Entry>>, AllocError>
-    ensures { IfOk result (λ o. option_map (λ v. v.items) o ≡ entries_at text.now) }
+) -> Result<Option<(Vec<Entry>, usize)>, AllocError>
+    ensures { IfOk result (λ o. option_map (λ v. v.0.items) o ≡ entries_at text.now) }
 {
     let mut entries = Vec::new(alloc);
+    let mut looks = known.looks();
     if text.is_empty() {
-        return Ok(Some(entries));
+        return Ok(Some((entries, looks)));
     }
     // one more than the view before had, but no more than the text can have, of six bytes each
     entries.reserve(known.entries().len().min(text.len() / 6) + 1)?;
     let mut left = text;
     let mut old = known.text();
     let mut olds = known.entries();
-    let mut looks = LOOKS;
     loop {
         let same = same_front(left, old);
         if let Some(front) = whole_known(left, old, olds, same) {
             entries.extend_from_slice(front)?;
-            return Ok(Some(entries));
+            return Ok(Some((entries, looks.saturating_add(front.len()))));
         }
         let (start, rest, others) = add_front(&mut entries, left, old, olds, same)?;
         let Some((entry, behind)) = entry_first(start) else {
             return Ok(None);
         };
         entries.push(entry)?;
+        looks = looks.saturating_add(olds.len().saturating_sub(others.len()));
         let Some((_, next)) = behind.split_first() else {
-            return Ok(Some(entries));
+            return Ok(Some((entries, looks)));
         };
         left = next;
-        looks = looks.saturating_add(olds.len().saturating_sub(others.len()));
         if looks >= LOOK {
             looks -= LOOK;
             let (behind_old, behind_olds) = behind_first(rest, others, entry.component);

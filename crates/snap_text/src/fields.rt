@@ -27,11 +27,11 @@ fn view_of(alloc: Global, known: &mut Known, text: &[u8]) -> Result<Option<View>
     if again && let Some(view) = known.view() {
         return Ok(Some(view.again()?));
     }
-    let Some(entries) = entries_of(alloc, known, text)? else {
+    let Some((entries, looks)) = entries_of(alloc, known, text)? else {
         return Ok(None);
     };
     if !again {
-        known.keep(alloc, text, &entries)?;
+        known.keep(alloc, text, &entries, looks)?;
     }
     let Ok(view) = View::from_entries(entries) else {
         return Ok(None);

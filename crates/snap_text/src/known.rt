@@ -8,6 +8,16 @@ ghost use Rattle.snap_text.specs.inside.Fronts.{AreSpelled};
 use snap_core::{Entry, View};
 use std::alloc::{AllocError, Global};
 
+/// What a look for the next entries among those of the view before costs, where each entry that is found there gives 1.
+pub(crate) const LOOK: usize = 4;
+
+// What comes in for looks with each view.
+const INCOME: usize = 2 * LOOK;
+
+// The most that there is for looks. Where there is less, a view is compared with the one before it at its front alone. So where
+// views have no entries in common, one of four is looked through.
+const LOOKS: usize = 32;
+
 /// The entries of the view that was read last, and their text. Where that text came twice or more, there is a view of them, whose
 /// entries the next ones with that text share.
 #[derive(Drop)]
@@ -15,6 +25,7 @@ pub struct Known {
     text: Vec<u8>,
     entries: Vec<Entry>,
     view: Option<View>,
+    looks: usize,
     ghost spelled: { AreSpelled entries.items text.items },
     ghost viewed: { ForSome view (λ v. view_at text.items ≡ Some v) },
 }
@@ -26,7 +37,13 @@ impl Known {
             text: Vec::new(alloc),
             entries: Vec::new(alloc),
             view: None,
+            looks: LOOKS,
         }
+    }
+
+    /// What there is for looks at its entries.
+    pub(crate) fn looks(&self) -> usize {
+        if self.looks < LOOKS { 0 } else { LOOKS }
     }
 
     /// The text.
@@ -78,22 +95,26 @@ impl Known {
             text,
             entries,
             view: _,
+            looks,
         } = self;
         Known {
             text,
             entries,
             view: Some(view),
+            looks,
         }
     }
 
-    // Of another view, which has these entries and this text, in the same memory.
-    fn of(self, text: &[u8], entries: &[Entry]) -> Result<Known, AllocError>
+    // Of another view, which has these entries and this text, in the same memory, with what its own looks left.
+    fn of(self, text: &[u8], entries: &[Entry], left: usize) -> Result<Known, AllocError>
         requires { entries_at text.now ≡ Some entries.now }
     {
+        let saved = self.looks.saturating_sub(self.looks());
         let Known {
             text: mut text_room,
             entries: mut entries_room,
             view: _,
+            looks: _,
         } = self;
         text_room.clear();
         text_room.extend_from_slice(text)?;
@@ -103,20 +124,22 @@ impl Known {
             text: text_room,
             entries: entries_room,
             view: None,
+            looks: saved.saturating_add(left).saturating_add(INCOME).min(LOOKS),
         })
     }
 
-    /// Keeps the entries of another view, and their text.
+    /// Keeps the entries of another view, and their text, with what its own looks left.
     pub(crate) fn keep(
         &mut self,
         alloc: Global,
         text: &[u8],
         entries: &[Entry],
+        left: usize,
     ) -> Result<(), AllocError>
         requires { entries_at text.now ≡ Some entries.now }
     {
         let room = std::mem::replace(self, Known::new(alloc));
-        *self = room.of(text, entries)?;
+        *self = room.of(text, entries, left)?;
         Ok(())
     }
 }

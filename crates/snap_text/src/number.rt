@@ -44,8 +44,8 @@ pub(crate) fn process_of(field: &[u8]) -> Option<u16>
     }
 }
 
-/// The stamp that a field is: a number below 2^64 by its decimal.
-pub fn stamp_of(field: &[u8]) -> Option<u64>
+// The stamp that a field is, with as many digits as may be.
+fn long_stamp_of(field: &[u8]) -> Option<u64>
     ensures { result ≡ number_at (2 ^ 64) field.now }
 {
     let Ok(text) = str::from_utf8(field) else {
@@ -59,5 +59,16 @@ pub fn stamp_of(field: &[u8]) -> Option<u64>
         Some(stamp)
     } else {
         None
+    }
+}
+
+/// The stamp that a field is: a number below 2^64 by its decimal.
+pub fn stamp_of(field: &[u8]) -> Option<u64>
+    ensures { result ≡ number_at (2 ^ 64) field.now }
+{
+    // most stamps are counted, and so are small
+    match number_of(field) {
+        Some(stamp) => Some(u64::from(stamp)),
+        None => long_stamp_of(field),
     }
 }
