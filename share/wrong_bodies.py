@@ -51,25 +51,42 @@ def toolchain():
 
 
 rt = toolchain()
-# The calls of the toolchain that this file takes or replaces, each with its parameters.
+# The calls of the toolchain that this file takes or replaces, each with its parameters: those that each has, those of one that keeps
+# on the machine what it has tried, and that of one that keeps nothing.
 CALLS = {
-    "add_edits": "tasks crate edits first waits is_well kept start in_ci",
     "checked": "crate texts flags kept",
     "must_fail": "crate edit flags kept",
-    "seeded": "crate flags start",
     "read_edit": "edit folder",
     "unread": "line changed",
-    "stamp_of": "crate seen",
     "need": "crate",
 }
+KEEPING = {
+    "add_edits": "tasks crate edits first waits is_well kept start in_ci",
+    "seeded": "crate flags start",
+    "stamp_of": "crate seen",
+}
+FORGETTING = {"must_fail_all": "crate edits flags"}
+# What the toolchain's own way of trying a wrong body answers first where it is refused.
+REFUSED = getattr(rt, "REFUSED", True)
+# How a toolchain that keeps nothing tries the wrong bodies of a crate.
+must_fail_all = getattr(rt, "must_fail_all", None)
 # What is kept of a wrong body counts only for those who try it as this file does.
 with open(__file__, "rb") as own:
     OWN = hashlib.sha256(own.read()).hexdigest()
 
 
+def has_calls(calls):
+    """Whether the toolchain has these calls."""
+    return all(callable(getattr(rt, name, None)) and [*inspect.signature(getattr(rt, name)).parameters] == has.split() for name, has in calls.items())
+
+
+KEEPS = has_calls(CALLS | KEEPING)
+FORGETS = has_calls(CALLS | FORGETTING)
+
+
 def is_known():
     """Whether the toolchain tries wrong bodies by the calls that this file knows. Otherwise it tries them in its own way."""
-    return all(callable(getattr(rt, name, None)) and [*inspect.signature(getattr(rt, name)).parameters] == has.split() for name, has in CALLS.items())
+    return KEEPS or FORGETS
 
 
 @dataclass(frozen=True)
@@ -306,6 +323,8 @@ def checks_of(wrongs):
 def try_alone(crate, edits, flags):
     """Tries each wrong body in a check of its own, as the toolchain does: over what a check of the crate as it stands has proved, and
     from nothing where that does not settle it."""
+    if FORGETS:
+        return must_fail_all(crate, edits, flags)
     tried = []
     seed = rt.seeded(crate, flags) if len(edits) > 1 else None
     for edit in edits:
@@ -322,7 +341,8 @@ def try_alone(crate, edits, flags):
 
 
 def try_together(crate, edits, flags):
-    """What the try of each edit comes to, as the toolchain's `must_fail` says it: the kind of answer, and a line."""
+    """What the try of each edit comes to, as the toolchain's `must_fail` says it: the kind of answer, or whether it is refused, and a
+    line."""
     tried = Crate(crate)
     wrongs = [it for it in map(tried.wrong_of, edits) if it]
     why = {}
@@ -332,7 +352,7 @@ def try_together(crate, edits, flags):
     left = [it for it in edits if it not in why]
     alone = dict(zip(left, try_alone(crate, left, flags)))
     said = lambda it: f"must-fail {crate.name}/{os.path.basename(it)}: refused, as it must be: {why[it][:160]}"
-    return [alone[it] if it in alone else (rt.REFUSED, said(it)) for it in edits]
+    return [alone[it] if it in alone else (REFUSED, said(it)) for it in edits]
 
 
 def add_edits(tasks, crate, edits, first, waits, is_well, kept, start=None, in_ci=True):
@@ -368,15 +388,18 @@ def main(words):
     if not words:
         print(__doc__, file=sys.stderr)
         return 5
-    if is_known():
+    if KEEPS:
         rt.add_edits = add_edits
+    elif FORGETS:
+        rt.must_fail_all = try_together
     else:
         print("this toolchain tries each wrong body in its own way", flush=True)
     if words[0] != "ci":
         return rt.main(["must-fail", *words])
     # while wrong bodies wait for a processor, a second job of a proof costs more than it saves
     os.environ.setdefault("RT_JOBS", str(len(os.sched_getaffinity(0))))
-    return rt.main(words)
+    # one that keeps nothing proves all anew each time, and knows no word for it
+    return rt.main(["ci"] if FORGETS else words)
 
 
 if __name__ == "__main__":
