@@ -323,7 +323,7 @@ def checks_of(wrongs):
 def try_alone(crate, edits, flags):
     """Tries each wrong body in a check of its own, as the toolchain does: over what a check of the crate as it stands has proved, and
     from nothing where that does not settle it."""
-    if FORGETS:
+    if not KEEPS:
         return must_fail_all(crate, edits, flags)
     tried = []
     seed = rt.seeded(crate, flags) if len(edits) > 1 else None
