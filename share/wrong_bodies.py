@@ -81,7 +81,7 @@ def has_calls(calls):
 
 
 KEEPS = has_calls(CALLS | KEEPING)
-FORGETS = has_calls(CALLS | FORGETTING)
+FORGETS = not KEEPS and has_calls(CALLS | FORGETTING)
 
 
 def is_known():
