@@ -12,13 +12,13 @@ use Rattle.snap_verdict.specs.Statuses.{code_of}
 use Rattle.snap_json.specs.Objects.{trouble_json}
 use Rattle.snap_json.specs.Values.{IsLineOf}
 use Rattle.snap_tell.specs.Telling.{IsTold}
-use Rattle.snap_files.specs.Names.{named_lines, reason_line_text}
+use Rattle.snap_names.specs.Said.{named_lines, trouble_line_text, trouble_text}
 use Rattle.snap_names.specs.Shown.{shown}
 use Rattle.snap_files.specs.declared.format.FileOptions.{FileOptions}
 use Rattle.snap_files.specs.declared.format.Format.{Format}
 use Rattle.snap_files.specs.declared.format.Format.TheVariants.{Plain, Json}
 use Rattle.snap_names.specs.declared.opener.Trouble.{Trouble}
-use Rattle.snap_names.specs.declared.opener.Trouble.TheVariants.{Missing, Folder, NotUnicode, Unopened, Unread, Memory}
+use Rattle.snap_names.specs.declared.opener.Trouble.TheVariants.{Unread, Memory}
 
 -- what became of a name: its status, none where its history has fewer views than are asked for, or why it has none
 abbrev pub Answer : Type 0
@@ -56,15 +56,6 @@ answer_code (Ok (Some status)) = code_of status
 answer_code (Ok None) = 3
 answer_code (Err trouble) = 4
 
--- a trouble in words
-abbrev pub trouble_text : Trouble → List ℕ
-trouble_text Missing = codes "no such file"
-trouble_text Folder = codes "is a directory"
-trouble_text NotUnicode = codes "is not UTF-8"
-trouble_text Unopened = codes "can't be opened"
-trouble_text Unread = codes "read failed"
-trouble_text Memory = codes "out of memory"
-
 -- of a name that met a trouble nothing is written, or its object; where memory did not suffice for that, memory is the trouble
 abbrev pub IsTroublePage : Format → List ℕ → Trouble → Trouble → List ℕ → Type 0
 IsTroublePage Plain name met trouble out = (trouble ≡ met) × (out ≡ [])
@@ -77,10 +68,7 @@ IsPage opens options name (Ok status) out =
     (known : Option (List ℕ)) × opens name (Ok known) × IfSome known (λ text. IsTextPage options.format options.check name text status out)
 IsPage opens options name (Err trouble) out = (met : Trouble) × IsTroubled opens name met × IsTroublePage options.format name met trouble out
 
--- what is said of a name with a trouble, and of one whose history has fewer views than are asked for
-abbrev pub trouble_line_text : List ℕ → Trouble → List ℕ
-trouble_line_text name trouble = reason_line_text name (trouble_text trouble)
-
+-- what is said of a name whose history has fewer views than are asked for
 abbrev pub refusal_line_text : CheckOptions → List ℕ → List ℕ
 refusal_line_text options name = shown name ++ codes ": refused: fewer than " ++ decimal options.views ++ codes " views\n"
 

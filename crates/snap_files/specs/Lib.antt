@@ -1,4 +1,3 @@
-pub mod Names
 pub mod Files
 pub mod Sums
 pub mod inside

@@ -3,15 +3,11 @@
 
 mod files;
 mod format;
-mod name;
 mod page;
-mod reason;
 mod round;
 mod sum;
 mod sums;
 
 pub use files::check_all;
 pub use format::{FileOptions, Format};
-pub use page::trouble_line;
-pub use reason::reason_line;
 pub use sum::sum_all;

@@ -2,17 +2,15 @@
 ghost use Rattle.std.specs.Prelude.{◌≡◌, ◌++◌, ◌⊎◌, IfOk, IfSome, MatchResult, Ok, Err, string_bytes};
 ghost use Rattle.snap_json.specs.Objects.{trouble_json};
 ghost use Rattle.snap_json.specs.Values.{IsLineOf};
-ghost use Rattle.snap_files.specs.Files.{IsNamedReport, IsObject, IsPage, IsTextPage, IsTroublePage, answer_code, object_name, refusal_line_text, told_text, trouble_line_text, trouble_text};
+ghost use Rattle.snap_files.specs.Files.{IsNamedReport, IsObject, IsPage, IsTextPage, IsTroublePage, answer_code, object_name, refusal_line_text, told_text};
 ghost use Rattle.snap_files.specs.inside.Files.{trouble_by};
-ghost use Rattle.snap_files.specs.Names.{named_lines};
+ghost use Rattle.snap_names.specs.Said.{trouble_text};
 ghost use Rattle.snap_names.specs.declared.opener.Trouble.TheVariants as troubles;
 
 use crate::format::{FileOptions, Format};
-use crate::name::front_lines;
-use crate::reason::reason_line;
 use snap_check::{CheckOptions, RunFault, check_run_with};
 use snap_core::{Counted, Gate};
-use snap_names::{Opener, Trouble, put_shown};
+use snap_names::{Opener, Trouble, name_lines, put_shown, trouble_line, trouble_words};
 use snap_report::put_number;
 use snap_tell::tell_run;
 use snap_threads::Cutting;
@@ -33,16 +31,6 @@ pub(crate) fn code_of(answer: &Answer) -> u8
         Ok(None) => Status::Refused.code(),
         Err(_) => 4,
     }
-}
-
-// A text with the name before each of its lines.
-fn name_lines(alloc: Global, name: &[u8], text: &[u8]) -> Result<Vec<u8>, AllocError>
-    ensures { IfOk result (λ lines. lines.items ≡ named_lines name.now text.now) }
-{
-    let mut front = Vec::new(alloc);
-    put_shown(&mut front, name)?;
-    front.extend_from_slice(b": ")?;
-    front_lines(alloc, &front, text)
 }
 
 // Why a text that was opened has no status.
@@ -146,26 +134,12 @@ fn text_page<Rt: Threads + Sync, R: Read + Drop, G: Gate>(
     }
 }
 
-// A trouble in words.
-fn text_of(trouble: Trouble) -> &'static str
-    ensures { result.now ≡ trouble_text trouble }
-{
-    match trouble {
-        Trouble::Missing => "no such file",
-        Trouble::Folder => "is a directory",
-        Trouble::NotUnicode => "is not UTF-8",
-        Trouble::Unopened => "can't be opened",
-        Trouble::Unread => "read failed",
-        Trouble::Memory => "out of memory",
-    }
-}
-
 // The object of a name that met a trouble.
 fn trouble_object(alloc: Global, name: &[u8], met: Trouble) -> Result<Vec<u8>, AllocError>
     ensures { IfOk result (λ line. IsLineOf (trouble_json (object_name name.now) (answer_code (Err met)) (trouble_text met)) line.items) }
 {
     let shown = object_name(alloc, name)?;
-    snap_json::trouble_line(alloc, &shown, code_of(&Err(met)), text_of(met))
+    snap_json::trouble_line(alloc, &shown, code_of(&Err(met)), trouble_words(met))
 }
 
 // The trouble of a name that met one, and what is written of it.
@@ -204,13 +178,6 @@ pub(crate) fn check_name<Rt: Threads + Sync, O: Opener, G: Gate>(
     };
     let (trouble, out) = trouble_page(alloc, name, met, options.format);
     (Err(trouble), out)
-}
-
-/// What is said of a name on the error output where there is a trouble.
-pub fn trouble_line(alloc: Global, name: &[u8], trouble: Trouble) -> Result<Vec<u8>, AllocError>
-    ensures { IfOk result (λ line. line.items ≡ trouble_line_text name.now trouble) }
-{
-    reason_line(alloc, name, text_of(trouble))
 }
 
 // What is said of a name whose history has fewer completed views than are asked for.

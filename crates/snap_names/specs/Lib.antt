@@ -1,3 +1,4 @@
 pub mod Lists
+pub mod Said
 pub mod Shown
 pub mod Walks

@@ -1,11 +1,9 @@
 //! The checks of one text and of several files.
 ghost use Rattle.snap_core.specs.Limits.{IsLimit};
 
-use crate::Failure;
-use crate::files::{open_only, system};
-use crate::options::{file_options, limit_of};
-use crate::shown::{in_colors, progress_of};
-use snap_check::{RunFault, Status, check_run_with};
+use crate::options::file_options;
+use snap_check::{RunFault, check_run_with};
+use snap_commands::{Failure, in_colors, limit_of, open_only, progress_of, system, too_few_views};
 use snap_core::{Counted, OpenGate};
 use snap_files::{check_all, sum_all};
 use snap_names::{Opener, SystemText};
@@ -17,12 +15,6 @@ use std::fs::File;
 use std::io::Write;
 use std::slice;
 use std::thread::Threads;
-
-/// The status of a history with too few views, which is said.
-pub(crate) fn too_few_views(host: &HostRuntime, views: u32) -> Status {
-    let _ = eprintln!(host; "refused: fewer than {} views", views);
-    Status::Refused
-}
 
 // The check of one text.
 fn check_text<Rt: Threads + Sync>(

@@ -2,12 +2,8 @@
 #![tactic(auto)]
 
 mod check;
-mod files;
-mod follow;
 mod jobs;
-mod names;
 mod options;
-mod shown;
 mod streams;
 mod version;
 
@@ -15,40 +11,11 @@ use crate::jobs::answered;
 use crate::streams::held_place;
 use crate::version::{asks_version, write_version};
 use snap_check::RunFault;
+use snap_commands::Failure;
 use snap_words::{JobFault, wanted_by, words_of};
-use std::alloc::AllocError;
 use std::process::ExitCode;
 use std::sync::Wait;
 use std::thread::Threads;
-
-// Why the words have no exit status of their own.
-#[derive(Drop)]
-enum Failure {
-    // They name no job.
-    Words(JobFault),
-    // A file was not opened, which is said already.
-    Unopened,
-    // The run of the job ended with a fault.
-    Run(RunFault),
-}
-
-impl From<JobFault> for Failure {
-    fn from(fault: JobFault) -> Failure {
-        Failure::Words(fault)
-    }
-}
-
-impl From<AllocError> for Failure {
-    fn from(_error: AllocError) -> Failure {
-        Failure::Run(RunFault::Memory)
-    }
-}
-
-impl From<RunFault> for Failure {
-    fn from(fault: RunFault) -> Failure {
-        Failure::Run(fault)
-    }
-}
 
 // The exit status where a run ended with a fault. That is said.
 fn failed(rt: &HostRuntime, fault: &RunFault) -> u8 {

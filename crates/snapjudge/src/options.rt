@@ -1,22 +1,11 @@
-//! The limit of events, and what the options of a check mean for each file.
+//! What the options of a check mean for each file.
 ghost use Rattle.std.specs.Prelude.{◌≡◌, MatchBool};
 ghost use Rattle.snap_core.specs.Limits.{IsLimit};
 ghost use Rattle.snap_files.specs.declared.format.Format.TheVariants.{Json, Plain};
 
-use snap_core::Limit;
+use snap_commands::limit_of;
 use snap_files::FileOptions;
 use snap_words::Options;
-
-/// The limit of so many events.
-pub(crate) fn limit_of(events: u32) -> Limit
-    requires { IsLimit events }
-    ensures { result.events ≡ events }
-{
-    let Some(limit) = Limit::new(events) else {
-        unreachable!()
-    };
-    limit
-}
 
 /// The check of each file that a check of these options asks for.
 pub(crate) fn file_options(asked: Options) -> FileOptions

@@ -3,7 +3,7 @@ use Rattle.snap_core.specs.Counting.{inner_of}
 use Rattle.snap_check.specs.Options.{IsReportWith}
 use Rattle.snap_check.proofs.Runs.{with_text}
 use Rattle.snap_files.specs.Files.{IsNamedReport}
-use Rattle.snap_files.specs.Names.{named_lines}
+use Rattle.snap_names.specs.Said.{named_lines}
 use Rattle.snap_files.proofs.Written.{into_memory}
 use Rattle.snap_files.proofs.page.named_report.Goals as goal
 

@@ -1,8 +1,8 @@
 use Rattle.std.proofs.Common.{◌≡◌, ◌++◌, ◌∙◌, ap, codes, subst, true, List, ℕ}
 use Rattle.std.specs.Prelude.{IfOk}
-use Rattle.snap_files.specs.Names.{fronted_from}
+use Rattle.snap_names.specs.Said.{fronted_from}
 use Rattle.snap_names.specs.Shown.{shown}
-use Rattle.snap_files.proofs.page.name_lines.Goals as goal
+use Rattle.snap_names.proofs.said.name_lines.Goals as goal
 
 pub returns : goal.returns
 returns c =

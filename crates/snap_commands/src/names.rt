@@ -1,9 +1,8 @@
 //! The names that a check takes from a list and from below a folder.
-use crate::Failure;
+use crate::failure::Failure;
 use crate::files::open_named;
 use snap_core::Counted;
-use snap_files::reason_line;
-use snap_names::{NamesFault, SystemFolders, names_below, read_names};
+use snap_names::{NamesFault, SystemFolders, names_below, read_names, reason_line};
 use snap_words::{Places, Wanted, names_input_twice};
 
 /// Says a reason of a name.
@@ -66,7 +65,7 @@ fn add_places(rt: &HostRuntime, names: &mut Vec<Vec<u8>>, places: &Places) -> Re
 }
 
 /// The names among the words, then those in the list, then those below the folder. Where there is none at all, that is said.
-pub(crate) fn names_of(rt: &HostRuntime, wanted: Wanted) -> Result<Vec<Vec<u8>>, Failure> {
+pub fn names_of(rt: &HostRuntime, wanted: Wanted) -> Result<Vec<Vec<u8>>, Failure> {
     let Wanted {
         files: mut names,
         places,

@@ -1,12 +1,11 @@
 //! What opens the files that are named.
-use crate::Failure;
+use crate::failure::Failure;
 use snap_core::Counted;
-use snap_files::trouble_line;
-use snap_names::{Opener, System, SystemText, Trouble};
+use snap_names::{Opener, System, SystemText, Trouble, trouble_line};
 use std::fs::File;
 
 /// What opens the files.
-pub(crate) fn system(rt: &HostRuntime) -> System<'_, HostRuntime> {
+pub fn system(rt: &HostRuntime) -> System<'_, HostRuntime> {
     System {
         files: rt,
         input: rt.stdin(),
@@ -14,7 +13,7 @@ pub(crate) fn system(rt: &HostRuntime) -> System<'_, HostRuntime> {
 }
 
 /// The text of the only file, or of standard input where there is none. Why it can't be opened is said.
-pub(crate) fn open_only(rt: &HostRuntime, files: &[Vec<u8>]) -> Result<SystemText<File>, Failure> {
+pub fn open_only(rt: &HostRuntime, files: &[Vec<u8>]) -> Result<SystemText<File>, Failure> {
     match files.first() {
         Some(name) => open_named(rt, name),
         None => open_named(rt, b"-"),

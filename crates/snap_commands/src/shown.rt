@@ -15,7 +15,7 @@ fn has_no_color(host: &HostRuntime) -> bool {
 }
 
 /// Whether the verdicts of reports have colours. An object has none.
-pub(crate) fn in_colors(host: &HostRuntime, asked: Options) -> bool {
+pub fn in_colors(host: &HostRuntime, asked: Options) -> bool {
     match asked.color {
         _ if asked.json => false,
         Color::Auto => host.stdout().is_terminal() && !has_no_color(host),
@@ -25,7 +25,7 @@ pub(crate) fn in_colors(host: &HostRuntime, asked: Options) -> bool {
 }
 
 /// The line of progress over so many files, if there is to be one.
-pub(crate) fn progress_of(
+pub fn progress_of(
     host: &HostRuntime,
     files: usize,
     asked: Options,

@@ -1,11 +1,11 @@
 //! The check of a recording that grows.
 ghost use Rattle.snap_core.specs.Limits.{IsLimit};
 
-use crate::Failure;
-use crate::check::too_few_views;
+use crate::failure::Failure;
 use crate::files::{say_trouble, system};
+use crate::limit::limit_of;
 use crate::names::{say, say_none};
-use crate::options::limit_of;
+use crate::refusal::too_few_views;
 use snap_check::RunFault;
 use snap_core::Counted;
 use snap_follow::{
@@ -101,7 +101,7 @@ fn follow_folder<Rt: Wait>(
 
 /// Follows the only file, all files below the only folder, or standard input where there is no name. What is left out of its end is
 /// said.
-pub(crate) fn follow<Rt: Wait>(
+pub fn follow<Rt: Wait>(
     rt: &Rt,
     host: &HostRuntime,
     files: &[Vec<u8>],

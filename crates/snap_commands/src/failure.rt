@@ -1,0 +1,33 @@
+//! Why a command has no exit status of its own.
+use snap_check::RunFault;
+use snap_words::JobFault;
+use std::alloc::AllocError;
+
+/// Why the words of a command line have no exit status of their own.
+#[derive(Drop)]
+pub enum Failure {
+    /// They name no job.
+    Words(JobFault),
+    /// A file was not opened, which is said already.
+    Unopened,
+    /// The run of the job ended with a fault.
+    Run(RunFault),
+}
+
+impl From<JobFault> for Failure {
+    fn from(fault: JobFault) -> Failure {
+        Failure::Words(fault)
+    }
+}
+
+impl From<AllocError> for Failure {
+    fn from(_error: AllocError) -> Failure {
+        Failure::Run(RunFault::Memory)
+    }
+}
+
+impl From<RunFault> for Failure {
+    fn from(fault: RunFault) -> Failure {
+        Failure::Run(fault)
+    }
+}

@@ -1,0 +1,21 @@
+//! What each command of the program does with the system, but for the check of files: it opens texts, lists names, says troubles, and
+//! starts a run.
+#![tactic(auto)]
+
+mod failure;
+mod files;
+mod following;
+mod limit;
+mod names;
+mod refusal;
+mod runs;
+mod shown;
+
+pub use failure::Failure;
+pub use files::{open_only, system};
+pub use following::follow;
+pub use limit::limit_of;
+pub use names::names_of;
+pub use refusal::too_few_views;
+pub use runs::{draw, explain, record, record_stamped, shrink};
+pub use shown::{in_colors, progress_of};

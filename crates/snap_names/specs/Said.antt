@@ -1,0 +1,32 @@
+-- Lines that say something of a name.
+use Rattle.std.specs.Prelude.{◌==◌, ◌++◌, ℕ, Bool, true, if◌then◌else◌, List, [], ◌∷◌, codes}
+use Rattle.snap_names.specs.Shown.{shown}
+use Rattle.snap_names.specs.declared.opener.Trouble.{Trouble}
+use Rattle.snap_names.specs.declared.opener.Trouble.TheVariants.{Missing, Folder, NotUnicode, Unopened, Unread, Memory}
+
+-- a text with a front before each of its lines: before its first byte, where a line begins there, and before each byte that stands
+-- behind a line feed
+abbrev pub fronted_from : Bool → List ℕ → List ℕ → List ℕ
+fronted_from begins front [] = []
+fronted_from begins front (b ∷ bs) = (if begins then front else []) ++ b ∷ fronted_from (b == 10) front bs
+
+-- a text with a name before each of its lines
+abbrev pub named_lines : List ℕ → List ℕ → List ℕ
+named_lines name text = fronted_from true (shown name ++ codes ": ") text
+
+-- the line that says a reason of a name
+abbrev pub reason_line_text : List ℕ → List ℕ → List ℕ
+reason_line_text name reason = codes "snapjudge: " ++ shown name ++ codes ": " ++ reason ++ codes "\n"
+
+-- a trouble in words
+abbrev pub trouble_text : Trouble → List ℕ
+trouble_text Missing = codes "no such file"
+trouble_text Folder = codes "is a directory"
+trouble_text NotUnicode = codes "is not UTF-8"
+trouble_text Unopened = codes "can't be opened"
+trouble_text Unread = codes "read failed"
+trouble_text Memory = codes "out of memory"
+
+-- the line that says the trouble of a name
+abbrev pub trouble_line_text : List ℕ → Trouble → List ℕ
+trouble_line_text name trouble = reason_line_text name (trouble_text trouble)
