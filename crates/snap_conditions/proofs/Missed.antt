@@ -1,7 +1,10 @@
 -- The updates that a view misses, by the begins of those that it shows.
-use Rattle.std.proofs.Common.{◌≡◌, ℕ, suc, ◌+◌, ◌<◌, ◌≤◌, Bool, true, false, not, cond, List, [], ◌∷◌, length, get_or, Some, refl, sym, ap, ◌∙◌, arith}
+use Rattle.std.proofs.Common.{◌≡◌, ℕ, zero, suc, ◌+◌, ◌<◌, ◌≤◌, Bool, true, false, not, cond, List, [], ◌∷◌, length, get_or, Option, Some, None, refl, sym, ap, ◌∙◌, arith}
 use Rattle.std.specs.Prelude.{nat_lt, filter, count_by, option_map}
 use Rattle.std.specs.List.{position_or_len}
+use Rattle.std.specs.Prelude.{is_some}
+use Rattle.std.specs.Option.{option_or}
+use Rattle.std.proofs.lemmas.Bool.{lt-ltb, le-ltb}
 use Rattle.std.proofs.lemmas.List.{get_or-map, length-map}
 use Rattle.std.proofs.lemmas.List.Sums.{sum_by-cons}
 use Rattle.snap_core.specs.declared.entry.Entry.{Entry}
@@ -13,7 +16,7 @@ use Rattle.snap_core.proofs.Facts.{shown_number_at}
 use Rattle.snap_core.proofs.Histories.{are_calls}
 use Rattle.snap_conditions.specs.declared.fault.WriteFault.{WriteFault}
 use Rattle.snap_theory.specs.Faults.{write_fault, listed, first_of, missed_at}
-use Rattle.snap_conditions.specs.Parts.{part_of, no_part}
+use Rattle.snap_conditions.specs.Parts.{part_of, no_part, merged_part}
 use Rattle.snap_conditions.specs.PartValue.{PartValue}
 use Rattle.snap_conditions.proofs.OneView.{missed_part}
 use Rattle.snap_conditions.proofs.Parts.{part_is}
@@ -129,3 +132,42 @@ missed_some calls r j ended first count begins fault t f l n e =
     (ap (λ z. Some z) (e ∙ ap (λ z. reported_write (r, j, get_or (listed r) z 0)) f)
     ∙ sym (ap (option_map (λ k. reported_write (r, j, k))) (first_filtered (write_fault calls r j) (λ b. nat_lt ended b) (listed r) begins t.size t.test (omega (arith, l, f)))))
     ∙ sym (missed_part calls r j)
+
+-- how many of some begins in their order stand behind an end, where the first of them stands
+pub counted_behind : (ended : ℕ) (xs : List ℕ) (i : ℕ) → i ≤ length xs → ((k : ℕ) → k < i → get_or xs k 0 ≤ ended) → ((k : ℕ) → i ≤ k → k < length xs → ended < get_or xs k 0) → count_by (λ b. nat_lt ended b) xs + i ≡ length xs
+counted_behind ended [] i w f b = omega (arith, w)
+counted_behind ended (x ∷ xs) zero w f b =
+    omega (
+      arith,
+      sum_by-cons (λ y. cond (nat_lt ended y) 1 0) x xs,
+      ap {B = ℕ} (λ z. cond z 1 0) (lt-ltb ended x (b 0 (omega arith) (omega arith))),
+      counted_behind ended xs 0 (omega arith) (λ k l. absurd (omega (arith, l))) (λ k l m. b (suc k) (omega arith) (omega (arith, m))),
+    )
+counted_behind ended (x ∷ xs) (suc i) w f b =
+    omega (
+      arith,
+      sum_by-cons (λ y. cond (nat_lt ended y) 1 0) x xs,
+      ap {B = ℕ} (λ z. cond z 1 0) (le-ltb ended x (f 0 (omega arith))),
+      counted_behind ended xs i (omega (arith, w)) (λ k l. f (suc k) (omega (arith, l))) (λ k l m. b (suc k) (omega (arith, l)) (omega (arith, m))),
+    )
+
+-- a part that has a first fault, with as many faults more as a view has that misses an update
+pub merged_missed : (calls : List Call) (r : Call) (j ended count : ℕ) (begins : List ℕ) (part : PartValue WriteFault) → AreTested calls r j ended begins → count ≡ count_by (λ b. nat_lt ended b) begins → is_some part.first ≡ true →
+    ◌≡◌ {A = PartValue WriteFault} (record { count = part.count + count; first = part.first }) (merged_part part (part_of reported_write (missed_at calls r j)))
+merged_missed calls r j ended count begins part t n some =
+    let faults = filter (write_fault calls r j) (listed r) in
+    part_is (record { count = part.count + count; first = part.first }) (merged_part part (part_of reported_write (missed_at calls r j)))
+    (ap (λ m. part.count + m) (n ∙ sym (count_filtered (write_fault calls r j) (λ b. nat_lt ended b) (listed r) begins t.size t.test) ∙ sym (ap (λ (p : PartValue WriteFault). p.count) (missed_part calls r j))))
+    (keeps part.first (part_of reported_write (missed_at calls r j)).first some)
+  where
+    keeps : {F : Type 0} (o p : Option F) → is_some o ≡ true → o ≡ option_or o p
+    keeps None p h = cc
+    keeps (Some x) p h = refl
+
+-- a part without a fault, with the faults of another
+pub merged_first : {F : Type 0} (p q : PartValue F) → p.count ≡ 0 → is_some p.first ≡ false → q ≡ merged_part p q
+merged_first p q n none = part_is q (merged_part p q) (omega (arith, n)) (behind p.first q.first none)
+  where
+    behind : {F : Type 0} (o p : Option F) → is_some o ≡ false → p ≡ option_or o p
+    behind None p h = refl
+    behind (Some x) p h = cc

@@ -78,6 +78,18 @@ impl<F: Copy> Part<F> {
         }
     }
 
+    // The part with so many faults behind its own, of which it has some.
+    pub(crate) fn with_more(self, count: u64) -> Part<F>
+        requires some { 0 < self.count }
+        requires fits { self.count + count < 2 ^ 64 }
+        ensures { result ≡ record { count = self.count + count; first = self.first } }
+    {
+        Part {
+            count: self.count + count,
+            first: self.first,
+        }
+    }
+
     // The faults of both, the second's behind the first's.
     pub(crate) fn merge(self, second: Part<F>) -> Part<F>
         requires { self.count + second.count < 2 ^ 64 }

@@ -1,13 +1,15 @@
 //! The write faults of one view.
 ghost use Rattle.std.specs.Prelude.{◌≡◌, ◌<◌, ◌∷◌, [], ◌≤◌, ℕ, suc, Some, length, get_or, nat_lt, count_by};
 ghost use Rattle.std.specs.List.{position_or_len};
+ghost use Rattle.std.specs.List.Sorted.{IsNonDecreasing, IsPermutation};
 ghost use Rattle.snap_core.specs.Calls.{calls_of, views_of, shown_number};
 ghost use Rattle.snap_core.specs.Entries.{component_count};
 ghost use Rattle.snap_core.specs.Events.{IsBoundedHistory};
 ghost use Rattle.snap_core.specs.declared.entry.Entry.{Entry};
+ghost use Rattle.snap_conditions.specs.declared.write.TheConstants.{MANY};
 ghost use Rattle.snap_conditions.specs.inside.ShownAndNext.{IsOfView};
 ghost use Rattle.snap_theory.specs.Faults.{write_faults, missed_at};
-ghost use Rattle.snap_conditions.specs.Parts.{part_of};
+ghost use Rattle.snap_conditions.specs.Parts.{part_of, merged_part};
 ghost use Rattle.snap_conditions.specs.inside.Places.{end_of, begin_of_shown, begin_or_0};
 ghost use Rattle.snap_theory.specs.Updates.{update_of};
 ghost use Rattle.snap_views.specs.Seen.{IsSeen, view_in};
@@ -19,6 +21,9 @@ use crate::shown_and_next::ShownAndNext;
 use snap_core::{COMPONENT_COUNT, Entry};
 use snap_index::Index;
 use snap_views::SeenView;
+
+// From so many begins on a search among them in their order takes less than to compare each.
+const MANY: usize = 128;
 
 // Where the updates that entries show begin, entry by entry: at place 0, where there is none, nothing begins behind an end.
 fn begins_of(updates: &ShownAndNext<'_>, entries: &[Entry]) -> [u32; COMPONENT_COUNT]
@@ -33,8 +38,8 @@ fn begins_of(updates: &ShownAndNext<'_>, entries: &[Entry]) -> [u32; COMPONENT_C
     begins
 }
 
-// How many of some begins stand behind an end.
-fn count_behind(begins: &[u32], ended: u32) -> u64
+// How many of some begins stand behind an end, in whatever order they are.
+fn count_each(begins: &[u32], ended: u32) -> u64
     requires { length begins.now ≤ component_count }
     ensures { result ≡ count_by (λ b. nat_lt ended b) begins.now }
 {
@@ -43,6 +48,40 @@ fn count_behind(begins: &[u32], ended: u32) -> u64
         count += u32::from(ended < *begun);
     }
     u64::from(count)
+}
+
+// How many of some begins stand behind an end, where they are in their order.
+fn count_ordered(begins: &[u32], ended: u32) -> u64
+    requires { IsNonDecreasing begins.now }
+    ensures { result ≡ count_by (λ b. nat_lt ended b) begins.now }
+{
+    let behind = begins.partition_point(|begun| *begun <= ended);
+    (begins.len() - behind) as u64
+}
+
+// How many of some begins stand behind an end. Where they are many, they are in their order.
+fn count_behind(begins: &[u32], ended: u32) -> u64
+    requires few { length begins.now ≤ component_count }
+    requires order { MANY ≤ length begins.now → IsNonDecreasing begins.now }
+    ensures { result ≡ count_by (λ b. nat_lt ended b) begins.now }
+{
+    if begins.len() < MANY {
+        return count_each(begins, ended);
+    }
+    count_ordered(begins, ended)
+}
+
+// Puts some begins in their order, where they are many.
+fn arranged(begins: &mut [u32]) -> &[u32]
+    ensures order { MANY ≤ length result.now → IsNonDecreasing result.now }
+    ensures same { IsPermutation begins.old result.now }
+    ensures size { length result.now ≡ length begins.old }
+{
+    if begins.len() < MANY {
+        return begins;
+    }
+    begins.sort_unstable();
+    begins
 }
 
 // The first of some begins that stands behind an end.
@@ -57,40 +96,75 @@ fn first_behind(begins: &[u32], ended: u32) -> usize
     begins.len()
 }
 
-// The write faults of the view at a place that shows a number of component j, the update after which has ended. The updates
-// that it shows begin at `begins`.
+// An update that a view misses.
+#[derive(Clone, Copy)]
+struct Missed {
+    component: u8,
+    // the number of the update before it, which the view shows
+    number: u32,
+    // where it ended
+    ended: u32,
+}
+
+// The write faults, so many, of the view at a place that misses an update. The updates that it shows begin at `begins`.
 fn missed_part(
     index: &Index<'_>,
     place: u32,
     view: &SeenView<'_>,
     begins: &[u32],
-    j: u8,
-    number: u32,
-    ended: u32,
+    missed: Missed,
+    count: u64,
 ) -> Part<WriteFault>
     requires place { place < length (views_of (calls_of index.now)) }
     requires kept { IsBoundedHistory index.now }
     requires view { IsSeen (view_in (calls_of index.now) place) view.now }
-    requires number { number ≡ shown_number (view_in (calls_of index.now) place) j }
-    requires ended { end_of (update_of (calls_of index.now) j (suc number)) ≡ Some ended }
-    requires count { length begins.now ≡ length view.now.entries.now }
+    requires number { missed.number ≡ shown_number (view_in (calls_of index.now) place) missed.component }
+    requires ended { end_of (update_of (calls_of index.now) missed.component (suc missed.number)) ≡ Some missed.ended }
+    requires size { length begins.now ≡ length view.now.entries.now }
     requires begins { (i : ℕ) → i < length view.now.entries.now → get_or begins.now i 0 ≡ begin_or_0 (begin_of_shown (calls_of index.now) view.now.entries.now i) }
-    ensures { result ≡ part_of reported_write (missed_at (calls_of index.now) (view_in (calls_of index.now) place) j) }
+    requires count { count ≡ count_by (λ b. nat_lt missed.ended b) begins.now }
+    ensures { result ≡ part_of reported_write (missed_at (calls_of index.now) (view_in (calls_of index.now) place) missed.component) }
 {
-    let count = count_behind(begins, ended);
-    let first = first_behind(begins, ended);
+    let first = first_behind(begins, missed.ended);
     if first == begins.len() {
         return Part::none();
     }
     let entry = view.entries[first];
     let fault = WriteFault {
         view: view.call_number,
-        missed_component: j,
-        missed_number: number + 1,
+        missed_component: missed.component,
+        missed_number: missed.number + 1,
         shown_component: entry.component,
         shown_number: entry.number,
     };
     Part::of(count, fault)
+}
+
+// A part with the write faults of one more update that the view at a place misses. Only the first of all is looked for.
+fn with_missed(
+    part: Part<WriteFault>,
+    index: &Index<'_>,
+    place: u32,
+    view: &SeenView<'_>,
+    begins: &[u32],
+    missed: Missed,
+    count: u64,
+) -> Part<WriteFault>
+    requires few { part.count ≤ 65536 }
+    requires place { place < length (views_of (calls_of index.now)) }
+    requires kept { IsBoundedHistory index.now }
+    requires view { IsSeen (view_in (calls_of index.now) place) view.now }
+    requires number { missed.number ≡ shown_number (view_in (calls_of index.now) place) missed.component }
+    requires ended { end_of (update_of (calls_of index.now) missed.component (suc missed.number)) ≡ Some missed.ended }
+    requires size { length begins.now ≡ length view.now.entries.now }
+    requires begins { (i : ℕ) → i < length view.now.entries.now → get_or begins.now i 0 ≡ begin_or_0 (begin_of_shown (calls_of index.now) view.now.entries.now i) }
+    requires count { count ≡ count_by (λ b. nat_lt missed.ended b) begins.now }
+    ensures { result ≡ merged_part part (part_of reported_write (missed_at (calls_of index.now) (view_in (calls_of index.now) place) missed.component)) }
+{
+    if part.count() > 0 {
+        return part.with_more(count);
+    }
+    missed_part(index, place, view, begins, missed, count)
 }
 
 // The write faults of the view at a place.
@@ -112,19 +186,19 @@ pub(crate) fn write_part(
         return part;
     }
     let begins = begins_of(updates, view.entries);
+    let mut copy = begins;
     let begins = &begins[..view.entries.len()];
+    let counted = arranged(&mut copy[..view.entries.len()]);
     for j in 0..updates.limit {
         let ended = updates.ends[j];
         if ended < updates.latest {
-            part = part.merge(missed_part(
-                index,
-                place,
-                view,
-                begins,
-                j as u8,
-                updates.numbers[j],
+            let missed = Missed {
+                component: j as u8,
+                number: updates.numbers[j],
                 ended,
-            ));
+            };
+            let count = count_behind(counted, ended);
+            part = with_missed(part, index, place, view, begins, missed, count);
         }
     }
     part

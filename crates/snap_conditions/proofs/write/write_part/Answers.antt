@@ -8,7 +8,9 @@ use Rattle.snap_core.specs.Calls.{entries_of}
 use Rattle.snap_conditions.proofs.Surrounded.{some_end, none_missed_at, none_missed_around, begin_at}
 use Rattle.std.proofs.Common.{suc, ◌-◌, ◌≡◌, ◌<◌, ◌≤◌, take, get_or, sym, ap, ◌∙◌, arith}
 use Rattle.std.proofs.lemmas.List.FromFn.{get_or-range_with_len}
-use Rattle.std.specs.Prelude.{flat_map}
+use Rattle.std.specs.Prelude.{flat_map, nat_lt}
+use Rattle.std.proofs.Common.{cond}
+use Rattle.std.proofs.lemmas.List.Sorted.{sum_by-IsPermutation}
 use Rattle.snap_core.specs.Calls.{calls_of}
 use Rattle.snap_conditions.specs.declared.fault.WriteFault.{WriteFault}
 use Rattle.snap_theory.specs.Faults.{components, missed_at}
@@ -16,7 +18,7 @@ use Rattle.snap_conditions.specs.Parts.{part_of, merged_part}
 use Rattle.snap_conditions.specs.PartValue.{PartValue}
 use Rattle.snap_views.specs.Seen.{view_in}
 use Rattle.snap_conditions.specs.Tally.{reported_write}
-use Rattle.snap_conditions.proofs.OneView.{write_alone, missed_few, all_missed_few}
+use Rattle.snap_conditions.proofs.OneView.{write_alone, all_missed_few}
 use Rattle.snap_conditions.proofs.Parts.{merge_step}
 use Rattle.snap_views.proofs.Viewed.{view_there}
 use Rattle.std.specs.Prelude.{length}
@@ -27,19 +29,19 @@ use Rattle.snap_conditions.specs.inside.Places.{end_of}
 use Rattle.snap_conditions.proofs.write.write_part.Goals as goal
 use Rattle.snap_conditions.proofs.write.write_part.Goals.{then-ended-updates, else-ended-updates}
 
-pub missed_part-requires-clause-number : goal.missed_part-requires-clause-number
-missed_part-requires-clause-number c = c.requires.updates.numbers c.loop-j.j c.loop-j-test.true
+pub with_missed-part-requires-clause-number : goal.with_missed-part-requires-clause-number
+with_missed-part-requires-clause-number c = c.requires.updates.numbers c.loop-j.j c.loop-j-test.true
 
-pub missed_part-requires-clause-ended : goal.missed_part-requires-clause-ended
-missed_part-requires-clause-ended c =
+pub with_missed-part-requires-clause-ended : goal.with_missed-part-requires-clause-ended
+with_missed-part-requires-clause-ended c =
     let calls = calls_of c.args.index.now in
     let r = view_in calls c.args.place in
     let below : c.loop-j.j < 256 = omega (arith, c.loop-j-test.true, c.requires.updates.limit.few) in
     ap (λ n. end_of (update_of calls c.loop-j.j (suc n))) (c.requires.updates.numbers c.loop-j.j c.loop-j-test.true)
     ∙ some_end (end_of (update_of calls c.loop-j.j (suc (shown_number r c.loop-j.j)))) _ (c.requires.updates.ends c.loop-j.j below) (omega (arith, c.if-ended-updates.true, c.fits-updates))
 
-pub missed_part-requires-clause-begins : goal.missed_part-requires-clause-begins
-missed_part-requires-clause-begins c = λ i l.
+pub with_missed-part-requires-clause-begins : goal.with_missed-part-requires-clause-begins
+with_missed-part-requires-clause-begins c = λ i l.
     let calls = calls_of c.args.index.now in
     let r = view_in calls c.args.place in
     let same = c.requires.view.entries in
@@ -51,17 +53,17 @@ missed_part-requires-clause-begins c = λ i l.
     ∙ begin_at calls r c.args.updates.now i c.requires.updates shape within (shape.fit i nothing within).0
     ∙ sym (ap (λ z. begin_or_0 (begin_of_shown calls z i)) same)
 
-pub merge-part-requires : goal.merge-part-requires
-merge-part-requires c =
+pub with_missed-part-requires-clause-few : goal.with_missed-part-requires-clause-few
+with_missed-part-requires-clause-few c =
     let es = c.args.index.now in
     let r = view_in (calls_of es) c.args.place in
     let there = view_there es c.args.place c.requires.place in
     omega (
       arith,
       ap (λ (p : PartValue WriteFault). p.count) c.loop-j.invariant,
-      ap (λ (p : PartValue WriteFault). p.count) c.missed_part.ensures,
-      missed_few es c.requires.kept r there c.loop-j.j,
       all_missed_few es c.requires.kept r there c.loop-j.j,
+      c.loop-j-test.true,
+      c.requires.updates.limit.few,
     )
 
 pub loop-j-preserved : goal.loop-j-preserved
@@ -71,8 +73,8 @@ loop-j-preserved c =
     let at : get_or components c.loop-j.j 0 ≡ c.loop-j.j = omega (arith, get_or-range_with_len 0 256 c.loop-j.j 0 (omega (arith, c.loop-j-test.true, c.requires.updates.limit.few))) in
     elim c.if-ended-updates.branch [
       | then-ended-updates w ↦
-          w.part-is ∙ w.merge-part.ensures ∙ ap (λ p. merged_part p w.missed_part.result) c.loop-j.invariant
-          ∙ ap (merged_part (part_of reported_write (flat_map (missed_at calls r) (take c.loop-j.j components)))) (w.missed_part.ensures ∙ ap (λ j. part_of reported_write (missed_at calls r j)) (sym at))
+          w.part-is ∙ w.with_missed-part.ensures ∙ ap (λ p. merged_part p (part_of reported_write (missed_at calls r c.loop-j.j))) c.loop-j.invariant
+          ∙ ap (λ j. merged_part (part_of reported_write (flat_map (missed_at calls r) (take c.loop-j.j components))) (part_of reported_write (missed_at calls r j))) (sym at)
           ∙ sym (merge_step reported_write (missed_at calls r) components c.loop-j.j 0 (omega (arith, c.loop-j-test.true, c.requires.updates.limit.few)))
       | else-ended-updates w ↦
           let late : c.args.updates.now.latest ≤ end_next calls r c.loop-j.j = omega (arith, w.if-ended-updates.false, c.requires.updates.ends c.loop-j.j (omega (arith, c.loop-j-test.true, c.requires.updates.limit.few))) in
@@ -101,6 +103,18 @@ pub slice_bounds-begins-end-2 : goal.slice_bounds-begins-end-2
 slice_bounds-begins-end-2 c =
     omega (arith, length-take (length c.args.view.now.entries.now) c.begins_of-begins.result, c.begins_of-begins.ensures.size, ap length c.requires.view.entries, rising_few _ c.requires.view.shape.rising (λ j d l. (c.requires.view.shape.fit j d l).0))
 
-pub missed_part-requires-clause-count : goal.missed_part-requires-clause-count
-missed_part-requires-clause-count c =
+pub with_missed-part-requires-clause-size : goal.with_missed-part-requires-clause-size
+with_missed-part-requires-clause-size c =
     omega (arith, length-take (length c.args.view.now.entries.now) c.begins_of-begins.result, c.begins_of-begins.ensures.size, ap length c.requires.view.entries, rising_few _ c.requires.view.shape.rising (λ j d l. (c.requires.view.shape.fit j d l).0))
+
+pub slice_bounds-copy-end : goal.slice_bounds-copy-end
+slice_bounds-copy-end c = omega (arith, c.begins_of-begins.ensures.size, ap length c.requires.view.entries, rising_few _ c.requires.view.shape.rising (λ j d l. (c.requires.view.shape.fit j d l).0))
+
+pub slice_bounds-arranged-end : goal.slice_bounds-arranged-end
+slice_bounds-arranged-end c =
+    omega (arith, length-take (length c.args.view.now.entries.now) c.begins_of-begins.result, c.begins_of-begins.ensures.size, ap length c.requires.view.entries, rising_few _ c.requires.view.shape.rising (λ j d l. (c.requires.view.shape.fit j d l).0))
+
+pub with_missed-part-requires-clause-count : goal.with_missed-part-requires-clause-count
+with_missed-part-requires-clause-count c =
+    let ended = get_or c.args.updates.now.ends c.loop-j.j 0 in
+    c.count_behind-count.ensures ∙ sum_by-IsPermutation (λ b. cond (nat_lt ended b) 1 0) _ _ c.arranged-counted.ensures.same
