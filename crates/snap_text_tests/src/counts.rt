@@ -10,11 +10,14 @@ fn cup(alloc: Global, room: usize, at_once: usize, fails_when_full: bool) -> Cup
     Cup::new(alloc, room, at_once, fails_when_full, false)
 }
 
+// Of three reads, whether each fails, and how many failures are counted then.
+const READS: &[(bool, u64)] = &[(false, 0), (true, 1), (false, 1)];
+
 #[test]
 fn a_failed_read_is_counted_and_not_tried_again(rt: HostRuntime) {
     let mut reader = Counted::new(Drip::new(b"ab", 2));
     let mut buf = [0; 4];
-    for (fails, failures) in [(false, 0), (true, 1), (false, 1)] {
+    for &(fails, failures) in READS {
         assert!(rt; reader.read(&mut buf).is_err() == fails && reader.failures() == failures);
     }
     assert_eq!(rt; reader.into_inner().reads, 3);
@@ -48,17 +51,18 @@ fn is_sent_so_far(cup: Cup, sent: usize) -> bool {
         && (failures, cup.flushes) == (u64::from(!is_whole), u64::from(is_whole))
 }
 
+// The room, the bytes a write, whether a full writer fails; the bytes that go out.
+const SENT: &[(usize, usize, bool, usize)] = &[
+    (12, 12, true, 12),
+    (12, 1, true, 12),
+    (10, 4, true, 10),
+    (10, 4, false, 10),
+    (0, 4, false, 0),
+];
+
 #[test]
 fn a_text_is_sent_whole_and_flushed_once_or_as_far_as_the_writer_takes_it(rt: HostRuntime) {
-    // The room, the bytes a write, whether a full writer fails; the bytes that go out.
-    let cases = [
-        (12, 12, true, 12),
-        (12, 1, true, 12),
-        (10, 4, true, 10),
-        (10, 4, false, 10),
-        (0, 4, false, 0),
-    ];
-    for (room, at_once, fails_when_full, sent) in cases {
+    for &(room, at_once, fails_when_full, sent) in SENT {
         let cup = cup(rt.alloc(), room, at_once, fails_when_full);
         assert!(rt; is_sent_so_far(cup, sent), "at {room} by {at_once}");
     }

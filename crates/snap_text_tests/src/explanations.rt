@@ -27,14 +27,26 @@ fn records_from(alloc: Global, history: &History, first: u16) -> Result<Vec<u32>
     Ok(records)
 }
 
-// The explanation of a history whose events stand in these records.
-fn explained(alloc: Global, history: &History, records: &[u32]) -> Result<Vec<u8>, AllocError>
-    requires { length records.now ≡ length history.now }
+// The explanation of an index whose events stand in these records.
+fn explained(alloc: Global, index: &Index<'_>, records: &[u32]) -> Result<Vec<u8>, AllocError>
+    requires { length records.now ≡ length index.now }
 {
+    let (tally, chain) = tally_and_chain_alone(alloc, index)?;
+    let order = order_by(alloc, index, &tally, chain)?;
+    explain(alloc, index, &tally, records, order.as_deref())
+}
+
+// The explanation of a history whose events stand in the records from one on.
+fn explained_from(alloc: Global, history: &History, first: u16) -> Result<Vec<u8>, AllocError> {
+    let records = records_from(alloc, history, first)?;
     let index = Index::build(alloc, history)?;
-    let (tally, chain) = tally_and_chain_alone(alloc, &index)?;
-    let order = order_by(alloc, &index, &tally, chain)?;
-    explain(alloc, &index, &tally, records, order.as_deref())
+    explained(alloc, &index, &records)
+}
+
+// The same of the history of some steps.
+fn explanation_from(alloc: Global, steps: &[Step<'_>], first: u16) -> Result<Vec<u8>, Fail> {
+    let history = history_of(alloc, steps)?;
+    Ok(explained_from(alloc, &history, first)?)
 }
 
 // An update that is shown by a view that ends before it, and that never ends.
@@ -144,10 +156,8 @@ fn each_worked_history_has_its_explanation_with_records_from_the_first_on(
     rt: HostRuntime,
 ) -> Result<(), Fail> {
     for (steps, first, text) in WORKED {
-        let history = history_of(rt.alloc(), steps)?;
-        let records = records_from(rt.alloc(), &history, *first)?;
-        let found = explained(rt.alloc(), &history, &records)?;
-        assert_eq!(rt; str::from_utf8(&found)?, *text);
+        let found = explanation_from(rt.alloc(), steps, *first)?;
+        assert!(rt; found.as_slice() == text.as_bytes(), "{text}");
     }
     Ok(())
 }
@@ -191,7 +201,7 @@ fn a_fault_of_a_text_has_its_rule_and_the_record_of_its_place(rt: HostRuntime) -
     let text = b"event,process,op\nend,1,view,0:1:7  1:1:8\n".as_slice();
     for (place, fault, known) in REFUSED {
         let said = explain_refusal(rt.alloc(), text, *place, *fault, Limit::usual())?;
-        assert_eq!(rt; said.as_slice(), known.as_bytes());
+        assert!(rt; said.as_slice() == known.as_bytes(), "{known}");
     }
     Ok(())
 }
@@ -225,12 +235,17 @@ const RULES: &[(u32, TextFault, &str)] = &[
     ),
 ];
 
+// Whether the rule is said of a fault of a text under a limit.
+fn says(alloc: Global, fault: TextFault, limit: Limit, rule: &str) -> Result<bool, Fail> {
+    let said = explain_refusal(alloc, b"", 0, fault, limit)?;
+    Ok(str::from_utf8(&said)?.contains(rule))
+}
+
 #[test]
 fn a_rule_names_the_limit_that_holds(rt: HostRuntime) -> Result<(), Fail> {
     for (events, fault, rule) in RULES {
         let limit = Limit::new(*events).ok_or("a limit")?;
-        let said = explain_refusal(rt.alloc(), b"", 0, *fault, limit)?;
-        assert!(rt; str::from_utf8(&said)?.contains(*rule));
+        assert!(rt; says(rt.alloc(), *fault, limit, *rule)?, "{rule}");
     }
     Ok(())
 }

@@ -14,28 +14,29 @@ fn a_refusal_names_the_record_and_its_fault(rt: HostRuntime) -> Result<(), Fail>
     Ok(())
 }
 
-// The report of a history that is not atomic.
-fn reported(alloc: Global, steps: &[Step<'_>]) -> Result<Vec<u8>, Fail> {
-    let history = history_of(alloc, steps)?;
-    let index = Index::build(alloc, &history)?;
-    let tally = tally_range(&index, 0, index.view_count());
+// The report of an index that is not atomic.
+fn reported(alloc: Global, index: &Index<'_>) -> Result<Vec<u8>, Fail> {
+    let tally = tally_range(index, 0, index.view_count());
     if is_atomic(&tally) {
         return Err(Fail::from("atomic"));
     }
-    Ok(report(alloc, &index, &tally, None)?)
+    Ok(report(alloc, index, &tally, None)?)
 }
 
-// The lines of the verdicts on a history.
-fn verdicts_of(alloc: Global, steps: &[Step<'_>]) -> Result<Vec<u8>, Fail> {
+// The text of a history: its report, where it is not atomic, or the lines of the verdicts alone.
+fn text_of(alloc: Global, steps: &[Step<'_>], is_whole: bool) -> Result<Vec<u8>, Fail> {
     let history = history_of(alloc, steps)?;
     let index = Index::build(alloc, &history)?;
+    if is_whole {
+        return reported(alloc, &index);
+    }
     let tally = tally_range(&index, 0, index.view_count());
     Ok(verdict_text(alloc, &tally)?)
 }
 
 #[test]
 fn a_stale_view_is_reported_with_the_number_that_it_shows(rt: HostRuntime) -> Result<(), Fail> {
-    let text = reported(rt.alloc(), worked::STALE_VIEW)?;
+    let text = text_of(rt.alloc(), worked::STALE_VIEW, true)?;
     let expected =
         b"events 4 calls 2 pending 0 views 1\nregular no\nmonotone yes\natomic no\nproximity 1 first view 2 entry 0:0 old\n";
     assert_eq!(rt; text.as_slice(), expected.as_slice());
@@ -44,7 +45,7 @@ fn a_stale_view_is_reported_with_the_number_that_it_shows(rt: HostRuntime) -> Re
 
 #[test]
 fn the_verdicts_alone_are_three_lines(rt: HostRuntime) -> Result<(), Fail> {
-    let text = verdicts_of(rt.alloc(), worked::NEW_THEN_OLD)?;
+    let text = text_of(rt.alloc(), worked::NEW_THEN_OLD, false)?;
     let expected = b"regular yes\nmonotone no\natomic no\n";
     assert_eq!(rt; text.as_slice(), expected.as_slice());
     Ok(())

@@ -5,7 +5,7 @@ use snap_tally::tally_and_chain_alone;
 use snap_testing::worked::{ATOMIC_RUN, MISSED_UPDATE, NEW_THEN_OLD, NOTHING, SEEN_PENDING};
 use snap_testing::{Step, history_of};
 use snap_verdict::order_by;
-use std::alloc::Global;
+use std::alloc::{AllocError, Global};
 use std::process::Abort;
 use std::test::Fail;
 
@@ -78,13 +78,11 @@ const WORKED: &[(&[Step<'static>], usize, Known)] = &[
     ),
 ];
 
-// The shapes of a history of which so many calls are drawn.
-fn drawn(alloc: Global, steps: &[Step<'_>], limit: usize) -> Result<Shapes, Fail> {
-    let history = history_of(alloc, steps)?;
-    let index = Index::build(alloc, &history)?;
-    let (tally, chain) = tally_and_chain_alone(alloc, &index)?;
-    let order = order_by(alloc, &index, &tally, chain)?.unwrap_or(Vec::new(alloc));
-    Ok(shapes_of(alloc, &index, &tally, &order, limit)?)
+// The shapes of an index of which so many calls are drawn.
+fn drawn(alloc: Global, index: &Index<'_>, limit: usize) -> Result<Shapes, AllocError> {
+    let (tally, chain) = tally_and_chain_alone(alloc, index)?;
+    let order = order_by(alloc, index, &tally, chain)?;
+    shapes_of(alloc, index, &tally, order.as_deref().unwrap_or(&[]), limit)
 }
 
 fn is_bar(bar: &Bar, known: &Drawn) -> bool {
@@ -100,25 +98,59 @@ fn is_mark(mark: &Mark, known: &(Kind, u32)) -> bool {
     mark.kind == known.0 && mark.call == known.1
 }
 
+fn are_bars(bars: &[Bar], known: &[Drawn]) -> bool {
+    bars.len() == known.len()
+        && bars
+            .iter()
+            .zip(known)
+            .all(|(bar, known)| is_bar(bar, known))
+}
+
+fn are_marks(marks: &[Mark], known: &[(Kind, u32)]) -> bool {
+    marks.len() == known.len()
+        && marks
+            .iter()
+            .zip(known)
+            .all(|(mark, known)| is_mark(mark, known))
+}
+
 // The shapes are these.
 fn expect_shapes(rt: &impl Abort, shapes: &Shapes, known: &Known) {
     let (lanes, bars, columns, marks) = *known;
-    assert_eq!(rt; shapes.lanes.as_slice(), lanes);
-    assert_eq!(rt; shapes.columns, columns);
-    assert_eq!(rt; shapes.bars.len(), bars.len());
-    for (bar, known) in shapes.bars.iter().zip(bars.iter()) {
-        assert!(rt; is_bar(bar, known), "{bar:?}");
-    }
-    assert_eq!(rt; shapes.marks.len(), marks.len());
-    for (mark, known) in shapes.marks.iter().zip(marks.iter()) {
-        assert!(rt; is_mark(mark, known), "{mark:?}");
-    }
+    assert!(rt; shapes.lanes.as_slice() == lanes && shapes.columns == columns);
+    assert!(rt; are_bars(&shapes.bars, bars), "{:?}", shapes.bars);
+    assert!(rt; are_marks(&shapes.marks, marks), "{:?}", shapes.marks);
+}
+
+// An index has these shapes.
+fn expect_drawn(
+    rt: &impl Abort,
+    alloc: Global,
+    index: &Index<'_>,
+    limit: usize,
+    known: &Known,
+) -> Result<(), Fail> {
+    expect_shapes(rt, &drawn(alloc, index, limit)?, known);
+    Ok(())
+}
+
+// The same of a history.
+fn expect(
+    rt: &impl Abort,
+    alloc: Global,
+    steps: &[Step<'_>],
+    limit: usize,
+    known: &Known,
+) -> Result<(), Fail> {
+    let history = history_of(alloc, steps)?;
+    let index = Index::build(alloc, &history)?;
+    expect_drawn(rt, alloc, &index, limit, known)
 }
 
 #[test]
 fn each_worked_history_has_its_lanes_bars_columns_and_marks(rt: HostRuntime) -> Result<(), Fail> {
     for (steps, limit, known) in WORKED {
-        expect_shapes(&rt, &drawn(rt.alloc(), steps, *limit)?, known);
+        expect(&rt, rt.alloc(), steps, *limit, known)?;
     }
     Ok(())
 }

@@ -306,7 +306,7 @@ fn a_failed_write_or_flush_is_the_answer(rt: HostRuntime) -> Result<(), Fail> {
     for &(room, fails_at_flush) in &[(0, false), (10, false), (36, true)] {
         let mut writer = Counted::new(Cup::new(rt.alloc(), room, 3, false, fails_at_flush));
         let answer = write_history(rt.alloc(), &mut writer, &history);
-        assert_eq!(rt; answer, Err(WriteRefusal::Device));
+        assert!(rt; answer == Err(WriteRefusal::Device), "at {room}");
         assert!(rt; is_front(writer, text, room, fails_at_flush), "at {room}");
     }
     Ok(())

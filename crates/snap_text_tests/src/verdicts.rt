@@ -4,6 +4,7 @@ use snap_csv::read_text;
 use snap_index::Index;
 use snap_verdict::{Status, brief_verdict_of, judge_text, status_of};
 use std::alloc::Global;
+use std::process::Abort;
 use std::test::Fail;
 
 // Texts, how each is judged, and its report.
@@ -36,8 +37,10 @@ const WORKED: &[(&str, Status, &str)] = &[
 fn each_worked_text_has_its_status_and_report(rt: HostRuntime) -> Result<(), Fail> {
     for (text, status, report) in WORKED {
         let (found, out) = judge_text(rt.alloc(), text.as_bytes())?;
-        assert_eq!(rt; found, *status);
-        assert_eq!(rt; str::from_utf8(&out)?, *report);
+        assert!(rt;
+            found == *status && out.as_slice() == report.as_bytes(),
+            "{report}"
+        );
     }
     Ok(())
 }
@@ -62,21 +65,41 @@ const VERDICTS: &[(&str, Status, &str)] = &[
     ),
 ];
 
-// The status of the history of a text alone, and then with the lines of its verdicts.
-fn judged(alloc: Global, text: &[u8]) -> Result<(Status, (Status, Vec<u8>)), Fail> {
-    let history = read_text(alloc, text)?;
+// An index has this status alone, and then with these lines of its verdicts.
+fn expect_verdicts(
+    rt: &impl Abort,
+    alloc: Global,
+    index: &Index<'_>,
+    status: Status,
+    verdicts: &str,
+) -> Result<(), Fail> {
+    let tally = tally_range(index, 0, index.view_count());
+    assert_eq!(rt; status_of(index, &tally), status);
+    let (found, out) = brief_verdict_of(alloc, index, &tally)?;
+    assert!(rt;
+        found == status && out.as_slice() == verdicts.as_bytes(),
+        "{verdicts}"
+    );
+    Ok(())
+}
+
+// The same of the history of a text.
+fn expect(
+    rt: &impl Abort,
+    alloc: Global,
+    text: &str,
+    status: Status,
+    verdicts: &str,
+) -> Result<(), Fail> {
+    let history = read_text(alloc, text.as_bytes())?;
     let index = Index::build(alloc, &history)?;
-    let tally = tally_range(&index, 0, index.view_count());
-    let brief = brief_verdict_of(alloc, &index, &tally)?;
-    Ok((status_of(&index, &tally), brief))
+    expect_verdicts(rt, alloc, &index, status, verdicts)
 }
 
 #[test]
 fn each_history_has_its_status_and_its_verdicts(rt: HostRuntime) -> Result<(), Fail> {
     for (text, status, verdicts) in VERDICTS {
-        let (alone, (found, out)) = judged(rt.alloc(), text.as_bytes())?;
-        assert_eq!(rt; (alone, found), (*status, *status));
-        assert_eq!(rt; str::from_utf8(&out)?, *verdicts);
+        expect(&rt, rt.alloc(), *text, *status, *verdicts)?;
     }
     Ok(())
 }

@@ -212,7 +212,7 @@ fn a_failed_write_of_stamps_is_the_answer(rt: HostRuntime) -> Result<(), Fail> {
     for &(room, fails_at_flush) in &[(0, false), (10, false), (41, true)] {
         let mut writer = Counted::new(Cup::new(rt.alloc(), room, 3, false, fails_at_flush));
         let answer = write_history_stamped(rt.alloc(), &mut writer, &history, &[7]);
-        assert_eq!(rt; answer, Err(WriteRefusal::Device));
+        assert!(rt; answer == Err(WriteRefusal::Device), "at {room}");
         assert!(rt; is_front(writer, text, room, fails_at_flush), "at {room}");
     }
     Ok(())
