@@ -1,181 +1,153 @@
 //! The checks that words ask for.
+use self::Asked::{Followed, Judged, Shown};
 use crate::jobs::job_on;
+use snap_threads::Cutting;
 use snap_words::{Color, Job, Options};
-use std::alloc::Global;
 use std::test::Fail;
 
-// Whether a check is quiet, how many views it asks for, whether it answers with an object, and its limit of events.
-type Asked = (bool, u32, bool, u32);
+// What is looked at of the check that a line asks for.
+#[derive(Clone, Copy)]
+enum Asked {
+    // its pieces and workers, whether it is quiet, how many views it asks for, whether it answers with an object, and its limit of events
+    Judged(u32, u32, bool, u32, bool, u32),
+    // whether it asks for sums and for no line of progress, and when its verdicts have colours
+    Shown(bool, bool, Color),
+    // whether it goes by windows, from how many events on they end, and after how many idle seconds it ends
+    Followed(bool, u32, u32),
+}
 
-const NO_OPTIONS: Asked = (false, 0, false, 65536);
-
-const QUIET: Asked = (true, 0, false, 65536);
-
-const OBJECT: Asked = (false, 0, true, 65536);
-
-// The pieces and workers of the check that each line asks for, and its options.
-const CHECKS: &[(&str, u32, u32, Asked)] = &[
-    ("snapjudge check", 8, 2, NO_OPTIONS),
-    ("snapjudge check --pieces 3 --workers 4", 3, 4, NO_OPTIONS),
+// Lines, and what is looked at of the check that each asks for.
+const CHECKS: &[(&str, Asked)] = &[
+    ("snapjudge check", Judged(8, 2, false, 0, false, 65536)),
+    (
+        "snapjudge check --pieces 3 --workers 4",
+        Judged(3, 4, false, 0, false, 65536),
+    ),
     (
         "snapjudge check --workers=8 --pieces=1024",
-        1024,
-        8,
-        NO_OPTIONS,
+        Judged(1024, 8, false, 0, false, 65536),
     ),
-    ("snapjudge check --pieces 1 --workers 1", 1, 1, NO_OPTIONS),
-    ("snapjudge check --quiet", 8, 2, QUIET),
-    ("snapjudge check --workers 3 --quiet", 8, 3, QUIET),
-    ("snapjudge check --views 0", 8, 2, NO_OPTIONS),
-    ("snapjudge check --views 5", 8, 2, (false, 5, false, 65536)),
+    (
+        "snapjudge check --pieces 1 --workers 1",
+        Judged(1, 1, false, 0, false, 65536),
+    ),
+    (
+        "snapjudge check --quiet",
+        Judged(8, 2, true, 0, false, 65536),
+    ),
+    (
+        "snapjudge check --workers 3 --quiet",
+        Judged(8, 3, true, 0, false, 65536),
+    ),
+    (
+        "snapjudge check --views 0",
+        Judged(8, 2, false, 0, false, 65536),
+    ),
+    (
+        "snapjudge check --views 5",
+        Judged(8, 2, false, 5, false, 65536),
+    ),
     (
         "snapjudge check --views=32768 --pieces 7 --quiet",
-        7,
-        2,
-        (true, 32768, false, 65536),
+        Judged(7, 2, true, 32768, false, 65536),
     ),
-    ("snapjudge check --format json", 8, 2, OBJECT),
-    ("snapjudge check --format=plain --quiet", 8, 2, QUIET),
+    (
+        "snapjudge check --format json",
+        Judged(8, 2, false, 0, true, 65536),
+    ),
+    (
+        "snapjudge check --format=plain --quiet",
+        Judged(8, 2, true, 0, false, 65536),
+    ),
     (
         "snapjudge check --views 5 --format=json --pieces 7",
-        7,
-        2,
-        (false, 5, true, 65536),
+        Judged(7, 2, false, 5, true, 65536),
     ),
-    ("snapjudge check --events 1", 8, 2, (false, 0, false, 1)),
+    (
+        "snapjudge check --events 1",
+        Judged(8, 2, false, 0, false, 1),
+    ),
     (
         "snapjudge check --events=1048576 --views 524288",
-        8,
-        2,
-        (false, 524288, false, 1048576),
+        Judged(8, 2, false, 524288, false, 1048576),
     ),
-];
-
-// The pieces and workers of the check that a line asks for, and its options.
-fn check_of(alloc: Global, line: &str) -> Result<(u32, u32, Asked), Fail> {
-    match job_on(alloc, line, &[])? {
-        Job::Check { cutting, options } => {
-            let Options {
-                quiet,
-                views,
-                json,
-                events,
-                ..
-            } = options;
-            let asked = (quiet, views, json, events);
-            Ok((cutting.pieces(), cutting.workers(), asked))
-        }
-        _ => Err(Fail::from(line)),
-    }
-}
-
-#[test]
-fn check_takes_pieces_workers_and_options(rt: HostRuntime) -> Result<(), Fail> {
-    for (line, pieces, workers, options) in CHECKS {
-        if check_of(rt.alloc(), line)? != (*pieces, *workers, *options) {
-            return Err(Fail::from(*line));
-        }
-    }
-    Ok(())
-}
-
-// Whether each line asks for sums and for no line of progress, and when its verdicts have colours.
-const SHOWN: &[(&str, bool, bool, Color)] = &[
-    ("snapjudge check", false, false, Color::Auto),
-    ("snapjudge check --summary", true, false, Color::Auto),
+    ("snapjudge check", Shown(false, false, Color::Auto)),
+    ("snapjudge check --summary", Shown(true, false, Color::Auto)),
     (
         "snapjudge check --color=never --no-progress",
-        false,
-        true,
-        Color::Never,
+        Shown(false, true, Color::Never),
     ),
     (
         "snapjudge check --color always --summary --views 3",
-        true,
-        false,
-        Color::Always,
+        Shown(true, false, Color::Always),
     ),
     (
         "snapjudge check --color auto --quiet",
-        false,
-        false,
-        Color::Auto,
+        Shown(false, false, Color::Auto),
     ),
-];
-
-// What a check that a line asks for shows beside its verdicts.
-fn shown_of(alloc: Global, line: &str) -> Result<(bool, bool, Color), Fail> {
-    match job_on(alloc, line, &[])? {
-        Job::Check { options, .. } => {
-            let Options {
-                summary,
-                no_progress,
-                color,
-                ..
-            } = options;
-            Ok((summary, no_progress, color))
-        }
-        _ => Err(Fail::from(line)),
-    }
-}
-
-#[test]
-fn check_takes_what_is_shown(rt: HostRuntime) -> Result<(), Fail> {
-    for (line, summary, no_progress, color) in SHOWN {
-        let found = shown_of(rt.alloc(), line)?;
-        assert_eq!(rt; found, (*summary, *no_progress, *color), "{line}");
-    }
-    Ok(())
-}
-
-// Whether each line asks for a check by windows, from how many events on they end, and after how many idle seconds it ends.
-const FOLLOWED: &[(&str, bool, u32, u32)] = &[
-    ("snapjudge check", false, 1000, 0),
-    ("snapjudge check --follow", true, 1000, 0),
-    ("snapjudge check --follow --events 1999", true, 1000, 0),
-    ("snapjudge check --events 500 --follow", true, 250, 0),
-    ("snapjudge check --follow --events 1", true, 1, 0),
+    ("snapjudge check", Followed(false, 1000, 0)),
+    ("snapjudge check --follow", Followed(true, 1000, 0)),
+    (
+        "snapjudge check --follow --events 1999",
+        Followed(true, 1000, 0),
+    ),
+    (
+        "snapjudge check --events 500 --follow",
+        Followed(true, 250, 0),
+    ),
+    ("snapjudge check --follow --events 1", Followed(true, 1, 0)),
     (
         "snapjudge check --window 1 --follow --idle=4294967295",
-        true,
-        1,
-        4294967295,
+        Followed(true, 1, 4294967295),
     ),
     (
         "snapjudge check --follow --events 500 --window=500 --idle 5 --views 3",
-        true,
-        500,
-        5,
+        Followed(true, 500, 5),
     ),
     (
         "snapjudge check --events 1048576 --window 1048576 --follow",
-        true,
-        1048576,
-        0,
+        Followed(true, 1048576, 0),
     ),
 ];
 
-// How a check that a line asks for goes by windows.
-fn followed_of(alloc: Global, line: &str) -> Result<(bool, u32, u32), Fail> {
-    match job_on(alloc, line, &[])? {
-        Job::Check { options, .. } => {
-            let Options {
-                follow,
-                window,
-                idle,
-                ..
-            } = options;
-            Ok((follow, window, idle))
+// Whether this is asked of a check with such a cutting and options.
+fn is_asked(cutting: Cutting, options: Options, asked: Asked) -> bool {
+    match asked {
+        Judged(pieces, workers, quiet, views, json, events) => {
+            cutting.pieces() == pieces
+                && cutting.workers() == workers
+                && options.quiet == quiet
+                && options.views == views
+                && options.json == json
+                && options.events == events
         }
-        _ => Err(Fail::from(line)),
+        Shown(summary, no_progress, color) => {
+            options.summary == summary
+                && options.no_progress == no_progress
+                && options.color == color
+        }
+        Followed(follow, window, idle) => {
+            options.follow == follow && options.window == window && options.idle == idle
+        }
+    }
+}
+
+// Whether a job is a check of which this is asked.
+fn is_check(job: Job, asked: Asked) -> bool {
+    match job {
+        Job::Check { cutting, options } => is_asked(cutting, options, asked),
+        _ => false,
     }
 }
 
 #[test]
-fn check_takes_windows(rt: HostRuntime) -> Result<(), Fail> {
-    for (line, follow, window, idle) in FOLLOWED {
-        let found = followed_of(rt.alloc(), line)?;
-        assert_eq!(rt; found, (*follow, *window, *idle), "{line}");
+fn check_takes_pieces_workers_options_what_is_shown_and_windows(
+    rt: HostRuntime,
+) -> Result<(), Fail> {
+    for (line, asked) in CHECKS {
+        if !is_check(job_on(rt.alloc(), line, &[])?, *asked) {
+            return Err(Fail::from(*line));
+        }
     }
     Ok(())
 }

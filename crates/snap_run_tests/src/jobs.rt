@@ -14,12 +14,15 @@ pub(crate) fn words(alloc: Global, line: &str) -> Result<Vec<String>, AllocError
 
 // Whether the names are just these files.
 fn are_named(names: &[String], files: &[&str]) -> bool {
-    for (name, file) in names.iter().zip(files) {
-        if name.as_str() != *file {
+    if names.len() != files.len() {
+        return false;
+    }
+    for i in 0..names.len() {
+        if names[i].as_str() != files[i] {
             return false;
         }
     }
-    names.len() == files.len()
+    true
 }
 
 /// The job that a line asks for, of which each file is named in the list behind it.
@@ -77,28 +80,34 @@ fn events_named(line: &str) -> u32 {
     }
 }
 
+// Whether a job that reads one history draws, and has a limit of events, as the words of its line say.
+fn is_drawn(line: &str, drawn: bool, events: u32) -> bool {
+    drawn == line.contains(" --draw") && events == events_named(line)
+}
+
+// Whether a job is that of the command in its line.
+fn is_its_command(job: Job, line: &str) -> bool {
+    match job {
+        Job::Check { .. } => line.contains(" check"),
+        Job::Shrink { drawn, events } => {
+            line.contains(" shrink") && is_drawn(line, drawn, events)
+        }
+        Job::Explain { drawn, events } => {
+            line.contains(" explain") && is_drawn(line, drawn, events)
+        }
+        Job::Draw { form, events } => {
+            line.contains(" draw") && form == form_named(line) && events == events_named(line)
+        }
+        Job::Record { .. } => false,
+    }
+}
+
 #[test]
 fn files_are_those_of_the_words(rt: HostRuntime) -> Result<(), Fail> {
     for (line, files) in LINES_WITH_FILES {
-        let job = job_on(rt.alloc(), line, files)?;
-        let is_its_command = match job {
-            Job::Check { .. } => line.contains(" check"),
-            Job::Shrink { drawn, events } => {
-                line.contains(" shrink")
-                    && drawn == line.contains(" --draw")
-                    && events == events_named(line)
-            }
-            Job::Explain { drawn, events } => {
-                line.contains(" explain")
-                    && drawn == line.contains(" --draw")
-                    && events == events_named(line)
-            }
-            Job::Draw { form, events } => {
-                line.contains(" draw") && form == form_named(line) && events == events_named(line)
-            }
-            Job::Record { .. } => false,
-        };
-        assert!(rt; is_its_command, "{line}");
+        if !is_its_command(job_on(rt.alloc(), line, files)?, line) {
+            return Err(Fail::from(*line));
+        }
     }
     Ok(())
 }
