@@ -138,14 +138,29 @@ const CHECKS: &[(&[&[u8]], u32, u8, &str, &str)] = &[
     ),
 ];
 
+// The check of a list ends with the status, and writes and says this.
+fn expect_checked<Rt: Threads + Sync>(
+    rt: &Rt,
+    alloc: Global,
+    list: &[&[u8]],
+    asked: (Format, u32),
+    status: u8,
+    written: &[u8],
+    said: &[u8],
+) -> Result<(), Fail> {
+    let mut writer = Counted::new(Vec::new(alloc));
+    let (answer, told) = check(rt, alloc, list, &mut writer, asked.0, asked.1)?;
+    same(answer.ok(), Some(status))?;
+    same(writer.into_inner().as_slice(), written)?;
+    same(told.as_slice(), said)
+}
+
 #[test]
 fn reports_stand_in_the_order_of_the_names(rt: HostRuntime) -> Result<(), Fail> {
     for (list, views, status, written, said) in CHECKS {
-        let mut writer = Counted::new(Vec::new(rt.alloc()));
-        let (answer, told) = check(&rt, rt.alloc(), list, &mut writer, Format::Plain, *views)?;
-        same(answer.ok(), Some(*status))?;
-        same(str::from_utf8(&writer.into_inner())?, *written)?;
-        same(str::from_utf8(&told)?, *said)?;
+        let asked = (Format::Plain, *views);
+        let (written, said) = (written.as_bytes(), said.as_bytes());
+        expect_checked(&rt, rt.alloc(), list, asked, *status, written, said)?;
     }
     Ok(())
 }
@@ -177,15 +192,10 @@ fn each_name_has_its_object(rt: HostRuntime) -> Result<(), Fail> {
         b"folder",
         b"in\nver\\sion",
     ];
-    let mut writer = Counted::new(Vec::new(alloc));
-    let (answer, told) = check(&rt, alloc, list, &mut writer, Format::Json, 2)?;
-    same(answer.ok(), Some(4))?;
-    same(str::from_utf8(&writer.into_inner())?, OBJECTS)?;
-    same(
-        str::from_utf8(&told)?,
-        "snapjudge: none: no such file\nsnapjudge: locked: can't be opened\n\
-         snapjudge: broken: read failed\nsnapjudge: folder: is a directory\n",
-    )
+    let said = "snapjudge: none: no such file\nsnapjudge: locked: can't be opened\n\
+         snapjudge: broken: read failed\nsnapjudge: folder: is a directory\n";
+    let (written, said) = (OBJECTS.as_bytes(), said.as_bytes());
+    expect_checked(&rt, alloc, list, (Format::Json, 2), 4, written, said)
 }
 
 // In a report a name stands as its bytes are; in an object U+FFFD stands for what is not UTF-8.
@@ -193,26 +203,14 @@ fn each_name_has_its_object(rt: HostRuntime) -> Result<(), Fail> {
 fn a_name_need_not_be_unicode(rt: HostRuntime) -> Result<(), Fail> {
     let alloc = rt.alloc();
     let list: &[&[u8]] = &[b"lo\xffcked", b"st\xffale", b"st\xe2\x82ale"];
-    let mut writer = Counted::new(Vec::new(alloc));
-    let (answer, told) = check(&rt, alloc, list, &mut writer, Format::Plain, 0)?;
-    assert!(rt; answer.ok() == Some(4));
-    assert!(rt;
-        writer.into_inner().as_slice()
-            == b"st\xffale: regular no\nst\xffale: monotone yes\nst\xffale: atomic no\n".as_slice()
-    );
-    assert!(rt;
-        told.as_slice()
-            == b"snapjudge: lo\xffcked: can't be opened\nsnapjudge: st\xe2\x82ale: no such file\n".as_slice()
-    );
-    let mut writer = Counted::new(Vec::new(alloc));
-    let (answer, _) = check(&rt, alloc, list, &mut writer, Format::Json, 2)?;
-    same(answer.ok(), Some(4))?;
-    same(
-        str::from_utf8(&writer.into_inner())?,
-        "{\"name\":\"lo\u{fffd}cked\",\"status\":4,\"trouble\":\"can't be opened\"}\n\
+    let said = b"snapjudge: lo\xffcked: can't be opened\nsnapjudge: st\xe2\x82ale: no such file\n";
+    let report = b"st\xffale: regular no\nst\xffale: monotone yes\nst\xffale: atomic no\n";
+    expect_checked(&rt, alloc, list, (Format::Plain, 0), 4, report, said)?;
+    let objects = "{\"name\":\"lo\u{fffd}cked\",\"status\":4,\"trouble\":\"can't be opened\"}\n\
          {\"name\":\"st\u{fffd}ale\",\"status\":3,\"too_few_views\":{\"views\":1,\"least\":2}}\n\
-         {\"name\":\"st\u{fffd}ale\",\"status\":4,\"trouble\":\"no such file\"}\n",
-    )
+         {\"name\":\"st\u{fffd}ale\",\"status\":4,\"trouble\":\"no such file\"}\n";
+    let objects = objects.as_bytes();
+    expect_checked(&rt, alloc, list, (Format::Json, 2), 4, objects, said)
 }
 
 #[test]

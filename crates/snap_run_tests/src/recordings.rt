@@ -29,62 +29,78 @@ fn record<Rt: Threads + Wait + Sync, G: Gate>(
     (end_of(answer), writer.into_inner())
 }
 
+// Whether a line stands in a text.
+fn has_line(text: &str, line: &str) -> bool {
+    text.lines().any(|found| found == line)
+}
+
 /// The text has the header, so many records under it, and each of these lines.
 pub(super) fn expect_text(text: &[u8], records: usize, wanted: &[&str]) -> Result<(), Fail> {
     let text = str::from_utf8(text)?;
-    same(text.lines().next(), Some("event,process,op,data"))?;
-    same(text.lines().skip(1).count(), records)?;
+    expect_head(text, "event,process,op,data", records)?;
     for line in wanted {
-        if !text.lines().any(|found| found == *line) {
+        if !has_line(text, line) {
             return Err(Fail::from(*line));
         }
     }
     Ok(())
 }
 
-#[test]
-fn one_round_of_two_workers_has_nine_lines(rt: HostRuntime) -> Result<(), Fail> {
-    let plan = one_round(rt.alloc())?;
-    let (end, text) = record(&rt, rt.alloc(), &plan, false, cutting(8, 2)?, &OpenGate);
-    same(end, "recorded")?;
-    expect_text(
-        &text,
-        8,
-        &["begin,0,update,0:1:1", "begin,1,update,1:1:65537"],
-    )
+// The text has this header, and so many records under it.
+fn expect_head(text: &str, header: &str, records: usize) -> Result<(), Fail> {
+    same(text.lines().next(), Some(header))?;
+    same(text.lines().skip(1).count(), records)
 }
 
-#[test]
-fn one_round_of_three_workers_has_13_lines(rt: HostRuntime) -> Result<(), Fail> {
-    let plan = rounds_plan(rt.alloc(), 3, 1, false)?;
-    let (end, text) = record(&rt, rt.alloc(), &plan, false, cutting(8, 2)?, &OpenGate);
+// The recording of a plan ends, and its text has so many records and each of these lines.
+fn expect_recorded<Rt: Threads + Wait + Sync, G: Gate>(
+    rt: &Rt,
+    alloc: Global,
+    plan: &Plan,
+    gate: &G,
+    records: usize,
+    wanted: &[&str],
+) -> Result<(), Fail> {
+    let (end, text) = record(rt, alloc, plan, false, cutting(8, 2)?, gate);
     same(end, "recorded")?;
-    expect_text(
-        &text,
+    expect_text(&text, records, wanted)
+}
+
+// Workers of one round, whether they scan, the records of their recording, and lines of it.
+const ONE_ROUND: &[(u32, bool, usize, &[&str])] = &[
+    (
+        2,
+        false,
+        8,
+        &["begin,0,update,0:1:1", "begin,1,update,1:1:65537"],
+    ),
+    (
+        3,
+        false,
         12,
         &[
             "begin,0,update,0:1:1",
             "begin,1,update,1:1:65537",
             "begin,2,update,2:1:131073",
         ],
-    )
-}
-
-// Two workers, each of which stores one value and then scans.
-fn one_scanned_round(alloc: Global) -> Result<Plan, Fail> {
-    Ok(rounds_plan(alloc, 2, 1, true)?)
-}
-
-#[test]
-fn one_scanned_round_of_two_workers_has_nine_lines(rt: HostRuntime) -> Result<(), Fail> {
-    let plan = one_scanned_round(rt.alloc())?;
-    let (end, text) = record(&rt, rt.alloc(), &plan, false, cutting(8, 2)?, &OpenGate);
-    same(end, "recorded")?;
-    expect_text(
-        &text,
+    ),
+    (
+        2,
+        true,
         8,
         &["begin,0,update,0:1:1", "begin,1,update,1:1:65537"],
-    )
+    ),
+];
+
+#[test]
+fn one_round_of_two_or_three_workers_has_four_records_for_each(
+    rt: HostRuntime,
+) -> Result<(), Fail> {
+    for (workers, scan, records, wanted) in ONE_ROUND {
+        let plan = rounds_plan(rt.alloc(), *workers, 1, *scan)?;
+        expect_recorded(&rt, rt.alloc(), &plan, &OpenGate, *records, wanted)?;
+    }
+    Ok(())
 }
 
 // How the recording of a plan with stamps ends, what is in the writer, and the failures that it counts.
@@ -103,20 +119,40 @@ fn record_stamped<Rt: Threads + Wait + Sync>(
 /// The text has the header of texts with stamps, and under it a record with each of these stamps, in this order.
 pub(super) fn expect_stamps(text: &[u8], wanted: &[&str]) -> Result<(), Fail> {
     let text = str::from_utf8(text)?;
-    same(text.lines().next(), Some("at,event,process,op,data"))?;
-    same(text.lines().skip(1).count(), wanted.len())?;
-    for (line, stamp) in text.lines().skip(1).zip(wanted) {
-        same(line.split(',').next(), Some(*stamp))?;
+    expect_head(text, "at,event,process,op,data", wanted.len())?;
+    if !has_stamps(text, wanted) {
+        return Err(Fail::from(text));
     }
     Ok(())
+}
+
+// Whether the records under the header have these stamps, in this order.
+fn has_stamps(text: &str, wanted: &[&str]) -> bool {
+    for (line, stamp) in text.lines().skip(1).zip(wanted) {
+        if line.split(',').next() != Some(*stamp) {
+            return false;
+        }
+    }
+    true
+}
+
+// The recording of a plan with stamps ends, and its records have these.
+fn expect_stamped<Rt: Threads + Wait + Sync>(
+    rt: &Rt,
+    alloc: Global,
+    plan: &Plan,
+    wanted: &[&str],
+) -> Result<(), Fail> {
+    let (end, text, failures) = record_stamped(rt, alloc, plan, 1000);
+    same((end, failures), ("recorded", 0))?;
+    expect_stamps(&text, wanted)
 }
 
 #[test]
 fn one_round_with_stamps_has_the_stamps_from_0_to_7_in_order(rt: HostRuntime) -> Result<(), Fail> {
     let plan = one_round(rt.alloc())?;
-    let (end, text, failures) = record_stamped(&rt, rt.alloc(), &plan, 1000);
-    same((end, failures), ("recorded", 0))?;
-    expect_stamps(&text, &["0", "1", "2", "3", "4", "5", "6", "7"])
+    let stamps: &[&str] = &["0", "1", "2", "3", "4", "5", "6", "7"];
+    expect_stamped(&rt, rt.alloc(), &plan, stamps)
 }
 
 // Worker 0 stores, scans and stores again, and the others have no calls.
@@ -136,9 +172,7 @@ fn lone_scan(alloc: Global, workers: usize) -> Result<Plan, Fail> {
 fn a_lone_scan_leaves_the_stamp_between_its_collects_out(rt: HostRuntime) -> Result<(), Fail> {
     for workers in 2..9 {
         let plan = lone_scan(rt.alloc(), workers)?;
-        let (end, text, failures) = record_stamped(&rt, rt.alloc(), &plan, 1000);
-        same((end, failures), ("recorded", 0))?;
-        expect_stamps(&text, &["0", "1", "2", "4", "5", "6"])?;
+        expect_stamped(&rt, rt.alloc(), &plan, &["0", "1", "2", "4", "5", "6"])?;
     }
     Ok(())
 }
@@ -157,33 +191,32 @@ fn a_recording_with_stamps_whose_writer_fails_has_a_front_of_its_text(
 pub(super) const ATOMIC_HEAD: &[u8] =
     b"events 8 calls 4 pending 0 views 2\nregular yes\nmonotone yes\natomic yes\norder 4\n";
 
-#[test]
-fn a_judged_recording_of_scans_is_atomic_in_every_run(rt: HostRuntime) -> Result<(), Fail> {
-    let plan = one_scanned_round(rt.alloc())?;
-    let cutting = cutting(8, 2)?;
-    for _ in 0..20 {
-        let (end, report) = record(&rt, rt.alloc(), &plan, true, cutting, &OpenGate);
-        same(end, "atomic")?;
-        if !report.starts_with(ATOMIC_HEAD) {
-            return Err(Fail::from("another report"));
-        }
-    }
-    Ok(())
+// The workers, their rounds, how many runs of them are judged, and how each report begins, where that is known.
+const SCANNED: &[(u32, u32, u32, &[u8])] = &[
+    (2, 1, 20, ATOMIC_HEAD),
+    (4, 1024, 20, b""),
+    (8, 512, 5, b""),
+];
+
+// The judged recording of a plan is atomic, and its report begins so.
+fn expect_atomic<Rt: Threads + Wait + Sync>(
+    rt: &Rt,
+    alloc: Global,
+    plan: &Plan,
+    head: &[u8],
+) -> Result<(), Fail> {
+    let (end, report) = record(rt, alloc, plan, true, cutting(8, 2)?, &OpenGate);
+    same((end, report.starts_with(head)), ("atomic", true))
 }
 
-// The workers, their rounds, and how many runs of them are judged.
-const SCANNED: &[(u32, u32, u32)] = &[(4, 1024, 20), (8, 512, 5)];
-
 #[test]
-fn a_judged_recording_of_many_scanning_workers_is_atomic_in_every_run(
+fn a_judged_recording_of_scanning_workers_is_atomic_in_every_run(
     rt: HostRuntime,
 ) -> Result<(), Fail> {
-    let cutting = cutting(8, 2)?;
-    for (workers, rounds, runs) in SCANNED {
+    for (workers, rounds, runs, head) in SCANNED {
         let plan = rounds_plan(rt.alloc(), *workers, *rounds, true)?;
         for _ in 0..*runs {
-            let (end, _report) = record(&rt, rt.alloc(), &plan, true, cutting, &OpenGate);
-            same(end, "atomic")?;
+            expect_atomic(&rt, rt.alloc(), &plan, head)?;
         }
     }
     Ok(())
@@ -238,14 +271,9 @@ fn store_five_and_six(alloc: Global) -> Result<Plan, Fail> {
 fn views_that_wait_for_both_stores_show_both(rt: HostRuntime) -> Result<(), Fail> {
     let plan = store_five_and_six(rt.alloc())?;
     let gate = Meeting::at_turn(1);
-    let (end, text) = record(&rt, rt.alloc(), &plan, false, cutting(8, 2)?, &gate);
-    assert!(rt; gate.was_held());
-    same(end, "recorded")?;
-    expect_text(
-        &text,
-        8,
-        &["end,0,view,0:1:5 1:1:6", "end,1,view,0:1:5 1:1:6"],
-    )
+    let wanted: &[&str] = &["end,0,view,0:1:5 1:1:6", "end,1,view,0:1:5 1:1:6"];
+    expect_recorded(&rt, rt.alloc(), &plan, &gate, 8, wanted)?;
+    same(gate.was_held(), true)
 }
 
 // The recording of a plan fails into each cup with room for less than these bytes, and a front of them is in the cup.
