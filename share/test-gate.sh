@@ -16,7 +16,8 @@ touch "$room/tree/examples/one.csv"
 echo "import sys; print(open('$room/touched').read() if sys.argv[1] == 'since' else 'snap_core 0', end='')" >"$room/tree/share/touched.py"
 touch "$room/touched"
 echo "snap_core:" >"$room/tree/crates.txt"
-mkdir -p "$room/tree/crates/snap_core/src" "$room/tree/crates/snap_core/must-fail"
+mkdir -p "$room/tree/crates/snap_core/src" "$room/tree/crates/snap_core/must-fail" "$room/tree/crates/snapjudge/out"
+touch "$room/tree/crates/snapjudge/out/snapjudge"
 
 # A part that does what the file of its name says, or passes where there is none.
 stub() {
@@ -92,6 +93,9 @@ done
 echo fails >"$room/build"
 expect "parts that need the program are named" 1 "12 passed, 11 failed" "launcher was not reached: there is no program"
 rm "$room/build"
+rm "$room/tree/crates/snapjudge/out/snapjudge"
+expect "the program is not proved" 1 "12 passed, 11 failed" "build was not reached: the program is not proved"
+touch "$room/tree/crates/snapjudge/out/snapjudge"
 echo skips >"$room/recorders"
 expect "what is skipped is said" 0 "40 passed, 0 failed, 1 skipped" "recorders: java: skipped, there is no javac"
 echo fails >"$room/recorders"

@@ -5,6 +5,7 @@ earlier run on this machine came to is tried again only where something has chan
 The last line is 'N passed, M failed', with ', K skipped' behind it where the toolchain tries them in its own way, or keeps nothing.
 """
 import contextlib
+import io
 import os
 import sys
 import tempfile
@@ -213,6 +214,36 @@ def forgotten():
     return [] if found == wanted else [f"three runs tried {found}, and had to try {wanted}"]
 
 
+def tasks_of(parts, tried):
+    """Tasks as the toolchain's gate has them, each of whose parts gives what it is given here, and which note themselves when they begin.
+    All wait for the first."""
+    first = next(iter(parts))
+    task = lambda key, result: ([first] if key != first else [], 1, 1, lambda given, jobs: tried.append(key) or result)
+    return {key: task(key, result) for key, result in parts.items()}
+
+
+def ended(parts, reached, wanted, told):
+    """What is wrong with a gate over these parts: which of them it reaches, what it has of each, and what it tells."""
+    tried, said = [], io.StringIO()
+    with contextlib.redirect_stdout(said):
+        given = wrong_bodies.until_broken(rt.in_lanes)(tasks_of(parts, tried))
+    found = tried, given, said.getvalue()
+    return [] if found == (reached, wanted, told) else [f"a gate over {parts} reached, had and told {found}"]
+
+
+def ended_early():
+    """What is wrong with where a gate ends: all is tried where all is proved, and nothing more where the first crate or its tests are not."""
+    low, tests, edits, high = ("low", "proof"), ("low", "tests"), ("low", "edits"), ("high", "proof")
+    none = [], [], []
+    told = "rt: low is not proved, so the gate ends early; not reached, or not wholly: "
+    return [
+        *ended({low: True, high: True}, [low, high], {low: True, high: True}, ""),
+        *ended({low: True, edits: none}, [low, edits], {low: True, edits: none}, ""),
+        *ended({low: False, edits: none, high: True}, [low], {low: False, edits: none, high: False}, f"{told}low, high\n"),
+        *ended({tests: False, high: True}, [tests], {tests: False, high: False}, f"{told}high\n"),
+    ]
+
+
 def main():
     if not wrong_bodies.is_known():
         print("wrong bodies in one check: skipped, since this toolchain tries them in its own way\n0 passed, 0 failed, 1 skipped")
@@ -226,6 +257,7 @@ def main():
     else:
         print("what an earlier run came to: skipped, since this toolchain keeps nothing of it")
         more = ", 1 skipped"
+        tries.append(ended_early())
     for wrong in tries:
         for it in wrong:
             print(f"wrong-bodies: failed: {it}")

@@ -1,7 +1,8 @@
 #!/usr/bin/env python3
 """Tries the wrong bodies of crates, those of many functions in one check.
 
-usage: wrong_bodies.py ci [--anew]    the toolchain's gate, `rt ci`, with the wrong bodies tried so
+usage: wrong_bodies.py ci [--anew]    the toolchain's gate, `rt ci`, with the wrong bodies tried so; it ends soon after a crate, or its
+                                      tests, were not proved
        wrong_bodies.py CRATE ..       those of some crates, over the libraries below them, as `rt must-fail` does
 
 The toolchain proves a crate once more for its wrong bodies, and then checks it once for each. Most of a check goes into loading what
@@ -59,6 +60,7 @@ CALLS = {
     "read_edit": "edit folder",
     "unread": "line changed",
     "need": "crate",
+    "in_lanes": "tasks",
 }
 KEEPING = {
     "add_edits": "tasks crate edits first waits is_well kept start in_ci",
@@ -384,6 +386,32 @@ def add_edits(tasks, crate, edits, first, waits, is_well, kept, start=None, in_c
     return lambda given: given[task] if edits else [], known
 
 
+def until_broken(in_lanes):
+    """As a toolchain that keeps nothing runs tasks, but once a crate or its tests are not proved, it begins no other. It says what it did not
+    reach."""
+
+    def run(tasks):
+        broken, left = [], []
+
+        def begun(key, call, given, jobs):
+            name, part = key
+            if broken:
+                left.append(name)
+                return ([], [], []) if part == "edits" else False
+            result = call(given, jobs)
+            if not result:
+                broken.append(name)
+            return result
+
+        watched = {key: (*task[:-1], functools.partial(begun, key, task[-1])) for key, task in tasks.items()}
+        given = in_lanes(watched)
+        if left:
+            print(f"rt: {broken[0]} is not proved, so the gate ends early; not reached, or not wholly: {', '.join(dict.fromkeys(left))}", flush=True)
+        return given
+
+    return run
+
+
 def main(words):
     if not words:
         print(__doc__, file=sys.stderr)
@@ -392,6 +420,7 @@ def main(words):
         rt.add_edits = add_edits
     elif FORGETS:
         rt.must_fail_all = try_together
+        rt.in_lanes = until_broken(rt.in_lanes)
     else:
         print("this toolchain tries each wrong body in its own way", flush=True)
     if words[0] != "ci":

@@ -71,19 +71,6 @@ fn count_behind(begins: &[u32], ended: u32) -> u64
     count_ordered(begins, ended)
 }
 
-// Puts some begins in their order, where they are many.
-fn arranged(begins: &mut [u32]) -> &[u32]
-    ensures order { MANY ≤ length result.now → IsNonDecreasing result.now }
-    ensures same { IsPermutation begins.old result.now }
-    ensures size { length result.now ≡ length begins.old }
-{
-    if begins.len() < MANY {
-        return begins;
-    }
-    begins.sort_unstable();
-    begins
-}
-
 // The first of some begins that stands behind an end.
 fn first_behind(begins: &[u32], ended: u32) -> usize
     ensures { result ≡ position_or_len (λ b. nat_lt ended b) begins.now }
@@ -167,28 +154,27 @@ fn with_missed(
     missed_part(index, place, view, begins, missed, count)
 }
 
-// The write faults of the view at a place.
-pub(crate) fn write_part(
+// The write faults of the view at a place. The updates that it shows begin at `begins`.
+// They are counted among `counted`, the same begins, which are in their order where they are many.
+fn missed_parts(
     index: &Index<'_>,
     place: u32,
     view: &SeenView<'_>,
     updates: &ShownAndNext<'_>,
+    begins: &[u32],
+    counted: &[u32],
 ) -> Part<WriteFault>
     requires view { IsSeen (view_in (calls_of index.now) place) view.now }
     requires updates { IsOfView (calls_of index.now) (view_in (calls_of index.now) place) updates.now }
     requires place { place < length (views_of (calls_of index.now)) }
     requires kept { IsBoundedHistory index.now }
+    requires size { length begins.now ≡ length view.now.entries.now }
+    requires begins { (i : ℕ) → i < length view.now.entries.now → get_or begins.now i 0 ≡ begin_or_0 (begin_of_shown (calls_of index.now) view.now.entries.now i) }
+    requires same { IsPermutation begins.now counted.now }
+    requires order { MANY ≤ length counted.now → IsNonDecreasing counted.now }
     ensures { result ≡ part_of reported_write (write_faults (calls_of index.now) (view_in (calls_of index.now) place ∷ [])) }
 {
     let mut part = Part::none();
-    // most views have none
-    if updates.latest <= updates.earliest {
-        return part;
-    }
-    let begins = begins_of(updates, view.entries);
-    let mut copy = begins;
-    let begins = &begins[..view.entries.len()];
-    let counted = arranged(&mut copy[..view.entries.len()]);
     for j in 0..updates.limit {
         let ended = updates.ends[j];
         if ended < updates.latest {
@@ -202,4 +188,34 @@ pub(crate) fn write_part(
         }
     }
     part
+}
+
+// The write faults of the view at a place.
+pub(crate) fn write_part(
+    index: &Index<'_>,
+    place: u32,
+    view: &SeenView<'_>,
+    updates: &ShownAndNext<'_>,
+) -> Part<WriteFault>
+    requires view { IsSeen (view_in (calls_of index.now) place) view.now }
+    requires updates { IsOfView (calls_of index.now) (view_in (calls_of index.now) place) updates.now }
+    requires place { place < length (views_of (calls_of index.now)) }
+    requires kept { IsBoundedHistory index.now }
+    ensures { result ≡ part_of reported_write (write_faults (calls_of index.now) (view_in (calls_of index.now) place ∷ [])) }
+{
+    // most views have none
+    if updates.latest <= updates.earliest {
+        return Part::none();
+    }
+    let begins = begins_of(updates, view.entries);
+    let size = view.entries.len();
+    if size < MANY {
+        let shown = &begins[..size];
+        return missed_parts(index, place, view, updates, shown, shown);
+    }
+    let mut copy = begins;
+    let shown = &begins[..size];
+    let counted = &mut copy[..size];
+    counted.sort_unstable();
+    missed_parts(index, place, view, updates, shown, counted)
 }

@@ -1,120 +1,77 @@
-use Rattle.snap_conditions.proofs.Limits.{none_step, missed_rest}
-use Rattle.snap_conditions.specs.inside.ShownAndNext.{end_next}
-use Rattle.snap_conditions.specs.inside.Places.{begin_or_0, begin_of_shown}
-use Rattle.snap_theory.specs.Updates.{update_of}
+use Rattle.std.proofs.Common.{◌≡◌, ◌<◌, ◌≤◌, ℕ, List, length, take, get_or, sym, ap, ◌∙◌, arith}
+use Rattle.std.proofs.lemmas.List.{get_or-take, length-take}
+use Rattle.std.proofs.lemmas.List.Sorted.{IsNonDecreasingBy-from_sort}
+use Rattle.snap_core.specs.Calls.{Call, calls_of, entries_of}
+use Rattle.snap_core.specs.declared.entry.Entry.{Entry}
 use Rattle.snap_theory.proofs.Entries.{nothing}
-use Rattle.std.proofs.lemmas.List.{get_or-take}
-use Rattle.snap_core.specs.Calls.{entries_of}
-use Rattle.snap_conditions.proofs.Surrounded.{some_end, none_missed_at, none_missed_around, begin_at}
-use Rattle.std.proofs.Common.{suc, ◌-◌, ◌≡◌, ◌<◌, ◌≤◌, take, get_or, sym, ap, ◌∙◌, arith}
-use Rattle.std.proofs.lemmas.List.FromFn.{get_or-range_with_len}
-use Rattle.std.specs.Prelude.{flat_map, nat_lt}
-use Rattle.std.proofs.Common.{cond}
-use Rattle.std.proofs.lemmas.List.Sorted.{sum_by-IsPermutation}
-use Rattle.snap_core.specs.Calls.{calls_of}
-use Rattle.snap_conditions.specs.declared.fault.WriteFault.{WriteFault}
-use Rattle.snap_theory.specs.Faults.{components, missed_at}
-use Rattle.snap_conditions.specs.Parts.{part_of, merged_part}
-use Rattle.snap_conditions.specs.PartValue.{PartValue}
-use Rattle.snap_views.specs.Seen.{view_in}
-use Rattle.snap_conditions.specs.Tally.{reported_write}
-use Rattle.snap_conditions.proofs.OneView.{write_alone, all_missed_few}
-use Rattle.snap_conditions.proofs.Parts.{merge_step}
-use Rattle.snap_views.proofs.Viewed.{view_there}
-use Rattle.std.specs.Prelude.{length}
-use Rattle.std.proofs.lemmas.List.{length-take}
+use Rattle.snap_views.specs.Seen.{IsSeen, view_in}
+use Rattle.snap_views.specs.declared.seen.SeenView.{SeenView}
 use Rattle.snap_views.proofs.Sizes.{rising_few}
-use Rattle.snap_core.specs.Calls.{shown_number}
-use Rattle.snap_conditions.specs.inside.Places.{end_of}
+use Rattle.snap_conditions.specs.declared.shown_and_next.ShownAndNext.{ShownAndNext}
+use Rattle.snap_conditions.specs.inside.Places.{begin_or_0, begin_of_shown}
+use Rattle.snap_conditions.specs.inside.ShownAndNext.{IsOfView}
+use Rattle.snap_conditions.proofs.Surrounded.{none_missed_around, begin_at}
 use Rattle.snap_conditions.proofs.write.write_part.Goals as goal
-use Rattle.snap_conditions.proofs.write.write_part.Goals.{then-ended-updates, else-ended-updates}
 
-pub with_missed-part-requires-clause-number : goal.with_missed-part-requires-clause-number
-with_missed-part-requires-clause-number c = c.requires.updates.numbers c.loop-j.j c.loop-j-test.true
+-- a view shows no more components than there are
+few_shown : (r : Call) (view : SeenView) → IsSeen r view → length view.entries.now ≤ 256
+few_shown r view seen = omega (arith, ap length seen.entries, rising_few _ seen.shape.rising (λ j d l. (seen.shape.fit j d l).0))
 
-pub with_missed-part-requires-clause-ended : goal.with_missed-part-requires-clause-ended
-with_missed-part-requires-clause-ended c =
-    let calls = calls_of c.args.index.now in
-    let r = view_in calls c.args.place in
-    let below : c.loop-j.j < 256 = omega (arith, c.loop-j-test.true, c.requires.updates.limit.few) in
-    ap (λ n. end_of (update_of calls c.loop-j.j (suc n))) (c.requires.updates.numbers c.loop-j.j c.loop-j-test.true)
-    ∙ some_end (end_of (update_of calls c.loop-j.j (suc (shown_number r c.loop-j.j)))) _ (c.requires.updates.ends c.loop-j.j below) (omega (arith, c.if-ended-updates.true, c.fits-updates))
+-- as many begins are taken as the view has entries
+shown_size : (r : Call) (view : SeenView) (begins : List ℕ) → IsSeen r view → length begins ≡ 256 → length (take (length view.entries.now) begins) ≡ length view.entries.now
+shown_size r view begins seen size = omega (arith, length-take (length view.entries.now) begins, size, few_shown r view seen)
 
-pub with_missed-part-requires-clause-begins : goal.with_missed-part-requires-clause-begins
-with_missed-part-requires-clause-begins c = λ i l.
-    let calls = calls_of c.args.index.now in
-    let r = view_in calls c.args.place in
-    let same = c.requires.view.entries in
-    let shape = c.requires.view.shape in
-    let within : i < length (entries_of r.operation) = omega (arith, l, ap length same) in
-    get_or-take (length c.args.view.now.entries.now) c.begins_of-begins.result i 0 l
-    ∙ c.begins_of-begins.ensures.each i nothing l
-    ∙ ap (λ z. get_or c.args.updates.now.begins (get_or z i nothing).component 0) same
-    ∙ begin_at calls r c.args.updates.now i c.requires.updates shape within (shape.fit i nothing within).0
-    ∙ sym (ap (λ z. begin_or_0 (begin_of_shown calls z i)) same)
-
-pub with_missed-part-requires-clause-few : goal.with_missed-part-requires-clause-few
-with_missed-part-requires-clause-few c =
-    let es = c.args.index.now in
-    let r = view_in (calls_of es) c.args.place in
-    let there = view_there es c.args.place c.requires.place in
-    omega (
-      arith,
-      ap (λ (p : PartValue WriteFault). p.count) c.loop-j.invariant,
-      all_missed_few es c.requires.kept r there c.loop-j.j,
-      c.loop-j-test.true,
-      c.requires.updates.limit.few,
-    )
-
-pub loop-j-preserved : goal.loop-j-preserved
-loop-j-preserved c =
-    let calls = calls_of c.args.index.now in
-    let r = view_in calls c.args.place in
-    let at : get_or components c.loop-j.j 0 ≡ c.loop-j.j = omega (arith, get_or-range_with_len 0 256 c.loop-j.j 0 (omega (arith, c.loop-j-test.true, c.requires.updates.limit.few))) in
-    elim c.if-ended-updates.branch [
-      | then-ended-updates w ↦
-          w.part-is ∙ w.with_missed-part.ensures ∙ ap (λ p. merged_part p (part_of reported_write (missed_at calls r c.loop-j.j))) c.loop-j.invariant
-          ∙ ap (λ j. merged_part (part_of reported_write (flat_map (missed_at calls r) (take c.loop-j.j components))) (part_of reported_write (missed_at calls r j))) (sym at)
-          ∙ sym (merge_step reported_write (missed_at calls r) components c.loop-j.j 0 (omega (arith, c.loop-j-test.true, c.requires.updates.limit.few)))
-      | else-ended-updates w ↦
-          let late : c.args.updates.now.latest ≤ end_next calls r c.loop-j.j = omega (arith, w.if-ended-updates.false, c.requires.updates.ends c.loop-j.j (omega (arith, c.loop-j-test.true, c.requires.updates.limit.few))) in
-          w.part-is ∙ c.loop-j.invariant
-          ∙ none_step c.args.index.now r c.loop-j.j (omega (arith, c.loop-j-test.true, c.requires.updates.limit.few)) (none_missed_at c.args.index.now c.requires.kept r c.args.updates.now c.loop-j.j c.requires.updates c.requires.view.shape (omega (arith, c.fits-updates)) late)
-    ]
+-- each of them is where the update begins that the entry shows
+shown_begins : (calls : List Call) (r : Call) (view : SeenView) (updates : ShownAndNext) (begins : List ℕ) → IsSeen r view → IsOfView calls r updates →
+    ((i : ℕ) (e : Entry) → i < length view.entries.now → get_or begins i 0 ≡ get_or updates.begins (get_or view.entries.now i e).component 0) →
+    (i : ℕ) → i < length view.entries.now → get_or (take (length view.entries.now) begins) i 0 ≡ begin_or_0 (begin_of_shown calls view.entries.now i)
+shown_begins calls r view updates begins seen around each i l =
+    let within : i < length (entries_of r.operation) = omega (arith, l, ap length seen.entries) in
+    get_or-take (length view.entries.now) begins i 0 l
+    ∙ each i nothing l
+    ∙ ap (λ z. get_or updates.begins (get_or z i nothing).component 0) seen.entries
+    ∙ begin_at calls r updates i around seen.shape within (seen.shape.fit i nothing within).0
+    ∙ sym (ap (λ z. begin_or_0 (begin_of_shown calls z i)) seen.entries)
 
 pub returns-then-updates : goal.returns-then-updates
 returns-then-updates c =
     let calls = calls_of c.args.index.now in
-    c.none-part.ensures ∙ sym (none_missed_around c.args.index.now c.requires.kept (view_in calls c.args.place) c.args.updates.now c.requires.updates c.requires.view.shape (omega (arith, c.fits-updates)) c.if-updates.true)
-
-pub returns : goal.returns
-returns c =
-    let calls = calls_of c.args.index.now in
-    let r = view_in calls c.args.place in
-    c.loop-j.invariant ∙ missed_rest c.args.index.now c.requires.kept r c.args.updates.now.limit c.requires.updates.limit (256 - c.loop-j.j) c.loop-j.j (omega (arith, c.loop-j-test.false)) (omega (arith, c.loop-j.auto.j-end, c.requires.updates.limit.few)) ∙ sym (write_alone calls r)
+    c.none.ensures ∙ sym (none_missed_around c.args.index.now c.requires.kept (view_in calls c.args.place) c.args.updates.now c.requires.updates c.requires.view.shape (omega (arith, c.type_inv.updates)) c.if-updates.true)
 
 pub begins_of-begins-requires : goal.begins_of-begins-requires
-begins_of-begins-requires c = omega (arith, ap length c.requires.view.entries, rising_few _ c.requires.view.shape.rising (λ j d l. (c.requires.view.shape.fit j d l).0))
+begins_of-begins-requires c = few_shown _ c.args.view.now c.requires.view
 
 pub slice_bounds-begins-end : goal.slice_bounds-begins-end
-slice_bounds-begins-end c = omega (arith, c.begins_of-begins.ensures.size, ap length c.requires.view.entries, rising_few _ c.requires.view.shape.rising (λ j d l. (c.requires.view.shape.fit j d l).0))
+slice_bounds-begins-end c = omega (arith, c.begins_of-begins.ensures.size, few_shown _ c.args.view.now c.requires.view)
 
 pub slice_bounds-begins-end-2 : goal.slice_bounds-begins-end-2
-slice_bounds-begins-end-2 c =
-    omega (arith, length-take (length c.args.view.now.entries.now) c.begins_of-begins.result, c.begins_of-begins.ensures.size, ap length c.requires.view.entries, rising_few _ c.requires.view.shape.rising (λ j d l. (c.requires.view.shape.fit j d l).0))
+slice_bounds-begins-end-2 c = omega (arith, c.begins_of-begins.ensures.size, few_shown _ c.args.view.now c.requires.view)
 
-pub with_missed-part-requires-clause-size : goal.with_missed-part-requires-clause-size
-with_missed-part-requires-clause-size c =
-    omega (arith, length-take (length c.args.view.now.entries.now) c.begins_of-begins.result, c.begins_of-begins.ensures.size, ap length c.requires.view.entries, rising_few _ c.requires.view.shape.rising (λ j d l. (c.requires.view.shape.fit j d l).0))
+pub slice_bounds-shown-end : goal.slice_bounds-shown-end
+slice_bounds-shown-end c = sym (shown_size _ c.args.view.now _ c.requires.view c.begins_of-begins.ensures.size)
+
+pub slice_bounds-shown-end-2 : goal.slice_bounds-shown-end-2
+slice_bounds-shown-end-2 c = sym (shown_size _ c.args.view.now _ c.requires.view c.begins_of-begins.ensures.size)
 
 pub slice_bounds-copy-end : goal.slice_bounds-copy-end
-slice_bounds-copy-end c = omega (arith, c.begins_of-begins.ensures.size, ap length c.requires.view.entries, rising_few _ c.requires.view.shape.rising (λ j d l. (c.requires.view.shape.fit j d l).0))
+slice_bounds-copy-end c = omega (arith, c.begins_of-begins.ensures.size, few_shown _ c.args.view.now c.requires.view)
 
-pub slice_bounds-arranged-end : goal.slice_bounds-arranged-end
-slice_bounds-arranged-end c =
-    omega (arith, length-take (length c.args.view.now.entries.now) c.begins_of-begins.result, c.begins_of-begins.ensures.size, ap length c.requires.view.entries, rising_few _ c.requires.view.shape.rising (λ j d l. (c.requires.view.shape.fit j d l).0))
+pub slice_bounds-counted-end : goal.slice_bounds-counted-end
+slice_bounds-counted-end c = sym (shown_size _ c.args.view.now _ c.requires.view c.begins_of-begins.ensures.size)
 
-pub with_missed-part-requires-clause-count : goal.with_missed-part-requires-clause-count
-with_missed-part-requires-clause-count c =
-    let ended = get_or c.args.updates.now.ends c.loop-j.j 0 in
-    c.count_behind-count.ensures ∙ sum_by-IsPermutation (λ b. cond (nat_lt ended b) 1 0) _ _ c.arranged-counted.ensures.same
+pub missed_parts-requires-clause-size : goal.missed_parts-requires-clause-size
+missed_parts-requires-clause-size c = shown_size _ c.args.view.now _ c.requires.view c.begins_of-begins.ensures.size
+
+pub missed_parts-requires-clause-begins : goal.missed_parts-requires-clause-begins
+missed_parts-requires-clause-begins c =
+    shown_begins _ _ c.args.view.now c.args.updates.now _ c.requires.view c.requires.updates c.begins_of-begins.ensures.each
+
+pub missed_parts-requires-2-clause-size : goal.missed_parts-requires-2-clause-size
+missed_parts-requires-2-clause-size c = shown_size _ c.args.view.now _ c.requires.view c.begins_of-begins.ensures.size
+
+pub missed_parts-requires-2-clause-begins : goal.missed_parts-requires-2-clause-begins
+missed_parts-requires-2-clause-begins c =
+    shown_begins _ _ c.args.view.now c.args.updates.now _ c.requires.view c.requires.updates c.begins_of-begins.ensures.each
+
+pub missed_parts-requires-2-clause-order : goal.missed_parts-requires-2-clause-order
+missed_parts-requires-2-clause-order c = λ many. IsNonDecreasingBy-from_sort (λ n. n) _ c.sort_unstable.ensures.sorted

@@ -5,7 +5,7 @@ use Rattle.snap_theory.specs.Faults.{components, missed_at}
 use Rattle.snap_conditions.specs.Parts.{part_of}
 use Rattle.snap_views.specs.Seen.{view_in}
 use Rattle.snap_conditions.specs.Tally.{reported_write}
-use Rattle.snap_conditions.proofs.write.write_part.Given as goal
+use Rattle.snap_conditions.proofs.write.missed_parts.Given as goal
 
 abbrev pub invariant-loop-j : goal.invariant-loop-j
 invariant-loop-j l =
