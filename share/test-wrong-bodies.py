@@ -233,13 +233,14 @@ def ended(parts, reached, wanted, told):
 
 def ended_early():
     """What is wrong with where a gate ends: all is tried where all is proved, and nothing more where the first crate or its tests are not."""
-    low, tests, edits, high = ("low", "proof"), ("low", "tests"), ("low", "edits"), ("high", "proof")
+    low, tests, edits, high, others = ("low", "proof"), ("low", "tests"), ("low", "edits"), ("high", "proof"), ("high", "tests")
     none = [], [], []
     told = "rt: low is not proved, so the gate ends early; not reached, or not wholly: "
     return [
         *ended({low: True, high: True}, [low, high], {low: True, high: True}, ""),
         *ended({low: True, edits: none}, [low, edits], {low: True, edits: none}, ""),
         *ended({low: False, edits: none, high: True}, [low], {low: False, edits: none, high: False}, f"{told}low, high\n"),
+        *ended({low: False, others: True}, [low], {low: False, others: True}, f"{told}high\n"),
         *ended({tests: False, high: True}, [tests], {tests: False, high: False}, f"{told}high\n"),
     ]
 

@@ -397,7 +397,8 @@ def until_broken(in_lanes):
             name, part = key
             if broken:
                 left.append(name)
-                return ([], [], []) if part == "edits" else False
+                # of a crate that was proved without its tests the last line tells
+                return {"proof": False, "tests": True, "edits": ([], [], [])}[part]
             result = call(given, jobs)
             if not result:
                 broken.append(name)
