@@ -23,12 +23,8 @@ command_found (Some b) name command rows is named =
     cc
 
 -- a command with this name has no other
-pub has_name : (command name other : Text) → true ≡ bytes_eq command name → bytes_eq other name ≡ false → command ≡ other → ⊥
-has_name command name other is differs same = false≢true (sym differs ∙ sym (ap (λ (text : Text). bytes_eq text name) same) ∙ sym is)
-
--- a command that has not this name
-pub lacks_name : (command name : Text) → false ≡ bytes_eq command name → bytes_eq name name ≡ true → command ≡ name → ⊥
-lacks_name command name is same_text same = false≢true (is ∙ ap (λ (text : Text). bytes_eq text name) same ∙ same_text)
+pub has_name : (command name other : Text) → command ≡ name → bytes_eq name other ≡ false → bytes_eq other other ≡ true → command ≡ other → ⊥
+has_name command name other is differs same_text same = false≢true (sym differs ∙ ap (λ (text : Text). bytes_eq text other) (sym is ∙ same) ∙ same_text)
 
 -- what gives each job gives those that are asked for
 pub gives_more : (command : Text) (rows : List Row) (Gives More : (Job → Type 0) → Type 0) → ((Is : Job → Type 0) → Gives Is → More Is) → Finds command rows Gives → Finds command rows More

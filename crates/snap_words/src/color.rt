@@ -21,14 +21,10 @@ pub enum Color {
 pub(crate) fn color_in(matches: &ArgMatches<'_>) -> Option<Color>
     ensures given { (color : Color) → first_of (codes "color") (rows_of (found_of matches.now)) ≡ Some (color_text color) → result ≡ Some color }
 {
-    let word = matches.get_str("color")?;
-    if word == "auto" {
-        Some(Color::Auto)
-    } else if word == "always" {
-        Some(Color::Always)
-    } else if word == "never" {
-        Some(Color::Never)
-    } else {
-        None
+    match matches.get_str("color")? {
+        "auto" => Some(Color::Auto),
+        "always" => Some(Color::Always),
+        "never" => Some(Color::Never),
+        _ => None,
     }
 }

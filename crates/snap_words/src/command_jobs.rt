@@ -64,8 +64,10 @@ fn check_in(matches: &ArgMatches<'_>) -> Option<Job>
     {
         return None;
     }
-    let cutting = Cutting::new(pieces, workers).ok()?;
-    Some(Job::Check { cutting, options })
+    match Cutting::new(pieces, workers) {
+        Ok(cutting) => Some(Job::Check { cutting, options }),
+        Err(_) => None,
+    }
 }
 
 // The recording that the options of `record` ask for.
@@ -78,19 +80,19 @@ fn record_in(matches: &ArgMatches<'_>) -> Option<Job>
     let workers = number_in(matches, "workers")?;
     let rounds = number_or(matches, "rounds", rounds_for(events));
     let judge = flag_in(matches, "judge");
-    let scan = flag_in(matches, "scan");
     let stamped = flag_in(matches, "stamped");
-    if judge && stamped {
-        return None;
-    }
-    if !(LEAST_WORKERS..=WORKER_LIMIT).contains(&workers) || !are_rounds(events, rounds) {
+    if workers < LEAST_WORKERS
+        || WORKER_LIMIT < workers
+        || !are_rounds(events, rounds)
+        || (judge && stamped)
+    {
         return None;
     }
     Some(Job::Record {
         workers,
         rounds,
         judge,
-        scan,
+        scan: flag_in(matches, "scan"),
         stamped,
     })
 }
@@ -133,15 +135,11 @@ pub(crate) fn job_in(matches: &ArgMatches<'_>) -> Option<Job>
     ensures overfull { (rows : List Row) → subcommand_rows_of matches.now ≡ Some (codes "record", rows) → AsksTooManyRounds rows → IsNone result }
 {
     let (name, inner) = matches.subcommand()?;
-    if name == "check" {
-        check_in(inner)
-    } else if name == "shrink" {
-        shrink_in(inner)
-    } else if name == "explain" {
-        explain_in(inner)
-    } else if name == "draw" {
-        draw_in(inner)
-    } else {
-        record_in(inner)
+    match name {
+        "check" => check_in(inner),
+        "shrink" => shrink_in(inner),
+        "explain" => explain_in(inner),
+        "draw" => draw_in(inner),
+        _ => record_in(inner),
     }
 }

@@ -41,13 +41,10 @@ pub(crate) fn flag_in(matches: &ArgMatches<'_>, id: &str) -> bool
 pub(crate) fn json_in(matches: &ArgMatches<'_>) -> Option<bool>
     ensures given { (json : Bool) → first_of (codes "format") (rows_of (found_of matches.now)) ≡ Some (format_text json) → result ≡ Some json }
 {
-    let word = matches.get_str("format")?;
-    if word == "json" {
-        Some(true)
-    } else if word == "plain" {
-        Some(false)
-    } else {
-        None
+    match matches.get_str("format")? {
+        "json" => Some(true),
+        "plain" => Some(false),
+        _ => None,
     }
 }
 

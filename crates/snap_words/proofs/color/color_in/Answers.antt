@@ -1,4 +1,4 @@
-use Rattle.std.proofs.Common.{◌≡◌, ◌∙◌, Bool, List, Option, Some, None, ap, codes, false, refl, subst, sym, true, ℕ}
+use Rattle.std.proofs.Common.{◌≡◌, ◌∙◌, Bool, List, Option, Some, None, ap, codes, false, sym, true, ℕ}
 use Rattle.std.specs.Str.{bytes_eq}
 use Rattle.clap.specs.Words.{found_of}
 use Rattle.clap.proofs.WalkLemmas.{first_value-rows}
@@ -23,36 +23,39 @@ says word Auto is = ap chosen_by is
 says word Always is = ap chosen_by is
 says word Never is = ap chosen_by is
 
--- which word it is, by what the comparisons found
-heard : (word : List ℕ) (auto always never : Bool) → auto ≡ bytes_eq word (codes "auto") → always ≡ bytes_eq word (codes "always") → never ≡ bytes_eq word (codes "never")
-    → (color : Color) → word ≡ color_text color → chosen auto always never ≡ Some color
-heard word auto always never is_auto is_always is_never color is = subst (λ a. chosen a always never ≡ Some color) (sym is_auto)
-    (subst (λ b. chosen (bytes_eq word (codes "auto")) b never ≡ Some color) (sym is_always)
-    (subst (λ n. chosen (bytes_eq word (codes "auto")) (bytes_eq word (codes "always")) n ≡ Some color) (sym is_never) (says word color is)))
+-- a word says one thing
+same_color : (word : List ℕ) (said color : Color) → word ≡ color_text said → word ≡ color_text color → Some said ≡ Some color
+same_color word said color is asked = sym (says word said is) ∙ says word color asked
 
-pub returns-in_err-word : goal.returns-in_err-word
-returns-in_err-word c = record {
+-- a word that is none of the three says nothing
+no_color : (word : List ℕ) → (word ≡ codes "auto" → ⊥) → (word ≡ codes "always" → ⊥) → (word ≡ codes "never" → ⊥) → (color : Color) → word ≡ color_text color → ⊥
+no_color word not_auto not_always not_never Auto is = not_auto is
+no_color word not_auto not_always not_never Always is = not_always is
+no_color word not_auto not_always not_never Never is = not_never is
+
+pub returns-in_err-get_str : goal.returns-in_err-get_str
+returns-in_err-get_str c = record {
   given = λ color one.
-      let lost = c.in_err-word.ensures ∙ first_value-rows (found_of c.args.matches.now) (codes "color") ∙ one in
+      let lost = c.in_err-get_str.ensures ∙ first_value-rows (found_of c.args.matches.now) (codes "color") ∙ one in
       absurd cc;
 }
 
-pub returns-then-eq : goal.returns-then-eq
-returns-then-eq c = record {
-  given = λ color one. heard c.in_ok-word.word.now true _ _ c.if-eq.ensures refl refl color (word_is _ _ _ c.in_ok-word.ensures (first_value-rows (found_of c.args.matches.now) (codes "color") ∙ one));
+pub returns-in-auto : goal.returns-in-auto
+returns-in-auto c = record {
+  given = λ color one. same_color c.in_ok-get_str.field-0.now Auto color c.in-auto.is (word_is _ _ _ c.in_ok-get_str.ensures (first_value-rows (found_of c.args.matches.now) (codes "color") ∙ one));
 }
 
-pub returns-then-eq-2 : goal.returns-then-eq-2
-returns-then-eq-2 c = record {
-  given = λ color one. heard c.in_ok-word.word.now false true _ c.if-eq.ensures c.if-eq-2.ensures refl color (word_is _ _ _ c.in_ok-word.ensures (first_value-rows (found_of c.args.matches.now) (codes "color") ∙ one));
+pub returns-in-always : goal.returns-in-always
+returns-in-always c = record {
+  given = λ color one. same_color c.in_ok-get_str.field-0.now Always color c.in-always.is (word_is _ _ _ c.in_ok-get_str.ensures (first_value-rows (found_of c.args.matches.now) (codes "color") ∙ one));
 }
 
-pub returns-then-eq-3 : goal.returns-then-eq-3
-returns-then-eq-3 c = record {
-  given = λ color one. heard c.in_ok-word.word.now false false true c.if-eq.ensures c.if-eq-2.ensures c.if-eq-3.ensures color (word_is _ _ _ c.in_ok-word.ensures (first_value-rows (found_of c.args.matches.now) (codes "color") ∙ one));
+pub returns-in-never : goal.returns-in-never
+returns-in-never c = record {
+  given = λ color one. same_color c.in_ok-get_str.field-0.now Never color c.in-never.is (word_is _ _ _ c.in_ok-get_str.ensures (first_value-rows (found_of c.args.matches.now) (codes "color") ∙ one));
 }
 
-pub returns-else-eq-3 : goal.returns-else-eq-3
-returns-else-eq-3 c = record {
-  given = λ color one. heard c.in_ok-word.word.now false false false c.if-eq.ensures c.if-eq-2.ensures c.if-eq-3.ensures color (word_is _ _ _ c.in_ok-word.ensures (first_value-rows (found_of c.args.matches.now) (codes "color") ∙ one));
+pub returns-in_default : goal.returns-in_default
+returns-in_default c = record {
+  given = λ color one. absurd (no_color c.in_ok-get_str.field-0.now c.in_default.not-auto c.in_default.not-always c.in_default.not-never color (word_is _ _ _ c.in_ok-get_str.ensures (first_value-rows (found_of c.args.matches.now) (codes "color") ∙ one)));
 }

@@ -6,41 +6,38 @@ use Rattle.snap_words.specs.Jobs.{format_text}
 use Rattle.snap_words.proofs.Rows.{word_is}
 use Rattle.snap_words.proofs.option_values.json_in.Goals as goal
 
--- of the words of the formats only that of objects is json, and only the other is plain
+-- of the words of the formats only that of objects is json
 is_json : (word : List ℕ) (json : Bool) → word ≡ format_text json → bytes_eq word (codes "json") ≡ json
 is_json word true is = ap (λ (w : List ℕ). bytes_eq w (codes "json")) is
 is_json word false is = ap (λ (w : List ℕ). bytes_eq w (codes "json")) is
 
-is_plain : (word : List ℕ) (json : Bool) → word ≡ format_text json → json ≡ false → bytes_eq word (codes "plain") ≡ true
-is_plain word true is off = absurd cc
-is_plain word false is off = ap (λ (w : List ℕ). bytes_eq w (codes "plain")) is
+-- a word is that of one format
+same_format : (word : List ℕ) (said json : Bool) → word ≡ format_text said → word ≡ format_text json → said ≡ json
+same_format word said json is asked = sym (is_json word said is) ∙ is_json word json asked
 
-pub returns-in_err-word : goal.returns-in_err-word
-returns-in_err-word c = record {
+-- a word that is neither of the two is that of no format
+no_format : (word : List ℕ) → (word ≡ codes "json" → ⊥) → (word ≡ codes "plain" → ⊥) → (json : Bool) → word ≡ format_text json → ⊥
+no_format word not_json not_plain true is = not_json is
+no_format word not_json not_plain false is = not_plain is
+
+pub returns-in_err-get_str : goal.returns-in_err-get_str
+returns-in_err-get_str c = record {
   given = λ json one.
-      let lost = c.in_err-word.ensures ∙ first_value-rows (found_of c.args.matches.now) (codes "format") ∙ one in
+      let lost = c.in_err-get_str.ensures ∙ first_value-rows (found_of c.args.matches.now) (codes "format") ∙ one in
       absurd cc;
 }
 
-pub returns-then-eq : goal.returns-then-eq
-returns-then-eq c = record {
-  given = λ json one.
-      let word = word_is c.in_ok-word.word.now (format_text json) _ c.in_ok-word.ensures (first_value-rows (found_of c.args.matches.now) (codes "format") ∙ one) in
-      ap Some (c.if-eq.ensures ∙ is_json c.in_ok-word.word.now json word);
+pub returns-in-json : goal.returns-in-json
+returns-in-json c = record {
+  given = λ json one. ap Some (same_format c.in_ok-get_str.field-0.now true json c.in-json.is (word_is _ _ _ c.in_ok-get_str.ensures (first_value-rows (found_of c.args.matches.now) (codes "format") ∙ one)));
 }
 
-pub returns-then-eq-2 : goal.returns-then-eq-2
-returns-then-eq-2 c = record {
-  given = λ json one.
-      let word = word_is c.in_ok-word.word.now (format_text json) _ c.in_ok-word.ensures (first_value-rows (found_of c.args.matches.now) (codes "format") ∙ one) in
-      ap Some (c.if-eq.ensures ∙ is_json c.in_ok-word.word.now json word);
+pub returns-in-plain : goal.returns-in-plain
+returns-in-plain c = record {
+  given = λ json one. ap Some (same_format c.in_ok-get_str.field-0.now false json c.in-plain.is (word_is _ _ _ c.in_ok-get_str.ensures (first_value-rows (found_of c.args.matches.now) (codes "format") ∙ one)));
 }
 
-pub returns-else-eq-2 : goal.returns-else-eq-2
-returns-else-eq-2 c = record {
-  given = λ json one.
-      let word = word_is c.in_ok-word.word.now (format_text json) _ c.in_ok-word.ensures (first_value-rows (found_of c.args.matches.now) (codes "format") ∙ one) in
-      let off = sym (c.if-eq.ensures ∙ is_json c.in_ok-word.word.now json word) in
-      let lost = c.if-eq-2.ensures ∙ is_plain c.in_ok-word.word.now json word off in
-      absurd cc;
+pub returns-in_default : goal.returns-in_default
+returns-in_default c = record {
+  given = λ json one. absurd (no_format c.in_ok-get_str.field-0.now c.in_default.not-json c.in_default.not-plain json (word_is _ _ _ c.in_ok-get_str.ensures (first_value-rows (found_of c.args.matches.now) (codes "format") ∙ one)));
 }
