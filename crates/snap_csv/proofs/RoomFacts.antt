@@ -3,12 +3,13 @@ use Rattle.std.proofs.Common.{◌≡◌, ◌≤◌, ℕ, List, length, inr, Opti
 use Rattle.std.specs.Prelude.{IfSome}
 use Rattle.std.specs.Global.{Vec}
 use Rattle.snap_core.specs.declared.event.Event.{Event}
+use Rattle.snap_text.specs.Fields.{Fields}
 use Rattle.snap_format.specs.declared.refusal.ReadRefusal.{ReadRefusal}
 use Rattle.snap_format.specs.declared.refusal.ReadRefusal.TheVariants as refusals
 use Rattle.snap_format.specs.Rows.{rows_of}
 use Rattle.snap_format.specs.Texts.{bytes_within}
 use Rattle.snap_rows.specs.Taking.{AnswersRows, RefusesRows}
-use Rattle.snap_csv.specs.Answers.{AnswersRecordsWithin, AnswersTextWithin, Leaves, RefusalLeaves, RefusesTextWithin}
+use Rattle.snap_csv.specs.Answers.{AnswersRecordsWithin, AnswersTextWithin, Counts, Leaves, RefusalCounts, RefusalLeaves, RefusesTextWithin}
 use Rattle.snap_csv.specs.inside.Rows.{AnswersListed}
 
 -- the room holds the text
@@ -48,3 +49,17 @@ pub room_lists : (limit : ℕ) (known : Option (List ℕ)) (room : List ℕ) (re
     → AnswersListed limit (rows_of room) result → IfSome known (λ text. AnswersRecordsWithin limit text result)
 room_lists limit None room result (short, is) says = tt
 room_lists limit (Some text) room result (short, is) says = subst (λ t. AnswersRecordsWithin limit t result) is (answers_records limit room result short says)
+
+-- no device fails behind the text that was taken
+stays : (limit : ℕ) (rows : List Fields) (old new : ℕ) (e : ReadRefusal) → new ≡ old → RefusesRows limit rows e → RefusalCounts old new e
+stays limit rows old new (refusals.Text place f) same says = same
+stays limit rows old new refusals.Device same says = absurd says
+stays limit rows old new refusals.Memory same says = same
+
+pub room_counts : (limit : ℕ) (rows : List Fields) (old new : ℕ) (result : Result (List Event) ReadRefusal) → new ≡ old → AnswersRows limit rows result → Counts old new result
+room_counts limit rows old new (Ok events) same says = same
+room_counts limit rows old new (Err e) same says = stays limit rows old new e same says
+
+pub lists_counts : (limit : ℕ) (rows : List Fields) (old new : ℕ) (result : Result (List Event × Vec ℕ) ReadRefusal) → new ≡ old → AnswersListed limit rows result → Counts old new result
+lists_counts limit rows old new (Ok x) same says = same
+lists_counts limit rows old new (Err e) same says = stays limit rows old new e same says

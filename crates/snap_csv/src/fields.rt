@@ -1,10 +1,22 @@
 //! The fields of a record of `csv`.
-ghost use Rattle.std.specs.Prelude.{◌≡◌, ◌≢◌, ◌∷◌, [], length, MatchOption, Some, None};
-ghost use Rattle.csv.specs.Records.{fields_of};
+ghost use Rattle.std.specs.Prelude.{◌≡◌, ◌≢◌, ◌<◌, ◌∷◌, [], length, MatchOption, Some, None};
+ghost use Rattle.csv.specs.Records.{field_at, fields_of};
 ghost use Rattle.snap_format.specs.Layout.{is_header_row, is_stamped_header_row};
 
 use csv::ByteRecord;
 use snap_rows::{are_header, are_stamped_header};
+
+// The field at a place that a record has, counted from 0.
+#[inline(always)]
+fn field(row: &ByteRecord, place: usize) -> &[u8]
+    requires { place < length (fields_of row.now) }
+    ensures { Some result.now ≡ field_at (fields_of row.now) place }
+{
+    match row.get(place) {
+        Some(field) => field,
+        None => unreachable!(),
+    }
+}
 
 /// The fields of a record that has four.
 pub(crate) fn four_fields(row: &ByteRecord) -> Option<(&[u8], &[u8], &[u8], &[u8])>
@@ -13,7 +25,7 @@ pub(crate) fn four_fields(row: &ByteRecord) -> Option<(&[u8], &[u8], &[u8], &[u8
     if row.len() != 4 {
         return None;
     }
-    Some((row.get(0)?, row.get(1)?, row.get(2)?, row.get(3)?))
+    Some((field(row, 0), field(row, 1), field(row, 2), field(row, 3)))
 }
 
 /// The fields of a record that has five.
@@ -24,11 +36,11 @@ pub(crate) fn five_fields(row: &ByteRecord) -> Option<(&[u8], &[u8], &[u8], &[u8
         return None;
     }
     Some((
-        row.get(0)?,
-        row.get(1)?,
-        row.get(2)?,
-        row.get(3)?,
-        row.get(4)?,
+        field(row, 0),
+        field(row, 1),
+        field(row, 2),
+        field(row, 3),
+        field(row, 4),
     ))
 }
 

@@ -1,12 +1,14 @@
 //! The record of one line, where a text is read line by line.
-ghost use Rattle.std.specs.Prelude.{◌≡◌, [], IfOk, MatchOption};
+ghost use Rattle.std.specs.Prelude.{◌≡◌, [], IfOk, List, MatchOption};
 ghost use Rattle.csv.specs.Records.{fields_of};
 ghost use Rattle.snap_csv.specs.OneLine.{AnswersHeader, AnswersLine, HasFirst};
+ghost use Rattle.snap_csv.specs.inside.Rows.{Stands};
 ghost use Rattle.snap_format.specs.Rows.{rows_of};
+ghost use Rattle.snap_text.specs.Fields.{Fields};
 
 use crate::fields::{four_fields, is_header};
 use crate::rows::{next_row, reader_of};
-use csv::ByteRecord;
+use csv::{ByteRecord, Reader};
 use snap_core::Event;
 use snap_format::ReadRefusal;
 use snap_plain::plain_event;
@@ -18,12 +20,21 @@ use std::alloc::{AllocError, Global};
 fn only_row(alloc: Global, line: &[u8], row: &mut ByteRecord) -> Result<Option<bool>, AllocError>
     ensures { IfOk result (λ found. MatchOption found (rows_of line.now ≡ []) (HasFirst (rows_of line.now) (fields_of row.new))) }
 {
-    let mut reader = reader_of(alloc, line);
-    if !next_row(&mut reader, row)? {
+    only_row_left(alloc, &mut reader_of(alloc, line), row)
+}
+
+// The same of the records that a reader has left.
+fn only_row_left(
+    alloc: Global,
+    reader: &mut Reader<&[u8]>,
+    row: &mut ByteRecord,
+) -> Result<Option<bool>, AllocError>
+    ensures { (rows : List Fields) → Stands reader.old rows → IfOk result (λ found. MatchOption found (rows ≡ []) (HasFirst rows (fields_of row.new))) }
+{
+    if !next_row(reader, row)? {
         return Ok(None);
     }
-    let mut second = ByteRecord::new(alloc);
-    let more = next_row(&mut reader, &mut second)?;
+    let more = next_row(reader, &mut ByteRecord::new(alloc))?;
     Ok(Some(!more))
 }
 

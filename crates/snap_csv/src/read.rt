@@ -92,24 +92,31 @@ fn rows_history(
 ) -> Result<(History, Option<Vec<u32>>), ReadRefusal>
     ensures { AnswersNumbered limit.events (rows_of text.now) result }
 {
-    history_by_rows(alloc, &mut reader_of(alloc, text), limit)
+    history_by_rows(
+        alloc,
+        &mut Known::new(alloc),
+        &mut reader_of(alloc, text),
+        &mut ByteRecord::new(alloc),
+        limit,
+    )
 }
 
 // The same of the records that a reader has left.
 fn history_by_rows(
     alloc: Global,
+    known: &mut Known,
     reader: &mut Reader<&[u8]>,
+    row: &mut ByteRecord,
     limit: Limit,
 ) -> Result<(History, Option<Vec<u32>>), ReadRefusal>
     ensures { (rows : List Fields) → Stands reader.old rows → AnswersNumbered limit.events rows result }
 {
-    let mut row = ByteRecord::new(alloc);
-    if next_row(reader, &mut row)? {
-        if is_header(&row) {
-            return history_under_header(alloc, reader, &mut row, limit);
+    if next_row(reader, row)? {
+        if is_header(row) {
+            return history_under_header(alloc, known, reader, row, limit);
         }
-        if is_stamped_header(&row) {
-            let (history, records) = stamped_history(alloc, reader, &mut row, limit)?;
+        if is_stamped_header(row) {
+            let (history, records) = stamped_history(alloc, known, reader, row, limit)?;
             return Ok((history, Some(records)));
         }
     }
@@ -122,6 +129,7 @@ fn history_by_rows(
 // The history of the records that a reader has left under the header, or the first fault.
 fn history_under_header(
     alloc: Global,
+    known: &mut Known,
     reader: &mut Reader<&[u8]>,
     row: &mut ByteRecord,
     limit: Limit,
@@ -129,14 +137,7 @@ fn history_under_header(
     ensures { (head : Fields) (later : List Fields) → is_header_row head ≡ true → Stands reader.old later → AnswersNumbered limit.events (head ∷ later) result }
 {
     let mut history = History::with_limit(alloc, limit);
-    take_rows(
-        alloc,
-        &mut Known::new(alloc),
-        reader,
-        row,
-        limit,
-        &mut history,
-    )?;
+    take_rows(alloc, known, reader, row, limit, &mut history)?;
     Ok((history.into_history(), None))
 }
 

@@ -105,25 +105,30 @@ pub fn record_of(alloc: Global, text: &[u8], place: u32) -> Result<Option<Vec<Ve
     let Some(before) = place.checked_sub(1) else {
         return Ok(None);
     };
-    record_behind(alloc, &mut reader_of(alloc, text), before)
+    record_behind(
+        alloc,
+        &mut reader_of(alloc, text),
+        &mut ByteRecord::new(alloc),
+        before,
+    )
 }
 
 // The fields of the record behind so many of those that a reader has left.
 fn record_behind(
     alloc: Global,
     reader: &mut Reader<&[u8]>,
+    row: &mut ByteRecord,
     before: u32,
 ) -> Result<Option<Vec<Vec<u8>>>, AllocError>
     ensures { (rows : List Fields) → Stands reader.old rows → IfOk result (λ found. option_map (λ fields. map (λ f. f.items) fields.items) found ≡ record_at rows (before + 1)) }
 {
-    let mut row = ByteRecord::new(alloc);
     for _ in 0..before {
-        if !next_row(reader, &mut row)? {
+        if !next_row(reader, row)? {
             return Ok(None);
         }
     }
-    if !next_row(reader, &mut row)? {
+    if !next_row(reader, row)? {
         return Ok(None);
     }
-    Ok(Some(fields_in(alloc, &row)?))
+    Ok(Some(fields_in(alloc, row)?))
 }

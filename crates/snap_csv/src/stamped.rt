@@ -59,6 +59,7 @@ fn read_stamped(
 /// first fault.
 pub(crate) fn stamped_history(
     alloc: Global,
+    known: &mut Known,
     reader: &mut Reader<&[u8]>,
     row: &mut ByteRecord,
     limit: Limit,
@@ -66,13 +67,6 @@ pub(crate) fn stamped_history(
     ensures { (rows : List Fields) → Stands reader.old rows → AnswersStamps limit.events rows result }
 {
     let mut stamped = Vec::new(alloc);
-    let read = read_stamped(
-        alloc,
-        &mut Known::new(alloc),
-        reader,
-        row,
-        limit,
-        &mut stamped,
-    );
+    let read = read_stamped(alloc, known, reader, row, limit, &mut stamped);
     history_by_stamps(alloc, stamped, read)
 }

@@ -1,5 +1,5 @@
 use Rattle.snap_core.specs.Counting.{inner_of}
-use Rattle.snap_csv.proofs.RoomFacts.{room_leaves, room_lists}
+use Rattle.snap_csv.proofs.RoomFacts.{lists_counts, room_leaves, room_lists}
 use Rattle.snap_csv.proofs.records.read_records_within.Goals as goal
 
 pub returns-clause-text : goal.returns-clause-text
@@ -7,3 +7,6 @@ returns-clause-text g c = room_lists c.args.limit.events (g.R.Read.remaining (in
 
 pub returns-clause-room : goal.returns-clause-room
 returns-clause-room g c = room_leaves (g.R.Read.remaining (inner_of c.args.reader.now)) c.take_in.new.room.items c.listed_history.result c.in_ok-plain.ensures.text.1
+
+pub returns-clause-counts : goal.returns-clause-counts
+returns-clause-counts g c = lists_counts _ _ _ _ c.listed_history.result c.in_ok-plain.ensures.counts c.listed_history.ensures.rows
