@@ -1,4 +1,4 @@
-use Rattle.std.proofs.Common.{◌≡◌, ◌++◌, true, sym, subst, inr}
+use Rattle.std.proofs.Common.{◌≡◌, ◌++◌, true, [], sym, subst, inl, inr}
 use Rattle.std.specs.Prelude.{IfOk}
 use Rattle.snap_follow.specs.Followed.{StopsAt}
 use Rattle.snap_follow.specs.inside.Courses.{TakesLine}
@@ -19,3 +19,14 @@ returns-then-is_empty-clause-refused c =
 
 pub returns-in_ok-take_rest-clause-refused : goal.returns-in_ok-take_rest-clause-refused
 returns-in_ok-take_rest-clause-refused c = λ no. inr (rw (← c.in_ok-extend_from_slice.ensures.items, ← c.in_ok-check_length.ensures.same.0, ← c.in_ok-check_length.ensures.same.1) (c.in_ok-take_rest.ensures.refused no))
+
+pub returns-then-is_empty-clause-rest : goal.returns-then-is_empty-clause-rest
+returns-then-is_empty-clause-rest c =
+    if_ok_then c.take_line.result _ _ c.take_line.ensures.refused
+    (λ goes_on _ yes. subst (λ z. z.items ≡ []) (sym c.take_line.ensures.rest) (no_bytes c.args.self.now.rest c.if-is_empty.ensures))
+
+pub returns-in_ok-take_rest-clause-rest : goal.returns-in_ok-take_rest-clause-rest
+returns-in_ok-take_rest-clause-rest c = λ yes. c.in_ok-take_rest.ensures.rest
+
+pub returns-else-branch-clause-refused : goal.returns-else-branch-clause-refused
+returns-else-branch-clause-refused c = λ no. inl (rw (← c.in_ok-extend_from_slice.ensures.items) (c.in_ok-check_length.ensures.refused no))

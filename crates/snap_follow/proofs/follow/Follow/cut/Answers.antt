@@ -1,4 +1,5 @@
-use Rattle.std.proofs.Common.{arith, refl, subst}
+use Rattle.std.proofs.Common.{◌≡◌, arith, refl, subst, sym}
+use Rattle.snap_follow.specs.Followed.{HasRead}
 use Rattle.snap_theory.specs.Windows.{IsQuiet}
 use Rattle.snap_follow.proofs.Opening.{none_open}
 use Rattle.snap_follow.proofs.Reading.{read_history, window_ended}
@@ -24,3 +25,14 @@ returns-then-self-gt0-clause-ends c = λ least most texts lines events h quiet.
 
 pub returns-in_default-clause-ends : goal.returns-in_default-clause-ends
 returns-in_default-clause-ends c = λ least most texts lines events h quiet. absurd ((rw c.in_default.is at c.in_ok-verdict.ensures.open) h.before h.since h.taken (subst IsQuiet h.windows quiet))
+
+pub returns-clause-enough : goal.returns-clause-enough
+returns-clause-enough c = λ least most texts lines events h. omega (arith, c.if-len-self.false, c.len.ensures h.before h.since h.taken, h.least_is)
+
+pub returns-in_default-clause-kept : goal.returns-in_default-clause-kept
+returns-in_default-clause-kept c =
+    let same : c.cut.new.self ≡ c.args.self.now.judge = rw c.in_default.is at c.in_ok-verdict.ensures.kept in
+    rw same refl
+
+pub returns-in_default-clause-same : goal.returns-in_default-clause-same
+returns-in_default-clause-same c = λ least most texts lines events h. subst (λ z. HasRead z least most texts lines events) (sym (returns-in_default-clause-kept c)) h
