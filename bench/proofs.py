@@ -16,7 +16,7 @@ TOP = os.path.dirname(os.path.dirname(os.path.abspath(__file__)))
 PAUSE = 120
 # The parts of a proof, each with what the names of its files have; the first that fits counts.
 PARTS = [
-    ("each value that a function owns, followed to each end", re.compile(r"\.Lts(-|\.|$)")),
+    ("each local of a function, followed from step to step", re.compile(r"\.Lts(-|\.|$)")),
     ("goals, searched for or answered", re.compile(r"\.(Proof|Answers|Invariants|Goals)(-[\w-]+)?(\.decls)?$")),
     ("what the code means, and how its parts are put together", re.compile(r"\.(Tie|TheLink|Code|Mir|Layout|Kinds|Carried|Reads|Met|Named|Given|Statement|Paired|Symbol|Key|View)")),
     ("definitions and contracts", re.compile("-specs")),
