@@ -9,6 +9,7 @@ import io
 import os
 import sys
 import tempfile
+from unittest import mock
 
 import wrong_bodies
 from wrong_bodies import rt
@@ -216,30 +217,31 @@ def forgotten():
 
 def tasks_of(parts, tried):
     """Tasks as the toolchain's gate has them, each of whose parts gives what it is given here, and which note themselves when they begin.
-    All wait for the first."""
+    All wait for the first, and earlier ones have more lines."""
     first = next(iter(parts))
-    task = lambda key, result: ([first] if key != first else [], 1, 1, lambda given, jobs: tried.append(key) or result)
-    return {key: task(key, result) for key, result in parts.items()}
+    task = lambda key, lines, result: ([first] if key != first else [], lines, 1, lambda given, jobs: tried.append(key) or result)
+    return {key: task(key, len(parts) - at, result) for at, (key, result) in enumerate(parts.items())}
 
 
 def ended(parts, reached, wanted, told):
-    """What is wrong with a gate over these parts: which of them it reaches, what it has of each, and what it tells."""
+    """What is wrong with a gate over these parts, one after the other: which of them it reaches, what it has of each, and what it tells."""
     tried, said = [], io.StringIO()
-    with contextlib.redirect_stdout(said):
+    with contextlib.redirect_stdout(said), mock.patch.dict(os.environ, RT_JOBS="1"):
         given = wrong_bodies.until_broken(rt.in_lanes)(tasks_of(parts, tried))
     found = tried, given, said.getvalue()
     return [] if found == (reached, wanted, told) else [f"a gate over {parts} reached, had and told {found}"]
 
 
 def ended_early():
-    """What is wrong with where a gate ends: all is tried where all is proved, and nothing more where the first crate or its tests are not."""
+    """What is wrong with where a gate ends: all is tried where all is proved, wrong bodies last, and nothing more where the first crate or its
+    tests are not."""
     low, tests, edits, high, others = ("low", "proof"), ("low", "tests"), ("low", "edits"), ("high", "proof"), ("high", "tests")
     none = [], [], []
     told = "rt: low is not proved, so the gate ends early; not reached, or not wholly: "
     return [
         *ended({low: True, high: True}, [low, high], {low: True, high: True}, ""),
-        *ended({low: True, edits: none}, [low, edits], {low: True, edits: none}, ""),
-        *ended({low: False, edits: none, high: True}, [low], {low: False, edits: none, high: False}, f"{told}low, high\n"),
+        *ended({low: True, edits: none, high: True}, [low, high, edits], {low: True, edits: none, high: True}, ""),
+        *ended({low: False, edits: none, high: True}, [low], {low: False, edits: none, high: False}, f"{told}high, low\n"),
         *ended({low: False, others: True}, [low], {low: False, others: True}, f"{told}high\n"),
         *ended({tests: False, high: True}, [tests], {tests: False, high: False}, f"{told}high\n"),
     ]

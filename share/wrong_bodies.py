@@ -31,6 +31,8 @@ from dataclasses import dataclass, replace
 RT = os.path.realpath(shutil.which("rt") or sys.exit("there is no rt on the path"))
 # A check of more wrong bodies would need more memory than the proof of the crate.
 MOST = 24
+# More lines than all crates have together.
+LINES = 10_000_000
 # The first line of a function, as `rt fmt` lays it out. The last is a brace as far to the right, if the first does not end it.
 BEGIN = re.compile(r'( *)(?:pub(?:\(\w+\))? )?(?:const )?(?:unsafe )?(?:extern "C" )?fn (\w+)')
 # The first line of a block of methods: the trait and what it is of, if there is one, and the type. And that of a type.
@@ -387,8 +389,8 @@ def add_edits(tasks, crate, edits, first, waits, is_well, kept, start=None, in_c
 
 
 def until_broken(in_lanes):
-    """As a toolchain that keeps nothing runs tasks, but once a crate or its tests are not proved, it begins no other. It says what it did not
-    reach."""
+    """As a toolchain that keeps nothing runs tasks, but all proofs come before wrong bodies, where they can, and once a crate or its tests are
+    not proved, it begins no other task. It says what it did not reach."""
 
     def run(tasks):
         broken, left = [], []
@@ -404,7 +406,10 @@ def until_broken(in_lanes):
                 broken.append(name)
             return result
 
-        watched = {key: (*task[:-1], functools.partial(begun, key, task[-1])) for key, task in tasks.items()}
+        watched = {}
+        for key, (waits, lines, needs, call) in tasks.items():
+            # the tasks with the most lines come first
+            watched[key] = waits, lines / LINES if key[1] == "edits" else lines, needs, functools.partial(begun, key, call)
         given = in_lanes(watched)
         if left:
             print(f"rt: {broken[0]} is not proved, so the gate ends early; not reached, or not wholly: {', '.join(dict.fromkeys(left))}", flush=True)
