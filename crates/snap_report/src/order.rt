@@ -25,7 +25,7 @@ fn shown<'i>(index: &'i Index<'_>, call: u32) -> &'i [Entry]
 // Adds the line of a call.
 fn put_call_line(
     out: &mut Vec<u8>,
-    known: &mut Vec<Option<Group>>,
+    known: &mut Vec<Group>,
     index: &Index<'_>,
     number: u32,
 ) -> Result<(), AllocError>

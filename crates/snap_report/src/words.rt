@@ -1,5 +1,5 @@
 //! Words of lines.
-ghost use Rattle.std.specs.Prelude.{◌≡◌, ◌+◌, ◌*◌, ◌≤◌, ◌++◌, IfOk, OnOk, codes, decimal, drop, length};
+ghost use Rattle.std.specs.Prelude.{◌≡◌, ◌+◌, ◌*◌, ◌≤◌, ◌++◌, OnOk, codes, decimal, drop, length};
 ghost use Rattle.std.specs.List.{flat_map};
 ghost use Rattle.snap_report.specs.Lines.{call_word, entry_word, process_word, update_word};
 
@@ -46,11 +46,20 @@ pub fn put_entry(out: &mut Vec<u8>, text: &[u8], entry: &Entry) -> Result<(), Al
     put_number(out, b":", u64::from(entry.value))
 }
 
-// How many entries are put together.
-const GROUP: usize = 16;
+// The most entries that are put together.
+const GROUP: usize = 8;
 
 // The most bytes that a group takes, each entry behind a space.
-const GROUP_SIZE: usize = 416;
+const GROUP_SIZE: usize = GROUP * (1 + ENTRY_SIZE);
+
+// How many entries of a view are put together. A view mostly differs from the one before in one entry, and the whole
+// group of that entry is written anew. Where there are few entries, small groups leave more of them to be copied. Where
+// there are many, most are copied either way, and looking at twice as many groups costs more than it saves.
+fn group_length(entries: usize) -> usize
+    ensures { (1 ≤ result) × (result ≤ GROUP) }
+{
+    if entries < 32 { 4 } else { GROUP }
+}
 
 /// Entries that were added, and their words.
 #[derive(Drop)]
@@ -78,72 +87,61 @@ fn write_entries(entries: &[Entry], buffer: &mut [u8], end: usize) -> usize
 }
 
 impl Group {
-    // The group of some entries, in the memory of another, if there is one.
-    fn of(alloc: Global, room: Option<Group>, entries: &[Entry]) -> Result<Group, AllocError>
-        requires { length entries.now ≤ 16 }
-        ensures { IfOk result (λ group. group.entries.items ≡ entries.now) }
+    // A group of no entries.
+    fn new(alloc: Global) -> Group {
+        Group {
+            entries: Vec::new(alloc),
+            text: Vec::new(alloc),
+        }
+    }
+
+    // Makes it the group of other entries, in the memory that it has. The entries get their room before the text is put,
+    // so that an error of memory leaves a group of no entries.
+    fn set(&mut self, entries: &[Entry]) -> Result<(), AllocError>
+        requires { length entries.now ≤ GROUP }
+        ensures { OnOk result (self.new.entries.items ≡ entries.now) }
     {
-        let (mut entries_room, mut text_room) = match room {
-            Some(group) => (group.entries, group.text),
-            None => (Vec::new(alloc), Vec::new(alloc)),
-        };
         let mut buffer = [0u8; GROUP_SIZE];
         let at = write_entries(entries, &mut buffer, GROUP_SIZE);
-        entries_room.clear();
-        entries_room.extend_from_slice(entries)?;
-        text_room.clear();
-        text_room.extend_from_slice(&buffer[at..])?;
-        Ok(Group {
-            entries: entries_room,
-            text: text_room,
-        })
+        self.entries.clear();
+        self.text.clear();
+        self.entries.reserve(entries.len())?;
+        self.text.extend_from_slice(&buffer[at..])?;
+        self.entries.extend_from_slice(entries)
     }
 }
 
-// Adds the entries of a group, each behind a space. Where the group that is known has them, its text is copied.
-fn put_group(
-    out: &mut Vec<u8>,
-    known: &mut Vec<Option<Group>>,
-    place: usize,
-    entries: &[Entry],
-) -> Result<(), AllocError>
-    requires { length entries.now ≤ 16 }
+// Adds the entries of a group, each behind a space. The group that is known becomes theirs, where it is not already, and
+// its text is copied.
+fn put_group(out: &mut Vec<u8>, known: &mut Group, entries: &[Entry]) -> Result<(), AllocError>
+    requires { length entries.now ≤ GROUP }
     ensures { OnOk result (out.new.items ≡ out.old.items ++ flat_map (λ entry. codes " " ++ entry_word entry) entries.now) }
 {
-    if let Some(Some(group)) = known.get(place) {
-        if are_same(&group.entries, entries) {
-            return out.extend_from_slice(&group.text);
-        }
+    if !are_same(&known.entries, entries) {
+        known.set(entries)?;
     }
-    let room = if place < known.len() {
-        known[place].take()
-    } else {
-        None
-    };
-    let group = Group::of(*out.allocator(), room, entries)?;
-    out.extend_from_slice(&group.text)?;
-    if place < known.len() {
-        known[place] = Some(group);
-    } else {
-        known.push(Some(group))?;
-    }
-    Ok(())
+    out.extend_from_slice(&known.text)
 }
 
 // Adds entries, each behind a space. Those of one view are often those of the view before it, so that groups of them are
 // compared with the groups that were added before.
 fn put_groups(
     out: &mut Vec<u8>,
-    known: &mut Vec<Option<Group>>,
+    known: &mut Vec<Group>,
     entries: &[Entry],
 ) -> Result<(), AllocError>
     ensures { OnOk result (out.new.items ≡ out.old.items ++ flat_map (λ entry. codes " " ++ entry_word entry) entries.now) }
 {
+    let most = group_length(entries.len());
+    let mut place = 0;
     let mut left = entries;
     while !left.is_empty() {
-        let place = (entries.len() - left.len()) / GROUP;
-        let (group, rest) = left.split_at(left.len().min(GROUP));
-        put_group(out, known, place, group)?;
+        let (group, rest) = left.split_at(left.len().min(most));
+        if place == known.len() {
+            known.push(Group::new(*out.allocator()))?;
+        }
+        put_group(out, &mut known[place], group)?;
+        place += 1;
         left = rest;
     }
     Ok(())
@@ -198,7 +196,7 @@ fn put_view_front(out: &mut Vec<u8>, number: u32, process: u16) -> Result<(), Al
 /// Adds the line of a view.
 pub(crate) fn put_view_line(
     out: &mut Vec<u8>,
-    known: &mut Vec<Option<Group>>,
+    known: &mut Vec<Group>,
     number: u32,
     process: u16,
     entries: &[Entry],
