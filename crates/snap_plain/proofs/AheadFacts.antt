@@ -2,7 +2,8 @@
 use Rattle.std.proofs.Common.{◌≡◌, ◌<◌, ◌+◌, ◌++◌, ℕ, List, [], ◌∷◌, All, drop, length, take, Ok, Err, refl, sym, ap, subst, arith, ◌∙◌}
 use Rattle.std.specs.Prelude.{slice_index_or}
 use Rattle.std.proofs.lemmas.List.{length-append, take-append-drop}
-use Rattle.std.proofs.lemmas.List.Elements.{All-from_get_or, All-nil}
+use Rattle.std.specs.List.{flat_map}
+use Rattle.std.proofs.lemmas.List.Elements.{All-append, All-from_get_or, All-head, All-nil, All-tail}
 use Rattle.std.proofs.Math.Seq.{drop-append_seam}
 use Rattle.snap_core.specs.declared.event.Event.{Event}
 use Rattle.snap_text.specs.Fields.{Fields, row_event}
@@ -52,6 +53,12 @@ one_line_more xs x rest left text before first = λ rows h.
 pub all_of_each : {X : Type 0} (P : X → Type 0) (xs : List X) → ((i : ℕ) (d : X) → i < length xs → P (slice_index_or xs i d)) → All P xs
 all_of_each P [] h = All-nil P
 all_of_each P (x ∷ xs) h = All-from_get_or P (x ∷ xs) x (λ i lt. h i x lt)
+
+-- of lists of which each has all
+pub all_joined : {X Y : Type 0} (P : X → Type 0) (items : Y → List X) (lists : List Y) → All (λ list. All P (items list)) lists → All P (flat_map items lists)
+all_joined P items [] h = All-nil P
+all_joined P items (list ∷ lists) h =
+    All-append P (items list) (flat_map items lists) (All-head (λ one. All P (items one)) list lists h) (all_joined P items lists (All-tail (λ one. All P (items one)) list lists h))
 
 -- ---- in their turn
 

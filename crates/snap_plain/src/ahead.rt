@@ -1,5 +1,7 @@
 //! Lines that are read before it is their turn, each piece of a text by a worker of its own.
 ghost use Rattle.std.specs.Prelude.{◌≡◌, ◌<◌, ◌≤◌, ◌+◌, ◌∷◌, [], ℕ, true, Ok, List, All, IfOk, IfSome, length};
+ghost use Rattle.std.specs.List.{flat_map};
+ghost use Rattle.std.specs.List.Sorted.{IsPermutation};
 ghost use Rattle.snap_format.specs.Layout.{is_header_row};
 ghost use Rattle.snap_plain.specs.Turns.{ReadsFront, TakesAhead};
 ghost use Rattle.snap_plain.specs.Lines.{AreAhead, BeginsLine, BeginsLines, HasRows, IsAhead, SpellsAll};
@@ -15,10 +17,17 @@ use snap_rows::{row_limit, take_event};
 use snap_text::Known;
 use snap_threads::{Cutting, each_job};
 use std::alloc::{AllocError, Global};
+use std::sync::atomic::{AtomicU64, Ordering};
 use std::thread::Threads;
 
-// About so many bytes are read in the time that a thread takes to start.
-const WHILE_STARTING: usize = 393_216;
+// How many bytes a piece has at least. So many take longer to read than a thread takes to start.
+const PIECE_SIZE: usize = 65_536;
+
+// How many pieces of a long text there are for each worker. More would lose more of what is known of the view before.
+const PIECES_EACH: usize = 8;
+
+// Of fewer pieces threads take longer to start than they save.
+const LEAST_PIECES: usize = 3;
 
 // How many bytes the shortest record has: `end,0,view,` and what ends its line.
 const SHORTEST: usize = 12;
@@ -31,8 +40,8 @@ pub struct Ahead<'t> {
     pub left: &'t [u8],
 }
 
-/// What the workers of a cutting read ahead of lines: the first lines of rests of them, in their order. Lines with stamps, few
-/// lines and those whose first one is refused are not read ahead.
+/// What the workers of a cutting read ahead of lines: first lines of rests of them. Lines with stamps, few lines and those whose
+/// first one is refused are not read ahead.
 pub fn read_ahead<'t, R: Threads + Sync>(
     rt: &R,
     alloc: Global,
@@ -48,15 +57,65 @@ pub fn read_ahead<'t, R: Threads + Sync>(
     if event_first(alloc, &mut Known::new(alloc), lines).is_none() {
         return Ok(Vec::new(alloc));
     }
-    each_job(
+    let pieces = pieces_of(alloc, lines, cutting.workers() as usize)?;
+    let drawn = AtomicU64::new(0);
+    let lists = each_job(
         rt,
         alloc,
-        pieces_of(alloc, lines, cutting.workers() as usize)?,
-        &|piece: Piece| -> Ahead
-            requires { piece.from ≤ length lines.now }
-            ensures { IsAhead lines.entry.now result }
-        { read_piece(alloc, &lines[piece.from..], piece.stop, limit) },
-    )
+        workers_for(alloc, pieces.len(), cutting)?,
+        &|_worker: u32| -> Vec<Ahead>
+            requires { All (λ piece. piece.from ≤ length lines.now) pieces.items }
+            ensures { All (IsAhead lines.entry.now) result.items }
+        { read_drawn(alloc, lines, &pieces, &drawn, limit) },
+    )?;
+    joined(alloc, lists)
+}
+
+// The numbers of the workers that read so many pieces: no more than there are pieces.
+fn workers_for(alloc: Global, pieces: usize, cutting: Cutting) -> Result<Vec<u32>, AllocError> {
+    let mut workers = Vec::new(alloc);
+    for worker in 0..cutting.workers() {
+        if (worker as usize) < pieces {
+            workers.push(worker)?;
+        }
+    }
+    Ok(workers)
+}
+
+// What one worker reads of some pieces: those that it draws, as far as memory serves. A thread that starts late so draws fewer.
+fn read_drawn<'t>(
+    alloc: Global,
+    lines: &'t [u8],
+    pieces: &[Piece],
+    drawn: &AtomicU64,
+    limit: Limit,
+) -> Vec<Ahead<'t>>
+    requires { All (λ piece. piece.from ≤ length lines.now) pieces.now }
+    ensures { All (IsAhead lines.entry.now) result.items }
+{
+    let mut all = Vec::new(alloc);
+    'each: for _ in 0..pieces.len() {
+        let number = drawn.fetch_add(1, Ordering::SeqCst);
+        let Some(piece) = pieces.get(number as usize) else {
+            return all;
+        };
+        let ahead = read_piece(alloc, &lines[piece.from..], piece.stop, limit);
+        if all.push(ahead).is_err() {
+            return all;
+        }
+    }
+    all
+}
+
+// What all workers read.
+fn joined<'t>(alloc: Global, lists: Vec<Vec<Ahead<'t>>>) -> Result<Vec<Ahead<'t>>, AllocError>
+    ensures { IfOk result (λ all. all.items ≡ flat_map (λ list. list.items) lists.entry.items) }
+{
+    let mut all = Vec::new(alloc);
+    'each: for mut list in lists {
+        all.append(&mut list)?;
+    }
+    Ok(all)
 }
 
 // A piece of some lines: it begins at a place, and ends where so many bytes are left.
@@ -77,19 +136,19 @@ fn end_of_line(text: &[u8], place: usize) -> usize
     }
 }
 
-// Lines in pieces of about as many bytes, each from the begin of a line on, as many as there are workers; or in none where the
-// calling thread alone reads them sooner.
+// Lines in pieces of about as many bytes, each from the begin of a line on; or in none where the calling thread alone reads them
+// sooner.
 fn pieces_of(alloc: Global, lines: &[u8], workers: usize) -> Result<Vec<Piece>, AllocError>
-    requires { 0 < workers }
     ensures { IfOk result (λ pieces. All (λ piece. piece.from ≤ length lines.now) pieces.items) }
 {
     let mut pieces = Vec::new(alloc);
-    if lines.len() - lines.len() / workers < WHILE_STARTING {
+    let count = (lines.len() / PIECE_SIZE).min(workers.saturating_mul(PIECES_EACH));
+    if workers == 1 || count < LEAST_PIECES {
         return Ok(pieces);
     }
     let mut from = 0;
-    for before in 0..workers {
-        let size = (lines.len() - from) / (workers - before);
+    for before in 0..count {
+        let size = (lines.len() - from) / (count - before);
         let end = end_of_line(lines, from + size);
         pieces.push(Piece {
             from,
@@ -180,12 +239,25 @@ fn take_all(history: &mut LimitedHistory, events: Vec<Event>) -> Result<(), Read
     Ok(())
 }
 
-/// The history of what was read ahead of some lines, as far as each piece begins where the one before it ends, and the lines behind
-/// these; or the first fault.
+// Takes the piece with a text of so many bytes out of some that were read ahead, where there is one.
+fn take_piece<'t>(ahead: &mut Vec<Ahead<'t>>, len: usize) -> Option<Ahead<'t>>
+    ensures taken { IfSome result (λ piece. IsPermutation ahead.old.items (piece ∷ ahead.new.items)) }
+    ensures len { IfSome result (λ piece. length piece.text.now ≡ len) }
+{
+    for at in 0..ahead.len() {
+        if ahead[at].text.len() == len {
+            return Some(ahead.swap_remove(at));
+        }
+    }
+    None
+}
+
+/// The history of what was read ahead of some lines, piece by piece, as far as a piece begins where the one before it ends, and the
+/// lines behind these; or the first fault.
 pub(crate) fn take_ahead<'t>(
     alloc: Global,
     lines: &'t [u8],
-    ahead: Vec<Ahead<'t>>,
+    mut ahead: Vec<Ahead<'t>>,
     limit: Limit,
 ) -> Result<(LimitedHistory, &'t [u8]), ReadRefusal>
     requires { All (IsAhead lines.now) ahead.items }
@@ -194,11 +266,9 @@ pub(crate) fn take_ahead<'t>(
 {
     let mut history = History::with_limit(alloc, limit);
     let mut behind = lines;
-    'each: for piece in ahead {
-        if piece.text.len() == behind.len() {
-            take_all(&mut history, piece.events)?;
-            behind = piece.left;
-        }
+    'each: while let Some(piece) = take_piece(&mut ahead, behind.len()) {
+        take_all(&mut history, piece.events)?;
+        behind = piece.left;
     }
     Ok((history, behind))
 }

@@ -1,5 +1,4 @@
 use Rattle.std.proofs.Common.{◌≡◌, ◌∷◌, true, All, List, length}
-use Rattle.std.specs.Vec.Iter.{into_iter_items, into_iter_len}
 use Rattle.snap_format.specs.Layout.{is_header_row}
 use Rattle.snap_rows.specs.Taking.{Midway}
 use Rattle.snap_plain.specs.Lines.{HasRows, IsAhead, IsRest}
@@ -10,6 +9,8 @@ abbrev pub invariant-each : goal.invariant-each
 invariant-each l = record {
   taken : (head : Fields) (later : List Fields) → is_header_row head ≡ true → HasRows l.lines later → IsRest l.behind l.lines × Midway l.fn.limit.events (head ∷ later) (HasRows l.behind) l.history.events (length l.history.events);
   limit : l.history.limit ≡ l.fn.limit.events;
-  pieces : All (IsAhead l.lines) (into_iter_items l.piece-iterator);
-  left : into_iter_len l.piece-iterator ≡ length (into_iter_items l.piece-iterator);
+  pieces : All (IsAhead l.lines) l.ahead.items;
 }
+
+abbrev pub decreases-each : goal.decreases-each
+decreases-each l = length l.ahead.items
