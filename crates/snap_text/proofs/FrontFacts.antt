@@ -1,16 +1,12 @@
 -- The number and the entry that a text begins with.
-use Rattle.std.proofs.Common.{◌≡◌, ◌<◌, ◌≤◌, ◌==◌, ◌+◌, ◌-◌, ◌*◌, ◌^◌, ◌++◌, ◌⊎◌, ◌≢◌, min, inl, inr, ℕ, zero, suc, true, false, Option, Some, None, List, [], ◌∷◌, length, get_or, take, drop, refl, arith, ◌∙◌, sym, ap, subst, append-nil, append_assoc, drop-cons, eq-eqb}
+use Rattle.std.proofs.Common.{◌≡◌, ◌<◌, ◌==◌, ◌+◌, ◌-◌, ◌*◌, ◌/◌, ◌%◌, ◌^◌, ◌++◌, ◌⊎◌, inl, inr, ℕ, zero, suc, true, false, Option, Some, None, List, [], ◌∷◌, length, get_or, take, drop, refl, arith, ◌∙◌, sym, ap, subst, append-nil, append_assoc, eq-eqb}
 use Rattle.std.specs.Prelude.{decimal}
 use Rattle.std.specs.Int.{IsInRange}
-use Rattle.std.specs.Char.{digit_value}
 use Rattle.std.specs.Str.Parse.{AllDigits, digits_value}
-use Rattle.std.proofs.lemmas.Bool.{cases_lt}
 use Rattle.std.proofs.lemmas.Bool.Decides.{nat_tests}
-use Rattle.std.proofs.lemmas.Fmt.{decimal-digits_value, decimal_digit, decimal_injective, decimal_is_IsNumeral, first_decimal, length-decimal-le}
-use Rattle.std.proofs.lemmas.Int.Digits.{digits_more, digits_value_more}
-use Rattle.std.proofs.lemmas.List.{drop_all, drop_at, get_or-take, length-take, take-append-drop}
-use Rattle.std.proofs.lemmas.Str.{digit_value_digit}
-use Rattle.std.proofs.lemmas.Str.Parse.{IsNumeralModel, digit_from_value, digits_value_short, numerals_by_value, tells_digits}
+use Rattle.std.proofs.lemmas.Fmt.{decimal_digit, decimal_injective, decimal_is_IsNumeral, decimal_nonempty, decimal_step, first_decimal}
+use Rattle.std.proofs.lemmas.List.{drop_at, get_or-take}
+use Rattle.std.proofs.lemmas.Str.Parse.{digit_from_value, digits_value-take-le}
 use Rattle.snap_core.specs.declared.entry.Entry.{Entry}
 use Rattle.snap_text.specs.Fields.{entry_at, number_at}
 use Rattle.snap_text.specs.inside.Fronts.{EndsEntry, EntryThen, NoDigitFirst, NumberThen}
@@ -19,121 +15,96 @@ use Rattle.snap_text.proofs.BackFacts.{entry_back}
 use Rattle.snap_text.proofs.GrammarFacts.{entry_fits, entry_is}
 use Rattle.snap_text.proofs.NumberFacts.{number_none, number_some}
 
-own : IsNumeralModel (AllDigits 10) (digits_value 10)
-own = numerals_by_value (AllDigits 10) tells_digits
-
--- the first bytes of a text are digits of this value
-pub record Digits (text : List ℕ) (len number : ℕ) : Type 0 where
-  pub all : AllDigits 10 (take len text)
-  pub value : number ≡ digits_value 10 (take len text)
-
-pub digits_small : (text : List ℕ) (len number : ℕ) → Digits text len number → len ≤ 10 → len ≤ length text → number < 10 ^ 10
-digits_small text len number h le in_text =
-    let short : length (take len text) ≤ 10 = omega (arith, length-take len text) in
-    rw h.value (digits_value_short own (take len text) 10 h.all short)
-
-pub digit_more : (text : List ℕ) (len number : ℕ) → Digits text len number → len < length text → IsInRange 48 57 (get_or text len 0)
-    → Digits text (len + 1) (number * 10 + (get_or text len 0 - 48))
-digit_more text len number h lt digit =
-    let value = digit_value_digit (get_or text len 0) digit in
-    let here : get_or text len 0 - 48 ≡ digit_value (get_or text len 0) = omega arith in
-    let small : digit_value (get_or text len 0) < 10 = omega (arith, digit.1) in
-    record {
-      all = digits_more 10 text len lt h.all small;
-      value = rw (here, h.value) (sym (digits_value_more 10 text len lt));
-    }
-
--- the digits stop here, or there are as many as no number below 2^32 has
-abbrev pub Stops : List ℕ → ℕ → Type 0
-Stops text len = NoDigitFirst (drop len text) ⊎ (11 ≤ len)
-
-pub stops_at_limit : (text : List ℕ) (len limit : ℕ) → limit ≡ min (length text) 11 → limit ≤ len → Stops text len
-stops_at_limit text len limit is le = go (cases_lt len (length text))
-  where
-    go : (len < length text) ⊎ (length text ≤ len) → Stops text len
-    go (inl more) = inr (omega arith)
-    go (inr all) = inl (rw (drop_all len text all) tt)
-
-pub stops_at_byte : (text : List ℕ) (len : ℕ) → len < length text → (get_or text len 0 < 48) ⊎ (57 < get_or text len 0) → Stops text len
-stops_at_byte text len lt h = inl (rw (drop-cons text len 0 lt) h)
-
--- two ways to cut digits off a text, of which one goes as far as there are digits
+-- a text begins with digits up to its first byte that is none, in one way only
 outside : (c : ℕ) → IsInRange 48 57 c → (c < 48) ⊎ (57 < c) → ⊥
 outside c d (inl lt) = omega (arith, d.0)
 outside c d (inr gt) = omega (arith, d.1)
 
-same_run : (ds es more rest : List ℕ) → AllDigits 10 ds → AllDigits 10 es → ds ++ more ≡ es ++ rest → NoDigitFirst rest → NoDigitFirst more ⊎ (length es ≤ length ds) → ds ≡ es
-same_run [] [] more rest hd he e ends stop = refl
-same_run [] (c ∷ es) more rest hd he e ends (inl none) =
+same_run : (ds es more rest : List ℕ) → AllDigits 10 ds → AllDigits 10 es → ds ++ more ≡ es ++ rest → NoDigitFirst more → NoDigitFirst rest → ds ≡ es
+same_run [] [] more rest hd he e none ends = refl
+same_run [] (c ∷ es) more rest hd he e none ends =
     absurd (outside c (digit_from_value c he.0) (subst (λ (t : List ℕ). NoDigitFirst t) e none))
-same_run [] (c ∷ es) more rest hd he e ends (inr le) = absurd (omega arith)
-same_run (c ∷ ds) [] more rest hd he e ends stop =
+same_run (c ∷ ds) [] more rest hd he e none ends =
     absurd (outside c (digit_from_value c hd.0) (subst (λ (t : List ℕ). NoDigitFirst t) (sym e) ends))
-same_run (c ∷ ds) (b ∷ es) more rest hd he e ends stop =
+same_run (c ∷ ds) (b ∷ es) more rest hd he e none ends =
     let head : c ≡ b = cc in
     let tail : ds ++ more ≡ es ++ rest = cc in
-    rw (head, same_run ds es more rest hd.1 he.1 tail ends (shorter stop)) refl
+    rw (head, same_run ds es more rest hd.1 he.1 tail none ends) refl
+
+-- and those that were read so far are the first of them
+first_run : (ds es more rest : List ℕ) → AllDigits 10 ds → AllDigits 10 es → ds ++ more ≡ es ++ rest → NoDigitFirst rest → take (length ds) es ≡ ds
+first_run [] es more rest hd he e ends = refl
+first_run (c ∷ ds) [] more rest hd he e ends =
+    absurd (outside c (digit_from_value c hd.0) (subst (λ (t : List ℕ). NoDigitFirst t) (sym e) ends))
+first_run (c ∷ ds) (b ∷ es) more rest hd he e ends =
+    let head : c ≡ b = cc in
+    let tail : ds ++ more ≡ es ++ rest = cc in
+    rw (head, first_run ds es more rest hd.1 he.1 tail ends) refl
+
+digits_of : (n : ℕ) → n < 2 ^ 64 → AllDigits 10 (decimal n)
+digits_of n small = (decimal_is_IsNumeral n small).0.1
+
+-- ---- a number that is read digit by digit
+
+pub first_digit : (text left : List ℕ) (b : ℕ) → text ≡ b ∷ left → IsInRange 48 57 b → text ≡ decimal (b - 48) ++ left
+first_digit text left b is digit = rw (decimal_digit (b - 48) (omega (arith, digit.1))) (is ∙ ap (λ x. x ∷ left) (omega (arith, digit.0)))
+
+decimal_more : (m d : ℕ) → 0 < m → d < 10 → m < 2 ^ 33 → decimal (m * 10 + d) ≡ decimal m ++ (48 + d) ∷ []
+decimal_more m d some digit small =
+    let front : (m * 10 + d) / 10 ≡ m = omega arith in
+    let last : (m * 10 + d) % 10 ≡ d = omega arith in
+    rw (front, last) at (decimal_step (m * 10 + d) (omega arith) (omega arith))
+
+pub digit_more : (text left : List ℕ) (m b : ℕ) → text ≡ decimal m ++ b ∷ left → IsInRange 48 57 b → 0 < m → m < 2 ^ 33 → text ≡ decimal (m * 10 + (b - 48)) ++ left
+digit_more text left m b is digit some small =
+    let here : 48 + (b - 48) ≡ b = omega (arith, digit.0) in
+    let step : decimal (m * 10 + (b - 48)) ≡ decimal m ++ b ∷ [] = decimal_more m (b - 48) some (omega (arith, digit.1)) small ∙ ap (λ x. decimal m ++ x ∷ []) here in
+    is ∙ sym (append_assoc (decimal m) (b ∷ []) left) ∙ ap (λ (t : List ℕ). t ++ left) (sym step)
+
+pub no_digit_in_nothing : (text : List ℕ) → length text ≡ 0 → NoDigitFirst text
+no_digit_in_nothing [] e = tt
+no_digit_in_nothing (b ∷ bs) e = absurd (omega arith)
+
+pub none_without_digits : (text : List ℕ) (n : ℕ) (rest : List ℕ) → NoDigitFirst text → NumberThen n rest text → ⊥
+none_without_digits text n rest none then =
+    let same = same_run [] (decimal n) text rest tt (digits_of n (omega (arith, then.small))) then.whole none then.ends in
+    omega (arith, decimal_nonempty n (omega (arith, then.small)), ap length same)
+
+-- the number is no less than what was read of it
+pub none_too_large : (text left : List ℕ) (m n : ℕ) (rest : List ℕ) → text ≡ decimal m ++ left → m < 2 ^ 64 → 4294967295 < m → NumberThen n rest text → ⊥
+none_too_large text left m n rest is small large then =
+    let read = decimal_is_IsNumeral m small in
+    let whole = decimal_is_IsNumeral n (omega (arith, then.small)) in
+    let front = first_run (decimal m) (decimal n) left rest read.0.1 whole.0.1 (sym is ∙ then.whole) then.ends in
+    omega (arith, digits_value-take-le 10 (decimal n) (length (decimal m)) (omega arith), ap (digits_value 10) front, read.1, whole.1, then.small)
+
+none_behind_zero : (text left : List ℕ) (b n : ℕ) (rest : List ℕ) → text ≡ decimal 0 ++ b ∷ left → IsInRange 48 57 b → NumberThen n rest text → ⊥
+none_behind_zero text left b n rest is digit then = go n then
   where
-    shorter : NoDigitFirst more ⊎ (suc (length es) ≤ suc (length ds)) → NoDigitFirst more ⊎ (length es ≤ length ds)
-    shorter (inl h) = inl h
-    shorter (inr le) = inr (omega arith)
+    go : (n : ℕ) → NumberThen n rest text → ⊥
+    go zero then =
+        let same : 48 ∷ b ∷ left ≡ 48 ∷ rest = rw (decimal_digit 0 (omega arith)) at (sym is ∙ then.whole) in
+        let behind : rest ≡ b ∷ left = cc in
+        outside b digit (subst (λ (t : List ℕ). NoDigitFirst t) behind then.ends)
+    go (suc n) then =
+        let front = first_run (decimal 0) (decimal (suc n)) (b ∷ left) rest (digits_of 0 (omega arith)) (digits_of (suc n) (omega (arith, then.small))) (sym is ∙ then.whole) then.ends in
+        let zero : take 1 (decimal (suc n)) ≡ 48 ∷ [] = rw (decimal_digit 0 (omega arith)) at front in
+        let first = ap (λ (t : List ℕ). get_or t 0 0) zero in
+        omega (arith, get_or-take 1 (decimal (suc n)) 0 0 (omega arith), first_decimal (suc n) (omega arith) (omega (arith, then.small)))
 
--- so the digits that were read are those of the number, where a text begins with one
-run_is : (text : List ℕ) (len number n : ℕ) (rest : List ℕ) → Digits text len number → len ≤ length text → Stops text len → NumberThen n rest text → take len text ≡ decimal n
-run_is text len number n rest h le stop then =
-    same_run (take len text) (decimal n) (drop len text) rest h.all (decimal_is_IsNumeral n (omega (arith, then.small))).0.1
-    (take-append-drop len text ∙ then.whole) then.ends (far stop)
-  where
-    far : Stops text len → NoDigitFirst (drop len text) ⊎ (length (decimal n) ≤ length (take len text))
-    far (inl none) = inl none
-    far (inr many) = inr (omega (arith, length-take len text, length-decimal-le 10 n (omega arith) (omega (arith, then.small)) (omega (arith, then.small))))
-
-pub none_without_digits : (text : List ℕ) (len number n : ℕ) (rest : List ℕ) → Digits text len number → len ≤ length text → Stops text len → len ≡ 0 → NumberThen n rest text → ⊥
-none_without_digits text len number n rest h le stop none then =
-    let e = run_is text len number n rest h le stop then in
-    let some = (decimal_is_IsNumeral n (omega (arith, then.small))).0.0 in
-    omega (arith, length-take len text, ap length e)
-
-pub none_with_zero : (text : List ℕ) (len number n : ℕ) (rest : List ℕ) → Digits text len number → len ≤ length text → Stops text len → 1 < len → get_or text 0 0 ≡ 48 → NumberThen n rest text → ⊥
-none_with_zero text len number n rest h le stop many is_zero then = go n then (run_is text len number n rest h le stop then)
-  where
-    go : (n : ℕ) → NumberThen n rest text → take len text ≡ decimal n → ⊥
-    go zero then e = omega (arith, length-take len text, ap length (e ∙ decimal_digit 0 (omega arith)))
-    go (suc n) then e =
-        let first = first_decimal (suc n) (omega arith) (omega (arith, then.small)) in
-        let here : get_or (decimal (suc n)) 0 0 ≡ get_or text 0 0 = rw (← e) (get_or-take len text 0 0 (omega arith)) in
-        omega arith
-
-pub none_too_large : (text : List ℕ) (len number n : ℕ) (rest : List ℕ) → Digits text len number → len ≤ length text → Stops text len → 4294967295 < number → NumberThen n rest text → ⊥
-none_too_large text len number n rest h le stop large then =
-    let e = run_is text len number n rest h le stop then in
-    let value = (decimal_is_IsNumeral n (omega (arith, then.small))).1 in
-    let same : number ≡ n = h.value ∙ ap (digits_value 10) e ∙ value in
-    omega (arith, then.small)
-
-pub number_then : (text : List ℕ) (len number : ℕ) → Digits text len number → len ≤ length text → Stops text len → 0 < len → (len ≤ 1 ⊎ get_or text 0 0 ≢ 48) → number ≤ 4294967295 → NumberThen number (drop len text) text
-number_then text len number h le stop some plain small =
-    let count : length (take len text) ≡ len = omega (arith, length-take len text) in
-    let first = get_or-take len text 0 0 some in
-    let one : get_or (take len text) 0 0 ≡ 48 → length (take len text) ≡ 1 = λ is_zero. single plain (sym first ∙ is_zero) count in
-    let text_of : decimal (digits_value 10 (take len text)) ≡ take len text = decimal-digits_value own (take len text) h.all (omega arith) one (omega (arith, h.value)) in
-    let is : decimal number ≡ take len text = ap decimal h.value ∙ text_of in
-    record { small = omega arith; whole = sym (ap (λ (t : List ℕ). t ++ drop len text) is ∙ take-append-drop len text); ends = stopped (length-decimal-le 10 number (omega arith) (omega arith) (omega arith)) is count stop }
-  where
-    single : (len ≤ 1 ⊎ get_or text 0 0 ≢ 48) → get_or text 0 0 ≡ 48 → length (take len text) ≡ len → length (take len text) ≡ 1
-    single (inl le) is_zero count = omega arith
-    single (inr not) is_zero count = absurd (not is_zero)
-
-    stopped : length (decimal number) ≤ 10 → decimal number ≡ take len text → length (take len text) ≡ len → Stops text len → NoDigitFirst (drop len text)
-    stopped short is count (inl none) = none
-    stopped short is count (inr many) = absurd (omega (arith, ap length is))
+-- no number has a digit behind a leading zero, nor one that makes it too great
+pub none_goes_on : (text left : List ℕ) (m b n : ℕ) (rest : List ℕ) → text ≡ decimal m ++ b ∷ left → IsInRange 48 57 b → m < 2 ^ 33 → (m ≡ 0) ⊎ (429496729 < m) → NumberThen n rest text → ⊥
+none_goes_on text left m b n rest is digit small (inl none) then =
+    none_behind_zero text left b n rest (is ∙ ap (λ (k : ℕ). decimal k ++ b ∷ left) none) digit then
+none_goes_on text left m b n rest is digit small (inr large) then =
+    none_too_large text left (m * 10 + (b - 48)) n rest (digit_more text left m b is digit (omega arith) small) (omega (arith, digit.1)) (omega arith) then
 
 -- ---- a number alone
 
 pub number_once : (text : List ℕ) (n m : ℕ) (rest more : List ℕ) → NumberThen n rest text → NumberThen m more text → (n ≡ m) × (rest ≡ more)
 number_once text n m rest more a b =
-    let same : decimal n ≡ decimal m = same_run (decimal n) (decimal m) rest more (decimal_is_IsNumeral n (omega (arith, a.small))).0.1 (decimal_is_IsNumeral m (omega (arith, b.small))).0.1
-    (sym a.whole ∙ b.whole) b.ends (inl a.ends) in
+    let same : decimal n ≡ decimal m = same_run (decimal n) (decimal m) rest more (digits_of n (omega (arith, a.small))) (digits_of m (omega (arith, b.small)))
+    (sym a.whole ∙ b.whole) a.ends b.ends in
     let behind_n : drop (length (decimal n)) text ≡ rest = rw a.whole (drop_at (decimal n) rest (length (decimal n)) refl) in
     let behind_m : drop (length (decimal n)) text ≡ more = rw b.whole (drop_at (decimal m) more (length (decimal n)) (ap length (sym same))) in
     (decimal_injective n m (omega (arith, a.small)) (omega (arith, b.small)) same, sym behind_n ∙ behind_m)

@@ -31,13 +31,13 @@ fn view_of(alloc: Global, known: &mut Known, text: &[u8]) -> Result<Option<View>
         return Ok(None);
     };
     if !again {
-        known.keep(alloc, text, &entries, looks)?;
+        known.keep(text, &entries, looks)?;
     }
     let Ok(view) = View::from_entries(entries) else {
         return Ok(None);
     };
     if again {
-        Ok(Some(known.keep_view(alloc, view)?))
+        Ok(Some(known.keep_view(view)?))
     } else {
         Ok(Some(view))
     }

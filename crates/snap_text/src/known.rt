@@ -76,71 +76,36 @@ impl Known {
     }
 
     /// Keeps the view, whose text came again, and gives another one that shows the same.
-    pub(crate) fn keep_view(&mut self, alloc: Global, view: View) -> Result<View, AllocError>
+    pub(crate) fn keep_view(&mut self, view: View) -> Result<View, AllocError>
         requires { view_at self.old.text.items ≡ Some view }
         ensures { IfOk result (λ v. v ≡ view) }
     {
-        let known = std::mem::replace(self, Known::new(alloc));
         let kept = view.shared()?;
         let other = kept.again()?;
-        *self = known.with(kept);
+        self.view = Some(kept);
         Ok(other)
     }
 
-    // With its view.
-    fn with(self, view: View) -> Known
-        requires { view_at self.text.items ≡ Some view }
-    {
-        let Known {
-            text,
-            entries,
-            view: _,
-            looks,
-        } = self;
-        Known {
-            text,
-            entries,
-            view: Some(view),
-            looks,
-        }
-    }
-
-    // Of another view, which has these entries and this text, in the same memory, with what its own looks left.
-    fn of(self, text: &[u8], entries: &[Entry], left: usize) -> Result<Known, AllocError>
-        requires { entries_at text.now ≡ Some entries.now }
-    {
-        let saved = self.looks.saturating_sub(self.looks());
-        let Known {
-            text: mut text_room,
-            entries: mut entries_room,
-            view: _,
-            looks: _,
-        } = self;
-        text_room.clear();
-        text_room.extend_from_slice(text)?;
-        entries_room.clear();
-        entries_room.extend_from_slice(entries)?;
-        Ok(Known {
-            text: text_room,
-            entries: entries_room,
-            view: None,
-            looks: saved.saturating_add(left).saturating_add(INCOME).min(LOOKS),
-        })
-    }
-
-    /// Keeps the entries of another view, and their text, with what its own looks left.
+    /// Keeps the entries of another view, and their text, with what its own looks left. Where memory runs out, nothing is kept.
     pub(crate) fn keep(
         &mut self,
-        alloc: Global,
         text: &[u8],
         entries: &[Entry],
         left: usize,
     ) -> Result<(), AllocError>
         requires { entries_at text.now ≡ Some entries.now }
     {
-        let room = std::mem::replace(self, Known::new(alloc));
-        *self = room.of(text, entries, left)?;
-        Ok(())
+        let saved = self.looks.saturating_sub(self.looks());
+        self.looks = saved.saturating_add(left).saturating_add(INCOME).min(LOOKS);
+        self.view = None;
+        self.text.clear();
+        self.entries.clear();
+        self.entries.extend_from_slice(entries)?;
+        let kept = self.text.extend_from_slice(text);
+        if kept.is_err() {
+            self.entries.clear();
+        }
+        kept
     }
 }
 

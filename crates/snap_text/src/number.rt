@@ -5,25 +5,34 @@ ghost use Rattle.snap_text.specs.inside.Fronts.{NumberThen};
 
 use itoa::Buffer;
 
-// One digit more than a number below 2^32 has.
-const DIGIT_LIMIT: usize = 11;
+// The greatest number below 2^32.
+const GREATEST: u64 = u32::MAX as u64;
 
 /// The number below 2^32 whose decimal a text begins with, and the text behind its last digit.
 #[inline(always)]
 pub(crate) fn number_first(text: &[u8]) -> Option<(u32, &[u8])>
     ensures { MatchOption result ((n : ℕ) (rest : List ℕ) → NumberThen n rest text.now → ⊥) (λ x. NumberThen x.0 x.1.now text.now) }
 {
-    let limit = text.len().min(DIGIT_LIMIT);
-    let mut number = 0u64;
-    let mut len = 0;
-    while len < limit && text[len].is_ascii_digit() {
-        number = number * 10 + u64::from(text[len] - b'0');
-        len += 1;
-    }
-    if len == 0 || (len > 1 && text[0] == b'0') || number > 4294967295 {
+    let (first, mut left) = text.split_first()?;
+    if !first.is_ascii_digit() {
         return None;
     }
-    Some((number as u32, &text[len..]))
+    let mut number = u64::from(first - b'0');
+    while let Some((byte, rest)) = left.split_first() {
+        if !byte.is_ascii_digit() {
+            break;
+        }
+        // this digit stands behind a leading zero, or makes the number too great
+        if number == 0 || number > GREATEST / 10 {
+            return None;
+        }
+        number = number * 10 + u64::from(byte - b'0');
+        left = rest;
+    }
+    if number > GREATEST {
+        return None;
+    }
+    Some((number as u32, left))
 }
 
 /// The number below 2^32 whose decimal a field is.
