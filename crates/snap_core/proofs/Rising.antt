@@ -1,10 +1,12 @@
 -- Entries that rise, by places.
-use Rattle.std.proofs.Common.{◌≡◌, ℕ, zero, suc, ◌<◌, ◌≤◌, true, false, List, [], ◌∷◌, length, get_or, cond, nat_lt, Some, refl, ap, ◌∙◌, inl, inr, arith}
-use Rattle.std.proofs.lemmas.Bool.{ltb-true, ltb-false, lt-ltb, and_parts, and_from, cases_lt, false_from_ne_true}
+use Rattle.std.proofs.Common.{◌≡◌, ℕ, zero, suc, ◌+◌, ◌<◌, true, false, ◌&&◌, ◌||◌, List, [], ◌∷◌, length, drop, get_or, cond, nat_le, nat_lt, Some, refl, ap, ◌∙◌, inl, inr, arith}
+use Rattle.std.proofs.lemmas.Bool.{ltb-true, ltb-false, le-leb, lt-ltb, and_parts, and_from, cases_lt}
 use Rattle.std.specs.List.Sorted.{IsPartitionedBy, IsPartitionPoint}
 use Rattle.std.proofs.lemmas.List.Sorted.{IsPartitionedBy-ltb}
 use Rattle.std.specs.Prelude.{Bool, None, not, if◌then◌else◌}
 use Rattle.std.proofs.lemmas.Bool.{eq-eqb, ne_eqb}
+use Rattle.std.proofs.lemmas.Bool.Decides.{nat_tests}
+use Rattle.std.proofs.lemmas.List.{at_drop_more}
 use Rattle.snap_core.specs.declared.entry.Entry.{Entry}
 use Rattle.snap_core.specs.declared.view.ViewRefusal.TheVariants.{NotRising, ZeroNumber}
 use Rattle.snap_core.specs.Entries.{rises, has_zero, view_refusal, entry_of}
@@ -20,8 +22,23 @@ rises_at (d ∷ []) j c h l = absurd (omega arith)
 rises_at (d ∷ e ∷ es) zero c h l = ltb-true _ _ (and_parts _ _ h).0
 rises_at (d ∷ e ∷ es) (suc j) c h l = rises_at (e ∷ es) j c (and_parts _ _ h).1 (omega arith)
 
-pub rises_not : (es : List Entry) (j : ℕ) (c : Entry) → suc j < length es → (get_or es (suc j) c).component ≤ (get_or es j c).component → rises es ≡ false
-rises_not es j c l h = false_from_ne_true _ (λ r. let m = rises_at es j c r l in omega arith)
+-- each component is above the one before it, and the first is at least so much
+abbrev pub rises_above : ℕ → List Entry → Bool
+rises_above least [] = true
+rises_above least (e ∷ es) = nat_le least e.component && rises_above (suc e.component) es
+
+rises_behind : (e : Entry) (es : List Entry) → rises (e ∷ es) ≡ rises_above (suc e.component) es
+rises_behind e [] = refl
+rises_behind e (d ∷ es) = ap (λ b. nat_lt e.component d.component && b) (rises_behind d es)
+
+pub rises_all_above : (es : List Entry) → rises es ≡ rises_above 0 es
+rises_all_above [] = refl
+rises_all_above (e ∷ es) = rw (le-leb 0 e.component (omega arith)) (rises_behind e es)
+
+-- what one more entry adds, where `falls` says that some before it is below the least that its place allows
+pub rises_more : (es : List Entry) (i least : ℕ) (falls : Bool) (d : Entry) → i < length es →
+    (not falls && rises_above least (drop i es)) ≡ (not (falls || nat_lt (get_or es i d).component least) && rises_above ((get_or es i d).component + 1) (drop (i + 1) es))
+rises_more es i least falls d l = rw (at_drop_more (rises_above least) es i d l) (grind (arith, nat_tests))
 
 rises_tail : (e : Entry) (es : List Entry) → rises (e ∷ es) ≡ true → rises es ≡ true
 rises_tail e [] s = refl

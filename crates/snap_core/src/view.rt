@@ -63,18 +63,22 @@ fn entries_fit(entries: &[Entry])
     }
 }
 
-// Why entries are no view: the first refusal that applies.
+// Why entries are no view: the first refusal that applies. Most entries are a view, so that each is looked at without a branch.
 fn refusal_of(entries: &[Entry]) -> Option<ViewRefusal>
     ensures { result ≡ view_refusal entries.now }
 {
+    let mut falls = false;
+    let mut least = 0;
     let mut has_zero = false;
-    for i in 0..entries.len() {
-        if i > 0 && entries[i - 1].component >= entries[i].component {
-            return Some(ViewRefusal::NotRising);
-        }
-        has_zero |= entries[i].number == 0;
+    for entry in entries {
+        let component = u32::from(entry.component);
+        falls |= component < least;
+        least = component + 1;
+        has_zero |= entry.number == 0;
     }
-    if has_zero {
+    if falls {
+        Some(ViewRefusal::NotRising)
+    } else if has_zero {
         Some(ViewRefusal::ZeroNumber)
     } else {
         None

@@ -1,38 +1,32 @@
-use Rattle.std.proofs.Common.{◌≡◌, ◌-◌, ◌≤◌, true, false, refl, ap, suc, get_or, sym, ◌∙◌, subst, arith}
-use Rattle.std.specs.Prelude.{◌==◌}
+use Rattle.std.proofs.Common.{refl, ◌∙◌, arith}
 use Rattle.std.proofs.lemmas.Grind.{common_steps}
-use Rattle.std.proofs.lemmas.List.{take_all}
-use Rattle.std.proofs.lemmas.List.Folds.{list_any_more}
+use Rattle.std.proofs.lemmas.List.{at_drop_all, at_drop_more}
 use Rattle.snap_core.specs.declared.entry.Entry.{Entry}
 use Rattle.snap_core.specs.Entries.{has_zero}
-use Rattle.snap_core.proofs.Rising.{refusal_by, rises_from, rises_not}
+use Rattle.snap_core.proofs.Rising.{rises_above, rises_all_above, rises_more}
 use Rattle.snap_core.proofs.view.refusal_of.Goals as goal
 
-pub returns-then-entries-i : goal.returns-then-entries-i
-returns-then-entries-i c =
-    let es = c.args.entries.now in
-    let n : c.loop-i.i ≡ suc (c.loop-i.i - 1) = omega arith in
+pub loop-entry-init : goal.loop-entry-init
+loop-entry-init c = record { rising = rises_all_above c.args.entries.now; zeros = refl }
+
+pub loop-entry-preserved : goal.loop-entry-preserved
+loop-entry-preserved c =
     let empty : Entry = record { component = 0; number = 0; value = 0 } in
-    let falls = rises_not es (c.loop-i.i - 1) empty (omega arith)
-    (subst (λ z. (get_or es z empty).component ≤ (get_or es (c.loop-i.i - 1) empty).component) n c.if-entries-i.true) in
-    sym (refusal_by es false (has_zero es) falls refl)
+    record {
+      rising = rw c.from-component.ensures (c.loop-entry.invariant.rising ∙ rises_more c.args.entries.now c.loop-entry.entry-index c.loop-entry.least c.loop-entry.falls empty c.loop-entry-test.true);
+      zeros = c.loop-entry.invariant.zeros ∙ grind (arith, common_steps, at_drop_more has_zero);
+    }
+
+pub returns-then-falls : goal.returns-then-falls
+returns-then-falls c = rw (c.loop-entry.invariant.rising, c.if-falls.true) refl
 
 pub returns-then-has_zero : goal.returns-then-has_zero
 returns-then-has_zero c =
-    let es = c.args.entries.now in
-    let zero : has_zero es ≡ true = ap has_zero (sym (take_all c.loop-i.i es c.loop-i-test.false)) ∙ sym c.loop-i.invariant.zeros ∙ c.if-has_zero.true in
-    sym (refusal_by es true true (rises_from es (λ j d l. c.loop-i.invariant.rising j d (omega arith))) zero)
+    let risen = at_drop_all (rises_above c.loop-entry.least) c.args.entries.now c.loop-entry.entry-index c.loop-entry-test.false in
+    rw (c.loop-entry.invariant.rising, c.if-falls.false, risen, c.loop-entry.invariant.zeros, c.if-has_zero.true) refl
 
 pub returns-else-has_zero : goal.returns-else-has_zero
 returns-else-has_zero c =
-    let es = c.args.entries.now in
-    let zero : has_zero es ≡ false = ap has_zero (sym (take_all c.loop-i.i es c.loop-i-test.false)) ∙ sym c.loop-i.invariant.zeros ∙ c.if-has_zero.false in
-    sym (refusal_by es true false (rises_from es (λ j d l. c.loop-i.invariant.rising j d (omega arith))) zero)
-
-pub loop-i-preserved : goal.loop-i-preserved
-loop-i-preserved c =
-    let empty : Entry = record { component = 0; number = 0; value = 0 } in
-    record {
-      rising = grind (arith, common_steps);
-      zeros = rw (list_any_more (λ (e : Entry). e.number == 0) c.args.entries.now c.loop-i.i empty c.loop-i-test.true, ← c.loop-i.invariant.zeros) refl;
-    }
+    let risen = at_drop_all (rises_above c.loop-entry.least) c.args.entries.now c.loop-entry.entry-index c.loop-entry-test.false in
+    let positive = at_drop_all has_zero c.args.entries.now c.loop-entry.entry-index c.loop-entry-test.false in
+    rw (c.loop-entry.invariant.rising, c.if-falls.false, risen, c.loop-entry.invariant.zeros, c.if-has_zero.false, positive) refl

@@ -1,11 +1,10 @@
-use Rattle.std.proofs.Common.{ℕ, ◌≡◌, ◌<◌, suc, get_or, take}
-use Rattle.std.specs.Prelude.{◌==◌}
-use Rattle.std.specs.List.{list_any}
-use Rattle.snap_core.specs.declared.entry.Entry.{Entry}
+use Rattle.std.proofs.Common.{◌≡◌, ◌||◌, ◌&&◌, not, drop}
+use Rattle.snap_core.specs.Entries.{has_zero, rises}
+use Rattle.snap_core.proofs.Rising.{rises_above}
 use Rattle.snap_core.proofs.view.refusal_of.Given as goal
 
-abbrev pub invariant-loop-i : goal.invariant-loop-i
-invariant-loop-i l = record {
-  rising : (j : ℕ) (d : Entry) → suc j < l.i → (get_or l.entries j d).component < (get_or l.entries (suc j) d).component;
-  zeros : l.has_zero ≡ list_any (λ (e : Entry). e.number == 0) (take l.i l.entries);
+abbrev pub invariant-loop-entry : goal.invariant-loop-entry
+invariant-loop-entry l = record {
+  rising : rises l.entries ≡ (not l.falls && rises_above l.least (drop l.entry-index l.entries));
+  zeros : has_zero l.entries ≡ (l.has_zero || has_zero (drop l.entry-index l.entries));
 }
