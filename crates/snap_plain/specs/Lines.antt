@@ -1,5 +1,5 @@
 -- Plain texts: without a quote or a carriage return each record is a line, cut at its commas.
-use Rattle.std.specs.Prelude.{◌≡◌, ◌≢◌, ◌<◌, ◌+◌, ◌⊎◌, ◌++◌, ⊤, ℕ, Bool, true, false, List, [], ◌∷◌, length, Some, Ok}
+use Rattle.std.specs.Prelude.{◌≡◌, ◌≢◌, ◌<◌, ◌+◌, ◌⊎◌, ◌++◌, ⊤, ℕ, Bool, true, false, List, [], ◌∷◌, length, get_or, Some, Ok}
 use Rattle.std.specs.List.{All}
 use Rattle.csv.specs.Machine.{Read, next_record}
 use Rattle.csv.specs.Reading.{default_config, records_from}
@@ -20,6 +20,10 @@ IsPlain b = (b ≢ 34) × (b ≢ 13)
 -- a byte inside a field: no comma (44) and no newline (10)
 abbrev pub IsInner : ℕ → Type 0
 IsInner b = (b ≢ 44) × (b ≢ 10)
+
+-- none of so many bytes at the front of a text is one of two marks
+abbrev pub AreNeither : ℕ → ℕ → ℕ → List ℕ → Type 0
+AreNeither one other n text = (i : ℕ) → i < n → (get_or text i 0 ≢ one) × (get_or text i 0 ≢ other)
 
 -- a plain text has these records
 pub record HasRows (text : List ℕ) (rows : List Fields) : Type 0 where

@@ -1,23 +1,26 @@
 //! The fields of a line. In a plain text a field ends at a comma, so that it is cut by a search for that mark and for line ends.
-ghost use Rattle.std.specs.Prelude.{◌≡◌, ◌≢◌, ◌<◌, ◌≤◌, ◌+◌, ◌-◌, take, drop, ◌∷◌, ◌++◌, [], List, ℕ, All, IfSome, MatchOption, get_or, length};
-ghost use Rattle.snap_plain.specs.Lines.{EndsField, EndsWith, EndsWithOthers, FieldGoesOn, FieldIsLast, IsInner};
+ghost use Rattle.std.specs.Prelude.{◌≡◌, ◌≢◌, ◌<◌, ◌≤◌, ◌-◌, ◌⊎◌, take, drop, ◌∷◌, ◌++◌, [], List, ℕ, All, IfSome, MatchOption, get_or, length};
+ghost use Rattle.snap_plain.specs.Lines.{AreNeither, EndsField, EndsWith, EndsWithOthers, FieldGoesOn, FieldIsLast, IsInner};
 
 use std::simd::prelude::*;
 
 /// How many bytes are looked at together.
 pub(crate) const LANES: usize = 32;
 
-// How many bytes of a text, from a place on, come before the first that is a mark, as far as so many are looked at together.
+// How many bytes a text has before the first that is one of two marks, none where no such byte is among so many at its front.
 #[inline(always)]
-fn before_mark(text: &[u8], from: usize, mark: u8) -> u32
-    requires { from + 32 ≤ length text.now }
-    ensures before { (i : ℕ) → i < result → i < 32 → get_or text.now (from + i) 0 ≢ mark }
-    ensures here { result < 32 → get_or text.now (from + result) 0 ≡ mark }
+fn before_mark(text: &[u8], one: u8, other: u8) -> Option<usize>
+    requires { 32 ≤ length text.now }
+    ensures { MatchOption result (AreNeither one other 32 text.now) (λ n. (n < 32) × AreNeither one other n text.now × ((get_or text.now n 0 ≡ one) ⊎ (get_or text.now n 0 ≡ other))) }
 {
-    u8x32::from_slice(&text[from..])
-        .simd_eq(u8x32::splat(mark))
-        .to_bitmask()
-        .trailing_zeros()
+    let bytes = u8x32::from_slice(text);
+    let marks = bytes.simd_eq(u8x32::splat(one)) | bytes.simd_eq(u8x32::splat(other));
+    let bits = marks.to_bitmask();
+    if bits == 0 {
+        None
+    } else {
+        Some(bits.trailing_zeros() as usize)
+    }
 }
 
 // How many bytes the field has that a text begins with. So many at its front are inside it.
@@ -43,15 +46,14 @@ fn field_size(text: &[u8]) -> usize
     ensures inner { All IsInner (take result text.now) }
     ensures ends { EndsField (drop result text.now) }
 {
-    let mut at = 0;
-    while text.len() - at >= LANES {
-        let before = before_mark(text, at, b',').min(before_mark(text, at, b'\n')) as usize;
-        if before < LANES {
-            return at + before;
+    let mut left = text;
+    while left.len() >= LANES {
+        if let Some(before) = before_mark(left, b',', b'\n') {
+            return text.len() - left.len() + before;
         }
-        at += LANES;
+        left = &left[LANES..];
     }
-    field_size_from(text, at)
+    field_size_from(text, text.len() - left.len())
 }
 
 // The field that a text begins with, and what is behind it: nothing, or the mark that ends it and more.
