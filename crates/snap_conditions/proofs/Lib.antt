@@ -13,3 +13,4 @@ pub mod Limits
 mod Worked
 mod Surrounded
 mod Left
+mod Exchanged

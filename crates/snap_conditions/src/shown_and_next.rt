@@ -1,5 +1,5 @@
 //! The updates that a view shows and those after them, kept from view to view.
-ghost use Rattle.std.specs.Prelude.{◌≡◌, ◌≤◌, ◌<◌, ◌+◌, ℕ, List, length, get_or};
+ghost use Rattle.std.specs.Prelude.{◌≡◌, ◌≢◌, ◌≤◌, ◌<◌, ◌+◌, ℕ, IsTrue, List, length, get_or};
 ghost use Rattle.snap_core.specs.Calls.{Call as SpecCall, calls_of};
 ghost use Rattle.snap_core.specs.Entries.{AreEntries, component_count};
 ghost use Rattle.snap_core.specs.Events.{IsBoundedHistory};
@@ -20,6 +20,9 @@ pub(crate) const NEVER: u32 = u32::MAX;
 
 // A value that is no update's.
 const NO_VALUE: u64 = u32::MAX as u64 + 1;
+
+// How many entries are compared with those of the view before at a time.
+const PIECE: usize = 8;
 
 // Where the updates stand between which a view is by what it shows, component by component.
 #[derive(Drop)]
@@ -128,7 +131,7 @@ impl<'i> ShownAndNext<'i> {
         requires before { AreAround (calls_of index.now) self.old }
         ensures around { AreAround (calls_of index.now) self.new }
         ensures number { get_or self.new.numbers k 0 ≡ number }
-        ensures others { (j : ℕ) → j < k → get_or self.new.numbers j 0 ≡ get_or self.old.numbers j 0 }
+        ensures others { (j : ℕ) → j ≢ k → get_or self.new.numbers j 0 ≡ get_or self.old.numbers j 0 }
         ensures limit { self.new.limit ≡ self.old.limit }
     {
         if number == self.numbers[k] {
@@ -138,6 +141,55 @@ impl<'i> ShownAndNext<'i> {
         self.values[k] = value_or_none(value_of_update(index, k as u8, number));
         self.begins[k] = begin_of_update(index, k as u8, number).unwrap_or(0);
         self.ends[k] = end_of_next(index, k as u8, number).unwrap_or(NEVER);
+    }
+
+    // Looks up the updates around the entries that differ from those of the view before, where both list the same components
+    // at the same places, and answers whether they do. Where they do not, some of them are looked up.
+    fn look_along(&mut self, index: &Index<'_>, entries: &[Entry]) -> bool
+        requires before { IsOfEntries (calls_of index.now) self.old }
+        requires kept { IsBoundedHistory index.now }
+        requires entries { AreEntries entries.now }
+        ensures around { AreAround (calls_of index.now) self.new }
+        ensures numbers { IsTrue result → (k : ℕ) → k < self.old.limit → get_or self.new.numbers k 0 ≡ number_among entries.now k }
+        ensures limit { self.new.limit ≡ self.old.limit }
+    {
+        let before = self.entries;
+        if before.len() != entries.len() {
+            return false;
+        }
+        let mut begin = 0;
+        while begin < entries.len() {
+            let end = entries.len().min(begin + PIECE);
+            if !are_same(&before[begin..end], &entries[begin..end]) {
+                for i in begin..end {
+                    let entry = entries[i];
+                    if entry.component != before[i].component {
+                        return false;
+                    }
+                    self.look_at(index, usize::from(entry.component), entry.number);
+                }
+            }
+            begin = end;
+        }
+        true
+    }
+
+    // Looks up the updates around entries, only around those that differ where the view before lists the same components.
+    fn look_at_entries(&mut self, index: &Index<'_>, entries: &[Entry])
+        requires before { IsOfEntries (calls_of index.now) self.old }
+        requires kept { IsBoundedHistory index.now }
+        requires entries { AreEntries entries.now }
+        ensures around { AreAround (calls_of index.now) self.new }
+        ensures numbers { (k : ℕ) → k < self.old.limit → get_or self.new.numbers k 0 ≡ number_among entries.now k }
+        ensures limit { self.new.limit ≡ self.old.limit }
+    {
+        if self.look_along(index, entries) {
+            return;
+        }
+        let mut left = entries;
+        for k in 0..self.limit {
+            self.look_at(index, k, take_number(&mut left, k));
+        }
     }
 
     // Looks up the updates around a view where it shows another number than the view before.
@@ -151,11 +203,8 @@ impl<'i> ShownAndNext<'i> {
         if are_same(self.entries, view.entries) {
             return;
         }
+        self.look_at_entries(index, view.entries);
         let limit = self.limit;
-        let mut left = view.entries;
-        for k in 0..limit {
-            self.look_at(index, k, take_number(&mut left, k));
-        }
         self.entries = view.entries;
         self.latest = latest_of(&self.begins[..limit]);
         self.earliest = earliest_of(&self.ends[..limit]);
