@@ -1,13 +1,14 @@
-//! Long texts, of which each worker reads a piece: their first fault is that of the text, wherever the pieces are cut.
+//! Long texts, of which workers draw pieces: their first fault is that of the text, wherever the pieces are cut.
 use super::checks::{cutting, expect, history};
 use super::limits::{add_updates, updates_order};
-use snap_core::OpenGate;
+use snap_core::{Limit, OpenGate};
+use snap_plain::{is_plain, lines_of, read_ahead};
 use std::alloc::Global;
 use std::sync::Wait;
 use std::test::Fail;
 use std::thread::Threads;
 
-// So many updates make some 900,000 bytes, of which two workers or more read a piece each.
+// So many updates make some 900,000 bytes, which are cut into 13 pieces.
 const UPDATES: u32 = 24_000;
 
 // Behind so many updates stands a record, whose fault is this.
@@ -124,6 +125,35 @@ fn empty_lines_between_the_records_of_a_long_text_are_none(rt: HostRuntime) -> R
     for before in [0, 5, 12_000, UPDATES] {
         let text = text_with(alloc, (before, &blank), (UPDATES, "\n"))?;
         expect_all(&rt, alloc, &text, "atomic", &report)?;
+    }
+    Ok(())
+}
+
+// How many events so many workers read ahead of a text.
+fn events_ahead<Rt: Threads + Sync>(
+    rt: &Rt,
+    alloc: Global,
+    text: &[u8],
+    workers: u32,
+) -> Result<usize, Fail> {
+    if !is_plain(text) {
+        return Ok(0);
+    }
+    let cutting = cutting(8, workers)?;
+    let mut count = 0;
+    for piece in read_ahead(rt, alloc, lines_of(text), cutting, Limit::usual())? {
+        count += piece.events.len();
+    }
+    Ok(count)
+}
+
+#[test]
+fn each_line_of_a_long_text_is_read_ahead_once(rt: HostRuntime) -> Result<(), Fail> {
+    let alloc = rt.alloc();
+    let text = text_with(alloc, (0, ""), (UPDATES, ""))?;
+    for workers in [2, 3, 8] {
+        let count = events_ahead(&rt, alloc, text.as_bytes(), workers)?;
+        assert_eq!(rt; count, UPDATES as usize * 2);
     }
     Ok(())
 }
