@@ -48,6 +48,16 @@ one_line_more xs x rest left text before first = λ rows h.
       spells_more xs x (HasRows left) (HasRows rest) rows (λ more lines. (first more lines).1) spells,
     )
 
+spells_as : (xs : List Event) (Left Rest : List Fields → Type 0) (rows : List Fields) → ((later : List Fields) → Left later → Rest later) → SpellsAll xs Left rows → SpellsAll xs Rest rows
+spells_as [] Left Rest rows same h = same rows h
+spells_as (x ∷ xs) Left Rest rows same (row, later, is, spells, h) = (row, later, is, spells, spells_as xs Left Rest later same h)
+
+-- a rest without some empty lines at its front
+pub lines_as : (xs : List Event) (rest left text : List ℕ) → BeginsLines xs left text → ((rows : List Fields) → HasRows left rows → HasRows rest rows) → IsRest rest left → BeginsLines xs rest text
+lines_as xs rest left text before same is = λ rows h.
+    let (behind, spells) = before rows h in
+    (rest_of_rest rest left text is behind, spells_as xs (HasRows left) (HasRows rest) rows same spells)
+
 -- ---- all of a list
 
 pub all_of_each : {X : Type 0} (P : X → Type 0) (xs : List X) → ((i : ℕ) (d : X) → i < length xs → P (slice_index_or xs i d)) → All P xs

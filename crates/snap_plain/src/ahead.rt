@@ -167,7 +167,7 @@ pub(crate) fn event_first<'t>(
 ) -> Option<(Event, &'t [u8])>
     ensures { IfSome result (λ x. BeginsLine x.0 x.1.now text.now) }
 {
-    let line = behind_newlines(text);
+    let line = behind_newlines(text, 0);
     if line.is_empty() {
         return None;
     }
@@ -193,6 +193,8 @@ fn read_lines<'t>(
     let mut known = Known::new(alloc);
     let mut left = text;
     'each: for _ in 0..row_limit(limit) {
+        // no further than to the end of the piece, from where another one goes on
+        left = behind_newlines(left, stop);
         if left.len() <= stop {
             return left;
         }

@@ -34,34 +34,34 @@ fn begins_blank(text: &[u8]) -> bool
         == 0
 }
 
-// A text behind the empty lines at its front, of which it has one at least.
+// A text behind the empty lines at its front, of which it has one at least, while more than so many bytes are left.
 #[inline(never)]
-fn behind_blank(text: &[u8]) -> &[u8]
+fn behind_blank(text: &[u8], stop: usize) -> &[u8]
     ensures same { (rows : List Fields) → HasRows text.now rows → HasRows result.now rows }
     ensures rest { IsRest result.now text.now }
-    ensures begins { 0 < length result.now → get_or result.now 0 0 ≢ 10 }
+    ensures begins { stop < length result.now → get_or result.now 0 0 ≢ 10 }
 {
     let mut left = text;
-    while left.len() >= LANES && begins_blank(left) {
+    while left.len().saturating_sub(stop) >= LANES && begins_blank(left) {
         left = &left[LANES..];
     }
-    while !left.is_empty() && left[0] == b'\n' {
+    while left.len() > stop && left[0] == b'\n' {
         left = &left[1..];
     }
     left
 }
 
-/// A text behind the empty lines at its front, which are no records.
+/// A text behind the empty lines at its front, which are no records, while more than so many bytes are left.
 #[inline(always)]
-pub(crate) fn behind_newlines(text: &[u8]) -> &[u8]
+pub(crate) fn behind_newlines(text: &[u8], stop: usize) -> &[u8]
     ensures same { (rows : List Fields) → HasRows text.now rows → HasRows result.now rows }
     ensures rest { IsRest result.now text.now }
-    ensures begins { 0 < length result.now → get_or result.now 0 0 ≢ 10 }
+    ensures begins { stop < length result.now → get_or result.now 0 0 ≢ 10 }
 {
     if text.is_empty() || text[0] != b'\n' {
         return text;
     }
-    behind_blank(text)
+    behind_blank(text, stop)
 }
 
 /// What stands under the header, where the text begins with it.

@@ -40,7 +40,7 @@ fn take_lines(
     let mut left = lines;
     'each: for _ in 0..row_limit(limit) {
         let place = history.len() as u32 + 2;
-        let line = behind_newlines(left);
+        let line = behind_newlines(left, 0);
         if line.is_empty() {
             return Ok(());
         }
@@ -84,7 +84,7 @@ fn read_stamped_lines(
 {
     let mut left = lines;
     for i in 0..row_limit(limit) {
-        let line = behind_newlines(left);
+        let line = behind_newlines(left, 0);
         if line.is_empty() {
             return Ok(());
         }
@@ -126,7 +126,7 @@ pub fn lines_of(text: &[u8]) -> Lines<'_>
     requires { All IsPlain text.now }
     ensures { HasLines (rows_of text.now) result }
 {
-    let line = behind_newlines(behind_order_mark(text));
+    let line = behind_newlines(behind_order_mark(text), 0);
     if let Some(lines) = lines_under_header(line) {
         return Lines::Bare(lines);
     }

@@ -147,13 +147,21 @@ fn events_ahead<Rt: Threads + Sync>(
     Ok(count)
 }
 
+// The workers read each event of the text ahead, and each once.
+fn expect_ahead<Rt: Threads + Sync>(rt: &Rt, alloc: Global, text: &str) -> Result<(), Fail> {
+    for workers in [2, 3, 8] {
+        let count = events_ahead(rt, alloc, text.as_bytes(), workers)?;
+        assert_eq!(rt; count, UPDATES as usize * 2);
+    }
+    Ok(())
+}
+
 #[test]
 fn each_line_of_a_long_text_is_read_ahead_once(rt: HostRuntime) -> Result<(), Fail> {
     let alloc = rt.alloc();
     let text = text_with(alloc, (0, ""), (UPDATES, ""))?;
-    for workers in [2, 3, 8] {
-        let count = events_ahead(&rt, alloc, text.as_bytes(), workers)?;
-        assert_eq!(rt; count, UPDATES as usize * 2);
-    }
-    Ok(())
+    expect_ahead(&rt, alloc, &text)?;
+    let blank = blank_lines(alloc)?;
+    let parted = text_with(alloc, (5, &blank), (12_000, &blank))?;
+    expect_ahead(&rt, alloc, &parted)
 }
