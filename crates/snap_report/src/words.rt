@@ -47,18 +47,22 @@ pub fn put_entry(out: &mut Vec<u8>, text: &[u8], entry: &Entry) -> Result<(), Al
 }
 
 // The most entries that are put together.
-const GROUP: usize = 8;
+const GROUP: usize = 16;
 
 // The most bytes that a group takes, each entry behind a space.
 const GROUP_SIZE: usize = GROUP * (1 + ENTRY_SIZE);
 
 // How many entries of a view are put together. A view mostly differs from the one before in one entry, and the whole
 // group of that entry is written anew. Where there are few entries, small groups leave more of them to be copied. Where
-// there are many, most are copied either way, and looking at twice as many groups costs more than it saves.
+// there are many, most are copied either way, and each group that is looked at costs.
 fn group_length(entries: usize) -> usize
     ensures { (1 ≤ result) × (result ≤ GROUP) }
 {
-    if entries < 32 { 4 } else { GROUP }
+    match entries {
+        0..32 => 4,
+        32..128 => 8,
+        _ => GROUP,
+    }
 }
 
 /// Entries that were added, and their words.
