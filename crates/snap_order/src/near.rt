@@ -1,5 +1,5 @@
 //! A search that begins where its answer is likely to be.
-ghost use Rattle.std.specs.Prelude.{◌≡◌, ◌<◌, ◌≤◌, true, length};
+ghost use Rattle.std.specs.Prelude.{◌≤◌, length};
 ghost use Rattle.snap_order.specs.inside.Near.{PartsAt};
 
 // How many places pass a test, where those that pass stand before those that do not. The search begins near a number: the
@@ -10,14 +10,6 @@ pub(crate) fn partition_near<F: Fn(&u32) -> bool>(places: &[u32], near: usize, t
     ensures bound { result ≤ length places.now }
     ensures parted { PartsAt F.Fn test places.now result }
 {
-    // mostly it is there or one further, which needs no search
-    if is_parted_at(places, near, &test) {
-        return near;
-    }
-    let next = near.saturating_add(1);
-    if is_parted_at(places, next, &test) {
-        return next;
-    }
     let (before, behind) = places.split_at(near.min(places.len()));
     let passing = partition_from_end(before, &test);
     if passing < before.len() {
@@ -66,17 +58,4 @@ fn partition_from_start<F: Fn(&u32) -> bool>(places: &[u32], test: &F) -> usize
     }
     let high = ahead.min(places.len());
     passing + places[passing..high].partition_point(test)
-}
-
-// Whether a place is the first that does not pass, which it and the one before it tell.
-#[inline]
-fn is_parted_at<F: Fn(&u32) -> bool>(places: &[u32], at: usize, test: &F) -> bool
-    requires { F.IsAlwaysCallable test.now }
-    ensures bound { result ≡ true → at < length places.now }
-    ensures parted { result ≡ true → PartsAt F.Fn test.now places.now at }
-{
-    if at >= places.len() || test(&places[at]) {
-        return false;
-    }
-    at == 0 || test(&places[at - 1])
 }
