@@ -1,14 +1,15 @@
 #!/usr/bin/env python3
 """Prints a table of the time and the peak memory of `snapjudge check`, by kind of history, size and number of workers.
 
-usage: run.py [--against PROGRAM] [--repeats N] [--workers W] [--pieces P] [--events N] [--most COMPONENTS] [KIND ..]
+usage: run.py [--against PROGRAM] [--repeats N] [--median] [--workers W] [--pieces P] [--events N] [--most COMPONENTS] [KIND ..]
 
 Each history is made by generate.py from the number 1. With one worker, with W (2, if not said) and, where another judge of the same
-text and report is given, by that one, it is judged in turn, N times (7, if not said), and the least time of each counts. The
-reports are compared byte for byte. PROGRAM is called as `PROGRAM check`, with the history on its standard input; words that stand
-behind it in one argument are put behind `check`. With --pieces the views are cut into so many pieces. With --events each kind and
-number of components is judged once, with so many events, and with --most only histories of at most so many components. All run in
-an environment in which the C library takes memory in large pages, as docs/MANY.md tells how to ask for them.
+text and report is given, by that one, it is judged in turn, N times (7, if not said), and the least time of each counts, or with
+--median the one in the middle. The reports are compared byte for byte. PROGRAM is called as `PROGRAM check`, with the history on its
+standard input; words that stand behind it in one argument are put behind `check`. With --pieces the views are cut into so many
+pieces. With --events each kind and number of components is judged once, with so many events, and with --most only histories of at
+most so many components. All run in an environment in which the C library takes memory in large pages, as docs/MANY.md tells how to
+ask for them.
 
 The first row is of a process that does nothing.
 """
@@ -16,6 +17,7 @@ import argparse
 import filecmp
 import os
 import shlex
+import statistics
 import subprocess
 import sys
 import tempfile
@@ -48,9 +50,9 @@ def run(words, history, report):
     return os.waitstatus_to_exitcode(status), (time.perf_counter() - begun) * 1000, used.ru_utime * 1000, used.ru_maxrss / 1024
 
 
-def measure(programs, history, room, repeats):
-    """Of each program the status, the least milliseconds by the clock and of user time, the peak memory, and whether its report
-    is that of the first."""
+def measure(programs, history, room, repeats, chosen):
+    """Of each program the status, the milliseconds by the clock and of user time that are chosen of all runs, the peak memory, and
+    whether its report is that of the first."""
     reports = [os.path.join(room, f"report{i}") for i in range(len(programs))]
     runs = [[] for _ in programs]
     for _ in range(repeats):
@@ -59,7 +61,7 @@ def measure(programs, history, room, repeats):
     seen = []
     for i, done in enumerate(runs):
         same = filecmp.cmp(reports[0], reports[i], shallow=False)
-        seen.append((done[0][0], min(ms for _, ms, _, _ in done), min(user for _, _, user, _ in done), max(peak for *_, peak in done), same))
+        seen.append((done[0][0], chosen(ms for _, ms, _, _ in done), chosen(user for _, _, user, _ in done), max(peak for *_, peak in done), same))
     return seen
 
 
@@ -75,6 +77,7 @@ def main():
     words = argparse.ArgumentParser(description="times of `snapjudge check`")
     words.add_argument("--against", metavar="PROGRAM", help="another judge of the same text and report")
     words.add_argument("--repeats", type=int, default=7)
+    words.add_argument("--median", action="store_true", help="take the median of the times in place of the least")
     words.add_argument("--workers", default="2")
     words.add_argument("--pieces", metavar="P", help="cut the views into so many pieces")
     words.add_argument("--events", metavar="N", help="judge each kind and number of components with so many events")
@@ -95,7 +98,7 @@ def main():
             history = os.path.join(room, "history.csv")
             with open(history, "wb") as text:
                 subprocess.run([sys.executable, os.path.join(HERE, "generate.py"), kind, str(events), str(components)], stdout=text, check=True)
-            alone, both, *other = measure(programs, history, room, asked.repeats)
+            alone, both, *other = measure(programs, history, room, asked.repeats, statistics.median if asked.median else min)
             same = "same" if all(seen[-1] and seen[0] == alone[0] for seen in [both, *other]) else "DIFFERENT"
             told = f"{other[0][1]:.1f} | {min(alone[1], both[1]) / other[0][1]:.1f}" if other else "- | -"
             print(f"| {kind} | {events} | {components} | {os.path.getsize(history)} | {alone[0]} | {alone[1]:.1f} | {alone[2]:.1f} | {both[1]:.1f} | {both[1] / alone[1]:.2f} | {max(alone[3], both[3]):.0f} | {told} | {same} |", flush=True)
