@@ -308,14 +308,14 @@ class Tests:
         if not case.is_whole(run):
             yield f"{run}"
 
-    def reads_in_pieces(self, short, whole, in_pieces):
-        """How many threads two workers start. A short text has one worker. A second one judges pieces of a longer text, and of a
-        long one it reads a piece too."""
+    def reads_in_pieces(self, short, longer, long):
+        """How many threads two workers start. A short text has one worker. Of a longer text a second thread reads pieces, and then
+        another judges some."""
         started = []
-        for case in (short, whole, in_pieces):
+        for case in (short, longer, long):
             yield from self.unrefused(case)
             started.append(self.shim.page.threads)
-        if started != [0, 1, 2]:
+        if started != [0, 2, 2]:
             yield f"threads of a short, of a longer and of a long text: {started}"
 
     def refused_memory(self, case, all_after=0, thread=0):
@@ -488,8 +488,8 @@ def long_texts():
 
 
 def updates_alone(count):
-    """So many updates, with few allocations. Of the text of 21,000 two workers read a piece each. One reads that of 11,000, and two
-    judge it. That of 1,000 has one worker."""
+    """So many updates, with few allocations. Two workers read and judge the text of 6,000, which has 3 pieces. That of 5,000 has one
+    worker."""
     turns = [b"begin,0,update,0:%d:0\nend,0,update,\n" % i for i in range(1, count + 1)]
     order = [(i, b"p0 update 0:%d:0" % i) for i in range(1, count + 1)]
     return f"{count} updates", HEADER + b"".join(turns), accepted((2 * count, count, 0, 0), order)
@@ -573,7 +573,7 @@ def main(folder):
         TESTS.add("calls: each allocation without threads", TESTS.refused_calls(program, thread=ALL))
     for case in checks + recorded:
         TESTS.add(f"{case.name}: threads", TESTS.refused_threads(case))
-    TESTS.add(f"{in_pieces.name}: read in pieces", TESTS.reads_in_pieces(*(check(*updates_alone(count)) for count in (1000, 11000)), in_pieces))
+    TESTS.add(f"{in_pieces.name}: read in pieces", TESTS.reads_in_pieces(*(check(*updates_alone(count)) for count in (5000, 6000)), in_pieces))
     for case in worked:
         for error in (errno.EIO, errno.EINTR):
             TESTS.add(f"{case.name}: reads, {errno.errorcode[error]}", TESTS.failed_reads(case, 1, error))
