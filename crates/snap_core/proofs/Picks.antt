@@ -9,7 +9,7 @@ use Rattle.snap_core.specs.Refusals.{refusal_of, refusal_within, is_busy, is_idl
 use Rattle.std.proofs.lemmas.List.Elements.{All-push}
 use Rattle.std.proofs.lemmas.Bool.{le-leb, lt-leb, leb-false}
 
-abbrev pub pick : Bool → Bool → Bool → Bool → Bool → Bool → Option EventRefusal
+abbrev pick : Bool → Bool → Bool → Bool → Bool → Bool → Option EventRefusal
 pick t b i o w n = cond t (Some TooMany) (cond b (Some Busy) (cond i (Some Idle) (cond o (Some OtherOp) (cond w (Some Writer) (cond n (Some Number) None)))))
 
 pub picked : (es : List Event) (e : Event) (t b i o w n : Bool) → nat_le event_cap (length es) ≡ t → is_busy es e ≡ b → is_idle es e ≡ i → is_other es e ≡ o → has_other_writer es e ≡ w → has_other_number es e ≡ n → refusal_of es e ≡ pick t b i o w n

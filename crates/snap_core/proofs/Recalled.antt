@@ -1,19 +1,17 @@
 -- What the tables say of a history, and of one with one event more.
-use Rattle.std.proofs.Common.{◌≡◌, ℕ, suc, ◌+◌, ◌%◌, ◌<◌, Bool, true, false, cond, not, ◌&&◌, ◌||◌, List, [], ◌∷◌, ◌++◌, length, Option, Some, None, refl, sym, ap, ◌∙◌, arith}
+use Rattle.std.proofs.Common.{◌≡◌, ℕ, suc, ◌+◌, ◌%◌, Bool, true, false, cond, not, ◌&&◌, ◌||◌, List, [], ◌∷◌, ◌++◌, length, Option, Some, None, refl, sym, ap, ◌∙◌, arith}
 use Rattle.std.specs.Prelude.{◌==◌, is_some}
 use Rattle.std.specs.List.{count_by, list_any}
 use Rattle.std.proofs.lemmas.Bool.{eqb-true, not-false}
 use Rattle.std.proofs.lemmas.List.Folds.{list_any-append}
-use Rattle.snap_core.specs.declared.entry.Entry.{Entry}
-use Rattle.snap_core.specs.declared.history.EventRefusal.TheVariants as refusals
 use Rattle.snap_core.specs.declared.tables.Tables.{Tables}
 use Rattle.snap_core.specs.declared.tables.Writer.{Writer}
-use Rattle.snap_core.specs.Events.{Event, BeginUpdate, BeginView, EndUpdate, EndView, event_cap, process_of, IsBegin, Ends, TakeTurns, events_of, begins_update_of, EventFits, IsBoundedHistory}
-use Rattle.snap_core.specs.Refusals.{ends_last, has_open, last_event, is_by_other, has_other_writer, has_other_number, is_begin, IsAccepted, refusal_of}
-use Rattle.snap_core.specs.inside.Tables.{begun_by, begun_in, call_in, writer_in, count_in, is_written_by_other, Recalls, IsRecalled, refusal_by, refusal_in, update_refusal, writer_by}
+use Rattle.snap_core.specs.Events.{Event, BeginUpdate, BeginView, EndUpdate, EndView, process_of, IsBegin, Ends, TakeTurns, events_of, begins_update_of, EventFits}
+use Rattle.snap_core.specs.Refusals.{has_open, last_event, is_by_other, is_busy, is_idle, has_other_writer, has_other_number, is_begin, IsAccepted, refusal_of}
+use Rattle.snap_core.specs.inside.Tables.{begun_by, begun_in, call_in, writer_in, count_in, is_written_by_other, Recalls, IsRecalled, writer_by}
 use Rattle.snap_core.proofs.Begun.{count-append}
 use Rattle.snap_core.proofs.Lists.{count-cons}
-use Rattle.snap_core.proofs.Picks.{accepted_none, is_short, kept_push, pick, picked}
+use Rattle.snap_core.proofs.Picks.{accepted_none, kept_push}
 use Rattle.snap_core.proofs.Pushes.{last_of, last_is, count_is, last_event_push}
 
 or_none : (b : Bool) → (b || false) ≡ b
@@ -48,25 +46,16 @@ open_turns [] o t h = h
 open_turns (b ∷ []) o t h = begins b t
 open_turns (b ∷ x ∷ rest) o t h = open_turns rest (Some x) t.1 (ended b x t.0) ∙ two_more (length rest)
 
-open_is : (es : List Event) (p : ℕ) → IsBoundedHistory es → is_some (begun_in (last_event p None es)) ≡ has_open p es
-open_is es p k = ap (λ o. is_some (begun_in o)) (last_is p None es) ∙ open_turns (events_of p es) None (k.history.well_formed p) refl ∙ ap (λ n. n % 2 == 1) (count_is p es)
+open_is : (t : Tables) (es : List Event) (p : ℕ) → IsRecalled t es → is_some (call_in t p) ≡ has_open p es
+open_is t es p r =
+    ap is_some (r.recalls.calls p ∙ ap begun_in (last_is p None es)) ∙ open_turns (events_of p es) None (r.kept.history.well_formed p) refl
+    ∙ ap (λ n. n % 2 == 1) (count_is p es)
 
--- the first refusal that applies to an event is the one that the tables tell
+pub busy_is : (t : Tables) (es : List Event) (e : Event) → IsRecalled t es → (is_begin e && is_some (call_in t (process_of e))) ≡ is_busy es e
+busy_is t es e r = ap (λ b. is_begin e && b) (open_is t es (process_of e) r)
 
-update_refused : (t : Tables) (es : List Event) (p : ℕ) (e : Entry) → Recalls t es
-    → update_refusal p e (writer_in t e.component) ≡ cond (has_other_writer es (BeginUpdate p e)) (Some refusals.Writer) (cond (has_other_number es (BeginUpdate p e)) (Some refusals.Number) None)
-update_refused t es p e r = rw (r.writers e.component p, r.counts e.component) refl
-
-refused_by : (t : Tables) (es : List Event) (e : Event) (last : Option Event) → Recalls t es
-    → refusal_by t e (begun_in last) ≡ pick false (is_begin e && is_some (begun_in last)) (not (is_begin e) && not (is_some (begun_in last))) (not (is_begin e) && not (ends_last last e)) (has_other_writer es e) (has_other_number es e)
-refused_by t es e last r = grind (arith, update_refused)
-
-pub refusal_is : (t : Tables) (es : List Event) (e : Event) → IsRecalled t es → length es < event_cap → refusal_in t e ≡ refusal_of es e
-refusal_is t es e r l =
-    let p = process_of e in
-    let odd = sym (open_is es p r.kept) in
-    ap (refusal_by t e) (r.recalls.calls p) ∙ refused_by t es e (last_event p None es) r.recalls
-    ∙ sym (picked es e false _ _ _ _ _ (is_short es l) (ap (λ b. is_begin e && b) odd) (ap (λ b. not (is_begin e) && not b) odd) refl refl refl)
+pub idle_is : (t : Tables) (es : List Event) (e : Event) → IsRecalled t es → (not (is_begin e) && not (is_some (call_in t (process_of e)))) ≡ is_idle es e
+idle_is t es e r = ap (λ b. not (is_begin e) && not b) (open_is t es (process_of e) r)
 
 -- the tables of the history without events
 

@@ -117,8 +117,18 @@ impl History {
     {
         if self.events.len() >= EVENT_CAP {
             Some(EventRefusal::TooMany)
+        } else if self.tables.is_busy(event) {
+            Some(EventRefusal::Busy)
+        } else if self.tables.is_idle(event) {
+            Some(EventRefusal::Idle)
+        } else if self.tables.is_other(event) {
+            Some(EventRefusal::OtherOp)
+        } else if self.tables.has_other_writer(event) {
+            Some(EventRefusal::Writer)
+        } else if self.tables.has_other_number(event) {
+            Some(EventRefusal::Number)
         } else {
-            self.tables.refusal(event)
+            None
         }
     }
 }

@@ -1,10 +1,10 @@
 //! The tables by which a history tests its next event in constant time.
 ghost use Rattle.std.specs.Prelude.{◌≡◌, ◌<◌, ℕ, List, [], OnOk, None, slice_index_or, vec_len, if◌then◌else◌, ◌==◌};
-ghost use Rattle.snap_core.specs.inside.Tables.{HasRoom, call_in, Recalls, refusal_in, update_refusal, writer_by, writer_in};
+ghost use Rattle.snap_core.specs.Events.{Event};
+ghost use Rattle.snap_core.specs.Refusals.{is_busy as spec_is_busy, is_idle as spec_is_idle, is_other as spec_is_other, has_other_writer as spec_has_other_writer, has_other_number as spec_has_other_number};
+ghost use Rattle.snap_core.specs.inside.Tables.{ends_begun, HasRoom, call_in, IsRecalled, Recalls, writer_by, writer_in};
 
-use crate::entry::Entry;
 use crate::event::{Begun, Event};
-use crate::history::EventRefusal;
 use std::alloc::{AllocError, Global};
 
 /// The process that writes a component, and how many of its updates have begun.
@@ -40,6 +40,23 @@ fn make_room<T: Drop>(table: &mut Vec<Option<T>>, place: usize) -> Result<(), Al
     Ok(())
 }
 
+// Whether an event ends what was begun.
+fn ends(begun: Option<Begun>, event: &Event) -> bool
+    ensures { result ≡ ends_begun begun event.now }
+{
+    match begun {
+        Some(Begun::Update(_)) => match event {
+            Event::EndUpdate { .. } => true,
+            _ => false,
+        },
+        Some(Begun::View) => match event {
+            Event::EndView { .. } => true,
+            _ => false,
+        },
+        None => false,
+    }
+}
+
 impl Tables {
     // The tables of the history without events.
     pub(crate) fn new(alloc: Global) -> Tables
@@ -65,46 +82,52 @@ impl Tables {
         look_up(&self.writers, component as usize)
     }
 
-    // The first refusal that applies to an update of a process that has no open call.
-    fn update_refusal(&self, process: u16, entry: &Entry) -> Option<EventRefusal>
-        ensures { result ≡ update_refusal process entry.now (writer_in self.now entry.now.component) }
+    // Whether an event begins a call of a process that has one open.
+    pub(crate) fn is_busy(&self, event: &Event) -> bool
+        ensures { (es : List Event) → IsRecalled self.now es → result ≡ spec_is_busy es event.now }
     {
-        let writer = self
-            .writer(entry.component)
-            .unwrap_or(Writer { process, count: 0 });
-        if writer.process != process {
-            Some(EventRefusal::Writer)
-        } else if entry.number as u64 != writer.count as u64 + 1 {
-            Some(EventRefusal::Number)
-        } else {
-            None
+        event.is_begin() && self.open_call(event.process()).is_some()
+    }
+
+    // Whether an event ends a call of a process that has none open.
+    pub(crate) fn is_idle(&self, event: &Event) -> bool
+        ensures { (es : List Event) → IsRecalled self.now es → result ≡ spec_is_idle es event.now }
+    {
+        !event.is_begin() && self.open_call(event.process()).is_none()
+    }
+
+    // Whether an event ends a call of another kind than the open one.
+    pub(crate) fn is_other(&self, event: &Event) -> bool
+        ensures { (es : List Event) → IsRecalled self.now es → result ≡ spec_is_other es event.now }
+    {
+        !event.is_begin() && !ends(self.open_call(event.process()), event)
+    }
+
+    // Whether an event begins an update of a component that another process writes.
+    pub(crate) fn has_other_writer(&self, event: &Event) -> bool
+        ensures { (es : List Event) → IsRecalled self.now es → result ≡ spec_has_other_writer es event.now }
+    {
+        match event {
+            Event::BeginUpdate { process, entry } => match self.writer(entry.component) {
+                Some(writer) => writer.process != *process,
+                None => false,
+            },
+            _ => false,
         }
     }
 
-    // The first refusal that applies to an event, by the open call of its process and the writer of its component.
-    pub(crate) fn refusal(&self, event: &Event) -> Option<EventRefusal>
-        ensures { result ≡ refusal_in self.now event.now }
+    // Whether an event begins an update whose number is not the next of its component.
+    pub(crate) fn has_other_number(&self, event: &Event) -> bool
+        ensures { (es : List Event) → IsRecalled self.now es → result ≡ spec_has_other_number es event.now }
     {
-        let call = self.open_call(event.process());
         match event {
-            Event::BeginUpdate { process, entry } => match call {
-                None => self.update_refusal(*process, entry),
-                Some(_) => Some(EventRefusal::Busy),
-            },
-            Event::BeginView { .. } => match call {
-                None => None,
-                Some(_) => Some(EventRefusal::Busy),
-            },
-            Event::EndUpdate { .. } => match call {
-                None => Some(EventRefusal::Idle),
-                Some(Begun::Update(_)) => None,
-                Some(Begun::View) => Some(EventRefusal::OtherOp),
-            },
-            Event::EndView { .. } => match call {
-                None => Some(EventRefusal::Idle),
-                Some(Begun::Update(_)) => Some(EventRefusal::OtherOp),
-                Some(Begun::View) => None,
-            },
+            Event::BeginUpdate { entry, .. } => {
+                let count = self
+                    .writer(entry.component)
+                    .map_or(0, |writer| writer.count);
+                entry.number as u64 != count as u64 + 1
+            }
+            _ => false,
         }
     }
 

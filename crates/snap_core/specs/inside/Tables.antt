@@ -1,14 +1,11 @@
 -- What a history keeps of its events, by process and by component.
-use Rattle.std.specs.Prelude.{ℕ, suc, Bool, false, not, ◌==◌, ◌<◌, ◌≡◌, ⊤, List, Option, Some, None, count_by, slice_index_or, vec_len, if◌then◌else◌}
+use Rattle.std.specs.Prelude.{ℕ, Bool, true, false, not, ◌==◌, ◌<◌, ◌≡◌, ⊤, List, Option, Some, None, count_by, slice_index_or, vec_len, if◌then◌else◌}
 use Rattle.std.specs.List.{list_any}
 use Rattle.snap_core.specs.declared.event.Begun.{Begun}
 use Rattle.snap_core.specs.declared.event.Begun.TheVariants as begun
-use Rattle.snap_core.specs.declared.entry.Entry.{Entry}
-use Rattle.snap_core.specs.declared.history.EventRefusal.{EventRefusal}
-use Rattle.snap_core.specs.declared.history.EventRefusal.TheVariants as refusals
 use Rattle.snap_core.specs.declared.tables.Tables.{Tables}
 use Rattle.snap_core.specs.declared.tables.Writer.{Writer}
-use Rattle.snap_core.specs.Events.{Event, BeginUpdate, BeginView, EndUpdate, EndView, process_of, begins_update_of, IsBoundedHistory}
+use Rattle.snap_core.specs.Events.{Event, BeginUpdate, BeginView, EndUpdate, EndView, begins_update_of, IsBoundedHistory}
 use Rattle.snap_core.specs.Refusals.{last_event, is_by_other}
 
 -- what an event begins
@@ -32,31 +29,16 @@ abbrev pub count_in : Option Writer → ℕ
 count_in None = 0
 count_in (Some w) = w.count
 
+-- an event ends what was begun
+abbrev pub ends_begun : Option Begun → Event → Bool
+ends_begun (Some (begun.Update d)) (EndUpdate p) = true
+ends_begun (Some begun.View) (EndView p es) = true
+ends_begun _ _ = false
+
 -- a component has a writer that is another process
 abbrev pub is_written_by_other : ℕ → Option Writer → Bool
 is_written_by_other p None = false
 is_written_by_other p (Some w) = not (w.process == p)
-
--- the first refusal that applies to an update of a process that has no open call
-abbrev pub update_refusal : ℕ → Entry → Option Writer → Option EventRefusal
-update_refusal p e w = if is_written_by_other p w then Some refusals.Writer else if not (e.number == suc (count_in w)) then Some refusals.Number else None
-
--- the first refusal that applies to an event of a process with this open call
-abbrev pub refusal_by : Tables → Event → Option Begun → Option EventRefusal
-refusal_by t (BeginUpdate p e) None = update_refusal p e (writer_in t e.component)
-refusal_by t (BeginUpdate p e) (Some b) = Some refusals.Busy
-refusal_by t (BeginView p) None = None
-refusal_by t (BeginView p) (Some b) = Some refusals.Busy
-refusal_by t (EndUpdate p) None = Some refusals.Idle
-refusal_by t (EndUpdate p) (Some (begun.Update e)) = None
-refusal_by t (EndUpdate p) (Some begun.View) = Some refusals.OtherOp
-refusal_by t (EndView p es) None = Some refusals.Idle
-refusal_by t (EndView p es) (Some (begun.Update e)) = Some refusals.OtherOp
-refusal_by t (EndView p es) (Some begun.View) = None
-
--- the first refusal that applies to an event, by what the tables say
-abbrev pub refusal_in : Tables → Event → Option EventRefusal
-refusal_in t e = refusal_by t e (call_in t (process_of e))
 
 -- what the tables say of a list of events
 pub record Recalls (t : Tables) (es : List Event) : Type 0 where
