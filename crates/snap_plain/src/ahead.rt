@@ -1,5 +1,5 @@
 //! Lines that are read before it is their turn, each piece of a text by a worker of its own.
-ghost use Rattle.std.specs.Prelude.{◌≡◌, ◌<◌, ◌≤◌, ◌+◌, ◌∷◌, [], ℕ, true, Ok, List, All, IfOk, IfSome, length};
+ghost use Rattle.std.specs.Prelude.{◌≡◌, ◌≢◌, ◌<◌, ◌≤◌, ◌+◌, ◌∷◌, [], ℕ, true, Ok, List, All, IfNone, IfOk, IfSome, length};
 ghost use Rattle.std.specs.List.{flat_map};
 ghost use Rattle.std.specs.List.Sorted.{IsPermutation};
 ghost use Rattle.snap_format.specs.Layout.{is_header_row};
@@ -245,6 +245,7 @@ fn take_all(history: &mut LimitedHistory, events: Vec<Event>) -> Result<(), Read
 fn take_piece<'t>(ahead: &mut Vec<Ahead<'t>>, len: usize) -> Option<Ahead<'t>>
     ensures taken { IfSome result (λ piece. IsPermutation ahead.old.items (piece ∷ ahead.new.items)) }
     ensures len { IfSome result (λ piece. length piece.text.now ≡ len) }
+    ensures none { IfNone result (All (λ piece. length piece.text.now ≢ len) ahead.old.items) }
 {
     for at in 0..ahead.len() {
         if ahead[at].text.len() == len {
