@@ -43,6 +43,7 @@ fn are_all_same(a: &[Entry], b: &[Entry]) -> bool
 const PIECE: usize = 8;
 
 /// Whether two lists of entries are the same, entry by entry.
+#[inline(always)]
 pub fn are_same(a: &[Entry], b: &[Entry]) -> bool
     ensures { IsTrue result ↔ (a.now ≡ b.now) }
 {

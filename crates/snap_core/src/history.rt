@@ -88,6 +88,7 @@ impl History {
 
     /// Appends an event, in constant time but for the growth of its tables. A refused event comes back with the first
     /// refusal that applies, and the history is then unchanged.
+    #[inline(always)]
     pub fn push(&mut self, event: Event) -> Result<(), (Event, EventRefusal)>
         ensures ok { OnOk result (self.new ≡ self.old ++ event ∷ []) }
         ensures accepted { OnOk result (refusal_of self.old event ≡ None) }

@@ -59,6 +59,7 @@ impl LimitedHistory {
 
     /// Appends an event, as `History::push`, but refuses each one where the history is full, before any other test. A
     /// refused event comes back, and the history is then unchanged.
+    #[inline(always)]
     pub fn push(&mut self, event: Event) -> Result<(), (Event, EventRefusal)>
         ensures ok { OnOk result (self.new.events ≡ self.old.events ++ event ∷ []) }
         ensures accepted { OnOk result (refusal_within self.old.limit self.old.events event ≡ None) }

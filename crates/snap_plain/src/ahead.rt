@@ -160,6 +160,7 @@ fn pieces_of(alloc: Global, lines: &[u8], workers: usize) -> Result<Vec<Piece>, 
 }
 
 /// The event of the first line of a text, and the lines behind it, where that line has no fault by itself and memory serves.
+#[inline(always)]
 pub(crate) fn event_first<'t>(
     alloc: Global,
     known: &mut Known,

@@ -154,6 +154,7 @@ fn last_field(text: &[u8]) -> Option<(&[u8], &[u8])>
 }
 
 /// The fields that a line has left, where these are four, and the lines behind it.
+#[inline(always)]
 pub(crate) fn four_first(text: &[u8]) -> Option<((&[u8], &[u8], &[u8], &[u8]), &[u8])>
     ensures { MatchOption result (EndsWithOthers 4 text.now) (λ x. EndsWith (x.0.0.now ∷ x.0.1.now ∷ x.0.2.now ∷ x.0.3.now ∷ []) x.1.now text.now) }
 {

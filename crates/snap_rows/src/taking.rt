@@ -20,6 +20,7 @@ pub fn row_limit(limit: Limit) -> u32
 }
 
 /// Adds the event of a record to a history, by the record's four fields.
+#[inline(always)]
 pub fn take_fields(
     alloc: Global,
     known: &mut Known,
@@ -42,6 +43,7 @@ pub fn take_fields(
 }
 
 /// Adds the event of a record to a history.
+#[inline(always)]
 pub fn take_event(history: &mut LimitedHistory, place: u32, event: Event) -> Result<(), ReadRefusal>
     ensures takes { (r : Fields) → row_event r ≡ Ok event → TakesRow history.old.limit place history.old.events history.new.events r result }
     ensures limit { history.new.limit ≡ history.old.limit }

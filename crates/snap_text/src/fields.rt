@@ -1,5 +1,6 @@
 //! The event that four fields spell.
 ghost use Rattle.std.specs.Prelude.{◌≡◌, IfOk};
+ghost use Rattle.std.specs.Str.{bytes_eq};
 ghost use Rattle.snap_text.specs.Fields.{event_of, update_at, view_at};
 
 use crate::entries::{entries_of, entry_of};
@@ -8,6 +9,14 @@ use crate::known::Known;
 use crate::number::process_of;
 use snap_core::{Entry, Event, View};
 use std::alloc::{AllocError, Global};
+
+// Whether a field is a word. Where the length of the word is known, that takes a compare or two.
+#[inline(always)]
+fn is_word(field: &[u8], word: &[u8]) -> bool
+    ensures { result ≡ bytes_eq field.now word.now }
+{
+    field.len() == word.len() && field.starts_with(word)
+}
 
 // The entry of an update.
 #[tactic(auto, unfolding(crate::specs::Fields::update_at))]
@@ -55,9 +64,9 @@ pub fn event_of_fields(
 ) -> Result<Result<Event, TextFault>, AllocError>
     ensures { IfOk result (λ read. read ≡ event_of event.now process.now op.now text.now) }
 {
-    let begins = if event == b"begin".as_slice() {
+    let begins = if is_word(event, b"begin") {
         true
-    } else if event == b"end".as_slice() {
+    } else if is_word(event, b"end") {
         false
     } else {
         return Ok(Err(TextFault::BadEvent));
@@ -65,9 +74,9 @@ pub fn event_of_fields(
     let Some(process) = process_of(process) else {
         return Ok(Err(TextFault::BadProcess));
     };
-    let updates = if op == b"update".as_slice() {
+    let updates = if is_word(op, b"update") {
         true
-    } else if op == b"view".as_slice() {
+    } else if is_word(op, b"view") {
         false
     } else {
         return Ok(Err(TextFault::BadOp));

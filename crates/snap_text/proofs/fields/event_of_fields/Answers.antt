@@ -5,7 +5,3 @@ use Rattle.snap_text.proofs.fields.event_of_fields.Goals as goal
 pub returns-then-updates : goal.returns-then-updates
 unfolding event_of
 returns-then-updates c = search rules
-
-pub returns-else-eq-2 : goal.returns-else-eq-2
-unfolding event_of
-returns-else-eq-2 c = search rules
