@@ -8,3 +8,4 @@ pub mod GrammarFacts
 pub mod ViewFacts
 pub mod GroupFacts
 pub mod KnownFacts
+pub mod LaneFacts

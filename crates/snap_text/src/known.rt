@@ -7,6 +7,7 @@ ghost use Rattle.snap_text.specs.inside.Fronts.{AreSpelled};
 
 use snap_core::{Entry, View};
 use std::alloc::{AllocError, Global};
+use std::simd::prelude::*;
 
 /// What a look for the next entries among those of the view before costs, where each entry that is found there gives 1.
 pub(crate) const LOOK: usize = 4;
@@ -126,13 +127,41 @@ fn skip_same(a: &[u8], b: &[u8], from: usize, step: usize) -> usize
     at
 }
 
+// How many bytes are compared together.
+const LANES: usize = 32;
+
+// How many bytes two texts have alike at their fronts, of as many as are compared together.
+#[inline(always)]
+fn same_lanes(a: &[u8], b: &[u8]) -> usize
+    requires { (32 ≤ length a.now) × (32 ≤ length b.now) }
+    ensures within { result ≤ 32 }
+    ensures same { take result a.now ≡ take result b.now }
+{
+    let others = u8x32::from_slice(a)
+        .simd_ne(u8x32::from_slice(b))
+        .to_bitmask();
+    if others == 0 {
+        LANES
+    } else {
+        others.trailing_zeros() as usize
+    }
+}
+
 /// How many bytes two texts have alike at their fronts.
 pub(crate) fn same_front(a: &[u8], b: &[u8]) -> usize
     ensures within { (result ≤ length a.now) × (result ≤ length b.now) }
     ensures same { take result a.now ≡ take result b.now }
 {
-    let far = skip_same(a, b, 0, 64);
-    let near = skip_same(a, b, far, 8);
+    let limit = a.len().min(b.len());
+    let mut at = 0;
+    while limit - at >= LANES {
+        let same = same_lanes(&a[at..], &b[at..]);
+        at += same;
+        if same < LANES {
+            return at;
+        }
+    }
+    let near = skip_same(a, b, at, 8);
     skip_same(a, b, near, 1)
 }
 
