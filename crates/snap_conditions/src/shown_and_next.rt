@@ -44,6 +44,17 @@ pub(crate) struct ShownAndNext<'i> {
     pub(crate) earliest: u32,
 }
 
+// How entries stand to those of the view before.
+#[derive(Clone, Copy)]
+enum Along {
+    // the same entries
+    Same,
+    // the same components at the same places, but some entry differs
+    Changed,
+    // other components
+    Otherwise,
+}
+
 // A value, or `NO_VALUE`.
 fn value_or_none(value: Option<u32>) -> u64
     ensures { result ≡ spec_value_or_none value }
@@ -144,52 +155,62 @@ impl<'i> ShownAndNext<'i> {
     }
 
     // Looks up the updates around the entries that differ from those of the view before, where both list the same components
-    // at the same places, and answers whether they do. Where they do not, some of them are looked up.
-    fn look_along(&mut self, index: &Index<'_>, entries: &[Entry]) -> bool
+    // at the same places, and answers how the entries stand to those. Where they list others, some are looked up.
+    fn look_along(&mut self, index: &Index<'_>, entries: &[Entry]) -> Along
         requires before { IsOfEntries (calls_of index.now) self.old }
         requires kept { IsBoundedHistory index.now }
         requires entries { AreEntries entries.now }
         ensures around { AreAround (calls_of index.now) self.new }
-        ensures numbers { IsTrue result → (k : ℕ) → k < self.old.limit → get_or self.new.numbers k 0 ≡ number_among entries.now k }
+        ensures numbers { result ≢ Along.Otherwise → (k : ℕ) → k < self.old.limit → get_or self.new.numbers k 0 ≡ number_among entries.now k }
         ensures limit { self.new.limit ≡ self.old.limit }
+        ensures same { result ≡ Along.Same → self.old.entries.now ≡ entries.now }
+        ensures unchanged { result ≡ Along.Same → self.new ≡ self.old }
     {
         let before = self.entries;
         if before.len() != entries.len() {
-            return false;
+            return Along::Otherwise;
         }
+        let mut along = Along::Same;
         let mut begin = 0;
         while begin < entries.len() {
             let end = entries.len().min(begin + PIECE);
             if !are_same(&before[begin..end], &entries[begin..end]) {
+                along = Along::Changed;
                 for i in begin..end {
                     let entry = entries[i];
                     if entry.component != before[i].component {
-                        return false;
+                        return Along::Otherwise;
                     }
                     self.look_at(index, usize::from(entry.component), entry.number);
                 }
             }
             begin = end;
         }
-        true
+        along
     }
 
-    // Looks up the updates around entries, only around those that differ where the view before lists the same components.
-    fn look_at_entries(&mut self, index: &Index<'_>, entries: &[Entry])
+    // Looks up the updates around entries, only around those that differ where the view before lists the same components, and
+    // answers whether the entries are others than those of the view before.
+    fn look_at_entries(&mut self, index: &Index<'_>, entries: &[Entry]) -> bool
         requires before { IsOfEntries (calls_of index.now) self.old }
         requires kept { IsBoundedHistory index.now }
         requires entries { AreEntries entries.now }
         ensures around { AreAround (calls_of index.now) self.new }
         ensures numbers { (k : ℕ) → k < self.old.limit → get_or self.new.numbers k 0 ≡ number_among entries.now k }
         ensures limit { self.new.limit ≡ self.old.limit }
+        ensures same { ¬ (IsTrue result) → self.old.entries.now ≡ entries.now }
+        ensures unchanged { ¬ (IsTrue result) → self.new ≡ self.old }
     {
-        if self.look_along(index, entries) {
-            return;
+        match self.look_along(index, entries) {
+            Along::Same => return false,
+            Along::Changed => return true,
+            Along::Otherwise => {}
         }
         let mut left = entries;
         for k in 0..self.limit {
             self.look_at(index, k, take_number(&mut left, k));
         }
+        true
     }
 
     // Looks up the updates around a view where it shows another number than the view before.
@@ -200,10 +221,9 @@ impl<'i> ShownAndNext<'i> {
         ensures numbers { IsOfEntries (calls_of index.now) self.new }
         ensures updates { (r : SpecCall) → IsSeen r view.now → IsOfView (calls_of index.now) r self.new }
     {
-        if are_same(self.entries, view.entries) {
+        if !self.look_at_entries(index, view.entries) {
             return;
         }
-        self.look_at_entries(index, view.entries);
         let limit = self.limit;
         self.entries = view.entries;
         self.latest = latest_of(&self.begins[..limit]);

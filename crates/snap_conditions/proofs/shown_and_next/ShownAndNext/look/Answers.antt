@@ -1,8 +1,10 @@
+use Rattle.std.specs.Prelude.{IsTrue}
 use Rattle.std.proofs.Common.{◌≡◌, ◌≤◌, ℕ, suc, ◌<◌, get_or, None, sym, ap, ◌∙◌, subst, inl, inr, arith}
 use Rattle.std.proofs.lemmas.Bool.{cases_lt}
 use Rattle.std.proofs.lemmas.List.{get_or-take}
 use Rattle.snap_core.specs.Calls.{calls_of}
 use Rattle.snap_conditions.specs.inside.Limits.{IsLimit}
+use Rattle.snap_conditions.specs.inside.ShownAndNext.{IsOfView}
 use Rattle.snap_conditions.specs.inside.Places.{begin_of, end_of, begin_or_0}
 use Rattle.snap_theory.specs.Updates.{update_of}
 use Rattle.snap_views.specs.Seen.{end_or_never}
@@ -30,8 +32,11 @@ returns-clause-numbers c =
       ];
     }
 
-pub returns-then-are_same-clause-updates : goal.returns-then-are_same-clause-updates
-returns-then-are_same-clause-updates c = λ r seen. around_seen c.args.index.now c.requires.kept r c.args.self.now c.requires.before (c.are_same.ensures.0 c.if-are_same.true ∙ seen.entries)
+pub returns-then-not-look_at_entries-clause-updates : goal.returns-then-not-look_at_entries-clause-updates
+returns-then-not-look_at_entries-clause-updates c = λ r seen.
+    let same : ¬ IsTrue c.look_at_entries.result = λ t. let f = c.if-not-look_at_entries.true in cc in
+    subst (IsOfView (calls_of c.args.index.now) r) (sym (c.look_at_entries.ensures.unchanged same))
+    (around_seen c.args.index.now c.requires.kept r c.args.self.now c.requires.before (c.look_at_entries.ensures.same same ∙ seen.entries))
 
 pub returns-clause-updates : goal.returns-clause-updates
 returns-clause-updates c = λ r seen. around_seen c.args.index.now c.requires.kept r _ (returns-clause-numbers c) seen.entries

@@ -1,16 +1,21 @@
-use Rattle.std.proofs.Common.{◌≡◌, ◌++◌, ◌+◌, ◌-◌, get_or, drop, refl, sym, ap, ◌∙◌, inl, inr, arith}
+use Rattle.std.proofs.Common.{◌≡◌, ◌≤◌, ◌++◌, ◌+◌, ◌-◌, ℕ, List, length, get_or, drop, refl, sym, ap, ◌∙◌, inl, inr, arith}
 use Rattle.std.proofs.lemmas.Bool.{cases_eq}
 use Rattle.std.proofs.lemmas.List.{take_all, drop_all, append-nil}
+use Rattle.snap_core.specs.declared.entry.Entry.{Entry}
 use Rattle.snap_theory.proofs.Entries.{nothing}
 use Rattle.snap_views.specs.Rows.{number_among}
 use Rattle.snap_conditions.proofs.Exchanged.{exchanged, same_piece, exchanged_number, other_number}
 use Rattle.snap_conditions.proofs.shown_and_next.ShownAndNext.look_along.Goals as goal
 
 pub loop-begin-init : goal.loop-begin-init
-loop-begin-init c = record { limit = refl; numbers = c.requires.before.numbers; around = c.requires.before.around }
+loop-begin-init c = record {
+  looked_up = record { limit = refl; numbers = c.requires.before.numbers; around = c.requires.before.around };
+  same = λ s. refl;
+  unchanged = λ s. refl;
+}
 
 pub loop-i-init : goal.loop-i-init
-loop-i-init c = c.loop-begin.invariant
+loop-i-init c = c.loop-begin.invariant.looked_up
 
 pub look_at-requires-clause-before : goal.look_at-requires-clause-before
 look_at-requires-clause-before c = c.loop-i.invariant.around
@@ -40,31 +45,47 @@ loop-i-preserved c = record {
 
 pub loop-begin-preserved-after-loop-i : goal.loop-begin-preserved-after-loop-i
 loop-begin-preserved-after-loop-i c = record {
-  limit = c.loop-i.invariant.limit;
-  numbers = let end : c.loop-i.i ≡ c.min-end.result = omega arith in λ k l. c.loop-i.invariant.numbers k l ∙ ap (λ n. number_among (exchanged c.args.self.now.entries.now c.args.entries.now n) k) end;
-  around = c.loop-i.invariant.around;
+  looked_up = record {
+    limit = c.loop-i.invariant.limit;
+    numbers = let end : c.loop-i.i ≡ c.min-end.result = omega arith in λ k l. c.loop-i.invariant.numbers k l ∙ ap (λ n. number_among (exchanged c.args.self.now.entries.now c.args.entries.now n) k) end;
+    around = c.loop-i.invariant.around;
+  };
+  same = λ s. absurd (cc);
+  unchanged = λ s. absurd (cc);
 }
 
 pub loop-begin-preserved : goal.loop-begin-preserved
-loop-begin-preserved c = record {
-  limit = c.loop-begin.invariant.limit;
-  numbers = λ k l.
-      let old = c.args.self.now.entries.now in
-      let new = c.args.entries.now in
-      let i = c.loop-begin.begin in
-      let n = c.min-end.result - i in
-      let end : i + n ≡ c.min-end.result = omega arith in
-      c.loop-begin.invariant.numbers k l ∙ sym (ap (λ es. number_among es k) (ap (exchanged old new) (sym end) ∙ same_piece old new i n (c.are_same.ensures.0 c.if-not-are_same.false)));
-  around = c.loop-begin.invariant.around;
-}
-
-pub returns-clause-around : goal.returns-clause-around
-returns-clause-around c = c.loop-begin.invariant.around
-
-pub returns-clause-numbers : goal.returns-clause-numbers
-returns-clause-numbers c = λ r k l.
+loop-begin-preserved c =
     let old = c.args.self.now.entries.now in
     let new = c.args.entries.now in
     let i = c.loop-begin.begin in
-    let all : exchanged old new i ≡ new = ap (λ es. es ++ drop i old) (take_all i new (omega arith)) ∙ ap (λ es. new ++ es) (drop_all i old (omega arith)) ∙ append-nil new in
-    c.loop-begin.invariant.numbers k l ∙ ap (λ es. number_among es k) all
+    let n = c.min-end.result - i in
+    let end : i + n ≡ c.min-end.result = omega arith in
+    let more : exchanged old new i ≡ exchanged old new c.min-end.result = sym (ap (exchanged old new) (sym end) ∙ same_piece old new i n (c.are_same.ensures.0 c.if-not-are_same.false)) in
+    record {
+      looked_up = record {
+        limit = c.loop-begin.invariant.looked_up.limit;
+        numbers = λ k l. c.loop-begin.invariant.looked_up.numbers k l ∙ ap (λ es. number_among es k) more;
+        around = c.loop-begin.invariant.looked_up.around;
+      };
+      same = λ s. c.loop-begin.invariant.same s ∙ more;
+      unchanged = c.loop-begin.invariant.unchanged;
+    }
+
+-- behind the last entry all are exchanged
+exchanged_all : (old new : List Entry) (i : ℕ) → length old ≡ length new → length new ≤ i → exchanged old new i ≡ new
+exchanged_all old new i long l = ap (λ es. es ++ drop i old) (take_all i new l) ∙ ap (λ es. new ++ es) (drop_all i old (omega arith)) ∙ append-nil new
+
+pub returns-clause-around : goal.returns-clause-around
+returns-clause-around c = c.loop-begin.invariant.looked_up.around
+
+pub returns-clause-numbers : goal.returns-clause-numbers
+returns-clause-numbers c = λ r k l.
+    c.loop-begin.invariant.looked_up.numbers k l
+    ∙ ap (λ es. number_among es k) (exchanged_all c.args.self.now.entries.now c.args.entries.now c.loop-begin.begin (omega arith) (omega arith))
+
+pub returns-clause-same : goal.returns-clause-same
+returns-clause-same c = λ s. c.loop-begin.invariant.same s ∙ exchanged_all c.args.self.now.entries.now c.args.entries.now c.loop-begin.begin (omega arith) (omega arith)
+
+pub returns-clause-unchanged : goal.returns-clause-unchanged
+returns-clause-unchanged c = c.loop-begin.invariant.unchanged

@@ -2,6 +2,7 @@ use Rattle.std.proofs.Common.{◌≡◌, ◌<◌, ℕ, ◌-◌, List, length, ge
 use Rattle.snap_core.specs.declared.entry.Entry.{Entry}
 use Rattle.snap_core.specs.declared.event.Event.{Event}
 use Rattle.snap_core.specs.Calls.{calls_of}
+use Rattle.snap_conditions.specs.declared.shown_and_next.Along.TheVariants.{Same}
 use Rattle.snap_conditions.specs.declared.shown_and_next.ShownAndNext.{ShownAndNext}
 use Rattle.snap_conditions.specs.inside.ShownAndNext.{AreAround}
 use Rattle.snap_views.specs.Rows.{number_among}
@@ -20,7 +21,11 @@ abbrev pub invariant-loop-i : goal.invariant-loop-i
 invariant-loop-i l = IsLookedUp l.index l.fn.self.limit l.before l.entries l.i l.self
 
 abbrev pub invariant-loop-begin : goal.invariant-loop-begin
-invariant-loop-begin l = IsLookedUp l.index l.fn.self.limit l.before l.entries l.begin l.self
+invariant-loop-begin l = record {
+  looked_up : IsLookedUp l.index l.fn.self.limit l.before l.entries l.begin l.self;
+  same : l.along ≡ Same → l.before ≡ exchanged l.before l.entries l.begin;
+  unchanged : l.along ≡ Same → l.self ≡ l.fn.self;
+}
 
 abbrev pub decreases-loop-begin : goal.decreases-loop-begin
 decreases-loop-begin l = length l.entries - l.begin
