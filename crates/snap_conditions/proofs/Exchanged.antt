@@ -1,9 +1,11 @@
 -- The entries of one view exchanged for those of another, from the front on.
 use Rattle.std.proofs.Common.{◌≡◌, ◌≢◌, ℕ, ◌+◌, ◌<◌, List, ◌∷◌, [], ◌++◌, length, get_or, take, drop, Some, refl, sym, ap, ◌∙◌, arith}
 use Rattle.std.specs.Prelude.{◌==◌}
+use Rattle.std.specs.List.{All}
 use Rattle.std.specs.Option.{option_or}
 use Rattle.std.proofs.Math.Seq.{take-add}
 use Rattle.std.proofs.lemmas.List.{take-append-drop, drop-drop, take_more, drop_more, append_assoc}
+use Rattle.std.proofs.lemmas.List.Elements.{All-nil, All-cons, All-head, All-tail, All-rest, All-append, All-more}
 use Rattle.std.proofs.lemmas.List.Folds.{find-append}
 use Rattle.snap_core.specs.declared.entry.Entry.{Entry}
 use Rattle.snap_core.specs.Entries.{AreEntries, entry_of, number_in}
@@ -22,6 +24,21 @@ same_piece old new i n same =
     ap (λ es. es ++ drop (i + n) old) (take-add i n new)
     ∙ append_assoc (take i new) (take n (drop i new)) (drop (i + n) old)
     ∙ ap (λ es. take i new ++ es) (ap (λ es. es ++ drop (i + n) old) (sym same) ∙ ap (λ es. take n (drop i old) ++ es) (sym (drop-drop n i old)) ∙ take-append-drop n (drop i old))
+
+-- what holds of each entry
+
+front : (P : Entry → Type 0) (xs ys : List Entry) → All P (xs ++ ys) → All P xs
+front P [] ys h = All-nil P
+front P (x ∷ xs) ys h = All-cons P x xs (All-head P x (xs ++ ys) h) (front P xs ys (All-tail P x (xs ++ ys) h))
+
+behind : (P : Entry → Type 0) (xs ys : List Entry) → All P (xs ++ ys) → All P ys
+behind P [] ys h = h
+behind P (x ∷ xs) ys h = behind P xs ys (All-tail P x (xs ++ ys) h)
+
+pub each_exchanged : (P : Entry → Type 0) (old new : List Entry) (i : ℕ) (x : Entry) → i < length new → length old ≡ length new → All P (exchanged old new i) → P (get_or new i x) → All P (exchanged old new (i + 1))
+each_exchanged P old new i x l long all here =
+    let kept = All-rest P (get_or old i x) (drop (i + 1) old) (drop i old) (drop_more old i x (omega arith)) (behind P (take i new) (drop i old) all) in
+    All-append P (take (i + 1) new) (drop (i + 1) old) (All-more P new i x l (front P (take i new) (drop i old) all) here) kept
 
 -- one entry exchanged for one of the same component
 

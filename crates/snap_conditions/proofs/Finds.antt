@@ -2,6 +2,7 @@
 use Rattle.std.proofs.Common.{◌≡◌, ℕ, suc, ◌<◌, Bool, true, false, not, ◌↔◌, ◌&&◌, ◌||◌, List, length, get_or, Option, Some, None, refl, sym, ap, ◌∙◌, [], ◌∷◌, inl, inr, subst, arith}
 use Rattle.std.specs.Prelude.{IsTrue, if◌then◌else◌, nat_lt}
 use Rattle.std.specs.Bool.{then_some}
+use Rattle.std.specs.List.{All}
 use Rattle.std.proofs.lemmas.List.{length-map, get_or-map}
 use Rattle.std.proofs.lemmas.Bool.{false≢true, false_from_ne_true}
 use Rattle.snap_core.proofs.Lists.{In}
@@ -18,8 +19,9 @@ use Rattle.snap_conditions.specs.declared.fault.Side.{Side}
 use Rattle.snap_conditions.specs.declared.fault.Side.TheVariants.{Old, Early}
 use Rattle.snap_views.specs.Rows.{IsLessSomewhere}
 use Rattle.snap_conditions.specs.Rows.{first_less}
-use Rattle.snap_theory.specs.Faults.{integrity_fault, old_fault, early_fault, read_fault, write_fault, listed, missed_at, exceeds, least_exceeding}
+use Rattle.snap_theory.specs.Faults.{integrity_fault, integrity_faults, old_fault, early_fault, read_fault, write_fault, listed, missed_at, exceeds, least_exceeding}
 use Rattle.snap_conditions.specs.Parts.{no_part, part_of, found_at}
+use Rattle.snap_conditions.specs.inside.ShownAndNext.{IsWritten}
 use Rattle.snap_conditions.specs.inside.Places.{end_of, begin_of, begins_behind, begin_of_shown, is_written, IsNoLater}
 use Rattle.snap_theory.specs.Updates.{update_of}
 use Rattle.snap_conditions.specs.Tally.{reported_integrity, reported_proximity, reported_write}
@@ -27,7 +29,7 @@ use Rattle.snap_theory.proofs.Entries.{sorted, nothing}
 use Rattle.snap_theory.proofs.Exceeding.{exceeds_from, exceeds_to}
 use Rattle.snap_conditions.proofs.Leasts.{find_same}
 use Rattle.snap_conditions.proofs.Places.{integrity_by_update, old_by_place, early_by_place, write_by_place, behind_none}
-use Rattle.snap_conditions.proofs.OneView.{missed_part}
+use Rattle.snap_conditions.proofs.OneView.{integrity_alone, missed_part}
 use Rattle.snap_theory.proofs.FaultLists.{filter_none}
 use Rattle.snap_views.proofs.Shown.{small}
 use Rattle.snap_views.proofs.Rows.{entry_at}
@@ -45,6 +47,29 @@ integrity_found es kept r e s =
     ap (λ b. then_some b (reported_integrity (r, e.component))) (integrity_by_update (calls_of es) (are_calls es kept.history) r e.component e s)
     ∙ ap (λ d. then_some (not (is_written (update_of (calls_of es) e.component e.number) e)) (F d))
     (ap (λ n. E n (value_in (shown r e.component))) (shown_number_at r e.component e s) ∙ ap (λ o. E e.number (value_in o)) s)
+
+in_place : {X : Type 0} (xs : List X) (x d : X) → In x xs → (i : ℕ) × (i < length xs) × (get_or xs i d ≡ x)
+in_place [] x d h = absurd h
+in_place (y ∷ ys) x d (inl e) = (0, omega arith, e)
+in_place (y ∷ ys) x d (inr h) = let r = in_place ys x d h in (suc r.0, omega (arith, r.1), r.2)
+
+-- where each entry is an update's
+pub none_unwritten : (es : List Event) → IsBoundedHistory es → (r : Call) → AreEntries (entries_of r.operation) → All (IsWritten (calls_of es)) (entries_of r.operation) → part_of reported_integrity (integrity_faults (calls_of es) (r ∷ [])) ≡ no_part
+none_unwritten es kept r shape written = integrity_alone calls r ∙ ap (part_of (λ k. reported_integrity (r, k))) (filter_none (integrity_fault calls r) (listed r) not_found)
+  where
+    calls : List Call
+    calls = calls_of es
+
+    entries : List Entry
+    entries = entries_of r.operation
+
+    not_found : (k : ℕ) → In k (listed r) → integrity_fault calls r k ≡ false
+    not_found k i =
+        let p = in_place (listed r) k 0 i in
+        let within : p.0 < length entries = omega (arith, p.1, length-map entries (λ (e : Entry). e.component)) in
+        let e = get_or entries p.0 nothing in
+        let same : e.component ≡ k = sym (get_or-map (λ (d : Entry). d.component) entries p.0 nothing 0 within) ∙ p.2 in
+        ap (integrity_fault calls r) (sym same) ∙ integrity_by_update calls (are_calls es kept.history) r e.component e (shown_at r p.0 nothing shape within) ∙ ap not (written p.0 nothing within)
 
 -- a view at a component, by the tests of its two sides
 
@@ -107,11 +132,6 @@ none_missed es kept r j none =
     let shown_begin : ℕ → Option ℕ = λ k. begin_of (update_of calls k (shown_number r k)) in
     missed_part calls r j
     ∙ ap (part_of (λ k. reported_write (r, j, k))) (filter_none (write_fault calls r j) (listed r) (λ k i. write_by_place calls (are_calls es kept.history) r j k ∙ ap (λ o. begins_behind o (shown_begin k)) none ∙ never (shown_begin k)))
-
-in_place : {X : Type 0} (xs : List X) (x d : X) → In x xs → (i : ℕ) × (i < length xs) × (get_or xs i d ≡ x)
-in_place [] x d h = absurd h
-in_place (y ∷ ys) x d (inl e) = (0, omega arith, e)
-in_place (y ∷ ys) x d (inr h) = let r = in_place ys x d h in (suc r.0, omega (arith, r.1), r.2)
 
 -- where no update that the view shows begins behind the end of the update that it misses
 pub none_behind : (es : List Event) → IsBoundedHistory es → (r : Call) (j : ℕ) (latest : Option ℕ) → AreEntries (entries_of r.operation) →

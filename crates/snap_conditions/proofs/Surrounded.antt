@@ -1,20 +1,21 @@
 -- The faults of a view by the updates around it.
-use Rattle.std.proofs.Common.{◌≡◌, ℕ, zero, suc, ◌+◌, ◌<◌, ◌≤◌, false, ◌&&◌, ◌||◌, List, [], ◌∷◌, length, get_or, Option, Some, None, refl, sym, ap, ◌∙◌, inl, inr, arith}
+use Rattle.std.proofs.Common.{◌≡◌, ℕ, zero, suc, ◌+◌, ◌<◌, ◌≤◌, false, ◌&&◌, ◌||◌, List, [], ◌∷◌, length, get_or, Option, Some, None, refl, sym, ap, ◌∙◌, subst, inl, inr, arith}
 use Rattle.std.specs.Prelude.{◌==◌, nat_lt}
-use Rattle.std.specs.List.{range_with_len}
+use Rattle.std.specs.List.{All, range_with_len}
 use Rattle.std.proofs.lemmas.Bool.{le-ltb, ltb-false, or_from, cases_lt, eq-eqb, ne_eqb}
 use Rattle.snap_core.specs.declared.event.Event.{Event}
 use Rattle.snap_core.specs.declared.entry.Entry.{Entry}
-use Rattle.snap_core.specs.Entries.{AreEntries, EntryFits}
+use Rattle.snap_core.specs.Entries.{AreEntries, EntryFits, number_in}
 use Rattle.snap_core.specs.Events.{IsBoundedHistory}
 use Rattle.snap_core.specs.Calls.{Call, calls_of, entries_of, is_before, shown, shown_number}
 use Rattle.snap_core.proofs.Facts.{shown_number_at}
 use Rattle.snap_core.proofs.Histories.{are_calls}
 use Rattle.snap_core.proofs.Lists.{In}
+use Rattle.snap_core.proofs.Rising.{entry_at}
 use Rattle.snap_index.specs.IndexedCalls.{value_written}
 use Rattle.snap_index.proofs.Known.{update_found}
 use Rattle.snap_conditions.specs.declared.shown_and_next.ShownAndNext.{ShownAndNext}
-use Rattle.snap_conditions.specs.inside.ShownAndNext.{IsOfEntries, IsOfView, begin_shown, end_next}
+use Rattle.snap_conditions.specs.inside.ShownAndNext.{AreAround, IsOfEntries, IsOfView, IsValueOf, IsWritten, begin_shown, end_next}
 use Rattle.snap_theory.specs.Faults.{components, old_fault, early_fault, proximity_faults, write_faults, missed_at, writes_entry}
 use Rattle.snap_conditions.specs.Parts.{no_part, part_of}
 use Rattle.snap_conditions.specs.PartValue.{PartValue}
@@ -69,6 +70,7 @@ around_seen es kept r updates a same = record {
   ends = ends;
   latest = λ k l. omega (arith, a.latest k l, begins k l);
   earliest = λ k l. omega (arith, a.earliest k l, ends k l);
+  written = λ t. subst (All (IsWritten (calls_of es))) same (a.written t);
 }
   where
     numbers : (k : ℕ) → k < updates.limit → get_or updates.numbers k 0 ≡ shown_number r k
@@ -166,10 +168,22 @@ written_of es kept e fits (Some c) is =
     ∙ ap (λ b. b && (u.entry.value == e.value)) (eq-eqb _ _ u.number)
     ∙ ap (λ v. v == e.value) (sym (ap value_written u.update.writes))
 
-pub written_around : (es : List Event) → IsBoundedHistory es → (r : Call) (updates : ShownAndNext) (e : Entry) → IsOfView (calls_of es) r updates → shown r e.component ≡ Some e → EntryFits e →
+-- by the value that is kept at its component
+pub written_by_value : (es : List Event) → IsBoundedHistory es → (updates : ShownAndNext) (e : Entry) → IsValueOf (calls_of es) updates e → EntryFits e →
     is_written (update_of (calls_of es) e.component e.number) e ≡ (get_or updates.values e.component 0 == e.value)
-written_around es kept r updates e a is fits =
-    let calls = calls_of es in
-    written_of es kept e fits (update_of calls e.component e.number) refl
-    ∙ ap (λ n. value_or_none (value_of (update_of calls e.component n)) == e.value) (sym (shown_number_at r e.component e is))
-    ∙ ap (λ v. v == e.value) (sym (a.values e.component fits.0))
+written_by_value es kept updates e value fits = written_of es kept e fits (update_of (calls_of es) e.component e.number) refl ∙ ap (λ v. v == e.value) (sym value)
+
+-- the values kept around a view are those of its entries
+pub value_around : (calls : List Call) (r : Call) (updates : ShownAndNext) (e : Entry) → IsOfView calls r updates → shown r e.component ≡ Some e → EntryFits e → IsValueOf calls updates e
+value_around calls r updates e a is fits =
+    a.values e.component fits.0 ∙ ap (λ n. value_or_none (value_of (update_of calls e.component n))) (shown_number_at r e.component e is)
+
+-- where their numbers are looked up below the limit, for from it on there is no update
+pub values_around : (es : List Event) → IsBoundedHistory es → (updates : ShownAndNext) (entries : List Entry) → IsLimit (calls_of es) updates.limit → AreAround (calls_of es) updates →
+    ((k : ℕ) → k < updates.limit → get_or updates.numbers k 0 ≡ number_among entries k) → AreEntries entries → All (IsValueOf (calls_of es) updates) entries
+values_around es kept updates entries limit around numbers shape = λ i d l.
+    let e = get_or entries i d in
+    let byte = (shape.fit i d l).0 in
+    around.values e.component byte
+    ∙ ap (λ o. value_or_none (value_of o)) (same_update es kept updates.limit e.component (get_or updates.numbers e.component 0) e.number (λ n. n) limit
+    (λ b. numbers e.component b ∙ ap number_in (entry_at entries i d e.component shape.rising l refl)) byte)

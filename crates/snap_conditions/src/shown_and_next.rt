@@ -1,12 +1,15 @@
 //! The updates that a view shows and those after them, kept from view to view.
 ghost use Rattle.std.specs.Prelude.{◌≡◌, ◌≢◌, ◌≤◌, ◌<◌, ◌+◌, ℕ, IsTrue, List, length, get_or};
+ghost use Rattle.std.specs.List.{All};
 ghost use Rattle.snap_core.specs.Calls.{Call as SpecCall, calls_of};
-ghost use Rattle.snap_core.specs.Entries.{AreEntries, component_count};
+ghost use Rattle.snap_core.specs.Entries.{AreEntries, EntryFits, component_count};
 ghost use Rattle.snap_core.specs.Events.{IsBoundedHistory};
 ghost use Rattle.snap_core.specs.declared.entry.Entry.{Entry as SpecEntry};
-ghost use Rattle.snap_conditions.specs.inside.ShownAndNext.{AreAround, AreFrom, IsOfEntries, IsOfView};
+ghost use Rattle.snap_core.specs.declared.event.Event.{Event};
+ghost use Rattle.snap_conditions.specs.inside.ShownAndNext.{AreAround, AreFrom, IsOfEntries, IsOfView, IsValueOf, IsWritten};
 ghost use Rattle.snap_conditions.specs.inside.Limits.{IsLimit};
-ghost use Rattle.snap_conditions.specs.inside.Places.{value_or_none as spec_value_or_none};
+ghost use Rattle.snap_conditions.specs.inside.Places.{is_written as spec_is_written, value_or_none as spec_value_or_none};
+ghost use Rattle.snap_theory.specs.Updates.{update_of};
 ghost use Rattle.snap_views.specs.Rows.{number_among};
 ghost use Rattle.snap_views.specs.Seen.{IsSeen};
 
@@ -42,6 +45,8 @@ pub(crate) struct ShownAndNext<'i> {
     // no begin is later, and no end is earlier
     pub(crate) latest: u32,
     pub(crate) earliest: u32,
+    // each of the entries is the number and the value of an update, where this is true
+    pub(crate) written: bool,
 }
 
 // How entries stand to those of the view before.
@@ -132,7 +137,24 @@ impl<'i> ShownAndNext<'i> {
             ends,
             latest: 0,
             earliest,
+            written: true,
         }
+    }
+
+    // Whether an entry is the number and the value of an update, where the update of its number was looked up.
+    pub(crate) fn is_written(&self, entry: Entry) -> bool
+        ensures { (es : List Event) → IsBoundedHistory es → EntryFits entry → IsValueOf (calls_of es) self.now entry
+            → result ≡ spec_is_written (update_of (calls_of es) entry.component entry.number) entry }
+    {
+        self.values[usize::from(entry.component)] == u64::from(entry.value)
+    }
+
+    // Whether each entry is the number and the value of an update, where the updates of their numbers were looked up.
+    fn are_written(&self, entries: &[Entry]) -> bool
+        ensures { (es : List Event) → IsBoundedHistory es → All EntryFits entries.now → All (IsValueOf (calls_of es) self.now) entries.now
+            → IsTrue result → All (IsWritten (calls_of es)) entries.now }
+    {
+        entries.iter().all(|entry| self.is_written(*entry))
     }
 
     // Looks up the updates around a number of component k, if it is another than the number of the view before.
@@ -144,6 +166,7 @@ impl<'i> ShownAndNext<'i> {
         ensures number { get_or self.new.numbers k 0 ≡ number }
         ensures others { (j : ℕ) → j ≢ k → get_or self.new.numbers j 0 ≡ get_or self.old.numbers j 0 }
         ensures limit { self.new.limit ≡ self.old.limit }
+        ensures written { self.new.written ≡ self.old.written }
     {
         if number == self.numbers[k] {
             return;
@@ -155,7 +178,8 @@ impl<'i> ShownAndNext<'i> {
     }
 
     // Looks up the updates around the entries that differ from those of the view before, where both list the same components
-    // at the same places, and answers how the entries stand to those. Where they list others, some are looked up.
+    // at the same places, and answers how the entries stand to those. Where they list others, some are looked up. Only the
+    // entries that differ are tested: the others were tested with the view before.
     fn look_along(&mut self, index: &Index<'_>, entries: &[Entry]) -> Along
         requires before { IsOfEntries (calls_of index.now) self.old }
         requires kept { IsBoundedHistory index.now }
@@ -165,6 +189,7 @@ impl<'i> ShownAndNext<'i> {
         ensures limit { self.new.limit ≡ self.old.limit }
         ensures same { result ≡ Along.Same → self.old.entries.now ≡ entries.now }
         ensures unchanged { result ≡ Along.Same → self.new ≡ self.old }
+        ensures written { result ≢ Along.Otherwise → IsTrue self.new.written → All (IsWritten (calls_of index.now)) entries.now }
     {
         let before = self.entries;
         if before.len() != entries.len() {
@@ -182,6 +207,7 @@ impl<'i> ShownAndNext<'i> {
                         return Along::Otherwise;
                     }
                     self.look_at(index, usize::from(entry.component), entry.number);
+                    self.written &= self.is_written(entry);
                 }
             }
             begin = end;
@@ -200,12 +226,15 @@ impl<'i> ShownAndNext<'i> {
         ensures limit { self.new.limit ≡ self.old.limit }
         ensures same { ¬ (IsTrue result) → self.old.entries.now ≡ entries.now }
         ensures unchanged { ¬ (IsTrue result) → self.new ≡ self.old }
+        ensures written { IsTrue self.new.written → All (IsWritten (calls_of index.now)) entries.now }
     {
         match self.look_along(index, entries) {
             Along::Same => return false,
             Along::Changed => return true,
             Along::Otherwise => {}
         }
+        // other entries are all tested anew
+        self.written = false;
         let mut left = entries;
         for k in 0..self.limit {
             self.look_at(index, k, take_number(&mut left, k));
@@ -226,6 +255,7 @@ impl<'i> ShownAndNext<'i> {
         }
         let limit = self.limit;
         self.entries = view.entries;
+        self.written = self.written || self.are_written(view.entries);
         self.latest = latest_of(&self.begins[..limit]);
         self.earliest = earliest_of(&self.ends[..limit]);
     }

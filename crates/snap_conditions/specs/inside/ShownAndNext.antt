@@ -1,11 +1,12 @@
 -- Where the updates stand between which a view is by what it shows: at each component the one that it shows and the next.
-use Rattle.std.specs.Prelude.{ℕ, suc, ◌≡◌, ◌<◌, ◌≤◌, true, ⊤, List, [], ◌∷◌, get_or}
+use Rattle.std.specs.Prelude.{ℕ, suc, ◌≡◌, ◌<◌, ◌≤◌, true, ⊤, IsTrue, List, [], ◌∷◌, get_or}
+use Rattle.std.specs.List.{All}
 use Rattle.snap_core.specs.declared.entry.Entry.{Entry}
-use Rattle.snap_core.specs.Calls.{Call, shown_number}
+use Rattle.snap_core.specs.Calls.{Call, entries_of, shown_number}
 use Rattle.snap_core.specs.Entries.{component_count, rises}
 use Rattle.snap_conditions.specs.declared.shown_and_next.ShownAndNext.{ShownAndNext}
 use Rattle.snap_conditions.specs.inside.Limits.{IsLimit}
-use Rattle.snap_conditions.specs.inside.Places.{value_of, begin_of, end_of, value_or_none, begin_or_0}
+use Rattle.snap_conditions.specs.inside.Places.{value_of, begin_of, end_of, is_written, value_or_none, begin_or_0}
 use Rattle.snap_views.specs.Seen.{end_or_never}
 use Rattle.snap_theory.specs.Updates.{update_of}
 use Rattle.snap_views.specs.Rows.{number_among}
@@ -22,6 +23,10 @@ begin_shown calls r k = begin_or_0 (begin_of (update_of calls k (shown_number r 
 abbrev pub end_next : List Call → Call → ℕ → ℕ
 end_next calls r k = end_or_never (end_of (update_of calls k (suc (shown_number r k))))
 
+-- an entry is the number and the value of an update
+abbrev pub IsWritten : List Call → Entry → Type 0
+IsWritten calls e = is_written (update_of calls e.component e.number) e ≡ true
+
 -- all this of a view, and its numbers below the limit
 pub record IsOfView (calls : List Call) (r : Call) (updates : ShownAndNext) : Type 0 where
   pub limit : IsLimit calls updates.limit
@@ -31,6 +36,7 @@ pub record IsOfView (calls : List Call) (r : Call) (updates : ShownAndNext) : Ty
   pub ends : (k : ℕ) → k < component_count → get_or updates.ends k 0 ≡ end_next calls r k
   pub latest : (k : ℕ) → k < component_count → begin_shown calls r k ≤ updates.latest
   pub earliest : (k : ℕ) → k < component_count → updates.earliest ≤ end_next calls r k
+  pub written : IsTrue updates.written → All (IsWritten calls) (entries_of r.operation)
 
 -- the updates around the number of each component
 pub record AreAround (calls : List Call) (updates : ShownAndNext) : Type 0 where
@@ -45,6 +51,11 @@ pub record IsOfEntries (calls : List Call) (updates : ShownAndNext) : Type 0 whe
   pub around : AreAround calls updates
   pub latest : (k : ℕ) → k < component_count → get_or updates.begins k 0 ≤ updates.latest
   pub earliest : (k : ℕ) → k < component_count → updates.earliest ≤ get_or updates.ends k 0
+  pub written : IsTrue updates.written → All (IsWritten calls) updates.entries.now
+
+-- the value at an entry's component is that of the update of its number
+abbrev pub IsValueOf : List Call → ShownAndNext → Entry → Type 0
+IsValueOf calls updates e = get_or updates.values e.component 0 ≡ value_or_none (value_of (update_of calls e.component e.number))
 
 -- the first entry, if there is one, is of no component below one
 abbrev pub StartsFrom : ℕ → List Entry → Type 0

@@ -14,11 +14,12 @@ use Rattle.snap_conditions.specs.declared.fault.IntegrityFault.{IntegrityFault}
 use Rattle.snap_views.specs.Seen.{view_in}
 use Rattle.snap_conditions.specs.Tally.{reported_integrity}
 use Rattle.snap_theory.proofs.Entries.{nothing}
-use Rattle.snap_conditions.proofs.Finds.{shown_at, integrity_found}
+use Rattle.snap_conditions.proofs.Finds.{shown_at, integrity_found, none_unwritten}
 use Rattle.snap_conditions.proofs.Parts.{next_noted}
 use Rattle.snap_conditions.proofs.Ranges.{few_listed}
 use Rattle.snap_views.proofs.Viewed.{view_there}
 use Rattle.snap_conditions.proofs.OneView.{integrity_alone, found_few}
+use Rattle.snap_conditions.proofs.Surrounded.{value_around}
 use Rattle.snap_conditions.proofs.integrity.integrity_part.Goals as goal
 use Rattle.snap_conditions.proofs.integrity.integrity_part.Goals.{then-not-is_written, else-not-is_written}
 
@@ -44,7 +45,7 @@ loop-entry-preserved c =
     let fault : ℕ → IntegrityFault = λ n. record { view = n; entry = e } in
     let fits : EntryFits e = subst (λ z. EntryFits (get_or z i nothing)) (sym shape) (c.requires.view.shape.fit i nothing within) in
     let found : (b : Bool) → c.is_written.result ≡ b → then_some (not b) (fault c.args.view.now.call_number) ≡ found_at (λ k. reported_integrity (r, k)) (integrity_fault calls r) (get_or (listed r) i 0) = λ b is.
-    ap (λ z. then_some (not z) (fault c.args.view.now.call_number)) (sym is ∙ c.is_written.ensures es r c.requires.kept c.requires.updates is_shown fits)
+    ap (λ z. then_some (not z) (fault c.args.view.now.call_number)) (sym is ∙ c.is_written.ensures es c.requires.kept fits (value_around calls r c.args.updates.now e c.requires.updates is_shown fits))
     ∙ ap (λ n. then_some (not (is_written (update_of calls e.component e.number) e)) (fault n)) c.requires.view.number ∙ sym (integrity_found es c.requires.kept r e is_shown)
     ∙ ap (found_at (λ k. reported_integrity (r, k)) (integrity_fault calls r)) (sym at) in
     let next = next_noted (λ k. reported_integrity (r, k)) (integrity_fault calls r) (listed r) i 0 (omega (arith, within, length-map (entries_of r.operation) (λ d. d.component))) in
@@ -52,6 +53,11 @@ loop-entry-preserved c =
       | then-not-is_written w ↦ next _ _ _ c.loop-entry.invariant (w.part-is ∙ w.note-part.ensures) (found false w.if-not-is_written.true)
       | else-not-is_written w ↦ next _ _ None c.loop-entry.invariant w.part-is (found true w.if-not-is_written.false)
     ]
+
+pub returns-then-updates : goal.returns-then-updates
+returns-then-updates c =
+    let r = view_in (calls_of c.args.index.now) c.args.place in
+    c.none-part.ensures ∙ sym (none_unwritten c.args.index.now c.requires.kept r c.requires.view.shape (c.requires.updates.written c.if-updates.true))
 
 pub returns : goal.returns
 returns c =

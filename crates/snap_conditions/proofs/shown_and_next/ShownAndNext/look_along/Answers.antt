@@ -1,15 +1,21 @@
-use Rattle.std.proofs.Common.{◌≡◌, ◌≤◌, ◌++◌, ◌+◌, ◌-◌, ℕ, List, length, get_or, drop, refl, sym, ap, ◌∙◌, inl, inr, arith}
-use Rattle.std.proofs.lemmas.Bool.{cases_eq}
+use Rattle.std.proofs.Common.{◌≡◌, ◌≤◌, ◌++◌, ◌+◌, ◌-◌, ℕ, List, length, get_or, drop, refl, sym, ap, ◌∙◌, subst, inl, inr, arith}
+use Rattle.std.specs.List.{All}
+use Rattle.std.proofs.lemmas.Bool.{and_parts, cases_eq}
 use Rattle.std.proofs.lemmas.List.{take_all, drop_all, append-nil}
+use Rattle.snap_core.specs.Calls.{calls_of}
+use Rattle.snap_core.specs.Entries.{EntryFits}
 use Rattle.snap_core.specs.declared.entry.Entry.{Entry}
 use Rattle.snap_theory.proofs.Entries.{nothing}
+use Rattle.snap_theory.specs.Updates.{update_of}
+use Rattle.snap_conditions.specs.inside.Places.{value_of, value_or_none}
+use Rattle.snap_conditions.specs.inside.ShownAndNext.{IsValueOf, IsWritten}
 use Rattle.snap_views.specs.Rows.{number_among}
-use Rattle.snap_conditions.proofs.Exchanged.{exchanged, same_piece, exchanged_number, other_number}
+use Rattle.snap_conditions.proofs.Exchanged.{exchanged, same_piece, each_exchanged, exchanged_number, other_number}
 use Rattle.snap_conditions.proofs.shown_and_next.ShownAndNext.look_along.Goals as goal
 
 pub loop-begin-init : goal.loop-begin-init
 loop-begin-init c = record {
-  looked_up = record { limit = refl; numbers = c.requires.before.numbers; around = c.requires.before.around };
+  looked_up = record { limit = refl; numbers = c.requires.before.numbers; around = c.requires.before.around; written = c.requires.before.written };
   same = λ s. refl;
   unchanged = λ s. refl;
 }
@@ -40,7 +46,16 @@ loop-i-preserved c = record {
             c.look_at.ensures.others k (λ q. other (q ∙ from)) ∙ c.loop-i.invariant.numbers k l
             ∙ sym (other_number old new i k nothing (omega arith) c.if-before-entries.false (sym c.if-entry-before.false) other)
       ];
-  around = c.look_at.ensures.around;
+  around = record { values = c.look_at.ensures.around.values; begins = c.look_at.ensures.around.begins; ends = c.look_at.ensures.around.ends };
+  written = λ t.
+      let calls = calls_of c.args.index.now in
+      let e = get_or c.args.entries.now c.loop-i.i nothing in
+      let fits : EntryFits e = c.requires.entries.fit c.loop-i.i nothing (omega arith) in
+      let number : get_or c.look_at.new.self.numbers e.component 0 ≡ e.number = ap (λ j. get_or c.look_at.new.self.numbers j 0) (sym c.from.ensures) ∙ c.look_at.ensures.number in
+      let value : IsValueOf calls c.look_at.new.self e = c.look_at.ensures.around.values e.component fits.0 ∙ ap (λ n. value_or_none (value_of (update_of calls e.component n))) number in
+      let both = and_parts c.look_at.new.self.written c.is_written.result t in
+      each_exchanged (IsWritten calls) c.args.self.now.entries.now c.args.entries.now c.loop-i.i nothing (omega arith) c.if-before-entries.false
+      (c.loop-i.invariant.written (sym c.look_at.ensures.written ∙ both.0)) (sym (c.is_written.ensures c.args.index.now c.requires.kept fits value) ∙ both.1);
 }
 
 pub loop-begin-preserved-after-loop-i : goal.loop-begin-preserved-after-loop-i
@@ -49,6 +64,7 @@ loop-begin-preserved-after-loop-i c = record {
     limit = c.loop-i.invariant.limit;
     numbers = let end : c.loop-i.i ≡ c.min-end.result = omega arith in λ k l. c.loop-i.invariant.numbers k l ∙ ap (λ n. number_among (exchanged c.args.self.now.entries.now c.args.entries.now n) k) end;
     around = c.loop-i.invariant.around;
+    written = λ t. subst (λ n. All (IsWritten (calls_of c.args.index.now)) (exchanged c.args.self.now.entries.now c.args.entries.now n)) (omega arith) (c.loop-i.invariant.written t);
   };
   same = λ s. absurd (cc);
   unchanged = λ s. absurd (cc);
@@ -67,6 +83,7 @@ loop-begin-preserved c =
         limit = c.loop-begin.invariant.looked_up.limit;
         numbers = λ k l. c.loop-begin.invariant.looked_up.numbers k l ∙ ap (λ es. number_among es k) more;
         around = c.loop-begin.invariant.looked_up.around;
+        written = λ t. subst (All (IsWritten (calls_of c.args.index.now))) more (c.loop-begin.invariant.looked_up.written t);
       };
       same = λ s. c.loop-begin.invariant.same s ∙ more;
       unchanged = c.loop-begin.invariant.unchanged;
@@ -86,6 +103,11 @@ returns-clause-numbers c = λ r k l.
 
 pub returns-clause-same : goal.returns-clause-same
 returns-clause-same c = λ s. c.loop-begin.invariant.same s ∙ exchanged_all c.args.self.now.entries.now c.args.entries.now c.loop-begin.begin (omega arith) (omega arith)
+
+pub returns-clause-written : goal.returns-clause-written
+returns-clause-written c = λ r t.
+    subst (All (IsWritten (calls_of c.args.index.now))) (exchanged_all c.args.self.now.entries.now c.args.entries.now c.loop-begin.begin (omega arith) (omega arith))
+    (c.loop-begin.invariant.looked_up.written t)
 
 pub returns-clause-unchanged : goal.returns-clause-unchanged
 returns-clause-unchanged c = c.loop-begin.invariant.unchanged

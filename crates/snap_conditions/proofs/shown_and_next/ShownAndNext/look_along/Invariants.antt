@@ -1,10 +1,11 @@
-use Rattle.std.proofs.Common.{◌≡◌, ◌<◌, ℕ, ◌-◌, List, length, get_or}
+use Rattle.std.proofs.Common.{◌≡◌, ◌<◌, ℕ, ◌-◌, IsTrue, List, length, get_or}
+use Rattle.std.specs.List.{All}
 use Rattle.snap_core.specs.declared.entry.Entry.{Entry}
 use Rattle.snap_core.specs.declared.event.Event.{Event}
 use Rattle.snap_core.specs.Calls.{calls_of}
 use Rattle.snap_conditions.specs.declared.shown_and_next.Along.TheVariants.{Same}
 use Rattle.snap_conditions.specs.declared.shown_and_next.ShownAndNext.{ShownAndNext}
-use Rattle.snap_conditions.specs.inside.ShownAndNext.{AreAround}
+use Rattle.snap_conditions.specs.inside.ShownAndNext.{AreAround, IsWritten}
 use Rattle.snap_views.specs.Rows.{number_among}
 use Rattle.snap_conditions.proofs.Exchanged.{exchanged}
 use Rattle.snap_conditions.proofs.shown_and_next.ShownAndNext.look_along.Given as goal
@@ -15,6 +16,7 @@ IsLookedUp es bound old new i updates = record {
   limit : updates.limit ≡ bound;
   numbers : (k : ℕ) → k < bound → get_or updates.numbers k 0 ≡ number_among (exchanged old new i) k;
   around : AreAround (calls_of es) updates;
+  written : IsTrue updates.written → All (IsWritten (calls_of es)) (exchanged old new i);
 }
 
 abbrev pub invariant-loop-i : goal.invariant-loop-i

@@ -1,11 +1,11 @@
-use Rattle.std.proofs.Common.{get_or, sym, ap, ◌∙◌, inl, inr, arith}
+use Rattle.std.proofs.Common.{get_or, refl, sym, ap, ◌∙◌, inl, inr, arith}
 use Rattle.std.proofs.lemmas.Bool.{cases_eq}
 use Rattle.snap_views.specs.Rows.{number_among}
 use Rattle.snap_conditions.proofs.Left.{all_left}
 use Rattle.snap_conditions.proofs.shown_and_next.ShownAndNext.look_at_entries.Goals as goal
 
 pub loop-k-init : goal.loop-k-init
-loop-k-init c = record { limit = c.look_along.ensures.limit; left = all_left _ c.requires.entries; numbers = λ j l. absurd (omega (arith, l)); around = c.look_along.ensures.around }
+loop-k-init c = record { limit = c.look_along.ensures.limit; left = all_left _ c.requires.entries; numbers = λ j l. absurd (omega (arith, l)); around = record { values = c.look_along.ensures.around.values; begins = c.look_along.ensures.around.begins; ends = c.look_along.ensures.around.ends }; written = refl }
 
 pub look_at-requires-clause-before : goal.look_at-requires-clause-before
 look_at-requires-clause-before c = c.loop-k.invariant.around
@@ -21,4 +21,5 @@ loop-k-preserved c = record {
     | inr other ↦ c.look_at.ensures.others j other ∙ c.loop-k.invariant.numbers j (omega (arith, l, other))
   ];
   around = c.look_at.ensures.around;
+  written = c.look_at.ensures.written ∙ c.loop-k.invariant.written;
 }

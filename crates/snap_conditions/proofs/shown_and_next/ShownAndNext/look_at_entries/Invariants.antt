@@ -1,4 +1,4 @@
-use Rattle.std.proofs.Common.{◌≡◌, ◌<◌, ℕ, get_or}
+use Rattle.std.proofs.Common.{◌≡◌, ◌<◌, ℕ, false, get_or}
 use Rattle.snap_core.specs.Calls.{calls_of}
 use Rattle.snap_conditions.specs.inside.ShownAndNext.{AreAround, AreFrom}
 use Rattle.snap_views.specs.Rows.{number_among}
@@ -10,4 +10,5 @@ invariant-loop-k l = record {
   left : AreFrom l.k l.entries l.left;
   numbers : (j : ℕ) → j < l.k → get_or l.self.numbers j 0 ≡ number_among l.entries j;
   around : AreAround (calls_of l.index) l.self;
+  written : l.self.written ≡ false;
 }

@@ -34,4 +34,5 @@ returns c =
       };
       latest = λ k l. omega (arith, get_or-replicate {A = ℕ} 256 k 0 0 l);
       earliest = λ k l. c.earliest_of-earliest.ensures.places k (omega (arith, l, c.loop-k.invariant.size));
+      written = λ t i d l. absurd (omega (arith, l));
     }
