@@ -17,7 +17,7 @@ use crate::stamped::stamped_history;
 use csv::{ByteRecord, Reader};
 use snap_core::{Counted, History, Limit, LimitedHistory};
 use snap_format::{ReadRefusal, bytes_within};
-use snap_plain::{history_of_lines, is_plain, lines_of, read_ahead};
+use snap_plain::{history_of_lines, history_of_lines_beside, is_plain, lines_of};
 use snap_rows::{row_limit, take_fields};
 use snap_text::{Known, TextFault};
 use snap_threads::Cutting;
@@ -58,13 +58,13 @@ pub(crate) fn numbered_history(
     ensures { AnswersNumbered limit.events (rows_of text.now) result }
 {
     if plain {
-        history_of_lines(alloc, lines_of(text), Vec::new(alloc), limit)
+        history_of_lines(alloc, lines_of(text), limit)
     } else {
         rows_history(alloc, text, limit)
     }
 }
 
-// The same, where the workers of a cutting read ahead.
+// The same, where the workers of a cutting share the reading.
 fn numbered_beside<Rt: Threads + Sync>(
     rt: &Rt,
     alloc: Global,
@@ -79,9 +79,7 @@ fn numbered_beside<Rt: Threads + Sync>(
     if !plain {
         return rows_history(alloc, text, limit);
     }
-    let lines = lines_of(text);
-    let ahead = read_ahead(rt, alloc, lines, cutting, limit)?;
-    history_of_lines(alloc, lines, ahead, limit)
+    history_of_lines_beside(rt, alloc, lines_of(text), limit, cutting)
 }
 
 // The same of any text, by `csv`.
@@ -172,7 +170,7 @@ fn history_of(alloc: Global, text: &[u8], plain: bool, limit: Limit) -> Result<H
     Ok(history)
 }
 
-// The same, where the workers of a cutting read ahead.
+// The same, where the workers of a cutting share the reading.
 fn history_beside<Rt: Threads + Sync>(
     rt: &Rt,
     alloc: Global,

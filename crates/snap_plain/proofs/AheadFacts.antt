@@ -1,17 +1,18 @@
 -- Lines that are read before it is their turn.
-use Rattle.std.proofs.Common.{◌≡◌, ◌<◌, ◌+◌, ◌++◌, ℕ, List, [], ◌∷◌, All, drop, length, take, Ok, Err, refl, sym, ap, subst, arith, ◌∙◌}
-use Rattle.std.specs.Prelude.{slice_index_or}
+use Rattle.std.proofs.Common.{◌≡◌, ◌≤◌, ◌+◌, ◌-◌, ◌++◌, ℕ, true, List, [], ◌∷◌, drop, length, take, Ok, Err, refl, sym, ap, subst, arith, ◌∙◌}
 use Rattle.std.proofs.lemmas.List.{length-append, take-append-drop}
-use Rattle.std.specs.List.{flat_map}
-use Rattle.std.proofs.lemmas.List.Elements.{All-append, All-from_get_or, All-head, All-nil, All-tail}
 use Rattle.std.proofs.Math.Seq.{drop-append_seam}
 use Rattle.snap_core.specs.declared.event.Event.{Event}
 use Rattle.snap_text.specs.Fields.{Fields, row_event}
 use Rattle.snap_format.specs.declared.refusal.ReadRefusal.{ReadRefusal}
+use Rattle.snap_format.specs.Layout.{is_header_row}
 use Rattle.snap_rows.specs.Taking.{Midway, RefusesRows, TakesRow}
+use Rattle.snap_plain.specs.declared.pieces.Piece.{Piece}
+use Rattle.snap_plain.specs.Ahead.{ArePieces}
 use Rattle.snap_plain.specs.Lines.{BeginsLine, BeginsLines, HasRows, IsRest, SpellsAll, SpellsFirst}
+use Rattle.snap_plain.specs.Turns.{HasTaken}
 use Rattle.snap_plain.proofs.PlainFacts.{rest_of_rest}
-use Rattle.snap_rows.proofs.ReadFacts.{more, stopped}
+use Rattle.snap_rows.proofs.ReadFacts.{begun, more, stopped}
 
 pub whole : (text : List ℕ) → IsRest text text
 whole text = ([], refl)
@@ -19,13 +20,19 @@ whole text = ([], refl)
 pub behind : (n : ℕ) (text : List ℕ) → IsRest (drop n text) text
 behind n text = (take n text, sym (take-append-drop n text))
 
--- two rests of a text that are as long as each other are the same
-pub rests_same : (a b text : List ℕ) → IsRest a text → IsRest b text → length a ≡ length b → a ≡ b
-rests_same a b text (f, e) (g, h) len =
-    let one : drop (length f) text ≡ a = ap (drop (length f)) e ∙ drop-append_seam f a in
-    let other : drop (length g) text ≡ b = ap (drop (length g)) h ∙ drop-append_seam g b in
-    let fronts : length f ≡ length g = omega (arith, ap length e, length-append f a, ap length h, length-append g b, len) in
-    sym one ∙ ap (λ n. drop n text) fronts ∙ other
+-- a rest of a text stands where as much of it is left
+pub rest_is_drop : (rest text : List ℕ) → IsRest rest text → rest ≡ drop (length text - length rest) text
+rest_is_drop rest text (front, e) =
+    let at : length text - length rest ≡ length front = omega (arith, ap length e, length-append front rest) in
+    rw at (sym (ap (drop (length front)) e ∙ drop-append_seam front rest))
+
+pub rest_shorter : (rest text : List ℕ) → IsRest rest text → length rest ≤ length text
+rest_shorter rest text (front, e) = omega (arith, ap length e, length-append front rest)
+
+-- a piece more
+pub piece_more : (from at to : ℕ) (pieces : List Piece) → ArePieces from at pieces → at ≤ to → ArePieces from to (pieces ++ record { from = at; to = to } ∷ [])
+piece_more from at to [] same le = (sym same, le, refl)
+piece_more from at to (piece ∷ pieces) (begins, order, rest) le = (begins, order, piece_more piece.to at to pieces rest le)
 
 -- ---- one line more
 
@@ -58,17 +65,12 @@ lines_as xs rest left text before same is = λ rows h.
     let (behind, spells) = before rows h in
     (rest_of_rest rest left text is behind, spells_as xs (HasRows left) (HasRows rest) rows same spells)
 
--- ---- all of a list
-
-pub all_of_each : {X : Type 0} (P : X → Type 0) (xs : List X) → ((i : ℕ) (d : X) → i < length xs → P (slice_index_or xs i d)) → All P xs
-all_of_each P [] h = All-nil P
-all_of_each P (x ∷ xs) h = All-from_get_or P (x ∷ xs) x (λ i lt. h i x lt)
-
--- of lists of which each has all
-pub all_joined : {X Y : Type 0} (P : X → Type 0) (items : Y → List X) (lists : List Y) → All (λ list. All P (items list)) lists → All P (flat_map items lists)
-all_joined P items [] h = All-nil P
-all_joined P items (list ∷ lists) h =
-    All-append P (items list) (flat_map items lists) (All-head (λ one. All P (items one)) list lists h) (all_joined P items lists (All-tail (λ one. All P (items one)) list lists h))
+-- what was read of the lines from a place on was read ahead
+pub read_ahead : (lines text left : List ℕ) (from : ℕ) (xs : List Event) → text ≡ drop from lines → BeginsLines xs left text → (rows : List Fields) → HasRows (drop from lines) rows → SpellsAll xs (HasRows (drop (length lines - length left) lines)) rows
+read_ahead lines text left from xs is begins rows h =
+    let (rest, spells) = begins rows (subst (λ t. HasRows t rows) (sym is) h) in
+    let there : left ≡ drop (length lines - length left) lines = rest_is_drop left lines (rest_of_rest left text lines rest (subst (λ t. IsRest t lines) (sym is) (behind from lines))) in
+    subst (λ t. SpellsAll xs (HasRows t) rows) there spells
 
 -- ---- in their turn
 
@@ -102,10 +104,16 @@ one_refused limit rows left xs x Rest old new e is midway takes =
     let (row, later, here, spells, next) = m.left in
     stopped limit rows (SpellsAll (x ∷ xs) Rest) old (length old) m row later e here (takes row spells)
 
--- the events of a piece that begins where the lines before it end
-pub piece_begins : (limit : ℕ) (rows : List Fields) (lines text behind left : List ℕ) (xs old : List Event) → IsRest text lines → BeginsLines xs left text → length text ≡ length behind → IsRest behind lines
-    → Midway limit rows (HasRows behind) old (length old) → IsRest left lines × Midway limit rows (SpellsAll xs (HasRows left)) old (length old)
-piece_begins limit rows lines text behind left xs old rest begins len before m =
-    let same : behind ≡ text = rests_same behind text lines before rest (sym len) in
-    let (next, spells) = begins (drop (length old) m.later) (subst (λ t. HasRows t (drop (length old) m.later)) same m.left) in
-    (rest_of_rest left text lines next rest, left_as limit rows (HasRows behind) (SpellsAll xs (HasRows left)) old (length old) m spells)
+-- what was read ahead from where the lines that were taken end
+pub ahead_begins : (limit : ℕ) (rows : List Fields) (lines rest : List ℕ) (from to : ℕ) (xs old : List Event) → ((later : List Fields) → HasRows (drop from lines) later → SpellsAll xs (HasRows (drop to lines)) later)
+    → from ≡ length lines - length rest → HasTaken limit lines rest old rows → Midway limit rows (SpellsAll xs (HasRows (drop to lines))) old (length old)
+ahead_begins limit rows lines rest from to xs old spells at (is, m) =
+    let same : rest ≡ drop from lines = rw at (rest_is_drop rest lines is) in
+    left_as limit rows (HasRows rest) (SpellsAll xs (HasRows (drop to lines))) old (length old) m (spells (drop (length old) m.later) (subst (λ t. HasRows t (drop (length old) m.later)) same m.left))
+
+-- a history without events has taken no line
+pub none_taken : (limit : ℕ) (head : Fields) (later : List Fields) (lines : List ℕ) (events : List Event) → is_header_row head ≡ true → HasRows lines later → events ≡ [] → HasTaken limit lines lines events (head ∷ later)
+none_taken limit head later lines events heads h none = (
+  whole lines,
+  subst (λ n. Midway limit (head ∷ later) (HasRows lines) events n) (sym (ap length none)) (begun limit (head ∷ later) (HasRows lines) head events (later, refl, h) heads none),
+)

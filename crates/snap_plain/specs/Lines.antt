@@ -5,7 +5,6 @@ use Rattle.csv.specs.Machine.{Read, next_record}
 use Rattle.csv.specs.Reading.{default_config, records_from}
 use Rattle.csv.specs.declared.parser.State.TheVariants as st
 use Rattle.snap_core.specs.declared.event.Event.{Event}
-use Rattle.snap_plain.specs.declared.ahead.Ahead.{Ahead}
 use Rattle.snap_plain.specs.declared.lines.Lines.{Lines}
 use Rattle.snap_plain.specs.declared.lines.Lines.TheVariants as lines
 use Rattle.snap_format.specs.Layout.{is_header_row, is_stamped_header_row}
@@ -78,21 +77,11 @@ BeginsLine x rest text = (rows : List Fields) → HasRows text rows → IsRest r
 abbrev pub BeginsLines : List Event → List ℕ → List ℕ → Type 0
 BeginsLines xs rest text = (rows : List Fields) → HasRows text rows → IsRest rest text × SpellsAll xs (HasRows rest) rows
 
--- what was read ahead of some lines: the first lines of a rest of them
-abbrev pub IsAhead : List ℕ → Ahead → Type 0
-IsAhead lines ahead = IsRest ahead.text.now lines × BeginsLines ahead.events.items ahead.left.now ahead.text.now
-
 -- records are a header and those of lines behind it, or their first is no header
 abbrev pub HasLines : List Fields → Lines → Type 0
 HasLines rows (lines.Bare text) = (head : Fields) × (later : List Fields) × (rows ≡ head ∷ later) × (is_header_row head ≡ true) × HasRows text.now later
 HasLines rows (lines.Stamped text) = (head : Fields) × (later : List Fields) × (rows ≡ head ∷ later) × (is_stamped_header_row head ≡ true) × HasRows text.now later
 HasLines rows lines.Headless = (limit : ℕ) → RowsFault limit rows 1 faults.Header
-
--- what was read ahead of lines without stamps
-abbrev pub AreAhead : Lines → List Ahead → Type 0
-AreAhead (lines.Bare text) ahead = All (IsAhead text.now) ahead
-AreAhead (lines.Stamped text) ahead = ⊤
-AreAhead lines.Headless ahead = ⊤
 
 -- it ends with more fields than so many, or with fewer
 abbrev pub EndsWithOthers : ℕ → List ℕ → Type 0

@@ -1,19 +1,30 @@
--- What becomes of a history and lines that were read ahead.
-use Rattle.std.specs.Prelude.{ℕ, List, length, Result, Ok, Err}
+-- What becomes of a history and the lines that it takes in their turn.
+use Rattle.std.specs.Prelude.{◌≡◌, [], ℕ, All, List, length, Result, Ok, Err}
 use Rattle.snap_core.specs.declared.event.Event.{Event}
-use Rattle.snap_core.specs.Limited.{LimitedEvents}
 use Rattle.snap_format.specs.declared.refusal.ReadRefusal.{ReadRefusal}
 use Rattle.std.proofs.Common.{Bor}
 use Rattle.snap_text.specs.Fields.{Fields}
 use Rattle.snap_rows.specs.Taking.{Midway, RefusesRows}
-use Rattle.snap_plain.specs.Lines.{HasRows}
+use Rattle.snap_plain.specs.Ahead.{IsAhead}
+use Rattle.snap_plain.specs.declared.beside.Turns.{Turns}
+use Rattle.snap_plain.specs.Lines.{HasRows, IsRest}
 
 -- events that were read ahead are taken in their turn: what is left then, or the first fault
 abbrev pub TakesAhead : ℕ → (List Fields → Type 0) → (List Fields → Type 0) → List Event → List Event → Result (Unit {0}) ReadRefusal → Type 0
 TakesAhead limit Left Rest old new (Ok u) = (rows : List Fields) → Midway limit rows Left old (length old) → Midway limit rows Rest new (length new)
 TakesAhead limit Left Rest old new (Err e) = (rows : List Fields) → Midway limit rows Left old (length old) → RefusesRows limit rows e
 
--- the first records are taken, and a text has those behind them; or the first fault
-abbrev pub ReadsFront : ℕ → List Fields → Result (LimitedEvents × Bor (List ℕ)) ReadRefusal → Type 0
-ReadsFront limit rows (Ok x) = Midway limit rows (HasRows x.1.now) x.0.events (length x.0.events)
-ReadsFront limit rows (Err e) = RefusesRows limit rows e
+-- a history has the events of the lines before a rest of them
+abbrev pub HasTaken : ℕ → List ℕ → List ℕ → List Event → List Fields → Type 0
+HasTaken limit lines rest events rows = IsRest rest lines × Midway limit rows (HasRows rest) events (length events)
+
+-- it takes more of the lines, up to a later rest; or the first fault
+abbrev pub TakesOn : ℕ → List ℕ → List ℕ → List Event → List Event → Result (Bor (List ℕ)) ReadRefusal → Type 0
+TakesOn limit lines rest old new (Ok later) = (rows : List Fields) → HasTaken limit lines rest old rows → HasTaken limit lines later.now new rows
+TakesOn limit lines rest old new (Err e) = (rows : List Fields) → HasTaken limit lines rest old rows → RefusesRows limit rows e
+
+-- a new history takes the first of the lines, and what is waiting was read ahead of them; or the first fault
+abbrev pub TakesTurns : {X : Type 0} → ℕ → List ℕ → Result (Turns × X) ReadRefusal → Type 0
+TakesTurns limit lines (Ok x) =
+    (x.0.history.limit ≡ limit) × All (IsAhead lines) x.0.waiting.items × ((rows : List Fields) → HasTaken limit lines lines [] rows → HasTaken limit lines x.0.behind.now x.0.history.events rows)
+TakesTurns limit lines (Err e) = (rows : List Fields) → HasTaken limit lines lines [] rows → RefusesRows limit rows e

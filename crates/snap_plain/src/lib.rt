@@ -2,11 +2,13 @@
 #![tactic(auto)]
 
 mod ahead;
+mod beside;
 mod fields;
 mod front;
 mod line;
 mod lines;
+mod pieces;
 
-pub use ahead::{Ahead, read_ahead};
+pub use beside::history_of_lines_beside;
 pub use line::plain_event;
 pub use lines::{Lines, history_of_lines, is_plain, lines_of};

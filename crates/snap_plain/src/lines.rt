@@ -1,13 +1,13 @@
 //! Histories in plain texts. Without quotes and carriage returns a record is a line. Any other text is read byte by byte, by `csv`.
-ghost use Rattle.std.specs.Prelude.{◌≡◌, ◌↔◌, ◌∷◌, [], List, true, All, IsTrue, length};
+ghost use Rattle.std.specs.Prelude.{◌≡◌, ◌≤◌, ◌↔◌, ◌∷◌, [], List, ℕ, true, All, IfOk, IsTrue, length};
 ghost use Rattle.snap_format.specs.Layout.{is_header_row};
 ghost use Rattle.snap_format.specs.Rows.{rows_of};
-ghost use Rattle.snap_plain.specs.Lines.{AreAhead, HasLines, HasRows, IsAhead, IsPlain};
+ghost use Rattle.snap_plain.specs.Lines.{HasLines, HasRows, IsPlain};
+ghost use Rattle.snap_plain.specs.Turns.{HasTaken, TakesOn};
 ghost use Rattle.snap_rows.specs.Stamping.{AnswersStamps, ReadsStamped};
-ghost use Rattle.snap_rows.specs.Taking.{AnswersNumbered, Midway, TakesRest};
+ghost use Rattle.snap_rows.specs.Taking.{AnswersNumbered};
 ghost use Rattle.snap_text.specs.Fields.{Fields};
 
-use crate::ahead::{Ahead, take_ahead};
 use crate::fields::{five_first, four_first};
 use crate::front::{
     behind_newlines, behind_order_mark, lines_under_header, lines_under_stamped_header,
@@ -26,23 +26,26 @@ pub fn is_plain(text: &[u8]) -> bool
     memchr2(b'"', b'\r', text).is_none()
 }
 
-// Takes the events of the lines that are left, up to the first fault.
-fn take_lines(
+/// Takes the events of lines in turn until so many bytes are left, up to the first fault. The answer is the lines behind these.
+pub(crate) fn take_lines<'t>(
     alloc: Global,
     known: &mut Known,
-    lines: &[u8],
+    text: &'t [u8],
+    stop: usize,
     limit: Limit,
     history: &mut LimitedHistory,
-) -> Result<(), ReadRefusal>
+) -> Result<&'t [u8], ReadRefusal>
     requires { history.old.limit ≡ limit.events }
-    ensures { (rows : List Fields) → Midway limit.events rows (HasRows lines.now) history.old.events (length history.old.events) → TakesRest limit.events rows history.new.events result }
+    ensures takes { (lines : List ℕ) → TakesOn limit.events lines text.now history.old.events history.new.events result }
+    ensures stop { IfOk result (λ rest. length rest.now ≤ stop) }
+    ensures limit { history.new.limit ≡ history.old.limit }
 {
-    let mut left = lines;
+    let mut left = text;
     'each: for _ in 0..row_limit(limit) {
         let place = history.len() as u32 + 2;
-        let line = behind_newlines(left, 0);
-        if line.is_empty() {
-            return Ok(());
+        let line = behind_newlines(left, stop);
+        if line.len() <= stop {
+            return Ok(line);
         }
         let Some((fields, rest)) = four_first(line) else {
             return Err(ReadRefusal::Text {
@@ -56,19 +59,29 @@ fn take_lines(
     unreachable!()
 }
 
-// The history of the lines under the header, or the first fault. Some of them were read ahead.
+/// The history of some lines, by one that has those before a rest of them; or the first fault.
+pub(crate) fn rest_history(
+    alloc: Global,
+    rest: &[u8],
+    limit: Limit,
+    mut history: LimitedHistory,
+) -> Result<(History, Option<Vec<u32>>), ReadRefusal>
+    requires { history.limit ≡ limit.events }
+    ensures { (lines : List ℕ) (rows : List Fields) → HasTaken limit.events lines rest.now history.events rows → AnswersNumbered limit.events rows result }
+{
+    take_lines(alloc, &mut Known::new(alloc), rest, 0, limit, &mut history)?;
+    Ok((history.into_history(), None))
+}
+
+// The history of the lines under the header, or the first fault.
 fn lines_history(
     alloc: Global,
     lines: &[u8],
-    ahead: Vec<Ahead<'_>>,
     limit: Limit,
 ) -> Result<(History, Option<Vec<u32>>), ReadRefusal>
-    requires { All (IsAhead lines.now) ahead.items }
     ensures { (head : Fields) (later : List Fields) → is_header_row head ≡ true → HasRows lines.now later → AnswersNumbered limit.events (head ∷ later) result }
 {
-    let (mut history, left) = take_ahead(alloc, lines, ahead, limit)?;
-    take_lines(alloc, &mut Known::new(alloc), left, limit, &mut history)?;
-    Ok((history.into_history(), None))
+    rest_history(alloc, lines, limit, History::with_limit(alloc, limit))
 }
 
 // Takes the stamped events of the lines under the header, up to the first with a fault other than a repeated stamp.
@@ -137,18 +150,16 @@ pub fn lines_of(text: &[u8]) -> Lines<'_>
 }
 
 /// The history of the lines of a plain text, or the text's first fault; and the numbers of its events' records where these have
-/// stamps. Some lines without stamps were read ahead.
+/// stamps.
 pub fn history_of_lines(
     alloc: Global,
     lines: Lines<'_>,
-    ahead: Vec<Ahead<'_>>,
     limit: Limit,
 ) -> Result<(History, Option<Vec<u32>>), ReadRefusal>
-    requires { AreAhead lines ahead.items }
     ensures { (rows : List Fields) → HasLines rows lines.entry → AnswersNumbered limit.events rows result }
 {
     match lines {
-        Lines::Bare(lines) => lines_history(alloc, lines, ahead, limit),
+        Lines::Bare(lines) => lines_history(alloc, lines, limit),
         Lines::Stamped(lines) => {
             let (history, records) = stamped_lines_history(alloc, lines, limit)?;
             Ok((history, Some(records)))

@@ -1,8 +1,7 @@
 //! Long texts, of which workers draw pieces: their first fault is that of the text, wherever the pieces are cut.
 use super::checks::{cutting, expect, history};
 use super::limits::{add_updates, updates_order};
-use snap_core::{Limit, OpenGate};
-use snap_plain::{is_plain, lines_of, read_ahead};
+use snap_core::OpenGate;
 use std::alloc::Global;
 use std::sync::Wait;
 use std::test::Fail;
@@ -126,43 +125,5 @@ fn empty_lines_between_the_records_of_a_long_text_are_none(rt: HostRuntime) -> R
         let text = text_with(alloc, (before, &blank), (UPDATES, "\n"))?;
         expect_all(&rt, alloc, &text, "atomic", &report)?;
     }
-    Ok(())
-}
-
-// How many events so many workers read ahead of a text.
-fn events_ahead<Rt: Threads + Sync>(
-    rt: &Rt,
-    alloc: Global,
-    text: &[u8],
-    workers: u32,
-) -> Result<usize, Fail> {
-    if !is_plain(text) {
-        return Ok(0);
-    }
-    let cutting = cutting(8, workers)?;
-    let mut count = 0usize;
-    for piece in read_ahead(rt, alloc, lines_of(text), cutting, Limit::usual())? {
-        count = count.saturating_add(piece.events.len());
-    }
-    Ok(count)
-}
-
-// Whether 2, 3 and 8 workers read each event of a text of all updates ahead, and each once.
-fn is_read_once<Rt: Threads + Sync>(rt: &Rt, alloc: Global, text: &str) -> Result<bool, Fail> {
-    let mut is_so = true;
-    for workers in &[2, 3, 8] {
-        is_so &= events_ahead(rt, alloc, text.as_bytes(), *workers)? == UPDATES as usize * 2;
-    }
-    Ok(is_so)
-}
-
-#[test]
-fn each_line_of_a_long_text_is_read_ahead_once(rt: HostRuntime) -> Result<(), Fail> {
-    let alloc = rt.alloc();
-    let text = text_with(alloc, (0, ""), (UPDATES, ""))?;
-    assert!(rt; is_read_once(&rt, alloc, &text)?);
-    let blank = blank_lines(alloc)?;
-    let parted = text_with(alloc, (5, &blank), (12_000, &blank))?;
-    assert!(rt; is_read_once(&rt, alloc, &parted)?);
     Ok(())
 }
