@@ -1,7 +1,7 @@
 #!/usr/bin/env python3
 """Prints a table of what `snapjudge check` costs by shape of history and size, beside another judge of the same text and report.
 
-usage: shapes.py [--against PROGRAM [--stamped]] [--repeats N] [--sizes N,N,..] [--workers N] [--clock] PROGRAM [SHAPE ..]
+usage: shapes.py [--against PROGRAM [--stamped]] [--repeats N] [--sizes N,N,..] [--workers N] [--clock] [--piped] PROGRAM [SHAPE ..]
        shapes.py --list
        shapes.py --write SHAPE EVENTS
 
@@ -11,8 +11,9 @@ given, those whose names have one of them. The other judge is given the same his
 the same text. Where a size is greater than 65,536, the program is called with `--events`; tell the other judge the same by a word
 of its own.
 
-Times are processor time, user and system, of all threads, or with --clock the time by the clock. The judges are called in turn, N times (5, if not said) or until they
-have taken four seconds, and the least time of each counts. In the row of a shape stand for each size the milliseconds of the
+Times are processor time, user and system, of all threads, or with --clock the time by the clock. The judges are called in turn, N times
+(5, if not said) or until they have taken four seconds, and the least time of each counts. With --piped `cat` hands them the history,
+so that neither can ask for the size of a file. In the row of a shape stand for each size the milliseconds of the
 program, those of the other judge, and the ratio. Then come, at the greatest size, the text in millions of bytes, the
 milliseconds a million bytes, the peak memory in millions of bytes, of which some 15 are the measuring program's own, and that a
 million bytes. The growth is the ratio of the times by byte at the greatest two sizes, each less the time of an empty text: more
@@ -36,13 +37,24 @@ SIZES = (4096, 16384, 65536)
 ENOUGH = 4000
 
 
-def run(words, history, report, by_clock=False):
-    """The status, the milliseconds of processor time or by the clock, and the peak memory in bytes of one run."""
+def run(words, history, report, by_clock=False, piped=False):
+    """The status, the milliseconds of processor time or by the clock, and the peak memory in bytes of one run. It reads the history as
+    a file, or piped from `cat`, whose time does not count."""
     files = [(os.POSIX_SPAWN_OPEN, 0, history, os.O_RDONLY, 0), (os.POSIX_SPAWN_OPEN, 1, report, os.O_WRONLY | os.O_CREAT | os.O_TRUNC, 0o600),
              (os.POSIX_SPAWN_OPEN, 2, os.devnull, os.O_WRONLY, 0)]
+    if piped:
+        text, end = os.pipe()
+        cat = os.posix_spawnp("cat", ["cat", history], ENVIRONMENT, file_actions=[(os.POSIX_SPAWN_DUP2, end, 1)])
+        os.close(end)
+        files[0] = (os.POSIX_SPAWN_DUP2, text, 0)
     begun = time.perf_counter()
-    _, status, used = os.wait4(os.posix_spawn(words[0], words, ENVIRONMENT, file_actions=files), 0)
+    child = os.posix_spawn(words[0], words, ENVIRONMENT, file_actions=files)
+    if piped:
+        os.close(text)
+    _, status, used = os.wait4(child, 0)
     seconds = time.perf_counter() - begun if by_clock else used.ru_utime + used.ru_stime
+    if piped:
+        os.waitpid(cat, 0)
     return os.waitstatus_to_exitcode(status), seconds * 1000, used.ru_maxrss * 1024
 
 
@@ -52,7 +64,7 @@ def measure(programs, histories, room, asked):
     runs = [[] for _ in programs]
     while len(runs[0]) < asked.repeats and sum(ms for done in runs for _, ms, _ in done) < ENOUGH:
         for words, history, report, done in zip(programs, histories, reports, runs):
-            done.append(run(words, history, report, asked.clock))
+            done.append(run(words, history, report, asked.clock, asked.piped))
     costs = [(min(ms for _, ms, _ in done), max(peak for *_, peak in done)) for done in runs]
     statuses = [done[0][0] for done in runs]
     if len(set(statuses)) > 1:
@@ -116,6 +128,7 @@ def main():
     words.add_argument("--sizes", type=lambda text: [int(size) for size in text.split(",")], default=SIZES)
     words.add_argument("--workers", default="2")
     words.add_argument("--clock", action="store_true", help="measure the time by the clock in place of processor time")
+    words.add_argument("--piped", action="store_true", help="hand the history over by a pipe in place of a file")
     words.add_argument("--list", action="store_true", help="print the shapes alone")
     words.add_argument("--write", nargs=2, metavar=("SHAPE", "EVENTS"), help="write the text of a shape alone")
     words.add_argument("--into", nargs=2, metavar="FILE", help="write it to a file, and to another the same history without stamps")

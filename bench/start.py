@@ -6,8 +6,8 @@ usage: start.py [RUNS [PROGRAM]]
 
 All are run in turn, 400 times where nothing else is said. Of the milliseconds by the clock and of processor time the table has
 the least and the median. Lines behind it tell how long a second thread of a C program takes to begin while the first goes on, as
-workers of a check do: where the system chooses its processor, where another one is named for it, and with the priority of real time
-where that is allowed. The last line has the load before it.
+workers of a check do, and how long the first one takes to start it: where the system chooses its processor, where another one is
+named for it, and with the priority of real time where that is allowed. The last line has the load before it.
 """
 import contextlib
 import os
@@ -25,8 +25,8 @@ RUNS = int(sys.argv[1]) if len(sys.argv) > 1 else 400
 TOP = os.path.dirname(os.path.dirname(os.path.abspath(__file__)))
 PROGRAM = os.path.abspath(sys.argv[2]) if len(sys.argv) > 2 else SNAPJUDGE
 EMPTY = "int main(void) { return 0; }\n"
-# prints after how many milliseconds a second thread began; the first one is busy for 20. With a word, the thread may not begin on the
-# processor of the first
+# prints after how many milliseconds a second thread began, and after how many the first one went on; it is then busy for 20. With a
+# word, the thread may not begin on the processor of the first
 THREAD = """#define _GNU_SOURCE
 #include <pthread.h>
 #include <sched.h>
@@ -53,9 +53,10 @@ int main(int words, char **word) {
     if (words > 1) pthread_attr_setaffinity_np(&kind, sizeof others, &others);
     double before = now();
     if (pthread_create(&thread, &kind, begin, NULL) != 0) return 1;
+    double started = now();
     while (now() < before + 20) {}
     pthread_join(thread, NULL);
-    printf("%f\\n", begun - before);
+    printf("%f %f\\n", begun - before, started - before);
     return 0;
 }
 """
@@ -90,13 +91,14 @@ def main():
         with contextlib.suppress(FileNotFoundError):
             if subprocess.run(real_time, stdout=subprocess.DEVNULL, stderr=subprocess.DEVNULL).returncode == 0:
                 ways[", with the priority of real time"] = real_time
-        begins = {way: [float(subprocess.run(words, stdout=subprocess.PIPE, check=True).stdout) for _ in range(RUNS)] for way, words in ways.items()}
+        begins = {way: [subprocess.run(words, stdout=subprocess.PIPE, check=True).stdout.split() for _ in range(RUNS)] for way, words in ways.items()}
     print("| program | by the clock, ms | median | processor time, ms | median |\n|---|---|---|---|---|")
     for name, runs in taken.items():
         cells = [f"{of(times):.2f}" for times in zip(*runs) for of in (min, statistics.median)]
         print(f"| {name} | {' | '.join(cells)} |")
-    for way, took in begins.items():
-        print(f"a second thread{way} begins after {min(took):.2f} ms at best, {statistics.median(took):.2f} by the median, {statistics.mean(took):.2f} on average")
+    for way, runs in begins.items():
+        for what, took in zip((f"a second thread{way} begins", "the first one goes on"), zip(*(map(float, it) for it in runs))):
+            print(f"{what} after {min(took):.2f} ms at best, {statistics.median(took):.2f} by the median, {statistics.mean(took):.2f} on average")
     print("load", *(f"{it:.1f}" for it in load))
 
 
