@@ -8,9 +8,11 @@ use Rattle.atomic_table.proofs.Lists.{at_set, at_snoc, set_here, set_else, set_a
 use Rattle.atomic_table.specs.Table.{State, Splits, Joins, Allows, step, keeps}
 use Rattle.snap_account.specs.declared.account.Account.{Account}
 use Rattle.snap_core.specs.Sums.{one_if, total}
+use Rattle.std.proofs.Math.Nat.{suc-mul, mul-le-mul_right}
+use Rattle.snap_account.specs.Limits.{tick_cap}
 use Rattle.snap_core.proofs.Sums.{total-append, total-at, total-set}
 use Rattle.snap_account.specs.Calls.{Mem, in_word}
-use Rattle.snap_account.specs.Rule.{tick_limit, Core, Held, Boarded, clock, code, words_of, of_desk}
+use Rattle.snap_account.specs.Rule.{Core, Held, Boarded, clock, code, words_of, of_desk}
 use Rattle.snap_account.specs.Plays.{Seated, HasEachOnce, only_first, but_first, insert, merge}
 use Rattle.snap_account.proofs.Lists.{mem_one, total-two, at_below, one_here, once_least}
 
@@ -138,11 +140,11 @@ held_join n views b h id v other u at apart there =
           let c = total-merge (λ (x : Account). one_if (x.desk == d)) v u in let o = h.once d in omega arith;
     }
 
-pub splits : (n id : ℕ) (v : List Account) → Splits (Boarded n) id v (but_first v) (only_first v)
-splits n id v s r at = record { accounts = r.accounts; words = r.words; held = held_split n s.views r.accounts r.held id v at; core = r.core; scans = r.scans; ticks = r.ticks }
+pub splits : (n l id : ℕ) (v : List Account) → Splits (Boarded n l) id v (but_first v) (only_first v)
+splits n l id v s r at = record { accounts = r.accounts; words = r.words; held = held_split n s.views r.accounts r.held id v at; core = r.core; scans = r.scans; ticks = r.ticks; limit = r.limit }
 
-pub joins : (n id : ℕ) (v : List Account) (other : ℕ) (u : List Account) → Joins (Boarded n) id v other u (merge v u) []
-joins n id v other u s r at apart there = record { accounts = r.accounts; words = r.words; held = held_join n s.views r.accounts r.held id v other u at apart there; core = r.core; scans = r.scans; ticks = r.ticks }
+pub joins : (n l id : ℕ) (v : List Account) (other : ℕ) (u : List Account) → Joins (Boarded n l) id v other u (merge v u) []
+joins n l id v other u s r at apart there = record { accounts = r.accounts; words = r.words; held = held_join n s.views r.accounts r.held id v other u at apart there; core = r.core; scans = r.scans; ticks = r.ticks; limit = r.limit }
 
 -- the words after a step
 module _ (b : List Account) (k : ℕ) (a a' : Account) (at : get_elem? b k ≡ some a) where
@@ -191,8 +193,8 @@ set_self (x ∷ xs) zero = refl
 set_self (x ∷ xs) (suc i) = ap (λ ys. x ∷ ys) (set_self xs i)
 
 -- a look changes nothing
-pub looks : (n slots id : ℕ) (me : Seated) → Allows (Boarded n) slots id me 0 (λ z. z) (HasEachOnce (step slots 0 0 0 none) me)
-looks n slots id me s r _ at _ = (
+pub looks : (n l slots id : ℕ) (me : Seated) → Allows (Boarded n l) slots id me 0 (λ z. z) (HasEachOnce (step slots 0 0 0 none) me)
+looks n l slots id me s r _ at _ = (
   me.0,
   keeps,
   tt,
@@ -203,14 +205,18 @@ looks n slots id me s r _ at _ = (
     core = r.core;
     scans = r.scans;
     ticks = r.ticks;
+    limit = r.limit;
   },
   (refl, λ d. let l = total-at (of_desk d) s.views id me.0 at in let o = r.held.once d in let z = once_least d n in omega arith),
 )
 
 -- the clock stays small
-pub clock_small : (n : ℕ) (b : List Account) → Core n b → clock b ≤ n * tick_limit
-clock_small n b h = let m = bound b (λ i a e. (h.own i a e).limit) in let s = h.size in subst (λ z. clock b ≤ z * tick_limit) h.size m
+pub clock_most : (n l : ℕ) (s : St) (r : Boarded n l s) → clock r.accounts ≤ n * l
+clock_most n l s r = subst (λ z. clock r.accounts ≤ z * l) r.core.size (bound r.accounts r.limit)
   where
-    bound : (l : List Account) → ((i : ℕ) (a : Account) → get_elem? l i ≡ some a → a.ticks ≤ tick_limit) → clock l ≤ length l * tick_limit
+    bound : (xs : List Account) → ((i : ℕ) (a : Account) → get_elem? xs i ≡ some a → a.ticks ≤ l) → clock xs ≤ length xs * l
     bound [] small = omega arith
-    bound (x ∷ xs) small = let o = small 0 x refl in let r = bound xs (λ i a e. small (suc i) a e) in omega arith
+    bound (x ∷ xs) small = let o = small 0 x refl in let r = bound xs (λ i a e. small (suc i) a e) in let m = suc-mul (length xs) l in omega (arith, o, r, m)
+
+pub clock_small : (n l : ℕ) (s : St) (r : Boarded n l s) → n ≤ 8 → l ≤ tick_cap → clock r.accounts ≤ 8 * tick_cap
+clock_small n l s r few low = let m = clock_most n l s r in let p = mul-le-mul_right l few in omega (arith, m, p, low)

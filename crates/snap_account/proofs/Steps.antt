@@ -9,7 +9,7 @@ use Rattle.snap_account.specs.declared.account.Answer.TheVariants.{Viewed, Scann
 use Rattle.snap_account.specs.declared.account.Doing.TheVariants.{Idle, Viewing, Scanning}
 use Rattle.snap_account.specs.declared.account.Scan.{Scan}
 use Rattle.snap_account.specs.Calls.{Mem, Write, ViewRecord, Mark, view_record, mark, writes_in, view_records_in, stamps_in, marks_in, op_view_records, open_view_records, open_marks, writes_of, view_records_of, stamps_of, marks_of, middles_of, all_stamps, in_word}
-use Rattle.snap_account.specs.Rule.{tick_limit, Own, Sees, After, Core, clock, Rising, Numbered}
+use Rattle.snap_account.specs.Rule.{Own, Sees, After, Core, clock, Rising, Numbered}
 use Rattle.snap_account.proofs.Lists.{mem_split, mem_left, mem_right, mem_one, at_push}
 use Rattle.snap_account.proofs.Accounts.{acct, rec, rec_scan, writes_in-append, view_records_in-append, stamps_in-append, marks_in-append, latest-push, word_there, word_blank, look_in_all, write_in_all, number_le}
 use Rattle.snap_account.proofs.Core.{Views, Follows, Inner, below_ticked, below_quiet, apart_ticked, apart_quiet, changes, same_stores}
@@ -97,14 +97,13 @@ module _ (n : ℕ) (b : List Account) (h : Core n b) (k : ℕ) (a : Account) (at
       (cases v m)
 
   -- the account after a step of a view or a scan
-  pub viewer : a'.desk ≡ a.desk → writes_of a ≡ writes_of a' → in_word a ≡ in_word a' → Rising (stamps_of a') → length (all_stamps a') ≤ a'.ticks → a'.ticks ≤ tick_limit
+  pub viewer : a'.desk ≡ a.desk → writes_of a ≡ writes_of a' → in_word a ≡ in_word a' → Rising (stamps_of a') → length (all_stamps a') ≤ a'.ticks
       → ((v : ViewRecord) → Mem v (view_records_of a') → v.over ≡ true → (length v.shown ≡ n) × (v.begun < v.ended)) → Own n k a'
-  viewer same writes word rising ticks limit whole =
+  viewer same writes word rising ticks whole =
       let own = h.own k a at in record {
         desk = same ∙ own.desk;
         rising = rising;
         ticks = ticks;
-        limit = limit;
         numbered = subst (Numbered 1) writes own.numbered;
         count = let l = ap length writes in let c = own.count in let e = ap (λ (q : ℕ × ℕ). q.0) word in omega arith;
         small = let e = ap (λ (q : ℕ × ℕ). q.1) word in let s = own.small in omega arith;
@@ -113,10 +112,10 @@ module _ (n : ℕ) (b : List Account) (h : Core n b) (k : ℕ) (a : Account) (at
       }
 
   -- a ticking step of a view or a scan
-  pub tick_step : All → a'.desk ≡ a.desk → writes_of a ≡ writes_of a' → in_word a ≡ in_word a' → Ticks n b h k a at a' → a'.ticks ≤ tick_limit
+  pub tick_step : All → a'.desk ≡ a.desk → writes_of a ≡ writes_of a' → in_word a ≡ in_word a' → Ticks n b h k a at a'
       → ((v : ViewRecord) → Mem v (view_records_of a') → v.over ≡ true → (length v.shown ≡ n) × (v.begun < v.ended)) → Core n (set b k a')
-  tick_step all same writes word tick limit whole =
-      changes n b h k a at a' (viewer same writes word tick.2 tick.1 limit whole) (below_ticked n b h k a at a' tick.0) (apart_ticked n b h k a at a' tick.0) all.0 (same_stores n b h k a at a' writes word) all.1 all.2
+  tick_step all same writes word tick whole =
+      changes n b h k a at a' (viewer same writes word tick.2 tick.1 whole) (below_ticked n b h k a at a' tick.0) (apart_ticked n b h k a at a' tick.0) all.0 (same_stores n b h k a at a' writes word) all.1 all.2
 
   -- a step of a view or a scan without a tick
   pub quiet_step : All → a'.desk ≡ a.desk → writes_of a ≡ writes_of a' → in_word a ≡ in_word a' → stamps_of a' ≡ stamps_of a → middles_of a' ≡ middles_of a → a'.ticks ≡ a.ticks
@@ -124,8 +123,8 @@ module _ (n : ℕ) (b : List Account) (h : Core n b) (k : ℕ) (a : Account) (at
   quiet_step all same writes word stamps middles ticks whole =
       let own = h.own k a at in
       let every : all_stamps a' ≡ all_stamps a = λ i. stamps i ++ middles i in
-      let few = own.ticks in let len = ap length every in let limit = own.limit in
-      changes n b h k a at a' (viewer same writes word (subst Rising (sym stamps) own.rising) (omega arith) (omega arith) whole) (below_quiet n b h k a at a' (every, ticks)) (apart_quiet n b h k a at a' (every, ticks))
+      let few = own.ticks in let len = ap length every in
+      changes n b h k a at a' (viewer same writes word (subst Rising (sym stamps) own.rising) (omega arith) whole) (below_quiet n b h k a at a' (every, ticks)) (apart_quiet n b h k a at a' (every, ticks))
       all.0 (same_stores n b h k a at a' writes word) all.1 all.2
 
 abbrev pub middle : Mark → ℕ
@@ -146,8 +145,8 @@ looks_after rs r v m = ⊎_elim
 
 module _ (n : ℕ) (b : List Account) (h : Core n b) (k d : ℕ) (rs : List Answered) (t : ℕ) where
   -- kind 4: begin tick of a view or a scan
-  pub begins_view : get_elem? b k ≡ some (acct d rs Idle t) → t + 1 ≤ tick_limit → Core n (set b k (acct d rs (Viewing (clock b) []) (t + 1)))
-  begins_view at room =
+  pub begins_view : get_elem? b k ≡ some (acct d rs Idle t) → Core n (set b k (acct d rs (Viewing (clock b) []) (t + 1)))
+  begins_view at =
       let a = acct d rs Idle t in
       let a' = acct d rs (Viewing (clock b) []) (t + 1) in
       let v1 : ViewRecord = view_record (clock b) 0 false [] in
@@ -156,7 +155,7 @@ module _ (n : ℕ) (b : List Account) (h : Core n b) (k d : ℕ) (rs : List Answ
       (λ q. inl (mem_left (view_records_in rs) [] v q))
       (λ q. let e = mem_one v v1 q in inr (ap (λ (u : ViewRecord). u.over) (sym e), ap (λ (u : ViewRecord). u.shown) (sym e)))
       (mem_split (view_records_in rs) (v1 ∷ []) v m) in
-      tick_step n b h k a at a' (empties n b h k a at a' cases) refl refl refl ticks room (still_whole n b h k a at a' (λ v. (v.over ≡ false) × (v.shown ≡ [])) (λ v x. x.0) cases)
+      tick_step n b h k a at a' (empties n b h k a at a' cases) refl refl refl ticks (still_whole n b h k a at a' (λ v. (v.over ≡ false) × (v.shown ≡ [])) (λ v x. x.0) cases)
 
   -- kind 5: a load of a collect, or of the first collect of a scan
   pub reads : (b0 : ℕ) (xs : List (ℕ × ℕ)) (c0 : Account) → get_elem? b k ≡ some (acct d rs (Viewing b0 xs) t) → get_elem? b (length xs) ≡ some c0
@@ -175,9 +174,9 @@ module _ (n : ℕ) (b : List Account) (h : Core n b) (k d : ℕ) (rs : List Answ
       quiet_step n b h k a at a' (reads_one n b h k a at a' c0 cases) refl refl refl refl refl refl (still_whole n b h k a at a' New (λ v x. ap (λ (u : ViewRecord). u.over) x.4) cases)
 
   -- kind 6: end tick of a collect that has read every component
-  pub ends_view : (b0 : ℕ) (xs : List (ℕ × ℕ)) → get_elem? b k ≡ some (acct d rs (Viewing b0 xs) t) → length xs ≡ n → t + 1 ≤ tick_limit
+  pub ends_view : (b0 : ℕ) (xs : List (ℕ × ℕ)) → get_elem? b k ≡ some (acct d rs (Viewing b0 xs) t) → length xs ≡ n
       → Core n (set b k (acct d (rs ++ rec b0 (clock b) (Viewed xs) ∷ []) Idle (t + 1)))
-  ends_view b0 xs at all room =
+  ends_view b0 xs at all =
       let a = acct d rs (Viewing b0 xs) t in
       let last = rec b0 (clock b) (Viewed xs) in
       let a' = acct d (rs ++ last ∷ []) Idle (t + 1) in
@@ -193,12 +192,12 @@ module _ (n : ℕ) (b : List Account) (h : Core n b) (k d : ℕ) (rs : List Answ
       (sym (append-nil (middles_of a))) (ap (map middle) marks') refl in
       let writes' : writes_of a ≡ writes_of a' = sym (append-nil (writes_in (rs ++ last ∷ [])) ∙ writes_in-append rs (last ∷ [])) in
       let word' : in_word a ≡ in_word a' = sym (latest-push (0, 0) rs last) in
-      tick_step n b h k a at a' (closes n b h k a at a' cases) refl writes' word' ticks room (closed_whole n b h k a at a' cases)
+      tick_step n b h k a at a' (closes n b h k a at a' cases) refl writes' word' ticks (closed_whole n b h k a at a' cases)
 
   -- kind 9: a middle tick, after the first collect
-  pub middles_first : (b0 : ℕ) (xs : List (ℕ × ℕ)) → get_elem? b k ≡ some (acct d rs (Viewing b0 xs) t) → t + 1 ≤ tick_limit
+  pub middles_first : (b0 : ℕ) (xs : List (ℕ × ℕ)) → get_elem? b k ≡ some (acct d rs (Viewing b0 xs) t)
       → Core n (set b k (acct d rs (Scanning (scan b0 xs (clock b ∷ []) (clock b) xs [])) (t + 1)))
-  middles_first b0 xs at room =
+  middles_first b0 xs at =
       let a = acct d rs (Viewing b0 xs) t in
       let s' = scan b0 xs (clock b ∷ []) (clock b) xs [] in
       let a' = acct d rs (Scanning s') (t + 1) in
@@ -216,11 +215,11 @@ module _ (n : ℕ) (b : List Account) (h : Core n b) (k d : ℕ) (rs : List Answ
       q)
       (mem_split (view_records_in rs) (open_view_records (Scanning s')) v m) in
       let ticks = middle_tick n b h k a at a' (map middle (marks_in rs)) [] refl (map-append middle (marks_in rs) []) (map-append middle (marks_in rs) (open_marks (Scanning s'))) refl in
-      tick_step n b h k a at a' (empties n b h k a at a' cases) refl refl refl ticks room (still_whole n b h k a at a' (λ v. (v.over ≡ false) × (v.shown ≡ [])) (λ v x. x.0) cases)
+      tick_step n b h k a at a' (empties n b h k a at a' cases) refl refl refl ticks (still_whole n b h k a at a' (λ v. (v.over ≡ false) × (v.shown ≡ [])) (λ v x. x.0) cases)
 
   -- kind 9: a middle tick, after a later collect, which becomes the one before it
-  pub middles : (s : Scan) → get_elem? b k ≡ some (acct d rs (Scanning s) t) → t + 1 ≤ tick_limit → Core n (set b k (acct d rs (Scanning (scan s.begun s.first (s.middles ++ clock b ∷ []) (clock b) s.since [])) (t + 1)))
-  middles s at room =
+  pub middles : (s : Scan) → get_elem? b k ≡ some (acct d rs (Scanning s) t) → Core n (set b k (acct d rs (Scanning (scan s.begun s.first (s.middles ++ clock b ∷ []) (clock b) s.since [])) (t + 1)))
+  middles s at =
       let a = acct d rs (Scanning s) t in
       let s' = scan s.begun s.first (s.middles ++ clock b ∷ []) (clock b) s.since [] in
       let a' = acct d rs (Scanning s') (t + 1) in
@@ -236,7 +235,7 @@ module _ (n : ℕ) (b : List Account) (h : Core n b) (k d : ℕ) (rs : List Answ
       q)
       (mem_split (view_records_in rs) (open_view_records (Scanning s')) v m) in
       let ticks = middle_tick n b h k a at a' (map middle (marks_in rs)) (s.middle ∷ []) refl (map-append middle (marks_in rs) (open_marks (Scanning s))) (map-append middle (marks_in rs) (open_marks (Scanning s'))) refl in
-      tick_step n b h k a at a' (empties n b h k a at a' cases) refl refl refl ticks room (still_whole n b h k a at a' (λ v. (v.over ≡ false) × (v.shown ≡ [])) (λ v x. x.0) cases)
+      tick_step n b h k a at a' (empties n b h k a at a' cases) refl refl refl ticks (still_whole n b h k a at a' (λ v. (v.over ≡ false) × (v.shown ≡ [])) (λ v x. x.0) cases)
 
   -- kind 10: a load of a later collect of a scan
   pub reads_again : (s : Scan) (c0 : Account) → get_elem? b k ≡ some (acct d rs (Scanning s) t) → get_elem? b (length s.since) ≡ some c0
@@ -262,9 +261,9 @@ module _ (n : ℕ) (b : List Account) (h : Core n b) (k d : ℕ) (rs : List Answ
       (map-append middle (marks_in rs) (open_marks (Scanning s')) ∙ sym (map-append middle (marks_in rs) (open_marks (Scanning s)))) refl (still_whole n b h k a at a' New (λ v x. ap (λ (u : ViewRecord). u.over) x.4) cases)
 
   -- kind 6: end tick of a scan that has read every component
-  pub ends_scan : (s : Scan) → get_elem? b k ≡ some (acct d rs (Scanning s) t) → length s.since ≡ n → t + 1 ≤ tick_limit
+  pub ends_scan : (s : Scan) → get_elem? b k ≡ some (acct d rs (Scanning s) t) → length s.since ≡ n
       → Core n (set b k (acct d (rs ++ rec_scan s (clock b) (Scanned s.middle s.since) ∷ []) Idle (t + 1)))
-  ends_scan s at all room =
+  ends_scan s at all =
       let a = acct d rs (Scanning s) t in
       let last = rec_scan s (clock b) (Scanned s.middle s.since) in
       let a' = acct d (rs ++ last ∷ []) Idle (t + 1) in
@@ -281,12 +280,12 @@ module _ (n : ℕ) (b : List Account) (h : Core n b) (k d : ℕ) (rs : List Answ
       (sym (append-nil (middles_of a))) middles' refl in
       let writes' : writes_of a ≡ writes_of a' = sym (append-nil (writes_in (rs ++ last ∷ [])) ∙ writes_in-append rs (last ∷ [])) in
       let word' : in_word a ≡ in_word a' = sym (latest-push (0, 0) rs last) in
-      tick_step n b h k a at a' (closes n b h k a at a' cases) refl writes' word' ticks room (closed_whole n b h k a at a' cases)
+      tick_step n b h k a at a' (closes n b h k a at a' cases) refl writes' word' ticks (closed_whole n b h k a at a' cases)
 
   -- kind 11: closing tick of a scan whose collects are whole
-  pub gives_up : (s : Scan) → get_elem? b k ≡ some (acct d rs (Scanning s) t) → length s.first ≡ n → length s.since ≡ n → t + 1 ≤ tick_limit
+  pub gives_up : (s : Scan) → get_elem? b k ≡ some (acct d rs (Scanning s) t) → length s.first ≡ n → length s.since ≡ n
       → Core n (set b k (acct d (rs ++ rec_scan s (clock b) (Interfered (length s.middles) s.first s.since) ∷ []) Idle (t + 1)))
-  gives_up s at first_all all room =
+  gives_up s at first_all all =
       let a = acct d rs (Scanning s) t in
       let last = rec_scan s (clock b) (Interfered (length s.middles) s.first s.since) in
       let a' = acct d (rs ++ last ∷ []) Idle (t + 1) in
@@ -304,4 +303,4 @@ module _ (n : ℕ) (b : List Account) (h : Core n b) (k d : ℕ) (rs : List Answ
       (map-append middle (marks_in rs) (open_marks (Scanning s))) (ap (map middle) marks') refl in
       let writes' : writes_of a ≡ writes_of a' = sym (append-nil (writes_in (rs ++ last ∷ [])) ∙ writes_in-append rs (last ∷ [])) in
       let word' : in_word a ≡ in_word a' = sym (latest-push (0, 0) rs last) in
-      tick_step n b h k a at a' (closes n b h k a at a' cases) refl writes' word' ticks room (closed_whole n b h k a at a' cases)
+      tick_step n b h k a at a' (closes n b h k a at a' cases) refl writes' word' ticks (closed_whole n b h k a at a' cases)

@@ -7,7 +7,7 @@ use Rattle.snap_account.specs.declared.account.Answered.{Answered}
 use Rattle.snap_account.specs.declared.account.Answer.TheVariants.{Stored}
 use Rattle.snap_account.specs.declared.account.Doing.TheVariants.{Idle, Begun, Written}
 use Rattle.snap_account.specs.Calls.{Mem, Write, ViewRecord, Mark, write, writes_in, view_records_in, stamps_in, marks_in, writes_of, view_records_of, marks_of, middles_of, latest, in_word}
-use Rattle.snap_account.specs.Rule.{tick_limit, Core, clock, Numbered}
+use Rattle.snap_account.specs.Rule.{Core, clock, Numbered}
 use Rattle.snap_account.proofs.Lists.{mem_split, mem_left, mem_right, mem_one, numbered_push}
 use Rattle.snap_account.proofs.Accounts.{acct, rec, writes_in-append, view_records_in-append, stamps_in-append, marks_in-append, latest-push}
 use Rattle.snap_account.proofs.Core.{clock_ticked, below_ticked, below_quiet, apart_ticked, apart_quiet, changes, same_views, same_stores}
@@ -22,8 +22,8 @@ off e = true≢false (sym e)
 
 module _ (n : ℕ) (b : List Account) (h : Core n b) (k d : ℕ) (rs : List Answered) (t : ℕ) where
   -- kind 1: begin tick of a store
-  pub begins_store : get_elem? b k ≡ some (acct d rs Idle t) → t + 1 ≤ tick_limit → Core n (set b k (acct d rs (Begun (clock b)) (t + 1)))
-  begins_store at room =
+  pub begins_store : get_elem? b k ≡ some (acct d rs Idle t) → Core n (set b k (acct d rs (Begun (clock b)) (t + 1)))
+  begins_store at =
       let a = acct d rs Idle t in
       let a' = acct d rs (Begun (clock b)) (t + 1) in
       let own = h.own k a at in
@@ -35,7 +35,6 @@ module _ (n : ℕ) (b : List Account) (h : Core n b) (k d : ℕ) (rs : List Answ
         desk = own.desk;
         rising = ticks.2;
         ticks = ticks.1;
-        limit = room;
         numbered = own.numbered;
         count = own.count;
         small = own.small;
@@ -64,7 +63,6 @@ module _ (n : ℕ) (b : List Account) (h : Core n b) (k d : ℕ) (rs : List Answ
         desk = own.desk;
         rising = own.rising;
         ticks = own.ticks;
-        limit = own.limit;
         numbered = numbered_push 1 (writes_in rs) w (subst (Numbered 1) none own.numbered) (omega arith);
         count = let l = length-append (writes_in rs) (w ∷ []) in omega arith;
         small = fits;
@@ -87,9 +85,9 @@ module _ (n : ℕ) (b : List Account) (h : Core n b) (k d : ℕ) (rs : List Answ
       same.2
 
   -- kind 3: end tick of a store
-  pub ends_store : (b0 m v : ℕ) → get_elem? b k ≡ some (acct d rs (Written b0 m v) t) → t + 1 ≤ tick_limit
+  pub ends_store : (b0 m v : ℕ) → get_elem? b k ≡ some (acct d rs (Written b0 m v) t)
       → Core n (set b k (acct d (rs ++ rec b0 (clock b) (Stored m v) ∷ []) Idle (t + 1)))
-  ends_store b0 m v at room =
+  ends_store b0 m v at =
       let a = acct d rs (Written b0 m v) t in
       let last = rec b0 (clock b) (Stored m v) in
       let a' = acct d (rs ++ last ∷ []) Idle (t + 1) in
@@ -110,7 +108,6 @@ module _ (n : ℕ) (b : List Account) (h : Core n b) (k d : ℕ) (rs : List Answ
         desk = own.desk;
         rising = ticks.2;
         ticks = ticks.1;
-        limit = room;
         numbered = subst (Numbered 1) (sym writes') (numbered_swap 1 (writes_in rs) w w' refl own.numbered);
         count = let l = ap length writes' in let l1 = length-append (writes_in rs) (w' ∷ []) in let l2 = length-append (writes_in rs) (w ∷ []) in let c = own.count in let e = ap (λ (q : ℕ × ℕ). q.0) word' in omega arith;
         small = let e = ap (λ (q : ℕ × ℕ). q.1) word' in let s = own.small in omega arith;

@@ -7,7 +7,8 @@ use Rattle.snap_account.specs.declared.account.Answered.{Answered}
 use Rattle.snap_account.specs.declared.account.Doing.{Doing}
 use Rattle.snap_account.specs.declared.account.Doing.TheVariants.{Idle, Begun, Written, Viewing, Scanning}
 use Rattle.snap_account.specs.Calls.{middle_open, middled}
-use Rattle.snap_account.specs.Rule.{tick_limit, Boarded, first_step}
+use Rattle.snap_account.specs.Rule.{Boarded, first_step}
+use Rattle.snap_account.specs.Limits.{tick_cap}
 use Rattle.snap_account.specs.Plays.{Seated, entry_of, HasRead, Middles}
 use Rattle.snap_account.specs.Seats.{showing, has_read, one_desk, pairs, doing_of, desk_of, answered_of, ticks_of, begun_of, begun_in}
 use Rattle.snap_account.specs.Tries.{IsRead, IsTrying, HasAgreed, made_in, made_of}
@@ -26,13 +27,13 @@ pairs_same (w ∷ ws) (v ∷ vs) e =
     let a = ap (λ (p : ℕ × ℕ). p.0) first in let b = ap (λ (p : ℕ × ℕ). p.1) first in
     let same : w ≡ v = omega arith in let more = pairs_same ws vs rest in λ i. same i ∷ more i
 
-pub ticks_trying : (n slots id : ℕ) (me : Seated) (d : ℕ) (rs : List Answered) (t : ℕ) → n ≤ 8 → (o : Doing) (xs : List (ℕ × ℕ)) → me.0 ≡ acct d rs o t ∷ [] → IsTrying n d rs xs o → length xs ≡ n → t + 1 ≤ tick_limit
-    → Allows (Boarded n) slots id me 0 (λ z. (z + 1) % 2 ^ 64) (Middles (step slots 0 1 0 none) me)
-ticks_trying n slots id me d rs t few Idle xs is try all room = absurd try
-ticks_trying n slots id me d rs t few (Begun b) xs is try all room = absurd try
-ticks_trying n slots id me d rs t few (Written b m v) xs is try all room = absurd try
-ticks_trying n slots id me d rs t few (Viewing b ys) xs is try all room = middles_first_as n slots id me d rs t few b ys is (ap length try ∙ all) room
-ticks_trying n slots id me d rs t few (Scanning s) xs is try all room = middles_as n slots id me d rs t few s is (ap length try.0 ∙ all) (λ same. try.1 (same ∙ try.0)) room
+pub ticks_trying : (n l slots id : ℕ) (me : Seated) (d : ℕ) (rs : List Answered) (t : ℕ) → n ≤ 8 → l ≤ tick_cap → (o : Doing) (xs : List (ℕ × ℕ)) → me.0 ≡ acct d rs o t ∷ [] → IsTrying n d rs xs o → length xs ≡ n → t + 1 ≤ l
+    → Allows (Boarded n l) slots id me 0 (λ z. (z + 1) % 2 ^ 64) (Middles (step slots 0 1 0 none) me)
+ticks_trying n l slots id me d rs t few low Idle xs is try all room = absurd try
+ticks_trying n l slots id me d rs t few low (Begun b) xs is try all room = absurd try
+ticks_trying n l slots id me d rs t few low (Written b m v) xs is try all room = absurd try
+ticks_trying n l slots id me d rs t few low (Viewing b ys) xs is try all room = middles_first_as n l slots id me d rs t few low b ys is (ap length try ∙ all) room
+ticks_trying n l slots id me d rs t few low (Scanning s) xs is try all room = middles_as n l slots id me d rs t few low s is (ap length try.0 ∙ all) (λ same. try.1 (same ∙ try.0)) room
 
 pub reads_next : (n d : ℕ) (rs : List Answered) (xs : List (ℕ × ℕ)) (t : ℕ) (o : Doing) → IsTrying n d rs xs o → HasRead (middle_open t o) []
 reads_next n d rs xs t Idle try = absurd try

@@ -5,15 +5,10 @@ use lib.ListN.{get_elem?}
 use Rattle.atomic_table.specs.Table.{State}
 use Rattle.snap_account.specs.declared.account.Account.{Account}
 use Rattle.snap_account.specs.declared.account.Doing.TheVariants.{Idle}
-use Rattle.snap_account.specs.declared.rule.TheConstants.{TICK_LIMIT}
 use Rattle.snap_core.specs.Sums.{total, one_if, times, once_below}
 use Rattle.snap_account.specs.Marks.{Marked}
 use Rattle.snap_account.specs.Drawn.{drawn}
 use Rattle.snap_account.specs.Calls.{Mem, Write, ViewRecord, writes_of, view_records_of, stamps_of, all_stamps, in_word}
-
--- how many ticks a desk may draw
-abbrev pub tick_limit : ℕ
-tick_limit = TICK_LIMIT
 
 -- strictly rising
 abbrev pub Rising : List ℕ → Type 0
@@ -31,7 +26,6 @@ pub record Own (n k : ℕ) (a : Account) : Type 0 where
   pub desk : a.desk ≡ k
   pub rising : Rising (stamps_of a)
   pub ticks : length (all_stamps a) ≤ a.ticks
-  pub limit : a.ticks ≤ tick_limit
   pub numbered : Numbered 1 (writes_of a)
   pub count : length (writes_of a) ≡ (in_word a).0
   pub small : (in_word a).1 < 4294967296
@@ -88,14 +82,15 @@ pub record Held (n : ℕ) (views : List (List Account)) (b : List Account) : Typ
   pub fits : (seat : ℕ) (v : List Account) → get_elem? views seat ≡ some v → (a : Account) → Mem a v → get_elem? b a.desk ≡ some a
   pub once : (d : ℕ) → total (of_desk d) views ≡ once_below d n
 
--- the rule: the accounts that the seats hold, and the words that go with them
-pub record Boarded (n : ℕ) (s : State (Unit {0}) (List Account)) : Type 0 where
+-- the rule of a board of n desks that may draw so many ticks each: the accounts that the seats hold, and the words that go with them
+pub record Boarded (n most : ℕ) (s : State (Unit {0}) (List Account)) : Type 0 where
   pub accounts : List Account
   pub words : s.words ≡ words_of accounts
   pub held : Held n s.views accounts
   pub core : Core n accounts
   pub scans : Marked n accounts
   pub ticks : Ticked accounts
+  pub limit : (k : ℕ) (a : Account) → get_elem? accounts k ≡ some a → a.ticks ≤ most
 
 abbrev pub newcomer : ℕ → Account
 newcomer d = record { desk = d; calls = []; doing = Idle; ticks = 0 }

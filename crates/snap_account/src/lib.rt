@@ -3,10 +3,12 @@
 #![tactic(auto)]
 
 mod account;
+mod limit;
 mod rule;
 
 pub use account::{Account, Accounts, Answer, Answered, Doing, Scan};
+pub use limit::{TICK_CAP, TICK_LIMIT, TickLimit};
 pub use rule::{
     BeginStore, BeginView, BoardRule, ComeIn, EndCall, GiveUp, GoOut, LookOver, MiddleTick,
-    ReadWord, Size, TICK_LIMIT, WriteWord,
+    ReadWord, Size, WriteWord,
 };

@@ -1,14 +1,13 @@
 //! The rule of the board's table, and the kinds of step on its words.
 use crate::account::Accounts;
+use crate::limit::TickLimit;
 use atomic_table::{Join, Play, Split, TableRule};
 
-/// How many ticks a desk may draw.
-pub const TICK_LIMIT: u32 = 4_194_304;
-
-/// How many desks a board has.
+/// How many desks a board has, and how many ticks each may draw.
 #[derive(Clone, Copy)]
 pub struct Size {
     pub desks: u8,
+    pub limit: TickLimit,
 }
 
 /// What holds between any two steps on the board's words.
@@ -17,7 +16,7 @@ pub struct BoardRule;
 impl TableRule<(), Accounts, Size> for BoardRule {
     ghost use Rattle.snap_account.specs.Rule.{Boarded, newcomers};
 
-    ghost holds = { λ k s. Boarded k.desks s };
+    ghost holds = { λ k s. Boarded k.desks k.limit.ticks s };
 
     ghost first = { λ k. newcomers k.desks };
 }

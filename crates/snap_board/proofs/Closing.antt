@@ -1,5 +1,5 @@
 -- A board whose desks are all in is settled, and a board that is opened keeps the rule.
-use Rattle.std.proofs.Common.{◌≡◌, ℕ, zero, suc, ◌+◌, ◌<◌, ◌==◌, true, true≢false, List, [], ◌∷◌, ◌++◌, length, map, take, drop, replicate, Option, Some, None, IsSome, sym, refl, ap, ◌∙◌, subst, inl, inr, ⊎_elim, arith, append-nil, take_all}
+use Rattle.std.proofs.Common.{◌≡◌, ℕ, zero, suc, ◌+◌, ◌*◌, ◌<◌, ◌≤◌, ◌==◌, true, true≢false, List, [], ◌∷◌, ◌++◌, length, map, take, drop, replicate, Option, Some, None, IsSome, sym, refl, ap, ◌∙◌, subst, inl, inr, ⊎_elim, arith, append-nil, take_all}
 use mathlib.Core.Option.{some, some-injective, some-ne-none}
 use lib.ListN.{get_elem?}
 use Rattle.std.specs.Prelude.{slice_index_or}
@@ -22,6 +22,7 @@ use Rattle.snap_account.specs.Drawn.{drawn, drawn_in, drawn_open}
 use Rattle.snap_board.specs.Settled.{falling, Settled, ScansSettled, TicksSettled}
 use Rattle.snap_account.proofs.Lists.{mem_split, mem_left, mem_one}
 use Rattle.snap_account.proofs.Reading.{looks_over}
+use Rattle.snap_account.proofs.Seats.{clock_most}
 
 -- an idle account
 pub idle_doing : (o : Doing) → is_idle o ≡ true → o ≡ Idle
@@ -85,8 +86,8 @@ same_total : (f g : Account → ℕ) (l : List Account) → ((c : Account) → M
 same_total f g [] e = refl
 same_total f g (x ∷ l) e = let a = e x (inl refl) in let t = same_total f g l (λ c m. e c (inr m)) in omega arith
 
-pub settles : (n id : ℕ) (hand : List Account) (slots : List (Option DeskState)) (s : State (Unit {0}) (List Account)) → Boarded n s → get_elem? s.views id ≡ some hand → map brief hand ≡ desks_in n slots → AllIn n slots → Settled n hand
-settles n id hand slots s r at matches all =
+pub settles : (n l id : ℕ) (hand : List Account) (slots : List (Option DeskState)) (s : State (Unit {0}) (List Account)) → Boarded n l s → get_elem? s.views id ≡ some hand → map brief hand ≡ desks_in n slots → AllIn n slots → Settled n hand
+settles n l id hand slots s r at matches all =
     let b = r.accounts in let h = r.core in
     let fits : (a : Account) → Mem a hand → get_elem? b a.desk ≡ some a = λ a m. r.held.fits id hand at a m in
     let desks : map (λ (a : Account). a.desk) hand ≡ falling n = map_map hand ∙ ap (λ l. map (λ (x : Brief). x.desk) l) matches ∙ ins_all n slots all in
@@ -117,8 +118,8 @@ settles n id hand slots s r at matches all =
     }
 
 -- the ticks of a board whose desks are all in
-pub settles_ticks : (n id : ℕ) (hand : List Account) (slots : List (Option DeskState)) (s : State (Unit {0}) (List Account)) → Boarded n s → get_elem? s.views id ≡ some hand → map brief hand ≡ desks_in n slots → AllIn n slots → TicksSettled hand
-settles_ticks n id hand slots s r at matches all =
+pub settles_ticks : (n l id : ℕ) (hand : List Account) (slots : List (Option DeskState)) (s : State (Unit {0}) (List Account)) → Boarded n l s → get_elem? s.views id ≡ some hand → map brief hand ≡ desks_in n slots → AllIn n slots → TicksSettled hand
+settles_ticks n l id hand slots s r at matches all =
     let b = r.accounts in
     let fits : (a : Account) → Mem a hand → get_elem? b a.desk ≡ some a = λ a m. r.held.fits id hand at a m in
     let desks : map (λ (a : Account). a.desk) hand ≡ falling n = map_map hand ∙ ap (λ l. map (λ (x : Brief). x.desk) l) matches ∙ ins_all n slots all in
@@ -132,6 +133,15 @@ settles_ticks n id hand slots s r at matches all =
       rising = λ a m. subst Rising (same a m) (r.ticks.rising a.desk a (fits a m));
     }
 
+-- the clock of a board whose desks are all in
+pub settles_clock : (n l id : ℕ) (hand : List Account) (slots : List (Option DeskState)) (s : State (Unit {0}) (List Account)) → Boarded n l s → get_elem? s.views id ≡ some hand → map brief hand ≡ desks_in n slots → AllIn n slots → clock hand ≤ n * l
+settles_clock n l id hand slots s r at matches all =
+    let b = r.accounts in
+    let desks : map (λ (a : Account). a.desk) hand ≡ falling n = map_map hand ∙ ap (λ l. map (λ (x : Brief). x.desk) l) matches ∙ ins_all n slots all in
+    let whole : take n b ≡ b = take_all n b (omega (arith, r.core.size)) in
+    let same : clock hand ≡ clock b = total-hand (λ (c : Account). c.ticks) b hand n desks (λ a m. r.held.fits id hand at a m) ∙ ap (total (λ (c : Account). c.ticks)) whole in
+    subst (λ (z : ℕ). z ≤ n * l) (sym same) (clock_most n l s r)
+
 -- what a scan shows is what it read before its middle tick and after it
 marks_same : (rs : List Answered) (m : Mark) → Mem m (marks_in rs) → (m.before ≡ m.since) × (m.over ≡ true)
 marks_same [] m q = absurd q
@@ -143,8 +153,8 @@ marks_same (r ∷ rs) m q = ⊎_elim (λ x. one r.op x) (λ x. marks_same rs m x
     one (Scanned t xs) x = let e = mem_one m (mark r.begun t r.ended true xs xs) x in (ap (λ (z : Mark). z.before) (sym e) ∙ ap (λ (z : Mark). z.since) e, ap (λ (z : Mark). z.over) (sym e))
     one (Interfered n xs ys) x = absurd x
 
-pub settles_scans : (n id : ℕ) (hand : List Account) (s : State (Unit {0}) (List Account)) → Boarded n s → get_elem? s.views id ≡ some hand → ScansSettled hand
-settles_scans n id hand s r at =
+pub settles_scans : (n l id : ℕ) (hand : List Account) (s : State (Unit {0}) (List Account)) → Boarded n l s → get_elem? s.views id ≡ some hand → ScansSettled hand
+settles_scans n l id hand s r at =
     let g = r.scans in
     let fits : (a : Account) → Mem a hand → get_elem? r.accounts a.desk ≡ some a = λ a m. r.held.fits id hand at a m in
     let there : (a : Account) (m : Mark) → Mem m (marks_in a.calls) → Mem m (marks_of a) = λ a m q. mem_left (marks_in a.calls) (open_marks a.doing) m q in
@@ -196,7 +206,7 @@ rows_stamps x d zero = refl
 rows_stamps x d (suc n) = let r = rows_stamps x (suc d) n in omega arith
 
 new_own : (n k : ℕ) → Own n k (newcomer k)
-new_own n k = record { desk = refl; rising = tt; ticks = omega arith; limit = omega arith; numbered = tt; count = refl; small = omega arith; whole = λ v m. absurd m; ends = λ v m. absurd m }
+new_own n k = record { desk = refl; rising = tt; ticks = omega arith; numbered = tt; count = refl; small = omega arith; whole = λ v m. absurd m; ends = λ v m. absurd m }
 
 new_mem : (n : ℕ) (a : Account) → Mem a (newcomers n) → (k : ℕ) × (k < n) × (a ≡ newcomer k)
 new_mem zero a m = absurd m
@@ -213,8 +223,8 @@ unfolding rows_from
 rows_drawn x d zero = refl
 rows_drawn x d (suc n) = let r = rows_drawn x (suc d) n in omega arith
 
-pub begins : (n : ℕ) (words : List ℕ) → words ≡ replicate (suc n) 0 → Boarded n (opening words [] (newcomers n))
-begins n words is =
+pub begins : (n l : ℕ) (words : List ℕ) → words ≡ replicate (suc n) 0 → Boarded n l (opening words [] (newcomers n))
+begins n l words is =
     let b = rows_from 0 n in
     let new : (k : ℕ) (a : Account) → get_elem? b k ≡ some a → a ≡ newcomer k = λ k a e. rows_at 0 n k a e ∙ (let z : 0 + k ≡ k = omega arith in ap newcomer z) in
     record {
@@ -242,6 +252,7 @@ begins n words is =
         once = λ x. rows_drawn x 0 n ∙ sym (once_none x) ∙ ap (once_below x) (sym (rows_clock 0 n));
         rising = λ i a e. subst (λ (z : Account). Rising (drawn z)) (sym (new i a e)) tt;
       };
+      limit = λ i a e. subst (λ (z : Account). z.ticks ≤ l) (sym (new i a e)) (omega arith);
     }
   where
     counted : (d m : ℕ) → of_desk d (newcomers m) ≡ once_below d m

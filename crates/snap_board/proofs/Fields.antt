@@ -1,7 +1,9 @@
 -- The fields of a board and of its desks, beside what contracts see of them.
-use Rattle.std.proofs.Common.{◌≡◌, ◌∙◌, sym, ap, arith}
+use Rattle.std.proofs.Common.{◌≡◌, ◌≤◌, ◌∙◌, sym, ap, arith}
 use Rattle.snap_board.specs.Boards.{BoardView, DeskView, GatheredView}
 use Rattle.snap_board.specs.Desks.{IsDeskOf, IsGatheredOf}
+use Rattle.snap_account.specs.Limits.{tick_cap}
+use Rattle.snap_board.specs.inside.Fields.{IsBoard}
 use Rattle.snap_board.specs.Fields.{board_view, desk_view, gathered_view}
 use Rattle.snap_board.specs.declared.board.Board.TheInside as board
 use Rattle.snap_board.specs.declared.board.Desk.TheInside as desk
@@ -20,3 +22,7 @@ gathered_at b w g v at is of = (
   ap (λ (z : GatheredView). z.board) is ∙ of.0 ∙ sym (ap (λ (z : BoardView). z.board) at),
   ap (λ (z : GatheredView). z.desks) is ∙ of.1 ∙ sym (ap (λ (z : BoardView). z.desks) at),
 )
+
+-- the limit of the board's table
+pub limit_at : (b : board.Inside) (w : BoardView) → IsBoard b → board_view b ≡ w → (b.table.shared.key.limit.ticks ≡ w.limit) × (b.table.shared.key.limit.ticks ≤ tick_cap)
+limit_at b w ok at = (ok.limited ∙ ap (λ (z : BoardView). z.limit) at, b.table.shared.key.limit.fits.1)

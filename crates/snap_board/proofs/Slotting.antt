@@ -7,7 +7,8 @@ use Rattle.snap_account.specs.declared.account.Account.{Account}
 use Rattle.snap_account.specs.declared.account.Doing.TheVariants.{Idle}
 use Rattle.snap_board.specs.declared.desk_state.DeskState.{DeskState}
 use Rattle.snap_account.specs.Calls.{Mem, writes_in, latest}
-use Rattle.snap_account.specs.Rule.{tick_limit, newcomers, of_desk}
+use Rattle.snap_account.specs.Limits.{tick_cap}
+use Rattle.snap_account.specs.Rule.{newcomers, of_desk}
 use Rattle.snap_account.specs.Plays.{Seated, merge, insert, only_first, but_first}
 use Rattle.snap_account.specs.Seats.{Brief, brief, idle, answered_of}
 use Rattle.snap_board.specs.inside.Slots.{desks_in, slot_brief, brief_of, AreSmall, AllIn, NoneFrom, Fresh, no_calls, kept_entry, HasLast}
@@ -128,22 +129,22 @@ some_kept x y e = ap (of x) e
 pub smalls_fresh : (n : ℕ) (slots : List (Option DeskState)) → Fresh n slots → AreSmall slots
 smalls_fresh n slots fresh d k e = by (nat_lt d n) (sym (fresh d) ∙ e)
   where
-    by : (b : Bool) → cond b (Some no_calls) None ≡ Some k → (k.stores ≤ k.ticks) × (k.ticks ≤ tick_limit)
+    by : (b : Bool) → cond b (Some no_calls) None ≡ Some k → (k.stores ≤ k.ticks) × (k.ticks ≤ tick_cap)
     by true q = let is = some_kept no_calls k q in let a = ap (λ (z : DeskState). z.stores) is in let c = ap (λ (z : DeskState). z.ticks) is in (omega arith, omega arith)
     by false q = absurd (cc)
 
-pub smalls_put : (slots : List (Option DeskState)) (d : ℕ) (k : DeskState) → AreSmall slots → (k.stores ≤ k.ticks) × (k.ticks ≤ tick_limit) → d < length slots → AreSmall (set slots d (Some k))
+pub smalls_put : (slots : List (Option DeskState)) (d : ℕ) (k : DeskState) → AreSmall slots → (k.stores ≤ k.ticks) × (k.ticks ≤ tick_cap) → d < length slots → AreSmall (set slots d (Some k))
 smalls_put slots d k small mine lt j y e = at (ℕ_discrete j d)
   where
-    at : Dec (j ≡ d) → (y.stores ≤ y.ticks) × (y.ticks ≤ tick_limit)
+    at : Dec (j ≡ d) → (y.stores ≤ y.ticks) × (y.ticks ≤ tick_cap)
     at (yes q) = let is : k ≡ y = some_kept k y (sym (get_or-set_same slots d (Some k) None lt) ∙ ap (λ z. slice_index_or (set slots d (Some k)) z None) (sym q) ∙ e) in
-        subst (λ (z : DeskState). (z.stores ≤ z.ticks) × (z.ticks ≤ tick_limit)) is mine
+        subst (λ (z : DeskState). (z.stores ≤ z.ticks) × (z.ticks ≤ tick_cap)) is mine
     at (no ne) = small j y (sym (get_or-set_other slots d j (Some k) None ne) ∙ e)
 
 pub smalls_clear : (slots : List (Option DeskState)) (d : ℕ) → AreSmall slots → AreSmall (set slots d None)
 smalls_clear slots d small j y e = at (ℕ_discrete j d)
   where
-    at : Dec (j ≡ d) → (y.stores ≤ y.ticks) × (y.ticks ≤ tick_limit)
+    at : Dec (j ≡ d) → (y.stores ≤ y.ticks) × (y.ticks ≤ tick_cap)
     at (yes q) = absurd (none_some (sym (set_none slots d) ∙ ap (λ z. slice_index_or (set slots d None) z None) (sym q) ∙ e))
       where
         none_some : None ≡ Some y → ⊥

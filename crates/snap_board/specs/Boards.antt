@@ -5,10 +5,11 @@ use Rattle.snap_core.specs.declared.entry.Entry.{Entry}
 use Rattle.snap_account.specs.declared.account.Account.{Account}
 use Rattle.snap_account.specs.declared.account.Answered.{Answered}
 
--- a board, by its identity, and how many desks it has
+-- a board, by its identity, how many desks it has, and how many ticks each may draw
 pub record BoardView : Type 0 where
   pub board : TableId
   pub desks : ℕ
+  pub limit : ℕ
 
 -- a desk of the board with that identity: its number, its answered calls, and how many ticks it drew. It has no open call
 pub record DeskView : Type 0 where

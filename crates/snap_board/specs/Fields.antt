@@ -7,7 +7,7 @@ use Rattle.snap_board.specs.declared.board.Gathered.TheInside as gathered
 use Rattle.snap_board.specs.declared.board.Closed.TheInside as closed
 
 abbrev pub board_view : board.Inside → BoardView
-board_view b = record { board = b.table.shared.table_id; desks = b.desks }
+board_view b = record { board = b.table.shared.table_id; desks = b.desks; limit = b.limit.ticks }
 
 abbrev pub desk_view : desk.Inside → DeskView
 desk_view d = record { board = d.seat.table_id; desk = d.desk; calls = answered_of d.seat.me.0; ticks = d.kept.ticks }

@@ -1,6 +1,5 @@
 -- When a call is refused.
 use Rattle.std.specs.Prelude.{◌≡◌, ℕ, ◌+◌, ◌<◌, ◌≤◌, ◌⊎◌, ◌++◌, ◌∷◌, []}
-use Rattle.snap_account.specs.Rule.{tick_limit}
 use Rattle.snap_board.specs.declared.board.TheConstants.{DESK_LIMIT}
 use Rattle.snap_board.specs.declared.refusals.OpenRefusal.{OpenRefusal}
 use Rattle.snap_board.specs.declared.refusals.OpenRefusal.TheVariants as Opening
@@ -21,16 +20,16 @@ abbrev pub IsNotOpened : ℕ → OpenRefusal → Type 0
 IsNotOpened desks Opening.Desks = (desks ≡ 0) ⊎ (desk_limit < desks)
 IsNotOpened desks Opening.Memory = (0 < desks) × (desks ≤ desk_limit)
 
--- why a desk with so many ticks did not collect
-abbrev pub IsNotCollected : ℕ → CollectRefusal → Type 0
-IsNotCollected ticks Collecting.Spent = tick_limit < ticks + 2
-IsNotCollected ticks Collecting.Memory = ticks + 2 ≤ tick_limit
+-- why a desk with so many ticks, of those that it may draw at most, did not collect
+abbrev pub IsNotCollected : ℕ → ℕ → CollectRefusal → Type 0
+IsNotCollected most ticks Collecting.Spent = most < ticks + 2
+IsNotCollected most ticks Collecting.Memory = ticks + 2 ≤ most
 
--- why a desk with so many ticks has no record of a scan with so many tries
-abbrev pub IsNotScanned : ℕ → ℕ → ScanRefusal → Type 0
-IsNotScanned ticks tries Scanning.Spent = tick_limit < ticks + tries + 2
-IsNotScanned ticks tries Scanning.Memory = ticks + tries + 2 ≤ tick_limit
-IsNotScanned ticks tries Scanning.Interfered = ticks + tries + 2 ≤ tick_limit
+-- why a desk with so many ticks, of those that it may draw at most, has no record of a scan with so many tries
+abbrev pub IsNotScanned : ℕ → ℕ → ℕ → ScanRefusal → Type 0
+IsNotScanned most ticks tries Scanning.Spent = most < ticks + tries + 2
+IsNotScanned most ticks tries Scanning.Memory = ticks + tries + 2 ≤ most
+IsNotScanned most ticks tries Scanning.Interfered = ticks + tries + 2 ≤ most
 
 -- what a scan without a record leaves of its desk
 abbrev pub IsLeft : ℕ → DeskView → DeskView → ScanRefusal → Type 0

@@ -1,11 +1,12 @@
 //! Boards, the desks that are in and out, and what a closed board has left.
-ghost use Rattle.std.specs.Prelude.{◌≡◌, ◌+◌, ◌<◌, ◌≤◌, ◌↔◌, [], ◌∷◌, IfOk, IfErr, OnOk, OnErr, IsOk, IfNone, IfSome, length};
+ghost use Rattle.std.specs.Prelude.{◌≡◌, ◌+◌, ◌*◌, ◌<◌, ◌≤◌, ◌↔◌, [], ◌∷◌, IfOk, IfErr, OnOk, OnErr, IsOk, IfNone, IfSome, length};
 ghost use Rattle.snap_core.specs.Events.{IsHistory};
 ghost use Rattle.snap_core.specs.Calls.{calls_of};
 ghost use Rattle.snap_core.specs.Monotone.{IsMonotone};
 ghost use Rattle.snap_core.specs.Orders.{IsAtomic};
 ghost use Rattle.snap_core.specs.Regular.{IsRegular};
-ghost use Rattle.snap_account.specs.Rule.{newcomers};
+ghost use Rattle.snap_account.specs.Limits.{tick_limit};
+ghost use Rattle.snap_account.specs.Rule.{clock, newcomers};
 ghost use Rattle.snap_account.specs.Plays.{but_first, only_first, insert};
 ghost use Rattle.snap_board.specs.Desks.{account, accounts, IsDeskOf, IsGatheredOf};
 ghost use Rattle.snap_board.specs.History.{board_history, AllCompleted};
@@ -18,7 +19,7 @@ use crate::record::{Record, RecordedOp};
 use crate::refusals::OpenRefusal;
 use crate::slots::{all_in, fresh, highest, last_stores};
 use atomic_table::{Seat, Table};
-use snap_account::{Accounts, BoardRule, ComeIn, GoOut, LookOver, Size};
+use snap_account::{Accounts, BoardRule, ComeIn, GoOut, LookOver, Size, TickLimit};
 use snap_core::Entry;
 use std::alloc::{AllocError, Global};
 use std::marker::Model;
@@ -30,12 +31,24 @@ pub const DESK_LIMIT: usize = 8;
 // How many words a board has at most: the clock, and one for each desk.
 const WORD_LIMIT: usize = DESK_LIMIT + 1;
 
+// A tick times this has upper bits that show no pattern which the ticks of a desk's calls have.
+const SCATTER: u64 = 0x9E37_79B9_7F4A_7C15;
+
+// One of so many places, by a tick.
+fn drawn(tick: u64, places: u64) -> u64
+    requires { 0 < places }
+{
+    (tick.wrapping_mul(SCATTER) >> 32) % places
+}
+
 /// A board of atomic words: a clock, and one word for each desk's component.
 #[derive(Drop)]
 pub struct Board {
     pub(crate) table: Table<(), Accounts, Size, BoardRule, Global>,
     pub(crate) desks: u8,
-    // whether a desk gives up its turn before the last load of a collect
+    // how many ticks each desk may draw
+    pub(crate) limit: TickLimit,
+    // whether desks give up their turn within calls
     pauses: bool,
 }
 
@@ -53,10 +66,28 @@ impl Model for Board {
 }
 
 impl Board {
-    /// A board of 1 to `DESK_LIMIT` desks, which are all in. Desk d is process d and writes component d.
+    /// A board of 1 to `DESK_LIMIT` desks, which are all in. Desk d is process d and writes component d. Each desk may
+    /// draw `TICK_LIMIT` ticks.
     pub fn open(alloc: Global, desks: u8) -> Result<(Board, Gathered), OpenRefusal>
         ensures gathered { IfOk result (λ r. IsGatheredOf r.0 r.1) }
         ensures desks { IfOk result (λ r. r.0.desks ≡ desks) }
+        ensures limit { IfOk result (λ r. r.0.limit ≡ tick_limit) }
+        ensures range { OnOk result ((0 < desks) × (desks ≤ desk_limit)) }
+        ensures empty { IfOk result (λ r. accounts r.1 ≡ newcomers desks) }
+        ensures refused { IfErr result (IsNotOpened desks) }
+    {
+        Board::with_ticks(alloc, desks, TickLimit::usual())
+    }
+
+    /// A board as `open` gives it, whose desks may draw so many ticks each.
+    pub fn with_ticks(
+        alloc: Global,
+        desks: u8,
+        limit: TickLimit,
+    ) -> Result<(Board, Gathered), OpenRefusal>
+        ensures gathered { IfOk result (λ r. IsGatheredOf r.0 r.1) }
+        ensures desks { IfOk result (λ r. r.0.desks ≡ desks) }
+        ensures limit { IfOk result (λ r. r.0.limit ≡ limit.ticks) }
         ensures range { OnOk result ((0 < desks) × (desks ≤ desk_limit)) }
         ensures empty { IfOk result (λ r. accounts r.1 ≡ newcomers desks) }
         ensures refused { IfErr result (IsNotOpened desks) }
@@ -66,7 +97,8 @@ impl Board {
             return Err(OpenRefusal::Desks);
         }
         let words = [0u64; WORD_LIMIT];
-        let Ok((table, seat)) = Table::of_words(alloc, &words[..count + 1], &Size { desks }) else {
+        let Ok((table, seat)) = Table::of_words(alloc, &words[..count + 1], &Size { desks, limit })
+        else {
             return Err(OpenRefusal::Memory);
         };
         let slots = fresh(desks);
@@ -74,14 +106,16 @@ impl Board {
             Board {
                 table,
                 desks,
+                limit,
                 pauses: false,
             },
             Gathered { seat, desks, slots },
         ))
     }
 
-    /// The same board with pauses: a desk gives up its turn before the last load of each collect, so that the calls of
-    /// several threads overlap. It answers as a board without them may.
+    /// The same board with pauses: a desk gives up its turn before one load of each collect, and between the begin and the
+    /// write of some stores, so that the calls of several threads overlap. Which ones is drawn by the ticks. It answers as
+    /// a board without them may.
     pub fn with_pauses(mut self) -> Board
         ensures { result ≡ self }
     {
@@ -89,9 +123,11 @@ impl Board {
         self
     }
 
-    // Gives up the turn, where the board has pauses.
-    pub(crate) fn pause(&self) {
-        if self.pauses {
+    // Gives up the turn, where the board has pauses and the tick draws this one of so many places.
+    pub(crate) fn pause_at(&self, place: u8, places: u8, tick: u64)
+        requires { 0 < places }
+    {
+        if self.pauses && drawn(tick, u64::from(places)) == u64::from(place) {
             thread::yield_now();
         }
     }
@@ -147,14 +183,15 @@ impl Board {
     /// Ends the board where all its desks are in. The begins and ends of all records, in the order of their stamps, are
     /// then a regular and monotone history with no call pending, and those of the stores and scans alone are an atomic
     /// one. Each scan that was interfered with had at least as many stores of other desks beside it as it had tries. Each
-    /// tick of the board's clock, from 0 on, is a begin, a middle tick or an end of exactly one call. Where a desk is out
-    /// both come back unchanged.
+    /// tick of the board's clock, from 0 on, is a begin, a middle tick or an end of exactly one call, and no desk drew more
+    /// than it may. Where a desk is out both come back unchanged.
     pub fn close(self, gathered: Gathered) -> Result<Closed, (Board, Gathered)>
         requires { IsGatheredOf self gathered }
         ensures exact { IsOk result ↔ (length (accounts gathered) ≡ self.desks) }
         ensures settled { IsOk result → Settled self.desks (accounts gathered) }
         ensures scans { IsOk result → ScansSettled (accounts gathered) }
         ensures ticks { IsOk result → TicksSettled (accounts gathered) }
+        ensures clock { IsOk result → clock (accounts gathered) ≤ self.desks * self.limit }
         ensures history { IsOk result → IsHistory (board_history (accounts gathered)) }
         ensures completed { IsOk result → AllCompleted (calls_of (board_history (accounts gathered))) }
         ensures regular { IsOk result → IsRegular (calls_of (board_history (accounts gathered))) }
@@ -172,6 +209,7 @@ impl Board {
         let Board {
             table,
             desks: _,
+            limit: _,
             pauses: _,
         } = self;
         table.close_with(seat).free();

@@ -1,7 +1,7 @@
 //! The calls that make one pass over the words: store and collect.
-ghost use Rattle.std.specs.Prelude.{◌≡◌, ◌+◌, ◌<◌, ◌≤◌, [], ◌∷◌, ◌++◌, None, length, vec_capacity, IfOk, IfErr, OnOk, OnErr};
+ghost use Rattle.std.specs.Prelude.{◌≡◌, ◌+◌, ◌<◌, ◌≤◌, [], ◌∷◌, ◌++◌, ◌↔◌, IsTrue, None, length, vec_capacity, IfOk, IfErr, OnOk, OnErr};
 ghost use Rattle.snap_core.specs.Entries.{view_refusal, number_in};
-ghost use Rattle.snap_account.specs.Rule.{tick_limit};
+ghost use Rattle.snap_account.specs.Limits.{tick_cap};
 ghost use Rattle.snap_board.specs.Refusals.{IsNotCollected, desk_limit};
 ghost use Rattle.snap_board.specs.LastCall.{HasCalled, IsStore, IsCollect};
 ghost use Rattle.snap_board.specs.Desks.{records, ticks, collects, lost, IsDeskOf, listed, IsLater, last_stored, shown_by, IsNoOlder, ShowsOwnLast};
@@ -13,12 +13,15 @@ use crate::desk_state::DeskState;
 use crate::record::{Record, RecordedOp};
 use crate::refusals::{CollectRefusal, StoreRefusal};
 use atomic_table::Seat;
-use snap_account::{Accounts, BeginStore, BeginView, EndCall, ReadWord, TICK_LIMIT, WriteWord};
+use snap_account::{Accounts, BeginStore, BeginView, EndCall, ReadWord, WriteWord};
 use snap_core::{Entry, View};
 use std::alloc::Global;
 
 /// A component's word is the number times this, and the value.
 const NUMBER_UNIT: u64 = 4_294_967_296;
+
+// One of so many stores has a pause, where the board has pauses.
+const STORES_A_PAUSE: u8 = 8;
 
 // Lists the components whose words have a number.
 fn list_words(words: &Vec<u64>, entries: &mut Vec<Entry>)
@@ -55,13 +58,22 @@ pub(crate) fn view_of(words: &Vec<u64>, mut entries: Vec<Entry>) -> View
 }
 
 impl Board {
+    // Whether a desk with so many ticks may draw those of a call with so many tries: a begin, a middle tick for each try,
+    // and an end.
+    pub(crate) fn has_room(&self, ticks: u32, tries: u32) -> bool
+        ensures room { IsTrue result ↔ (ticks + tries + 2 ≤ self.now.limit) }
+        ensures small { IsTrue result → (ticks + tries + 2 ≤ tick_cap) }
+    {
+        u64::from(ticks) + u64::from(tries) + 2 <= u64::from(self.limit.ticks())
+    }
+
     /// Writes a value to the desk's component, in three steps: a begin tick, the store of the component's word, and an
-    /// end tick. It waits for nobody. After a refusal no step was made and the desk is unchanged.
+    /// end tick. It returns however other threads run. After a refusal no step was made and the desk is unchanged.
     pub fn store(&self, desk: &mut Desk, value: u32) -> Result<Record, StoreRefusal>
         requires { IsDeskOf self.now desk.old }
         ensures desk { IsDeskOf self.now desk.new × (desk.new.desk ≡ desk.old.desk) }
-        ensures room { OnOk result (ticks desk.old + 2 ≤ tick_limit) }
-        ensures spent { OnErr result (tick_limit < ticks desk.old + 2) }
+        ensures room { OnOk result (ticks desk.old + 2 ≤ self.now.limit) }
+        ensures spent { OnErr result (self.now.limit < ticks desk.old + 2) }
         ensures kept { OnErr result (desk.new ≡ desk.old) }
         ensures recorded { IfOk result (λ r. records desk.new ≡ records desk.old ++ r ∷ []) }
         ensures ticks { OnOk result (ticks desk.new ≡ ticks desk.old + 2) }
@@ -73,13 +85,14 @@ impl Board {
         ensures collects { collects desk.new ≡ collects desk.old }
         ensures lost { lost desk.new ≡ lost desk.old }
     {
-        if desk.kept.ticks > TICK_LIMIT - 2 {
+        if !self.has_room(desk.kept.ticks, 0) {
             return Err(StoreRefusal::Spent);
         }
         let shared = &self.table.shared;
         let begun = shared.fetch_add::<BeginStore>(&mut desk.seat, 0, 1);
         let number = desk.kept.stores + 1;
         let word = u64::from(number) * NUMBER_UNIT + u64::from(value);
+        self.pause_at(0, STORES_A_PAUSE, begun);
         shared.store::<WriteWord>(&mut desk.seat, usize::from(desk.desk) + 1, word);
         let ended = shared.fetch_add::<EndCall>(&mut desk.seat, 0, 1);
         desk.kept = DeskState {
@@ -95,8 +108,8 @@ impl Board {
         Ok(desk.answer(begun, ended, RecordedOp::Stored(entry)))
     }
 
-    // Loads the word of each component, from 0 on.
-    pub(crate) fn load_words(&self, seat: &mut Seat<(), Accounts>, words: &mut Vec<u64>)
+    // Loads the word of each component, from 0 on, with a pause before one of the loads, which the tick before them draws.
+    pub(crate) fn load_words(&self, seat: &mut Seat<(), Accounts>, words: &mut Vec<u64>, tick: u64)
         requires seat { seat.old.table_id ≡ self.now.board }
         requires ready { (seat.old.me ≡ has_read seat.old.me []) × HasRead (doing_of seat.old.me.0) [] }
         requires room { (words.old.items ≡ []) × (self.now.desks ≤ vec_capacity words.old) }
@@ -107,21 +120,19 @@ impl Board {
         ensures room { self.now.desks ≤ vec_capacity words.new }
     {
         'words: for k in 0..self.desks {
-            if k + 1 == self.desks {
-                self.pause();
-            }
+            self.pause_at(k, self.desks, tick);
             let word = self.table.shared.load::<ReadWord>(seat, usize::from(k) + 1);
             words.push_reserved(word);
         }
     }
 
-    /// Reads each component, from 0 on, between a begin tick and an end tick. It waits for nobody. Memory is taken
+    /// Reads each component, from 0 on, between a begin tick and an end tick. It returns however other threads run. Memory is taken
     /// before the first step. After a refusal no step was made and the desk is unchanged.
     pub fn collect(&self, alloc: Global, desk: &mut Desk) -> Result<Record, CollectRefusal>
         requires { IsDeskOf self.now desk.old }
         ensures desk { IsDeskOf self.now desk.new × (desk.new.desk ≡ desk.old.desk) }
-        ensures room { OnOk result (ticks desk.old + 2 ≤ tick_limit) }
-        ensures refused { IfErr result (IsNotCollected (ticks desk.old)) }
+        ensures room { OnOk result (ticks desk.old + 2 ≤ self.now.limit) }
+        ensures refused { IfErr result (IsNotCollected self.now.limit (ticks desk.old)) }
         ensures kept { OnErr result (desk.new ≡ desk.old) }
         ensures recorded { IfOk result (λ r. records desk.new ≡ records desk.old ++ r ∷ []) }
         ensures ticks { OnOk result (ticks desk.new ≡ ticks desk.old + 2) }
@@ -135,7 +146,7 @@ impl Board {
         ensures collects { OnOk result (collects desk.new ≡ collects desk.old + 1) }
         ensures lost { lost desk.new ≡ lost desk.old }
     {
-        if desk.kept.ticks > TICK_LIMIT - 2 {
+        if !self.has_room(desk.kept.ticks, 0) {
             return Err(CollectRefusal::Spent);
         }
         let Ok(mut words) = Vec::with_capacity(alloc, usize::from(self.desks)) else {
@@ -146,7 +157,7 @@ impl Board {
         };
         let shared = &self.table.shared;
         let begun = shared.fetch_add::<BeginView>(&mut desk.seat, 0, 1);
-        self.load_words(&mut desk.seat, &mut words);
+        self.load_words(&mut desk.seat, &mut words, begun);
         let ended = shared.fetch_add::<EndCall>(&mut desk.seat, 0, 1);
         desk.kept.ticks += 2;
         let view = view_of(&words, entries);

@@ -12,4 +12,4 @@ mod slots;
 pub use board::{Board, Closed, DESK_LIMIT, Desk, Gathered};
 pub use record::{Record, RecordedOp};
 pub use refusals::{CollectRefusal, OpenRefusal, ScanRefusal, StoreRefusal};
-pub use snap_account::TICK_LIMIT;
+pub use snap_account::{TICK_CAP, TICK_LIMIT, TickLimit};

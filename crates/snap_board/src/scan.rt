@@ -1,6 +1,5 @@
 //! Scans: collects that are tried again until two in a row read the same.
 ghost use Rattle.std.specs.Prelude.{◌≡◌, ◌≢◌, ◌↔◌, ◌+◌, ◌<◌, ◌≤◌, [], ◌∷◌, ◌++◌, length, vec_capacity, IfOk, IfErr, OnOk, OnErr, IsTrue, MatchOption, true, false};
-ghost use Rattle.snap_account.specs.Rule.{tick_limit};
 ghost use Rattle.snap_board.specs.Refusals.{IsNotScanned, IsLeft, IsNotInterfered};
 ghost use Rattle.snap_board.specs.LastCall.{HasCalled, IsRecordedScan};
 ghost use Rattle.snap_board.specs.Desks.{records, ticks, collects, lost, IsDeskOf, IsLater, shown_by, IsNoOlder, ShowsOwnLast};
@@ -12,7 +11,7 @@ use crate::calls::view_of;
 use crate::record::{Record, RecordedOp};
 use crate::refusals::ScanRefusal;
 use atomic_table::Seat;
-use snap_account::{Accounts, BeginView, EndCall, GiveUp, MiddleTick, TICK_LIMIT};
+use snap_account::{Accounts, BeginView, EndCall, GiveUp, MiddleTick};
 use std::alloc::Global;
 
 // Whether two collects read the same.
@@ -34,7 +33,7 @@ impl Board {
         requires trying { StillTries self.now.desks seat.old.me before.now.items seat.old.me }
         requires read { HasReadAll self.now.desks seat.old.me before.now.items }
         requires room { self.now.desks ≤ vec_capacity since.old }
-        requires ticks { ticks_of seat.old.me.0 + 1 ≤ tick_limit }
+        requires ticks { ticks_of seat.old.me.0 + 1 ≤ self.now.limit }
         ensures seat { (seat.new.table_id ≡ seat.old.table_id) × (seat.new.me ≡ one_desk seat.new.me) }
         ensures account { IsSameCall seat.old.me seat.new.me }
         ensures ticks { (ticks_of seat.new.me.0 ≡ ticks_of seat.old.me.0 + 1) × (made_of seat.new.me.0 ≡ made_of seat.old.me.0 + 1) }
@@ -43,9 +42,9 @@ impl Board {
         ensures trying { result ≡ false → StillTries self.now.desks seat.old.me since.new.items seat.new.me }
         ensures room { self.now.desks ≤ vec_capacity since.new }
     {
-        self.table.shared.fetch_add::<MiddleTick>(seat, 0, 1);
+        let tick = self.table.shared.fetch_add::<MiddleTick>(seat, 0, 1);
         since.clear();
-        self.load_words(seat, since);
+        self.load_words(seat, since, tick);
         are_equal(before, since)
     }
 
@@ -62,7 +61,7 @@ impl Board {
         requires trying { StillTries self.now.desks seat.old.me before.old.items seat.old.me }
         requires read { HasReadAll self.now.desks seat.old.me before.old.items }
         requires room { (self.now.desks ≤ vec_capacity before.old) × (self.now.desks ≤ vec_capacity since.old) }
-        requires ticks { ticks_of seat.old.me.0 + tries ≤ tick_limit }
+        requires ticks { ticks_of seat.old.me.0 + tries ≤ self.now.limit }
         ensures seat { (seat.new.table_id ≡ seat.old.table_id) × (seat.new.me ≡ one_desk seat.new.me) }
         ensures account { IsSameCall seat.old.me seat.new.me }
         ensures ticks { ticks_of seat.new.me.0 ≡ ticks_of seat.old.me.0 + made_of seat.new.me.0 }
@@ -80,15 +79,15 @@ impl Board {
     }
 
     /// Reads each component again and again, with a middle tick between two readings, until two in a row read the same,
-    /// and answers what they read. It makes at most `tries` middle ticks, and waits for nobody. Memory is taken before
+    /// and answers what they read. It makes at most `tries` middle ticks, and returns however other threads run. Memory is taken before
     /// the first step. After `Spent` and `Memory` no step was made and the desk is unchanged. After `Interfered` there is
     /// no record, and ticks were drawn.
     pub fn scan(&self, alloc: Global, desk: &mut Desk, tries: u32) -> Result<Record, ScanRefusal>
         requires desk { IsDeskOf self.now desk.old }
         requires tries { 0 < tries }
         ensures desk { IsDeskOf self.now desk.new × (desk.new.desk ≡ desk.old.desk) }
-        ensures room { OnOk result (ticks desk.old + tries + 2 ≤ tick_limit) }
-        ensures refused { IfErr result (IsNotScanned (ticks desk.old) tries) }
+        ensures room { OnOk result (ticks desk.old + tries + 2 ≤ self.now.limit) }
+        ensures refused { IfErr result (IsNotScanned self.now.limit (ticks desk.old) tries) }
         ensures left { IfErr result (IsLeft tries desk.old desk.new) }
         ensures recorded { IfOk result (λ r. records desk.new ≡ records desk.old ++ r ∷ []) }
         ensures ticks { OnOk result (ticks desk.old + 3 ≤ ticks desk.new) }
@@ -104,7 +103,7 @@ impl Board {
         ensures lost { OnOk result (lost desk.new ≡ lost desk.old) }
         ensures alone { self.now.desks ≡ 1 → IfErr result IsNotInterfered }
     {
-        if u64::from(desk.kept.ticks) + u64::from(tries) + 2 > u64::from(TICK_LIMIT) {
+        if !self.has_room(desk.kept.ticks, tries) {
             return Err(ScanRefusal::Spent);
         }
         let Ok(mut before) = Vec::with_capacity(alloc, usize::from(self.desks)) else {
@@ -118,7 +117,7 @@ impl Board {
         };
         let shared = &self.table.shared;
         let begun = shared.fetch_add::<BeginView>(&mut desk.seat, 0, 1);
-        self.load_words(&mut desk.seat, &mut before);
+        self.load_words(&mut desk.seat, &mut before, begun);
         let Some(made) = self.try_until(&mut desk.seat, &mut before, &mut since, tries) else {
             shared.fetch_add::<GiveUp>(&mut desk.seat, 0, 1);
             desk.kept.ticks += tries + 2;

@@ -4,6 +4,7 @@ ghost use Rattle.std.specs.Prelude.{◌≡◌, IfOk};
 
 use snap_board::{
     Board, Closed, CollectRefusal, Desk, Gathered, OpenRefusal, Record, RecordedOp, StoreRefusal,
+    TickLimit,
 };
 use snap_core::Entry;
 use snap_testing::entry;
@@ -28,6 +29,17 @@ fn opened(alloc: Global, desks: u8) -> Result<(Board, Gathered, Desk), Fail>
     ensures desk { IfOk result (λ r. IsDeskOf r.0 r.2) }
 {
     let (board, mut gathered) = Board::open(alloc, desks)?;
+    let desk = taken(alloc, &board, &mut gathered)?;
+    Ok((board, gathered, desk))
+}
+
+// A fresh board of one desk that may draw so many ticks, what it gathers, and its desk.
+fn opened_with(alloc: Global, ticks: u32) -> Result<(Board, Gathered, Desk), Fail>
+    ensures gathered { IfOk result (λ r. IsGatheredOf r.0 r.1) }
+    ensures desk { IfOk result (λ r. IsDeskOf r.0 r.2) }
+{
+    let limit = TickLimit::new(ticks).ok_or("no limit")?;
+    let (board, mut gathered) = Board::with_ticks(alloc, 1, limit)?;
     let desk = taken(alloc, &board, &mut gathered)?;
     Ok((board, gathered, desk))
 }
@@ -184,12 +196,12 @@ fn boards_have_one_to_eight_desks(rt: HostRuntime) -> Result<(), Fail> {
     Ok(())
 }
 
-// Stores 0 so often that a desk has no tick left.
-fn spend(rt: &impl Abort, board: &Board, desk: &mut Desk) -> Result<(), Fail>
+// Stores 0 so often, as the first calls of a desk.
+fn spend(rt: &impl Abort, board: &Board, desk: &mut Desk, stores: u32) -> Result<(), Fail>
     requires { IsDeskOf board.now desk.old }
     ensures { IsDeskOf board.now desk.new }
 {
-    'stores: for before in 0..2_097_152 {
+    'stores: for before in 0..stores {
         let stored = board.store(desk, 0)?;
         assert!(rt; is_store(&stored, entry(0, before + 1, 0)));
     }
@@ -208,9 +220,31 @@ fn expect_spent(rt: &impl Abort, alloc: Global, board: &Board, desk: &mut Desk)
 #[test]
 fn a_desk_is_spent_after_its_last_tick(rt: HostRuntime) -> Result<(), Fail> {
     let (board, gathered, mut desk) = opened(rt.alloc(), 1)?;
-    spend(&rt, &board, &mut desk)?;
+    spend(&rt, &board, &mut desk, 524_288)?;
     expect_spent(&rt, rt.alloc(), &board, &mut desk);
     let closed = closed_with(board, gathered, desk)?;
-    assert!(rt; closed.entry(0) == Some(entry(0, 2_097_152, 0)));
+    assert!(rt; closed.entry(0) == Some(entry(0, 524_288, 0)));
     Ok(())
+}
+
+#[test]
+fn a_desk_may_draw_as_many_ticks_as_its_board_says(rt: HostRuntime) -> Result<(), Fail> {
+    for (ticks, stores) in [(5, 2), (1_048_578, 524_289)] {
+        let (board, _gathered, mut desk) = opened_with(rt.alloc(), ticks)?;
+        spend(&rt, &board, &mut desk, stores)?;
+        expect_spent(&rt, rt.alloc(), &board, &mut desk);
+    }
+    Ok(())
+}
+
+#[test]
+fn a_limit_of_ticks_is_1_to_16777216(rt: HostRuntime) {
+    for (ticks, known) in [
+        (0, false),
+        (1, true),
+        (16_777_216, true),
+        (16_777_217, false),
+    ] {
+        assert!(rt; TickLimit::new(ticks).is_some() == known, "{ticks} ticks");
+    }
 }

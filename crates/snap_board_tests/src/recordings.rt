@@ -1,6 +1,8 @@
 //! Recordings of plans by workers.
-use snap_core::{Entry, Event, Gate, OpenGate};
-use snap_record::{Plan, PlanRefusal, Recording, Step, record_plan, rounds_plan};
+use snap_core::{Entry, Event, Gate, Limit, OpenGate};
+use snap_record::{
+    Plan, PlanRefusal, Recording, Step, record_plan, rounds_plan, rounds_plan_within,
+};
 use snap_testing::{Meeting, entry};
 use std::alloc::Global;
 use std::process::Abort;
@@ -76,19 +78,34 @@ fn plans_have_two_to_eight_lists(rt: HostRuntime) -> Result<(), Fail> {
 #[test]
 fn plans_have_steps_within_the_limit(rt: HostRuntime) -> Result<(), Fail> {
     let alloc = rt.alloc();
-    let long = two_lists(alloc, 262144, 262145)?;
+    let long = two_lists(alloc, 16384, 16385)?;
     assert!(rt; refusal(long) == Some(PlanRefusal::TooLong));
-    let full = two_lists(alloc, 262144, 262144)?;
+    let full = two_lists(alloc, 16384, 16384)?;
     assert!(rt; refusal(full).is_none());
+    Ok(())
+}
+
+/// Why lists are no plan by the greatest limit, or nothing where they are one.
+fn greatest_refusal(lists: Vec<Vec<Step>>) -> Option<PlanRefusal> {
+    Plan::with_limit(lists, Limit::greatest()).err()
+}
+
+#[test]
+fn plans_have_more_steps_by_the_greatest_limit(rt: HostRuntime) -> Result<(), Fail> {
+    let alloc = rt.alloc();
+    let long = two_lists(alloc, 262144, 262145)?;
+    assert!(rt; greatest_refusal(long) == Some(PlanRefusal::TooLong));
+    let full = two_lists(alloc, 262144, 262144)?;
+    assert!(rt; greatest_refusal(full).is_none());
     Ok(())
 }
 
 // The workers and rounds of plans, and why each is none.
 const ROUNDS: &[(u32, u32, Option<PlanRefusal>)] = &[
-    (2, 32768, None),
+    (2, 2048, None),
     (2, 0, Some(PlanRefusal::TooLong)),
-    (2, 32769, Some(PlanRefusal::TooLong)),
-    (8, 32768, None),
+    (2, 2049, Some(PlanRefusal::TooLong)),
+    (8, 2048, None),
     (8, 0, Some(PlanRefusal::TooLong)),
     (1, 0, Some(PlanRefusal::Workers)),
     (9, 0, Some(PlanRefusal::Workers)),
@@ -99,6 +116,14 @@ fn rounds_are_limited(rt: HostRuntime) {
     for &(workers, rounds, known) in ROUNDS {
         let found = rounds_plan(rt.alloc(), workers, rounds, false).err();
         assert!(rt; found == known, "{workers} workers in {rounds} rounds");
+    }
+}
+
+#[test]
+fn there_are_more_rounds_by_the_greatest_limit(rt: HostRuntime) {
+    for (rounds, known) in [(32768, None), (32769, Some(PlanRefusal::TooLong))] {
+        let plan = rounds_plan_within(rt.alloc(), 8, rounds, false, Limit::greatest());
+        assert!(rt; plan.err() == known, "{rounds} rounds");
     }
 }
 

@@ -12,13 +12,13 @@ use std::sync::Wait;
 use std::test::Fail;
 
 // A relay with its two senders and its taker.
-fn start_two(alloc: Global) -> Result<(Relay, Sender, Sender, Taker), AllocError>
+fn start_two<R: Wait>(rt: &R, alloc: Global) -> Result<(Relay, Sender, Sender, Taker), AllocError>
     ensures relay { IfOk result (λ r. r.0.workers ≡ 2) }
     ensures zero { IfOk result (λ r. IsSenderOf r.0 r.1 × (r.1.place ≡ 0)) }
     ensures one { IfOk result (λ r. IsSenderOf r.0 r.2 × (r.2.place ≡ 1)) }
     ensures taker { IfOk result (λ r. IsTakerOf r.0 r.3) }
 {
-    let (relay, mut senders, taker) = Relay::start(alloc, 2)?;
+    let (relay, mut senders, taker) = Relay::start(rt, alloc, 2)?;
     let Some(one) = senders.pop() else {
         unreachable!()
     };
@@ -241,7 +241,7 @@ fn unfinished<R: Wait>(
 #[test]
 fn records_come_with_their_stamps_and_entries(rt: HostRuntime) -> Result<(), Fail> {
     let alloc = rt.alloc();
-    let (relay, mut zero, mut one, mut taker) = start_two(alloc)?;
+    let (relay, mut zero, mut one, mut taker) = start_two(&rt, alloc)?;
     send_in_turn(&rt, alloc, &relay, &mut zero, &mut one)?;
     expect_in_turn(&rt, &relay, &mut taker)?;
     expect_end(&rt, alloc, relay, zero, one, taker)
@@ -250,7 +250,7 @@ fn records_come_with_their_stamps_and_entries(rt: HostRuntime) -> Result<(), Fai
 #[test]
 fn a_relay_ends_with_no_record_left(rt: HostRuntime) -> Result<(), Fail> {
     let alloc = rt.alloc();
-    let (relay, zero, mut one, taker) = start_two(alloc)?;
+    let (relay, zero, mut one, taker) = start_two(&rt, alloc)?;
     send(&rt, alloc, &relay, &mut one, stored_by(1));
     let both = vec![in alloc; zero, one]?;
     let (relay, both, mut taker) = unfinished(&rt, relay, both, taker)?;
@@ -263,7 +263,7 @@ fn a_relay_ends_with_no_record_left(rt: HostRuntime) -> Result<(), Fail> {
 #[test]
 fn a_fresh_relay_has_no_record(rt: HostRuntime) -> Result<(), Fail> {
     let alloc = rt.alloc();
-    let (relay, zero, mut one, mut taker) = start_two(alloc)?;
+    let (relay, zero, mut one, mut taker) = start_two(&rt, alloc)?;
     assert!(rt; relay.next(&rt, &mut taker).is_none());
     send(&rt, alloc, &relay, &mut one, stored_by(1));
     expect_next(&rt, &relay, &mut taker, 1)?;
@@ -273,7 +273,7 @@ fn a_fresh_relay_has_no_record(rt: HostRuntime) -> Result<(), Fail> {
 #[test]
 fn a_relay_ends_with_all_its_senders(rt: HostRuntime) -> Result<(), Fail> {
     let alloc = rt.alloc();
-    let (relay, zero, one, taker) = start_two(alloc)?;
+    let (relay, zero, one, taker) = start_two(&rt, alloc)?;
     let senders = vec![in alloc; zero]?;
     let (relay, mut senders, taker) = unfinished(&rt, relay, senders, taker)?;
     senders.push(one)?;
@@ -285,7 +285,7 @@ fn a_relay_ends_with_all_its_senders(rt: HostRuntime) -> Result<(), Fail> {
 fn a_relay_has_a_sender_for_each_worker(rt: HostRuntime) -> Result<(), Fail> {
     let alloc = rt.alloc();
     for workers in [1, 8] {
-        let (relay, senders, taker) = Relay::start(alloc, workers)?;
+        let (relay, senders, taker) = Relay::start(&rt, alloc, workers)?;
         assert_eq!(rt; senders.len(), usize::from(workers));
         assert!(rt; relay.finish(&rt, senders, taker).is_ok());
     }

@@ -2,13 +2,14 @@
 #![tactic(auto)]
 
 ghost use Rattle.std.specs.Prelude.{◌≡◌};
-ghost use Rattle.snap_c.specs.Answers.{IsChecked, IsCheckedFor, IsCheckedWithin};
+ghost use Rattle.snap_core.specs.Limits.{event_limit};
+ghost use Rattle.snap_c.specs.Answers.{IsChecked, IsCheckedFor};
 ghost use Rattle.snap_c.specs.declared.version.TheConstants.{VERSION as version};
 
 mod version;
 
 use snap_core::Limit;
-use snap_verdict::judge_text_within;
+use snap_verdict::judge_text;
 use std::alloc::Global;
 use version::VERSION;
 
@@ -22,16 +23,16 @@ const NO_ROOM: u32 = 5;
 const NO_LIMIT: u32 = 6;
 
 // Judges a text whose history may have so many events.
-fn check_within(
+fn check_text(
     alloc: Global,
     text: &[u8],
     limit: Limit,
     report: &mut [u8],
     length: &mut usize,
 ) -> u32
-    ensures { IsCheckedWithin limit.events text.now report.old report.new length.new result }
+    ensures { IsChecked limit.events text.now report.old report.new length.new result }
 {
-    match judge_text_within(alloc, text, limit) {
+    match judge_text(alloc, text, limit) {
         Ok((status, out)) => {
             let needed = out.len();
             *length = needed;
@@ -59,9 +60,9 @@ pub extern "C" fn snapjudge_check(
     report: &mut [u8],
     length: &mut usize,
 ) -> u32
-    ensures { IsChecked text.now report.old report.new length.new result }
+    ensures { IsChecked event_limit text.now report.old report.new length.new result }
 {
-    check_within(alloc, text, Limit::usual(), report, length)
+    check_text(alloc, text, Limit::usual(), report, length)
 }
 
 /// Judges a text as `snapjudge_check` does, where a history may have `events` events in place of 65,536, and its text 1,024 times
@@ -77,7 +78,7 @@ pub extern "C" fn snapjudge_check_limit(
     ensures { IsCheckedFor events text.now report.old report.new length.new result }
 {
     match Limit::new(events) {
-        Some(limit) => check_within(alloc, text, limit, report, length),
+        Some(limit) => check_text(alloc, text, limit, report, length),
         None => {
             *length = 0;
             NO_LIMIT

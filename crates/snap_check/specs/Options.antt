@@ -2,9 +2,9 @@
 use Rattle.std.specs.Prelude.{◌≡◌, ◌<◌, ◌≤◌, ◌⊎◌, ℕ, Bool, true, false, List, [], length, Option, Some, None}
 use Rattle.snap_core.specs.declared.event.Event.{Event}
 use Rattle.snap_core.specs.Calls.{calls_of, views_of}
-use Rattle.snap_format.specs.Texts.{IsTextWithin}
+use Rattle.snap_format.specs.Texts.{IsText}
 use Rattle.snap_verdict.specs.declared.status.Status.{Status}
-use Rattle.snap_verdict.specs.Reports.{IsRefusedWithin}
+use Rattle.snap_verdict.specs.Reports.{IsRefused}
 use Rattle.snap_verdict.specs.Verdicts.{IsBriefVerdict, IsVerdict}
 use Rattle.snap_check.specs.declared.options.CheckOptions.{CheckOptions}
 
@@ -21,12 +21,12 @@ IsVerdictWith options events None out = (length (views_of (calls_of events)) < o
 -- a text without a fault is a history, of at most as many events as the limit has
 pub record IsJudgedWith (options : CheckOptions) (text : List ℕ) (answer : Option Status) (out : List ℕ) : Type 0 where
   pub events : List Event
-  pub history : IsTextWithin options.limit.events text events
+  pub history : IsText options.limit.events text events
   pub verdict : IsVerdictWith options events answer out
 
 -- a text with a fault is refused as without options, but by the limit of events that is chosen
 abbrev pub IsRefusedWith : CheckOptions → List ℕ → Option Status → List ℕ → Type 0
-IsRefusedWith options text (Some status) out = IsRefusedWithin options.limit.events text status out
+IsRefusedWith options text (Some status) out = IsRefused options.limit.events text status out
 IsRefusedWith options text None out = ⊥
 
 abbrev pub IsReportWith : CheckOptions → List ℕ → Option Status → List ℕ → Type 0

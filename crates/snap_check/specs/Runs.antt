@@ -3,15 +3,16 @@ use Rattle.std.specs.Prelude.{ℕ, List, ◌≡◌, Option, IfSome, Result, Ok, 
 use Rattle.std.specs.Global.{Vec}
 use Rattle.std.specs.Io.KnownBytes.{Appends, Keeps}
 use Rattle.snap_core.specs.Counting.{Rose}
+use Rattle.snap_core.specs.Limits.{event_limit}
 use Rattle.snap_core.specs.Sending.{SendsFront}
-use Rattle.snap_format.specs.Texts.{IsTextWithin}
+use Rattle.snap_format.specs.Texts.{IsText}
 use Rattle.snap_check.specs.declared.fault.RunFault.{RunFault}
 use Rattle.snap_check.specs.declared.fault.RunFault.TheVariants as faults
 use Rattle.snap_check.specs.declared.reading.Reading.{Reading}
 use Rattle.snap_check.specs.declared.reading.Reading.TheVariants.{History, Refusal}
 use Rattle.snap_verdict.specs.declared.status.Status.{Status}
 use Rattle.snap_verdict.specs.declared.status.Status.TheVariants.{Refused}
-use Rattle.snap_verdict.specs.Reports.{IsRefusedWithin, IsReport}
+use Rattle.snap_verdict.specs.Reports.{IsRefused, IsReport}
 
 -- what a writer holds before and after a run, by what may go out with an answer
 
@@ -36,7 +37,7 @@ WroteBy Is known old new (Err fault) = FailedBy Is known old new fault
 
 -- the same of a check, by the report of the text
 abbrev pub Wrote : Option (List ℕ) → Option (List ℕ) → Option (List ℕ) → Result Status RunFault → Type 0
-Wrote = WroteBy IsReport
+Wrote = WroteBy (IsReport event_limit)
 
 -- the counts of failures before and after a run without a status
 abbrev pub FaultCounts : ℕ → ℕ → ℕ → ℕ → RunFault → Type 0
@@ -56,7 +57,7 @@ JudgesBy Is known (Ok answer) = IfSome known (λ text. Is text answer.0 answer.1
 JudgesBy Is known (Err fault) = Unit {0}
 
 abbrev pub Judges : Option (List ℕ) → Result (Status × Vec ℕ) RunFault → Type 0
-Judges = JudgesBy IsReport
+Judges = JudgesBy (IsReport event_limit)
 
 abbrev pub JudgeFaultCounts : ℕ → ℕ → RunFault → Type 0
 JudgeFaultCounts old new faults.Read = Rose old new
@@ -69,5 +70,5 @@ JudgeCounts old new (Err fault) = JudgeFaultCounts old new fault
 
 -- what a text is, where a history may have so many events: a history, or none, with the line of its first fault
 abbrev pub Reads : ℕ → List ℕ → Reading → Type 0
-Reads limit text (History events) = IsTextWithin limit text events
-Reads limit text (Refusal line) = IsRefusedWithin limit text Refused line.items
+Reads limit text (History h) = IsText limit text h.events
+Reads limit text (Refusal line) = IsRefused limit text Refused line.items

@@ -17,7 +17,7 @@ use snap_core::{Counted, Gate, History};
 use snap_index::Index;
 use snap_pairs::tally_and_chain;
 use snap_threads::Cutting;
-use snap_verdict::{Status, brief_verdict_of, verdict_along};
+use snap_verdict::{Status, brief_verdict_of, verdict_of_chain};
 use snap_views::ViewChain;
 use std::alloc::{AllocError, Global};
 use std::io::{Read, Write};
@@ -25,12 +25,14 @@ use std::thread::Threads;
 
 // The status of a history and its report, or quiet, of the report the lines of the verdicts alone; by its index, the tally of its
 // completed views, and these as a chain where no two of them are a read fault.
-fn written_of(
+fn written_of<Rt: Threads + Sync>(
+    rt: &Rt,
     alloc: Global,
     index: &Index<'_>,
     tally: &Tally,
     chain: Option<ViewChain>,
     room: Vec<u8>,
+    workers: u32,
     quiet: bool,
 ) -> Result<(Status, Vec<u8>), AllocError>
     requires tally { tally.now ≡ tally_of (calls_of index.now) (views_of (calls_of index.now)) }
@@ -41,7 +43,7 @@ fn written_of(
     if quiet {
         brief_verdict_of(alloc, index, tally)
     } else {
-        verdict_along(alloc, index, tally, chain, room)
+        verdict_of_chain(rt, alloc, index, tally, chain, room, workers)
     }
 }
 
@@ -56,14 +58,24 @@ pub fn verdict<Rt: Threads + Sync, G: Gate>(
     gate: &G,
     options: CheckOptions,
 ) -> Result<(Option<Status>, Vec<u8>), AllocError>
-    ensures { IfOk result (λ answer. IsVerdictWith options history.now answer.0 answer.1.items) }
+    ensures { IfOk result (λ answer. IsVerdictWith options history.now.events answer.0 answer.1.items) }
 {
     let index = Index::build(alloc, history)?;
     if index.view_count() < options.views {
         return Ok((None, Vec::new(alloc)));
     }
     let (tally, chain) = tally_and_chain(rt, alloc, &index, cutting, gate)?;
-    let (status, text) = written_of(alloc, &index, &tally, chain, room, options.quiet)?;
+    let workers = cutting.workers();
+    let (status, text) = written_of(
+        rt,
+        alloc,
+        &index,
+        &tally,
+        chain,
+        room,
+        workers,
+        options.quiet,
+    )?;
     Ok((Some(status), text))
 }
 
@@ -84,7 +96,7 @@ fn judge<Rt: Threads + Sync, R: Read, G: Gate>(
     let mut room = Vec::new(alloc);
     match read_in(rt, alloc, reader, &mut room, options.limit, cutting)? {
         Reading::History(history) => {
-            let cutting = cutting_for(room.len(), cutting);
+            let cutting = cutting_for(room.len(), options.alone_below, cutting);
             Ok(verdict(rt, alloc, &history, room, cutting, gate, options)?)
         }
         Reading::Refusal(line) => Ok((Some(Status::Refused), line)),
@@ -94,7 +106,8 @@ fn judge<Rt: Threads + Sync, R: Read, G: Gate>(
 /// A check as `check_run` makes it, of which more is asked. `None` is answered where the text is a history and has fewer
 /// completed views than are asked for; then nothing is written. Otherwise the status is that of `check_run`. Quiet, it writes
 /// of a history's report the lines of the three verdicts alone; the line of a text that is no history stays as it is. The limit
-/// of events takes the place of the usual one, and 1,024 bytes for each of them that of the usual limit of bytes.
+/// of events takes the place of the usual one, and 1,024 bytes for each of them that of the usual limit of bytes. A text of fewer
+/// bytes than `alone_below` has one worker, and any other the cutting as it is.
 ///
 /// Of the devices, memory and waiting the same is true as in `check_run`.
 pub fn check_run_with<Rt: Threads + Sync, R: Read, W: Write, G: Gate>(

@@ -5,7 +5,7 @@ ghost use Rattle.snap_check.specs.Runs.{JudgeCounts, Reads};
 
 use crate::fault::RunFault;
 use snap_core::{Counted, History, Limit};
-use snap_csv::{ReadRefusal, read_history_beside};
+use snap_csv::{ReadRefusal, read_history_with};
 use snap_report::refusal_text;
 use snap_threads::Cutting;
 use std::alloc::Global;
@@ -32,7 +32,7 @@ pub fn read_in<Rt: Threads + Sync, R: Read>(
     ensures text { IfSome (R.remaining (inner_of reader.old)) (λ text. IfOk result (λ reading. Reads limit.events text reading)) }
     ensures counts { JudgeCounts (failures_in reader.old) (failures_in reader.new) result }
 {
-    match read_history_beside(rt, alloc, reader, room, limit, cutting) {
+    match read_history_with(rt, alloc, reader, room, limit, cutting) {
         Ok(history) => Ok(Reading::History(history)),
         Err(ReadRefusal::Text { place, fault }) => {
             Ok(Reading::Refusal(refusal_text(alloc, place, fault)?))

@@ -1,5 +1,6 @@
 //! Why a command has no exit status of its own.
 use snap_check::RunFault;
+use snap_terminal::Outlet;
 use snap_words::JobFault;
 use std::alloc::AllocError;
 
@@ -10,8 +11,20 @@ pub enum Failure {
     Words(JobFault),
     /// A file was not opened, which is said already.
     Unopened,
+    /// Nobody reads the answer any more, as where `head` has seen enough. There is nothing to say of that.
+    Unheard,
     /// The run of the job ended with a fault.
     Run(RunFault),
+}
+
+impl Failure {
+    /// Why a run with this fault has no exit status. The outlet is that to which it wrote.
+    pub fn of_run<W>(fault: RunFault, outlet: &Outlet<W>) -> Failure {
+        match fault {
+            RunFault::Write if outlet.is_closed() => Failure::Unheard,
+            fault => Failure::Run(fault),
+        }
+    }
 }
 
 impl From<JobFault> for Failure {

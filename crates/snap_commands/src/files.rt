@@ -12,9 +12,9 @@ pub fn system(rt: &HostRuntime) -> System<'_, HostRuntime> {
     }
 }
 
-/// The text of the only file, or of standard input where there is none. Why it can't be opened is said.
-pub fn open_only(rt: &HostRuntime, files: &[Vec<u8>]) -> Result<SystemText<File>, Failure> {
-    match files.first() {
+/// The text of a file, or of standard input where it is absent. Why it can't be opened is said.
+pub fn open_only(rt: &HostRuntime, file: &Option<Vec<u8>>) -> Result<SystemText<File>, Failure> {
+    match file {
         Some(name) => open_named(rt, name),
         None => open_named(rt, b"-"),
     }

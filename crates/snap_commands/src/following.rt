@@ -1,29 +1,28 @@
 //! The check of a recording that grows.
-ghost use Rattle.snap_core.specs.Limits.{IsLimit};
-
 use crate::failure::Failure;
 use crate::files::{say_trouble, system};
-use crate::limit::limit_of;
 use crate::names::{say, say_none};
 use crate::refusal::too_few_views;
 use snap_check::RunFault;
-use snap_core::Counted;
+use snap_core::{Counted, Limit};
 use snap_follow::{
     FolderTexts, FollowFault, FollowOptions, Followed, Lost, OneText, Reason, Texts, Until,
     follow_run,
 };
 use snap_names::{Opener, SystemFolders, Trouble};
-use snap_words::Options;
+use snap_terminal::Outlet;
+use snap_words::Windows;
 use std::sync::Wait;
 
 // The same fault, as that of any run. That there is no text is said.
-fn failure_of(host: &HostRuntime, fault: FollowFault) -> Failure {
-    match fault {
-        FollowFault::NoText => say_none(host),
-        FollowFault::Read => Failure::Run(RunFault::Read),
-        FollowFault::Write => Failure::Run(RunFault::Write),
-        FollowFault::Memory => Failure::Run(RunFault::Memory),
-    }
+fn failure_of<W>(host: &HostRuntime, fault: FollowFault, outlet: &Outlet<W>) -> Failure {
+    let fault = match fault {
+        FollowFault::NoText => return say_none(host),
+        FollowFault::Read => RunFault::Read,
+        FollowFault::Write => RunFault::Write,
+        FollowFault::Memory => RunFault::Memory,
+    };
+    Failure::of_run(fault, outlet)
 }
 
 // Says at which name a recording could not be followed further, and why.
@@ -37,18 +36,18 @@ fn say_lost(host: &HostRuntime, lost: &Lost) {
 }
 
 // How long a recording is followed: standard input to its end, and any other until nothing has come for so many seconds.
-fn until_of(name: &[u8], asked: Options) -> Until {
+fn until_of(name: &[u8], windows: Windows) -> Until {
     if name == b"-".as_slice() {
         Until::End
-    } else if asked.idle == 0 {
+    } else if windows.idle == 0 {
         Until::Ever
     } else {
-        Until::Idle(asked.idle)
+        Until::Idle(windows.idle)
     }
 }
 
 // Says how a recording ended, beside its exit status.
-fn code_of(host: &HostRuntime, followed: Followed, asked: Options) -> u8 {
+fn code_of(host: &HostRuntime, followed: Followed, windows: Windows) -> u8 {
     if let Some(lost) = &followed.lost {
         say_lost(host, lost);
     }
@@ -57,7 +56,7 @@ fn code_of(host: &HostRuntime, followed: Followed, asked: Options) -> u8 {
     }
     match followed.code {
         Some(code) => code,
-        None => too_few_views(host, asked.views).code(),
+        None => too_few_views(host, windows.views).code(),
     }
 }
 
@@ -67,20 +66,19 @@ fn follow_texts<Rt: Wait, T: Texts>(
     host: &HostRuntime,
     texts: &mut T,
     name: &[u8],
-    asked: Options,
-) -> Result<u8, Failure>
-    requires { IsLimit asked.events }
-{
-    let mut writer = Counted::new(host.stdout());
+    limit: Limit,
+    windows: Windows,
+) -> Result<u8, Failure> {
+    let mut writer = Counted::new(Outlet::new(host.stdout()));
     let options = FollowOptions {
-        least: asked.window,
-        most: limit_of(asked.events),
-        until: until_of(name, asked),
-        views: asked.views,
+        least: windows.least,
+        most: limit,
+        until: until_of(name, windows),
+        views: windows.views,
     };
     match follow_run(rt, host.alloc(), texts, &mut writer, host, options) {
-        Ok(followed) => Ok(code_of(host, followed, asked)),
-        Err(fault) => Err(failure_of(host, fault)),
+        Ok(followed) => Ok(code_of(host, followed, windows)),
+        Err(fault) => Err(failure_of(host, fault, &writer.into_inner())),
     }
 }
 
@@ -89,33 +87,31 @@ fn follow_folder<Rt: Wait>(
     rt: &Rt,
     host: &HostRuntime,
     folder: &[u8],
-    asked: Options,
-) -> Result<u8, Failure>
-    requires { IsLimit asked.events }
-{
+    limit: Limit,
+    windows: Windows,
+) -> Result<u8, Failure> {
     let folders = SystemFolders { files: host };
     let opener = system(host);
     let mut texts = FolderTexts::new(host.alloc(), &folders, &opener, folder);
-    follow_texts(rt, host, &mut texts, folder, asked)
+    follow_texts(rt, host, &mut texts, folder, limit, windows)
 }
 
-/// Follows the only file, all files below the only folder, or standard input where there is no name. What is left out of its end is
-/// said.
+/// Follows a file, all files below a folder, or standard input where the name is absent. A window has as many events as the limit says.
+/// What is left out of the end of the recording is said.
 pub fn follow<Rt: Wait>(
     rt: &Rt,
     host: &HostRuntime,
-    files: &[Vec<u8>],
-    asked: Options,
-) -> Result<u8, Failure>
-    requires { IsLimit asked.events }
-{
-    let name = match files.first() {
+    file: &Option<Vec<u8>>,
+    limit: Limit,
+    windows: Windows,
+) -> Result<u8, Failure> {
+    let name = match file {
         Some(name) => name.as_slice(),
         None => b"-".as_slice(),
     };
     match system(host).open(name) {
-        Ok(text) => follow_texts(rt, host, &mut OneText::new(text), name, asked),
-        Err(Trouble::Folder) => follow_folder(rt, host, name, asked),
+        Ok(text) => follow_texts(rt, host, &mut OneText::new(text), name, limit, windows),
+        Err(Trouble::Folder) => follow_folder(rt, host, name, limit, windows),
         Err(trouble) => {
             say_trouble(host, name, trouble);
             Err(Failure::Unopened)

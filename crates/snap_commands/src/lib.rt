@@ -5,7 +5,6 @@
 mod failure;
 mod files;
 mod following;
-mod limit;
 mod names;
 mod refusal;
 mod runs;
@@ -14,8 +13,7 @@ mod shown;
 pub use failure::Failure;
 pub use files::{open_only, system};
 pub use following::follow;
-pub use limit::limit_of;
 pub use names::names_of;
 pub use refusal::too_few_views;
-pub use runs::{draw, explain, record, record_stamped, shrink};
+pub use runs::{draw, explain, record, shrink};
 pub use shown::{in_colors, progress_of};

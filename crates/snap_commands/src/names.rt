@@ -3,7 +3,7 @@ use crate::failure::Failure;
 use crate::files::open_named;
 use snap_core::Counted;
 use snap_names::{NamesFault, SystemFolders, names_below, read_names, reason_line};
-use snap_words::{Places, Wanted, names_input_twice};
+use snap_words::{Input, names_input_twice};
 
 /// Says a reason of a name.
 pub(crate) fn say(rt: &HostRuntime, name: &[u8], reason: &str) {
@@ -49,29 +49,36 @@ fn add_folder(rt: &HostRuntime, names: &mut Vec<Vec<u8>>, folder: &[u8]) -> Resu
     }
 }
 
-// Adds the names in the list and those below the folder. That standard input is named twice is said.
-fn add_places(rt: &HostRuntime, names: &mut Vec<Vec<u8>>, places: &Places) -> Result<(), Failure> {
-    if let Some(list) = &places.list {
-        add_list(rt, names, list, places.null)?;
-        if names_input_twice(names, &places.list) {
-            say(rt, list, "- is standard input, and can be named once");
-            return Err(Failure::Unopened);
-        }
+// Adds the names in the list of an input. That standard input is named twice is said.
+fn add_listed(
+    rt: &HostRuntime,
+    names: &mut Vec<Vec<u8>>,
+    list: &Option<Vec<u8>>,
+    null: bool,
+) -> Result<(), Failure> {
+    let Some(name) = list else {
+        return Ok(());
+    };
+    add_list(rt, names, name, null)?;
+    if names_input_twice(names, list) {
+        say(rt, name, "- is standard input, and can be named once");
+        return Err(Failure::Unopened);
     }
-    match &places.folder {
-        Some(folder) => add_folder(rt, names, folder),
-        None => Ok(()),
-    }
+    Ok(())
 }
 
 /// The names among the words, then those in the list, then those below the folder. Where there is none at all, that is said.
-pub fn names_of(rt: &HostRuntime, wanted: Wanted) -> Result<Vec<Vec<u8>>, Failure> {
-    let Wanted {
+pub fn names_of(rt: &HostRuntime, input: Input) -> Result<Vec<Vec<u8>>, Failure> {
+    let Input {
         files: mut names,
-        places,
-        ..
-    } = wanted;
-    add_places(rt, &mut names, &places)?;
+        list,
+        null,
+        folder,
+    } = input;
+    add_listed(rt, &mut names, &list, null)?;
+    if let Some(folder) = &folder {
+        add_folder(rt, &mut names, folder)?;
+    }
     if names.is_empty() {
         return Err(say_none(rt));
     }

@@ -1,90 +1,143 @@
-//! The runs of the commands that take one text or none, on the system.
-ghost use Rattle.snap_core.specs.Limits.{IsLimit};
-ghost use Rattle.snap_record.specs.Plans.{AreRounds, AreWorkers};
+//! The runs of the commands that take one text or none. Each is a part from a reader to a writer, and a start of that on the system.
+ghost use Rattle.std.specs.Prelude.{◌≡◌, Ok, true, false, IsErr, MatchResult};
+ghost use Rattle.snap_check.specs.Runs.{WroteBy};
+ghost use Rattle.snap_core.specs.Counting.{inner_of};
+ghost use Rattle.snap_record.specs.Plans.{AreRounds, AreWorkers, rounds_scripts};
+ghost use Rattle.snap_runs.specs.Explaining.{IsExplained};
+ghost use Rattle.snap_runs.specs.Recordings.{IsRecorded, IsStampedRecording, WroteAs};
+ghost use Rattle.snap_runs.specs.Shrinking.{IsShrunk};
+ghost use Rattle.snap_verdict.specs.Statuses.{code_of};
 
 use crate::failure::Failure;
 use crate::files::open_only;
-use crate::limit::limit_of;
 use snap_check::{RunFault, Status};
-use snap_core::Counted;
+use snap_core::{Counted, Limit};
 use snap_picture::{Explained, Lines, Page, Svg, draw_explained_run, draw_run, draw_witness_run};
 use snap_runs::{explain_run, record_rounds, record_rounds_stamped, shrink_run};
+use snap_terminal::Outlet;
 use snap_words::Form;
+use std::alloc::Global;
+use std::io::{Read, Write};
 use std::sync::Wait;
 use std::thread::Threads;
 
-// The exit status of a run that has ended.
-fn code_of(ended: Result<Status, RunFault>) -> Result<u8, Failure> {
+// The exit status of a run that has ended, or why it has none.
+fn code_of<W>(ended: Result<Status, RunFault>, outlet: &Outlet<W>) -> Result<u8, Failure>
+    ensures code { MatchResult ended (λ status. result ≡ Ok (code_of status)) (λ _. IsErr result) }
+{
     match ended {
         Ok(status) => Ok(status.code()),
-        Err(fault) => Err(Failure::Run(fault)),
+        Err(fault) => Err(Failure::of_run(fault, outlet)),
     }
 }
 
-/// Cuts the history in the only text down to a witness of at most so many events, or draws that. It gives the exit status.
+// Cuts the history that a reader has down to a witness, or draws that.
+fn shrink_from<Rt: Threads + Sync, R: Read, W: Write>(
+    rt: &Rt,
+    alloc: Global,
+    reader: &mut Counted<R>,
+    writer: &mut Counted<W>,
+    drawn: bool,
+    limit: Limit,
+) -> Result<Status, RunFault>
+    ensures text { drawn ≡ false → WroteBy (IsShrunk limit.events) (R.remaining (inner_of reader.old)) (W.contents (inner_of writer.old)) (W.contents (inner_of writer.new)) result }
+{
+    if drawn {
+        draw_witness_run(rt, alloc, &Lines, reader, writer, limit)
+    } else {
+        shrink_run(rt, alloc, reader, writer, limit)
+    }
+}
+
+/// Cuts the history in the only text down to a witness, or draws that. It gives the exit status.
 pub fn shrink<Rt: Threads + Sync>(
     rt: &Rt,
     host: &HostRuntime,
-    files: &[Vec<u8>],
+    file: &Option<Vec<u8>>,
     drawn: bool,
-    events: u32,
-) -> Result<u8, Failure>
-    requires { IsLimit events }
-{
-    let alloc = host.alloc();
-    let limit = limit_of(events);
-    let mut reader = Counted::new(open_only(host, files)?);
-    let mut writer = Counted::new(host.stdout());
-    code_of(if drawn {
-        draw_witness_run(rt, alloc, &Lines, &mut reader, &mut writer, limit)
-    } else {
-        shrink_run(rt, alloc, &mut reader, &mut writer, limit)
-    })
+    limit: Limit,
+) -> Result<u8, Failure> {
+    let mut reader = Counted::new(open_only(host, file)?);
+    let mut writer = Counted::new(Outlet::new(host.stdout()));
+    let ended = shrink_from(rt, host.alloc(), &mut reader, &mut writer, drawn, limit);
+    code_of(ended, &writer.into_inner())
 }
 
-/// Explains the history of at most so many events in the only text, with a picture or without. It gives the exit status.
+// Explains the history that a reader has, with a picture or without.
+fn explain_from<Rt: Threads + Sync, R: Read, W: Write>(
+    rt: &Rt,
+    alloc: Global,
+    reader: &mut Counted<R>,
+    writer: &mut Counted<W>,
+    drawn: bool,
+    limit: Limit,
+) -> Result<Status, RunFault>
+    ensures text { drawn ≡ false → WroteBy (IsExplained limit.events) (R.remaining (inner_of reader.old)) (W.contents (inner_of writer.old)) (W.contents (inner_of writer.new)) result }
+{
+    if drawn {
+        draw_explained_run(rt, alloc, &Explained, reader, writer, limit)
+    } else {
+        explain_run(rt, alloc, reader, writer, limit)
+    }
+}
+
+/// Explains the history in the only text, with a picture or without. It gives the exit status.
 pub fn explain<Rt: Threads + Sync>(
     rt: &Rt,
     host: &HostRuntime,
-    files: &[Vec<u8>],
+    file: &Option<Vec<u8>>,
     drawn: bool,
-    events: u32,
-) -> Result<u8, Failure>
-    requires { IsLimit events }
-{
-    let alloc = host.alloc();
-    let limit = limit_of(events);
-    let mut reader = Counted::new(open_only(host, files)?);
-    let mut writer = Counted::new(host.stdout());
-    code_of(if drawn {
-        draw_explained_run(rt, alloc, &Explained, &mut reader, &mut writer, limit)
-    } else {
-        explain_run(rt, alloc, &mut reader, &mut writer, limit)
-    })
+    limit: Limit,
+) -> Result<u8, Failure> {
+    let mut reader = Counted::new(open_only(host, file)?);
+    let mut writer = Counted::new(Outlet::new(host.stdout()));
+    let ended = explain_from(rt, host.alloc(), &mut reader, &mut writer, drawn, limit);
+    code_of(ended, &writer.into_inner())
 }
 
-/// Draws the history of at most so many events in the only text. It gives the exit status.
+/// Draws the history in the only text. It gives the exit status.
 pub fn draw<Rt: Threads + Sync>(
     rt: &Rt,
     host: &HostRuntime,
-    files: &[Vec<u8>],
+    file: &Option<Vec<u8>>,
     form: Form,
-    events: u32,
-) -> Result<u8, Failure>
-    requires { IsLimit events }
-{
+    limit: Limit,
+) -> Result<u8, Failure> {
     let alloc = host.alloc();
-    let limit = limit_of(events);
-    let mut reader = Counted::new(open_only(host, files)?);
-    let mut writer = Counted::new(host.stdout());
-    code_of(match form {
+    let mut reader = Counted::new(open_only(host, file)?);
+    let mut writer = Counted::new(Outlet::new(host.stdout()));
+    let ended = match form {
         Form::Page => draw_run(rt, alloc, &Page, &mut reader, &mut writer, limit),
         Form::Svg => draw_run(rt, alloc, &Svg, &mut reader, &mut writer, limit),
         Form::Lines => draw_run(rt, alloc, &Lines, &mut reader, &mut writer, limit),
-    })
+    };
+    code_of(ended, &writer.into_inner())
 }
 
-/// Records a run of so many workers and rounds, with scans or without, and writes its history or its report. It gives the exit status.
+// Records a run of so many workers and rounds, and writes its report, or its history with stamps or without.
+fn record_to<Rt: Threads + Wait + Sync, W: Write>(
+    rt: &Rt,
+    alloc: Global,
+    writer: &mut Counted<W>,
+    workers: u32,
+    rounds: u32,
+    judge: bool,
+    scan: bool,
+    stamped: bool,
+) -> Result<Status, RunFault>
+    requires { AreWorkers workers × AreRounds rounds }
+    ensures recording { stamped ≡ false → WroteAs (IsRecorded judge (rounds_scripts scan workers rounds)) (W.contents (inner_of writer.old)) (W.contents (inner_of writer.new)) result }
+    ensures stamped { stamped ≡ true → WroteAs (IsStampedRecording (rounds_scripts scan workers rounds)) (W.contents (inner_of writer.old)) (W.contents (inner_of writer.new)) result }
+{
+    if stamped {
+        record_rounds_stamped(rt, alloc, workers, rounds, scan, writer)
+    } else {
+        record_rounds(rt, alloc, workers, rounds, judge, scan, writer)
+    }
+}
+
+/// Records a run of so many workers and rounds, with scans or without, and writes its report, or its history with stamps or without. It
+/// gives the exit status.
 pub fn record<Rt: Threads + Wait + Sync>(
     rt: &Rt,
     host: &HostRuntime,
@@ -92,23 +145,20 @@ pub fn record<Rt: Threads + Wait + Sync>(
     rounds: u32,
     judge: bool,
     scan: bool,
+    stamped: bool,
 ) -> Result<u8, Failure>
     requires { AreWorkers workers × AreRounds rounds }
 {
-    let mut writer = Counted::new(host.stdout());
-    code_of(record_rounds(rt, host.alloc(), workers, rounds, judge, scan, &mut writer))
-}
-
-/// Records a run of so many workers and rounds, with scans or without, and writes its history with stamps. It gives the exit status.
-pub fn record_stamped<Rt: Threads + Wait + Sync>(
-    rt: &Rt,
-    host: &HostRuntime,
-    workers: u32,
-    rounds: u32,
-    scan: bool,
-) -> Result<u8, Failure>
-    requires { AreWorkers workers × AreRounds rounds }
-{
-    let mut writer = Counted::new(host.stdout());
-    code_of(record_rounds_stamped(rt, host.alloc(), workers, rounds, scan, &mut writer))
+    let mut writer = Counted::new(Outlet::new(host.stdout()));
+    let ended = record_to(
+        rt,
+        host.alloc(),
+        &mut writer,
+        workers,
+        rounds,
+        judge,
+        scan,
+        stamped,
+    );
+    code_of(ended, &writer.into_inner())
 }

@@ -2,8 +2,7 @@
 use Rattle.std.proofs.Common.{◌≡◌, ℕ, zero, suc, ◌+◌, ◌-◌, ◌*◌, ◌<◌, ◌≤◌, List, [], ◌∷◌, ◌++◌, take, drop, length, get_or, refl, sym, ap, ◌∙◌, subst, inl, inr, arith}
 use Rattle.std.specs.Prelude.{◌||◌, filter}
 use Rattle.std.specs.List.{flat_map}
-use Rattle.std.proofs.lemmas.List.{take_all, length-take, drop-drop, drop_more, length-map}
-use Rattle.std.proofs.Math.Seq.{take-add}
+use Rattle.std.proofs.lemmas.List.{take_all, length-take, drop_more, length-map}
 use Rattle.snap_core.specs.declared.event.Event.{Event}
 use Rattle.snap_core.specs.Events.{IsBoundedHistory, event_cap}
 use Rattle.snap_core.specs.Calls.{Call, calls_of, entries_of, views_of, nobody}
@@ -16,6 +15,7 @@ use Rattle.snap_views.specs.Seen.{view_in, views_between}
 use Rattle.snap_conditions.specs.Laws.{TalliesJoin, TalliesFit, RegularByTally, ConditionsByTally, NoFaultByTally}
 use Rattle.snap_theory.proofs.FaultLaws.{regular_exactly, conditions_exactly}
 use Rattle.snap_conditions.proofs.Parts.{part-append, flat_map_short}
+use Rattle.snap_views.proofs.Pieces.{range_joined}
 use Rattle.snap_views.proofs.Sizes.{few_views, filter_short, rising_few}
 use Rattle.snap_theory.proofs.Components.{faults_join, fit_views}
 use Rattle.snap_theory.proofs.StaleViews.{stale_few}
@@ -39,13 +39,6 @@ tally_joined calls rs ss =
     (ap (part_of reported_read) j.read ∙ part-append reported_read (read_faults calls rs) (read_faults calls ss))
     (ap (part_of reported_write) j.write ∙ part-append reported_write (write_faults calls rs) (write_faults calls ss))
     j.stale
-
-range_joined : {X : Type 0} (xs : List X) (from middle to : ℕ) → from ≤ middle → middle ≤ to → take (to - from) (drop from xs) ≡ take (middle - from) (drop from xs) ++ take (to - middle) (drop middle xs)
-range_joined xs from middle to l m =
-    let both : to - from ≡ (middle - from) + (to - middle) = omega arith in
-    let on : from + (middle - from) ≡ middle = omega arith in
-    ap (λ n. take n (drop from xs)) both ∙ take-add (middle - from) (to - middle) (drop from xs)
-    ∙ ap (λ z. take (middle - from) (drop from xs) ++ take (to - middle) z) (drop-drop (middle - from) from xs ∙ ap (λ n. drop n xs) on)
 
 nothing_tallied : (calls : List Call) → tally_of calls [] ≡ no_fault
 unfolding tally_of integrity_faults proximity_faults read_faults write_faults stale_count

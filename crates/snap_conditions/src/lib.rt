@@ -20,4 +20,6 @@ pub use law::{conditions_by_tally, monotone_by_tally, regular_by_tally, tallies_
 pub use part::Part;
 pub use range::{tally_range, tally_without_read};
 pub use read::read_fault_of;
+pub use snap_theory::monotone_without_read_fault;
+pub use snap_views::{chain, no_read_fault_by_sums, ordered, view_sum};
 pub use tally::{Tally, is_atomic, is_monotone, is_regular, merge};

@@ -1,8 +1,9 @@
 pub mod Worked
 mod WorkedCalls
-mod WorkedHistories
+pub mod WorkedHistories
 mod WorkedMonotone
-mod WorkedOrders
+mod WorkedRegular
+mod WorkedAtomic
 mod WorkedRefusals
 pub mod Lists
 pub mod Sums

@@ -1,12 +1,12 @@
 -- What the tables say of a history, and of one with one event more.
-use Rattle.std.proofs.Common.{◌≡◌, ℕ, suc, ◌+◌, ◌%◌, Bool, true, false, cond, not, ◌&&◌, ◌||◌, List, [], ◌∷◌, ◌++◌, length, Option, Some, None, refl, sym, ap, ◌∙◌, arith}
+use Rattle.std.proofs.Common.{◌≡◌, ◌≤◌, ℕ, suc, ◌+◌, ◌%◌, Bool, true, false, cond, not, ◌&&◌, ◌||◌, List, [], ◌∷◌, ◌++◌, length, Option, Some, None, refl, sym, ap, ◌∙◌, arith}
 use Rattle.std.specs.Prelude.{◌==◌, is_some}
 use Rattle.std.specs.List.{count_by, list_any}
 use Rattle.std.proofs.lemmas.Bool.{eqb-true, not-false}
 use Rattle.std.proofs.lemmas.List.Folds.{list_any-append}
 use Rattle.snap_core.specs.declared.tables.Tables.{Tables}
 use Rattle.snap_core.specs.declared.tables.Writer.{Writer}
-use Rattle.snap_core.specs.Events.{Event, BeginUpdate, BeginView, EndUpdate, EndView, process_of, IsBegin, Ends, TakeTurns, events_of, begins_update_of, EventFits}
+use Rattle.snap_core.specs.Events.{Event, BeginUpdate, BeginView, EndUpdate, EndView, process_of, IsBegin, Ends, TakeTurns, events_of, begins_update_of, EventFits, event_cap}
 use Rattle.snap_core.specs.Refusals.{has_open, last_event, is_by_other, is_busy, is_idle, has_other_writer, has_other_number, is_begin, IsAccepted, refusal_of}
 use Rattle.snap_core.specs.inside.Tables.{begun_by, begun_in, call_in, writer_in, count_in, is_written_by_other, Recalls, IsRecalled, writer_by}
 use Rattle.snap_core.proofs.Begun.{count-append}
@@ -124,11 +124,11 @@ recalls_push t u es e r a f g = record {
       ∙ ap (λ b. b || is_by_other p k e) (r.writers k p) ∙ sym (any_push p k es e);
 }
 
-pub recalled_push : (t u v : Tables) (es : List Event) (e : Event) → IsRecalled t es → refusal_of es e ≡ None → EventFits e
+pub recalled_push : (limit : ℕ) (t u v : Tables) (es : List Event) (e : Event) → limit ≤ event_cap → IsRecalled t es → refusal_of limit es e ≡ None → EventFits e
     → ((p : ℕ) → call_in u p ≡ call_in t p) → ((k : ℕ) → writer_in u k ≡ writer_in t k)
     → ((p : ℕ) → call_in v p ≡ cond (process_of e == p) (begun_by e) (call_in u p))
     → ((k : ℕ) → writer_in v k ≡ writer_by (process_of e) (begun_by e) k (writer_in u k)) → IsRecalled v (es ++ e ∷ [])
-recalled_push t u v es e r h fits a b f g = record {
-  kept = kept_push es e r.kept h fits;
-  recalls = recalls_push u v es e (recalls_same t u es a b r.recalls) (accepted_none es e h).0 f g;
+recalled_push limit t u v es e m r h fits a b f g = record {
+  kept = kept_push limit es e m r.kept h fits;
+  recalls = recalls_push u v es e (recalls_same t u es a b r.recalls) (accepted_none limit es e h).0 f g;
 }

@@ -24,6 +24,12 @@ crossed_views =
     BeginUpdate 0 (entry 0 1 1) ∷ BeginUpdate 1 (entry 1 1 1) ∷ BeginView 2 ∷ BeginView 3 ∷
     EndView 2 (entry 0 1 1 ∷ []) ∷ EndView 3 (entry 1 1 1 ∷ []) ∷ EndUpdate 0 ∷ EndUpdate 1 ∷ []
 
+-- of two views the later one shows more of one component and less of another
+abbrev pub forward_and_back : List Event
+forward_and_back =
+    BeginUpdate 0 (entry 0 1 1) ∷ BeginUpdate 1 (entry 1 1 1) ∷
+    BeginView 2 ∷ EndView 2 (entry 1 1 1 ∷ []) ∷ BeginView 3 ∷ EndView 3 (entry 0 1 1 ∷ []) ∷ []
+
 -- a view shows an update and not the one that ended before it began
 abbrev pub missed_update : List Event
 missed_update = BeginView 2 ∷ BeginUpdate 0 (entry 0 1 5) ∷ EndUpdate 0 ∷ BeginUpdate 1 (entry 1 1 6) ∷ EndUpdate 1 ∷ EndView 2 (entry 1 1 6 ∷ []) ∷ []

@@ -3,7 +3,7 @@ use Rattle.std.proofs.Common.{◌≡◌, ◌&&◌, Bool, true, List, [], ◌∷�
 use Rattle.std.specs.Prelude.{is_none}
 use Rattle.std.proofs.lemmas.Bool.{false≢true}
 use Rattle.snap_core.specs.declared.history.EventRefusal.{EventRefusal}
-use Rattle.snap_core.specs.Events.{Event, BeginUpdate, BeginView, EndUpdate, IsHistory, IsWellFormed, IsSingleWriter, IsNumbered}
+use Rattle.snap_core.specs.Events.{Event, BeginUpdate, BeginView, EndUpdate, IsHistory, IsWellFormed, IsSingleWriter, IsNumbered, event_cap}
 use Rattle.snap_core.specs.Refusals.{refusal_of}
 use Rattle.snap_core.proofs.Lists.{Contains-from_In}
 use Rattle.snap_core.proofs.Picks.{accepted_none}
@@ -14,36 +14,72 @@ use Rattle.snap_core.proofs.Worked.{entry}
 -- no event meets a refusal behind those before it
 are_taken : List Event → List Event → Bool
 are_taken before [] = true
-are_taken before (e ∷ es) = is_none (refusal_of before e) && are_taken (before ++ e ∷ []) es
+are_taken before (e ∷ es) = is_none (refusal_of event_cap before e) && are_taken (before ++ e ∷ []) es
 
 taken_behind : (before es : List Event) → IsHistory before → are_taken before es ≡ true → IsHistory (before ++ es)
 unfolding are_taken
 taken_behind before [] h t = subst IsHistory (sym (append-nil before)) h
-taken_behind before (e ∷ es) h t = go (refusal_of before e) refl (λ g u. taken_behind (before ++ e ∷ []) es g u) t
+taken_behind before (e ∷ es) h t = go (refusal_of event_cap before e) refl (λ g u. taken_behind (before ++ e ∷ []) es g u) t
   where
-    go : (o : Option EventRefusal) → refusal_of before e ≡ o → (IsHistory (before ++ e ∷ []) → are_taken (before ++ e ∷ []) es ≡ true → IsHistory ((before ++ e ∷ []) ++ es))
+    go : (o : Option EventRefusal) → refusal_of event_cap before e ≡ o → (IsHistory (before ++ e ∷ []) → are_taken (before ++ e ∷ []) es ≡ true → IsHistory ((before ++ e ∷ []) ++ es))
         → (is_none o && are_taken (before ++ e ∷ []) es) ≡ true → IsHistory (before ++ e ∷ es)
-    go None r rest u = subst IsHistory (append_assoc before (e ∷ []) es) (rest (history_push before e h (accepted_none before e r).0) u)
+    go None r rest u = subst IsHistory (append_assoc before (e ∷ []) es) (rest (history_push before e h (accepted_none event_cap before e r).0) u)
     go (Some r) q rest u = absurd (false≢true u)
 
 taken : (es : List Event) → are_taken [] es ≡ true → IsHistory es
 taken es t = taken_behind [] es history_nil t
 
-an_atomic_run_is_a_history : IsHistory worked.atomic_run
+pub an_atomic_run_is_a_history : IsHistory worked.atomic_run
 unfolding are_taken refusal_of
 an_atomic_run_is_a_history = taken worked.atomic_run refl
 
-a_stale_view_is_in_a_history : IsHistory worked.stale_view
+pub a_stale_view_is_in_a_history : IsHistory worked.stale_view
 unfolding are_taken refusal_of
 a_stale_view_is_in_a_history = taken worked.stale_view refl
 
-pending_calls_are_in_a_history : IsHistory worked.all_pending
+pub pending_calls_are_in_a_history : IsHistory worked.all_pending
 unfolding are_taken refusal_of
 pending_calls_are_in_a_history = taken worked.all_pending refl
 
-crossed_views_are_in_a_history : IsHistory worked.crossed_views
+pub crossed_views_are_in_a_history : IsHistory worked.crossed_views
 unfolding are_taken refusal_of
 crossed_views_are_in_a_history = taken worked.crossed_views refl
+
+pub a_view_of_the_future_is_in_a_history : IsHistory worked.view_of_the_future
+unfolding are_taken refusal_of
+a_view_of_the_future_is_in_a_history = taken worked.view_of_the_future refl
+
+pub a_new_old_inversion_is_in_a_history : IsHistory worked.new_then_old
+unfolding are_taken refusal_of
+a_new_old_inversion_is_in_a_history = taken worked.new_then_old refl
+
+pub a_missed_update_is_in_a_history : IsHistory worked.missed_update
+unfolding are_taken refusal_of
+a_missed_update_is_in_a_history = taken worked.missed_update refl
+
+pub a_seen_pending_update_is_in_a_history : IsHistory worked.seen_pending
+unfolding are_taken refusal_of
+a_seen_pending_update_is_in_a_history = taken worked.seen_pending refl
+
+pub a_view_before_an_update_is_in_a_history : IsHistory worked.view_before_update
+unfolding are_taken refusal_of
+a_view_before_an_update_is_in_a_history = taken worked.view_before_update refl
+
+pub a_wrong_value_is_in_a_history : IsHistory worked.wrong_value
+unfolding are_taken refusal_of
+a_wrong_value_is_in_a_history = taken worked.wrong_value refl
+
+pub a_largest_number_is_in_a_history : IsHistory worked.largest_number
+unfolding are_taken refusal_of
+a_largest_number_is_in_a_history = taken worked.largest_number refl
+
+pub a_stale_and_a_wrong_view_are_in_a_history : IsHistory worked.stale_and_wrong
+unfolding are_taken refusal_of
+a_stale_and_a_wrong_view_are_in_a_history = taken worked.stale_and_wrong refl
+
+pub views_forward_and_back_are_in_a_history : IsHistory worked.forward_and_back
+unfolding are_taken refusal_of
+views_forward_and_back_are_in_a_history = taken worked.forward_and_back refl
 
 two_begins_take_no_turns : IsWellFormed (BeginView 0 ∷ BeginView 0 ∷ []) → ⊥
 two_begins_take_no_turns w = (w 0).0

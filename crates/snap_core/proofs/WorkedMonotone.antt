@@ -22,6 +22,15 @@ a_new_old_inversion_is_not_monotone h =
     let older : IsViewOf calls (call worked.new_then_old 2) = record { there = Contains-from_In calls _ (inr (inr (inl refl))); completed = refl } in
     absurd (omega (arith, h (call worked.new_then_old 1) (call worked.new_then_old 2) newer older refl 0))
 
+-- call 3, which begins after the end of call 2, shows more of component 0 and less of component 1
+views_forward_and_back_are_not_monotone : IsMonotone (calls_of worked.forward_and_back) → ⊥
+unfolding calls_of is_view shown_number shown precedes
+views_forward_and_back_are_not_monotone h =
+    let calls = calls_of worked.forward_and_back in
+    let earlier : IsViewOf calls (call worked.forward_and_back 2) = record { there = Contains-from_In calls _ (inr (inr (inl refl))); completed = refl } in
+    let later : IsViewOf calls (call worked.forward_and_back 3) = record { there = Contains-from_In calls _ (inr (inr (inr (inl refl)))); completed = refl } in
+    absurd (omega (arith, h (call worked.forward_and_back 2) (call worked.forward_and_back 3) earlier later refl 1))
+
 no_call_precedes_another_where_views_are_crossed : list_any (λ r. list_any (precedes r) (calls_of worked.crossed_views)) (calls_of worked.crossed_views) ≡ false
 unfolding calls_of precedes
 no_call_precedes_another_where_views_are_crossed = refl

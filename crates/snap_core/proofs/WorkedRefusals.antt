@@ -1,52 +1,44 @@
 -- Refusals of worked events and entries, by computation.
-use Rattle.std.proofs.Common.{inl, inr, sym, ◌∙◌}
-use Rattle.std.specs.Prelude.{List, length, [], ◌∷◌, ◌≡◌, refl, Some, None}
-use Rattle.std.proofs.lemmas.Bool.{cases_lt}
+use Rattle.std.specs.Prelude.{[], ◌∷◌, ◌≡◌, refl, Some, None}
 use Rattle.snap_core.specs.declared.history.EventRefusal.TheVariants.{TooMany, Busy, Idle, OtherOp, Writer, Number}
 use Rattle.snap_core.specs.declared.view.ViewRefusal.TheVariants.{NotRising, ZeroNumber}
 use Rattle.snap_core.specs.Entries.{view_refusal}
-use Rattle.snap_core.specs.Refusals.{refusal_of, refusal_within}
-use Rattle.snap_core.proofs.Picks.{is_long, picked, within_full, within_room}
-use Rattle.snap_core.specs.Events.{Event, event_cap, BeginUpdate, BeginView, EndUpdate, EndView}
+use Rattle.snap_core.specs.Limits.{event_limit}
+use Rattle.snap_core.specs.Refusals.{refusal_of}
+use Rattle.snap_core.specs.Events.{BeginUpdate, BeginView, EndUpdate, EndView}
 use Rattle.snap_core.proofs.Worked.{entry}
 
-second_begin_is_busy : refusal_of (BeginView 0 ∷ []) (BeginView 0) ≡ Some Busy
+second_begin_is_busy : refusal_of event_limit (BeginView 0 ∷ []) (BeginView 0) ≡ Some Busy
 unfolding refusal_of
 second_begin_is_busy = refl
 
-end_without_begin_is_idle : refusal_of [] (EndView 0 []) ≡ Some Idle
+end_without_begin_is_idle : refusal_of event_limit [] (EndView 0 []) ≡ Some Idle
 unfolding refusal_of
 end_without_begin_is_idle = refl
 
-end_of_the_other_kind : refusal_of (BeginView 0 ∷ []) (EndUpdate 0) ≡ Some OtherOp
+end_of_the_other_kind : refusal_of event_limit (BeginView 0 ∷ []) (EndUpdate 0) ≡ Some OtherOp
 unfolding refusal_of
 end_of_the_other_kind = refl
 
-skipped_number : refusal_of [] (BeginUpdate 0 (entry 0 2 1)) ≡ Some Number
+skipped_number : refusal_of event_limit [] (BeginUpdate 0 (entry 0 2 1)) ≡ Some Number
 unfolding refusal_of
 skipped_number = refl
 
-second_writer : refusal_of (BeginUpdate 0 (entry 0 1 1) ∷ EndUpdate 0 ∷ []) (BeginUpdate 1 (entry 0 2 1)) ≡ Some Writer
+second_writer : refusal_of event_limit (BeginUpdate 0 (entry 0 1 1) ∷ EndUpdate 0 ∷ []) (BeginUpdate 1 (entry 0 2 1)) ≡ Some Writer
 unfolding refusal_of
 second_writer = refl
 
-next_number_is_taken : refusal_of (BeginUpdate 0 (entry 0 1 1) ∷ EndUpdate 0 ∷ []) (BeginUpdate 0 (entry 0 2 1)) ≡ None
+next_number_is_taken : refusal_of event_limit (BeginUpdate 0 (entry 0 1 1) ∷ EndUpdate 0 ∷ []) (BeginUpdate 0 (entry 0 2 1)) ≡ None
 unfolding refusal_of
 next_number_is_taken = refl
 
-a_second_writer_comes_before_its_number : refusal_of (BeginUpdate 0 (entry 0 1 1) ∷ EndUpdate 0 ∷ []) (BeginUpdate 1 (entry 0 9 1)) ≡ Some Writer
+a_second_writer_comes_before_its_number : refusal_of event_limit (BeginUpdate 0 (entry 0 1 1) ∷ EndUpdate 0 ∷ []) (BeginUpdate 1 (entry 0 9 1)) ≡ Some Writer
 unfolding refusal_of
 a_second_writer_comes_before_its_number = refl
 
-a_full_history_is_tested_first : refusal_within 1 (BeginView 0 ∷ []) (BeginView 0) ≡ Some TooMany
-unfolding refusal_within
+a_full_history_is_tested_first : refusal_of 1 (BeginView 0 ∷ []) (BeginView 0) ≡ Some TooMany
+unfolding refusal_of
 a_full_history_is_tested_first = refl
-
-the_greatest_limit_is_that_of_all_histories : (es : List Event) (e : Event) → refusal_within event_cap es e ≡ refusal_of es e
-the_greatest_limit_is_that_of_all_histories es e = elim (cases_lt (length es) event_cap) [
-  | inl lt ↦ within_room event_cap es e lt
-  | inr le ↦ within_full event_cap es e le ∙ sym (picked es e _ _ _ _ _ _ (is_long es le) refl refl refl refl refl)
-]
 
 no_entries_are_a_view : view_refusal [] ≡ None
 no_entries_are_a_view = refl

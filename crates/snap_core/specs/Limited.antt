@@ -1,4 +1,4 @@
--- What contracts see of a history with a limit.
+-- What contracts see of a history.
 use Rattle.std.specs.Prelude.{ℕ, List}
 use Rattle.snap_core.specs.declared.event.Event.{Event}
 

@@ -3,7 +3,7 @@ use Rattle.std.specs.Prelude.{ℕ, suc, ◌%◌, Bool, true, false, not, ◌&&�
 use Rattle.std.specs.List.{list_any}
 use Rattle.snap_core.specs.declared.history.EventRefusal.{EventRefusal}
 use Rattle.snap_core.specs.declared.history.EventRefusal.TheVariants.{TooMany, Busy, Idle, OtherOp, Writer, Number}
-use Rattle.snap_core.specs.Events.{Event, BeginUpdate, BeginView, EndUpdate, EndView, process_of, begins_update_of, event_cap}
+use Rattle.snap_core.specs.Events.{Event, BeginUpdate, BeginView, EndUpdate, EndView, process_of, begins_update_of}
 
 abbrev pub is_begin : Event → Bool
 is_begin (BeginUpdate p e) = true
@@ -64,17 +64,13 @@ pub record IsAccepted (es : List Event) (e : Event) : Type 0 where
   pub writer : has_other_writer es e ≡ false
   pub number : has_other_number es e ≡ false
 
--- the first refusal that applies, want of memory aside
-unfoldable pub refusal_of : List Event → Event → Option EventRefusal
-refusal_of es e =
-    if nat_le event_cap (length es) then Some TooMany
+-- the first refusal that applies where a history has at most `limit` events, want of memory aside
+unfoldable pub refusal_of : ℕ → List Event → Event → Option EventRefusal
+refusal_of limit es e =
+    if nat_le limit (length es) then Some TooMany
     else if is_busy es e then Some Busy
     else if is_idle es e then Some Idle
     else if is_other es e then Some OtherOp
     else if has_other_writer es e then Some Writer
     else if has_other_number es e then Some Number
     else None
-
--- the same where the list may have so many events
-unfoldable pub refusal_within : ℕ → List Event → Event → Option EventRefusal
-refusal_within limit es e = if nat_le limit (length es) then Some TooMany else refusal_of es e

@@ -1,10 +1,12 @@
 //! Histories, and why an event is refused.
-ghost use Rattle.std.specs.Prelude.{◌≡◌, ◌≤◌, ◌⊎◌, [], ◌∷◌, ◌++◌, length, OnOk, OnErr, IfErr, slice_get};
+ghost use Rattle.std.specs.Prelude.{◌≡◌, ◌≤◌, ◌⊎◌, ◌↔◌, [], ◌∷◌, ◌++◌, length, OnOk, OnErr, IfErr, IsTrue, slice_get};
 ghost use Rattle.std.specs.Option.{option_copied};
 ghost use Rattle.snap_core.specs.Events.{IsBoundedHistory, event_cap};
+ghost use Rattle.snap_core.specs.Limits.{event_limit};
 ghost use Rattle.snap_core.specs.Refusals.{refusal_of};
 
 use crate::event::Event;
+use crate::limit::Limit;
 use crate::tables::Tables;
 use std::alloc::Global;
 use std::marker::Model;
@@ -32,56 +34,76 @@ pub enum EventRefusal {
 }
 
 /// A list of events in which each process begins and ends calls in turn, each component has one writer, and the updates
-/// of a component are numbered 1, 2, 3 by their begins.
+/// of a component are numbered 1, 2, 3 by their begins. It has at most as many events as its limit.
 #[derive(Drop)]
 pub struct History {
     events: Vec<Event>,
     tables: Tables,
+    limit: Limit,
 }
 
 impl Model for History {
-    ghost use Rattle.std.specs.Prelude.{List};
-    ghost use Rattle.snap_core.specs.declared.event.Event.{Event};
+    ghost use Rattle.std.specs.Prelude.{◌≤◌, length};
+    ghost use Rattle.snap_core.specs.Limited.{LimitedEvents};
 
-    ghost Value = { List Event };
+    ghost Value = { LimitedEvents };
 
     ghost use Rattle.snap_core.specs.inside.Tables.{IsRecalled};
 
-    ghost view = { λ h. h.events.items };
+    ghost view = { λ h. record { events = h.events.items; limit = h.limit.events } };
 
-    ghost invariant = { λ h. IsRecalled h.tables h.events.items };
+    ghost invariant = { λ h. IsRecalled h.tables h.events.items × (length h.events.items ≤ h.limit.events) };
 }
 
 impl History {
-    /// The history without events. It takes no memory.
+    /// The history without events, with the usual limit. It takes no memory.
     pub fn new(alloc: Global) -> History
-        ensures { result ≡ [] }
+        ensures events { result.events ≡ [] }
+        ensures limit { result.limit ≡ event_limit }
+    {
+        History::with_limit(alloc, Limit::usual())
+    }
+
+    /// The history without events, which may have as many as the limit. It takes no memory.
+    pub fn with_limit(alloc: Global, limit: Limit) -> History
+        ensures events { result.events ≡ [] }
+        ensures limit { result.limit ≡ limit.events }
     {
         History {
             events: Vec::new(alloc),
             tables: Tables::new(alloc),
+            limit,
         }
     }
 
-    /// How many events it has, at most `EVENT_CAP`.
+    /// How many events it has, at most its limit.
     pub fn len(&self) -> usize
-        ensures len { result ≡ length self.now }
-        ensures limit { result ≤ event_cap }
+        ensures len { result ≡ length self.now.events }
+        ensures limit { result ≤ self.now.limit }
+        ensures cap { self.now.limit ≤ event_cap }
     {
+        let _limit = self.limit.events();
         self.events.len()
+    }
+
+    /// Whether it has as many events as its limit.
+    pub fn is_full(&self) -> bool
+        ensures { IsTrue result ↔ (self.now.limit ≤ length self.now.events) }
+    {
+        self.events.len() >= self.limit.events()
     }
 
     /// The event at a place, counted from 0; none past the end.
     pub fn event(&self, i: usize) -> Option<&Event>
-        ensures { option_copied result ≡ slice_get self.now i }
+        ensures { option_copied result ≡ slice_get self.now.events i }
     {
         self.events.get(i)
     }
 
     /// The events in order.
     pub fn events(&self) -> &[Event]
-        ensures events { result.now ≡ self.now }
-        ensures history { IsBoundedHistory self.now }
+        ensures events { result.now ≡ self.now.events }
+        ensures history { IsBoundedHistory self.now.events }
     {
         &self.events
     }
@@ -90,11 +112,12 @@ impl History {
     /// refusal that applies, and the history is then unchanged.
     #[inline(always)]
     pub fn push(&mut self, event: Event) -> Result<(), (Event, EventRefusal)>
-        ensures ok { OnOk result (self.new ≡ self.old ++ event ∷ []) }
-        ensures accepted { OnOk result (refusal_of self.old event ≡ None) }
+        ensures ok { OnOk result (self.new.events ≡ self.old.events ++ event ∷ []) }
+        ensures accepted { OnOk result (refusal_of self.old.limit self.old.events event ≡ None) }
         ensures kept { OnErr result (self.new ≡ self.old) }
         ensures back { IfErr result (λ e. e.0 ≡ event) }
-        ensures reason { IfErr result (λ e. (refusal_of self.old event ≡ Some e.1) ⊎ (e.1 ≡ EventRefusal.Memory)) }
+        ensures reason { IfErr result (λ e. (refusal_of self.old.limit self.old.events event ≡ Some e.1) ⊎ (e.1 ≡ EventRefusal.Memory)) }
+        ensures limit { self.new.limit ≡ self.old.limit }
     {
         if let Some(refusal) = self.refusal(&event) {
             return Err((event, refusal));
@@ -114,9 +137,9 @@ impl History {
 
     /// The first refusal that applies to an event, want of memory aside: none where it may be appended.
     pub fn refusal(&self, event: &Event) -> Option<EventRefusal>
-        ensures { result ≡ refusal_of self.now event.now }
+        ensures { result ≡ refusal_of self.now.limit self.now.events event.now }
     {
-        if self.events.len() >= EVENT_CAP {
+        if self.events.len() >= self.limit.events() {
             Some(EventRefusal::TooMany)
         } else if self.tables.is_busy(event) {
             Some(EventRefusal::Busy)

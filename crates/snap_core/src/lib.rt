@@ -8,7 +8,6 @@ mod gate;
 mod history;
 mod law;
 mod limit;
-mod limited;
 mod tables;
 mod view;
 
@@ -19,5 +18,4 @@ pub use gate::{Gate, OpenGate};
 pub use history::{EVENT_CAP, EventRefusal, History};
 pub use law::histories_grow;
 pub use limit::{EVENT_LIMIT, Limit};
-pub use limited::LimitedHistory;
 pub use view::{View, ViewRefusal};

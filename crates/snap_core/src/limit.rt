@@ -1,5 +1,6 @@
 //! How many events a history may have, by the choice of a caller.
 ghost use Rattle.std.specs.Prelude.{◌≡◌, IsSome, IfSome, ◌↔◌};
+ghost use Rattle.snap_core.specs.Events.{event_cap};
 ghost use Rattle.snap_core.specs.Limits.{IsLimit, event_limit};
 
 use crate::history::EVENT_CAP;
@@ -15,7 +16,7 @@ pub struct Limit {
 }
 
 impl Limit {
-    /// The limit of so many events; none where that is not 1 to `EVENT_CAP`.
+    /// The limit of this many events; none where that is not 1 to `EVENT_CAP`.
     pub fn new(events: u32) -> Option<Limit>
         ensures limit { IfSome result (λ limit. limit.events ≡ events) }
         ensures given { IsSome result ↔ IsLimit events }
@@ -32,6 +33,15 @@ impl Limit {
     {
         Limit {
             events: EVENT_LIMIT as u32,
+        }
+    }
+
+    /// The greatest limit.
+    pub fn greatest() -> Limit
+        ensures { result.events ≡ event_cap }
+    {
+        Limit {
+            events: EVENT_CAP as u32,
         }
     }
 

@@ -1,34 +1,27 @@
 -- What the calls that read a text answer.
 use Rattle.std.specs.Prelude.{◌≡◌, ◌<◌, ⊤, ℕ, List, Result, Ok, Err}
 use Rattle.std.specs.Global.{Vec}
-use Rattle.snap_core.specs.declared.event.Event.{Event}
+use Rattle.snap_core.specs.Limited.{LimitedEvents}
 use Rattle.snap_core.specs.Counting.{Rose}
-use Rattle.snap_core.specs.Limits.{event_limit}
 use Rattle.snap_format.specs.declared.refusal.ReadRefusal.{ReadRefusal}
 use Rattle.snap_format.specs.declared.refusal.ReadRefusal.TheVariants as refusals
-use Rattle.snap_format.specs.Texts.{IsTextWithin, HasFaultWithin}
-use Rattle.snap_format.specs.Records.{HaveRecordsWithin}
+use Rattle.snap_format.specs.Texts.{IsText, HasFault}
+use Rattle.snap_format.specs.Records.{HaveRecords}
 
 -- what an answer says of a text, whose history may have so many events
-abbrev pub RefusesTextWithin : ℕ → List ℕ → ReadRefusal → Type 0
-RefusesTextWithin limit text (refusals.Text place f) = HasFaultWithin limit text place f
-RefusesTextWithin limit text refusals.Device = Unit {0}
-RefusesTextWithin limit text refusals.Memory = Unit {0}
+abbrev pub RefusesText : ℕ → List ℕ → ReadRefusal → Type 0
+RefusesText limit text (refusals.Text place f) = HasFault limit text place f
+RefusesText limit text refusals.Device = Unit {0}
+RefusesText limit text refusals.Memory = Unit {0}
 
-abbrev pub AnswersTextWithin : ℕ → List ℕ → Result (List Event) ReadRefusal → Type 0
-AnswersTextWithin limit text (Ok h) = IsTextWithin limit text h
-AnswersTextWithin limit text (Err e) = RefusesTextWithin limit text e
+abbrev pub AnswersText : ℕ → List ℕ → Result LimitedEvents ReadRefusal → Type 0
+AnswersText limit text (Ok h) = IsText limit text h.events
+AnswersText limit text (Err e) = RefusesText limit text e
 
 -- the same, with the number of each event's record
-abbrev pub AnswersRecordsWithin : ℕ → List ℕ → Result (List Event × Vec ℕ) ReadRefusal → Type 0
-AnswersRecordsWithin limit text (Ok x) = HaveRecordsWithin limit text x.0 x.1.items
-AnswersRecordsWithin limit text (Err e) = RefusesTextWithin limit text e
-
-abbrev pub AnswersText : List ℕ → Result (List Event) ReadRefusal → Type 0
-AnswersText = AnswersTextWithin event_limit
-
-abbrev pub AnswersRecords : List ℕ → Result (List Event × Vec ℕ) ReadRefusal → Type 0
-AnswersRecords = AnswersRecordsWithin event_limit
+abbrev pub AnswersRecords : ℕ → List ℕ → Result (LimitedEvents × Vec ℕ) ReadRefusal → Type 0
+AnswersRecords limit text (Ok x) = HaveRecords limit text x.0.events x.1.items
+AnswersRecords limit text (Err e) = RefusesText limit text e
 
 -- what a room holds then: the text, but where it was too long, or a device or memory failed
 abbrev pub RefusalLeaves : List ℕ → List ℕ → ReadRefusal → Type 0
@@ -41,17 +34,14 @@ Leaves text room (Ok x) = room ≡ text
 Leaves text room (Err e) = RefusalLeaves text room e
 
 -- the same of a text in memory, where no device fails
-abbrev pub RefusesWholeWithin : ℕ → List ℕ → ReadRefusal → Type 0
-RefusesWholeWithin limit text (refusals.Text place f) = HasFaultWithin limit text place f
-RefusesWholeWithin limit text refusals.Device = ⊥
-RefusesWholeWithin limit text refusals.Memory = Unit {0}
+abbrev pub RefusesWhole : ℕ → List ℕ → ReadRefusal → Type 0
+RefusesWhole limit text (refusals.Text place f) = HasFault limit text place f
+RefusesWhole limit text refusals.Device = ⊥
+RefusesWhole limit text refusals.Memory = Unit {0}
 
-abbrev pub AnswersWholeWithin : ℕ → List ℕ → Result (List Event) ReadRefusal → Type 0
-AnswersWholeWithin limit text (Ok h) = IsTextWithin limit text h
-AnswersWholeWithin limit text (Err e) = RefusesWholeWithin limit text e
-
-abbrev pub AnswersWhole : List ℕ → Result (List Event) ReadRefusal → Type 0
-AnswersWhole = AnswersWholeWithin event_limit
+abbrev pub AnswersWhole : ℕ → List ℕ → Result LimitedEvents ReadRefusal → Type 0
+AnswersWhole limit text (Ok h) = IsText limit text h.events
+AnswersWhole limit text (Err e) = RefusesWhole limit text e
 
 -- the count before and after: it rose exactly where the device failed, or stands at its last value
 abbrev pub RefusalCounts : ℕ → ℕ → ReadRefusal → Type 0

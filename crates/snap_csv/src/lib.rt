@@ -12,11 +12,9 @@ mod stamped;
 mod writing;
 
 pub use line::{is_header_line, read_line};
-pub use read::{
-    read_history, read_history_beside, read_history_in, read_history_within, read_text,
-    read_text_within,
-};
-pub use records::{read_records, read_records_within, record_of};
+pub use read::{read_history, read_history_with, read_text};
+pub use records::{read_records, record_of};
 pub use refusal::WriteRefusal;
 pub use snap_format::{ReadRefusal, bytes_within, fault_for};
+pub use snap_text::{TextFault, fields_of};
 pub use writing::{write_history, write_history_stamped};

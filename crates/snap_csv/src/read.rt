@@ -1,7 +1,8 @@
 //! The history of a text, or the first fault.
-ghost use Rattle.std.specs.Prelude.{◌≡◌, ◌∷◌, [], true, List, All, IfSome, IsTrue};
+ghost use Rattle.std.specs.Prelude.{◌≡◌, ◌∷◌, [], true, List, All, IfOk, IfSome, IsTrue};
 ghost use Rattle.snap_core.specs.Counting.{inner_of, failures_in};
-ghost use Rattle.snap_csv.specs.Answers.{AnswersText, AnswersTextWithin, AnswersWhole, AnswersWholeWithin, Counts, Leaves};
+ghost use Rattle.snap_core.specs.Limits.{event_limit};
+ghost use Rattle.snap_csv.specs.Answers.{AnswersText, AnswersWhole, Counts, Leaves};
 ghost use Rattle.snap_csv.specs.inside.Rows.{Stands};
 ghost use Rattle.snap_format.specs.Layout.{is_header_row};
 ghost use Rattle.snap_format.specs.Rows.{rows_of};
@@ -15,9 +16,9 @@ use crate::intake::take_in;
 use crate::rows::{next_row, reader_of};
 use crate::stamped::stamped_history;
 use csv::{ByteRecord, Reader};
-use snap_core::{Counted, History, Limit, LimitedHistory};
+use snap_core::{Counted, History, Limit};
 use snap_format::{ReadRefusal, bytes_within};
-use snap_plain::{history_of_lines, history_of_lines_beside, is_plain, lines_of};
+use snap_plain::{history_of_lines, history_of_lines_shared, is_plain, lines_of};
 use snap_rows::{row_limit, take_fields};
 use snap_text::{Known, TextFault};
 use snap_threads::Cutting;
@@ -29,7 +30,7 @@ use std::thread::Threads;
 fn take_row(
     alloc: Global,
     known: &mut Known,
-    history: &mut LimitedHistory,
+    history: &mut History,
     place: u32,
     row: &ByteRecord,
 ) -> Result<(), ReadRefusal>
@@ -64,8 +65,8 @@ pub(crate) fn numbered_history(
     }
 }
 
-// The same, where the workers of a cutting share the reading.
-fn numbered_beside<Rt: Threads + Sync>(
+// The same, where the workers of a cutting share the reading of a plain text.
+fn numbered_shared<Rt: Threads + Sync>(
     rt: &Rt,
     alloc: Global,
     text: &[u8],
@@ -79,7 +80,7 @@ fn numbered_beside<Rt: Threads + Sync>(
     if !plain {
         return rows_history(alloc, text, limit);
     }
-    history_of_lines_beside(rt, alloc, lines_of(text), limit, cutting)
+    history_of_lines_shared(rt, alloc, lines_of(text), limit, cutting)
 }
 
 // The same of any text, by `csv`.
@@ -136,7 +137,7 @@ fn history_under_header(
 {
     let mut history = History::with_limit(alloc, limit);
     take_rows(alloc, known, reader, row, limit, &mut history)?;
-    Ok((history.into_history(), None))
+    Ok((history, None))
 }
 
 // Adds the events of the records that a reader has left to an empty history, up to the first fault.
@@ -146,11 +147,11 @@ fn take_rows(
     reader: &mut Reader<&[u8]>,
     row: &mut ByteRecord,
     limit: Limit,
-    history: &mut LimitedHistory,
+    history: &mut History,
 ) -> Result<(), ReadRefusal>
     requires limit { history.old.limit ≡ limit.events }
     requires empty { history.old.events ≡ [] }
-    ensures { (rows : List Fields) → Midway limit.events rows (Stands reader.old) history.old.events 0 → TakesRest limit.events rows history.new.events result }
+    ensures { (rows : List Fields) → Midway limit.events rows (Stands reader.old) history.old.events 0 → TakesRest limit.events rows history.new result }
 {
     for i in 0..row_limit(limit) {
         if !next_row(reader, row)? {
@@ -170,8 +171,8 @@ fn history_of(alloc: Global, text: &[u8], plain: bool, limit: Limit) -> Result<H
     Ok(history)
 }
 
-// The same, where the workers of a cutting share the reading.
-fn history_beside<Rt: Threads + Sync>(
+// The same, where the workers of a cutting share the reading of a plain text.
+fn history_shared<Rt: Threads + Sync>(
     rt: &Rt,
     alloc: Global,
     text: &[u8],
@@ -182,56 +183,32 @@ fn history_beside<Rt: Threads + Sync>(
     requires { IsTrue plain → All IsPlain text.now }
     ensures { AnswersRows limit.events (rows_of text.now) result }
 {
-    let (history, _) = numbered_beside(rt, alloc, text, plain, limit, cutting)?;
+    let (history, _) = numbered_shared(rt, alloc, text, plain, limit, cutting)?;
     Ok(history)
 }
 
 /// Reads a history: the whole text first, at most 67,108,864 bytes, and then its records in order. The answer is the
 /// history of the text exactly where the text has no fault, else the first fault with the place of its record, counted
-/// from 1, or place 0 for a text that is too long. `Device` is the answer at the first read that fails, of whatever
-/// kind: it is not tried again, and the reader's count of failures rose, or stands at `u64::MAX`. `Memory` is answered where
-/// memory ran out. With every answer but `Device` the count is as before. After an error a part of the text is taken from the
-/// reader.
+/// from 1, or place 0 for a text that is too long. The history has the usual limit of events. `Device` is the answer at the
+/// first read that fails, of whatever kind: it is not tried again, and the reader's count of failures rose, or stands at
+/// `u64::MAX`. `Memory` is answered where memory ran out. With every answer but `Device` the count is as before. After an error
+/// a part of the text is taken from the reader.
 pub fn read_history<R: Read>(alloc: Global, reader: &mut Counted<R>) -> Result<History, ReadRefusal>
-    ensures text { IfSome (R.remaining (inner_of reader.old)) (λ text. AnswersText text result) }
+    ensures text { IfSome (R.remaining (inner_of reader.old)) (λ text. AnswersText event_limit text result) }
+    ensures limit { IfOk result (λ history. history.limit ≡ event_limit) }
     ensures counts { Counts (failures_in reader.old) (failures_in reader.new) result }
 {
+    let limit = Limit::usual();
     let mut room = Vec::new(alloc);
-    read_history_in(alloc, reader, &mut room)
+    let plain = take_in(alloc, reader, &mut room, limit)?;
+    history_of(alloc, &room, plain, limit)
 }
 
-/// As `read_history`, and leaves the text in a vector, also where the text was refused at a record. The vector's memory can
-/// then serve for something else. What the vector had is lost.
-pub fn read_history_in<R: Read>(
-    alloc: Global,
-    reader: &mut Counted<R>,
-    room: &mut Vec<u8>,
-) -> Result<History, ReadRefusal>
-    ensures text { IfSome (R.remaining (inner_of reader.old)) (λ text. AnswersText text result) }
-    ensures counts { Counts (failures_in reader.old) (failures_in reader.new) result }
-    ensures room { IfSome (R.remaining (inner_of reader.old)) (λ text. Leaves text room.new.items result) }
-{
-    read_history_within(alloc, reader, room, Limit::usual())
-}
-
-/// As `read_history_in`, where the history may have so many events, and the text 1,024 times as many bytes.
-pub fn read_history_within<R: Read>(
-    alloc: Global,
-    reader: &mut Counted<R>,
-    room: &mut Vec<u8>,
-    limit: Limit,
-) -> Result<History, ReadRefusal>
-    ensures text { IfSome (R.remaining (inner_of reader.old)) (λ text. AnswersTextWithin limit.events text result) }
-    ensures counts { Counts (failures_in reader.old) (failures_in reader.new) result }
-    ensures room { IfSome (R.remaining (inner_of reader.old)) (λ text. Leaves text room.new.items result) }
-{
-    let plain = take_in(alloc, reader, room, limit)?;
-    history_of(alloc, room, plain, limit)
-}
-
-/// As `read_history_within`, where workers of a cutting read pieces of a long text side by side. A text with stamps, quotes or
-/// carriage returns is read by the calling thread alone.
-pub fn read_history_beside<Rt: Threads + Sync, R: Read>(
+/// Reads as `read_history`, where the history may have as many events as the limit says, and the text 1,024 times as many bytes.
+/// The history has this limit. Workers of a cutting read pieces of a long text side by side; one with stamps, quotes or carriage
+/// returns is read by the calling thread alone. The text is left in a vector, also where it was refused at a record, so that the
+/// vector's memory can serve for something else. What the vector had is lost.
+pub fn read_history_with<Rt: Threads + Sync, R: Read>(
     rt: &Rt,
     alloc: Global,
     reader: &mut Counted<R>,
@@ -239,24 +216,20 @@ pub fn read_history_beside<Rt: Threads + Sync, R: Read>(
     limit: Limit,
     cutting: Cutting,
 ) -> Result<History, ReadRefusal>
-    ensures text { IfSome (R.remaining (inner_of reader.old)) (λ text. AnswersTextWithin limit.events text result) }
+    ensures text { IfSome (R.remaining (inner_of reader.old)) (λ text. AnswersText limit.events text result) }
+    ensures limit { IfOk result (λ history. history.limit ≡ limit.events) }
     ensures counts { Counts (failures_in reader.old) (failures_in reader.new) result }
     ensures room { IfSome (R.remaining (inner_of reader.old)) (λ text. Leaves text room.new.items result) }
 {
     let plain = take_in(alloc, reader, room, limit)?;
-    history_beside(rt, alloc, room, plain, limit, cutting)
+    history_shared(rt, alloc, room, plain, limit, cutting)
 }
 
-/// Reads the history of a text in memory, as `read_history` does of a reader: the text is not copied, and no device can fail.
-pub fn read_text(alloc: Global, text: &[u8]) -> Result<History, ReadRefusal>
-    ensures { AnswersWhole text.now result }
-{
-    read_text_within(alloc, text, Limit::usual())
-}
-
-/// As `read_text`, where the history may have so many events, and the text 1,024 times as many bytes.
-pub fn read_text_within(alloc: Global, text: &[u8], limit: Limit) -> Result<History, ReadRefusal>
-    ensures { AnswersWholeWithin limit.events text.now result }
+/// Reads the history of a text in memory: the text is not copied, and no device can fail. The history may have as many events as
+/// the limit says, and the text 1,024 times as many bytes.
+pub fn read_text(alloc: Global, text: &[u8], limit: Limit) -> Result<History, ReadRefusal>
+    ensures text { AnswersWhole limit.events text.now result }
+    ensures limit { IfOk result (λ history. history.limit ≡ limit.events) }
 {
     if text.len() > bytes_within(limit) {
         return Err(ReadRefusal::Text {

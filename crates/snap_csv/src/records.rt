@@ -4,7 +4,7 @@ ghost use Rattle.std.specs.List.{range_with_len};
 ghost use Rattle.csv.specs.Records.{fields_of};
 ghost use Rattle.snap_core.specs.Counting.{inner_of, failures_in};
 ghost use Rattle.snap_core.specs.Events.{event_cap};
-ghost use Rattle.snap_csv.specs.Answers.{AnswersRecords, AnswersRecordsWithin, Counts, Leaves};
+ghost use Rattle.snap_csv.specs.Answers.{AnswersRecords, Counts, Leaves};
 ghost use Rattle.snap_csv.specs.inside.Rows.{AnswersListed, Stands};
 ghost use Rattle.snap_format.specs.Records.{record_at};
 ghost use Rattle.snap_format.specs.Rows.{rows_of};
@@ -49,37 +49,25 @@ fn listed_history(
 ) -> Result<(History, Vec<u32>), ReadRefusal>
     requires { IsTrue plain → All IsPlain text.now }
     ensures rows { AnswersListed limit.events (rows_of text.now) result }
-    ensures each { IfOk result (λ x. length x.1.items ≡ length x.0) }
+    ensures each { IfOk result (λ x. length x.1.items ≡ length x.0.events) }
 {
     let (history, kept) = numbered_history(alloc, text, plain, limit)?;
     let records = numbers_in(alloc, history.len(), kept)?;
     Ok((history, records))
 }
 
-/// Reads as `read_history_in`, and gives with the history the number of each event's record, counted from 1: the header is
-/// record 1. The vector then has the text, also where the text was refused at a record, which `record_of` can look up.
+/// Reads a history as `read_history_with`, on the calling thread alone, and gives with it the number of each event's record, counted
+/// from 1: the header is record 1. The vector then has the text, also where the text was refused at a record, which `record_of` can
+/// look up. The history may have as many events as the limit says, and the text 1,024 times as many bytes.
 pub fn read_records<R: Read>(
-    alloc: Global,
-    reader: &mut Counted<R>,
-    room: &mut Vec<u8>,
-) -> Result<(History, Vec<u32>), ReadRefusal>
-    ensures text { IfSome (R.remaining (inner_of reader.old)) (λ text. AnswersRecords text result) }
-    ensures each { IfOk result (λ x. length x.1.items ≡ length x.0) }
-    ensures counts { Counts (failures_in reader.old) (failures_in reader.new) result }
-    ensures room { IfSome (R.remaining (inner_of reader.old)) (λ text. Leaves text room.new.items result) }
-{
-    read_records_within(alloc, reader, room, Limit::usual())
-}
-
-/// As `read_records`, where the history may have so many events, and the text 1,024 times as many bytes.
-pub fn read_records_within<R: Read>(
     alloc: Global,
     reader: &mut Counted<R>,
     room: &mut Vec<u8>,
     limit: Limit,
 ) -> Result<(History, Vec<u32>), ReadRefusal>
-    ensures text { IfSome (R.remaining (inner_of reader.old)) (λ text. AnswersRecordsWithin limit.events text result) }
-    ensures each { IfOk result (λ x. length x.1.items ≡ length x.0) }
+    ensures text { IfSome (R.remaining (inner_of reader.old)) (λ text. AnswersRecords limit.events text result) }
+    ensures each { IfOk result (λ x. length x.1.items ≡ length x.0.events) }
+    ensures limit { IfOk result (λ x. x.0.limit ≡ limit.events) }
     ensures counts { Counts (failures_in reader.old) (failures_in reader.new) result }
     ensures room { IfSome (R.remaining (inner_of reader.old)) (λ text. Leaves text room.new.items result) }
 {

@@ -68,5 +68,5 @@ pub(crate) fn stamped_history(
 {
     let mut stamped = Vec::new(alloc);
     let read = read_stamped(alloc, known, reader, row, limit, &mut stamped);
-    history_by_stamps(alloc, stamped, read)
+    history_by_stamps(alloc, stamped, read, limit)
 }

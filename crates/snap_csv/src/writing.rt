@@ -90,7 +90,7 @@ fn send_text<W: Write>(writer: &mut Counted<W>, text: &[u8]) -> Result<(), Write
 
 // The text of a history.
 fn text_of(alloc: Global, history: &History) -> Result<Vec<u8>, AllocError>
-    ensures { IfOk result (λ text. text.items ≡ history_text history.now) }
+    ensures { IfOk result (λ text. text.items ≡ history_text history.now.events) }
 {
     let mut writer = begin_text(alloc)?;
     let events = history.events();
@@ -110,7 +110,7 @@ pub fn write_history<W: Write>(
     writer: &mut Counted<W>,
     history: &History,
 ) -> Result<(), WriteRefusal>
-    ensures text { Writes (W.contents (inner_of writer.old)) (W.contents (inner_of writer.new)) (history_text history.now) result }
+    ensures text { Writes (W.contents (inner_of writer.old)) (W.contents (inner_of writer.new)) (history_text history.now.events) result }
     ensures counts { CountsWrite (failures_in writer.old) (failures_in writer.new) result }
 {
     let text = text_of(alloc, history)?;
@@ -162,8 +162,8 @@ fn begin_stamped(alloc: Global) -> Result<Writer<Vec<u8>>, AllocError>
 
 // The text of a history with a stamp for each event.
 fn stamped_text_of(alloc: Global, history: &History, at: &[u64]) -> Result<Vec<u8>, AllocError>
-    requires { length at.now ≡ length history.now }
-    ensures { IfOk result (λ text. text.items ≡ stamped_text at.now history.now) }
+    requires { length at.now ≡ length history.now.events }
+    ensures { IfOk result (λ text. text.items ≡ stamped_text at.now history.now.events) }
 {
     let mut writer = begin_stamped(alloc)?;
     let events = history.events();
@@ -182,9 +182,9 @@ pub fn write_history_stamped<W: Write>(
     history: &History,
     at: &[u64],
 ) -> Result<(), WriteRefusal>
-    requires each { length at.now ≡ length history.now }
+    requires each { length at.now ≡ length history.now.events }
     requires rising { IsStrictlyIncreasing at.now }
-    ensures text { Writes (W.contents (inner_of writer.old)) (W.contents (inner_of writer.new)) (stamped_text at.now history.now) result }
+    ensures text { Writes (W.contents (inner_of writer.old)) (W.contents (inner_of writer.new)) (stamped_text at.now history.now.events) result }
     ensures counts { CountsWrite (failures_in writer.old) (failures_in writer.new) result }
 {
     let text = stamped_text_of(alloc, history, at)?;

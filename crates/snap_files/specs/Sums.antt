@@ -5,6 +5,7 @@ use Rattle.std.specs.Io.KnownBytes.{Appends}
 use Rattle.snap_core.specs.Sending.{SendsFront}
 use Rattle.snap_core.specs.declared.limit.Limit.{Limit}
 use Rattle.snap_names.specs.Shown.{shown}
+use Rattle.snap_check.specs.declared.workers.TheConstants.{SHARED_FROM}
 use Rattle.snap_files.specs.Files.{ArePages, Opens, Page, Told, answer_code, greatest_code, said}
 use Rattle.snap_files.specs.declared.format.FileOptions.{FileOptions}
 use Rattle.snap_files.specs.declared.format.Format.TheVariants.{Plain}
@@ -41,7 +42,7 @@ sums_text files =
 
 -- what is asked of each text of which only the status is counted
 abbrev pub counting : Limit → ℕ → FileOptions
-counting limit views = record { format = Plain; check = record { quiet = true; views = views; limit = limit } }
+counting limit views = record { format = Plain; check = record { quiet = true; views = views; limit = limit; alone_below = SHARED_FROM } }
 
 -- the names were all judged: the greatest status, the sums that were written, and what was said
 pub record SumsAll (opens : Opens) (limit : Limit) (views : ℕ) (names : List (Vec ℕ)) (old new : Option (List ℕ)) (told_old told_new : Option (List ℕ)) (failures_old failures_new : ℕ) (code : ℕ) : Type 0 where

@@ -1,7 +1,8 @@
 //! What a check of several texts is asked for.
 ghost use Rattle.std.specs.Prelude.{◌≡◌, MatchBool};
+ghost use Rattle.snap_check.specs.declared.workers.TheConstants.{SHARED_FROM};
 
-use snap_check::CheckOptions;
+use snap_check::{CheckOptions, SHARED_FROM};
 use snap_core::Limit;
 
 /// In which form the answer on a text is written.
@@ -24,10 +25,12 @@ pub struct FileOptions {
 
 impl FileOptions {
     /// The options of a check that answers with objects if `json` is set, and else with reports. A report is short if `quiet` is
-    /// set. A history needs so many completed views, and may have as many events as the limit says.
+    /// set. A history needs so many completed views, and may have as many events as the limit says. A text of fewer than
+    /// `SHARED_FROM` bytes has one worker.
     pub fn new(json: bool, quiet: bool, views: u32, limit: Limit) -> FileOptions
         ensures format { MatchBool json (result.format ≡ Format.Json) (result.format ≡ Format.Plain) }
         ensures check { (result.check.quiet ≡ quiet) × (result.check.views ≡ views) × (result.check.limit ≡ limit) }
+        ensures alone { result.check.alone_below ≡ SHARED_FROM }
     {
         FileOptions {
             format: if json { Format::Json } else { Format::Plain },
@@ -35,6 +38,7 @@ impl FileOptions {
                 quiet,
                 views,
                 limit,
+                alone_below: SHARED_FROM,
             },
         }
     }

@@ -87,8 +87,7 @@ fn object<Rt: Threads + Sync, R: Read + Drop, G: Gate>(
         &mut writer,
         cutting,
         gate,
-        options.views,
-        options.limit,
+        options,
     )?;
     Ok((Some(status), writer.into_inner()))
 }

@@ -11,7 +11,7 @@ use crate::format::{FileOptions, Format};
 use crate::page::{Answer, code_of, told_of};
 use crate::round::{pages_of, round_at};
 use crate::sums::Sums;
-use snap_check::{CheckOptions, RunFault};
+use snap_check::{CheckOptions, RunFault, SHARED_FROM};
 use snap_core::{Counted, Gate, Limit};
 use snap_names::Opener;
 use snap_threads::Cutting;
@@ -29,6 +29,7 @@ fn options_of(limit: Limit, views: u32) -> FileOptions
             quiet: true,
             views,
             limit,
+            alone_below: SHARED_FROM,
         },
     }
 }

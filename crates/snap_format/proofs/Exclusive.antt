@@ -8,7 +8,7 @@ use Rattle.snap_format.specs.Rows.{rows_of}
 use Rattle.snap_format.specs.Layout.{is_header_row, is_stamped_header_row}
 use Rattle.snap_format.specs.Faults.{FirstFault, NoFault, fault_at}
 use Rattle.snap_format.specs.Stamps.{FirstOf, NoneOf, OrderFault, ShapeFault, StampedFault, StampedRead, events_of, nothing, order_at, shape_at}
-use Rattle.snap_format.specs.Texts.{HasFaultWithin, IsTextWithin, RowsFault, RowsRead}
+use Rattle.snap_format.specs.Texts.{HasFault, IsText, RowsFault, RowsRead}
 use Rattle.snap_format.proofs.StampOnce.{none_and_first, one_first, one_place, one_sort}
 
 -- no record is both headers
@@ -27,7 +27,7 @@ stamps_apart : (limit : ℕ) (rows : List Fields) (events : List Event) (place :
 stamps_apart limit rows events place f read (inl fault) = none_and_first _ _ fault.i f read.shapes fault.first
 stamps_apart limit rows events place f read (inr fault) =
     let same = one_sort rows read.sorted fault.sorted read.order fault.order in
-    none_and_first _ _ fault.i f (subst (λ xs. NoneOf (order_at xs) (length xs)) same read.fine) fault.first
+    none_and_first _ _ fault.i f (subst (λ xs. NoneOf (order_at limit xs) (length xs)) same read.fine) fault.first
 
 rows_apart : (limit : ℕ) (rows : List Fields) (events : List Event) (place : ℕ) (f : TextFault) → RowsRead limit rows events → RowsFault limit rows place f → ⊥
 rows_apart limit [] events place f read fault = read
@@ -38,7 +38,7 @@ rows_apart limit (head ∷ rows) events place f (inr read) (inl fault) = let a =
 rows_apart limit (head ∷ rows) events place f (inr read) (inr (inl fault)) = one_header head fault.0 read.0
 rows_apart limit (head ∷ rows) events place f (inr read) (inr (inr fault)) = stamps_apart limit rows events place f read.1 fault.1
 
-pub apart : (limit : ℕ) (text : List ℕ) (events : List Event) (place : ℕ) (f : TextFault) → IsTextWithin limit text events → HasFaultWithin limit text place f → ⊥
+pub apart : (limit : ℕ) (text : List ℕ) (events : List Event) (place : ℕ) (f : TextFault) → IsText limit text events → HasFault limit text place f → ⊥
 apart limit text events place f read (inl fault) = let long = fault.0 in let short = read.0 in omega arith
 apart limit text events place f read (inr fault) = rows_apart limit (rows_of text) events place f read.1 fault.1
 
@@ -60,10 +60,10 @@ shapes_once limit rows p q f g a b =
 orders_once : (limit : ℕ) (rows : List Fields) (p q : ℕ) (f g : TextFault) → OrderFault limit rows p f → OrderFault limit rows q g → (p ≡ q) × (f ≡ g)
 orders_once limit rows p q f g a b =
     let same = one_sort rows b.sorted a.sorted b.order a.order in
-    let moved = subst (λ xs. FirstOf (order_at xs) (length xs) b.i g) same b.first in
-    let e = one_place (order_at a.sorted) (length a.sorted) a.i b.i f g a.first moved in
+    let moved = subst (λ xs. FirstOf (order_at limit xs) (length xs) b.i g) same b.first in
+    let e = one_place (order_at limit a.sorted) (length a.sorted) a.i b.i f g a.first moved in
     let place : q ≡ (slice_index_or a.sorted b.i nothing).place = b.record_is ∙ ap (λ xs. (slice_index_or xs b.i nothing).place) same in
-    (a.record_is ∙ ap (λ n. (slice_index_or a.sorted n nothing).place) e ∙ sym place, one_first (order_at a.sorted) (length a.sorted) a.i b.i f g a.first moved)
+    (a.record_is ∙ ap (λ n. (slice_index_or a.sorted n nothing).place) e ∙ sym place, one_first (order_at limit a.sorted) (length a.sorted) a.i b.i f g a.first moved)
 
 stamps_once : (limit : ℕ) (rows : List Fields) (p q : ℕ) (f g : TextFault) → StampedFault limit rows p f → StampedFault limit rows q g → (p ≡ q) × (f ≡ g)
 stamps_once limit rows p q f g (inl a) (inl b) = shapes_once limit rows p q f g a b
@@ -85,7 +85,7 @@ rows_once limit (head ∷ rows) p q f g (inr (inr a)) (inl b) = let x = a.0 in l
 rows_once limit (head ∷ rows) p q f g (inr (inr a)) (inr (inl b)) = absurd (one_header head b.0 a.0)
 rows_once limit (head ∷ rows) p q f g (inr (inr a)) (inr (inr b)) = stamps_once limit rows p q f g a.1 b.1
 
-pub fault_once : (limit : ℕ) (text : List ℕ) (p q : ℕ) (f g : TextFault) → HasFaultWithin limit text p f → HasFaultWithin limit text q g → (p ≡ q) × (f ≡ g)
+pub fault_once : (limit : ℕ) (text : List ℕ) (p q : ℕ) (f g : TextFault) → HasFault limit text p f → HasFault limit text q g → (p ≡ q) × (f ≡ g)
 fault_once limit text p q f g (inl a) (inl b) = (a.1 ∙ sym b.1, a.2 ∙ sym b.2)
 fault_once limit text p q f g (inl a) (inr b) = let x = a.0 in let y = b.0 in absurd (omega arith)
 fault_once limit text p q f g (inr a) (inl b) = let x = a.0 in let y = b.0 in absurd (omega arith)
@@ -98,5 +98,5 @@ read_once limit (head ∷ rows) xs ys (inl a) (inr b) = absurd (one_header head 
 read_once limit (head ∷ rows) xs ys (inr a) (inl b) = absurd (one_header head b.0 a.0)
 read_once limit (head ∷ rows) xs ys (inr a) (inr b) = a.1.history ∙ ap events_of (one_sort rows a.1.sorted b.1.sorted a.1.order b.1.order) ∙ sym b.1.history
 
-pub text_once : (limit : ℕ) (text : List ℕ) (xs ys : List Event) → IsTextWithin limit text xs → IsTextWithin limit text ys → xs ≡ ys
+pub text_once : (limit : ℕ) (text : List ℕ) (xs ys : List Event) → IsText limit text xs → IsText limit text ys → xs ≡ ys
 text_once limit text xs ys a b = read_once limit (rows_of text) xs ys a.1 b.1

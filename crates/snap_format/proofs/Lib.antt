@@ -6,3 +6,5 @@ pub mod Exclusive
 pub mod StampText
 pub mod LengthFacts
 pub mod RecordFacts
+pub mod Decided
+pub mod Histories

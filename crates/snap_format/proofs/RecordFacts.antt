@@ -20,7 +20,7 @@ use Rattle.snap_format.specs.Stamps.{InOrder, NoneOf, events_of, nothing, places
 use Rattle.snap_text.specs.Spelling.{spelled}
 use Rattle.snap_format.specs.Layout.{stamped_fields}
 use Rattle.snap_format.specs.Texts.{RowsRead}
-use Rattle.snap_format.specs.Records.{HaveRecordsWithin, RowsNumbered, SpellEvents, Spells, record_at}
+use Rattle.snap_format.specs.Records.{HaveRecords, RowsNumbered, SpellEvents, Spells, record_at}
 use Rattle.snap_format.proofs.Exclusive.{one_header}
 use Rattle.snap_text.proofs.GrammarFacts.{bind_ok, record_is, some_or}
 use Rattle.snap_text.proofs.NumberFacts.{number_is}
@@ -28,15 +28,15 @@ use Rattle.snap_format.proofs.StampOnce.{flips, one_sort}
 
 -- ---- records without a fault have the fields of an event
 
-only_fits : (b c : Bool) (before : List Event) (res : Result Event TextFault) → cond (not b) (Some faults.Fields) (cond c (Some faults.TooMany) (fault_with before res)) ≡ None → (x : Event) × (res ≡ Ok x)
-only_fits true false before (Ok x) h = (x, refl)
-only_fits true false before (Err f) h = absurd cc
-only_fits true true before res h = absurd cc
-only_fits false c before res h = absurd cc
+only_fits : (limit : ℕ) (b c : Bool) (before : List Event) (res : Result Event TextFault) → cond (not b) (Some faults.Fields) (cond c (Some faults.TooMany) (fault_with limit before res)) ≡ None → (x : Event) × (res ≡ Ok x)
+only_fits limit true false before (Ok x) h = (x, refl)
+only_fits limit true false before (Err f) h = absurd cc
+only_fits limit true true before res h = absurd cc
+only_fits limit false c before res h = absurd cc
 
 fits : (limit : ℕ) (before : List Event) (r : Fields) → row_fault limit before r ≡ None → (x : Event) × (row_event r ≡ Ok x)
 unfolding row_fault
-fits limit before r h = only_fits (length r == 4) (nat_le limit (length before)) before (row_event r) h
+fits limit before r h = only_fits limit (length r == 4) (nat_le limit (length before)) before (row_event r) h
 
 -- each of these records is read as an event
 Read : List Fields → Type 0
@@ -178,5 +178,5 @@ rows_spell limit (head ∷ rows) events records (inr (stamped, read)) (inr numbe
     let same : read.sorted ≡ numbers.1 = one_sort rows read.sorted numbers.1 read.order numbers.2 in
     rw (read.history, numbers.3, ← same) (stamped_spell limit head rows read.sorted read.shapes read.order)
 
-pub records_spell : (limit : ℕ) (text : List ℕ) (events : List Event) (records : List ℕ) → HaveRecordsWithin limit text events records → SpellEvents (rows_of text) events records
+pub records_spell : (limit : ℕ) (text : List ℕ) (events : List Event) (records : List ℕ) → HaveRecords limit text events records → SpellEvents (rows_of text) events records
 records_spell limit text events records h = rows_spell limit (rows_of text) events records h.history.1 h.numbers

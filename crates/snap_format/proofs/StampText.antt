@@ -15,11 +15,11 @@ use Rattle.csv.specs.Reading.{default_config, records, strip_bom}
 use Rattle.csv.specs.Writing.{fields_text, is_blank, read_back}
 use Rattle.snap_core.specs.declared.event.Event.{Event}
 use Rattle.snap_core.specs.declared.event.Event.TheVariants.{BeginUpdate, BeginView, EndUpdate, EndView}
-use Rattle.snap_core.specs.Events.{EventFits, IsHistory, IsBoundedHistory, event_cap}
+use Rattle.snap_core.specs.Events.{EventFits, IsHistory, IsBoundedHistory}
 use Rattle.snap_text.specs.Fields.{Fields, row_event}
 use Rattle.snap_format.specs.Rows.{rows_of}
 use Rattle.snap_format.specs.Layout.{record_text, stamped_fields, stamped_header, stamped_lines, stamped_text}
-use Rattle.snap_format.specs.Texts.{IsTextWithin, bytes_within}
+use Rattle.snap_format.specs.Texts.{IsText, bytes_within}
 use Rattle.snap_format.proofs.LineFacts.{stamped_header_line, stamped_line_of}
 use Rattle.snap_format.specs.declared.stamped.Stamped.{Stamped}
 use Rattle.snap_format.specs.Faults.{fault_with}
@@ -171,23 +171,23 @@ shapes_fine limit at xs same short up b i lt =
     ∙ ap (λ (e : List ℕ). shape_fault limit i e (get_or (map stamped_fields ps) i [])) stamps
     ∙ ap (shape_fault limit i (take i at)) there ∙ fine
 
-events_fine : (xs : List Event) → IsHistory xs → length xs ≤ event_cap → (i : ℕ) (d : Event) → i < length xs → fault_with (take i xs) (Ok (get_or xs i d)) ≡ None
-events_fine xs h short i d lt =
+events_fine : (limit : ℕ) (xs : List Event) → IsHistory xs → length xs ≤ limit → (i : ℕ) (d : Event) → i < length xs → fault_with limit (take i xs) (Ok (get_or xs i d)) ≡ None
+events_fine limit xs h short i d lt =
     let p = place xs i lt in
-    let fine = none_then p.before p.here (not_refused p.before p.here p.behind (subst (λ (t : List Event). IsHistory t) p.whole h) (omega (arith, p.count, lt, short))) in
+    let fine = none_then limit p.before p.here (not_refused limit p.before p.here p.behind (subst (λ (t : List Event). IsHistory t) p.whole h) (omega (arith, p.count, lt, short))) in
     let before : take i (p.before ++ p.here ∷ p.behind) ≡ p.before = subst (λ n. take n (p.before ++ p.here ∷ p.behind) ≡ p.before) p.count (take-append_seam p.before (p.here ∷ p.behind)) in
     let here : get_or (p.before ++ p.here ∷ p.behind) i d ≡ p.here = subst (λ n. get_or (p.before ++ p.here ∷ p.behind) n d ≡ p.here) p.count (get_or-append_seam p.before p.here p.behind d) in
-    ap (λ (t : List Event). fault_with (take i t) (Ok (get_or t i d))) p.whole
-    ∙ ap (λ (t : List Event). fault_with t (Ok (get_or (p.before ++ p.here ∷ p.behind) i d))) before ∙ ap (λ (x : Event). fault_with p.before (Ok x)) here ∙ fine
+    ap (λ (t : List Event). fault_with limit (take i t) (Ok (get_or t i d))) p.whole
+    ∙ ap (λ (t : List Event). fault_with limit t (Ok (get_or (p.before ++ p.here ∷ p.behind) i d))) before ∙ ap (λ (x : Event). fault_with limit p.before (Ok x)) here ∙ fine
 
-turns_fine : (ys : List Stamped) (xs : List Event) → events_of ys ≡ xs → IsHistory xs → length xs ≤ event_cap → NoneOf (order_at ys) (length ys)
-turns_fine ys xs e h short i lt =
+turns_fine : (limit : ℕ) (ys : List Stamped) (xs : List Event) → events_of ys ≡ xs → IsHistory xs → length xs ≤ limit → NoneOf (order_at limit ys) (length ys)
+turns_fine limit ys xs e h short i lt =
     let size : length xs ≡ length ys = ap length (sym e) ∙ length-map ys (λ (y : Stamped). y.event) in
     let d : Event = BeginView 0 in
     let front : events_of (take i ys) ≡ take i xs = sym (take-map (λ (y : Stamped). y.event) i ys) ∙ ap (take i) e in
     let here : (get_or ys i nothing).event ≡ get_or xs i d = sym (get_or-map (λ (y : Stamped). y.event) ys i nothing d lt) ∙ ap (λ (t : List Event). get_or t i d) e in
-    ap (λ (t : List Event). fault_with t (Ok (get_or ys i nothing).event)) front ∙ ap (λ (x : Event). fault_with (take i xs) (Ok x)) here
-    ∙ events_fine xs h short i d (omega (arith, lt, size))
+    ap (λ (t : List Event). fault_with limit t (Ok (get_or ys i nothing).event)) front ∙ ap (λ (x : Event). fault_with limit (take i xs) (Ok x)) here
+    ∙ events_fine limit xs h short i d (omega (arith, lt, size))
 
 all_back : (ps : List Stamp) → AllByRecursion StampFits ps → AllByRecursion Reads (map (λ (p : Stamp). p.1) ps) → AllBack ps
 unfolding AllBack
@@ -200,7 +200,7 @@ all_fit (n ∷ at) [] a b = tt
 all_fit (n ∷ at) (x ∷ xs) a b =
     ((All-head (λ n. n < 2 ^ 64) n at a, All-head EventFits x xs b), all_fit at xs (All-tail (λ n. n < 2 ^ 64) n at a) (All-tail EventFits x xs b))
 
-pub stamped_reads : (limit : ℕ) (at : List ℕ) (xs : List Event) → IsBoundedHistory xs → length xs ≤ limit → length at ≡ length xs → IsStrictlyIncreasing at → All (λ n. n < 2 ^ 64) at → length (stamped_text at xs) ≤ bytes_within limit → IsTextWithin limit (stamped_text at xs) xs
+pub stamped_reads : (limit : ℕ) (at : List ℕ) (xs : List Event) → IsBoundedHistory xs → length xs ≤ limit → length at ≡ length xs → IsStrictlyIncreasing at → All (λ n. n < 2 ^ 64) at → length (stamped_text at xs) ≤ bytes_within limit → IsText limit (stamped_text at xs) xs
 stamped_reads limit at xs k few same up small short =
     let ps = zip at xs in
     let fits = all_fit at xs small k.fit in
@@ -217,7 +217,7 @@ stamped_reads limit at xs k few same up small short =
           shapes = shapes_fine limit at xs same few up back;
           sorted = stamped_in rows;
           order = record { same = IsPermutation-refl (stamped_in rows); rising = subst (λ (t : List ℕ). IsStrictlyIncreasing t) (sym stamps) up };
-          fine = turns_fine (stamped_in rows) xs events k.history k.short;
+          fine = turns_fine limit (stamped_in rows) xs events k.history few;
           history = sym events;
         },
       )),

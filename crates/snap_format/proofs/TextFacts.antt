@@ -14,7 +14,7 @@ use Rattle.csv.proofs.RoundTrip.{read-write}
 use Rattle.snap_core.specs.declared.event.Event.{Event}
 use Rattle.snap_core.specs.declared.event.Event.TheVariants.{BeginUpdate, BeginView, EndUpdate, EndView}
 use Rattle.std.proofs.lemmas.Bool.{lt-leb}
-use Rattle.snap_core.specs.Events.{EventFits, IsHistory, IsBoundedHistory, IsNumbered, event_cap}
+use Rattle.snap_core.specs.Events.{EventFits, IsHistory, IsBoundedHistory, IsNumbered}
 use Rattle.snap_core.specs.Refusals.{refusal_of}
 use Rattle.snap_core.proofs.Picks.{is_short, picked}
 use Rattle.snap_core.proofs.Pushes.{history_back}
@@ -23,7 +23,7 @@ use Rattle.snap_format.specs.Rows.{rows_of}
 use Rattle.snap_format.specs.Layout.{header, history_text, record_text}
 use Rattle.snap_format.specs.Faults.{NoFault, events_in, fault_at, fault_with, row_fault}
 use Rattle.snap_text.specs.Laws.{HasNumber}
-use Rattle.snap_format.specs.Texts.{IsTextWithin, bytes_within}
+use Rattle.snap_format.specs.Texts.{IsText, bytes_within}
 use Rattle.snap_text.specs.Spelling.{spelled}
 use Rattle.snap_text.proofs.BackFacts.{event_back}
 use Rattle.snap_format.proofs.LineFacts.{header_line, line_of}
@@ -139,14 +139,14 @@ front ys (z ∷ zs) h =
     (history_back ys z longer).0
 
 -- no refusal applies to an event that stands in a history
-pub not_refused : (ys : List Event) (x : Event) (zs : List Event) → IsHistory (ys ++ x ∷ zs) → length ys < event_cap → refusal_of ys x ≡ None
-not_refused ys x zs h lt =
+pub not_refused : (limit : ℕ) (ys : List Event) (x : Event) (zs : List Event) → IsHistory (ys ++ x ∷ zs) → length ys < limit → refusal_of limit ys x ≡ None
+not_refused limit ys x zs h lt =
     let longer = front (ys ++ x ∷ []) zs (subst (λ (t : List Event). IsHistory t) (sym (append_assoc ys (x ∷ []) zs)) h) in
     let a = (history_back ys x longer).1 in
-    picked ys x false false false false false false (is_short ys lt) a.not_busy a.not_idle a.not_other a.writer a.number
+    picked limit ys x false false false false false false (is_short limit ys lt) a.not_busy a.not_idle a.not_other a.writer a.number
 
-pub none_then : (ys : List Event) (x : Event) → refusal_of ys x ≡ None → fault_with ys (Ok x) ≡ None
-none_then ys x none = rw none refl
+pub none_then : (limit : ℕ) (ys : List Event) (x : Event) → refusal_of limit ys x ≡ None → fault_with limit ys (Ok x) ≡ None
+none_then limit ys x none = rw none refl
 
 four_fields : (x : Event) → (length (spelled x) == 4) ≡ true
 four_fields (BeginUpdate p e) = refl
@@ -154,9 +154,9 @@ four_fields (BeginView p) = refl
 four_fields (EndUpdate p) = refl
 four_fields (EndView p es) = refl
 
-row_clean : (limit : ℕ) (ys : List Event) (x : Event) → length ys < limit → refusal_of ys x ≡ None → Reads x → row_fault limit ys (spelled x) ≡ None
+row_clean : (limit : ℕ) (ys : List Event) (x : Event) → length ys < limit → refusal_of limit ys x ≡ None → Reads x → row_fault limit ys (spelled x) ≡ None
 unfolding row_fault
-row_clean limit ys x lt none h = rw (four_fields x, lt-leb limit (length ys) lt, event_back x h.0 h.1) (none_then ys x none)
+row_clean limit ys x lt none h = rw (four_fields x, lt-leb limit (length ys) lt, event_back x h.0 h.1) (none_then limit ys x none)
 
 -- an element with what stands before and behind it
 pub record Place (xs : List Event) (i : ℕ) : Type 0 where
@@ -181,26 +181,25 @@ reads_here : (ys : List Event) (x : Event) (zs : List Event) → AllByRecursion 
 reads_here [] x zs h = h.0
 reads_here (y ∷ ys) x zs h = reads_here ys x zs h.1
 
-clean_at : (limit : ℕ) (ys : List Event) (x : Event) (zs : List Event) → IsHistory (ys ++ x ∷ zs) → length (ys ++ x ∷ zs) ≤ event_cap → length (ys ++ x ∷ zs) ≤ limit → AllByRecursion Reads (ys ++ x ∷ zs)
+clean_at : (limit : ℕ) (ys : List Event) (x : Event) (zs : List Event) → IsHistory (ys ++ x ∷ zs) → length (ys ++ x ∷ zs) ≤ limit → AllByRecursion Reads (ys ++ x ∷ zs)
     → fault_at limit (map spelled (ys ++ x ∷ zs)) (length ys) ≡ None
-clean_at limit ys x zs h short few reads =
+clean_at limit ys x zs h few reads =
     let lt : length ys < limit = omega (arith, few, length-append ys (x ∷ zs)) in
-    let low : length ys < event_cap = omega (arith, short, length-append ys (x ∷ zs)) in
     let rows : map spelled (ys ++ x ∷ zs) ≡ map spelled ys ++ spelled x ∷ map spelled zs = map-append spelled ys (x ∷ zs) in
     let len : length (map spelled ys) ≡ length ys = length-map ys spelled in
     let before : take (length ys) (map spelled ys ++ spelled x ∷ map spelled zs) ≡ map spelled ys = rw (← len) (take-append_seam (map spelled ys) (spelled x ∷ map spelled zs)) in
     let there : get_or (map spelled ys ++ spelled x ∷ map spelled zs) (length ys) [] ≡ spelled x = rw (← len) (get_or-append_seam (map spelled ys) (spelled x) (map spelled zs) []) in
     ap (λ (t : List Fields). fault_at limit t (length ys)) rows
-    ∙ rw (before, there, events_back ys (reads_front ys (x ∷ zs) reads)) (row_clean limit ys x lt (not_refused ys x zs h low) (reads_here ys x zs reads))
+    ∙ rw (before, there, events_back ys (reads_front ys (x ∷ zs) reads)) (row_clean limit ys x lt (not_refused limit ys x zs h lt) (reads_here ys x zs reads))
 
-no_fault : (limit : ℕ) (xs : List Event) → IsHistory xs → length xs ≤ event_cap → length xs ≤ limit → AllByRecursion Reads xs → NoFault limit (map spelled xs)
-no_fault limit xs h short few reads = λ i lt.
+no_fault : (limit : ℕ) (xs : List Event) → IsHistory xs → length xs ≤ limit → AllByRecursion Reads xs → NoFault limit (map spelled xs)
+no_fault limit xs h few reads = λ i lt.
     let p = place xs i (omega (arith, lt, length-map xs spelled)) in
     let here = clean_at limit p.before p.here p.behind (subst (λ (t : List Event). IsHistory t) p.whole h)
-    (subst (λ (t : List Event). length t ≤ event_cap) p.whole short) (subst (λ (t : List Event). length t ≤ limit) p.whole few) (subst (λ (t : List Event). AllByRecursion Reads t) p.whole reads) in
+    (subst (λ (t : List Event). length t ≤ limit) p.whole few) (subst (λ (t : List Event). AllByRecursion Reads t) p.whole reads) in
     subst (λ (t : List Event). fault_at limit (map spelled t) i ≡ None) (sym p.whole) (subst (λ n. fault_at limit (map spelled (p.before ++ p.here ∷ p.behind)) n ≡ None) p.count here)
 
-pub text_reads : (limit : ℕ) (xs : List Event) → IsBoundedHistory xs → length xs ≤ limit → length (history_text xs) ≤ bytes_within limit → IsTextWithin limit (history_text xs) xs
+pub text_reads : (limit : ℕ) (xs : List Event) → IsBoundedHistory xs → length xs ≤ limit → length (history_text xs) ≤ bytes_within limit → IsText limit (history_text xs) xs
 text_reads limit xs k few short =
     let reads = each_reads xs [] xs k.history.numbered refl k.fit in
-    (short, rw (text_rows xs k.fit) (inl (refl, no_fault limit xs k.history k.short few reads, sym (events_back xs reads))))
+    (short, rw (text_rows xs k.fit) (inl (refl, no_fault limit xs k.history few reads, sym (events_back xs reads))))

@@ -27,10 +27,10 @@ fault_of refusals.Writer = Some faults.Writer
 fault_of refusals.Number = Some faults.Number
 fault_of refusals.Memory = None
 
--- the fault in a record's fields, or else the first refusal of its event behind the events before it
-abbrev pub fault_with : List Event → Result Event TextFault → Option TextFault
-fault_with before (Err f) = Some f
-fault_with before (Ok x) = option_and_then fault_of (refusal_of before x)
+-- the fault in a record's fields, or else the first refusal of its event behind the events before it, where a history may have so many events
+abbrev pub fault_with : ℕ → List Event → Result Event TextFault → Option TextFault
+fault_with limit before (Err f) = Some f
+fault_with limit before (Ok x) = option_and_then fault_of (refusal_of limit before x)
 
 -- the first fault of a record under the header, with the events before it: how many fields it has, whether the history is full,
 -- what the fields spell, and what the event is after those events
@@ -38,7 +38,7 @@ unfoldable pub row_fault : ℕ → List Event → Fields → Option TextFault
 row_fault limit before r =
     if not (length r == 4) then Some faults.Fields
     else if nat_le limit (length before) then Some faults.TooMany
-    else fault_with before (row_event r)
+    else fault_with limit before (row_event r)
 
 -- the same of the record at a place among those under the header
 abbrev pub fault_at : ℕ → List Fields → ℕ → Option TextFault

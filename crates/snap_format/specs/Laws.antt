@@ -1,15 +1,15 @@
 -- What is proved of all histories and texts.
-use Rattle.std.specs.Prelude.{◌≡◌, ◌<◌, ◌^◌, ◌*◌, ⊤, All, ◌≤◌, ℕ, List, length, true}
+use Rattle.std.specs.Prelude.{◌≡◌, ◌<◌, ◌^◌, ◌*◌, ◌⊎◌, ⊤, All, ◌≤◌, ℕ, List, length, true}
 use Rattle.std.specs.List.Sorted.{IsStrictlyIncreasing}
 use Rattle.snap_core.specs.declared.event.Event.{Event}
 use Rattle.snap_core.specs.declared.event.Event.TheVariants.{EndView}
-use Rattle.snap_core.specs.Events.{IsBoundedHistory}
+use Rattle.snap_core.specs.Events.{IsBoundedHistory, event_cap}
 use Rattle.snap_text.specs.declared.fault.TextFault.{TextFault}
 use Rattle.snap_text.specs.Fields.{Fields}
 use Rattle.snap_format.specs.Rows.{rows_of}
 use Rattle.snap_format.specs.Layout.{history_text, is_header_row, is_stamped_header_row, stamped_text}
-use Rattle.snap_format.specs.Texts.{HasFaultWithin, IsTextWithin, bytes_within}
-use Rattle.snap_format.specs.Records.{HaveRecordsWithin, SpellEvents}
+use Rattle.snap_format.specs.Texts.{HasFault, IsText, bytes_within}
+use Rattle.snap_format.specs.Records.{HaveRecords, SpellEvents}
 
 -- the text of every history of at most a quarter of so many events is within the limit of bytes for them
 abbrev pub TextsAreShort : Type 0
@@ -32,24 +32,33 @@ NarrowTextsAreShort =
 abbrev pub TextsReadBack : Type 0
 TextsReadBack =
     (limit : ℕ) (events : List Event) → IsBoundedHistory events → length events ≤ limit → length (history_text events) ≤ bytes_within limit →
-    IsTextWithin limit (history_text events) events
+    IsText limit (history_text events) events
 
 -- a text that is one of a history has no fault
 abbrev pub TextsHaveNoFault : Type 0
 TextsHaveNoFault =
-    (limit : ℕ) (text : List ℕ) (events : List Event) (place : ℕ) (fault : TextFault) → IsTextWithin limit text events →
-    HasFaultWithin limit text place fault → ⊥
+    (limit : ℕ) (text : List ℕ) (events : List Event) (place : ℕ) (fault : TextFault) → IsText limit text events →
+    HasFault limit text place fault → ⊥
 
 -- a text is one of at most one history
 abbrev pub TextsHaveOneReading : Type 0
-TextsHaveOneReading = (limit : ℕ) (text : List ℕ) (xs ys : List Event) → IsTextWithin limit text xs → IsTextWithin limit text ys → xs ≡ ys
+TextsHaveOneReading = (limit : ℕ) (text : List ℕ) (xs ys : List Event) → IsText limit text xs → IsText limit text ys → xs ≡ ys
 
 -- and has at most one first fault, at one place
 abbrev pub TextsHaveOneFault : Type 0
 TextsHaveOneFault =
-    (limit : ℕ) (text : List ℕ) (place other : ℕ) (fault another : TextFault) → HasFaultWithin limit text place fault →
-    HasFaultWithin limit text other another →
+    (limit : ℕ) (text : List ℕ) (place other : ℕ) (fault another : TextFault) → HasFault limit text place fault →
+    HasFault limit text other another →
     (place ≡ other) × (fault ≡ another)
+
+-- each text is one of a history, or it has a first fault
+abbrev pub TextsAreDecided : Type 0
+TextsAreDecided =
+    (limit : ℕ) (text : List ℕ) → ((events : List Event) × IsText limit text events) ⊎ ((place : ℕ) × (fault : TextFault) × HasFault limit text place fault)
+
+-- the events of a text within a limit that may be chosen are a history
+abbrev pub TextsAreHistories : Type 0
+TextsAreHistories = (limit : ℕ) (text : List ℕ) (events : List Event) → limit ≤ event_cap → IsText limit text events → IsBoundedHistory events
 
 -- no record is the header of texts without stamps and of texts with them
 abbrev pub HeadersDiffer : Type 0
@@ -60,10 +69,10 @@ abbrev pub StampedTextsReadBack : Type 0
 StampedTextsReadBack =
     (limit : ℕ) (at : List ℕ) (events : List Event) → IsBoundedHistory events → length events ≤ limit → length at ≡ length events →
     IsStrictlyIncreasing at → All (λ n. n < 2 ^ 64) at → length (stamped_text at events) ≤ bytes_within limit →
-    IsTextWithin limit (stamped_text at events) events
+    IsText limit (stamped_text at events) events
 
 -- the record of each event's number spells that event
 abbrev pub RecordsSpellEvents : Type 0
 RecordsSpellEvents =
-    (limit : ℕ) (text : List ℕ) (events : List Event) (records : List ℕ) → HaveRecordsWithin limit text events records →
+    (limit : ℕ) (text : List ℕ) (events : List Event) (records : List ℕ) → HaveRecords limit text events records →
     SpellEvents (rows_of text) events records

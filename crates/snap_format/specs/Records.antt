@@ -2,14 +2,13 @@
 use Rattle.std.specs.Prelude.{◌≡◌, ◌⊎◌, ◌==◌, ℕ, zero, suc, true, List, [], ◌∷◌, length, Option, Some, None, slice_get}
 use Rattle.std.specs.List.{IsDistinct, range_with_len}
 use Rattle.snap_core.specs.declared.event.Event.{Event}
-use Rattle.snap_core.specs.Limits.{event_limit}
 use Rattle.snap_format.specs.declared.stamped.Stamped.{Stamped}
 use Rattle.snap_text.specs.Fields.{Fields}
 use Rattle.snap_format.specs.Rows.{rows_of}
 use Rattle.snap_format.specs.Layout.{is_header_row, is_stamped_header_row, stamped_fields}
 use Rattle.snap_format.specs.Stamps.{InOrder, places_of}
 use Rattle.snap_text.specs.Spelling.{spelled}
-use Rattle.snap_format.specs.Texts.{IsTextWithin}
+use Rattle.snap_format.specs.Texts.{IsText}
 
 -- the fields of a record, where the text has one of this number
 abbrev pub record_at : List Fields → ℕ → Option Fields
@@ -25,13 +24,9 @@ RowsNumbered (head ∷ rows) numbers =
     ⊎ ((is_stamped_header_row head ≡ true) × (sorted : List Stamped) × InOrder rows sorted × (numbers ≡ places_of sorted))
 
 -- a text without a fault, its history of so many events at most, and the number of each event's record
-pub record HaveRecordsWithin (limit : ℕ) (text : List ℕ) (events : List Event) (records : List ℕ) : Type 0 where
-  pub history : IsTextWithin limit text events
+pub record HaveRecords (limit : ℕ) (text : List ℕ) (events : List Event) (records : List ℕ) : Type 0 where
+  pub history : IsText limit text events
   pub numbers : RowsNumbered (rows_of text) records
-
--- the same where no limit of events is chosen
-abbrev pub HaveRecords : List ℕ → List Event → List ℕ → Type 0
-HaveRecords = HaveRecordsWithin event_limit
 
 -- a record has the four fields of an event, behind a stamp where the text has stamps
 abbrev pub Spells : Fields → Event → Type 0

@@ -62,8 +62,8 @@ abbrev pub nothing : Stamped
 nothing = record { at = 0; place = 0; event = BeginView 0 }
 
 -- the fault of an event behind those with smaller stamps
-abbrev pub order_at : List Stamped → ℕ → Option TextFault
-order_at xs i = fault_with (events_of (take i xs)) (Ok (slice_index_or xs i nothing).event)
+abbrev pub order_at : ℕ → List Stamped → ℕ → Option TextFault
+order_at limit xs i = fault_with limit (events_of (take i xs)) (Ok (slice_index_or xs i nothing).event)
 
 -- none of the first so many has a fault
 abbrev pub NoneOf : (ℕ → Option TextFault) → ℕ → Type 0
@@ -85,7 +85,7 @@ pub record StampedRead (limit : ℕ) (rows : List Fields) (events : List Event) 
   pub shapes : NoneOf (shape_at limit rows) (length rows)
   pub sorted : List Stamped
   pub order : InOrder rows sorted
-  pub fine : NoneOf (order_at sorted) (length sorted)
+  pub fine : NoneOf (order_at limit sorted) (length sorted)
   pub history : events ≡ events_of sorted
 
 -- the least record with a fault by itself
@@ -100,7 +100,7 @@ pub record OrderFault (limit : ℕ) (rows : List Fields) (place : ℕ) (f : Text
   pub sorted : List Stamped
   pub order : InOrder rows sorted
   pub i : ℕ
-  pub first : FirstOf (order_at sorted) (length sorted) i f
+  pub first : FirstOf (order_at limit sorted) (length sorted) i f
   pub record_is : place ≡ (slice_index_or sorted i nothing).place
 
 abbrev pub StampedFault : ℕ → List Fields → ℕ → TextFault → Type 0

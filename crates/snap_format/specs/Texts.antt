@@ -1,7 +1,6 @@
 -- When a byte text is one of a history, and where else its first fault is.
 use Rattle.std.specs.Prelude.{◌≡◌, ◌≤◌, ◌<◌, ◌+◌, ◌*◌, ◌⊎◌, ℕ, true, false, List, [], ◌∷◌, length}
 use Rattle.snap_core.specs.declared.event.Event.{Event}
-use Rattle.snap_core.specs.Limits.{event_limit}
 use Rattle.snap_format.specs.declared.size.TheConstants.{BYTES_EACH}
 use Rattle.snap_text.specs.declared.fault.TextFault.{TextFault}
 use Rattle.snap_text.specs.declared.fault.TextFault.TheVariants as faults
@@ -14,10 +13,6 @@ use Rattle.snap_format.specs.Stamps.{StampedFault, StampedRead}
 -- how many bytes a text may have where its history may have so many events
 abbrev pub bytes_within : ℕ → ℕ
 bytes_within limit = limit * BYTES_EACH
-
--- how many bytes a text may have where no limit of events is chosen
-abbrev pub byte_limit : ℕ
-byte_limit = bytes_within event_limit
 
 -- what records are a history of so many events at most, without stamps or with them: none where the first is neither header
 abbrev pub RowsRead : ℕ → List Fields → List Event → Type 0
@@ -35,18 +30,11 @@ RowsFault limit (head ∷ rows) place f =
     ⊎ ((is_stamped_header_row head ≡ true) × StampedFault limit rows place f))
 
 -- a text without a fault, and its history of so many events at most
-abbrev pub IsTextWithin : ℕ → List ℕ → List Event → Type 0
-IsTextWithin limit text events = (length text ≤ bytes_within limit) × RowsRead limit (rows_of text) events
+abbrev pub IsText : ℕ → List ℕ → List Event → Type 0
+IsText limit text events = (length text ≤ bytes_within limit) × RowsRead limit (rows_of text) events
 
 -- the first fault of a text, and its place
-abbrev pub HasFaultWithin : ℕ → List ℕ → ℕ → TextFault → Type 0
-HasFaultWithin limit text place f =
+abbrev pub HasFault : ℕ → List ℕ → ℕ → TextFault → Type 0
+HasFault limit text place f =
     ((bytes_within limit < length text) × (place ≡ 0) × (f ≡ faults.TooLong))
     ⊎ ((length text ≤ bytes_within limit) × RowsFault limit (rows_of text) place f)
-
--- the same where no limit is chosen
-abbrev pub IsText : List ℕ → List Event → Type 0
-IsText = IsTextWithin event_limit
-
-abbrev pub HasFault : List ℕ → ℕ → TextFault → Type 0
-HasFault = HasFaultWithin event_limit

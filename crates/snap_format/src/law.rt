@@ -1,5 +1,5 @@
 //! Laws of texts.
-ghost use Rattle.snap_format.specs.Laws.{HeadersDiffer, NarrowTextsAreShort, RecordsSpellEvents, StampedTextsReadBack, TextsAreShort, TextsHaveNoFault, TextsHaveOneFault, TextsHaveOneReading, TextsReadBack};
+ghost use Rattle.snap_format.specs.Laws.{HeadersDiffer, NarrowTextsAreShort, RecordsSpellEvents, StampedTextsReadBack, TextsAreDecided, TextsAreHistories, TextsAreShort, TextsHaveNoFault, TextsHaveOneFault, TextsHaveOneReading, TextsReadBack};
 
 /// The text of a history has no fault and is that of this history, within every limit of events and its limit of bytes.
 pub fn texts_read_back()
@@ -19,6 +19,16 @@ pub fn texts_are_short()
 /// The text of every history within a limit whose views list at most 36 entries each is within its limit of bytes.
 pub fn narrow_texts_are_short()
     ensures { NarrowTextsAreShort }
+{}
+
+/// Within each limit a text is one of a history, or it has a first fault.
+pub fn texts_are_decided()
+    ensures { TextsAreDecided }
+{}
+
+/// Within a limit that may be chosen, the events of a text are a history.
+pub fn texts_are_histories()
+    ensures { TextsAreHistories }
 {}
 
 /// Within a limit a text is one of at most one history.

@@ -40,9 +40,9 @@ impl<'h> Model for Index<'h> {
 
     ghost use Rattle.snap_index.specs.inside.Tables.{IsIndex};
 
-    ghost view = { λ a. a.history.now };
+    ghost view = { λ a. a.history.now.events };
 
-    ghost invariant = { λ a. IsIndex a.history.now a.calls.items a.views.items a.updates a.pending };
+    ghost invariant = { λ a. IsIndex a.history.now.events a.calls.items a.views.items a.updates a.pending };
 }
 
 // What the event at the end of a call answers, if the call has an end and the event ends a view.
@@ -58,7 +58,7 @@ fn answered(events: &[Event], ended: Option<u32>) -> Option<&View>
 impl<'h> Index<'h> {
     /// The index of a history, which it borrows, by one pass over its events. The error is want of memory.
     pub fn build(alloc: Global, history: &'h History) -> Result<Index<'h>, AllocError>
-        ensures { IfOk result (λ index. index ≡ history.now) }
+        ensures { IfOk result (λ index. index ≡ history.now.events) }
     {
         let events = history.events();
         let calls = list_calls(alloc, events)?;

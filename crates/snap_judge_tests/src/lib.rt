@@ -2,8 +2,6 @@
 #![tactic(auto)]
 
 #[cfg(test)]
-mod chains;
-#[cfg(test)]
 mod comparable;
 #[cfg(test)]
 mod grids;

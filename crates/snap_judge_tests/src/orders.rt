@@ -1,16 +1,17 @@
 //! The printed orders of worked histories, and lists that are legal orders or not.
 use snap_index::Index;
-use snap_order::{build, check_order};
+use snap_order::{build, build_alone, check_order};
 use snap_testing::worked::{ATOMIC_RUN, SEEN_PENDING, VIEW_BESIDE_UPDATE};
 use snap_testing::{Step, history_of};
 use snap_views::{ViewOrder, view_order, view_sums};
 use std::alloc::Global;
 use std::process::Abort;
 use std::test::Fail;
+use std::thread::Threads;
 
 // The list is a legal order, and the one that is printed.
-fn expect_printed(
-    rt: &impl Abort,
+fn expect_printed<R: Threads + Abort + Sync>(
+    rt: &R,
     alloc: Global,
     index: &Index<'_>,
     order: &[u32],
@@ -20,13 +21,14 @@ fn expect_printed(
     let ViewOrder::Faultless(chain) = view_order(alloc, index, sums)? else {
         panic!(rt; "two views are a read fault");
     };
-    assert!(rt; build(alloc, index, chain)?.as_slice() == order);
+    assert!(rt; build_alone(alloc, index, chain)?.as_slice() == order);
+    assert!(rt; build(rt, alloc, index)?.as_slice() == order);
     Ok(())
 }
 
 // A history's printed order is this list.
-fn expect_order(
-    rt: &impl Abort,
+fn expect_order<R: Threads + Abort + Sync>(
+    rt: &R,
     alloc: Global,
     steps: &[Step<'_>],
     order: &[u32],
@@ -34,6 +36,31 @@ fn expect_order(
     let history = history_of(alloc, steps)?;
     let index = Index::build(alloc, &history)?;
     expect_printed(rt, alloc, &index, order)
+}
+
+// So many empty views, and then so many updates, one after another.
+fn views_then_updates(alloc: Global, views: u32, updates: u32) -> Result<Vec<Step<'static>>, Fail> {
+    let mut steps = Vec::new(alloc);
+    for _view in 0..views {
+        steps.push(Step::View(0))?;
+        steps.push(Step::Viewed(0, &[]))?;
+    }
+    for number in 0..updates {
+        steps.push(Step::Update(0, (0, number.saturating_add(1), 5)))?;
+        steps.push(Step::Updated(0))?;
+    }
+    Ok(steps)
+}
+
+#[test]
+fn calls_of_a_long_history_are_printed_by_several_workers(rt: HostRuntime) -> Result<(), Fail> {
+    let alloc = rt.alloc();
+    let steps = views_then_updates(alloc, 10_000, 22_768)?;
+    let mut order = Vec::new(alloc);
+    for number in 0..32_768u32 {
+        order.push(number)?;
+    }
+    expect_order(&rt, alloc, &steps, &order)
 }
 
 // Each of these lists is a legal order of an index's calls, or is none.
@@ -74,30 +101,6 @@ fn a_view_is_printed_before_an_update_that_it_does_not_show(rt: HostRuntime) -> 
 #[test]
 fn five_calls_are_printed_by_level_kind_and_number(rt: HostRuntime) -> Result<(), Fail> {
     expect_order(&rt, rt.alloc(), ATOMIC_RUN, &[0, 2, 1, 3, 4])
-}
-
-#[test]
-fn an_order_has_each_completed_call_once_and_pending_updates_at_will(
-    rt: HostRuntime,
-) -> Result<(), Fail> {
-    let orders: [(&[u32], bool); 7] = [
-        (&[0, 2], true),
-        (&[0, 2, 1], true),
-        (&[0, 1, 2], false),
-        (&[2, 0], false),
-        (&[0], false),
-        (&[0, 2, 2], false),
-        (&[0, 2, 3], false),
-    ];
-    expect_checked(&rt, rt.alloc(), SEEN_PENDING, &orders)
-}
-
-#[test]
-fn a_view_stands_where_the_updates_before_it_are_those_that_it_shows(
-    rt: HostRuntime,
-) -> Result<(), Fail> {
-    let orders: [(&[u32], bool); 2] = [(&[1, 0], true), (&[0, 1], false)];
-    expect_checked(&rt, rt.alloc(), VIEW_BESIDE_UPDATE, &orders)
 }
 
 #[test]

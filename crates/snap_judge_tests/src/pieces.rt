@@ -5,10 +5,10 @@ ghost use Rattle.snap_pairs.specs.Claiming.{IsClaimOf};
 use snap_conditions::{IntegrityFault, ProximityFault, ReadFault, Side, Tally};
 use snap_core::{Gate, OpenGate};
 use snap_index::Index;
-use snap_pairs::{Claim, Claims, tally_and_chain};
+use snap_pairs::{Claim, Claims, tally};
 use snap_testing::worked::{ATOMIC_RUN, CROSSED_VIEWS, FOUR_WAYS, STALE_AND_WRONG};
-use snap_testing::{Arrivals, Meeting, Step, entry, history_of};
-use snap_threads::{Cutting, CuttingRefusal};
+use snap_testing::{Held, Meeting, Step, entry, history_of};
+use snap_threads::Cutting;
 use std::alloc::{AllocError, Global};
 use std::process::Abort;
 use std::test::Fail;
@@ -38,8 +38,7 @@ fn tally_cut<R: Threads + Sync, G: Gate>(
 ) -> Result<Tally, Fail> {
     let history = history_of(alloc, steps)?;
     let index = Index::build(alloc, &history)?;
-    let (tally, _chain) = tally_and_chain(rt, alloc, &index, cutting, gate)?;
-    Ok(tally)
+    Ok(tally(rt, alloc, &index, cutting, gate)?)
 }
 
 // What so many workers tally of a history in so many pieces.
@@ -120,24 +119,6 @@ fn is_of_stale_and_wrong(tally: &Tally) -> bool {
         && tally.proximity.first() == Some(stale)
 }
 
-// The pieces and the workers of cuttings, and why each is none.
-const CUTTINGS: &[(u32, u32, Option<CuttingRefusal>)] = &[
-    (0, 9, Some(CuttingRefusal::Pieces)),
-    (1025, 1, Some(CuttingRefusal::Pieces)),
-    (1, 9, Some(CuttingRefusal::Workers)),
-    (1024, 8, None),
-];
-
-#[test]
-fn a_cutting_has_1_to_1024_pieces_and_1_to_8_workers(rt: HostRuntime) {
-    for (pieces, workers, known) in CUTTINGS {
-        assert!(rt;
-            Cutting::new(*pieces, *workers).err() == *known,
-            "{pieces} and {workers}"
-        );
-    }
-}
-
 #[test]
 fn every_cutting_gives_the_same_tally(rt: HostRuntime) -> Result<(), Fail> {
     let all = tally_by_every_cutting(&rt, rt.alloc(), CROSSED_VIEWS)?;
@@ -208,45 +189,6 @@ fn expect_draw(rt: &impl Abort, counter: &Claims, claim: &mut Claim, known: Opti
     assert!(rt; counter.draw(claim) == known, "not {known:?}");
 }
 
-// Two claims draw the three pieces of their counter, and the second finds none left.
-fn draw_three(rt: &impl Abort, counter: &Claims, first: &mut Claim, second: &mut Claim)
-    requires first { IsClaimOf counter.now first.old }
-    requires second { IsClaimOf counter.now second.old }
-    ensures first { IsClaimOf counter.now first.new }
-    ensures second { IsClaimOf counter.now second.new }
-{
-    expect_draw(rt, counter, first, Some(0));
-    expect_draw(rt, counter, second, Some(1));
-    expect_draw(rt, counter, first, Some(2));
-    expect_draw(rt, counter, second, None);
-    expect_draw(rt, counter, second, None);
-    assert!(rt; !first.finished() && second.finished());
-}
-
-// The counter of three pieces, and its first and its second claim.
-fn start_three(rt: &impl Abort, alloc: Global) -> Result<(Claims, Claim, Claim), Fail>
-    ensures first { IfOk result (λ r. IsClaimOf r.0 r.1) }
-    ensures second { IfOk result (λ r. IsClaimOf r.0 r.2) }
-{
-    let (counter, mut claims) = Claims::start(alloc, Cutting::new(3, 2)?)?;
-    let second = claims.pop().expect(rt, "the second claim");
-    let first = claims.pop().expect(rt, "the first claim");
-    Ok((counter, first, second))
-}
-
-#[test]
-fn three_pieces_are_drawn_once_and_the_counter_closes_with_all_claims(
-    rt: HostRuntime,
-) -> Result<(), Fail> {
-    let alloc = rt.alloc();
-    let (counter, mut first, mut second) = start_three(&rt, alloc)?;
-    draw_three(&rt, &counter, &mut first, &mut second);
-    let (counter, mut claims) = still_open(counter, vec![in alloc; second]?)?;
-    claims.push(first)?;
-    assert!(rt; counter.close(claims).is_ok());
-    Ok(())
-}
-
 #[test]
 fn a_counter_with_pieces_left_stays_open(rt: HostRuntime) -> Result<(), Fail> {
     let (counter, claims) = Claims::start(rt.alloc(), Cutting::new(3, 2)?)?;
@@ -271,8 +213,8 @@ fn a_close_that_is_refused_between_two_draws_loses_no_piece(rt: HostRuntime) -> 
 #[test]
 fn two_workers_get_a_piece_each_at_the_same_time(rt: HostRuntime) -> Result<(), Fail> {
     let gate = Meeting::at_turn(0);
-    let all = tally_by(&rt, rt.alloc(), STALE_AND_WRONG, 2, 2, &gate)?;
-    assert!(rt; is_of_stale_and_wrong(&all));
+    let all = tally_by(&rt, rt.alloc(), CROSSED_VIEWS, 2, 2, &gate)?;
+    assert!(rt; is_of_crossed_views(&all));
     assert!(rt; gate.was_held());
     Ok(())
 }
@@ -304,38 +246,20 @@ fn is_of_views_of_two(tally: &Tally) -> bool {
 }
 
 #[test]
-fn views_with_read_faults_are_cut_into_blocks(rt: HostRuntime) -> Result<(), Fail> {
-    let gate = Meeting::at_turn(0);
+fn read_faults_of_several_blocks_are_the_same_by_every_cutting(
+    rt: HostRuntime,
+) -> Result<(), Fail> {
     let steps = views_of_two(rt.alloc(), 300)?;
-    let all = tally_by(&rt, rt.alloc(), &steps, 1, 2, &gate)?;
+    let all = tally_by_every_cutting(&rt, rt.alloc(), &steps)?;
     assert!(rt; is_of_views_of_two(&all));
-    assert!(rt; gate.was_held());
     Ok(())
-}
-
-// The first worker waits at its first piece until the second has come to its third.
-#[derive(Drop)]
-struct HeldAtTheFirst {
-    third: Arrivals,
-}
-
-impl Gate for HeldAtTheFirst {
-    fn at(&self, worker: u32, turn: u32) {
-        match (worker, turn) {
-            (0, 0) => self.third.wait_for(1),
-            (1, 2) => self.third.come(1),
-            _ => {}
-        }
-    }
 }
 
 #[test]
 fn a_worker_goes_on_to_the_next_piece_while_the_other_is_held(rt: HostRuntime) -> Result<(), Fail> {
-    let gate = HeldAtTheFirst {
-        third: Arrivals::none(),
-    };
-    let all = tally_by(&rt, rt.alloc(), STALE_AND_WRONG, 4, 2, &gate)?;
-    assert!(rt; is_of_stale_and_wrong(&all));
-    assert!(rt; gate.third.were(1));
+    let gate = Held::until(1, 2);
+    let all = tally_by(&rt, rt.alloc(), CROSSED_VIEWS, 4, 2, &gate)?;
+    assert!(rt; is_of_crossed_views(&all));
+    assert!(rt; gate.was_left());
     Ok(())
 }

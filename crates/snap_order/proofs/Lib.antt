@@ -11,3 +11,4 @@ pub mod Searches
 pub mod Ranking
 pub mod Standing
 pub mod Checked
+pub mod Blocks

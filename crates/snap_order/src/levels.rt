@@ -9,13 +9,16 @@ ghost use Rattle.snap_views.specs.Seen.{view_in};
 ghost use Rattle.snap_index.specs.IndexedCalls.{answer_of, number_of};
 ghost use Rattle.snap_theory.specs.Keys.{printed_keys, rank_of};
 ghost use Rattle.snap_theory.specs.Levels.{update_level as spec_update_level};
+ghost use Rattle.snap_order.specs.inside.Blocks.{AreBlocks, IsBlock, block_start, keys_between};
 
 use crate::near::partition_near;
+use rayon::prelude::*;
 use snap_core::{Entry, View};
 use snap_index::{CallOp, Index};
 use snap_views::{ViewChain, entries_sum};
 use std::alloc::{AllocError, Global};
 use std::marker::Model;
+use std::thread::Threads;
 
 /// The levels of the calls of an index, in whose history no view has a fault.
 #[derive(Drop)]
@@ -37,6 +40,19 @@ impl<'i, 'h> Model for Levels<'i, 'h> {
     ghost view = { λ a. a.index.now };
 
     ghost invariant = { λ a. IsSummedChain a.index.now a.chain.items a.sums.items };
+}
+
+// So many calls are worth a thread of their own: the levels of fewer take less time than its start.
+const CALLS_A_THREAD: u32 = 16_384;
+
+// The first number of a block, where so many calls are cut into so many blocks. It is the end of the block before it.
+fn start_of(blocks: u32, block: u32, calls: u32) -> u32
+    requires some { 0 < blocks }
+    requires block { block ≤ blocks }
+    ensures start { result ≡ block_start blocks block calls }
+    ensures inside { result ≤ calls }
+{
+    (u64::from(block) * u64::from(calls) / u64::from(blocks)) as u32
 }
 
 // The number that the completed view at a place shows of a component, 0 where it shows none.
@@ -76,12 +92,99 @@ impl<'i, 'h> Levels<'i, 'h> {
     pub(crate) fn keys(&self, alloc: Global) -> Result<Vec<(u32, u32)>, AllocError>
         ensures { IfOk result (λ keys. keys.items ≡ printed_keys (calls_of self.now)) }
     {
+        self.keys_between(alloc, 0, self.index.call_count())
+    }
+
+    // The same keys, where so many workers share the calls. Each has a block of them, in a thread of its own.
+    pub(crate) fn keys_shared<R: Threads + Sync>(
+        &self,
+        rt: &R,
+        alloc: Global,
+        workers: u32,
+    ) -> Result<Vec<(u32, u32)>, AllocError>
+        ensures { IfOk result (λ keys. keys.items ≡ printed_keys (calls_of self.now)) }
+    {
+        let blocks = workers.min(self.index.call_count() / CALLS_A_THREAD);
+        if blocks < 2 {
+            return self.keys(alloc);
+        }
+        let parts = self.parts(rt, alloc, blocks)?;
+        self.joined(alloc, blocks, parts)
+    }
+
+    // The keys of each block, where the calls are cut into so many.
+    fn parts<R: Threads + Sync>(
+        &self,
+        rt: &R,
+        alloc: Global,
+        blocks: u32,
+    ) -> Result<Vec<Result<Vec<(u32, u32)>, AllocError>>, AllocError>
+        ensures count { IfOk result (λ parts. length parts.items ≡ blocks) }
+        ensures parts { IfOk result (λ parts. AreBlocks (calls_of self.now) blocks parts.items) }
+    {
+        (0..blocks)
+            .into_par_iter()
+            .map(
+                |block: u32| -> Result<Vec<(u32, u32)>, AllocError>
+                    requires { block < blocks }
+                    ensures { IsBlock (calls_of self.entry.now) blocks block result }
+                { self.keys_of_block(alloc, blocks, block) },
+            )
+            .with_min_len(1)
+            .collect(rt, alloc)
+    }
+
+    // The keys of a block, where the calls are cut into so many.
+    fn keys_of_block(
+        &self,
+        alloc: Global,
+        blocks: u32,
+        block: u32,
+    ) -> Result<Vec<(u32, u32)>, AllocError>
+        requires { block < blocks }
+        ensures { IsBlock (calls_of self.now) blocks block result }
+    {
+        let calls = self.index.call_count();
+        let from = start_of(blocks, block, calls);
+        let to = start_of(blocks, block + 1, calls);
+        self.keys_between(alloc, from, to)
+    }
+
+    // The keys of all blocks, in their order.
+    fn joined(
+        &self,
+        alloc: Global,
+        blocks: u32,
+        mut parts: Vec<Result<Vec<(u32, u32)>, AllocError>>,
+    ) -> Result<Vec<(u32, u32)>, AllocError>
+        requires some { 0 < blocks }
+        requires count { length parts.items ≡ blocks }
+        requires parts { AreBlocks (calls_of self.now) blocks parts.items }
+        ensures { IfOk result (λ keys. keys.items ≡ printed_keys (calls_of self.now)) }
+    {
+        let mut all = Vec::new(alloc);
+        while let Some(part) = parts.pop() {
+            let mut keys = part?;
+            keys.append(&mut all)?;
+            all = keys;
+        }
+        Ok(all)
+    }
+
+    // The keys of the printed calls from one number to before another, rank and number, by call number.
+    fn keys_between(&self, alloc: Global, from: u32, to: u32) -> Result<Vec<(u32, u32)>, AllocError>
+        requires order { from ≤ to }
+        requires calls { to ≤ length (calls_of self.now) }
+        ensures { IfOk result (λ keys. keys.items ≡ keys_between (calls_of self.now) from to) }
+    {
+        // that the events are a history
+        let _events = self.index.event_count();
         let mut keys = Vec::new(alloc);
         // how many completed views come before the call
-        let mut views = 0;
+        let mut views = self.views_before(from);
         // the level of the printed call before, to which that of the next is mostly close
         let mut level = 0;
-        for number in 0..self.index.call_count() {
+        for number in from..to {
             if let Some(rank) = self.rank(number, views, level) {
                 keys.push((rank, number))?;
                 level = rank / 2;
@@ -91,6 +194,29 @@ impl<'i, 'h> Levels<'i, 'h> {
             }
         }
         Ok(keys)
+    }
+
+    // How many completed views come before the call of a number.
+    fn views_before(&self, number: u32) -> u32 {
+        let mut low = 0;
+        let mut high = if number == 0 {
+            0
+        } else {
+            self.index.view_count()
+        };
+        while low < high {
+            let middle = low + (high - low) / 2;
+            if self
+                .index
+                .view_call(middle)
+                .is_some_and(|call| call < number)
+            {
+                low = middle + 1;
+            } else {
+                high = middle;
+            }
+        }
+        low
     }
 
     // Whether the completed view at a place is the call of a number.

@@ -8,4 +8,4 @@ mod near;
 mod printing;
 
 pub use checking::check_order;
-pub use printing::build;
+pub use printing::{build, build_alone, build_of_chain};

@@ -3,31 +3,102 @@ ghost use Rattle.std.specs.Prelude.{◌≡◌, map, IfOk};
 ghost use Rattle.snap_core.specs.Calls.{calls_of};
 ghost use Rattle.snap_views.specs.Chains.{IsViewChain};
 ghost use Rattle.snap_theory.specs.Faults.{HasNoFault};
+ghost use Rattle.snap_theory.specs.Keys.{printed_keys};
 ghost use Rattle.snap_theory.specs.Levels.{printed_order};
 ghost use Rattle.snap_order.specs.Numbers.{IsLegalList};
 
 use crate::levels::Levels;
+use rayon::current_num_threads;
 use snap_index::Index;
-use snap_views::ViewChain;
+use snap_views::{ViewChain, ViewOrder, view_order, view_sums};
 use std::alloc::{AllocError, Global};
+use std::thread::Threads;
+
+// So many workers share the calls of `build` at most: in a model of the map more of them took as long.
+const MOST_WORKERS: usize = 2;
 
 /// The printed order of a history without a fault, by call numbers from 0: all completed calls, and of the pending
 /// updates those of which some completed view shows the number or a later one. It is sorted by level; within a level
-/// updates come before views, and then calls by their numbers. It is a legal order. The completed views are given as a chain.
-/// The error is want of memory.
+/// updates come before views, and then calls by their numbers. It is a legal order. The error is want of memory.
 ///
-/// Each level is a search among the views, which begins near the level of the call before. All of it is done on the calling
-/// thread: at no length of a history do the searches take so long that the start of threads would pay.
-pub fn build(alloc: Global, index: &Index<'_>, chain: ViewChain) -> Result<Vec<u32>, AllocError>
+/// The views are sorted once. Then each level is a search among them, which begins near the level of the call before. Of a
+/// history of 32,768 calls or more a second thread takes half of the calls, where there is a second processor.
+pub fn build<R: Threads + Sync>(
+    rt: &R,
+    alloc: Global,
+    index: &Index<'_>,
+) -> Result<Vec<u32>, AllocError>
+    requires { HasNoFault (calls_of index.now) }
+    ensures printed { IfOk result
+        (λ order. order.items ≡ map (λ c. c.number) (printed_order (calls_of index.now))) }
+    ensures legal { IfOk result (λ order. IsLegalList (calls_of index.now) order.items) }
+{
+    let chain = chain_of(alloc, index)?;
+    let workers = current_num_threads(rt).min(MOST_WORKERS) as u32;
+    build_of_chain(rt, alloc, index, chain, workers)
+}
+
+/// The order of `build`, where the completed views are given as a chain. So many workers share the calls at most, and each of them
+/// has 16,384 or more.
+pub fn build_of_chain<R: Threads + Sync>(
+    rt: &R,
+    alloc: Global,
+    index: &Index<'_>,
+    chain: ViewChain,
+    workers: u32,
+) -> Result<Vec<u32>, AllocError>
     requires fault { HasNoFault (calls_of index.now) }
     requires chain { IsViewChain (calls_of index.now) chain }
     ensures printed { IfOk result
         (λ order. order.items ≡ map (λ c. c.number) (printed_order (calls_of index.now))) }
     ensures legal { IfOk result (λ order. IsLegalList (calls_of index.now) order.items) }
 {
+    let keys = Levels::of(index, chain).keys_shared(rt, alloc, workers)?;
+    ordered(alloc, index, keys)
+}
+
+/// The order of `build_of_chain` on the calling thread, for who has no runtime.
+pub fn build_alone(
+    alloc: Global,
+    index: &Index<'_>,
+    chain: ViewChain,
+) -> Result<Vec<u32>, AllocError>
+    requires fault { HasNoFault (calls_of index.now) }
+    requires chain { IsViewChain (calls_of index.now) chain }
+    ensures printed { IfOk result
+        (λ order. order.items ≡ map (λ c. c.number) (printed_order (calls_of index.now))) }
+    ensures legal { IfOk result (λ order. IsLegalList (calls_of index.now) order.items) }
+{
+    let keys = Levels::of(index, chain).keys(alloc)?;
+    ordered(alloc, index, keys)
+}
+
+// The completed views of a history without a fault, as a chain.
+fn chain_of(alloc: Global, index: &Index<'_>) -> Result<ViewChain, AllocError>
+    requires { HasNoFault (calls_of index.now) }
+    ensures { IfOk result (IsViewChain (calls_of index.now)) }
+{
+    let sums = view_sums(alloc, index)?;
+    match view_order(alloc, index, sums)? {
+        ViewOrder::Faultless(chain) => Ok(chain),
+        _ => unreachable!(),
+    }
+}
+
+// The printed order by the keys of the printed calls.
+fn ordered(
+    alloc: Global,
+    index: &Index<'_>,
+    mut keys: Vec<(u32, u32)>,
+) -> Result<Vec<u32>, AllocError>
+    requires fault { HasNoFault (calls_of index.now) }
+    requires keys { keys.items ≡ printed_keys (calls_of index.now) }
+    ensures printed { IfOk result
+        (λ order. order.items ≡ map (λ c. c.number) (printed_order (calls_of index.now))) }
+    ensures legal { IfOk result (λ order. IsLegalList (calls_of index.now) order.items) }
+{
     // that the events are a history
     let _events = index.event_count();
-    let mut keys = Levels::of(index, chain).keys(alloc)?;
     keys.sort_unstable();
     numbers(alloc, &keys)
 }

@@ -8,7 +8,7 @@ use Rattle.snap_core.specs.Calls.{Call}
 use Rattle.snap_tally.specs.Grids.{AreColumnsOf}
 use Rattle.snap_tally.proofs.Grids.{columns_join}
 use Rattle.snap_pairs.specs.inside.Reads.{AreParts, part_start}
-use Rattle.snap_pairs.proofs.Starts.{starts_grow, starts_inside}
+use Rattle.snap_views.proofs.Pieces.{starts_grow, starts_inside}
 
 -- columns, where memory did not run out
 abbrev pub AreMade : List Call → ℕ → ℕ → Result (Vec (List ℕ) Global) AllocError → Type 0

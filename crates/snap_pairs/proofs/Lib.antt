@@ -2,6 +2,6 @@ pub mod Totals
 pub mod Keeps
 pub mod Finishing
 pub mod Closing
-pub mod Starts
 pub mod Gathering
+pub mod Fronts
 mod Columns

@@ -10,4 +10,5 @@ mod whole;
 mod worker;
 
 pub use claims::{Claim, Claims};
-pub use whole::tally_and_chain;
+pub use snap_threads::{Cutting, CuttingRefusal};
+pub use whole::{tally, tally_and_chain};

@@ -1,23 +1,29 @@
 //! The read faults of the pieces: none where the quick test passes, else by a grid of the views.
 ghost use Rattle.std.specs.Prelude.{◌≡◌, ◌<◌, ◌≤◌, ◌+◌, ◌↔◌, [], ℕ, length, get_or, IfOk, IfSome, IsSome};
 ghost use Rattle.snap_core.specs.Calls.{calls_of, views_of};
-ghost use Rattle.snap_views.specs.Chains.{IsViewChain};
+ghost use Rattle.snap_views.specs.Chains.{AreViewSums, IsViewChain};
 ghost use Rattle.snap_core.specs.Entries.{component_count};
 ghost use Rattle.snap_theory.specs.Faults.{read_faults};
 ghost use Rattle.snap_tally.specs.Grids.{AreColumnsOf};
-ghost use Rattle.snap_conditions.specs.Tally.{tally_of};
-ghost use Rattle.snap_views.specs.Seen.{views_between};
+ghost use Rattle.snap_views.specs.Quick.{shown_sum};
+ghost use Rattle.snap_views.specs.Seen.{view_in};
+ghost use Rattle.snap_pairs.specs.inside.Pieces.{IsPieceTally};
 ghost use Rattle.snap_pairs.specs.inside.Reads.{AreParts, IsGridFor, part_start};
 
+use crate::pieces::{block_at, start_of};
+use rayon::prelude::*;
 use snap_conditions::{Tally, tally_without_read};
 use snap_core::COMPONENT_COUNT;
 use snap_grid::Column;
 use snap_index::Index;
-use snap_tally::{ViewGrid, columns_between, tally_by_grid};
+use snap_tally::{ViewGrid, columns_between, read_faults_by_grid};
 use snap_threads::{Cutting, each_job};
-use snap_views::{ViewChain, ViewOrder, view_order, view_sums};
+use snap_views::{ViewChain, ViewOrder, view_order, view_sum, view_sums};
 use std::alloc::{AllocError, Global};
 use std::thread::Threads;
+
+// So many views are worth a thread of their own: the sums of fewer take less time than its start.
+const VIEWS_A_THREAD: u32 = 16_384;
 
 // The columns of so many components take less time than the start of a thread.
 const FEW_COMPONENTS: usize = 64;
@@ -33,7 +39,7 @@ pub(crate) fn grid_or_chain<'i, 'h, R: Threads + Sync>(
     ensures chain { IfOk result (λ found. IfSome found.1 (IsViewChain (calls_of index.entry.now))) }
     ensures found { IfOk result (λ found. IsSome found.1 ↔ (read_faults (calls_of index.entry.now) (views_of (calls_of index.entry.now)) ≡ [])) }
 {
-    let sums = view_sums(alloc, index)?;
+    let sums = shared_sums(rt, alloc, index, cutting)?;
     match view_order(alloc, index, sums)? {
         ViewOrder::Faultless(chain) => Ok((None, Some(chain))),
         ViewOrder::Comparable(chain) => {
@@ -46,23 +52,63 @@ pub(crate) fn grid_or_chain<'i, 'h, R: Threads + Sync>(
     }
 }
 
-// The tally of the views from one place to before another.
+// The tally of a piece. A grid compares whole blocks of views, and a part of one takes as long. So the read faults of a block are
+// counted with the piece in which it begins, and each block is compared once, however many pieces there are.
 pub(crate) fn piece_tally(
     alloc: Global,
     index: &Index<'_>,
     grid: &Option<ViewGrid<'_, '_>>,
-    from: u32,
-    to: u32,
+    cutting: Cutting,
+    piece: u32,
 ) -> Result<Tally, AllocError>
     requires grid { IsGridFor index.now grid.now }
-    requires order { from ≤ to }
-    requires views { to ≤ length (views_of (calls_of index.now)) }
-    ensures { IfOk result (λ tally. tally ≡ tally_of (calls_of index.now) (views_between (calls_of index.now) from to)) }
+    requires piece { piece < cutting.pieces }
+    ensures { IfOk result (IsPieceTally (calls_of index.now) cutting.pieces piece) }
 {
+    let views = index.view_count();
+    let from = start_of(cutting, piece, views);
+    let to = start_of(cutting, piece + 1, views);
+    let others = tally_without_read(index, from, to);
     match grid {
-        Some(grid) => tally_by_grid(alloc, grid, from, to),
-        None => Ok(tally_without_read(index, from, to)),
+        Some(grid) => {
+            let first = block_at(from, views);
+            let end = block_at(to, views);
+            let (read, stale) = read_faults_by_grid(alloc, grid, first, end)?;
+            Ok(Tally {
+                read,
+                stale,
+                ..others
+            })
+        }
+        None => Ok(others),
     }
+}
+
+// The sums of the numbers that the completed views show, by call number. Few are added up on this thread. Of more, each worker of
+// the cutting has a share at most, since a list is halved while each half has a share or more.
+fn shared_sums<R: Threads + Sync>(
+    rt: &R,
+    alloc: Global,
+    index: &Index<'_>,
+    cutting: Cutting,
+) -> Result<Vec<u64>, AllocError>
+    ensures { IfOk result (λ sums. AreViewSums (calls_of index.now) sums.items) }
+{
+    let views = index.view_count();
+    let share = (views / cutting.workers()).max(VIEWS_A_THREAD);
+    if views / 2 < share {
+        return view_sums(alloc, index);
+    }
+    (0..views)
+        .into_par_iter()
+        .map(
+            |place: u32| -> u64
+                requires { place < length (views_of (calls_of index.now)) }
+                ensures { result ≡ shown_sum (view_in (calls_of index.entry.now) place) }
+            { view_sum(index, place) },
+        )
+        .with_min_len(share as usize)
+        .collect(rt, alloc)
 }
 
 // A column for each component that some completed view lists, made by the workers of the cutting, each its part of the components.

@@ -10,7 +10,6 @@ ghost use Rattle.snap_pairs.specs.inside.Reads.{IsGridFor};
 
 use crate::claims::{Claim, Claims};
 use crate::gather::{gather, merge_slots};
-use crate::pieces::cutting_of;
 use crate::reads::grid_or_chain;
 use crate::worker::{Answer, draw_all};
 use snap_conditions::Tally;
@@ -25,9 +24,8 @@ use std::thread::Threads;
 /// The tally of all completed views, whatever the cutting and the gate are, and these views as a chain exactly where no two of
 /// them are a read fault, so that an order can be built along it. The workers draw pieces of the views from one counter until
 /// all are drawn. A worker calls `gate.at` with its own number, from 0, and the count of pieces that it got before, when it has
-/// got a piece and before it works on it. Views with a read fault are cut into pieces of at most 512, and others into as many
-/// pieces as the cutting has. The work of a worker that cannot be started is done on the calling thread under that worker's
-/// number. It waits for the workers, and so for the gate. The error is want of memory.
+/// got a piece and before it works on it. There are as many pieces as the cutting has. The work of a worker that cannot be started is
+/// done on the calling thread under that worker's number. It waits for the workers, and so for the gate. The error is want of memory.
 pub fn tally_and_chain<R: Threads + Sync, G: Gate>(
     rt: &R,
     alloc: Global,
@@ -40,9 +38,23 @@ pub fn tally_and_chain<R: Threads + Sync, G: Gate>(
     ensures found { IfOk result (λ all. IsSome all.1 ↔ (read_faults (calls_of index.now) (views_of (calls_of index.now)) ≡ [])) }
 {
     let (grid, chain) = grid_or_chain(rt, alloc, index, cutting)?;
-    let cutting = cutting_of(cutting, &grid, index.view_count());
     let tally = tally_by(rt, alloc, index, &grid, cutting, gate)?;
     Ok((tally, chain))
+}
+
+/// The tally of all completed views, whatever the cutting and the gate are, by the workers of `tally_and_chain`. It waits for the
+/// workers, and so for the gate. The error is want of memory.
+pub fn tally<R: Threads + Sync, G: Gate>(
+    rt: &R,
+    alloc: Global,
+    index: &Index<'_>,
+    cutting: Cutting,
+    gate: &G,
+) -> Result<Tally, AllocError>
+    ensures { IfOk result (λ all. all ≡ tally_of (calls_of index.now) (views_of (calls_of index.now))) }
+{
+    let (tally, _chain) = tally_and_chain(rt, alloc, index, cutting, gate)?;
+    Ok(tally)
 }
 
 // The tally of all completed views, by a grid of them where they have a read fault.

@@ -6,7 +6,6 @@ ghost use Rattle.snap_pairs.specs.inside.Pieces.{IsAnswer};
 ghost use Rattle.snap_pairs.specs.inside.Reads.{IsGridFor};
 
 use crate::claims::{Claim, Claims};
-use crate::pieces::start_of;
 use crate::reads::piece_tally;
 use snap_conditions::Tally;
 use snap_core::Gate;
@@ -44,13 +43,10 @@ pub(crate) fn draw_all<G: Gate>(
     requires claim { IsClaimOf counter.now claim × (claim.drawn ≡ []) }
     ensures { IfOk result (IsAnswer (calls_of index.now) counter.now) }
 {
-    let views = index.view_count();
     let mut pairs = Vec::new(alloc);
     while let Some(piece) = counter.draw(&mut claim) {
         gate.at(claim.worker(), pairs.len() as u32);
-        let from = start_of(cutting, piece, views);
-        let to = start_of(cutting, piece + 1, views);
-        let tally = piece_tally(alloc, index, grid, from, to)?;
+        let tally = piece_tally(alloc, index, grid, cutting, piece)?;
         pairs.push(Drawn { piece, tally })?;
     }
     Ok(Answer { claim, pairs })

@@ -17,8 +17,8 @@ use Rattle.snap_report.specs.Reports.{has_no_fault}
 use Rattle.snap_text.specs.declared.fault.TextFault.{TextFault}
 use Rattle.snap_format.specs.declared.refusal.ReadRefusal.{ReadRefusal}
 use Rattle.snap_format.specs.declared.refusal.ReadRefusal.TheVariants as refusals
-use Rattle.snap_csv.specs.Answers.{RefusesTextWithin}
-use Rattle.snap_format.specs.Records.{HaveRecordsWithin}
+use Rattle.snap_csv.specs.Answers.{RefusesText}
+use Rattle.snap_format.specs.Records.{HaveRecords}
 use Rattle.snap_report.specs.Lines.{line_text}
 use Rattle.snap_report.specs.Refusals.{refusal_line}
 use Rattle.snap_verdict.specs.declared.status.Status.{Status}
@@ -50,12 +50,12 @@ drawing limit given Is es records t order shapes said result same tally printed 
       written = subst (λ os. Is es records shapes os said out.items) order_are w;
     }) written
 
-pub drawn_text : (most limit : ℕ) (Is : Writes) (text : List ℕ) (es : List Event) (records given : List ℕ) (status : Status) (out : List ℕ) → HaveRecordsWithin most text es records → given ≡ records → DrawsHistory limit Is es given status out → IsDrawnText most limit Is text status out
+pub drawn_text : (most limit : ℕ) (Is : Writes) (text : List ℕ) (es : List Event) (records given : List ℕ) (status : Status) (out : List ℕ) → HaveRecords most text es records → given ≡ records → DrawsHistory limit Is es given status out → IsDrawnText most limit Is text status out
 drawn_text most limit Is text es records given status out have same e =
     record { events = es; records = records; history = have; drawn = subst (λ rs. DrawsHistory limit Is es rs status out) same e }
 
 pub drawn_refusal : (most limit : ℕ) (Is : Writes) (known : Option (List ℕ)) (refusal : ReadRefusal) (place : ℕ) (fault : TextFault) (out : List ℕ) → out ≡ line_text (refusal_line place fault) → refusal ≡ refusals.Text place fault →
-    IfSome known (λ text. RefusesTextWithin most text refusal) → IfSome known (λ text. IsDrawn most limit Is text Refused out)
+    IfSome known (λ text. RefusesText most text refusal) → IfSome known (λ text. IsDrawn most limit Is text Refused out)
 drawn_refusal most limit Is None refusal place fault out line is first = tt
 drawn_refusal most limit Is (Some text) refusal place fault out line is first =
-    inl (record { place = place; fault = fault; first = subst (λ r. RefusesTextWithin most text r) is first; answers = refl; writes = line })
+    inl (record { place = place; fault = fault; first = subst (λ r. RefusesText most text r) is first; answers = refl; writes = line })

@@ -4,7 +4,7 @@ use Rattle.snap_core.specs.declared.event.Event.{Event}
 use Rattle.snap_core.specs.Calls.{Call, calls_of, views_of}
 use Rattle.snap_conditions.specs.declared.tally.Tally.{Tally}
 use Rattle.snap_conditions.specs.Tally.{tally_of}
-use Rattle.snap_format.specs.Records.{HaveRecordsWithin}
+use Rattle.snap_format.specs.Records.{HaveRecords}
 use Rattle.snap_draw.specs.declared.shapes.Shapes.{Shapes}
 use Rattle.snap_draw.specs.Marks.{marks_of}
 use Rattle.snap_draw.specs.Timelines.{AreShapes, calls_drawn}
@@ -12,7 +12,7 @@ use Rattle.snap_explain.specs.Explanations.{IsExplanation}
 use Rattle.snap_theory.specs.Levels.{printed_order}
 use Rattle.snap_report.specs.Reports.{has_no_fault}
 use Rattle.snap_verdict.specs.declared.status.Status.{Status}
-use Rattle.snap_verdict.specs.Reports.{IsRefusedWithin}
+use Rattle.snap_verdict.specs.Reports.{IsRefused}
 use Rattle.snap_verdict.specs.Verdicts.{HasStatus}
 
 -- what a markup may write of the events of a history, the records of these, its shapes, the numbers of its printed order, and its
@@ -45,9 +45,9 @@ DrawsHistory limit Is events records status out = HasStatus events status × IsD
 pub record IsDrawnText (most limit : ℕ) (Is : Writes) (text : List ℕ) (status : Status) (out : List ℕ) : Type 0 where
   pub events : List Event
   pub records : List ℕ
-  pub history : HaveRecordsWithin most text events records
+  pub history : HaveRecords most text events records
   pub drawn : DrawsHistory limit Is events records status out
 
 -- the status and what is written. A text with a fault is refused by the line of its report
 abbrev pub IsDrawn : ℕ → ℕ → Writes → List ℕ → Status → List ℕ → Type 0
-IsDrawn most limit Is text status out = IsRefusedWithin most text status out ⊎ IsDrawnText most limit Is text status out
+IsDrawn most limit Is text status out = IsRefused most text status out ⊎ IsDrawnText most limit Is text status out

@@ -10,10 +10,10 @@ ghost use Rattle.snap_check.specs.Runs.{JudgeCounts, JudgesBy, RunCounts, WroteB
 ghost use Rattle.snap_picture.specs.Drawing.{DrawsHistory, IsDrawing, IsDrawn};
 
 use crate::markup::Markup;
-use snap_check::{RunFault, cutting_for};
+use snap_check::{RunFault, SHARED_FROM, cutting_for};
 use snap_conditions::Tally;
 use snap_core::{Counted, History, Limit, OpenGate};
-use snap_csv::{ReadRefusal, read_records_within};
+use snap_csv::{ReadRefusal, read_records};
 use snap_draw::{Picture, shapes_of};
 use snap_explain::explain;
 use snap_index::Index;
@@ -69,7 +69,8 @@ fn picture_of<'x, M: Markup>(
 /// How the faults of the picture of a text of so many bytes are looked for. Who waits for a picture waits for one alone, so more
 /// workers share the pieces of a long text.
 pub(crate) fn cutting_of(bytes: usize) -> Cutting {
-    cutting_for(bytes, Cutting::new(8, 4).unwrap_or(Cutting::usual()))
+    let asked = Cutting::new(8, 4).unwrap_or(Cutting::usual());
+    cutting_for(bytes, SHARED_FROM, asked)
 }
 
 // The status of a history, and its picture by its index and the records of its events.
@@ -85,7 +86,7 @@ fn drawn_by<Rt: Threads + Sync, M: Markup>(
     ensures { IfOk result (λ answer. DrawsHistory M.calls M.writes index.now records.now answer.0 answer.1.items) }
 {
     let (tally, chain) = tally_and_chain(rt, alloc, index, cutting, &OpenGate)?;
-    let order = order_by(alloc, index, &tally, chain)?;
+    let order = order_by(rt, alloc, index, &tally, chain, cutting.workers())?;
     let text = picture_of(alloc, markup, &*index, &tally, records, order.as_deref())?;
     Ok((status_of(index, &tally), text))
 }
@@ -99,8 +100,8 @@ pub(crate) fn drawn<Rt: Threads + Sync, M: Markup>(
     records: &[u32],
     cutting: Cutting,
 ) -> Result<(Status, Vec<u8>), AllocError>
-    requires { length records.now ≡ length history.now }
-    ensures { IfOk result (λ answer. DrawsHistory M.calls M.writes history.now records.now answer.0 answer.1.items) }
+    requires { length records.now ≡ length history.now.events }
+    ensures { IfOk result (λ answer. DrawsHistory M.calls M.writes history.now.events records.now answer.0 answer.1.items) }
 {
     let index = Index::build(alloc, history)?;
     drawn_by(rt, alloc, markup, &index, records, cutting)
@@ -118,7 +119,7 @@ fn draw_input<Rt: Threads + Sync, R: Read, M: Markup>(
     ensures counts { JudgeCounts (failures_in reader.old) (failures_in reader.new) result }
 {
     let mut room = Vec::new(alloc);
-    match read_records_within(alloc, reader, &mut room, limit) {
+    match read_records(alloc, reader, &mut room, limit) {
         Ok((history, records)) => {
             let cutting = cutting_of(room.len());
             Ok(drawn(rt, alloc, markup, &history, &records, cutting)?)

@@ -7,7 +7,7 @@ use crate::draw::{cutting_of, drawn};
 use crate::markup::Markup;
 use snap_check::RunFault;
 use snap_core::{Counted, Limit};
-use snap_csv::{ReadRefusal, read_records_within};
+use snap_csv::{ReadRefusal, read_records};
 use snap_explain::explain_refusal;
 use snap_verdict::Status;
 use std::alloc::Global;
@@ -26,7 +26,7 @@ fn explain_input<Rt: Threads + Sync, R: Read, M: Markup>(
     ensures counts { JudgeCounts (failures_in reader.old) (failures_in reader.new) result }
 {
     let mut room = Vec::new(alloc);
-    match read_records_within(alloc, reader, &mut room, limit) {
+    match read_records(alloc, reader, &mut room, limit) {
         Ok((history, records)) => {
             let cutting = cutting_of(room.len());
             Ok(drawn(rt, alloc, markup, &history, &records, cutting)?)

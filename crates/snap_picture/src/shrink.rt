@@ -34,7 +34,7 @@ fn picture_of<Rt: Threads + Sync, M: Markup>(
     history: &History,
     cutting: Cutting,
 ) -> Result<Vec<u8>, AllocError>
-    ensures { IfOk result (λ text. IsDrawing M.calls M.writes history.now (range_with_len 2 (length history.now)) text.items) }
+    ensures { IfOk result (λ text. IsDrawing M.calls M.writes history.now.events (range_with_len 2 (length history.now.events)) text.items) }
 {
     let records = records_of(alloc, history.len())?;
     let (_, text) = drawn(rt, alloc, markup, history, &records, cutting)?;

@@ -8,7 +8,7 @@ use Rattle.snap_format.specs.declared.refusal.ReadRefusal.{ReadRefusal}
 use Rattle.snap_format.specs.Layout.{is_header_row}
 use Rattle.snap_rows.specs.Taking.{Midway, RefusesRows, TakesRow}
 use Rattle.snap_plain.specs.declared.pieces.Piece.{Piece}
-use Rattle.snap_plain.specs.Ahead.{ArePieces}
+use Rattle.snap_plain.specs.Ahead.{ArePieces, IsEndOfLine}
 use Rattle.snap_plain.specs.Lines.{BeginsLine, BeginsLines, HasRows, IsRest, SpellsAll, SpellsFirst}
 use Rattle.snap_plain.specs.Turns.{HasTaken}
 use Rattle.snap_plain.proofs.PlainFacts.{rest_of_rest}
@@ -30,9 +30,9 @@ pub rest_shorter : (rest text : List ℕ) → IsRest rest text → length rest �
 rest_shorter rest text (front, e) = omega (arith, ap length e, length-append front rest)
 
 -- a piece more
-pub piece_more : (from at to : ℕ) (pieces : List Piece) → ArePieces from at pieces → at ≤ to → ArePieces from to (pieces ++ record { from = at; to = to } ∷ [])
-piece_more from at to [] same le = (sym same, le, refl)
-piece_more from at to (piece ∷ pieces) (begins, order, rest) le = (begins, order, piece_more piece.to at to pieces rest le)
+pub piece_more : (lines : List ℕ) (from at to : ℕ) (pieces : List Piece) → ArePieces lines from at pieces → at ≤ to → IsEndOfLine lines to → ArePieces lines from to (pieces ++ record { from = at; to = to } ∷ [])
+piece_more lines from at to [] same le ends = (sym same, le, ends, refl)
+piece_more lines from at to (piece ∷ pieces) (begins, order, last, rest) le ends = (begins, order, last, piece_more lines piece.to at to pieces rest le ends)
 
 -- ---- one line more
 

@@ -1,5 +1,5 @@
 -- Pieces of some lines, and what is read of them before it is their turn.
-use Rattle.std.specs.Prelude.{◌≡◌, ◌≤◌, ℕ, List, [], ◌∷◌, drop, length}
+use Rattle.std.specs.Prelude.{◌≡◌, ◌≤◌, ◌+◌, ◌⊎◌, ℕ, List, [], ◌∷◌, drop, length, Some, slice_get}
 use Rattle.snap_plain.specs.declared.ahead.Ahead.{Ahead}
 use Rattle.snap_plain.specs.declared.pieces.Piece.{Piece}
 use Rattle.snap_plain.specs.Lines.{HasRows, SpellsAll}
@@ -9,10 +9,14 @@ use Rattle.snap_text.specs.Fields.{Fields}
 abbrev pub IsPieceOf : List ℕ → Piece → Type 0
 IsPieceOf lines piece = (piece.from ≤ piece.to) × (piece.to ≤ length lines)
 
--- pieces that have the lines from one place to another, each line once and in order
-abbrev pub ArePieces : ℕ → ℕ → List Piece → Type 0
-ArePieces from to [] = from ≡ to
-ArePieces from to (piece ∷ pieces) = (piece.from ≡ from) × (piece.from ≤ piece.to) × ArePieces piece.to to pieces
+-- no line goes on at a place of some lines: it is their end, or stands behind a newline (10)
+abbrev pub IsEndOfLine : List ℕ → ℕ → Type 0
+IsEndOfLine lines place = (place ≡ length lines) ⊎ ((at : ℕ) × (place ≡ at + 1) × (slice_get lines at ≡ Some 10))
+
+-- pieces that have the lines from one place to another: each line once, whole, and in order
+abbrev pub ArePieces : List ℕ → ℕ → ℕ → List Piece → Type 0
+ArePieces lines from to [] = from ≡ to
+ArePieces lines from to (piece ∷ pieces) = (piece.from ≡ from) × (piece.from ≤ piece.to) × IsEndOfLine lines piece.to × ArePieces lines piece.to to pieces
 
 -- what was read ahead of some lines: the events of those from one place to before another
 abbrev pub IsAhead : List ℕ → Ahead → Type 0

@@ -11,7 +11,7 @@ use crate::ahead::{Ahead, event_first, read_piece, take_ahead};
 use crate::lines::{Lines, history_of_lines, rest_history, take_lines};
 use crate::pieces::{Piece, next_piece, pieces_of};
 use rtrb::{Consumer, Producer, Protocol, RingBuffer};
-use snap_core::{History, Limit, LimitedHistory};
+use snap_core::{History, Limit};
 use snap_format::ReadRefusal;
 use snap_text::Known;
 use snap_threads::{Cutting, each_job_beside};
@@ -50,14 +50,14 @@ type Outlet<T> = Consumer<Ahead, Global, AheadOf<T>>;
 // A history that takes lines in their turn, and what of them was read ahead and was not yet taken.
 #[derive(Drop)]
 struct Turns<'t> {
-    history: LimitedHistory,
+    history: History,
     behind: &'t [u8],
     waiting: Vec<Ahead>,
 }
 
 /// The history of the lines of a plain text, as `history_of_lines` gives it. The workers of a cutting share the reading of a long text
 /// without stamps.
-pub fn history_of_lines_beside<R: Threads + Sync>(
+pub fn history_of_lines_shared<R: Threads + Sync>(
     rt: &R,
     alloc: Global,
     lines: Lines<'_>,
@@ -214,7 +214,7 @@ fn take_drawn<'t, T: Text>(
     known: &mut Known,
     outlets: &mut [Outlet<T>],
     waiting: &mut Vec<Ahead>,
-    history: &mut LimitedHistory,
+    history: &mut History,
 ) -> Result<&'t [u8], ReadRefusal>
     requires text { lines.now ≡ T.lines }
     requires pieces { All (IsPieceOf lines.now) pieces.now }
@@ -280,5 +280,56 @@ fn take_turns<'t, T: Text>(
             drawn.store(pieces.len() as u64, Ordering::SeqCst);
             Err(refusal)
         }
+    }
+}
+
+#[cfg(test)]
+mod tests {
+    use super::*;
+    use std::test::Fail;
+
+    // The lines of views of process 0, each begun and ended.
+    fn lines_of_views(alloc: Global, count: u32) -> Result<Vec<u8>, AllocError> {
+        let mut lines = Vec::new(alloc);
+        for _ in 0..count {
+            lines.extend_from_slice(b"begin,0,view,\nend,0,view,\n")?;
+        }
+        Ok(lines)
+    }
+
+    // What a worker alone sends of some lines in pieces, and whether all of it went out.
+    fn sent_alone<T: Text>(
+        alloc: Global,
+        lines: &[u8],
+        pieces: &[Piece],
+    ) -> Result<(bool, Vec<Ahead>), AllocError>
+        requires text { lines.now ≡ T.lines }
+        requires pieces { All (IsPieceOf lines.now) pieces.now }
+    {
+        let drawn = AtomicU64::new(0);
+        let (mut inlets, mut outlets) = rings::<T>(alloc, 1, pieces.len())?;
+        let mut received = Vec::new(alloc);
+        let Some(inlet) = inlets.pop() else {
+            return Ok((false, received));
+        };
+        let whole = send_drawn(alloc, lines, pieces, &drawn, Limit::usual(), inlet);
+        receive(&mut outlets, &mut received)?;
+        Ok((whole, received))
+    }
+
+    #[test]
+    fn a_worker_alone_reads_each_piece_to_its_end(rt: HostRuntime) -> Result<(), Fail> {
+        let alloc = rt.alloc();
+        let lines = lines_of_views(alloc, 20_000)?;
+        let pieces = pieces_of(alloc, &lines, 2)?;
+        let (whole, received) = sent_alone::<Brand>(alloc, &lines, &pieces)?;
+        assert!(rt; whole && pieces.len() == 7 && received.len() == 7);
+        let mut events = 0usize;
+        for (ahead, piece) in received.iter().zip(&pieces) {
+            assert!(rt; ahead.from == piece.from && ahead.to == piece.to);
+            events = events.saturating_add(ahead.events.len());
+        }
+        assert_eq!(rt; events, 40_000);
+        Ok(())
     }
 }

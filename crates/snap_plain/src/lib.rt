@@ -9,6 +9,6 @@ mod line;
 mod lines;
 mod pieces;
 
-pub use beside::history_of_lines_beside;
+pub use beside::history_of_lines_shared;
 pub use line::plain_event;
 pub use lines::{Lines, history_of_lines, is_plain, lines_of};

@@ -13,7 +13,7 @@ use crate::front::{
     behind_newlines, behind_order_mark, lines_under_header, lines_under_stamped_header,
 };
 use memchr::memchr2;
-use snap_core::{History, Limit, LimitedHistory};
+use snap_core::{History, Limit};
 use snap_format::{ReadRefusal, Stamped};
 use snap_rows::{history_by_stamps, row_limit, take_fields, take_stamped};
 use snap_text::{Known, TextFault};
@@ -33,7 +33,7 @@ pub(crate) fn take_lines<'t>(
     text: &'t [u8],
     stop: usize,
     limit: Limit,
-    history: &mut LimitedHistory,
+    history: &mut History,
 ) -> Result<&'t [u8], ReadRefusal>
     requires { history.old.limit ≡ limit.events }
     ensures takes { (lines : List ℕ) → TakesOn limit.events lines text.now history.old.events history.new.events result }
@@ -64,13 +64,13 @@ pub(crate) fn rest_history(
     alloc: Global,
     rest: &[u8],
     limit: Limit,
-    mut history: LimitedHistory,
+    mut history: History,
 ) -> Result<(History, Option<Vec<u32>>), ReadRefusal>
     requires { history.limit ≡ limit.events }
     ensures { (lines : List ℕ) (rows : List Fields) → HasTaken limit.events lines rest.now history.events rows → AnswersNumbered limit.events rows result }
 {
     take_lines(alloc, &mut Known::new(alloc), rest, 0, limit, &mut history)?;
-    Ok((history.into_history(), None))
+    Ok((history, None))
 }
 
 // The history of the lines under the header, or the first fault.
@@ -123,7 +123,7 @@ fn stamped_lines_history(
 {
     let mut stamped = Vec::new(alloc);
     let read = read_stamped_lines(alloc, &mut Known::new(alloc), lines, limit, &mut stamped);
-    history_by_stamps(alloc, stamped, read)
+    history_by_stamps(alloc, stamped, read, limit)
 }
 
 /// A plain text behind its header: lines without stamps, or with them, or anything where it has no header.

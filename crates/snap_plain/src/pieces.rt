@@ -1,6 +1,6 @@
 //! Pieces of some lines, and which of them is read next.
 ghost use Rattle.std.specs.Prelude.{◌≡◌, ◌≤◌, ◌⊎◌, [], All, IfOk, IfSome, length};
-ghost use Rattle.snap_plain.specs.Ahead.{ArePieces, IsPieceOf};
+ghost use Rattle.snap_plain.specs.Ahead.{ArePieces, IsEndOfLine, IsPieceOf};
 
 use memchr::memchr;
 use std::alloc::{AllocError, Global};
@@ -27,6 +27,7 @@ fn end_of_line(text: &[u8], place: usize) -> usize
     requires { place ≤ length text.now }
     ensures after { place ≤ result }
     ensures within { result ≤ length text.now }
+    ensures ends { IsEndOfLine text.now result }
 {
     match memchr(b'\n', &text[place..]) {
         Some(at) => place + at + 1,
@@ -34,14 +35,14 @@ fn end_of_line(text: &[u8], place: usize) -> usize
     }
 }
 
-/// Lines in pieces of about as many bytes, each from the begin of a line on; or in none where one thread alone reads them sooner.
+/// Lines in pieces of about as many bytes, each of whole lines; or in none where one thread alone reads them sooner.
 pub(crate) fn pieces_of(
     alloc: Global,
     lines: &[u8],
     workers: usize,
 ) -> Result<Vec<Piece>, AllocError>
     ensures within { IfOk result (λ pieces. All (IsPieceOf lines.now) pieces.items) }
-    ensures all { IfOk result (λ pieces. (pieces.items ≡ []) ⊎ ArePieces 0 (length lines.now) pieces.items) }
+    ensures all { IfOk result (λ pieces. (pieces.items ≡ []) ⊎ ArePieces lines.now 0 (length lines.now) pieces.items) }
 {
     let mut pieces = Vec::new(alloc);
     let count = (lines.len() / PIECE_SIZE).min(workers.saturating_mul(PIECES_EACH));

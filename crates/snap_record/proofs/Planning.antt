@@ -4,7 +4,7 @@ use native.Mathlib.Decide.{dec_le}
 use Rattle.std.proofs.Math.Nat.{suc-mul, mul-le-mul_right}
 use Rattle.std.proofs.lemmas.Bool.{le-leb, ltb-false}
 use Rattle.snap_core.specs.declared.event.Event.{Event}
-use Rattle.snap_core.specs.Events.{event_cap, events_of}
+use Rattle.snap_core.specs.Events.{events_of}
 use Rattle.snap_record.specs.declared.plan.Step.{Step}
 use Rattle.snap_record.specs.declared.plan.Step.TheVariants.{Store, View, Scan}
 use Rattle.snap_record.specs.declared.plan.PlanRefusal.{PlanRefusal}
@@ -22,8 +22,7 @@ use Rattle.snap_account.specs.Calls.{Mem, op_writes, writes_in}
 use Rattle.snap_board.specs.Desks.{op_records, records_at, records_in, lost_in}
 use Rattle.snap_board.proofs.Climbing.{few_tries}
 use Rattle.snap_board.specs.Settled.{falling}
-use Rattle.snap_account.specs.Rule.{tick_limit}
-use Rattle.snap_record.specs.Plans.{steps_in, plan_refusal, worker_limit, are_workers, each_draws, draws_within, last_step, round_script, rounds_scripts, AreWorkers, AreRounds, IsRun, HasScripts}
+use Rattle.snap_record.specs.Plans.{steps_in, plan_refusal, ticks_within, worker_limit, are_workers, each_draws, draws_within, last_step, round_script, rounds_scripts, AreWorkers, AreRoundsWithin, IsRun, HasScripts}
 use Rattle.snap_record.specs.inside.Scripts.{IsOpOf, DidScript, DidSome}
 use Rattle.snap_board.specs.History.{stamped_events, events_in, begin_of, end_of}
 use Rattle.snap_record.specs.Delivery.{of_worker}
@@ -59,8 +58,8 @@ round_draws scan w (suc r) rest room le e =
         let last = draws_more (room - 68 * suc r) (room - 68 * r - 2 - 66) rest (omega arith) e in
         λ k. one k && (other k && last k)
 
-round_within : (scan : Bool) (w r : ℕ) → r ≤ 32768 → draws_within tick_limit (round_script scan w r) ≡ true
-round_within scan w r le = ap (draws_within tick_limit) (sym (append-nil (round_script scan w r))) ∙ round_draws scan w r [] tick_limit (omega arith) refl
+round_within : (most : ℕ) (scan : Bool) (w r : ℕ) → 68 * r ≤ most → draws_within most (round_script scan w r) ≡ true
+round_within most scan w r le = ap (draws_within most) (sym (append-nil (round_script scan w r))) ∙ round_draws scan w r [] most le refl
 
 rounds_length : (scan : Bool) (w r : ℕ) → length (rounds_scripts scan w r) ≡ w
 rounds_length scan zero r = refl
@@ -76,22 +75,22 @@ rounds_steps scan (suc w) r =
     let l = steps_append (rounds_scripts scan w r) (round_script scan w r ∷ []) in let i = rounds_steps scan w r in
     let o = round_length scan w r in let m = suc-mul w (4 * r) in omega (arith, l, i, o, m)
 
-rounds_draw : (scan : Bool) (w r : ℕ) → r ≤ 32768 → (rest : List (List Step)) → each_draws rest ≡ true → each_draws (rounds_scripts scan w r ++ rest) ≡ true
-rounds_draw scan zero r le rest e = e
-rounds_draw scan (suc w) r le rest e =
-    ap each_draws (append_assoc (rounds_scripts scan w r) (round_script scan w r ∷ []) rest)
-    ∙ rounds_draw scan w r le (round_script scan w r ∷ rest) (let x = round_within scan w r le in λ k. x k && e k)
+rounds_draw : (most : ℕ) (scan : Bool) (w r : ℕ) → 68 * r ≤ most → (rest : List (List Step)) → each_draws most rest ≡ true → each_draws most (rounds_scripts scan w r ++ rest) ≡ true
+rounds_draw most scan zero r le rest e = e
+rounds_draw most scan (suc w) r le rest e =
+    ap (each_draws most) (append_assoc (rounds_scripts scan w r) (round_script scan w r ∷ []) rest)
+    ∙ rounds_draw most scan w r le (round_script scan w r ∷ rest) (let x = round_within most scan w r le in λ k. x k && e k)
 
 -- so many workers and rounds are a plan
-pub rounds_fit : (scan : Bool) (w r : ℕ) → AreWorkers w → AreRounds r → plan_refusal (rounds_scripts scan w r) ≡ None
-rounds_fit scan w r few le =
+pub rounds_fit : (limit : ℕ) (scan : Bool) (w r : ℕ) → AreWorkers w → AreRoundsWithin limit r → plan_refusal limit (ticks_within limit) (rounds_scripts scan w r) ≡ None
+rounds_fit limit scan w r few le =
     let steps = rounds_steps scan w r in
     let lists = rounds_length scan w r in
-    let draws = ap each_draws (sym (append-nil (rounds_scripts scan w r))) ∙ rounds_draw scan w r le.1 [] refl in
+    let draws = ap (each_draws (ticks_within limit)) (sym (append-nil (rounds_scripts scan w r))) ∙ rounds_draw (ticks_within limit) scan w r (omega (arith, le.1)) [] refl in
     let most = mul-le-mul_right (4 * r) few.1 in
     let low = le-leb 2 (length (rounds_scripts scan w r)) (omega (arith, few.0, lists)) in
     let high = le-leb (length (rounds_scripts scan w r)) worker_limit (omega (arith, few.1, lists)) in
-    let fits = le-ltb event_cap (2 * steps_in (rounds_scripts scan w r)) (omega (arith, steps, most, le.1)) in
+    let fits = le-ltb limit (2 * steps_in (rounds_scripts scan w r)) (omega (arith, steps, most, le.1)) in
     λ k. if not (low k && high k) then Some Workers else if fits k then Some TooLong else if draws k then None else Some TooLong
 
 accepted_by : (few long draws : Bool) → (if not few then Some Workers else if long then Some TooLong else if draws then None else Some TooLong) ≡ None → (long ≡ false) × (draws ≡ true)
@@ -101,18 +100,18 @@ accepted_by true false true e = (refl, refl)
 accepted_by true false false e = absurd (none_some TooLong (sym e))
 
 -- a plan's scripts are short, and each draws few ticks
-pub accepted : (ss : List (List Step)) → plan_refusal ss ≡ None → (2 * steps_in ss ≤ event_cap) × (each_draws ss ≡ true)
-accepted ss e = let a = accepted_by (are_workers (length ss)) (nat_lt event_cap (2 * steps_in ss)) (each_draws ss) e in (ltb-false event_cap (2 * steps_in ss) a.0, a.1)
+pub accepted : (limit : ℕ) (ss : List (List Step)) → plan_refusal limit (ticks_within limit) ss ≡ None → (2 * steps_in ss ≤ limit) × (each_draws (ticks_within limit) ss ≡ true)
+accepted limit ss e = let a = accepted_by (are_workers (length ss)) (nat_lt limit (2 * steps_in ss)) (each_draws (ticks_within limit) ss) e in (ltb-false limit (2 * steps_in ss) a.0, a.1)
 
 pub script_short : (ss : List (List Step)) (w : ℕ) → length (get_or ss w []) ≤ steps_in ss
 script_short [] w = omega arith
 script_short (s ∷ ss) zero = omega arith
 script_short (s ∷ ss) (suc w) = let r = script_short ss w in omega arith
 
-pub script_draws : (ss : List (List Step)) (w : ℕ) → each_draws ss ≡ true → draws_within tick_limit (get_or ss w []) ≡ true
-script_draws [] w e = refl
-script_draws (s ∷ ss) zero e = (both (draws_within tick_limit s) (each_draws ss) e).0
-script_draws (s ∷ ss) (suc w) e = script_draws ss w (both (draws_within tick_limit s) (each_draws ss) e).1
+pub script_draws : (most : ℕ) (ss : List (List Step)) (w : ℕ) → each_draws most ss ≡ true → draws_within most (get_or ss w []) ≡ true
+script_draws most [] w e = refl
+script_draws most (s ∷ ss) zero e = (both (draws_within most s) (each_draws most ss) e).0
+script_draws most (s ∷ ss) (suc w) e = script_draws most ss w (both (draws_within most s) (each_draws most ss) e).1
 
 -- what a script did stands in the events of its records
 pub did_run : (d : ℕ) (steps : List Step) (rs : List Record) → DidScript d steps rs → IsRun d steps (events_in (stamped_events rs))

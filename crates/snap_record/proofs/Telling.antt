@@ -10,7 +10,8 @@ use Rattle.snap_core.specs.Regular.{IsRegular}
 use Rattle.snap_core.specs.Orders.{IsAtomic}
 use Rattle.snap_board.specs.Scans.{without_collects}
 use Rattle.snap_board.proofs.Keeping.{settled_kept, scans_kept, records_kept}
-use Rattle.snap_board.proofs.Atomic.{atomic, all_scans}
+use Rattle.snap_board.proofs.Atomic.{atomic, all_scans, close_atomic}
+use Rattle.snap_board.proofs.Climbing.{were_interfered}
 use Rattle.snap_account.specs.declared.account.Account.{Account}
 use Rattle.snap_board.specs.declared.record.Record.{Record}
 use Rattle.snap_record.specs.Delivery.{of_worker}
@@ -85,6 +86,9 @@ module _ (scripts : List (List Step)) (all : List Record) (interfered : ℕ) (d 
     closed = d.settled;
     calls = d.theirs.calls;
     ticks = d.ticks;
+    scans = d.scans;
+    interfered = were_interfered n hand d.settled d.scans;
+    atomic = close_atomic n hand d.settled d.scans;
     timeline = es;
     merged = merged_hand es m;
     events_are = refl;

@@ -6,13 +6,17 @@ use Rattle.snap_core.specs.declared.event.Event.TheVariants.{BeginUpdate, BeginV
 use Rattle.snap_core.specs.Events.{events_of, event_cap}
 use Rattle.snap_core.specs.Sums.{total}
 use Rattle.snap_board.specs.Settled.{falling}
-use Rattle.snap_account.specs.Rule.{tick_limit}
 use Rattle.snap_record.specs.Choices.{chosen, left_out, LeavesScans, scans_in, stores_but, views_in}
 use Rattle.snap_record.specs.declared.plan.Step.{Step}
 use Rattle.snap_record.specs.declared.plan.Step.TheVariants.{Store, View, Scan}
-use Rattle.snap_record.specs.declared.plan.TheConstants.{LEAST_WORKERS, ROUND_LIMIT, ROUND_TRIES, TRY_LIMIT, VALUES_EACH, WORKER_LIMIT}
+use Rattle.snap_record.specs.declared.plan.TheConstants.{LEAST_WORKERS, ROUND_LIMIT, ROUND_TRIES, TICKS_AN_EVENT, TRY_LIMIT, VALUES_EACH, WORKER_LIMIT}
 use Rattle.snap_record.specs.declared.plan.PlanRefusal.{PlanRefusal}
 use Rattle.snap_record.specs.declared.plan.PlanRefusal.TheVariants.{Workers, TooLong, Memory}
+
+-- what contracts see of a plan: its scripts, and how many events they may have together
+pub record PlanView : Type 0 where
+  pub scripts : List (List Step)
+  pub limit : ℕ
 
 abbrev pub lists_of : List (Vec Step Global) → List (List Step)
 lists_of vs = map (λ v. vec_items v) vs
@@ -39,9 +43,13 @@ abbrev pub draws_within : ℕ → List Step → Bool
 draws_within room [] = true
 draws_within room (s ∷ ss) = (has_tries s && nat_le (step_ticks s) room) && draws_within (room - step_ticks s) ss
 
-abbrev pub each_draws : List (List Step) → Bool
-each_draws [] = true
-each_draws (s ∷ ss) = draws_within tick_limit s && each_draws ss
+abbrev pub each_draws : ℕ → List (List Step) → Bool
+each_draws most [] = true
+each_draws most (s ∷ ss) = draws_within most s && each_draws most ss
+
+-- how many ticks a script may draw, where the scripts may have so many events together
+abbrev pub ticks_within : ℕ → ℕ
+ticks_within events = TICKS_AN_EVENT * events
 
 -- how many workers a plan has at most
 abbrev pub worker_limit : ℕ
@@ -50,9 +58,9 @@ worker_limit = WORKER_LIMIT
 abbrev pub are_workers : ℕ → Bool
 are_workers n = nat_le LEAST_WORKERS n && nat_le n worker_limit
 
--- the first refusal that applies
-abbrev pub plan_refusal : List (List Step) → Option PlanRefusal
-plan_refusal ss = if not (are_workers (length ss)) then Some Workers else if nat_lt event_cap (2 * steps_in ss) then Some TooLong else if each_draws ss then None else Some TooLong
+-- the first refusal that applies, where the scripts may have so many events together, and each may draw so many ticks
+abbrev pub plan_refusal : ℕ → ℕ → List (List Step) → Option PlanRefusal
+plan_refusal events ticks ss = if not (are_workers (length ss)) then Some Workers else if nat_lt events (2 * steps_in ss) then Some TooLong else if each_draws ticks ss then None else Some TooLong
 
 -- how a round ends
 abbrev pub last_step : Bool → Step
@@ -72,18 +80,30 @@ rounds_scripts scan (suc w) rounds = rounds_scripts scan w rounds ++ round_scrip
 abbrev pub AreWorkers : ℕ → Type 0
 AreWorkers n = (LEAST_WORKERS ≤ n) × (n ≤ worker_limit)
 
--- how many rounds there are at most: two calls of each worker in each fit into a history
+-- how many rounds there are at most, where no limit of events is chosen
 abbrev pub round_limit : ℕ
 round_limit = ROUND_LIMIT
 
-abbrev pub AreRounds : ℕ → Type 0
-AreRounds rounds = (0 < rounds) × (rounds ≤ round_limit)
+abbrev pub AreUsualRounds : ℕ → Type 0
+AreUsualRounds rounds = (0 < rounds) × (rounds ≤ round_limit)
 
--- why there is no plan of so many workers and rounds
-abbrev pub IsRoundsRefusal : ℕ → ℕ → PlanRefusal → Type 0
-IsRoundsRefusal workers rounds Workers = AreWorkers workers → ⊥
-IsRoundsRefusal workers rounds TooLong = AreWorkers workers × (AreRounds rounds → ⊥)
-IsRoundsRefusal workers rounds Memory = AreWorkers workers × AreRounds rounds
+-- two calls of each of the most workers in each round have no more than so many events
+abbrev pub AreRoundsWithin : ℕ → ℕ → Type 0
+AreRoundsWithin events rounds = (0 < rounds) × (4 * worker_limit * rounds ≤ events)
+
+-- so many rounds fit by the greatest limit of events
+abbrev pub AreRounds : ℕ → Type 0
+AreRounds rounds = AreRoundsWithin event_cap rounds
+
+-- why there is no plan of so many workers and rounds, where there may be these rounds
+abbrev pub IsRoundsRefusal : (ℕ → Type 0) → ℕ → ℕ → PlanRefusal → Type 0
+IsRoundsRefusal MayBe workers rounds Workers = AreWorkers workers → ⊥
+IsRoundsRefusal MayBe workers rounds TooLong = AreWorkers workers × (MayBe rounds → ⊥)
+IsRoundsRefusal MayBe workers rounds Memory = AreWorkers workers × MayBe rounds
+
+-- how many values worker w has before worker w + 1 has its own
+abbrev pub values_each : ℕ
+values_each = VALUES_EACH
 
 -- the events of a process that did each step of a script once, in its order, on component w
 abbrev pub IsRun : ℕ → List Step → List Event → Type 0

@@ -1,11 +1,12 @@
 //! Plans: a script of steps for each worker.
 ghost use Rattle.std.specs.Prelude.{◌≡◌, ◌*◌, ◌<◌, ◌≤◌, [], Some, None, IfOk, IfErr, OnOk, IsTrue, ◌↔◌, length, slice_index_or, nat_le, true};
 ghost use Rattle.snap_core.specs.Events.{event_cap};
-ghost use Rattle.snap_record.specs.Plans.{lists_of, steps_in, plan_refusal, worker_limit, round_limit, are_workers, each_draws, draws_within, round_script, rounds_scripts, AreWorkers, AreRounds, IsRoundsRefusal};
-ghost use Rattle.snap_account.specs.Rule.{tick_limit};
+ghost use Rattle.snap_core.specs.Limits.{event_limit};
+ghost use Rattle.snap_account.specs.Limits.{tick_limit};
+ghost use Rattle.snap_record.specs.Plans.{lists_of, steps_in, plan_refusal, ticks_within, worker_limit, values_each, are_workers, each_draws, draws_within, round_script, rounds_scripts, AreWorkers, AreUsualRounds, AreRoundsWithin, IsRoundsRefusal};
 
-use snap_board::{DESK_LIMIT, TICK_LIMIT};
-use snap_core::EVENT_CAP;
+use snap_board::{DESK_LIMIT, TICK_LIMIT, TickLimit};
+use snap_core::{EVENT_LIMIT, Limit};
 use std::alloc::{AllocError, Global};
 use std::marker::Model;
 
@@ -18,9 +19,14 @@ pub const WORKER_LIMIT: u32 = DESK_LIMIT as u32;
 /// How many tries a plan's scan has at most.
 pub const TRY_LIMIT: u32 = 1024;
 
-/// How many rounds `rounds_plan` gives a worker at most: two calls of each worker in each, so four events, fit into the longest
-/// history.
-pub const ROUND_LIMIT: u32 = (EVENT_CAP / (4 * DESK_LIMIT)) as u32;
+/// How many ticks a script may draw for each event that a plan may have.
+const TICKS_AN_EVENT: u32 = TICK_LIMIT / EVENT_LIMIT as u32;
+
+/// How many events a round may have: those of two calls of each worker.
+const ROUND_EVENTS: usize = 4 * DESK_LIMIT;
+
+/// How many rounds `rounds_plan` gives a worker at most.
+pub const ROUND_LIMIT: u32 = (EVENT_LIMIT / ROUND_EVENTS) as u32;
 
 /// How many tries the scans of `rounds_plan` have.
 const ROUND_TRIES: u32 = 64;
@@ -44,30 +50,39 @@ pub enum Step {
 pub enum PlanRefusal {
     /// There are not `LEAST_WORKERS` to `WORKER_LIMIT` lists.
     Workers,
-    /// The steps have more events than the longest history, two for each step; or a script could draw more ticks than a
-    /// desk may; or a scan has not 1 to `TRY_LIMIT` tries.
+    /// The steps have more events than there may be, two for each step; or a script could draw more ticks than a desk may;
+    /// or a scan has not 1 to `TRY_LIMIT` tries; or there may not be so many rounds.
     TooLong,
     /// Memory ran out.
     Memory,
 }
 
-/// A script for each of `LEAST_WORKERS` to `WORKER_LIMIT` workers, together no longer than the longest history.
+/// A script for each of `LEAST_WORKERS` to `WORKER_LIMIT` workers, together within a limit of events.
 #[derive(Drop)]
 pub struct Plan {
     scripts: Vec<Vec<Step>>,
+    limit: Limit,
 }
 
 impl Model for Plan {
-    ghost use Rattle.std.specs.Prelude.{◌≡◌, List, None};
-    ghost use Rattle.snap_record.specs.declared.plan.Step.{Step};
+    ghost use Rattle.std.specs.Prelude.{◌≡◌, None};
+    ghost use Rattle.snap_record.specs.Plans.{PlanView, lists_of, plan_refusal, ticks_within};
 
-    ghost Value = { List (List Step) };
+    ghost Value = { PlanView };
 
-    ghost use Rattle.snap_record.specs.Plans.{lists_of, plan_refusal};
+    ghost view = { λ p. record { scripts = lists_of p.scripts.items; limit = p.limit.events } };
 
-    ghost view = { λ p. lists_of p.scripts.items };
+    ghost invariant = { λ p. plan_refusal p.limit.events (ticks_within p.limit.events) (lists_of p.scripts.items) ≡ None };
+}
 
-    ghost invariant = { λ p. plan_refusal (lists_of p.scripts.items) ≡ None };
+// How many ticks a script may draw, where the scripts may have so many events together.
+fn ticks_within(limit: Limit) -> TickLimit
+    ensures { result.ticks ≡ ticks_within limit.events }
+{
+    let Some(ticks) = TickLimit::new(TICKS_AN_EVENT * limit.events() as u32) else {
+        unreachable!()
+    };
+    ticks
 }
 
 // Whether a plan may have so many workers.
@@ -77,11 +92,11 @@ fn are_workers(count: usize) -> bool
     LEAST_WORKERS as usize <= count && count <= WORKER_LIMIT as usize
 }
 
-// Whether the scripts have together no more steps than a history has calls.
-fn are_short(scripts: &[Vec<Step>]) -> bool
-    ensures { result ≡ nat_le (2 * steps_in (lists_of scripts.now)) event_cap }
+// Whether the scripts have together no more events than they may.
+fn are_short(scripts: &[Vec<Step>], limit: Limit) -> bool
+    ensures { result ≡ nat_le (2 * steps_in (lists_of scripts.now)) limit.events }
 {
-    let mut room = EVENT_CAP / 2;
+    let mut room = limit.events() / 2;
     'scripts: for k in 0..scripts.len() {
         let steps = scripts[k].len();
         if steps > room {
@@ -92,11 +107,11 @@ fn are_short(scripts: &[Vec<Step>]) -> bool
     true
 }
 
-// Whether the steps of a script draw no more ticks than a desk may, and its scans have 1 to `TRY_LIMIT` tries.
-fn draws_within(steps: &[Step]) -> bool
-    ensures { result ≡ draws_within tick_limit steps.now }
+// Whether the steps of a script draw no more than so many ticks, and its scans have 1 to `TRY_LIMIT` tries.
+fn draws_within(steps: &[Step], most: u32) -> bool
+    ensures { result ≡ draws_within most steps.now }
 {
-    let mut room = TICK_LIMIT;
+    let mut room = most;
     'steps: for k in 0..steps.len() {
         let ticks = match steps[k] {
             Step::Store(_) | Step::View => 2,
@@ -115,12 +130,12 @@ fn draws_within(steps: &[Step]) -> bool
     true
 }
 
-// Whether each script draws no more ticks than a desk may, and its scans have 1 to `TRY_LIMIT` tries.
-fn each_draws(scripts: &[Vec<Step>]) -> bool
-    ensures { result ≡ each_draws (lists_of scripts.now) }
+// Whether each script draws no more than so many ticks, and its scans have 1 to `TRY_LIMIT` tries.
+fn each_draws(scripts: &[Vec<Step>], most: u32) -> bool
+    ensures { result ≡ each_draws most (lists_of scripts.now) }
 {
     'scripts: for k in 0..scripts.len() {
-        if !draws_within(&scripts[k]) {
+        if !draws_within(&scripts[k], most) {
             return false;
         }
     }
@@ -128,36 +143,62 @@ fn each_draws(scripts: &[Vec<Step>]) -> bool
 }
 
 impl Plan {
-    /// The plan of these scripts, the list at place w being worker w's. After a refusal the lists are dropped.
+    /// The plan of these scripts, the list at place w being worker w's. Together they have up to `EVENT_LIMIT` events, two
+    /// for each step, and each list draws up to `TICK_LIMIT` ticks. After a refusal the lists are dropped.
     pub fn new(scripts: Vec<Vec<Step>>) -> Result<Plan, PlanRefusal>
-        ensures ok { IfOk result (λ plan. plan ≡ lists_of scripts.items) }
-        ensures accepted { OnOk result (plan_refusal (lists_of scripts.items) ≡ None) }
-        ensures refused { IfErr result (λ refusal. plan_refusal (lists_of scripts.items) ≡ Some refusal) }
+        ensures ok { IfOk result (λ plan. plan ≡ record { scripts = lists_of scripts.items; limit = event_limit }) }
+        ensures accepted { OnOk result (plan_refusal event_limit tick_limit (lists_of scripts.items) ≡ None) }
+        ensures refused { IfErr result (λ refusal. plan_refusal event_limit tick_limit (lists_of scripts.items) ≡ Some refusal) }
+    {
+        Plan::with_limit(scripts, Limit::usual())
+    }
+
+    /// A plan as `new` gives it, with another limit of events, and of ticks in the same proportion: sixteen for each event.
+    pub fn with_limit(scripts: Vec<Vec<Step>>, limit: Limit) -> Result<Plan, PlanRefusal>
+        ensures ok { IfOk result (λ plan. plan ≡ record { scripts = lists_of scripts.items; limit = limit.events }) }
+        ensures accepted { OnOk result (plan_refusal limit.events (ticks_within limit.events) (lists_of scripts.items) ≡ None) }
+        ensures refused { IfErr result (λ refusal. plan_refusal limit.events (ticks_within limit.events) (lists_of scripts.items) ≡ Some refusal) }
     {
         if !are_workers(scripts.len()) {
             return Err(PlanRefusal::Workers);
         }
-        if !are_short(&scripts) || !each_draws(&scripts) {
+        let most = ticks_within(limit).ticks();
+        if !are_short(&scripts, limit) || !each_draws(&scripts, most) {
             return Err(PlanRefusal::TooLong);
         }
-        Ok(Plan { scripts })
+        Ok(Plan { scripts, limit })
+    }
+
+    // How many events the recording may have.
+    pub(crate) fn limit(&self) -> Limit
+        ensures limit { result.events ≡ self.now.limit }
+        ensures short { 2 * steps_in self.now.scripts ≤ self.now.limit }
+    {
+        self.limit
+    }
+
+    // How many ticks each worker may draw.
+    pub(crate) fn ticks(&self) -> TickLimit
+        ensures { result.ticks ≡ ticks_within self.now.limit }
+    {
+        ticks_within(self.limit)
     }
 
     // How many workers the plan has.
     pub(crate) fn workers(&self) -> u8
-        ensures workers { result ≡ length self.now }
+        ensures workers { result ≡ length self.now.scripts }
         ensures range { AreWorkers result }
-        ensures short { 2 * steps_in self.now ≤ event_cap }
+        ensures short { 2 * steps_in self.now.scripts ≤ event_cap }
     {
         self.scripts.len() as u8
     }
 
     // The script of a worker.
     pub(crate) fn script(&self, worker: u16) -> &[Step]
-        requires { worker < length self.now }
-        ensures script { result.now ≡ slice_index_or self.now worker [] }
+        requires { worker < length self.now.scripts }
+        ensures script { result.now ≡ slice_index_or self.now.scripts worker [] }
         ensures short { 2 * length result.now ≤ event_cap }
-        ensures room { draws_within tick_limit result.now ≡ true }
+        ensures room { draws_within (ticks_within self.now.limit) result.now ≡ true }
     {
         self.scripts[usize::from(worker)].as_slice()
     }
@@ -165,7 +206,7 @@ impl Plan {
 
 // What a worker does in so many rounds: a store and a collect or a scan in each.
 fn round_steps(alloc: Global, worker: u32, rounds: u32, scan: bool) -> Result<Vec<Step>, AllocError>
-    requires { (worker < worker_limit) × (rounds ≤ round_limit) }
+    requires { (worker < worker_limit) × (rounds ≤ values_each) }
     ensures { IfOk result (λ steps. steps.items ≡ round_script scan worker rounds) }
 {
     let mut steps = Vec::new(alloc);
@@ -181,10 +222,10 @@ fn round_steps(alloc: Global, worker: u32, rounds: u32, scan: bool) -> Result<Ve
 }
 
 // Whether there may be so many rounds.
-fn are_rounds(rounds: u32) -> bool
-    ensures { IsTrue result ↔ AreRounds rounds }
+fn are_rounds(rounds: u32, limit: Limit) -> bool
+    ensures { IsTrue result ↔ AreRoundsWithin limit.events rounds }
 {
-    0 < rounds && rounds <= ROUND_LIMIT
+    0 < rounds && ROUND_EVENTS * rounds as usize <= limit.events()
 }
 
 // The scripts of so many workers in so many rounds.
@@ -194,7 +235,7 @@ fn round_lists(
     rounds: u32,
     scan: bool,
 ) -> Result<Vec<Vec<Step>>, AllocError>
-    requires { (workers ≤ worker_limit) × (rounds ≤ round_limit) }
+    requires { (workers ≤ worker_limit) × (rounds ≤ values_each) }
     ensures { IfOk result (λ lists. lists_of lists.items ≡ rounds_scripts scan workers rounds) }
 {
     let mut lists = Vec::new(alloc);
@@ -212,18 +253,34 @@ pub fn rounds_plan(
     rounds: u32,
     scan: bool,
 ) -> Result<Plan, PlanRefusal>
-    ensures ok { IfOk result (λ plan. plan ≡ rounds_scripts scan workers rounds) }
-    ensures range { OnOk result (AreWorkers workers × AreRounds rounds) }
-    ensures refused { IfErr result (IsRoundsRefusal workers rounds) }
+    ensures ok { IfOk result (λ plan. plan ≡ record { scripts = rounds_scripts scan workers rounds; limit = event_limit }) }
+    ensures range { OnOk result (AreWorkers workers × AreUsualRounds rounds) }
+    ensures refused { IfErr result (IsRoundsRefusal AreUsualRounds workers rounds) }
+{
+    rounds_plan_within(alloc, workers, rounds, scan, Limit::usual())
+}
+
+/// A plan as `rounds_plan` gives it, with another limit of events. There may be as many rounds as eight workers have in so
+/// many events: a 32nd of them.
+pub fn rounds_plan_within(
+    alloc: Global,
+    workers: u32,
+    rounds: u32,
+    scan: bool,
+    limit: Limit,
+) -> Result<Plan, PlanRefusal>
+    ensures ok { IfOk result (λ plan. plan ≡ record { scripts = rounds_scripts scan workers rounds; limit = limit.events }) }
+    ensures range { OnOk result (AreWorkers workers × AreRoundsWithin limit.events rounds) }
+    ensures refused { IfErr result (IsRoundsRefusal (AreRoundsWithin limit.events) workers rounds) }
 {
     if !are_workers(workers as usize) {
         return Err(PlanRefusal::Workers);
     }
-    if !are_rounds(rounds) {
+    if !are_rounds(rounds, limit) {
         return Err(PlanRefusal::TooLong);
     }
     match round_lists(alloc, workers, rounds, scan) {
-        Ok(lists) => Plan::new(lists),
+        Ok(lists) => Plan::with_limit(lists, limit),
         Err(_) => Err(PlanRefusal::Memory),
     }
 }

@@ -13,14 +13,14 @@ ghost use Rattle.snap_record.specs.Recording.{ArePlaces, AreStamped};
 ghost use Rattle.snap_record.specs.inside.Recording.{DidScripts};
 ghost use Rattle.snap_account.specs.Rule.{newcomers};
 ghost use Rattle.snap_record.specs.Relays.{AreNew, IsSenderOf, IsTakerOf};
-ghost use Rattle.snap_record.specs.inside.Workers.{IsWorkerOf, IsUnused, AreUnused, HasRun, HaveRun, HaveClosed, IsTakenOf};
+ghost use Rattle.snap_record.specs.inside.Workers.{IsWorkerOf, IsUnused, AreUnused, HasTicksFor, HasRun, HaveRun, HaveClosed, IsTakenOf};
 
 use crate::plan::Plan;
 use crate::relay::{Relay, Sender, Taker};
 use crate::taking::{Taken, take_all, take_some};
 use crate::timeline::{history_of, in_order, stamps_of};
 use crate::worker::{Ran, Recorder, Worker, run_script};
-use snap_board::{Board, Gathered, Record};
+use snap_board::{Board, Gathered, Record, TickLimit};
 use snap_core::{Gate, History};
 use snap_threads::each_job_beside;
 use std::alloc::{AllocError, Global};
@@ -78,24 +78,26 @@ fn workers_of(
     Ok(all)
 }
 
-// A board with pauses and a relay for so many workers, the board's gathered desks, which are none, a worker for each desk,
-// the highest first, and the relay's taker.
-fn start_workers(
+// A board with pauses and a relay for this many workers, who may draw this many ticks each, the board's gathered desks, which
+// are none, a worker for each desk, the highest first, and the relay's taker.
+fn start_workers<R: Wait>(
+    rt: &R,
     alloc: Global,
     workers: u8,
+    ticks: TickLimit,
 ) -> Result<(Recorder, Gathered, Vec<Worker>, Taker), AllocError>
     requires { AreWorkers workers }
-    ensures board { IfOk result (λ r. r.0.board.desks ≡ workers) }
+    ensures board { IfOk result (λ r. (r.0.board.desks ≡ workers) × (r.0.board.limit ≡ ticks.ticks)) }
     ensures relay { IfOk result (λ r. r.0.relay.workers ≡ workers) }
     ensures gathered { IfOk result (λ r. IsGatheredOf r.0.board r.1 × (accounts r.1 ≡ [])) }
     ensures count { IfOk result (λ r. length r.2.items ≡ workers) }
     ensures unused { IfOk result (λ r. AreUnused r.0 workers r.2.items) }
     ensures taker { IfOk result (λ r. IsTakerOf r.0.relay r.3 × (r.3.taken ≡ [])) }
 {
-    let Ok((board, mut gathered)) = Board::open(alloc, workers) else {
+    let Ok((board, mut gathered)) = Board::with_ticks(alloc, workers, ticks) else {
         return Err(AllocError);
     };
-    let (relay, senders, taker) = Relay::start(alloc, workers)?;
+    let (relay, senders, taker) = Relay::start(rt, alloc, workers)?;
     let recorder = Recorder {
         board: board.with_pauses(),
         relay,
@@ -115,9 +117,10 @@ fn run_first<R: Wait, G: Gate>(
     gate: &G,
 ) -> (Ran, Result<Taken, AllocError>)
     requires worker { IsWorkerOf recorder.now worker × IsUnused worker }
-    requires number { worker.desk.desk < length plan.now }
+    requires number { worker.desk.desk < length plan.now.scripts }
+    requires ticks { HasTicksFor plan.now recorder.now }
     requires taker { IsTakerOf recorder.now.relay taker × (taker.taken ≡ []) }
-    ensures ran { HasRun recorder.now worker.desk.desk (slice_index_or plan.now worker.desk.desk []) result.0 }
+    ensures ran { HasRun recorder.now worker.desk.desk (slice_index_or plan.now.scripts worker.desk.desk []) result.0 }
     ensures taken { IfOk result.1 (IsTakenOf recorder.now.relay) }
 {
     let ran = run_script(rt, alloc, recorder, plan, worker, gate);
@@ -150,12 +153,13 @@ fn run_all<R: Threads + Wait + Sync, G: Gate>(
     taker: Taker,
     gate: &G,
 ) -> Result<(Vec<Ran>, Taken), AllocError>
-    requires count { length workers.items ≡ length plan.now }
-    requires some { 0 < length plan.now }
-    requires unused { AreUnused recorder.now (length plan.now) workers.items }
+    requires count { length workers.items ≡ length plan.now.scripts }
+    requires some { 0 < length plan.now.scripts }
+    requires ticks { HasTicksFor plan.now recorder.now }
+    requires unused { AreUnused recorder.now (length plan.now.scripts) workers.items }
     requires taker { IsTakerOf recorder.now.relay taker × (taker.taken ≡ []) }
-    ensures count { IfOk result (λ r. length r.0.items ≡ length plan.now) }
-    ensures ran { IfOk result (λ r. HaveRun recorder.now plan.now r.0.items) }
+    ensures count { IfOk result (λ r. length r.0.items ≡ length plan.now.scripts) }
+    ensures ran { IfOk result (λ r. HaveRun recorder.now plan.now.scripts r.0.items) }
     ensures taken { IfOk result (λ r. IsTakenOf recorder.now.relay r.1) }
 {
     let Some(first) = workers.pop() else {
@@ -166,13 +170,13 @@ fn run_all<R: Threads + Wait + Sync, G: Gate>(
         alloc,
         workers,
         &|worker: Worker| -> Ran
-            requires { IsWorkerOf recorder.now worker × IsUnused worker × (worker.desk.desk < length plan.now) }
-            ensures { HasRun recorder.entry.now worker.desk.desk (slice_index_or plan.entry.now worker.desk.desk []) result }
+            requires { IsWorkerOf recorder.now worker × IsUnused worker × (worker.desk.desk < length plan.now.scripts) × HasTicksFor plan.now recorder.now }
+            ensures { HasRun recorder.entry.now worker.desk.desk (slice_index_or plan.entry.now.scripts worker.desk.desk []) result }
         { run_script(rt, alloc, recorder, plan, worker, gate) },
         move || -> (Ran, Result<Taken, AllocError>)
-            requires worker { IsWorkerOf recorder.now first × IsUnused first × (first.desk.desk < length plan.now) }
+            requires worker { IsWorkerOf recorder.now first × IsUnused first × (first.desk.desk < length plan.now.scripts) × HasTicksFor plan.now recorder.now }
             requires taker { IsTakerOf recorder.now.relay taker × (taker.taken ≡ []) }
-            ensures ran { HasRun recorder.entry.now first.desk.desk (slice_index_or plan.entry.now first.desk.desk []) result.0 }
+            ensures ran { HasRun recorder.entry.now first.desk.desk (slice_index_or plan.entry.now.scripts first.desk.desk []) result.0 }
             ensures taken { IfOk result.1 (IsTakenOf recorder.entry.now.relay) }
         { run_first(rt, alloc, recorder, plan, first, taker, gate) },
     );
@@ -188,13 +192,13 @@ fn close_all(
     mut gathered: Gathered,
     mut rans: Vec<Ran>,
 ) -> Result<(Relay, Vec<Sender>, u32), AllocError>
-    requires board { (recorder.board.desks ≡ length plan.now) × IsGatheredOf recorder.board gathered × (accounts gathered ≡ []) }
-    requires count { length rans.items ≡ length plan.now }
-    requires ran { HaveRun recorder plan.now rans.items }
-    requires short { 2 * steps_in plan.now ≤ event_cap }
+    requires board { (recorder.board.desks ≡ length plan.now.scripts) × IsGatheredOf recorder.board gathered × (accounts gathered ≡ []) }
+    requires count { length rans.items ≡ length plan.now.scripts }
+    requires ran { HaveRun recorder plan.now.scripts rans.items }
+    requires short { 2 * steps_in plan.now.scripts ≤ event_cap }
     ensures relay { IfOk result (λ r. r.0 ≡ recorder.relay) }
     ensures senders { IfOk result (λ r. All (IsSenderOf recorder.relay) r.1.items) }
-    ensures closed { IfOk result (λ r. HaveClosed plan.now r.1.items r.2) }
+    ensures closed { IfOk result (λ r. HaveClosed plan.now.scripts r.1.items r.2) }
 {
     let Recorder { board, relay } = recorder;
     let mut senders = Vec::new(alloc);
@@ -219,12 +223,16 @@ fn run_plan<R: Threads + Wait + Sync, G: Gate>(
     plan: &Plan,
     gate: &G,
 ) -> Result<(Vec<Record>, u32), AllocError>
-    ensures workers { OnOk result (AreWorkers (length plan.now)) }
-    ensures did { IfOk result (λ r. DidScripts plan.now r.0.items r.1) }
-    ensures few { IfOk result (λ r. length r.0.items ≤ steps_in plan.now) }
-    ensures short { IfOk result (λ r. 2 * length r.0.items ≤ event_cap) }
+    ensures workers { OnOk result (AreWorkers (length plan.now.scripts)) }
+    ensures did { IfOk result (λ r. DidScripts plan.now.scripts r.0.items r.1) }
+    ensures few { IfOk result (λ r. length r.0.items ≤ steps_in plan.now.scripts) }
 {
-    let (recorder, gathered, workers, taker) = start_workers(alloc, plan.workers())?;
+    let (recorder, gathered, workers, taker) = start_workers(
+        rt,
+        alloc,
+        plan.workers(),
+        plan.ticks(),
+    )?;
     let (rans, taken) = run_all(rt, alloc, &recorder, plan, workers, taker, gate)?;
     let (relay, senders, interfered) = close_all(alloc, recorder, plan, gathered, rans)?;
     let all = take_all(rt, relay, senders, taken)?;
@@ -232,42 +240,43 @@ fn run_plan<R: Threads + Wait + Sync, G: Gate>(
 }
 
 /// Records what the workers of a plan do on a board with a desk for each, each the script of its number. Worker 0 runs on
-/// the calling thread, and so does each other that no thread can be started for. A worker gives up its turn before the last load
-/// of a collect, so that calls overlap. The gate is called as `at(w, t)` when t of worker w's calls have answered, for t
+/// the calling thread, and so does each other that no thread can be started for. A worker gives up its turn within a collect,
+/// and within some stores, so that calls overlap. The gate is called as `at(w, t)` when t of worker w's calls have answered, for t
 /// from 0 to the script's length. A worker in which memory is refused ends its script there, and the answer is then
 /// `Memory`. The records come to the calling thread through a relay, so the call may wait for the relay's queue, as it
 /// waits for the workers.
 ///
-/// The history is regular and monotone and has no pending call, and it is atomic where no script has a collect. Worker w is process w
-/// in it, with the calls of its script in their order, each once, and there is no other call; but scans that were
-/// interfered with are left out, as many in all as `interfered` says. The stamps are the board's: for each event that of
+/// The history is regular and monotone and has no pending call. Its stores and scans alone are atomic, so it is atomic where
+/// no script has a collect. Worker w is process w in it, with the calls of its script in their order, each once, and there is
+/// no other call; but scans that were interfered with are left out, as many in all as `interfered` says. The stamps are the board's: for each event that of
 /// its record's begin or end, strictly rising. Each tick of the board's clock, from 0 on, is a begin, a middle tick or an
 /// end of exactly one call of the scripts, scans that were left out among them. So each try of a scan leaves a gap, and
-/// where no script has a scan the stamps are 0, 1, 2 and so on.
+/// where no script has a scan the stamps are 0, 1, 2 and so on. The history's limit of events is the plan's.
 pub fn record_plan<R: Threads + Wait + Sync, G: Gate>(
     rt: &R,
     alloc: Global,
     plan: &Plan,
     gate: &G,
 ) -> Result<Recording, RecordRefusal>
-    ensures workers { OnOk result (AreWorkers (length plan.now)) }
-    ensures regular { IfOk result (λ r. IsRegular (calls_of r.history)) }
-    ensures monotone { IfOk result (λ r. IsMonotone (calls_of r.history)) }
-    ensures completed { IfOk result (λ r. AllCompleted (calls_of r.history)) }
-    ensures atomic { HasNoViews plan.now → IfOk result (λ r. IsAtomic (calls_of r.history)) }
-    ensures scripts { IfOk result (λ r. HasScripts plan.now r.history r.interfered) }
-    ensures whole { HasNoScans plan.now → IfOk result (λ r. HasWholeScripts plan.now r.history) }
-    ensures none_left { HasNoScans plan.now → IfOk result (λ r. r.interfered ≡ 0) }
-    ensures stamps { IfOk result (λ r. AreStamped plan.now r.history r.stamps.items) }
+    ensures workers { OnOk result (AreWorkers (length plan.now.scripts)) }
+    ensures regular { IfOk result (λ r. IsRegular (calls_of r.history.events)) }
+    ensures monotone { IfOk result (λ r. IsMonotone (calls_of r.history.events)) }
+    ensures completed { IfOk result (λ r. AllCompleted (calls_of r.history.events)) }
+    ensures atomic { HasNoViews plan.now.scripts → IfOk result (λ r. IsAtomic (calls_of r.history.events)) }
+    ensures scripts { IfOk result (λ r. HasScripts plan.now.scripts r.history.events r.interfered) }
+    ensures whole { HasNoScans plan.now.scripts → IfOk result (λ r. HasWholeScripts plan.now.scripts r.history.events) }
+    ensures none_left { HasNoScans plan.now.scripts → IfOk result (λ r. r.interfered ≡ 0) }
+    ensures stamps { IfOk result (λ r. AreStamped plan.now.scripts r.history.events r.stamps.items) }
     ensures rising { IfOk result (λ r. IsStrictlyIncreasing r.stamps.items) }
-    ensures places { HasNoScans plan.now → IfOk result (λ r. ArePlaces r.stamps.items) }
-    ensures each_stamp { IfOk result (λ r. length r.stamps.items ≡ length r.history) }
-    ensures few { IfOk result (λ r. length r.history ≤ 2 * steps_in plan.now) }
+    ensures places { HasNoScans plan.now.scripts → IfOk result (λ r. ArePlaces r.stamps.items) }
+    ensures each_stamp { IfOk result (λ r. length r.stamps.items ≡ length r.history.events) }
+    ensures few { IfOk result (λ r. length r.history.events ≤ 2 * steps_in plan.now.scripts) }
+    ensures limit { IfOk result (λ r. r.history.limit ≡ plan.now.limit) }
 {
     let (all, interfered) = run_plan(rt, alloc, plan, gate)?;
     let events = in_order(alloc, all)?;
     let stamps = stamps_of(alloc, &events)?;
-    let history = history_of(alloc, events)?;
+    let history = history_of(alloc, events, plan.limit())?;
     Ok(Recording {
         history,
         interfered,

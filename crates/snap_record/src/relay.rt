@@ -129,7 +129,11 @@ fn make_senders(
 impl Relay {
     /// A relay of 1 to `WORKER_LIMIT` workers, with a sender for each, the one at place w being worker w's, and with a
     /// taker. The queue is empty, and nothing was sent or taken.
-    pub fn start(alloc: Global, workers: u8) -> Result<(Relay, Vec<Sender>, Taker), AllocError>
+    pub fn start<R: Wait>(
+        _rt: &R,
+        alloc: Global,
+        workers: u8,
+    ) -> Result<(Relay, Vec<Sender>, Taker), AllocError>
         requires { (1 ≤ workers) × (workers ≤ worker_limit) }
         ensures relay { IfOk result (λ r. r.0.workers ≡ workers) }
         ensures senders { IfOk result (λ r. AreNew r.0.queue workers r.1.items) }

@@ -1,10 +1,10 @@
 //! The records of all workers, put in order by their stamps.
 ghost use Rattle.std.specs.Prelude.{◌≡◌, ◌≤◌, IfOk, length};
-ghost use Rattle.snap_core.specs.Events.{IsHistory, event_cap};
+ghost use Rattle.snap_core.specs.Events.{IsHistory};
 ghost use Rattle.snap_board.specs.History.{begin_of, end_of, stamped_events, events_in, event_stamps, Merged, AreApart};
 
 use snap_board::{Record, RecordedOp};
-use snap_core::{Event, EventRefusal, History};
+use snap_core::{Event, EventRefusal, History, Limit};
 use std::alloc::{AllocError, Global};
 
 // The begin and the end of a call, each with its stamp.
@@ -70,13 +70,18 @@ pub(crate) fn stamps_of(alloc: Global, events: &[(u64, Event)]) -> Result<Vec<u6
     Ok(stamps)
 }
 
-/// The history of these events.
-pub(crate) fn history_of(alloc: Global, events: Vec<(u64, Event)>) -> Result<History, AllocError>
+/// The history of these events, which may have so many.
+pub(crate) fn history_of(
+    alloc: Global,
+    events: Vec<(u64, Event)>,
+    limit: Limit,
+) -> Result<History, AllocError>
     requires history { IsHistory (events_in events.items) }
-    requires short { length events.items ≤ event_cap }
-    ensures { IfOk result (λ history. history ≡ events_in events.items) }
+    requires short { length events.items ≤ limit.events }
+    ensures events { IfOk result (λ history. history.events ≡ events_in events.items) }
+    ensures limit { IfOk result (λ history. history.limit ≡ limit.events) }
 {
-    let mut history = History::new(alloc);
+    let mut history = History::with_limit(alloc, limit);
     'each: for (_, event) in events {
         match history.push(event) {
             Ok(()) => {}

@@ -7,8 +7,7 @@ ghost use Rattle.snap_record.specs.inside.Scripts.{DidSome, IsStepOf};
 ghost use Rattle.snap_board.specs.LastCall.{HasCalled};
 ghost use Rattle.snap_record.specs.Choices.{tries_of, IsScan, one_view, views_in};
 ghost use Rattle.snap_record.specs.Plans.{has_tries, step_ticks, draws_within};
-ghost use Rattle.snap_account.specs.Rule.{tick_limit};
-ghost use Rattle.snap_record.specs.inside.Workers.{IsWorkerOf, IsUnused, HasRun};
+ghost use Rattle.snap_record.specs.inside.Workers.{IsWorkerOf, IsUnused, HasTicksFor, HasRun};
 
 use crate::plan::{Plan, Step};
 use crate::relay::{Relay, Sender};
@@ -47,7 +46,7 @@ fn run_step(
 ) -> Result<Option<Record>, AllocError>
     requires desk { IsDeskOf board.now desk.old }
     requires tries { has_tries step ≡ true }
-    requires room { ticks desk.old + step_ticks step ≤ tick_limit }
+    requires room { ticks desk.old + step_ticks step ≤ board.now.limit }
     ensures desk { IsDeskOf board.now desk.new × (desk.new.desk ≡ desk.old.desk) }
     ensures ticks { OnOk result (ticks desk.new ≤ ticks desk.old + step_ticks step) }
     ensures recorded { IfOk result (λ o. MatchOption o (records desk.new ≡ records desk.old) (λ r. records desk.new ≡ records desk.old ++ r ∷ [])) }
@@ -88,7 +87,7 @@ fn run_steps<R: Wait, G: Gate>(
 ) -> Result<u32, AllocError>
     requires worker { IsWorkerOf recorder.now worker.old × IsUnused worker.old }
     requires short { 2 * (length script.now) ≤ event_cap }
-    requires room { draws_within tick_limit script.now ≡ true }
+    requires room { draws_within recorder.now.board.limit script.now ≡ true }
     ensures worker { IsWorkerOf recorder.now worker.new × (worker.new.desk.desk ≡ worker.old.desk.desk) }
     ensures sent { OnOk result (records worker.new.desk ≡ worker.new.sender.sent) }
     ensures script { OnOk result (DidSome worker.old.desk.desk script.now worker.new.sender.sent (lost worker.new.desk)) }
@@ -123,8 +122,9 @@ pub(crate) fn run_script<R: Wait, G: Gate>(
     gate: &G,
 ) -> Ran
     requires worker { IsWorkerOf recorder.now worker × IsUnused worker }
-    requires number { worker.desk.desk < length plan.now }
-    ensures { HasRun recorder.now worker.desk.desk (slice_index_or plan.now worker.desk.desk []) result }
+    requires number { worker.desk.desk < length plan.now.scripts }
+    requires ticks { HasTicksFor plan.now recorder.now }
+    ensures { HasRun recorder.now worker.desk.desk (slice_index_or plan.now.scripts worker.desk.desk []) result }
 {
     let script = plan.script(worker.desk.process());
     let outcome = run_steps(rt, alloc, recorder, &mut worker, script, gate);

@@ -9,11 +9,12 @@ use Rattle.std.proofs.lemmas.Bool.Decides.{nat_tests}
 use Rattle.std.proofs.lemmas.List.{drop_all, length-append, length-drop, take_all}
 use Rattle.std.proofs.lemmas.List.Elements.{filter_map-append}
 use Rattle.std.proofs.Math.Seq.{drop-cons, take-suc}
-use Rattle.snap_core.proofs.Picks.{within_full, within_room}
+use Rattle.snap_core.proofs.Picks.{refused_full}
+use Rattle.snap_core.specs.Limited.{LimitedEvents}
 use Rattle.snap_core.specs.declared.event.Event.{Event}
 use Rattle.snap_core.specs.declared.history.EventRefusal.{EventRefusal}
 use Rattle.snap_core.specs.declared.history.EventRefusal.TheVariants as reasons
-use Rattle.snap_core.specs.Refusals.{refusal_within}
+use Rattle.snap_core.specs.Refusals.{refusal_of}
 use Rattle.snap_text.specs.declared.fault.TextFault.{TextFault}
 use Rattle.snap_text.specs.declared.fault.TextFault.TheVariants as faults
 use Rattle.snap_format.specs.declared.refusal.ReadRefusal.{ReadRefusal}
@@ -23,7 +24,7 @@ use Rattle.snap_format.specs.Layout.{is_header_row, is_stamped_header_row}
 use Rattle.snap_format.specs.Faults.{event_in, events_in, fault_of, fault_with, fault_at, row_fault}
 use Rattle.snap_format.specs.Texts.{RowsFault}
 use Rattle.snap_rows.specs.Stamping.{AnswersStamps, RefusesStamps}
-use Rattle.snap_rows.specs.Taking.{AnswersNumbered, FailsEvent, Midway, RefusesFault, RefusesRow, RefusesRows, TakesRow}
+use Rattle.snap_rows.specs.Taking.{AnswersNumbered, FailsEvent, Midway, RefusesFault, RefusesRow, RefusesRows, TakesRest, TakesRow}
 
 -- ---- one record
 
@@ -40,7 +41,7 @@ row_full limit old r a p o d e h =
     let test : nat_le limit (length old) ≡ true = le-leb _ _ h in
     rw (four_long r a p o d e, test) refl
 
-pub row_fits : (limit : ℕ) (old : List Event) (r : Fields) (a p o d : List ℕ) → r ≡ a ∷ p ∷ o ∷ d ∷ [] → length old < limit → row_fault limit old r ≡ fault_with old (event_of a p o d)
+pub row_fits : (limit : ℕ) (old : List Event) (r : Fields) (a p o d : List ℕ) → r ≡ a ∷ p ∷ o ∷ d ∷ [] → length old < limit → row_fault limit old r ≡ fault_with limit old (event_of a p o d)
 unfolding row_fault row_event
 row_fits limit old r a p o d e h =
     let test : nat_le limit (length old) ≡ false = grind (arith, nat_tests) in
@@ -67,12 +68,12 @@ four_of (a ∷ p ∷ o ∷ d ∷ []) x h = (a, p, o, d, refl, h)
 four_of (a ∷ p ∷ o ∷ d ∷ e ∷ r) x h = absurd cc
 
 -- the fault of a record that spells an event is the first refusal of that event
-pub row_within : (limit : ℕ) (old : List Event) (r : Fields) (x : Event) → row_event r ≡ Ok x → row_fault limit old r ≡ option_and_then fault_of (refusal_within limit old x)
+pub row_within : (limit : ℕ) (old : List Event) (r : Fields) (x : Event) → row_event r ≡ Ok x → row_fault limit old r ≡ option_and_then fault_of (refusal_of limit old x)
 row_within limit old r x h =
     let (a, p, o, d, is, spells) = four_of r x h in
     elim (cases_lt (length old) limit) [
-      | inl lt ↦ row_fits limit old r a p o d is lt ∙ rw (spells, within_room limit old x lt) refl
-      | inr le ↦ row_full limit old r a p o d is le ∙ rw (within_full limit old x le) refl
+      | inl lt ↦ row_fits limit old r a p o d is lt ∙ rw spells refl
+      | inr le ↦ row_full limit old r a p o d is le ∙ rw (refused_full limit old x le) refl
     ]
 
 -- what a refused event is answered as
@@ -89,11 +90,11 @@ refused_as place first why e reason answer = go (fault_of why) refl answer
       ],
     )
 
-pub row_refused : (limit : ℕ) (place : ℕ) (old : List Event) (r : Fields) (x : Event) (why : EventRefusal) (e : ReadRefusal) → row_event r ≡ Ok x → (refusal_within limit old x ≡ Some why) ⊎ (why ≡ reasons.Memory)
+pub row_refused : (limit : ℕ) (place : ℕ) (old : List Event) (r : Fields) (x : Event) (why : EventRefusal) (e : ReadRefusal) → row_event r ≡ Ok x → (refusal_of limit old x ≡ Some why) ⊎ (why ≡ reasons.Memory)
     → MatchOption (fault_of why) (e ≡ refusals.Memory) (λ f. e ≡ refusals.Text place f) → RefusesRow limit place old r e
-row_refused limit place old r x why e h reason answer = rw (row_within limit old r x h) (refused_as place (refusal_within limit old x) why e reason answer)
+row_refused limit place old r x why e h reason answer = rw (row_within limit old r x h) (refused_as place (refusal_of limit old x) why e reason answer)
 
-pub row_taken : (limit : ℕ) (place : ℕ) (old new : List Event) (r : Fields) (x : Event) → row_event r ≡ Ok x → refusal_within limit old x ≡ None → new ≡ old ++ x ∷ [] → TakesRow limit place old new r (Ok tt)
+pub row_taken : (limit : ℕ) (place : ℕ) (old new : List Event) (r : Fields) (x : Event) → row_event r ≡ Ok x → refusal_of limit old x ≡ None → new ≡ old ++ x ∷ [] → TakesRow limit place old new r (Ok tt)
 row_taken limit place old new r x h none longer = (row_within limit old r x h ∙ rw none refl, x, h, longer)
 
 pub full_fails : (b c : Bool) (x y : TextFault) (o : Option TextFault) → c ≡ true → cond (not b) (Some x) (cond c (Some y) o) ≡ None → ⊥
@@ -107,7 +108,7 @@ pub has_room : (limit : ℕ) (old : List Event) (r : Fields) → row_fault limit
 unfolding row_fault
 has_room limit old r h = elim (cases_lt (length old) limit) [
   | inl lt ↦ lt
-  | inr le ↦ absurd (full_fails (length r == 4) (nat_le limit (length old)) faults.Fields faults.TooMany (fault_with old (row_event r)) (le-leb _ _ le) h)
+  | inr le ↦ absurd (full_fails (length r == 4) (nat_le limit (length old)) faults.Fields faults.TooMany (fault_with limit old (row_event r)) (le-leb _ _ le) h)
 ]
 
 -- ---- one record after the other
@@ -136,12 +137,12 @@ begun limit rows Left head events (rest, e, s) h none = record {
   room = omega arith;
 }
 
-pub done : (limit : ℕ) (rows : List Fields) (Left : List Fields → Type 0) (events : List Event) (i : ℕ) (m : Midway limit rows Left events i) → drop i m.later ≡ [] → AnswersNumbered limit rows (Ok (events, None))
-done limit rows Left events i m e =
+pub done : (limit : ℕ) (rows : List Fields) (Left : List Fields → Type 0) (h : LimitedEvents) (i : ℕ) (m : Midway limit rows Left h.events i) → drop i m.later ≡ [] → h.limit ≡ limit → TakesRest limit rows h (Ok tt)
+done limit rows Left h i m e same =
     let len : length m.later ≤ i = omega (arith, length-drop i m.later, ap length e) in
     let all : take i m.later ≡ m.later = take_all i m.later len in
-    let count : length events ≡ length m.later = omega (arith, m.count, m.within) in
-    rw m.whole (inl (m.header, λ j lt. m.fine j (omega (arith, m.within)), rw all at m.history), inl (m.header, ap (range_with_len 2) count))
+    let count : length h.events ≡ length m.later = omega (arith, m.count, m.within) in
+    rw m.whole ((inl (m.header, λ j lt. m.fine j (omega (arith, m.within)), rw all at m.history), same), inl (m.header, ap (range_with_len 2) count))
 
 fault_here : (limit : ℕ) (rows : List Fields) (Left : List Fields → Type 0) (events : List Event) (i : ℕ) (m : Midway limit rows Left events i) (row : Fields) → get_or m.later i [] ≡ row
     → fault_at limit m.later i ≡ row_fault limit events row
@@ -184,9 +185,9 @@ pub no_header : (limit : ℕ) (rows : List Fields) (head : Fields) (rest : List 
 no_header limit rows head rest e h s = rw e (inl (h, s, refl, refl))
 
 -- the answer to the records under the header of a text with stamps
-pub with_stamps : (limit : ℕ) (rows : List Fields) (head : Fields) (rest : List Fields) (events : List Event) (records : Vec ℕ) → rows ≡ head ∷ rest → is_stamped_header_row head ≡ true → AnswersStamps limit rest (Ok (events, records))
+pub with_stamps : (limit : ℕ) (rows : List Fields) (head : Fields) (rest : List Fields) (events : LimitedEvents) (records : Vec ℕ) → rows ≡ head ∷ rest → is_stamped_header_row head ≡ true → AnswersStamps limit rest (Ok (events, records))
     → AnswersNumbered limit rows (Ok (events, Some records))
-with_stamps limit rows head rest events records e s a = rw e (inr (s, a.0), inr (s, a.0.sorted, a.0.order, a.1))
+with_stamps limit rows head rest events records e s a = rw e ((inr (s, a.0), a.2), inr (s, a.0.sorted, a.0.order, a.1))
 
 pub without_stamps : (limit : ℕ) (rows : List Fields) (head : Fields) (rest : List Fields) (e : ReadRefusal) → rows ≡ head ∷ rest → is_stamped_header_row head ≡ true → RefusesStamps limit rest e → RefusesRows limit rows e
 without_stamps limit rows head rest (refusals.Text p f) e s a = rw e (inr (inr (s, a)))

@@ -8,6 +8,7 @@ use Rattle.std.proofs.lemmas.Bool.{cases_lt, le-leb}
 use Rattle.std.proofs.lemmas.Bool.Decides.{nat_tests}
 use Rattle.std.proofs.lemmas.List.{drop_all, get_or_append_left, length-append, length-drop, map-append}
 use Rattle.std.proofs.Math.Seq.{drop-cons, get_or-append_seam, take-suc}
+use Rattle.snap_core.specs.Limited.{LimitedEvents}
 use Rattle.snap_core.specs.declared.event.Event.{Event}
 use Rattle.snap_text.specs.declared.fault.TextFault.{TextFault}
 use Rattle.snap_text.specs.declared.fault.TextFault.TheVariants as faults
@@ -129,11 +130,11 @@ more limit rows A B old new i m row (rest, d, s) (none, x, is, longer) =
 -- ---- one event after the other
 
 -- so many events in order are taken as the history has
-pub record MidTurns (xs left : List Stamped) (events : List Event) : Type 0 where
+pub record MidTurns (limit : ℕ) (xs left : List Stamped) (events : List Event) : Type 0 where
   pub within : length events ≤ length xs
   pub left_is : left ≡ drop (length events) xs
   pub history : events ≡ events_of (take (length events) xs)
-  pub fine : NoneOf (order_at xs) (length events)
+  pub fine : NoneOf (order_at limit xs) (length events)
 
 turn_drop : (xs : List Stamped) (i : ℕ) (y : Stamped) (rest : List Stamped) → y ∷ rest ≡ drop i xs → (i < length xs) × (get_or xs i nothing ≡ y) × (rest ≡ drop (i + 1) xs)
 turn_drop xs i y rest e = elim (cases_lt i (length xs)) [
@@ -145,32 +146,32 @@ turn_drop xs i y rest e = elim (cases_lt i (length xs)) [
   | inr le ↦ let none = drop_all i xs le in absurd (cc)
 ]
 
-pub turns_stopped : (xs left rest : List Stamped) (events : List Event) (y : Stamped) (place : ℕ) (x : Event) (e : ReadRefusal) → MidTurns xs left events → left ≡ y ∷ rest → y.place ≡ place → y.event ≡ x
-    → TakesEvent place events events x (Err e) → RefusesTurns xs e
-turns_stopped xs left rest events y place x (refusals.Text p f) m l yp yx t =
+pub turns_stopped : (limit : ℕ) (xs left rest : List Stamped) (events : List Event) (y : Stamped) (place : ℕ) (x : Event) (e : ReadRefusal) → MidTurns limit xs left events → left ≡ y ∷ rest → y.place ≡ place → y.event ≡ x
+    → TakesEvent limit place events events x (Err e) → RefusesTurns limit xs e
+turns_stopped limit xs left rest events y place x (refusals.Text p f) m l yp yx t =
     let (lt, here, next) = turn_drop xs (length events) y rest (sym l ∙ m.left_is) in (
       length events,
       record { below = lt; here = rw (here, ← m.history, yx) t.1; first = m.fine },
       t.0 ∙ sym yp ∙ ap (λ (z : Stamped). z.place) (sym here),
     )
-turns_stopped xs left rest events y place x refusals.Device m l yp yx t = t
-turns_stopped xs left rest events y place x refusals.Memory m l yp yx t = tt
+turns_stopped limit xs left rest events y place x refusals.Device m l yp yx t = t
+turns_stopped limit xs left rest events y place x refusals.Memory m l yp yx t = tt
 
-pub turns_more : (xs left rest : List Stamped) (old new : List Event) (y : Stamped) (place : ℕ) (x : Event) → MidTurns xs left old → left ≡ y ∷ rest → y.event ≡ x
-    → TakesEvent place old new x (Ok tt) → MidTurns xs rest new
-turns_more xs left rest old new y place x m l yx t =
+pub turns_more : (limit : ℕ) (xs left rest : List Stamped) (old new : List Event) (y : Stamped) (place : ℕ) (x : Event) → MidTurns limit xs left old → left ≡ y ∷ rest → y.event ≡ x
+    → TakesEvent limit place old new x (Ok tt) → MidTurns limit xs rest new
+turns_more limit xs left rest old new y place x m l yx t =
     let (lt, here, next) = turn_drop xs (length old) y rest (sym l ∙ m.left_is) in
     let size : length new ≡ length old + 1 = rw t.1 (omega (arith, length-append old (x ∷ []))) in
     let taken : take (length old + 1) xs ≡ take (length old) xs ++ y ∷ [] = rw (add-one, take-suc xs (length old) nothing lt, here) refl in
     let events : new ≡ events_of (take (length old + 1) xs) =
     t.1 ∙ ap (λ (z : Event). old ++ z ∷ []) (sym yx) ∙ ap (λ (es : List Event). es ++ y.event ∷ []) m.history
     ∙ sym (map-append (λ (z : Stamped). z.event) (take (length old) xs) (y ∷ [])) ∙ ap events_of (sym taken) in
-    let clean : order_at xs (length old) ≡ None = rw (here, ← m.history, yx) t.0 in
+    let clean : order_at limit xs (length old) ≡ None = rw (here, ← m.history, yx) t.0 in
     record {
       within = omega arith;
       left_is = rw size next;
       history = events ∙ ap (λ n. events_of (take n xs)) (sym size);
-      fine = subst (λ n. NoneOf (order_at xs) n) (sym size) (below_more (λ j. order_at xs j ≡ None) (length old) m.fine clean);
+      fine = subst (λ n. NoneOf (order_at limit xs) n) (sym size) (below_more (λ j. order_at limit xs j ≡ None) (length old) m.fine clean);
     }
 
 -- ---- the whole
@@ -178,12 +179,12 @@ turns_more xs left rest old new y place x m l yx t =
 in_order : (rows : List Fields) (xs ys : List Stamped) → xs ≡ stamped_in rows → IsPermutation xs ys → IsStrictlyIncreasing (stamps_of ys) → InOrder rows ys
 in_order rows xs ys read p up = record { same = subst (λ (z : List Stamped). IsPermutation z ys) read p; rising = up }
 
-pub whole : (limit : ℕ) (rows : List Fields) (xs ys : List Stamped) (h : List Event) (places : Vec ℕ) → NoneOf (shape_at limit rows) (length rows) × (xs ≡ stamped_in rows) → IsPermutation xs ys → IsStrictlyIncreasing (stamps_of ys)
-    → TakesTurns ys (Ok h) → places.items ≡ places_of ys → AnswersStamps limit rows (Ok (h, places))
-whole limit rows xs ys h places read p up t is = (record { shapes = read.0; sorted = ys; order = in_order rows xs ys read.1 p up; fine = t.0; history = t.1 }, is)
+pub whole : (limit : ℕ) (rows : List Fields) (xs ys : List Stamped) (h : LimitedEvents) (places : Vec ℕ) → NoneOf (shape_at limit rows) (length rows) × (xs ≡ stamped_in rows) → IsPermutation xs ys → IsStrictlyIncreasing (stamps_of ys)
+    → TakesTurns limit ys (Ok h) → places.items ≡ places_of ys → AnswersStamps limit rows (Ok (h, places))
+whole limit rows xs ys h places read p up t is = (record { shapes = read.0; sorted = ys; order = in_order rows xs ys read.1 p up; fine = t.0; history = t.1 }, is, t.2)
 
 pub turns_stop : (limit : ℕ) (rows : List Fields) (xs ys : List Stamped) (e : ReadRefusal) → NoneOf (shape_at limit rows) (length rows) × (xs ≡ stamped_in rows) → IsPermutation xs ys → IsStrictlyIncreasing (stamps_of ys)
-    → RefusesTurns ys e → RefusesStamps limit rows e
+    → RefusesTurns limit ys e → RefusesStamps limit rows e
 turns_stop limit rows xs ys (refusals.Text q f) read p up t =
     inr (record { shapes = read.0; sorted = ys; order = in_order rows xs ys read.1 p up; i = t.0; first = t.1; record_is = t.2 })
 turns_stop limit rows xs ys refusals.Device read p up t = t

@@ -4,6 +4,7 @@ use Rattle.std.specs.Global.{Vec}
 use Rattle.std.specs.BTreeSet.{BTreeSet, contains}
 use Rattle.std.specs.List.{IsDistinct, list_any}
 use Rattle.std.specs.Ordering.{nat_cmp}
+use Rattle.snap_core.specs.Limited.{LimitedEvents}
 use Rattle.snap_core.specs.declared.event.Event.{Event}
 use Rattle.snap_format.specs.declared.refusal.ReadRefusal.{ReadRefusal}
 use Rattle.snap_format.specs.declared.refusal.ReadRefusal.TheVariants as refusals
@@ -66,14 +67,14 @@ abbrev pub ReadsStamped : ℕ → List Fields → List Stamped → Result (Unit 
 ReadsStamped limit rows xs result = FirstRecords limit rows xs × StopsAt limit rows (length xs) result
 
 -- the history of events in this order, or the first with a fault
-abbrev pub RefusesTurns : List Stamped → ReadRefusal → Type 0
-RefusesTurns xs (refusals.Text place f) = (i : ℕ) × FirstOf (order_at xs) (length xs) i f × (place ≡ (slice_index_or xs i nothing).place)
-RefusesTurns xs refusals.Device = ⊥
-RefusesTurns xs refusals.Memory = Unit {0}
+abbrev pub RefusesTurns : ℕ → List Stamped → ReadRefusal → Type 0
+RefusesTurns limit xs (refusals.Text place f) = (i : ℕ) × FirstOf (order_at limit xs) (length xs) i f × (place ≡ (slice_index_or xs i nothing).place)
+RefusesTurns limit xs refusals.Device = ⊥
+RefusesTurns limit xs refusals.Memory = Unit {0}
 
-abbrev pub TakesTurns : List Stamped → Result (List Event) ReadRefusal → Type 0
-TakesTurns xs (Ok h) = NoneOf (order_at xs) (length xs) × (h ≡ events_of xs)
-TakesTurns xs (Err e) = RefusesTurns xs e
+abbrev pub TakesTurns : ℕ → List Stamped → Result LimitedEvents ReadRefusal → Type 0
+TakesTurns limit xs (Ok h) = NoneOf (order_at limit xs) (length xs) × (h.events ≡ events_of xs) × (h.limit ≡ limit)
+TakesTurns limit xs (Err e) = RefusesTurns limit xs e
 
 -- what an answer says of the records under the header of a text with stamps, the numbers of the events' records among them
 abbrev pub RefusesStamps : ℕ → List Fields → ReadRefusal → Type 0
@@ -81,6 +82,6 @@ RefusesStamps limit rows (refusals.Text place f) = StampedFault limit rows place
 RefusesStamps limit rows refusals.Device = ⊥
 RefusesStamps limit rows refusals.Memory = Unit {0}
 
-abbrev pub AnswersStamps : ℕ → List Fields → Result (List Event × Vec ℕ) ReadRefusal → Type 0
-AnswersStamps limit rows (Ok x) = (read : StampedRead limit rows x.0) × (x.1.items ≡ places_of read.sorted)
+abbrev pub AnswersStamps : ℕ → List Fields → Result (LimitedEvents × Vec ℕ) ReadRefusal → Type 0
+AnswersStamps limit rows (Ok x) = (read : StampedRead limit rows x.0.events) × (x.1.items ≡ places_of read.sorted) × (x.0.limit ≡ limit)
 AnswersStamps limit rows (Err e) = RefusesStamps limit rows e

@@ -2,6 +2,7 @@
 use Rattle.std.specs.Prelude.{◌≡◌, ◌≤◌, ◌<◌, ℕ, true, List, [], ◌∷◌, ◌++◌, drop, length, take, Option, Some, None, Result, Ok, Err}
 use Rattle.std.specs.Global.{Vec}
 use Rattle.std.specs.List.{range_with_len}
+use Rattle.snap_core.specs.Limited.{LimitedEvents}
 use Rattle.snap_core.specs.declared.event.Event.{Event}
 use Rattle.snap_text.specs.declared.fault.TextFault.{TextFault}
 use Rattle.snap_format.specs.declared.refusal.ReadRefusal.{ReadRefusal}
@@ -12,14 +13,14 @@ use Rattle.snap_format.specs.Faults.{events_in, fault_at, fault_with, row_fault}
 use Rattle.snap_format.specs.Texts.{RowsRead, RowsFault}
 use Rattle.snap_format.specs.Records.{RowsNumbered}
 
--- what an answer says of records, whose history may have so many events
+-- what an answer says of records, whose history may have so many events: a history that was read has this limit
 abbrev pub RefusesRows : ℕ → List Fields → ReadRefusal → Type 0
 RefusesRows limit rows (refusals.Text place f) = RowsFault limit rows place f
 RefusesRows limit rows refusals.Device = ⊥
 RefusesRows limit rows refusals.Memory = Unit {0}
 
-abbrev pub AnswersRows : ℕ → List Fields → Result (List Event) ReadRefusal → Type 0
-AnswersRows limit rows (Ok h) = RowsRead limit rows h
+abbrev pub AnswersRows : ℕ → List Fields → Result LimitedEvents ReadRefusal → Type 0
+AnswersRows limit rows (Ok h) = RowsRead limit rows h.events × (h.limit ≡ limit)
 AnswersRows limit rows (Err e) = RefusesRows limit rows e
 
 -- the numbers of the events' records that were kept: none of records that stand one after the other
@@ -27,8 +28,8 @@ abbrev pub numbers_kept : ℕ → Option (Vec ℕ) → List ℕ
 numbers_kept count None = range_with_len 2 count
 numbers_kept count (Some kept) = kept.items
 
-abbrev pub AnswersNumbered : ℕ → List Fields → Result (List Event × Option (Vec ℕ)) ReadRefusal → Type 0
-AnswersNumbered limit rows (Ok x) = RowsRead limit rows x.0 × RowsNumbered rows (numbers_kept (length x.0) x.1)
+abbrev pub AnswersNumbered : ℕ → List Fields → Result (LimitedEvents × Option (Vec ℕ)) ReadRefusal → Type 0
+AnswersNumbered limit rows (Ok x) = AnswersRows limit rows (Ok x.0) × RowsNumbered rows (numbers_kept (length x.0.events) x.1)
 AnswersNumbered limit rows (Err e) = RefusesRows limit rows e
 
 -- what a record with this fault is answered as
@@ -59,12 +60,9 @@ pub record Midway (limit : ℕ) (rows : List Fields) (Left : List Fields → Typ
   pub room : i ≤ limit
 
 -- what becomes of a history and an event
-abbrev pub RefusesEvent : ℕ → List Event → Event → ReadRefusal → Type 0
-RefusesEvent place old x e = RefusesFault place (fault_with old (Ok x)) e
-
-abbrev pub TakesEvent : ℕ → List Event → List Event → Event → Result (Unit {0}) ReadRefusal → Type 0
-TakesEvent place old new x (Ok u) = (fault_with old (Ok x) ≡ None) × (new ≡ old ++ x ∷ [])
-TakesEvent place old new x (Err e) = RefusesEvent place old x e
+abbrev pub TakesEvent : ℕ → ℕ → List Event → List Event → Event → Result (Unit {0}) ReadRefusal → Type 0
+TakesEvent limit place old new x (Ok u) = (fault_with limit old (Ok x) ≡ None) × (new ≡ old ++ x ∷ [])
+TakesEvent limit place old new x (Err e) = RefusesFault place (fault_with limit old (Ok x)) e
 
 -- what the event of four fields is answered as
 abbrev pub FailsEvent : ℕ → ReadRefusal → Result Event TextFault → Type 0
@@ -77,6 +75,6 @@ GivesEvent place (Ok x) read = read ≡ Ok x
 GivesEvent place (Err e) read = FailsEvent place e read
 
 -- all records that were left are taken, or the first fault
-abbrev pub TakesRest : ℕ → List Fields → List Event → Result (Unit {0}) ReadRefusal → Type 0
+abbrev pub TakesRest : ℕ → List Fields → LimitedEvents → Result (Unit {0}) ReadRefusal → Type 0
 TakesRest limit rows new (Ok u) = AnswersNumbered limit rows (Ok (new, None))
 TakesRest limit rows new (Err e) = RefusesRows limit rows e

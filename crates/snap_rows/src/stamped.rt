@@ -1,5 +1,5 @@
 //! Records with stamps, and their events in the order of the stamps.
-ghost use Rattle.std.specs.Prelude.{◌≡◌, ◌∷◌, [], List, ℕ, IfOk};
+ghost use Rattle.std.specs.Prelude.{◌≡◌, ◌∷◌, [], List, IfOk};
 ghost use Rattle.snap_format.specs.Stamps.{places_of};
 ghost use Rattle.snap_rows.specs.Stamping.{AnswersStamps, ReadsStamped, TakesStamped, TakesTurns};
 ghost use Rattle.snap_text.specs.Fields.{Fields};
@@ -49,10 +49,10 @@ fn places_in(alloc: Global, stamped: &[Stamped]) -> Result<Vec<u32>, AllocError>
 }
 
 // The history of events in this order.
-fn take_turns(alloc: Global, stamped: Vec<Stamped>) -> Result<History, ReadRefusal>
-    ensures { TakesTurns stamped.items result }
+fn take_turns(alloc: Global, stamped: Vec<Stamped>, limit: Limit) -> Result<History, ReadRefusal>
+    ensures { TakesTurns limit.events stamped.items result }
 {
-    let mut history = History::new(alloc);
+    let mut history = History::with_limit(alloc, limit);
     'each: for Stamped {
         at: _,
         place,
@@ -70,8 +70,9 @@ pub fn history_by_stamps(
     alloc: Global,
     mut stamped: Vec<Stamped>,
     read: Result<(), ReadRefusal>,
+    limit: Limit,
 ) -> Result<(History, Vec<u32>), ReadRefusal>
-    ensures { (limit : ℕ) (rows : List Fields) → ReadsStamped limit rows stamped.items read → AnswersStamps limit rows result }
+    ensures { (rows : List Fields) → ReadsStamped limit.events rows stamped.items read → AnswersStamps limit.events rows result }
 {
     sort_by_stamp(&mut stamped);
     if !are_rising(&stamped) {
@@ -82,5 +83,5 @@ pub fn history_by_stamps(
     }
     read?;
     let places = places_in(alloc, &stamped)?;
-    Ok((take_turns(alloc, stamped)?, places))
+    Ok((take_turns(alloc, stamped, limit)?, places))
 }

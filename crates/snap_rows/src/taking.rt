@@ -6,7 +6,7 @@ ghost use Rattle.snap_rows.specs.Taking.{TakesEvent, TakesRow};
 ghost use Rattle.snap_text.specs.Fields.{Fields, row_event};
 
 use crate::fields::event_of_record;
-use snap_core::{Event, EventRefusal, History, Limit, LimitedHistory};
+use snap_core::{Event, EventRefusal, History, Limit};
 use snap_format::{ReadRefusal, fault_for};
 use snap_text::{Known, TextFault};
 use std::alloc::Global;
@@ -24,27 +24,28 @@ pub fn row_limit(limit: Limit) -> u32
 pub fn take_fields(
     alloc: Global,
     known: &mut Known,
-    history: &mut LimitedHistory,
+    history: &mut History,
     place: u32,
     fields: (&[u8], &[u8], &[u8], &[u8]),
 ) -> Result<(), ReadRefusal>
     ensures takes { TakesRow history.old.limit place history.old.events history.new.events (fields.entry.0.now ∷ fields.entry.1.now ∷ fields.entry.2.now ∷ fields.entry.3.now ∷ []) result }
     ensures limit { history.new.limit ≡ history.old.limit }
 {
-    if history.is_full() {
-        return Err(ReadRefusal::Text {
+    let (event, process, op, data) = fields;
+    match event_of_record(alloc, known, place, event, process, op, data) {
+        // a full history refuses every event
+        Ok(event) => take_event(history, place, event),
+        Err(_) if history.is_full() => Err(ReadRefusal::Text {
             place,
             fault: TextFault::TooMany,
-        });
+        }),
+        Err(refusal) => Err(refusal),
     }
-    let (event, process, op, data) = fields;
-    let event = event_of_record(alloc, known, place, event, process, op, data)?;
-    take_event(history, place, event)
 }
 
 /// Adds the event of a record to a history.
 #[inline(always)]
-pub fn take_event(history: &mut LimitedHistory, place: u32, event: Event) -> Result<(), ReadRefusal>
+pub fn take_event(history: &mut History, place: u32, event: Event) -> Result<(), ReadRefusal>
     ensures takes { (r : Fields) → row_event r ≡ Ok event → TakesRow history.old.limit place history.old.events history.new.events r result }
     ensures limit { history.new.limit ≡ history.old.limit }
 {
@@ -56,7 +57,8 @@ pub fn take_event(history: &mut LimitedHistory, place: u32, event: Event) -> Res
 
 /// Adds an event to a history.
 pub(crate) fn push_event(history: &mut History, place: u32, event: Event) -> Result<(), ReadRefusal>
-    ensures { TakesEvent place history.old history.new event result }
+    ensures takes { TakesEvent history.old.limit place history.old.events history.new.events event result }
+    ensures limit { history.new.limit ≡ history.old.limit }
 {
     if let Err((_, refusal)) = history.push(event) {
         return Err(refused_at(place, refusal));

@@ -1,19 +1,20 @@
 //! The checks that words ask for.
 use self::Asked::{Followed, Judged, Shown};
 use crate::jobs::job_on;
+use snap_core::Limit;
 use snap_threads::Cutting;
-use snap_words::{Color, Job, Options};
+use snap_words::{Color, Job, Options, Windows};
 use std::test::Fail;
 
 // What is looked at of the check that a line asks for.
 #[derive(Clone, Copy)]
 enum Asked {
     // its pieces and workers, whether it is quiet, how many views it asks for, whether it answers with an object, and its limit of events
-    Judged(u32, u32, bool, u32, bool, u32),
+    Judged(u32, u32, bool, u32, bool, usize),
     // whether it asks for sums and for no line of progress, and when its verdicts have colours
     Shown(bool, bool, Color),
-    // whether it goes by windows, from how many events on they end, and after how many idle seconds it ends
-    Followed(bool, u32, u32),
+    // that it goes by windows, from how many events on they end, and after how many idle seconds it ends
+    Followed(u32, u32),
 }
 
 // Lines, and what is looked at of the check that each asks for.
@@ -35,6 +36,7 @@ const CHECKS: &[(&str, Asked)] = &[
         "snapjudge check --quiet",
         Judged(8, 2, true, 0, false, 65536),
     ),
+    ("snapjudge check -q", Judged(8, 2, true, 0, false, 65536)),
     (
         "snapjudge check --workers 3 --quiet",
         Judged(8, 3, true, 0, false, 65536),
@@ -85,33 +87,26 @@ const CHECKS: &[(&str, Asked)] = &[
         "snapjudge check --color auto --quiet",
         Shown(false, false, Color::Auto),
     ),
-    ("snapjudge check", Followed(false, 1000, 0)),
-    ("snapjudge check --follow", Followed(true, 1000, 0)),
-    (
-        "snapjudge check --follow --events 1999",
-        Followed(true, 1000, 0),
-    ),
-    (
-        "snapjudge check --events 500 --follow",
-        Followed(true, 250, 0),
-    ),
-    ("snapjudge check --follow --events 1", Followed(true, 1, 0)),
+    ("snapjudge check --follow", Followed(1000, 0)),
+    ("snapjudge check --follow --events 1999", Followed(1000, 0)),
+    ("snapjudge check --events 500 --follow", Followed(250, 0)),
+    ("snapjudge check --follow --events 1", Followed(1, 0)),
     (
         "snapjudge check --window 1 --follow --idle=4294967295",
-        Followed(true, 1, 4294967295),
+        Followed(1, 4294967295),
     ),
     (
         "snapjudge check --follow --events 500 --window=500 --idle 5 --views 3",
-        Followed(true, 500, 5),
+        Followed(500, 5),
     ),
     (
         "snapjudge check --events 1048576 --window 1048576 --follow",
-        Followed(true, 1048576, 0),
+        Followed(1048576, 0),
     ),
 ];
 
-// Whether this is asked of a check with such a cutting and options.
-fn is_asked(cutting: Cutting, options: Options, asked: Asked) -> bool {
+// Whether this is asked of a check with such a cutting, limit and options.
+fn is_asked(cutting: Cutting, limit: Limit, options: Options, asked: Asked) -> bool {
     match asked {
         Judged(pieces, workers, quiet, views, json, events) => {
             cutting.pieces() == pieces
@@ -119,23 +114,35 @@ fn is_asked(cutting: Cutting, options: Options, asked: Asked) -> bool {
                 && options.quiet == quiet
                 && options.views == views
                 && options.json == json
-                && options.events == events
+                && limit.events() == events
         }
         Shown(summary, no_progress, color) => {
             options.summary == summary
                 && options.no_progress == no_progress
                 && options.color == color
         }
-        Followed(follow, window, idle) => {
-            options.follow == follow && options.window == window && options.idle == idle
-        }
+        Followed(..) => false,
     }
 }
 
-// Whether a job is a check of which this is asked.
-fn is_check(job: Job, asked: Asked) -> bool {
+// Whether this is asked of a recording with such windows.
+fn is_followed(windows: Windows, asked: Asked) -> bool {
+    match asked {
+        Followed(least, idle) => windows.least == least && windows.idle == idle,
+        _ => false,
+    }
+}
+
+// Whether a job is one of which this is asked.
+fn is_check(job: &Job, asked: Asked) -> bool {
     match job {
-        Job::Check { cutting, options } => is_asked(cutting, options, asked),
+        Job::Check {
+            cutting,
+            limit,
+            options,
+            ..
+        } => is_asked(*cutting, *limit, *options, asked),
+        Job::Follow { windows, .. } => is_followed(*windows, asked),
         _ => false,
     }
 }
@@ -145,7 +152,7 @@ fn check_takes_pieces_workers_options_what_is_shown_and_windows(
     rt: HostRuntime,
 ) -> Result<(), Fail> {
     for (line, asked) in CHECKS {
-        if !is_check(job_on(rt.alloc(), line, &[])?, *asked) {
+        if !is_check(&job_on(rt.alloc(), line, &[])?, *asked) {
             return Err(Fail::from(*line));
         }
     }

@@ -120,20 +120,6 @@ pub(super) fn expect<Rt: Threads + Wait + Sync, G: Gate>(
     same(str::from_utf8(&out)?, report)
 }
 
-/// The check of a worked history in a text of so many bytes ends and reports as it is to.
-pub(super) fn expect_up_to<Rt: Threads + Wait + Sync, G: Gate>(
-    rt: &Rt,
-    alloc: Global,
-    worked: Worked,
-    bytes: usize,
-    cutting: Cutting,
-    gate: &G,
-) -> Result<(), Fail> {
-    let (records, end, report) = worked;
-    let text = history_up_to(alloc, records, bytes)?;
-    expect(rt, alloc, text.as_bytes(), cutting, gate, end, report)
-}
-
 /// The check of a worked history ends and reports as it is to.
 pub(super) fn expect_worked<Rt: Threads + Wait + Sync, G: Gate>(
     rt: &Rt,
@@ -142,5 +128,7 @@ pub(super) fn expect_worked<Rt: Threads + Wait + Sync, G: Gate>(
     cutting: Cutting,
     gate: &G,
 ) -> Result<(), Fail> {
-    expect_up_to(rt, alloc, worked, 0, cutting, gate)
+    let (records, end, report) = worked;
+    let text = history(alloc, records)?;
+    expect(rt, alloc, text.as_bytes(), cutting, gate, end, report)
 }

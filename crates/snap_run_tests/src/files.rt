@@ -3,7 +3,7 @@ ghost use Rattle.std.specs.Prelude.{⊤};
 
 use super::checks::same;
 use snap_check::{CheckOptions, RunFault};
-use snap_core::{Counted, Limit, OpenGate};
+use snap_core::{Counted, OpenGate};
 use snap_files::{FileOptions, Format, check_all};
 use snap_names::{Opener, Trouble};
 use snap_testing::{Cup, Drip};
@@ -78,7 +78,7 @@ fn check<Rt: Threads + Sync, W: Write>(
         check: CheckOptions {
             quiet: true,
             views,
-            limit: Limit::usual(),
+            ..CheckOptions::plain()
         },
     };
     let answer = check_all(

@@ -1,4 +1,5 @@
 //! The jobs that words ask for, and the files that they name.
+use snap_core::Limit;
 use snap_words::{Form, Job, job_of};
 use std::alloc::{AllocError, Global};
 use std::test::Fail;
@@ -13,25 +14,46 @@ pub(crate) fn words(alloc: Global, line: &str) -> Result<Vec<String>, AllocError
 }
 
 // Whether the names are just these files.
-fn are_named(names: &[String], files: &[&str]) -> bool {
+fn are_named(names: &[Vec<u8>], files: &[&str]) -> bool {
     if names.len() != files.len() {
         return false;
     }
     for i in 0..names.len() {
-        if names[i].as_str() != files[i] {
+        if names[i].as_slice() != files[i].as_bytes() {
             return false;
         }
     }
     true
 }
 
-/// The job that a line asks for, of which each file is named in the list behind it.
+// Whether a name is the only one of these files, or absent where there is none.
+fn is_named(name: &Option<Vec<u8>>, files: &[&str]) -> bool {
+    match (name, files) {
+        (Some(name), [file]) => name.as_slice() == file.as_bytes(),
+        (None, []) => true,
+        _ => false,
+    }
+}
+
+// Whether a job is one on these files.
+fn is_on(job: &Job, files: &[&str]) -> bool {
+    match job {
+        Job::Check { input, .. } => are_named(&input.files, files),
+        Job::Follow { file, .. }
+        | Job::Shrink { file, .. }
+        | Job::Explain { file, .. }
+        | Job::Draw { file, .. } => is_named(file, files),
+        Job::Record { .. } => files.is_empty(),
+    }
+}
+
+/// The job that a line asks for, of which each file is named in the list after it.
 pub(crate) fn job_on(alloc: Global, line: &str, files: &[&str]) -> Result<Job, Fail> {
-    let Ok(asked) = job_of(alloc, words(alloc, line)?) else {
+    let Ok(job) = job_of(alloc, words(alloc, line)?) else {
         return Err(Fail::from(line));
     };
-    if are_named(&asked.files, files) {
-        Ok(asked.job)
+    if is_on(&job, files) {
+        Ok(job)
     } else {
         Err(Fail::from(line))
     }
@@ -45,6 +67,9 @@ const LINES_WITH_FILES: &[(&str, &[&str])] = &[
         &["b.csv", "-", "a.csv"],
     ),
     ("snapjudge check -- --quiet", &["--quiet"]),
+    ("snapjudge check -q a.csv", &["a.csv"]),
+    ("snapjudge check --follow a.csv --idle 3", &["a.csv"]),
+    ("snapjudge check --follow", &[]),
     ("snapjudge shrink a.csv", &["a.csv"]),
     ("snapjudge shrink", &[]),
     ("snapjudge explain -", &["-"]),
@@ -72,7 +97,7 @@ fn form_named(line: &str) -> Form {
 }
 
 // The limit of events that a line names.
-fn events_named(line: &str) -> u32 {
+fn events_named(line: &str) -> usize {
     if line.contains(" --events 1048576") {
         1048576
     } else {
@@ -81,22 +106,25 @@ fn events_named(line: &str) -> u32 {
 }
 
 // Whether a job that reads one history draws, and has a limit of events, as the words of its line say.
-fn is_drawn(line: &str, drawn: bool, events: u32) -> bool {
-    drawn == line.contains(" --draw") && events == events_named(line)
+fn is_drawn(line: &str, drawn: bool, limit: Limit) -> bool {
+    drawn == line.contains(" --draw") && limit.events() == events_named(line)
 }
 
 // Whether a job is that of the command in its line.
-fn is_its_command(job: Job, line: &str) -> bool {
+fn is_its_command(job: &Job, line: &str) -> bool {
     match job {
-        Job::Check { .. } => line.contains(" check"),
-        Job::Shrink { drawn, events } => {
-            line.contains(" shrink") && is_drawn(line, drawn, events)
+        Job::Check { .. } => line.contains(" check") && !line.contains(" --follow"),
+        Job::Follow { .. } => line.contains(" check") && line.contains(" --follow"),
+        Job::Shrink { drawn, limit, .. } => {
+            line.contains(" shrink") && is_drawn(line, *drawn, *limit)
         }
-        Job::Explain { drawn, events } => {
-            line.contains(" explain") && is_drawn(line, drawn, events)
+        Job::Explain { drawn, limit, .. } => {
+            line.contains(" explain") && is_drawn(line, *drawn, *limit)
         }
-        Job::Draw { form, events } => {
-            line.contains(" draw") && form == form_named(line) && events == events_named(line)
+        Job::Draw { form, limit, .. } => {
+            line.contains(" draw")
+                && *form == form_named(line)
+                && limit.events() == events_named(line)
         }
         Job::Record { .. } => false,
     }
@@ -105,7 +133,7 @@ fn is_its_command(job: Job, line: &str) -> bool {
 #[test]
 fn files_are_those_of_the_words(rt: HostRuntime) -> Result<(), Fail> {
     for (line, files) in LINES_WITH_FILES {
-        if !is_its_command(job_on(rt.alloc(), line, files)?, line) {
+        if !is_its_command(&job_on(rt.alloc(), line, files)?, line) {
             return Err(Fail::from(*line));
         }
     }

@@ -19,8 +19,6 @@ mod following_folders;
 #[cfg(test)]
 mod jobs;
 #[cfg(test)]
-mod limits;
-#[cfg(test)]
 mod long_texts;
 #[cfg(test)]
 mod names;

@@ -1,7 +1,7 @@
 //! Long texts, of which workers draw pieces: their first fault is that of the text, wherever the pieces are cut.
 use super::checks::{cutting, expect, history};
-use super::limits::{add_updates, updates_order};
 use snap_core::OpenGate;
+use snap_testing::{add_updates, updates_order};
 use std::alloc::Global;
 use std::sync::Wait;
 use std::test::Fail;

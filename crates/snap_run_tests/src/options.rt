@@ -1,8 +1,9 @@
 //! Checks that are quiet, or that ask for a number of completed views.
-use super::checks::{STALE_REPORT, STALE_VIEW, cutting, end_of, history, same};
-use snap_check::{CheckOptions, RunFault, Status, check_run_with};
+use super::checks::{STALE_REPORT, STALE_VIEW, cutting, end_of, history, history_up_to, same};
+use snap_check::{CheckOptions, RunFault, SHARED_FROM, Status, check_run_with};
 use snap_core::{Counted, Limit, OpenGate};
-use snap_testing::{Cup, Drip};
+use snap_files::FileOptions;
+use snap_testing::{Cup, Drip, Meeting};
 use std::alloc::Global;
 use std::io::{Read, Write};
 use std::test::Fail;
@@ -26,8 +27,8 @@ const BUSY: &str = "begin,0,view,\nbegin,0,view,\n";
 fn quiet(limit: Limit) -> CheckOptions {
     CheckOptions {
         quiet: true,
-        views: 0,
         limit,
+        ..CheckOptions::plain()
     }
 }
 
@@ -123,7 +124,7 @@ fn what_is_asked_for_is_written(rt: HostRuntime) -> Result<(), Fail> {
         let options = CheckOptions {
             quiet: *quiet,
             views: *views,
-            limit: Limit::usual(),
+            ..CheckOptions::plain()
         };
         let text = history(alloc, records)?;
         expect_with(&rt, alloc, text.as_bytes(), options, end, report)?;
@@ -208,4 +209,37 @@ fn limits_are_1_to_1048576(rt: HostRuntime) {
     for events in [1, 65_536, 1_048_576] {
         assert!(rt; Limit::new(events).is_some_and(|limit| limit.events() == events as usize));
     }
+}
+
+// With these options the check of a text of this many bytes has this many of two workers, who meet at their first pieces.
+fn expect_workers<Rt: Threads + Sync>(
+    rt: &Rt,
+    alloc: Global,
+    options: CheckOptions,
+    bytes: usize,
+    workers: u32,
+) -> Result<(), Fail> {
+    let gate = Meeting::of(workers, 0);
+    let text = history_up_to(alloc, STALE_VIEW, bytes)?;
+    let mut reader = Counted::new(text.as_bytes());
+    let mut writer = Counted::new(Vec::new(alloc));
+    let cutting = cutting(1024, 2)?;
+    let answer = check_run_with(rt, alloc, &mut reader, &mut writer, cutting, &gate, options);
+    same(end_with(answer), "irregular")?;
+    same(str::from_utf8(&writer.into_inner())?, STALE_REPORT)?;
+    same(gate.was_held(), true)
+}
+
+#[test]
+fn the_program_lets_one_worker_judge_a_short_text(rt: HostRuntime) -> Result<(), Fail> {
+    let options = FileOptions::new(false, false, 0, Limit::usual()).check;
+    expect_workers(&rt, rt.alloc(), options, SHARED_FROM - 1, 1)?;
+    expect_workers(&rt, rt.alloc(), options, SHARED_FROM, 2)
+}
+
+#[test]
+fn without_options_a_short_text_has_the_workers_that_were_asked_for(
+    rt: HostRuntime,
+) -> Result<(), Fail> {
+    expect_workers(&rt, rt.alloc(), CheckOptions::plain(), 1024, 2)
 }

@@ -72,7 +72,7 @@ const RECORDS: &[(&str, u32, u32, Flags)] = &[
 ];
 
 // Whether a job is a recording of so many workers and rounds, with these flags.
-fn is_recording(job: Job, wanted: (u32, u32), flags: Flags) -> bool {
+fn is_recording(job: &Job, wanted: (u32, u32), flags: Flags) -> bool {
     match job {
         Job::Record {
             workers,
@@ -80,13 +80,7 @@ fn is_recording(job: Job, wanted: (u32, u32), flags: Flags) -> bool {
             judge,
             scan,
             stamped,
-        } => {
-            workers == wanted.0
-                && rounds == wanted.1
-                && judge == flags.0
-                && scan == flags.1
-                && stamped == flags.2
-        }
+        } => { (*workers, *rounds) == wanted && (*judge, *scan, *stamped) == flags }
         _ => false,
     }
 }
@@ -94,7 +88,7 @@ fn is_recording(job: Job, wanted: (u32, u32), flags: Flags) -> bool {
 #[test]
 fn record_takes_workers_rounds_and_flags(rt: HostRuntime) -> Result<(), Fail> {
     for (line, workers, rounds, flags) in RECORDS {
-        if !is_recording(job_on(rt.alloc(), line, &[])?, (*workers, *rounds), *flags) {
+        if !is_recording(&job_on(rt.alloc(), line, &[])?, (*workers, *rounds), *flags) {
             return Err(Fail::from(*line));
         }
     }

@@ -3,7 +3,7 @@ use super::checks::{cutting, end_of, same};
 use snap_core::{Counted, Gate, OpenGate};
 use snap_record::{Pace, Plan, Step, rounds_plan};
 use snap_runs::{record_run, record_run_stamped};
-use snap_testing::{Cup, Meeting};
+use snap_testing::Cup;
 use snap_threads::Cutting;
 use std::alloc::Global;
 use std::sync::Wait;
@@ -52,57 +52,6 @@ fn expect_head(text: &str, header: &str, records: usize) -> Result<(), Fail> {
     same(text.lines().skip(1).count(), records)
 }
 
-// The recording of a plan ends, and its text has so many records and each of these lines.
-fn expect_recorded<Rt: Threads + Wait + Sync, G: Gate>(
-    rt: &Rt,
-    alloc: Global,
-    plan: &Plan,
-    gate: &G,
-    records: usize,
-    wanted: &[&str],
-) -> Result<(), Fail> {
-    let (end, text) = record(rt, alloc, plan, false, cutting(8, 2)?, gate);
-    same(end, "recorded")?;
-    expect_text(&text, records, wanted)
-}
-
-// Workers of one round, whether they scan, the records of their recording, and lines of it.
-const ONE_ROUND: &[(u32, bool, usize, &[&str])] = &[
-    (
-        2,
-        false,
-        8,
-        &["begin,0,update,0:1:1", "begin,1,update,1:1:65537"],
-    ),
-    (
-        3,
-        false,
-        12,
-        &[
-            "begin,0,update,0:1:1",
-            "begin,1,update,1:1:65537",
-            "begin,2,update,2:1:131073",
-        ],
-    ),
-    (
-        2,
-        true,
-        8,
-        &["begin,0,update,0:1:1", "begin,1,update,1:1:65537"],
-    ),
-];
-
-#[test]
-fn one_round_of_two_or_three_workers_has_four_records_for_each(
-    rt: HostRuntime,
-) -> Result<(), Fail> {
-    for (workers, scan, records, wanted) in ONE_ROUND {
-        let plan = rounds_plan(rt.alloc(), *workers, 1, *scan)?;
-        expect_recorded(&rt, rt.alloc(), &plan, &OpenGate, *records, wanted)?;
-    }
-    Ok(())
-}
-
 // How the recording of a plan with stamps ends, what is in the writer, and the failures that it counts.
 fn record_stamped<Rt: Threads + Wait + Sync>(
     rt: &Rt,
@@ -146,13 +95,6 @@ fn expect_stamped<Rt: Threads + Wait + Sync>(
     let (end, text, failures) = record_stamped(rt, alloc, plan, 1000);
     same((end, failures), ("recorded", 0))?;
     expect_stamps(&text, wanted)
-}
-
-#[test]
-fn one_round_with_stamps_has_the_stamps_from_0_to_7_in_order(rt: HostRuntime) -> Result<(), Fail> {
-    let plan = one_round(rt.alloc())?;
-    let stamps: &[&str] = &["0", "1", "2", "3", "4", "5", "6", "7"];
-    expect_stamped(&rt, rt.alloc(), &plan, stamps)
 }
 
 // Worker 0 stores, scans and stores again, and the others have no calls.
@@ -239,41 +181,6 @@ fn judged_recordings_of_four_workers_are_not_all_atomic_without_scans(
         }
     }
     Err(Fail::from("each run was atomic"))
-}
-
-// Whether this is how the judged recording of one round ends, and the head of its report, where its history is regular.
-fn is_regular_report(end: &str, report: &[u8]) -> bool {
-    (end == "atomic" || end == "regular")
-        && report.starts_with(b"events 8 calls 4 pending 0 views 2\nregular yes\nmonotone yes\n")
-}
-
-#[test]
-fn a_judged_recording_is_regular_in_every_run(rt: HostRuntime) -> Result<(), Fail> {
-    let plan = one_round(rt.alloc())?;
-    let cutting = cutting(8, 2)?;
-    for _ in 0..20 {
-        let (end, report) = record(&rt, rt.alloc(), &plan, true, cutting, &OpenGate);
-        if !is_regular_report(end, &report) {
-            return Err(Fail::from(end));
-        }
-    }
-    Ok(())
-}
-
-// Worker 0 stores 5 and then takes a view, worker 1 stores 6 and then takes a view.
-fn store_five_and_six(alloc: Global) -> Result<Plan, Fail> {
-    let first = vec![in alloc; Step::Store(5), Step::View]?;
-    let second = vec![in alloc; Step::Store(6), Step::View]?;
-    Ok(Plan::new(vec![in alloc; first, second]?)?)
-}
-
-#[test]
-fn views_that_wait_for_both_stores_show_both(rt: HostRuntime) -> Result<(), Fail> {
-    let plan = store_five_and_six(rt.alloc())?;
-    let gate = Meeting::at_turn(1);
-    let wanted: &[&str] = &["end,0,view,0:1:5 1:1:6", "end,1,view,0:1:5 1:1:6"];
-    expect_recorded(&rt, rt.alloc(), &plan, &gate, 8, wanted)?;
-    same(gate.was_held(), true)
 }
 
 // The recording of a plan fails into each cup with room for less than these bytes, and a front of them is in the cup.

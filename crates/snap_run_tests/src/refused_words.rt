@@ -59,6 +59,12 @@ const OTHER_LINES: &[&str] = &[
     "snapjudge check --idle",
     "snapjudge check --idle -1",
     "snapjudge check --idle 4294967296",
+    "snapjudge check --follow a.csv b.csv",
+    "snapjudge check - -",
+    "snapjudge check - --files-from -",
+    "snapjudge check -0",
+    "snapjudge check --follow -0",
+    "snapjudge check -q --summary",
     "snapjudge explain --format json",
     "snapjudge shrink a.csv b.csv",
     "snapjudge shrink --quiet",
@@ -198,6 +204,42 @@ const TOGETHER: &[(&str, &str)] = &[
     (
         "snapjudge check --window 1000 --quiet",
         "error: the argument '--window <N>' needs '--follow'\n",
+    ),
+    (
+        "snapjudge check --follow --pieces 8",
+        "error: the argument '--follow' cannot be used with '--pieces <P>'\n",
+    ),
+    (
+        "snapjudge check --workers=2 --follow",
+        "error: the argument '--follow' cannot be used with '--workers <W>'\n",
+    ),
+    (
+        "snapjudge check --follow --color auto",
+        "error: the argument '--follow' cannot be used with '--color <WHEN>'\n",
+    ),
+    (
+        "snapjudge check --follow --files-from list",
+        "error: the argument '--follow' cannot be used with '--files-from <LIST>'\n",
+    ),
+    (
+        "snapjudge check --follow -r runs",
+        "error: the argument '--follow' cannot be used with '--recursive <FOLDER>'\n  tip: '--follow FOLDER' follows all recordings below a folder\n",
+    ),
+    (
+        "snapjudge check --follow a.csv b.csv",
+        "error: --follow takes one recording\n",
+    ),
+    (
+        "snapjudge check a.csv --null",
+        "error: the argument '--null' needs '--files-from <LIST>'\n",
+    ),
+    (
+        "snapjudge check - a.csv --files-from=-",
+        "error: - is standard input, and can be named once\n",
+    ),
+    (
+        "snapjudge check --json a.csv",
+        "error: unexpected argument '--json' found\n\n  tip: '--format json' writes a JSON object for each history\n",
     ),
     (
         "snapjudge check --idle=0",

@@ -1,6 +1,7 @@
 //! The objects of worked texts.
 use super::checks::{end_of, history, same, written};
-use snap_core::{Counted, Limit, OpenGate};
+use snap_check::CheckOptions;
+use snap_core::{Counted, OpenGate};
 use snap_tell::tell_run;
 use snap_testing::{Cup, Drip};
 use snap_threads::Cutting;
@@ -20,6 +21,10 @@ fn told<Rt: Threads + Sync>(
     let mut reader = Counted::new(text);
     let mut writer = Counted::new(Vec::new(alloc));
     let cutting = Cutting::usual();
+    let options = CheckOptions {
+        views: least,
+        ..CheckOptions::plain()
+    };
     let answer = tell_run(
         rt,
         alloc,
@@ -28,8 +33,7 @@ fn told<Rt: Threads + Sync>(
         &mut writer,
         cutting,
         &OpenGate,
-        least,
-        Limit::usual(),
+        options,
     );
     written(alloc, answer, writer)
 }
@@ -129,8 +133,7 @@ fn tell_over<Rt: Threads + Sync, R: Read + Drop, W: Write + Drop>(
         &mut writer,
         cutting,
         &OpenGate,
-        0,
-        Limit::usual(),
+        CheckOptions::plain(),
     ));
     (end, reader.failures(), writer.failures())
 }

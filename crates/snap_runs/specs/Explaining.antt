@@ -3,8 +3,8 @@ use Rattle.std.specs.Prelude.{◌≡◌, ◌⊎◌, ℕ, List}
 use Rattle.snap_core.specs.declared.event.Event.{Event}
 use Rattle.snap_core.specs.Calls.{calls_of}
 use Rattle.snap_text.specs.declared.fault.TextFault.{TextFault}
-use Rattle.snap_format.specs.Records.{HaveRecordsWithin}
-use Rattle.snap_format.specs.Texts.{HasFaultWithin}
+use Rattle.snap_format.specs.Records.{HaveRecords}
+use Rattle.snap_format.specs.Texts.{HasFault}
 use Rattle.snap_verdict.specs.declared.status.Status.{Status}
 use Rattle.snap_verdict.specs.declared.status.Status.TheVariants.{Refused}
 use Rattle.snap_verdict.specs.Verdicts.{HasStatus}
@@ -19,14 +19,14 @@ ExplainsHistory events records status out = HasStatus events status × IsExplana
 pub record IsExplainedText (limit : ℕ) (text : List ℕ) (status : Status) (out : List ℕ) : Type 0 where
   pub events : List Event
   pub records : List ℕ
-  pub history : HaveRecordsWithin limit text events records
+  pub history : HaveRecords limit text events records
   pub explained : ExplainsHistory events records status out
 
 -- a text with a fault is refused: its first fault is explained, and the place of that
 pub record IsExplainedRefusal (limit : ℕ) (text : List ℕ) (status : Status) (out : List ℕ) : Type 0 where
   pub place : ℕ
   pub fault : TextFault
-  pub first : HasFaultWithin limit text place fault
+  pub first : HasFault limit text place fault
   pub answers : status ≡ Refused
   pub explained : IsRefusalExplanation limit text place fault out
 

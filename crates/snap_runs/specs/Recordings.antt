@@ -19,7 +19,7 @@ use Rattle.snap_check.specs.declared.fault.RunFault.{RunFault}
 use Rattle.snap_check.specs.declared.fault.RunFault.TheVariants as faults
 use Rattle.snap_verdict.specs.declared.status.Status.{Status}
 use Rattle.snap_verdict.specs.declared.status.Status.TheVariants.{Atomic, Recorded, Regular}
-use Rattle.snap_verdict.specs.Reports.{IsReportWithin}
+use Rattle.snap_verdict.specs.Reports.{IsReport}
 
 -- a history that a board's run of these scripts has: regular and monotone, atomic where no script has a collect, without a pending call, and
 -- with the calls of each worker's script but for scans that were interfered with, as the process of its number, in their order, each once,
@@ -64,7 +64,7 @@ pub record IsRecordingReport (scripts : List (List Step)) (status : Status) (out
   pub events : List Event
   pub recording : IsRecordingOf scripts events
   pub answers : (status ≡ Atomic) ⊎ (status ≡ Regular)
-  pub report : (limit : ℕ) → 1 ≤ limit → 2 * steps_in scripts ≤ limit → IsReportWithin limit (history_text events) status out
+  pub report : (limit : ℕ) → 1 ≤ limit → 2 * steps_in scripts ≤ limit → IsReport limit (history_text events) status out
 
 -- the status and the text of a recording, or where it is judged its status and report
 abbrev pub IsRecorded : Bool → List (List Step) → Status → List ℕ → Type 0

@@ -1,13 +1,14 @@
 -- What a history is cut down to.
 use Rattle.std.specs.Prelude.{◌≡◌, ◌≤◌, ◌⊎◌, ◌↔◌, ℕ, List, length, Option, Some, None}
+use Rattle.snap_core.specs.Limited.{LimitedEvents}
 use Rattle.snap_core.specs.declared.event.Event.{Event}
 use Rattle.snap_core.specs.Calls.{calls_of}
 use Rattle.snap_core.specs.Orders.{IsAtomic}
 use Rattle.snap_core.specs.Regular.{IsRegular}
 use Rattle.snap_format.specs.Layout.{history_text}
-use Rattle.snap_format.specs.Texts.{IsTextWithin}
+use Rattle.snap_format.specs.Texts.{IsText}
 use Rattle.snap_verdict.specs.declared.status.Status.{Status}
-use Rattle.snap_verdict.specs.Reports.{IsRefusedWithin}
+use Rattle.snap_verdict.specs.Reports.{IsRefused}
 use Rattle.snap_verdict.specs.Verdicts.{HasStatus}
 use Rattle.snap_theory.specs.First.{AreWholeCalls, HasFirstFault}
 
@@ -22,8 +23,8 @@ pub record IsWitnessOf (events : List Event) (witness : List Event) : Type 0 whe
   pub regular : IsRegular (calls_of witness) ↔ IsRegular (calls_of events)
 
 -- the status of a history, and a witness exactly where it is not atomic
-abbrev pub IsFirstWitness : List Event → Status → Option (List Event) → Type 0
-IsFirstWitness events status (Some witness) = HasStatus events status × (IsAtomic (calls_of events) → ⊥) × IsWitnessOf events witness
+abbrev pub IsFirstWitness : List Event → Status → Option LimitedEvents → Type 0
+IsFirstWitness events status (Some witness) = HasStatus events status × (IsAtomic (calls_of events) → ⊥) × IsWitnessOf events witness.events
 IsFirstWitness events status None = HasStatus events status × IsAtomic (calls_of events)
 
 -- the status of a history, and the history itself where it is atomic, and a witness where it is not
@@ -36,10 +37,10 @@ pub record IsCutTo (events : List Event) (status : Status) (left : List Event) :
 pub record IsCutText (limit : ℕ) (text : List ℕ) (status : Status) (out : List ℕ) : Type 0 where
   pub events : List Event
   pub left : List Event
-  pub history : IsTextWithin limit text events
+  pub history : IsText limit text events
   pub cut : IsCutTo events status left
   pub writes : out ≡ history_text left
 
 -- the status and what is written: a text with a fault is refused
 abbrev pub IsShrunk : ℕ → List ℕ → Status → List ℕ → Type 0
-IsShrunk limit text status out = IsRefusedWithin limit text status out ⊎ IsCutText limit text status out
+IsShrunk limit text status out = IsRefused limit text status out ⊎ IsCutText limit text status out

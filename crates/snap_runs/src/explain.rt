@@ -7,9 +7,9 @@ ghost use Rattle.snap_explain.specs.Explanations.{IsExplanation};
 ghost use Rattle.snap_runs.specs.Explaining.{ExplainsHistory, IsExplained};
 ghost use Rattle.snap_check.specs.Runs.{JudgeCounts, JudgesBy, RunCounts, WroteBy};
 
-use snap_check::{RunFault, cutting_for};
+use snap_check::{RunFault, SHARED_FROM, cutting_for};
 use snap_core::{Counted, History, Limit, OpenGate};
-use snap_csv::{ReadRefusal, read_records_within};
+use snap_csv::{ReadRefusal, read_records};
 use snap_explain::{explain, explain_refusal};
 use snap_index::Index;
 use snap_pairs::tally_and_chain;
@@ -31,7 +31,7 @@ fn explained_by<Rt: Threads + Sync>(
     ensures { IfOk result (λ answer. ExplainsHistory index.now records.now answer.0 answer.1.items) }
 {
     let (tally, chain) = tally_and_chain(rt, alloc, index, cutting, &OpenGate)?;
-    let order = order_by(alloc, index, &tally, chain)?;
+    let order = order_by(rt, alloc, index, &tally, chain, cutting.workers())?;
     let text = explain(alloc, index, &tally, records, order.as_deref())?;
     Ok((status_of(index, &tally), text))
 }
@@ -44,8 +44,8 @@ fn explained<Rt: Threads + Sync>(
     records: &[u32],
     cutting: Cutting,
 ) -> Result<(Status, Vec<u8>), AllocError>
-    requires { length records.now ≡ length history.now }
-    ensures { IfOk result (λ answer. ExplainsHistory history.now records.now answer.0 answer.1.items) }
+    requires { length records.now ≡ length history.now.events }
+    ensures { IfOk result (λ answer. ExplainsHistory history.now.events records.now answer.0 answer.1.items) }
 {
     let index = Index::build(alloc, history)?;
     explained_by(rt, alloc, &index, records, cutting)
@@ -62,9 +62,9 @@ fn explain_input<Rt: Threads + Sync, R: Read>(
     ensures counts { JudgeCounts (failures_in reader.old) (failures_in reader.new) result }
 {
     let mut room = Vec::new(alloc);
-    match read_records_within(alloc, reader, &mut room, limit) {
+    match read_records(alloc, reader, &mut room, limit) {
         Ok((history, records)) => {
-            let cutting = cutting_for(room.len(), Cutting::usual());
+            let cutting = cutting_for(room.len(), SHARED_FROM, Cutting::usual());
             Ok(explained(rt, alloc, &history, &records, cutting)?)
         }
         Err(ReadRefusal::Text { place, fault }) => {

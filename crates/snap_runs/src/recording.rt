@@ -26,9 +26,9 @@ fn recorded<Rt: Threads + Wait + Sync, G: Gate>(
     plan: &Plan,
     gate: &G,
 ) -> Result<(History, Vec<u64>), AllocError>
-    ensures workers { OnOk result (AreWorkers (length plan.now)) }
-    ensures history { IfOk result (λ r. IsRecordingOf plan.now r.0) }
-    ensures stamps { IfOk result (λ r. HasStamps plan.now r.0 r.1.items) }
+    ensures workers { OnOk result (AreWorkers (length plan.now.scripts)) }
+    ensures history { IfOk result (λ r. IsRecordingOf plan.now.scripts r.0.events) }
+    ensures stamps { IfOk result (λ r. HasStamps plan.now.scripts r.0.events r.1.items) }
 {
     let Ok(recording) = record_plan(rt, alloc, plan, gate) else {
         return Err(AllocError);
@@ -49,7 +49,7 @@ pub(crate) fn write_text<W: Write>(
     status: Status,
     writer: &mut Counted<W>,
 ) -> Result<Status, RunFault>
-    ensures wrote { WroteAs (λ answer out. (answer ≡ status) × (out ≡ history_text history.now))
+    ensures wrote { WroteAs (λ answer out. (answer ≡ status) × (out ≡ history_text history.now.events))
         (W.contents (inner_of writer.old)) (W.contents (inner_of writer.new)) result }
     ensures counts { WriteCounts (failures_in writer.old) (failures_in writer.new) result }
 {
@@ -64,9 +64,9 @@ fn write_stamped_text<W: Write>(
     stamps: &[u64],
     writer: &mut Counted<W>,
 ) -> Result<Status, RunFault>
-    requires each { length stamps.now ≡ length history.now }
+    requires each { length stamps.now ≡ length history.now.events }
     requires rising { IsStrictlyIncreasing stamps.now }
-    ensures wrote { WroteAs (λ status out. (status ≡ Recorded) × (out ≡ stamped_text stamps.now history.now))
+    ensures wrote { WroteAs (λ status out. (status ≡ Recorded) × (out ≡ stamped_text stamps.now history.now.events))
         (W.contents (inner_of writer.old)) (W.contents (inner_of writer.new)) result }
     ensures counts { WriteCounts (failures_in writer.old) (failures_in writer.new) result }
 {
@@ -82,7 +82,7 @@ fn write_report<Rt: Threads + Wait + Sync, W: Write>(
     writer: &mut Counted<W>,
     cutting: Cutting,
 ) -> Result<Status, RunFault>
-    ensures wrote { WroteAs (IsVerdict history.now) (W.contents (inner_of writer.old)) (W.contents (inner_of writer.new)) result }
+    ensures wrote { WroteAs (IsVerdict history.now.events) (W.contents (inner_of writer.old)) (W.contents (inner_of writer.new)) result }
     ensures counts { WriteCounts (failures_in writer.old) (failures_in writer.new) result }
 {
     let room = Vec::new(alloc);
@@ -118,9 +118,9 @@ pub fn record_run<Rt: Threads + Wait + Sync, W: Write, G: Gate>(
     cutting: Cutting,
     gate: &G,
 ) -> Result<Status, RunFault>
-    ensures wrote { WroteAs (IsRecorded judge plan.now) (W.contents (inner_of writer.old)) (W.contents (inner_of writer.new)) result }
+    ensures wrote { WroteAs (IsRecorded judge plan.now.scripts) (W.contents (inner_of writer.old)) (W.contents (inner_of writer.new)) result }
     ensures counts { WriteCounts (failures_in writer.old) (failures_in writer.new) result }
-    ensures atomic { judge ≡ true → HasNoViews plan.now → IfOk result (λ status. status ≡ Atomic) }
+    ensures atomic { judge ≡ true → HasNoViews plan.now.scripts → IfOk result (λ status. status ≡ Atomic) }
 {
     let (history, _) = recorded(rt, alloc, plan, gate)?;
     if judge {
@@ -141,7 +141,7 @@ pub fn record_run_stamped<Rt: Threads + Wait + Sync, W: Write, G: Gate>(
     writer: &mut Counted<W>,
     gate: &G,
 ) -> Result<Status, RunFault>
-    ensures wrote { WroteAs (IsStampedRecording plan.now) (W.contents (inner_of writer.old)) (W.contents (inner_of writer.new)) result }
+    ensures wrote { WroteAs (IsStampedRecording plan.now.scripts) (W.contents (inner_of writer.old)) (W.contents (inner_of writer.new)) result }
     ensures counts { WriteCounts (failures_in writer.old) (failures_in writer.new) result }
 {
     let (history, stamps) = recorded(rt, alloc, plan, gate)?;

@@ -6,8 +6,8 @@ ghost use Rattle.snap_runs.specs.Recordings.{IsRecorded, IsStampedRecording, Wri
 
 use crate::recording::{record_run, record_run_stamped};
 use snap_check::RunFault;
-use snap_core::Counted;
-use snap_record::{Pace, Plan, PlanRefusal, rounds_plan};
+use snap_core::{Counted, Limit};
+use snap_record::{Pace, Plan, PlanRefusal, rounds_plan_within};
 use snap_threads::Cutting;
 use snap_verdict::Status;
 use std::alloc::{AllocError, Global};
@@ -18,9 +18,9 @@ use std::thread::Threads;
 // So many workers in so many rounds of a store and a view each, or a scan in place of the view.
 fn plan_of(alloc: Global, workers: u32, rounds: u32, scan: bool) -> Result<Plan, AllocError>
     requires { AreWorkers workers × AreRounds rounds }
-    ensures { IfOk result (λ plan. plan ≡ rounds_scripts scan workers rounds) }
+    ensures { IfOk result (λ plan. plan.scripts ≡ rounds_scripts scan workers rounds) }
 {
-    match rounds_plan(alloc, workers, rounds, scan) {
+    match rounds_plan_within(alloc, workers, rounds, scan, Limit::greatest()) {
         Ok(plan) => Ok(plan),
         Err(PlanRefusal::Memory) => Err(AllocError),
         Err(_) => unreachable!(),

@@ -5,7 +5,7 @@ ghost use Rattle.snap_check.specs.Runs.{RunCounts, WroteBy};
 ghost use Rattle.snap_runs.specs.Shrinking.{IsCutTo, IsFirstWitness, IsShrunk};
 
 use crate::recording::write_text;
-use snap_check::{Reading, RunFault, cutting_for, read_in};
+use snap_check::{Reading, RunFault, SHARED_FROM, cutting_for, read_in};
 use snap_core::{Counted, History, Limit, OpenGate};
 use snap_index::Index;
 use snap_pairs::tally_and_chain;
@@ -23,7 +23,7 @@ fn first_witness<Rt: Threads + Sync>(
     history: &History,
     cutting: Cutting,
 ) -> Result<(Status, Option<History>), AllocError>
-    ensures { IfOk result (λ answer. IsFirstWitness history.now answer.0 answer.1) }
+    ensures { IfOk result (λ answer. IsFirstWitness history.now.events answer.0 answer.1) }
 {
     let index = Index::build(alloc, history)?;
     let (tally, _chain) = tally_and_chain(rt, alloc, &index, cutting, &OpenGate)?;
@@ -37,7 +37,7 @@ pub fn cut<Rt: Threads + Sync>(
     history: History,
     cutting: Cutting,
 ) -> Result<(Status, History), AllocError>
-    ensures { IfOk result (λ answer. IsCutTo history answer.0 answer.1) }
+    ensures { IfOk result (λ answer. IsCutTo history.events answer.0 answer.1.events) }
 {
     let (status, found) = first_witness(rt, alloc, &history, cutting)?;
     match found {
@@ -66,7 +66,7 @@ pub fn shrink_run<Rt: Threads + Sync, R: Read, W: Write>(
     let mut room = Vec::new(alloc);
     match read_in(rt, alloc, reader, &mut room, limit, Cutting::usual())? {
         Reading::History(history) => {
-            let cutting = cutting_for(room.len(), Cutting::usual());
+            let cutting = cutting_for(room.len(), SHARED_FROM, Cutting::usual());
             let (status, left) = cut(rt, alloc, history, cutting)?;
             write_text(alloc, &left, status, writer)
         }

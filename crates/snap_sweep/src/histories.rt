@@ -11,7 +11,6 @@ use snap_pairs::{Claim, Claims, tally_and_chain};
 use snap_testing::worked::{ATOMIC_RUN, CROSSED_VIEWS, FOUR_WAYS, SEEN_PENDING};
 use snap_testing::{Step, history_of};
 use snap_threads::{Cutting, PIECE_LIMIT, WORKER_LIMIT};
-use snap_views::{ViewOrder, view_order, view_sums};
 use std::alloc::Global;
 use std::thread::Threads;
 
@@ -87,42 +86,43 @@ pub(crate) fn index(alloc: Global) -> Result<(), Fault> {
     expect(index.update_call(1, 1) == Some(1) && index.update_call(1, 2).is_none())
 }
 
-// The printed order of an index, along the chain of its views.
-fn printed(alloc: Global, index: &Index<'_>) -> Result<Vec<u32>, Fault>
+// The printed order of an index.
+fn printed<R: Threads + Sync>(rt: &R, alloc: Global, index: &Index<'_>) -> Result<Vec<u32>, Fault>
     requires { HasNoFault (calls_of index.now) }
 {
-    let sums = view_sums(alloc, index)?;
-    let ViewOrder::Faultless(chain) = view_order(alloc, index, sums)? else {
-        return Err(Fault::Wrong);
-    };
-    Ok(build(alloc, index, chain)?)
+    Ok(build(rt, alloc, index)?)
 }
 
 // The order of an index is this one. Where memory is refused it is made once more.
-fn expect_printed(alloc: Global, index: &Index<'_>, known: &[u32]) -> Result<(), Fault>
+fn expect_printed<R: Threads + Sync>(
+    rt: &R,
+    alloc: Global,
+    index: &Index<'_>,
+    known: &[u32],
+) -> Result<(), Fault>
     requires { HasNoFault (calls_of index.now) }
 {
-    let order = match printed(alloc, index) {
-        Err(Fault::Memory) => printed(alloc, index)?,
+    let order = match printed(rt, alloc, index) {
+        Err(Fault::Memory) => printed(rt, alloc, index)?,
         answer => answer?,
     };
     expect(order.as_slice() == known)
 }
 
 // Of the orders of an index this one is legal, and printed, and its reverse is not.
-fn expect_order(alloc: Global, index: &Index<'_>) -> Result<(), Fault> {
+fn expect_order<R: Threads + Sync>(rt: &R, alloc: Global, index: &Index<'_>) -> Result<(), Fault> {
     expect(!check_order(alloc, index, &[2, 0])?)?;
     if !check_order(alloc, index, &[0, 2])? {
         return Err(Fault::Wrong);
     }
-    expect_printed(alloc, index, &[0, 2])
+    expect_printed(rt, alloc, index, &[0, 2])
 }
 
 /// The update that was shown and then the view are a legal order, and the one that is printed.
-pub(crate) fn order(alloc: Global) -> Result<(), Fault> {
+pub(crate) fn order<R: Threads + Sync>(rt: &R, alloc: Global) -> Result<(), Fault> {
     let history = history_of(alloc, SEEN_PENDING)?;
     let index = Index::build(alloc, &history)?;
-    expect_order(alloc, &index)
+    expect_order(rt, alloc, &index)
 }
 
 // The tally of an index that is cut so has so many read faults and no other.

@@ -34,7 +34,7 @@ fn say(host: &HostRuntime, name: &str, seen: Result<(), Fault>) {
 fn sweep_histories<R: Threads + Sync>(rt: &R, host: &HostRuntime, alloc: Global) {
     say(host, "push", histories::push(alloc));
     say(host, "index", histories::index(alloc));
-    say(host, "order", histories::order(alloc));
+    say(host, "order", histories::order(rt, alloc));
     say(host, "tally", histories::tally_of_pieces(rt, alloc));
     say(host, "tally of parts", histories::tally_of_parts(rt, alloc));
     let seen = histories::tallies_and_chains(rt, alloc);
@@ -51,9 +51,9 @@ fn sweep_views(host: &HostRuntime, alloc: Global) {
     say(host, "claims", histories::claims(alloc));
 }
 
-fn sweep_texts(host: &HostRuntime, alloc: Global) {
+fn sweep_texts<R: Threads + Sync>(rt: &R, host: &HostRuntime, alloc: Global) {
     say(host, "read", texts::read(alloc));
-    say(host, "read in memory", texts::read_in_memory(alloc));
+    say(host, "read in memory", texts::read_in_memory(rt, alloc));
     say(host, "read with records", texts::read_with_records(alloc));
     say(host, "record", texts::record(alloc));
     say(host, "write", texts::write(alloc));
@@ -61,14 +61,14 @@ fn sweep_texts(host: &HostRuntime, alloc: Global) {
     say(host, "fields", texts::fields(alloc));
 }
 
-fn sweep_reports(host: &HostRuntime, alloc: Global) {
+fn sweep_reports<R: Threads + Sync>(rt: &R, host: &HostRuntime, alloc: Global) {
     say(host, "report", texts::text_made(alloc, Made::Report));
     say(
         host,
         "report in memory",
         texts::text_made(alloc, Made::ReportInMemory),
     );
-    let seen = texts::verdict_along_chain(alloc);
+    let seen = texts::verdict_along_chain(rt, alloc);
     say(host, "verdict along a chain", seen);
     say(host, "words", texts::words(alloc));
     say(
@@ -99,7 +99,7 @@ fn sweep_boards<R: Threads + Wait + Sync>(rt: &R, host: &HostRuntime, alloc: Glo
 fn main(rt: HostRuntime) {
     sweep_histories(&rt, &rt, rt.alloc());
     sweep_views(&rt, rt.alloc());
-    sweep_texts(&rt, rt.alloc());
-    sweep_reports(&rt, rt.alloc());
+    sweep_texts(&rt, &rt, rt.alloc());
+    sweep_reports(&rt, &rt, rt.alloc());
     sweep_boards(&rt, &rt, rt.alloc());
 }

@@ -49,12 +49,12 @@ fn expect_next<R: Wait>(rt: &R, relay: &Relay, taker: &mut Taker, process: u16) 
 }
 
 // A relay with its two senders and its taker.
-fn start_two(alloc: Global) -> Result<(Relay, Sender, Sender, Taker), Fault>
+fn start_two<R: Wait>(rt: &R, alloc: Global) -> Result<(Relay, Sender, Sender, Taker), Fault>
     ensures zero { IfOk result (λ r. IsSenderOf r.0 r.1 × (r.1.place ≡ 0)) }
     ensures one { IfOk result (λ r. IsSenderOf r.0 r.2 × (r.2.place ≡ 1)) }
     ensures taker { IfOk result (λ r. IsTakerOf r.0 r.3) }
 {
-    let (relay, mut senders, taker) = Relay::start(alloc, 2)?;
+    let (relay, mut senders, taker) = Relay::start(rt, alloc, 2)?;
     let Some(one) = senders.pop() else {
         return Err(Fault::Wrong);
     };
@@ -66,7 +66,7 @@ fn start_two(alloc: Global) -> Result<(Relay, Sender, Sender, Taker), Fault>
 
 /// Records of two senders come in the order in which they were sent.
 pub(crate) fn relay<R: Wait>(rt: &R, alloc: Global) -> Result<(), Fault> {
-    let (relay, mut zero, mut one, mut taker) = start_two(alloc)?;
+    let (relay, mut zero, mut one, mut taker) = start_two(rt, alloc)?;
     expect(relay.next(rt, &mut taker).is_none())?;
     send(rt, alloc, &relay, &mut one, 1)?;
     send(rt, alloc, &relay, &mut zero, 0)?;

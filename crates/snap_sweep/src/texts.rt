@@ -5,10 +5,10 @@ ghost use Rattle.snap_conditions.specs.Tally.{tally_of};
 
 use crate::fault::{Fault, expect};
 use snap_conditions::{Tally, is_atomic, tally_range};
-use snap_core::{Counted, Event, History};
+use snap_core::{Counted, Event, History, Limit};
 use snap_csv::{
-    WriteRefusal, read_history, read_history_in, read_records, read_text, record_of, write_history,
-    write_history_stamped,
+    WriteRefusal, read_history, read_history_with, read_records, read_text, record_of,
+    write_history, write_history_stamped,
 };
 use snap_index::Index;
 use snap_report::{
@@ -18,9 +18,11 @@ use snap_tally::tally_and_chain_alone;
 use snap_testing::worked::{CROSSED_VIEWS, STALE_AND_WRONG, VIEW_BESIDE_UPDATE};
 use snap_testing::{Cup, entry, history_of};
 use snap_text::{TextFault, fields_of};
-use snap_verdict::{Status, brief_verdict_of, judge_text, verdict_along};
+use snap_threads::Cutting;
+use snap_verdict::{Status, brief_verdict_of, judge_text, verdict_of_chain};
 use snap_witness::witness;
 use std::alloc::{AllocError, Global};
+use std::thread::Threads;
 
 const VIEW_BESIDE_UPDATE_TEXT: &[u8] =
     b"event,process,op,data\nbegin,0,update,0:1:3\nbegin,1,view,\nend,1,view,\nend,0,update,\n";
@@ -60,7 +62,8 @@ pub(crate) fn read(alloc: Global) -> Result<(), Fault> {
 // The events of this text stand in the records from 2 to 5.
 fn expect_records(alloc: Global, text: &[u8]) -> Result<(), Fault> {
     let mut room = Vec::new(alloc);
-    let (_history, records) = read_records(alloc, &mut Counted::new(text), &mut room)?;
+    let mut reader = Counted::new(text);
+    let (_history, records) = read_records(alloc, &mut reader, &mut room, Limit::usual())?;
     expect(records.as_slice() == [2, 3, 4, 5].as_slice() && room.as_slice() == text)
 }
 
@@ -80,24 +83,29 @@ pub(crate) fn record(alloc: Global) -> Result<(), Fault> {
 }
 
 // The history of this text has four events, read from a reader into a vector, which has the text then.
-fn expect_read_in(alloc: Global, text: &[u8]) -> Result<(), Fault> {
+fn expect_read_in<R: Threads + Sync>(rt: &R, alloc: Global, text: &[u8]) -> Result<(), Fault> {
     let mut room = vec![in alloc; b'x']?;
     let mut reader = Counted::new(text);
-    let answer = read_history_in(alloc, &mut reader, &mut room);
+    let (limit, cutting) = (Limit::usual(), Cutting::usual());
+    let answer = read_history_with(rt, alloc, &mut reader, &mut room, limit, cutting);
     expect(reader.failures() == 0)?;
     expect(answer?.len() == 4 && room.as_slice() == text)
 }
 
 // The same, after it was read from memory.
-fn expect_read_in_memory(alloc: Global, text: &[u8]) -> Result<(), Fault> {
-    expect(read_text(alloc, text)?.len() == 4)?;
-    expect_read_in(alloc, text)
+fn expect_read_in_memory<R: Threads + Sync>(
+    rt: &R,
+    alloc: Global,
+    text: &[u8],
+) -> Result<(), Fault> {
+    expect(read_text(alloc, text, Limit::usual())?.len() == 4)?;
+    expect_read_in(rt, alloc, text)
 }
 
 /// A text of each version is read from memory, and from a reader into a vector.
-pub(crate) fn read_in_memory(alloc: Global) -> Result<(), Fault> {
-    expect_read_in_memory(alloc, VIEW_BESIDE_UPDATE_TEXT)?;
-    expect_read_in_memory(alloc, VIEW_BESIDE_UPDATE_STAMPED)
+pub(crate) fn read_in_memory<R: Threads + Sync>(rt: &R, alloc: Global) -> Result<(), Fault> {
+    expect_read_in_memory(rt, alloc, VIEW_BESIDE_UPDATE_TEXT)?;
+    expect_read_in_memory(rt, alloc, VIEW_BESIDE_UPDATE_STAMPED)
 }
 
 // A writer that has its memory already.
@@ -239,18 +247,21 @@ pub(crate) fn text_made(alloc: Global, made: Made) -> Result<(), Fault> {
 }
 
 // The status and the report of an atomic history, along the chain of its views.
-fn report_along_chain(alloc: Global) -> Result<(Status, Vec<u8>), Fault> {
+fn report_along_chain<R: Threads + Sync>(
+    rt: &R,
+    alloc: Global,
+) -> Result<(Status, Vec<u8>), Fault> {
     let history = history_of(alloc, VIEW_BESIDE_UPDATE)?;
     let index = Index::build(alloc, &history)?;
     let (tally, chain) = tally_and_chain_alone(alloc, &index)?;
     let room = Vec::new(alloc);
-    Ok(verdict_along(alloc, &index, &tally, chain, room)?)
+    Ok(verdict_of_chain(rt, alloc, &index, &tally, chain, room, 2)?)
 }
 
 /// The status and the report along a chain. Where memory is refused both are made once more.
-pub(crate) fn verdict_along_chain(alloc: Global) -> Result<(), Fault> {
-    let (status, report) = match report_along_chain(alloc) {
-        Err(Fault::Memory) => report_along_chain(alloc)?,
+pub(crate) fn verdict_along_chain<R: Threads + Sync>(rt: &R, alloc: Global) -> Result<(), Fault> {
+    let (status, report) = match report_along_chain(rt, alloc) {
+        Err(Fault::Memory) => report_along_chain(rt, alloc)?,
         answer => answer?,
     };
     expect(status == Status::Atomic && report.as_slice() == VIEW_BESIDE_UPDATE_REPORT)
@@ -304,8 +315,8 @@ pub(crate) fn refusal(alloc: Global) -> Result<(), Fault> {
 
 /// The status and the report of a text, and of one that is no history.
 pub(crate) fn verdict(alloc: Global) -> Result<(), Fault> {
-    let made = judge_text(alloc, VIEW_BESIDE_UPDATE_TEXT);
+    let made = judge_text(alloc, VIEW_BESIDE_UPDATE_TEXT, Limit::usual());
     expect_verdict(made, Status::Atomic, VIEW_BESIDE_UPDATE_REPORT)?;
-    let made = judge_text(alloc, BUSY_TEXT);
+    let made = judge_text(alloc, BUSY_TEXT, Limit::usual());
     expect_verdict(made, Status::Refused, b"refused record 3: busy\n")
 }

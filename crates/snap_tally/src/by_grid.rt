@@ -10,8 +10,10 @@ use crate::view_grid::ViewGrid;
 use snap_conditions::{Part, ReadFault, Tally, read_fault_of, tally_without_read};
 use std::alloc::{AllocError, Global};
 
-// The read faults of the completed views from one place to before another, and how many views are stale to them.
-fn read_faults(
+/// The read faults whose first view is one of the completed views from `from` to `to - 1`, counted from 0 in the order of call
+/// numbers, as they are reported, and how many views are stale to these. A grid compares 512 views at once, from `from` on, so that
+/// fewer take as long. The error is want of memory.
+pub fn read_faults_by_grid(
     alloc: Global,
     grid: &ViewGrid<'_, '_>,
     from: u32,
@@ -43,7 +45,7 @@ pub fn tally_by_grid(
     requires views { to ≤ length (views_of (calls_of grid.now)) }
     ensures { IfOk result (λ tally. tally ≡ tally_of (calls_of grid.now) (views_between (calls_of grid.now) from to)) }
 {
-    let (read, stale) = read_faults(alloc, grid, from, to)?;
+    let (read, stale) = read_faults_by_grid(alloc, grid, from, to)?;
     let others = tally_without_read(grid.index(), from, to);
     Ok(Tally {
         integrity: others.integrity,

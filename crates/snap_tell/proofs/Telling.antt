@@ -7,8 +7,8 @@ use Rattle.snap_conditions.specs.declared.tally.Tally.{Tally}
 use Rattle.snap_text.specs.declared.fault.TextFault.{TextFault}
 use Rattle.snap_format.specs.declared.refusal.ReadRefusal.{ReadRefusal}
 use Rattle.snap_format.specs.declared.refusal.ReadRefusal.TheVariants as refusals
-use Rattle.snap_csv.specs.Answers.{RefusesTextWithin}
-use Rattle.snap_format.specs.Records.{HaveRecordsWithin}
+use Rattle.snap_csv.specs.Answers.{RefusesText}
+use Rattle.snap_format.specs.Records.{HaveRecords}
 use Rattle.snap_verdict.specs.declared.status.Status.{Status}
 use Rattle.snap_verdict.specs.declared.status.Status.TheVariants.{Refused}
 use Rattle.snap_verdict.specs.Statuses.{code_of}
@@ -34,14 +34,14 @@ told_few name least es records views code out count few codes line =
       line = subst (λ n. IsLineOf (few_views_json name (code_of Refused) n least) out) count (subst (λ c. IsLineOf (few_views_json name c views least) out) codes line);
     })
 
-pub told_text : (limit : ℕ) (name : List ℕ) (least : ℕ) (text : List ℕ) (es : List Event) (records given : List ℕ) (status : Status) (out : List ℕ) → HaveRecordsWithin limit text es records → given ≡ records →
+pub told_text : (limit : ℕ) (name : List ℕ) (least : ℕ) (text : List ℕ) (es : List Event) (records given : List ℕ) (status : Status) (out : List ℕ) → HaveRecords limit text es records → given ≡ records →
     TellsHistory name least es given status out → IsTold limit name least text status out
 told_text limit name least text es records given status out have same told =
     inr (record { events = es; records = records; history = have; told = subst (λ rs. TellsHistory name least es rs status out) same told })
 
 pub told_refusal : (limit : ℕ) (name : List ℕ) (least : ℕ) (known : Option (List ℕ)) (refusal : ReadRefusal) (place : ℕ) (fault : TextFault) (out : List ℕ) →
-    IsLineOf (refusal_json name (code_of Refused) place fault) out → refusal ≡ refusals.Text place fault → IfSome known (λ text. RefusesTextWithin limit text refusal) →
+    IsLineOf (refusal_json name (code_of Refused) place fault) out → refusal ≡ refusals.Text place fault → IfSome known (λ text. RefusesText limit text refusal) →
     IfSome known (λ text. IsTold limit name least text Refused out)
 told_refusal limit name least None refusal place fault out line is first = tt
 told_refusal limit name least (Some text) refusal place fault out line is first =
-    inl (record { place = place; fault = fault; first = subst (λ r. RefusesTextWithin limit text r) is first; answers = refl; line = line })
+    inl (record { place = place; fault = fault; first = subst (λ r. RefusesText limit text r) is first; answers = refl; line = line })

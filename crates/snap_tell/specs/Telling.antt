@@ -5,8 +5,8 @@ use Rattle.snap_core.specs.Calls.{calls_of, views_of}
 use Rattle.snap_conditions.specs.declared.tally.Tally.{Tally}
 use Rattle.snap_conditions.specs.Tally.{tally_of}
 use Rattle.snap_text.specs.declared.fault.TextFault.{TextFault}
-use Rattle.snap_format.specs.Records.{HaveRecordsWithin}
-use Rattle.snap_format.specs.Texts.{HasFaultWithin}
+use Rattle.snap_format.specs.Records.{HaveRecords}
+use Rattle.snap_format.specs.Texts.{HasFault}
 use Rattle.snap_verdict.specs.declared.status.Status.{Status}
 use Rattle.snap_verdict.specs.declared.status.Status.TheVariants.{Refused}
 use Rattle.snap_verdict.specs.Statuses.{code_of}
@@ -37,14 +37,14 @@ TellsHistory name least events records status out =
 pub record IsToldText (limit : ℕ) (name : List ℕ) (least : ℕ) (text : List ℕ) (status : Status) (out : List ℕ) : Type 0 where
   pub events : List Event
   pub records : List ℕ
-  pub history : HaveRecordsWithin limit text events records
+  pub history : HaveRecords limit text events records
   pub told : TellsHistory name least events records status out
 
 -- a text with a fault is refused: the object names its first fault and the place of that
 pub record IsToldRefusal (limit : ℕ) (name : List ℕ) (text : List ℕ) (status : Status) (out : List ℕ) : Type 0 where
   pub place : ℕ
   pub fault : TextFault
-  pub first : HasFaultWithin limit text place fault
+  pub first : HasFault limit text place fault
   pub answers : status ≡ Refused
   pub line : IsLineOf (refusal_json name (code_of status) place fault) out
 

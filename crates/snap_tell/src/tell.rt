@@ -8,9 +8,9 @@ ghost use Rattle.snap_verdict.specs.Statuses.{code_of};
 ghost use Rattle.snap_verdict.specs.declared.status.Status.TheVariants.{Refused};
 ghost use Rattle.snap_tell.specs.Telling.{IsTold, IsToldHistory, TellsHistory};
 
-use snap_check::{RunFault, cutting_for};
-use snap_core::{Counted, Gate, History, Limit};
-use snap_csv::{ReadRefusal, read_records_within};
+use snap_check::{CheckOptions, RunFault, cutting_for};
+use snap_core::{Counted, Gate, History};
+use snap_csv::{ReadRefusal, read_records};
 use snap_index::Index;
 use snap_json::{few_views_line, history_line, refusal_line};
 use snap_pairs::tally_and_chain;
@@ -51,8 +51,8 @@ fn told_of<Rt: Threads + Sync, G: Gate>(
     gate: &G,
     least: u32,
 ) -> Result<(Status, Vec<u8>), AllocError>
-    requires { length records.now ≡ length history.now }
-    ensures { IfOk result (λ answer. TellsHistory name.now least history.now records.now answer.0 answer.1.items) }
+    requires { length records.now ≡ length history.now.events }
+    ensures { IfOk result (λ answer. TellsHistory name.now least history.now.events records.now answer.0 answer.1.items) }
 {
     let index = Index::build(alloc, history)?;
     let views = index.view_count();
@@ -78,16 +78,16 @@ fn tell_input<Rt: Threads + Sync, R: Read, G: Gate>(
     reader: &mut Counted<R>,
     cutting: Cutting,
     gate: &G,
-    least: u32,
-    limit: Limit,
+    options: CheckOptions,
 ) -> Result<(Status, Vec<u8>), RunFault>
-    ensures answer { JudgesBy (IsTold limit.events name.now least) (R.remaining (inner_of reader.old)) result }
+    ensures answer { JudgesBy (IsTold options.limit.events name.now options.views) (R.remaining (inner_of reader.old)) result }
     ensures counts { JudgeCounts (failures_in reader.old) (failures_in reader.new) result }
 {
     let mut room = Vec::new(alloc);
-    match read_records_within(alloc, reader, &mut room, limit) {
+    match read_records(alloc, reader, &mut room, options.limit) {
         Ok((history, records)) => {
-            let cutting = cutting_for(room.len(), cutting);
+            let cutting = cutting_for(room.len(), options.alone_below, cutting);
+            let least = options.views;
             Ok(told_of(rt, alloc, name, &history, &records, cutting, gate, least)?)
         }
         Err(ReadRefusal::Text { place, fault }) => {
@@ -101,8 +101,8 @@ fn tell_input<Rt: Threads + Sync, R: Read, G: Gate>(
 
 /// Reads a history and writes its answer as a JSON object on a line, with a name for the text: its numbers, its verdicts and of
 /// each kind of fault the first, with its calls and their records. Of a text that is no history, and of a history with fewer
-/// completed views than are asked for, the object says so; the status is then `Refused`, and otherwise that of `check_run`. A
-/// history may have as many events as the limit says, and its text 1,024 times as many bytes.
+/// completed views than are asked for, the object says so; the status is then `Refused`, and otherwise that of `check_run`. The
+/// options are those of `check_run_with`, but an object is always whole, so that `quiet` changes nothing.
 ///
 /// Nothing is written until the whole line is built: after `Read` or `Memory` nothing went out, after `Write` a front of the
 /// line, perhaps all of it. The writer is flushed once at the end. The run returns where the reader and the writer do, and the
@@ -115,13 +115,12 @@ pub fn tell_run<Rt: Threads + Sync, R: Read, W: Write, G: Gate>(
     writer: &mut Counted<W>,
     cutting: Cutting,
     gate: &G,
-    least: u32,
-    limit: Limit,
+    options: CheckOptions,
 ) -> Result<Status, RunFault>
-    ensures wrote { WroteBy (IsTold limit.events name.now least) (R.remaining (inner_of reader.old)) (W.contents (inner_of writer.old)) (W.contents (inner_of writer.new)) result }
+    ensures wrote { WroteBy (IsTold options.limit.events name.now options.views) (R.remaining (inner_of reader.old)) (W.contents (inner_of writer.old)) (W.contents (inner_of writer.new)) result }
     ensures counts { RunCounts (failures_in reader.old) (failures_in reader.new) (failures_in writer.old) (failures_in writer.new) result }
 {
-    let (status, line) = tell_input(rt, alloc, name, reader, cutting, gate, least, limit)?;
+    let (status, line) = tell_input(rt, alloc, name, reader, cutting, gate, options)?;
     match writer.send(&line) {
         Ok(()) => Ok(status),
         Err(_) => Err(RunFault::Write),

@@ -22,6 +22,11 @@ impl<W> Painted<W> {
             in_colors,
         }
     }
+
+    /// The writer below.
+    pub fn into_inner(self) -> W {
+        self.inner.into_inner()
+    }
 }
 
 impl<W: Write> Write for Painted<W> {

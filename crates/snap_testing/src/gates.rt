@@ -87,3 +87,37 @@ impl Gate for Meeting {
         }
     }
 }
+
+/// A gate at which worker 0 waits with its first piece until another worker has come to a turn.
+#[derive(Drop)]
+pub struct Held {
+    pub worker: u32,
+    pub turn: u32,
+    pub arrivals: Arrivals,
+}
+
+impl Held {
+    /// Worker 0 waits until this worker comes to this turn.
+    pub fn until(worker: u32, turn: u32) -> Held {
+        Held {
+            worker,
+            turn,
+            arrivals: Arrivals::none(),
+        }
+    }
+
+    /// Whether the other came, and worker 0 did not wait in vain.
+    pub fn was_left(&self) -> bool {
+        self.arrivals.were(1)
+    }
+}
+
+impl Gate for Held {
+    fn at(&self, worker: u32, turn: u32) {
+        if (worker, turn) == (self.worker, self.turn) {
+            self.arrivals.come(worker);
+        } else if (worker, turn) == (0, 0) {
+            self.arrivals.wait_for(1);
+        }
+    }
+}

@@ -5,8 +5,10 @@
 mod devices;
 mod gates;
 mod steps;
+mod texts;
 pub mod worked;
 
 pub use devices::{Cup, Drip, Newlines};
-pub use gates::{Arrivals, Meeting};
+pub use gates::{Arrivals, Held, Meeting};
 pub use steps::{Refused, Shown, Step, entry, event_of, history_of};
+pub use texts::{add_updates, updates_order};

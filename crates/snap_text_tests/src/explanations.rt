@@ -12,13 +12,13 @@ use snap_testing::worked::{
 };
 use snap_testing::{Step, history_of};
 use snap_text::TextFault;
-use snap_verdict::order_by;
+use snap_verdict::order_alone;
 use std::alloc::{AllocError, Global};
 use std::test::Fail;
 
 // The numbers of the records of a history's events, from one on.
 fn records_from(alloc: Global, history: &History, first: u16) -> Result<Vec<u32>, AllocError>
-    ensures { IfOk result (λ records. length records.items ≡ length history.now) }
+    ensures { IfOk result (λ records. length records.items ≡ length history.now.events) }
 {
     let mut records = Vec::new(alloc);
     for place in 0..history.len() {
@@ -32,7 +32,7 @@ fn explained(alloc: Global, index: &Index<'_>, records: &[u32]) -> Result<Vec<u8
     requires { length records.now ≡ length index.now }
 {
     let (tally, chain) = tally_and_chain_alone(alloc, index)?;
-    let order = order_by(alloc, index, &tally, chain)?;
+    let order = order_alone(alloc, index, &tally, chain)?;
     explain(alloc, index, &tally, records, order.as_deref())
 }
 

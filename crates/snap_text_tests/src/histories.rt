@@ -31,18 +31,6 @@ fn expect_turns(
     Ok(())
 }
 
-#[test]
-fn a_second_begin_comes_back_as_busy(rt: HostRuntime) -> Result<(), Fail> {
-    let mut history = History::new(rt.alloc());
-    history.push(Event::BeginView { process: 0 })?;
-    match history.push(Event::BeginView { process: 0 }) {
-        Err((Event::BeginView { process: 0 }, EventRefusal::Busy)) => {}
-        other => return Err(Fail::from(other)),
-    }
-    assert_eq!(rt; history.len(), 1);
-    Ok(())
-}
-
 // The process of the event at a place, if there is one.
 fn process_at(history: &History, place: usize) -> Option<u16> {
     Some(history.event(place)?.process())
@@ -114,10 +102,10 @@ fn a_second_writer_is_refused_before_a_wrong_number(rt: HostRuntime) -> Result<(
     expect_turns(&rt, rt.alloc(), SECOND_WRITER)
 }
 
-// A history of as many updates as the longest has, all ended.
+// A history of as many updates as the usual limit allows, all ended.
 fn full(alloc: Global) -> Result<History, Fail> {
     let mut history = History::new(alloc);
-    for number in 1..=524288 {
+    for number in 1..=32768 {
         history.push(event_of(alloc, Update(65535, (0, number, 1)))?)?;
         history.push(Event::EndUpdate { process: 65535 })?;
     }
@@ -125,13 +113,13 @@ fn full(alloc: Global) -> Result<History, Fail> {
 }
 
 #[test]
-fn the_1048577th_event_is_too_many(rt: HostRuntime) -> Result<(), Fail> {
+fn the_65537th_event_is_too_many(rt: HostRuntime) -> Result<(), Fail> {
     let mut history = full(rt.alloc())?;
-    assert_eq!(rt; history.len(), 1048576);
+    assert_eq!(rt; history.len(), 65536);
     let begin = refusal(rt.alloc(), &mut history, View(0))?;
     let end = refusal(rt.alloc(), &mut history, Updated(0))?;
     let too_many = Some(EventRefusal::TooMany);
-    assert!(rt; begin == too_many && end == too_many && history.len() == 1048576);
+    assert!(rt; begin == too_many && end == too_many && history.len() == 65536);
     Ok(())
 }
 

@@ -1,18 +1,10 @@
 //! Lines of reports that no example has.
 use snap_conditions::{is_atomic, tally_range};
 use snap_index::Index;
-use snap_report::{refusal_text, report, verdict_text};
+use snap_report::{report, verdict_text};
 use snap_testing::{Step, history_of, worked};
-use snap_text::TextFault;
 use std::alloc::Global;
 use std::test::Fail;
-
-#[test]
-fn a_refusal_names_the_record_and_its_fault(rt: HostRuntime) -> Result<(), Fail> {
-    let text = refusal_text(rt.alloc(), 3, TextFault::Busy)?;
-    assert_eq!(rt; text.as_slice(), b"refused record 3: busy\n".as_slice());
-    Ok(())
-}
 
 // The report of an index that is not atomic.
 fn reported(alloc: Global, index: &Index<'_>) -> Result<Vec<u8>, Fail> {

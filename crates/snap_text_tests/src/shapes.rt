@@ -4,7 +4,7 @@ use snap_index::Index;
 use snap_tally::tally_and_chain_alone;
 use snap_testing::worked::{ATOMIC_RUN, MISSED_UPDATE, NEW_THEN_OLD, NOTHING, SEEN_PENDING};
 use snap_testing::{Step, history_of};
-use snap_verdict::order_by;
+use snap_verdict::order_alone;
 use std::alloc::{AllocError, Global};
 use std::process::Abort;
 use std::test::Fail;
@@ -81,7 +81,7 @@ const WORKED: &[(&[Step<'static>], usize, Known)] = &[
 // The shapes of an index of which so many calls are drawn.
 fn drawn(alloc: Global, index: &Index<'_>, limit: usize) -> Result<Shapes, AllocError> {
     let (tally, chain) = tally_and_chain_alone(alloc, index)?;
-    let order = order_by(alloc, index, &tally, chain)?;
+    let order = order_alone(alloc, index, &tally, chain)?;
     shapes_of(alloc, index, &tally, order.as_deref().unwrap_or(&[]), limit)
 }
 

@@ -1,5 +1,6 @@
 //! The status of worked texts, and the report or the lines of the verdicts, judged on the calling thread.
 use snap_conditions::tally_range;
+use snap_core::Limit;
 use snap_csv::read_text;
 use snap_index::Index;
 use snap_verdict::{Status, brief_verdict_of, judge_text, status_of};
@@ -36,7 +37,7 @@ const WORKED: &[(&str, Status, &str)] = &[
 #[test]
 fn each_worked_text_has_its_status_and_report(rt: HostRuntime) -> Result<(), Fail> {
     for (text, status, report) in WORKED {
-        let (found, out) = judge_text(rt.alloc(), text.as_bytes())?;
+        let (found, out) = judge_text(rt.alloc(), text.as_bytes(), Limit::usual())?;
         assert!(rt;
             found == *status && out.as_slice() == report.as_bytes(),
             "{report}"
@@ -91,7 +92,7 @@ fn expect(
     status: Status,
     verdicts: &str,
 ) -> Result<(), Fail> {
-    let history = read_text(alloc, text.as_bytes())?;
+    let history = read_text(alloc, text.as_bytes(), Limit::usual())?;
     let index = Index::build(alloc, &history)?;
     expect_verdicts(rt, alloc, &index, status, verdicts)
 }

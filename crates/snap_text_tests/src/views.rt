@@ -5,13 +5,6 @@ use std::alloc::{AllocError, Global};
 use std::process::Abort;
 use std::test::Fail;
 
-#[test]
-fn no_entries_are_the_empty_view(rt: HostRuntime) -> Result<(), Fail> {
-    let view = View::from_entries(Vec::new(rt.alloc()))?;
-    assert!(rt; view.entries().is_empty() && (view.number(0), view.value(0)) == (0, 0));
-    Ok(())
-}
-
 // Components, numbers and values of entries, and why they are no view.
 const REFUSED: &[(&[Shown], ViewRefusal)] = &[
     (&[(1, 1, 1), (0, 0, 1)], ViewRefusal::NotRising),

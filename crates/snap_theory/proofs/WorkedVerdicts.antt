@@ -1,88 +1,140 @@
--- Two worked histories through the law: one is atomic, one regular and not atomic.
-use Rattle.std.proofs.Common.{List, [], ◌∷◌, ◌++◌, ◌≡◌, None, refl, ap, length, lit<, arith}
-use Rattle.std.proofs.lemmas.List.Elements.{All-nil, All-cons}
-use Rattle.snap_core.specs.Entries.{HasByteComponent}
+-- The verdicts on the worked histories, by the laws, from the counts of their faults.
+use Rattle.std.proofs.Common.{◌≡◌, ℕ, ◌+◌, Bool, true, false, List, [], ◌∷◌, length, refl, ap, arith}
+use Rattle.std.specs.Prelude.{◌==◌, ◌↔◌, IsTrue, nat_lt}
+use Rattle.std.specs.List.{list_all}
+use Rattle.std.proofs.lemmas.Bool.{eq-eqb, eqb-true, ltb-true}
+use Rattle.std.proofs.lemmas.List.Sums.{AllPass-from_list_all}
+use Rattle.snap_core.specs.declared.entry.Entry.{Entry}
+use Rattle.snap_core.specs.Entries.{component_count}
 use Rattle.snap_core.specs.declared.event.Event.{Event}
 use Rattle.snap_core.specs.declared.event.Event.TheVariants.{BeginUpdate, BeginView, EndUpdate, EndView}
 use Rattle.snap_core.specs.Events.{IsHistory, IsByteEvent, HasByteComponents}
-use Rattle.snap_core.specs.Refusals.{refusal_of}
-use Rattle.snap_core.specs.Calls.{calls_of, precedes, is_view, shown, shown_number}
+use Rattle.snap_core.specs.Calls.{Call, calls_of, precedes, is_view, shown, shown_number, is_update_numbered, views_of}
+use Rattle.snap_core.specs.Monotone.{IsMonotone}
 use Rattle.snap_core.specs.Orders.{IsAtomic}
 use Rattle.snap_core.specs.Regular.{IsRegular}
-use Rattle.snap_core.specs.Calls.{is_update_numbered, views_of}
-use Rattle.snap_theory.specs.Faults.{exceeds, integrity_fault, old_fault, early_fault, read_fault, write_fault, integrity_faults, proximity_faults, read_faults, write_faults}
-use Rattle.snap_core.proofs.Pushes.{history_push, history_nil}
-use Rattle.snap_core.proofs.Picks.{accepted_none}
-use Rattle.snap_theory.proofs.OrderLaws.{atomic_exactly, legal_order_has_no_fault}
+use Rattle.snap_theory.specs.Faults.{HasNoLocalFault, exceeds, integrity_fault, old_fault, early_fault, read_fault, write_fault, integrity_faults, proximity_faults, read_faults, write_faults, is_stale, stale_count}
+use Rattle.snap_core.proofs.Worked as worked
+use Rattle.snap_core.proofs.WorkedHistories as histories
 use Rattle.snap_theory.proofs.FaultLaws.{regular_exactly}
-use Rattle.snap_core.proofs.Worked.{entry}
+use Rattle.snap_theory.proofs.OrderLaws.{atomic_exactly}
+use Rattle.snap_theory.proofs.StaleViews.{monotone_exactly}
 
-grow : (es : List Event) (e : Event) → IsHistory es → refusal_of es e ≡ None → IsHistory (es ++ e ∷ [])
-grow es e h r = history_push es e h (accepted_none es e r).0
+-- a list of events is a history, and regular, monotone and atomic exactly where these are true
+record IsWorked (es : List Event) (regular monotone atomic : Bool) : Type 0 where
+  history : IsHistory es
+  regular_exactly : IsTrue regular ↔ IsRegular (calls_of es)
+  monotone_exactly : IsTrue monotone ↔ IsMonotone (calls_of es)
+  atomic_exactly : IsTrue atomic ↔ IsAtomic (calls_of es)
 
-abbrev e1 : Event
-e1 = BeginUpdate 0 (entry 0 1 7)
-
-abbrev e2 : Event
-e2 = BeginView 1
-
-abbrev e3 : Event
-e3 = EndView 1 (entry 0 1 7 ∷ [])
-
-abbrev e4 : Event
-e4 = BeginView 2
-
-abbrev e5 : Event
-e5 = EndView 2 []
-
-abbrev e6 : Event
-e6 = EndUpdate 0
-
--- a view that shows the update ends before one begins that does not
-abbrev new_then_old : List Event
-new_then_old = e1 ∷ e2 ∷ e3 ∷ e4 ∷ e5 ∷ e6 ∷ []
-
--- the same with the second view before the first
-abbrev old_then_new : List Event
-old_then_new = e1 ∷ e4 ∷ e5 ∷ e2 ∷ e3 ∷ e6 ∷ []
-
-new_then_old_history : IsHistory new_then_old
-unfolding refusal_of
-new_then_old_history =
-    grow (e1 ∷ e2 ∷ e3 ∷ e4 ∷ e5 ∷ []) e6 (grow (e1 ∷ e2 ∷ e3 ∷ e4 ∷ []) e5 (grow (e1 ∷ e2 ∷ e3 ∷ []) e4
-    (grow (e1 ∷ e2 ∷ []) e3 (grow (e1 ∷ []) e2 (grow [] e1 history_nil refl) refl) refl) refl) refl) refl
-
-old_then_new_history : IsHistory old_then_new
-unfolding refusal_of
-old_then_new_history =
-    grow (e1 ∷ e4 ∷ e5 ∷ e2 ∷ e3 ∷ []) e6 (grow (e1 ∷ e4 ∷ e5 ∷ e2 ∷ []) e3 (grow (e1 ∷ e4 ∷ e5 ∷ []) e2
-    (grow (e1 ∷ e4 ∷ []) e5 (grow (e1 ∷ []) e4 (grow [] e1 history_nil refl) refl) refl) refl) refl) refl
-
-new_then_old_not_atomic : IsAtomic (calls_of new_then_old) → ⊥
-unfolding calls_of precedes is_view shown shown_number exceeds read_fault views_of read_faults
-new_then_old_not_atomic a =
-    let n = legal_order_has_no_fault new_then_old new_then_old_history a.0 a.1 in
-    let e : 1 ≡ 0 = ap length n.read in
-    omega (arith, e)
-
-bytes_1 : IsByteEvent e3
-bytes_1 = All-cons HasByteComponent (entry 0 1 7) [] (lit< tt) (All-nil HasByteComponent)
-
-old_then_new_bytes : HasByteComponents old_then_new
-old_then_new_bytes =
-    All-cons IsByteEvent e1 (e4 ∷ e5 ∷ e2 ∷ e3 ∷ e6 ∷ []) (lit< tt) (All-cons IsByteEvent e4 (e5 ∷ e2 ∷ e3 ∷ e6 ∷ []) tt (All-cons IsByteEvent e5 (e2 ∷ e3 ∷ e6 ∷ []) (All-nil HasByteComponent)
-    (All-cons IsByteEvent e2 (e3 ∷ e6 ∷ []) tt (All-cons IsByteEvent e3 (e6 ∷ []) bytes_1 (All-cons IsByteEvent e6 [] tt (All-nil IsByteEvent))))))
-
-old_then_new_atomic : IsAtomic (calls_of old_then_new)
-unfolding calls_of precedes is_view shown shown_number is_update_numbered exceeds integrity_fault old_fault early_fault read_fault write_fault views_of integrity_faults proximity_faults read_faults write_faults
-old_then_new_atomic =
-    (atomic_exactly old_then_new old_then_new_history old_then_new_bytes).1 (record { local = record { integrity = refl; proximity = refl }; read = refl; write = refl })
-
-new_then_old_bytes : HasByteComponents new_then_old
-new_then_old_bytes =
-    All-cons IsByteEvent e1 (e2 ∷ e3 ∷ e4 ∷ e5 ∷ e6 ∷ []) (lit< tt) (All-cons IsByteEvent e2 (e3 ∷ e4 ∷ e5 ∷ e6 ∷ []) tt (All-cons IsByteEvent e3 (e4 ∷ e5 ∷ e6 ∷ []) bytes_1
-    (All-cons IsByteEvent e4 (e5 ∷ e6 ∷ []) tt (All-cons IsByteEvent e5 (e6 ∷ []) (All-nil HasByteComponent) (All-cons IsByteEvent e6 [] tt (All-nil IsByteEvent))))))
-
-new_then_old_regular : IsRegular (calls_of new_then_old)
+-- each is counted, over all completed views
+abbrev local_faults : List Event → ℕ
 unfolding calls_of precedes is_view shown shown_number is_update_numbered integrity_fault old_fault early_fault views_of integrity_faults proximity_faults
-new_then_old_regular = (regular_exactly new_then_old new_then_old_history new_then_old_bytes).1 (record { integrity = refl; proximity = refl })
+local_faults es = length (integrity_faults (calls_of es) (views_of (calls_of es))) + length (proximity_faults (calls_of es) (views_of (calls_of es)))
+
+abbrev faults : List Event → ℕ
+unfolding local_faults calls_of precedes is_view shown shown_number is_update_numbered exceeds read_fault write_fault views_of read_faults write_faults
+faults es = local_faults es + length (read_faults (calls_of es) (views_of (calls_of es))) + length (write_faults (calls_of es) (views_of (calls_of es)))
+
+abbrev stale_views : List Event → ℕ
+unfolding calls_of precedes is_view shown shown_number exceeds is_stale views_of stale_count
+stale_views es = stale_count (calls_of es) (views_of (calls_of es))
+
+abbrev is_byte : Entry → Bool
+is_byte e = nat_lt e.component component_count
+
+abbrev has_bytes : Event → Bool
+has_bytes (BeginUpdate p e) = is_byte e
+has_bytes (BeginView p) = true
+has_bytes (EndUpdate p) = true
+has_bytes (EndView p es) = list_all is_byte es
+
+byte_event : (e : Event) → has_bytes e ≡ true → IsByteEvent e
+byte_event (BeginUpdate p e) h = ltb-true e.component component_count h
+byte_event (BeginView p) h = tt
+byte_event (EndUpdate p) h = tt
+byte_event (EndView p es) h = λ k d l. ltb-true _ component_count (AllPass-from_list_all is_byte es h k d l)
+
+none : {X : Type 0} (xs : List X) → length xs ≡ 0 → xs ≡ []
+none [] e = refl
+none (x ∷ xs) e = absurd (omega (arith, e))
+
+by_counts : (es : List Event) → IsHistory es → list_all has_bytes es ≡ true → IsWorked es (local_faults es == 0) (stale_views es == 0) (faults es == 0)
+unfolding local_faults faults stale_views
+by_counts es history bytes = record {
+  history = history;
+  regular_exactly = (
+    λ t. (regular_exactly es history components).1 (local t),
+    λ r. let n = (regular_exactly es history components).0 r in eq-eqb (local_faults es) 0 (omega (arith, ap length n.integrity, ap length n.proximity)),
+  );
+  monotone_exactly = (λ t. (monotone_exactly calls).1 (eqb-true (stale_views es) 0 t), λ m. eq-eqb (stale_views es) 0 ((monotone_exactly calls).0 m));
+  atomic_exactly = (
+    λ t. (atomic_exactly es history components).1 (record {
+      local = local (eq-eqb (local_faults es) 0 (omega (arith, eqb-true (faults es) 0 t)));
+      read = none _ (omega (arith, eqb-true (faults es) 0 t));
+      write = none _ (omega (arith, eqb-true (faults es) 0 t));
+    }),
+    λ a. let n = (atomic_exactly es history components).0 a in eq-eqb (faults es) 0 (omega (arith, ap length n.local.integrity, ap length n.local.proximity, ap length n.read, ap length n.write)),
+  );
+}
+  where
+    calls : List Call
+    calls = calls_of es
+
+    components : HasByteComponents es
+    components = λ k d l. byte_event _ (AllPass-from_list_all has_bytes es bytes k d l)
+
+    local : (local_faults es == 0) ≡ true → HasNoLocalFault calls
+    local t = record { integrity = none _ (omega (arith, eqb-true (local_faults es) 0 t)); proximity = none _ (omega (arith, eqb-true (local_faults es) 0 t)) }
+
+atomic_run : IsWorked worked.atomic_run true true true
+unfolding local_faults faults stale_views
+atomic_run = by_counts worked.atomic_run histories.an_atomic_run_is_a_history refl
+
+view_before_update : IsWorked worked.view_before_update true true true
+unfolding local_faults faults stale_views
+view_before_update = by_counts worked.view_before_update histories.a_view_before_an_update_is_in_a_history refl
+
+seen_pending : IsWorked worked.seen_pending true true true
+unfolding local_faults faults stale_views
+seen_pending = by_counts worked.seen_pending histories.a_seen_pending_update_is_in_a_history refl
+
+all_pending : IsWorked worked.all_pending true true true
+unfolding local_faults faults stale_views
+all_pending = by_counts worked.all_pending histories.pending_calls_are_in_a_history refl
+
+crossed_views : IsWorked worked.crossed_views true true false
+unfolding local_faults faults stale_views
+crossed_views = by_counts worked.crossed_views histories.crossed_views_are_in_a_history refl
+
+missed_update : IsWorked worked.missed_update true true false
+unfolding local_faults faults stale_views
+missed_update = by_counts worked.missed_update histories.a_missed_update_is_in_a_history refl
+
+new_then_old : IsWorked worked.new_then_old true false false
+unfolding local_faults faults stale_views
+new_then_old = by_counts worked.new_then_old histories.a_new_old_inversion_is_in_a_history refl
+
+forward_and_back : IsWorked worked.forward_and_back true false false
+unfolding local_faults faults stale_views
+forward_and_back = by_counts worked.forward_and_back histories.views_forward_and_back_are_in_a_history refl
+
+stale_view : IsWorked worked.stale_view false true false
+unfolding local_faults faults stale_views
+stale_view = by_counts worked.stale_view histories.a_stale_view_is_in_a_history refl
+
+view_of_the_future : IsWorked worked.view_of_the_future false true false
+unfolding local_faults faults stale_views
+view_of_the_future = by_counts worked.view_of_the_future histories.a_view_of_the_future_is_in_a_history refl
+
+wrong_value : IsWorked worked.wrong_value false true false
+unfolding local_faults faults stale_views
+wrong_value = by_counts worked.wrong_value histories.a_wrong_value_is_in_a_history refl
+
+largest_number : IsWorked worked.largest_number false true false
+unfolding local_faults faults stale_views
+largest_number = by_counts worked.largest_number histories.a_largest_number_is_in_a_history refl
+
+stale_and_wrong : IsWorked worked.stale_and_wrong false true false
+unfolding local_faults faults stale_views
+stale_and_wrong = by_counts worked.stale_and_wrong histories.a_stale_and_a_wrong_view_are_in_a_history refl

@@ -205,7 +205,7 @@ an_open_update_is_left : left_by an_open_update 0 ≡ Some (entry 0 1 7)
 unfolding calls_of
 an_open_update_is_left = refl
 
--- the whole is atomic, by the order of `WorkedOrders`
+-- the whole is atomic, as `WorkedVerdicts` shows of `view_before_update`
 abbrev a_view_beside_it : List Event
 a_view_beside_it = BeginView 1 ∷ EndView 1 [] ∷ EndUpdate 0 ∷ []
 

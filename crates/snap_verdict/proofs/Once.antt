@@ -12,7 +12,7 @@ use Rattle.snap_report.specs.Lines.{text_of}
 use Rattle.snap_verdict.specs.declared.status.Status.{Status}
 use Rattle.snap_verdict.specs.Statuses.{status_of}
 use Rattle.snap_verdict.specs.Verdicts.{IsVerdict, findings}
-use Rattle.snap_verdict.specs.Reports.{IsReportWithin}
+use Rattle.snap_verdict.specs.Reports.{IsReport}
 
 one_bool : (a b : Bool) → (IsTrue a → IsTrue b) → (IsTrue b → IsTrue a) → a ≡ b
 one_bool true true f g = refl
@@ -30,7 +30,7 @@ verdict_once xs ys s t o u e v w =
       v.writes ∙ (λ i. text_of (report_lines xs (regular i) (monotone i) (atomic i) (findings (atomic i) (calls_of xs)))) ∙ sym same.writes,
     )
 
-pub one_report : (limit : ℕ) (text : List ℕ) (status other : Status) (out others : List ℕ) → IsReportWithin limit text status out → IsReportWithin limit text other others → (status ≡ other) × (out ≡ others)
+pub one_report : (limit : ℕ) (text : List ℕ) (status other : Status) (out others : List ℕ) → IsReport limit text status out → IsReport limit text other others → (status ≡ other) × (out ≡ others)
 one_report limit text s t o u (inl a) (inl b) =
     let e = fault_once limit text a.place b.place a.fault b.fault a.first b.first in
     (a.answers ∙ sym b.answers, a.writes ∙ (λ i. line_text (refusal_line (e.0 i) (e.1 i))) ∙ sym b.writes)

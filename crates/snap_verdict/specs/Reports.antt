@@ -2,8 +2,7 @@
 use Rattle.std.specs.Prelude.{ℕ, List, ◌≡◌, ◌⊎◌}
 use Rattle.snap_core.specs.declared.event.Event.{Event}
 use Rattle.snap_text.specs.declared.fault.TextFault.{TextFault}
-use Rattle.snap_core.specs.Limits.{event_limit}
-use Rattle.snap_format.specs.Texts.{HasFaultWithin, IsTextWithin}
+use Rattle.snap_format.specs.Texts.{HasFault, IsText}
 use Rattle.snap_report.specs.Lines.{line_text}
 use Rattle.snap_report.specs.Refusals.{refusal_line}
 use Rattle.snap_verdict.specs.declared.status.Status.{Status}
@@ -11,23 +10,19 @@ use Rattle.snap_verdict.specs.declared.status.Status.TheVariants.{Refused}
 use Rattle.snap_verdict.specs.Verdicts.{IsVerdict}
 
 -- a text with a fault is refused, with the line of its first fault, where a history may have so many events
-pub record IsRefusedWithin (limit : ℕ) (text : List ℕ) (status : Status) (out : List ℕ) : Type 0 where
+pub record IsRefused (limit : ℕ) (text : List ℕ) (status : Status) (out : List ℕ) : Type 0 where
   pub place : ℕ
   pub fault : TextFault
-  pub first : HasFaultWithin limit text place fault
+  pub first : HasFault limit text place fault
   pub answers : status ≡ Refused
   pub writes : out ≡ line_text (refusal_line place fault)
 
 -- a text without a fault is a history, and gets the verdict on it
-pub record IsJudgedWithin (limit : ℕ) (text : List ℕ) (status : Status) (out : List ℕ) : Type 0 where
+pub record IsJudged (limit : ℕ) (text : List ℕ) (status : Status) (out : List ℕ) : Type 0 where
   pub events : List Event
-  pub history : IsTextWithin limit text events
+  pub history : IsText limit text events
   pub verdict : IsVerdict events status out
 
 -- the status and the report of a text
-abbrev pub IsReportWithin : ℕ → List ℕ → Status → List ℕ → Type 0
-IsReportWithin limit text status out = IsRefusedWithin limit text status out ⊎ IsJudgedWithin limit text status out
-
--- the same where no limit of events is chosen
-abbrev pub IsReport : List ℕ → Status → List ℕ → Type 0
-IsReport = IsReportWithin event_limit
+abbrev pub IsReport : ℕ → List ℕ → Status → List ℕ → Type 0
+IsReport limit text status out = IsRefused limit text status out ⊎ IsJudged limit text status out

@@ -8,18 +8,19 @@ ghost use Rattle.snap_conditions.specs.Tally.{tally_of};
 ghost use Rattle.snap_theory.specs.Levels.{printed_order};
 ghost use Rattle.snap_report.specs.Reports.{has_no_fault};
 ghost use Rattle.snap_verdict.specs.Verdicts.{HasStatus, IsBriefVerdict, IsVerdict};
-ghost use Rattle.snap_verdict.specs.Reports.{IsReport, IsReportWithin};
+ghost use Rattle.snap_verdict.specs.Reports.{IsReport};
 
 use crate::status::{Status, status_by};
 use snap_conditions::{Tally, is_atomic};
 use snap_core::{History, Limit};
-use snap_csv::{ReadRefusal, read_text_within};
+use snap_csv::{ReadRefusal, read_text};
 use snap_index::Index;
-use snap_order::build;
+use snap_order::{build_alone, build_of_chain};
 use snap_report::{refusal_text, report_in, verdict_text};
 use snap_tally::tally_and_chain_alone;
 use snap_views::ViewChain;
 use std::alloc::{AllocError, Global};
+use std::thread::Threads;
 
 // The status and the report of a history, by its index, the tally of all its completed views, and the numbers of its printed
 // order, which is given exactly where the tally has no fault. The report takes the memory of a vector; what the vector had is
@@ -42,12 +43,15 @@ fn verdict_of(
 }
 
 /// The numbers of a history's printed order, given exactly where it has no fault: by its index, the tally of all its completed
-/// views, and these as a chain, which is given where no two of them are a read fault. The error is want of memory.
-pub fn order_by(
+/// views, and these as a chain, which is given where no two of them are a read fault. So many workers share the calls at most.
+/// The error is want of memory.
+pub fn order_by<R: Threads + Sync>(
+    rt: &R,
     alloc: Global,
     index: &Index<'_>,
     tally: &Tally,
     chain: Option<ViewChain>,
+    workers: u32,
 ) -> Result<Option<Vec<u32>>, AllocError>
     requires tally { tally.now ≡ tally_of (calls_of index.now) (views_of (calls_of index.now)) }
     requires chain { IfSome chain (IsViewChain (calls_of index.now)) }
@@ -59,24 +63,48 @@ pub fn order_by(
         return Ok(None);
     }
     let Some(chain) = chain else { unreachable!() };
-    Ok(Some(build(alloc, index, chain)?))
+    Ok(Some(build_of_chain(rt, alloc, index, chain, workers)?))
+}
+
+/// The numbers of `order_by` on the calling thread, for who has no runtime.
+pub fn order_alone(
+    alloc: Global,
+    index: &Index<'_>,
+    tally: &Tally,
+    chain: Option<ViewChain>,
+) -> Result<Option<Vec<u32>>, AllocError>
+    requires tally { tally.now ≡ tally_of (calls_of index.now) (views_of (calls_of index.now)) }
+    requires chain { IfSome chain (IsViewChain (calls_of index.now)) }
+    requires given { read_faults (calls_of index.now) (views_of (calls_of index.now)) ≡ [] → IsSome chain }
+    ensures given { IfOk result (λ order. is_some order ≡ has_no_fault tally.now) }
+    ensures order { IfOk result (λ order. ForSome order (λ numbers. numbers.items ≡ map (λ c. c.number) (printed_order (calls_of index.now)))) }
+{
+    let has_order = is_atomic(tally);
+    if !has_order {
+        return Ok(None);
+    }
+    let Some(chain) = chain else { unreachable!() };
+    Ok(Some(build_alone(alloc, index, chain)?))
 }
 
 /// The status and the report of a history, by its index, the tally of all its completed views, and these as a chain, which is given
-/// where no two of them are a read fault. The report takes the memory of a vector; what the vector had is lost.
-pub fn verdict_along(
+/// where no two of them are a read fault. So many workers share the calls at most. The report takes the memory of a vector; what the
+/// vector had is lost.
+pub fn verdict_of_chain<R: Threads + Sync>(
+    rt: &R,
     alloc: Global,
     index: &Index<'_>,
     tally: &Tally,
     chain: Option<ViewChain>,
     room: Vec<u8>,
+    workers: u32,
 ) -> Result<(Status, Vec<u8>), AllocError>
     requires tally { tally.now ≡ tally_of (calls_of index.now) (views_of (calls_of index.now)) }
     requires chain { IfSome chain (IsViewChain (calls_of index.now)) }
     requires given { read_faults (calls_of index.now) (views_of (calls_of index.now)) ≡ [] → IsSome chain }
     ensures { IfOk result (λ answer. IsVerdict index.now answer.0 answer.1.items) }
 {
-    let order = order_by(alloc, index, tally, chain)?;
+    let order = order_by(rt, alloc, index, tally, chain, workers)?;
     verdict_of(index, tally, order.as_deref(), room)
 }
 
@@ -115,31 +143,22 @@ fn verdict_in(
     history: &History,
     size: usize,
 ) -> Result<(Status, Vec<u8>), AllocError>
-    ensures { IfOk result (λ answer. IsVerdict history.now answer.0 answer.1.items) }
+    ensures { IfOk result (λ answer. IsVerdict history.now.events answer.0 answer.1.items) }
 {
     let index = Index::build(alloc, history)?;
     let (tally, chain) = tally_and_chain_alone(alloc, &index)?;
     let room = Vec::with_capacity(alloc, size)?;
-    verdict_along(alloc, &index, &tally, chain, room)
+    let order = order_alone(alloc, &index, &tally, chain)?;
+    verdict_of(&index, &tally, order.as_deref(), room)
 }
 
-/// The status and the report of a text in memory, without a runtime: on the calling thread alone. A text that is no history is
-/// refused, with the line of its first fault.
-pub fn judge_text(alloc: Global, text: &[u8]) -> Result<(Status, Vec<u8>), AllocError>
-    ensures { IfOk result (λ answer. IsReport text.now answer.0 answer.1.items) }
+/// The status and the report of a text in memory, without a runtime: on the calling thread alone. A history may have as many
+/// events as the limit says, and its text 1,024 times as many bytes. A text that is not a history is refused, with the line of its
+/// first fault.
+pub fn judge_text(alloc: Global, text: &[u8], limit: Limit) -> Result<(Status, Vec<u8>), AllocError>
+    ensures { IfOk result (λ answer. IsReport limit.events text.now answer.0 answer.1.items) }
 {
-    judge_text_within(alloc, text, Limit::usual())
-}
-
-/// As `judge_text`, where a history may have so many events, and its text 1,024 times as many bytes.
-pub fn judge_text_within(
-    alloc: Global,
-    text: &[u8],
-    limit: Limit,
-) -> Result<(Status, Vec<u8>), AllocError>
-    ensures { IfOk result (λ answer. IsReportWithin limit.events text.now answer.0 answer.1.items) }
-{
-    match read_text_within(alloc, text, limit) {
+    match read_text(alloc, text, limit) {
         // a call's line is no longer than the records that it is read from
         Ok(history) => verdict_in(alloc, &history, text.len() + FRONT_SIZE),
         Err(ReadRefusal::Text { place, fault }) => {

@@ -10,3 +10,4 @@ pub mod SortedKeys
 pub mod Chains
 pub mod Climbing
 pub mod Ordering
+pub mod Pieces

@@ -4,6 +4,7 @@ use Rattle.std.specs.Prelude.{IsTrue}
 use Rattle.std.specs.List.{All, count_by}
 use Rattle.std.proofs.lemmas.Bool.{and_parts, and_from, not-false, not_from_true}
 use Rattle.std.proofs.lemmas.List.Elements.{All-append, All-contains}
+use Rattle.snap_core.specs.Limited.{LimitedEvents}
 use Rattle.snap_core.specs.declared.event.Event.{Event}
 use Rattle.snap_core.specs.Calls.{Call, calls_of, views_of}
 use Rattle.snap_core.specs.Events.{IsHistory, IsBoundedHistory}
@@ -96,11 +97,11 @@ shows_no_less judge before since h =
     let e = shows_by_events (left_by before) since w in
     (λ t. e.1 (h.shows.0 t), λ s. h.shows.1 (e.0 s))
 
-window_history : (judge : WindowJudge) (before since : List Event) → HasTaken judge before since → IsBoundedHistory judge.window → IsBoundedHistory (renumbered (left_by before) since)
+window_history : (judge : WindowJudge) (before since : List Event) → HasTaken judge before since → IsBoundedHistory judge.window.events → IsBoundedHistory (renumbered (left_by before) since)
 window_history judge before since h b = subst IsBoundedHistory h.window b
 
-pub regular_window : (judge : WindowJudge) (before since : List Event) (b v : Bool) → HasTaken judge before since → IsBoundedHistory judge.window →
-    (IsTrue b ↔ CountsNoLocalFault (tally_of (calls_of judge.window) (views_of (calls_of judge.window)))) → (IsTrue v ↔ (IsTrue judge.shows × IsTrue b)) → IsTrue v ↔ IsRegularFrom (left_by before) (calls_of since)
+pub regular_window : (judge : WindowJudge) (before since : List Event) (b v : Bool) → HasTaken judge before since → IsBoundedHistory judge.window.events →
+    (IsTrue b ↔ CountsNoLocalFault (tally_of (calls_of judge.window.events) (views_of (calls_of judge.window.events)))) → (IsTrue v ↔ (IsTrue judge.shows × IsTrue b)) → IsTrue v ↔ IsRegularFrom (left_by before) (calls_of since)
 regular_window judge before since b v h k counts both =
     let es = renumbered (left_by before) since in
     let w = window_history judge before since h k in
@@ -112,8 +113,8 @@ regular_window judge before since b v h k counts both =
       λ r. let s = law2.0 r in both.1 (shows.1 s.0, counts2.1 (law.1 s.1)),
     )
 
-pub atomic_window : (judge : WindowJudge) (before since : List Event) (b v : Bool) → HasTaken judge before since → IsBoundedHistory judge.window →
-    (IsTrue b ↔ CountsNoFault (tally_of (calls_of judge.window) (views_of (calls_of judge.window)))) → (IsTrue v ↔ (IsTrue judge.shows × IsTrue b)) → IsTrue v ↔ IsAtomicFrom (left_by before) (calls_of since)
+pub atomic_window : (judge : WindowJudge) (before since : List Event) (b v : Bool) → HasTaken judge before since → IsBoundedHistory judge.window.events →
+    (IsTrue b ↔ CountsNoFault (tally_of (calls_of judge.window.events) (views_of (calls_of judge.window.events)))) → (IsTrue v ↔ (IsTrue judge.shows × IsTrue b)) → IsTrue v ↔ IsAtomicFrom (left_by before) (calls_of since)
 atomic_window judge before since b v h k counts both =
     let es = renumbered (left_by before) since in
     let w = window_history judge before since h k in
@@ -143,15 +144,16 @@ atomic_whole judge before since v w h is both =
     )
 
 -- the judge behind a cut
-pub cut_taken : (judge : WindowJudge) (before since window : List Event) (regular atomic : Bool) → HasTaken judge before since → IsQuiet (before ++ since) → window ≡ [] → (IsTrue regular ↔ IsRegular (calls_of (before ++ since))) → (IsTrue atomic ↔ IsAtomic (calls_of (before ++ since))) →
+pub cut_taken : (judge : WindowJudge) (before since : List Event) (window : LimitedEvents) (regular atomic : Bool) → HasTaken judge before since → IsQuiet (before ++ since) → window.events ≡ [] → window.limit ≡ judge.most.events → (IsTrue regular ↔ IsRegular (calls_of (before ++ since))) → (IsTrue atomic ↔ IsAtomic (calls_of (before ++ since))) →
     HasTaken (record { left = judge.last; last = judge.last; window = window; shows = true; regular = regular; atomic = atomic; most = judge.most }) (before ++ since) []
-cut_taken judge before since window regular atomic h quiet empty r a = record {
+cut_taken judge before since window regular atomic h quiet empty same r a = record {
   history = subst IsHistory (sym (append-nil (before ++ since))) h.history;
   fit = λ k d l. absurd (omega (arith, l));
   quiet = quiet;
   left = h.last;
   last = subst (HasLast judge.last) (sym (append-nil (before ++ since))) h.last;
   window = empty;
+  limit = same;
   shows = (λ t k d l. absurd (omega (arith, l)), λ z. refl);
   regular = r;
   atomic = a;

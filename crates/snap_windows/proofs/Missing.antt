@@ -11,7 +11,7 @@ misses_then : (left : ℕ → Option Entry) (x : Event) (e : Entry) → EventMis
 misses_then left (BeginUpdate p d) e m s = m
 misses_then left (BeginView p) e m s = m
 misses_then left (EndUpdate p) e m s = m
-misses_then left (EndView p es) e m s = m.2 (s m.0)
+misses_then left (EndView p es) e m s = m.less (s m.component)
 
 shows_then : (left : ℕ → Option Entry) (x : Event) (found : Option Entry) → MatchOption found (EventShowsNoLess left x) (EventMisses left x) → IsTrue (is_none found) ↔ EventShowsNoLess left x
 shows_then left x None m = (λ t. m, λ s. refl)

@@ -3,6 +3,7 @@ use Rattle.std.proofs.Common.{◌≡◌, ◌↔◌, ℕ, List, [], ◌∷◌, �
 use Rattle.std.specs.Prelude.{Bool, IsTrue}
 use Rattle.std.specs.List.{All}
 use Rattle.std.proofs.lemmas.List.Elements.{All-append, All-contains}
+use Rattle.snap_core.specs.Limited.{LimitedEvents}
 use Rattle.snap_core.specs.declared.entry.Entry.{Entry}
 use Rattle.snap_core.specs.declared.event.Event.{Event}
 use Rattle.snap_core.specs.Events.{EventFits, IsHistory}
@@ -40,11 +41,11 @@ history_of judge before since h = history_front before since h.history
 pub known : (judge : WindowJudge) (before since : List Event) (x renumbered : Event) → HasTaken judge before since → ((f : ℕ → Option Entry) → HasLeft judge.left f → renumbered ≡ renumbered_event f x) → renumbered ≡ renumbered_event (left_by before) x
 known judge before since x renumbered h is = is (left_by before) (left_is_last judge.left before h.left)
 
-pub more : (judge : WindowJudge) (last : List (Option Wrote)) (window : List Event) (shows : Bool) (before since : List Event) (x : Event) → HasTaken judge before since →
-    IsFree judge.most.events judge.window (renumbered_event (left_by before) x) before x → EventFits x → HasLast last ((before ++ since) ++ x ∷ []) → window ≡ judge.window ++ renumbered_event (left_by before) x ∷ [] →
+pub more : (judge : WindowJudge) (last : List (Option Wrote)) (window : LimitedEvents) (shows : Bool) (before since : List Event) (x : Event) → HasTaken judge before since →
+    IsFree judge.window.limit judge.window.events (renumbered_event (left_by before) x) before x → EventFits x → HasLast last ((before ++ since) ++ x ∷ []) → window.events ≡ judge.window.events ++ renumbered_event (left_by before) x ∷ [] → window.limit ≡ judge.window.limit →
     (IsTrue shows ↔ (IsTrue judge.shows × EventShowsNoLess (left_by before) x)) →
     HasTaken (record { left = judge.left; last = last; window = window; shows = shows; regular = judge.regular; atomic = judge.atomic; most = judge.most }) before (since ++ x ∷ [])
-more judge last window shows before since x h f fits noted pushed both =
+more judge last window shows before since x h f fits noted pushed same both =
     let left = left_by before in
     record {
       history = taken_more before since x h.history h.quiet (subst (λ z. IsAccepted z (renumbered_event left x)) h.window f.accepted) f.writer;
@@ -53,6 +54,7 @@ more judge last window shows before since x h f fits noted pushed both =
       left = h.left;
       last = subst (HasLast last) (append_assoc before since (x ∷ [])) noted;
       window = pushed ∙ ap (λ z. z ++ renumbered_event left x ∷ []) h.window ∙ sym (renumbered_more left since x);
+      limit = same ∙ h.limit;
       shows = (
         λ t. let p = both.0 t in (All-more (EventShowsNoLess left) since x).1 (h.shows.0 p.0, p.1),
         λ a. let p = (All-more (EventShowsNoLess left) since x).0 a in both.1 (h.shows.1 p.0, p.1),

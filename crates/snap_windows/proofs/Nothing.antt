@@ -1,7 +1,7 @@
 -- The recording without events.
 use Rattle.std.proofs.Common.{◌≡◌, true, List, [], ◌∷◌, ◌++◌, refl, arith}
 use Rattle.snap_core.specs.declared.limit.Limit.{Limit}
-use Rattle.snap_core.specs.declared.event.Event.{Event}
+use Rattle.snap_core.specs.Limited.{LimitedEvents}
 use Rattle.snap_core.specs.Calls.{Call, calls_of}
 use Rattle.snap_core.specs.Orders.{IsAtomic, IsLegalOrder}
 use Rattle.snap_core.specs.Regular.{IsRegular}
@@ -44,14 +44,15 @@ atomic_nothing : IsAtomic (calls_of [])
 unfolding calls_of
 atomic_nothing = ([], no_calls_are_legal)
 
-pub nothing_taken : (left last : List (Option Wrote)) (window : List Event) (most : Limit) → HasLast left [] → HasLast last [] → window ≡ [] → HasTaken (record { left = left; last = last; window = window; shows = true; regular = true; atomic = true; most = most }) [] []
-nothing_taken left last window most a b w = record {
+pub nothing_taken : (left last : List (Option Wrote)) (window : LimitedEvents) (most : Limit) → HasLast left [] → HasLast last [] → window.events ≡ [] → window.limit ≡ most.events → HasTaken (record { left = left; last = last; window = window; shows = true; regular = true; atomic = true; most = most }) [] []
+nothing_taken left last window most a b w l = record {
   history = history_nil;
   fit = λ k d l. absurd (omega (arith, l));
   quiet = quiet_nothing;
   left = a;
   last = b;
   window = w;
+  limit = l;
   shows = (λ t k d l. absurd (omega (arith, l)), λ h. refl);
   regular = (λ t. regular_nothing, λ h. refl);
   atomic = (λ t. atomic_nothing, λ h. refl);

@@ -13,9 +13,12 @@ ShowsAt left es k = (entry_of k es ≡ left k) ⊎ (number_in (left k) < number_
 abbrev pub ShowsNoLess : (ℕ → Option Entry) → List Entry → Type 0
 ShowsNoLess left es = (k : ℕ) → ShowsAt left es k
 
--- of a component an entry was left, and they have neither that nor one of a later number
-abbrev pub Misses : (ℕ → Option Entry) → List Entry → Entry → Type 0
-Misses left es e = (k : ℕ) × (left k ≡ Some e) × ¬ ShowsAt left es k
+-- of a component an entry was left, and they have neither that nor one of a later number; of each lesser component they have
+pub record Misses (left : ℕ → Option Entry) (es : List Entry) (e : Entry) : Type 0 where
+  pub component : ℕ
+  pub left_there : left component ≡ Some e
+  pub less : ¬ ShowsAt left es component
+  pub first : (k : ℕ) → k < component → ShowsAt left es k
 
 -- the same of the view that an event ends
 abbrev pub EventShowsNoLess : (ℕ → Option Entry) → Event → Type 0

@@ -18,7 +18,8 @@ pub record HasTaken (judge : WindowJudge) (before since : List Event) : Type 0 w
   pub quiet : IsQuiet before
   pub left : HasLast judge.left before
   pub last : HasLast judge.last (before ++ since)
-  pub window : judge.window ≡ renumbered (left_by before) since
+  pub window : judge.window.events ≡ renumbered (left_by before) since
+  pub limit : judge.window.limit ≡ judge.most.events
   pub shows : IsTrue judge.shows ↔ All (EventShowsNoLess (left_by before)) since
   pub regular : IsTrue judge.regular ↔ IsRegular (calls_of before)
   pub atomic : IsTrue judge.atomic ↔ IsAtomic (calls_of before)

@@ -68,7 +68,7 @@ impl WindowJudge {
         WindowJudge {
             left: none(),
             last: none(),
-            window: History::new(alloc),
+            window: History::with_limit(alloc, most),
             shows: true,
             regular: true,
             atomic: true,
@@ -78,11 +78,8 @@ impl WindowJudge {
 
     // The first refusal that applies to an event, given with numbers from 1 too, want of memory aside.
     fn refusal(&self, renumbered: &Event, event: &Event) -> Option<EventRefusal>
-        ensures { (before : List Event) → HasLast self.now.left before → IsSingleWriter before → result ≡ first_refusal self.now.most.events self.now.window renumbered.now before event.now }
+        ensures { (before : List Event) → HasLast self.now.left before → IsSingleWriter before → result ≡ first_refusal self.now.window.limit self.now.window.events renumbered.now before event.now }
     {
-        if self.window.len() >= self.most.events() {
-            return Some(EventRefusal::TooMany);
-        }
         let found = self.window.refusal(renumbered);
         match found {
             None | Some(EventRefusal::Number) => {
@@ -160,7 +157,7 @@ impl WindowJudge {
             return Ok(None);
         }
         self.left = self.last;
-        self.window = History::new(alloc);
+        self.window = History::with_limit(alloc, self.most);
         self.shows = true;
         self.regular &= verdict.regular;
         self.atomic &= verdict.atomic;

@@ -42,7 +42,7 @@ fn missed(left: &[Option<Wrote>; COMPONENT_COUNT], view: &View) -> Option<Entry>
     None
 }
 
-/// What was left of a component of which the view that an event ends shows neither that nor a later number.
+/// What was left of the first component of which the view that an event ends shows neither that nor a later number.
 pub(crate) fn missed_by(left: &[Option<Wrote>; COMPONENT_COUNT], event: &Event) -> Option<Entry>
     ensures { (f : ℕ → Option Entry) → HasLeft left.now f → MatchOption result (EventShowsNoLess f event.now) (EventMisses f event.now) }
 {

@@ -3,6 +3,7 @@ use Rattle.std.proofs.Common.{◌≡◌, ◌≤◌, ◌↔◌, Bool, true, false
 use Rattle.std.specs.Option.{IfSome, IsNone, option_map}
 use Rattle.std.proofs.lemmas.Bool.{false≢true}
 use Rattle.snap_core.specs.declared.event.Event.{Event}
+use Rattle.snap_core.specs.Limited.{LimitedEvents}
 use Rattle.snap_core.specs.Events.{IsBoundedHistory}
 use Rattle.snap_core.specs.Calls.{calls_of}
 use Rattle.snap_core.specs.Orders.{IsAtomic}
@@ -25,24 +26,24 @@ pub record Answered (es w : List Event) : Type 0 where
   pub shown : IsWitness es fault
   pub same : w ≡ fault_witness es fault
 
-answered : (es : List Event) → IsBoundedHistory es → (a : Option (List Event)) → a ≡ option_map (fault_witness es) (first_fault (calls_of es)) → IfSome a (Answered es)
+answered : (es : List Event) → IsBoundedHistory es → (a : Option LimitedEvents) → option_map (λ h. h.events) a ≡ option_map (fault_witness es) (first_fault (calls_of es)) → IfSome a (λ w. Answered es w.events)
 answered es h a e = go (first_fault (calls_of es)) refl a e
   where
-    go : (o : Option Fault) → first_fault (calls_of es) ≡ o → (a : Option (List Event)) → a ≡ option_map (fault_witness es) o → IfSome a (Answered es)
+    go : (o : Option Fault) → first_fault (calls_of es) ≡ o → (a : Option LimitedEvents) → option_map (λ h. h.events) a ≡ option_map (fault_witness es) o → IfSome a (λ w. Answered es w.events)
     go None t None e = tt
     go None t (Some w) e = absurd (cc e)
     go (Some f) t None e = tt
     go (Some f) t (Some w) e =
         let i = first_is (calls_of es) f t in
-        let s : w ≡ fault_witness es f = cc in
+        let s : w.events ≡ fault_witness es f = cc in
         record { fault = f; first = t; is = i; shown = each_fault_has_witness es h f i.fault; same = s }
 
-pub each : (es : List Event) → IsBoundedHistory es → (P : List Event → Type 0) → ((w : List Event) → Answered es w → P w) → (a : Option (List Event)) → a ≡ option_map (fault_witness es) (first_fault (calls_of es)) → IfSome a P
+pub each : (es : List Event) → IsBoundedHistory es → (P : List Event → Type 0) → ((w : List Event) → Answered es w → P w) → (a : Option LimitedEvents) → option_map (λ h. h.events) a ≡ option_map (fault_witness es) (first_fault (calls_of es)) → IfSome a (λ w. P w.events)
 each es h P g a e = go a (answered es h a e)
   where
-    go : (a : Option (List Event)) → IfSome a (Answered es) → IfSome a P
+    go : (a : Option LimitedEvents) → IfSome a (λ w. Answered es w.events) → IfSome a (λ w. P w.events)
     go None t = tt
-    go (Some w) t = g w t
+    go (Some w) t = g w.events t
 
 pub whole_calls : (es w : List Event) → Answered es w → AreWholeCalls es w
 unfolding witness_of kept_events
@@ -74,10 +75,10 @@ is_regular es h w a = subst (λ z. IsRegular (calls_of z) ↔ IsRegular (calls_o
     go true l = (λ r. absurd (a.shown.not_regular l r), λ r. absurd (not_regular es h.history a.fault l a.is.fault r))
     go false l = (λ _. (regular_exactly es h.history (bytes_of_events es h.fit)).1 (a.is.local l), a.shown.regular l)
 
-pub none_exactly : (es : List Event) → IsBoundedHistory es → (a : Option (List Event)) → a ≡ option_map (fault_witness es) (first_fault (calls_of es)) → IsNone a ↔ IsAtomic (calls_of es)
+pub none_exactly : (es : List Event) → IsBoundedHistory es → (a : Option LimitedEvents) → option_map (λ h. h.events) a ≡ option_map (fault_witness es) (first_fault (calls_of es)) → IsNone a ↔ IsAtomic (calls_of es)
 none_exactly es h a e = go (first_fault (calls_of es)) refl a e
   where
-    go : (o : Option Fault) → first_fault (calls_of es) ≡ o → (a : Option (List Event)) → a ≡ option_map (fault_witness es) o → IsNone a ↔ IsAtomic (calls_of es)
+    go : (o : Option Fault) → first_fault (calls_of es) ≡ o → (a : Option LimitedEvents) → option_map (λ h. h.events) a ≡ option_map (fault_witness es) o → IsNone a ↔ IsAtomic (calls_of es)
     go None t None e = (λ _. (atomic_exactly es h.history (bytes_of_events es h.fit)).1 (none_is (calls_of es) t), λ _. refl)
     go None t (Some w) e = absurd (cc e)
     go (Some f) t None e = absurd (cc e)

@@ -60,7 +60,7 @@ pub(crate) fn keep_calls(
 ) -> Result<History, AllocError>
     requires within { All (λ c. c < length (calls_of index.now)) views.now }
     requires calls { AreWitnesses index.now (calls_numbered (calls_of index.now) views.now) updates.now }
-    ensures { IfOk result (λ kept. kept ≡ witness_of index.now (calls_numbered (calls_of index.now) views.now) updates.now) }
+    ensures { IfOk result (λ kept. kept.events ≡ witness_of index.now (calls_numbered (calls_of index.now) views.now) updates.now) }
 {
     let mut places = Vec::new(alloc);
     push_views(index, views, &mut places)?;

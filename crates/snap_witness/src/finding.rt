@@ -26,7 +26,7 @@ fn integrity_witness(
 ) -> Result<History, AllocError>
     requires kept { IsBoundedHistory index.now }
     requires first { option_map reported_integrity (first_of (integrity_faults (calls_of index.now) (views_of (calls_of index.now)))) ≡ Some fault }
-    ensures { IfOk result (λ witness. option_map (fault_witness index.now) (first_integrity (calls_of index.now)) ≡ Some witness) }
+    ensures { IfOk result (λ witness. option_map (fault_witness index.now) (first_integrity (calls_of index.now)) ≡ Some witness.events) }
 {
     let shown = (fault.entry.component, fault.entry.number);
     keep_calls(alloc, index, &[fault.view], &[shown])
@@ -51,7 +51,7 @@ fn proximity_witness(
 ) -> Result<History, AllocError>
     requires kept { IsBoundedHistory index.now }
     requires first { option_map (reported_proximity (calls_of index.now)) (first_of (proximity_faults (calls_of index.now) (views_of (calls_of index.now)))) ≡ Some fault }
-    ensures { IfOk result (λ witness. option_map (fault_witness index.now) (first_proximity (calls_of index.now)) ≡ Some witness) }
+    ensures { IfOk result (λ witness. option_map (fault_witness index.now) (first_proximity (calls_of index.now)) ≡ Some witness.events) }
 {
     let update = (fault.component, side_number(fault.side, fault.number));
     keep_calls(alloc, index, &[fault.view], &[update])
@@ -122,7 +122,7 @@ fn read_updates(
 fn read_witness(alloc: Global, index: &Index<'_>, fault: ReadFault) -> Result<History, AllocError>
     requires kept { IsBoundedHistory index.now }
     requires first { option_map reported_read (first_of (read_faults (calls_of index.now) (views_of (calls_of index.now)))) ≡ Some fault }
-    ensures { IfOk result (λ witness. option_map (fault_witness index.now) (first_read (calls_of index.now)) ≡ Some witness) }
+    ensures { IfOk result (λ witness. option_map (fault_witness index.now) (first_read (calls_of index.now)) ≡ Some witness.events) }
 {
     let updates = read_updates(alloc, index, fault.view, fault.other)?;
     keep_calls(alloc, index, &[fault.view, fault.other], &updates)
@@ -132,7 +132,7 @@ fn read_witness(alloc: Global, index: &Index<'_>, fault: ReadFault) -> Result<Hi
 fn write_witness(alloc: Global, index: &Index<'_>, fault: WriteFault) -> Result<History, AllocError>
     requires kept { IsBoundedHistory index.now }
     requires first { option_map reported_write (first_of (write_faults (calls_of index.now) (views_of (calls_of index.now)))) ≡ Some fault }
-    ensures { IfOk result (λ witness. option_map (fault_witness index.now) (first_write (calls_of index.now)) ≡ Some witness) }
+    ensures { IfOk result (λ witness. option_map (fault_witness index.now) (first_write (calls_of index.now)) ≡ Some witness.events) }
 {
     let missed = (fault.missed_component, fault.missed_number);
     let shown = (fault.shown_component, fault.shown_number);
@@ -147,7 +147,7 @@ fn first_witness(
 ) -> Result<Option<History>, AllocError>
     requires kept { IsBoundedHistory index.now }
     requires tally { tally.now ≡ tally_of (calls_of index.now) (views_of (calls_of index.now)) }
-    ensures { IfOk result (λ answer. answer ≡ option_map (fault_witness index.now) (first_fault (calls_of index.now))) }
+    ensures { IfOk result (λ answer. option_map (λ h. h.events) answer ≡ option_map (fault_witness index.now) (first_fault (calls_of index.now))) }
 {
     if let Some(fault) = tally.integrity.first() {
         return Ok(Some(integrity_witness(alloc, index, fault)?));
@@ -176,13 +176,13 @@ pub fn witness(
 ) -> Result<Option<History>, AllocError>
     requires tally { tally.now ≡ tally_of (calls_of index.now) (views_of (calls_of index.now)) }
     ensures none { IfOk result (λ answer. IsNone answer ↔ IsAtomic (calls_of index.now)) }
-    ensures first { IfOk result (λ answer. answer ≡ option_map (fault_witness index.now) (first_fault (calls_of index.now))) }
-    ensures calls { IfOk result (λ answer. IfSome answer (λ witness. AreWholeCalls index.now witness)) }
-    ensures few_calls { IfOk result (λ answer. IfSome answer (λ witness. length (calls_of witness) ≤ 4)) }
-    ensures few_events { IfOk result (λ answer. IfSome answer (λ witness. length witness ≤ 8)) }
-    ensures fault { IfOk result (λ answer. IfSome answer (λ witness. HasFirstFault index.now witness)) }
-    ensures not_atomic { IfOk result (λ answer. IfSome answer (λ witness. IsAtomic (calls_of witness) → ⊥)) }
-    ensures regular { IfOk result (λ answer. IfSome answer (λ witness. IsRegular (calls_of witness) ↔ IsRegular (calls_of index.now))) }
+    ensures first { IfOk result (λ answer. option_map (λ h. h.events) answer ≡ option_map (fault_witness index.now) (first_fault (calls_of index.now))) }
+    ensures calls { IfOk result (λ answer. IfSome answer (λ witness. AreWholeCalls index.now witness.events)) }
+    ensures few_calls { IfOk result (λ answer. IfSome answer (λ witness. length (calls_of witness.events) ≤ 4)) }
+    ensures few_events { IfOk result (λ answer. IfSome answer (λ witness. length witness.events ≤ 8)) }
+    ensures fault { IfOk result (λ answer. IfSome answer (λ witness. HasFirstFault index.now witness.events)) }
+    ensures not_atomic { IfOk result (λ answer. IfSome answer (λ witness. IsAtomic (calls_of witness.events) → ⊥)) }
+    ensures regular { IfOk result (λ answer. IfSome answer (λ witness. IsRegular (calls_of witness.events) ↔ IsRegular (calls_of index.now))) }
 {
     // what is known of the history that the index is of
     let _events = index.event_count();

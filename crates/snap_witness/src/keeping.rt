@@ -5,7 +5,7 @@ ghost use Rattle.snap_core.specs.Refusals.{refusal_of};
 ghost use Rattle.snap_theory.specs.Kept.{kept_entries as spec_kept_entries, kept_event as spec_kept_event, kept_from, is_among as spec_is_among};
 ghost use Rattle.snap_theory.specs.Witness.{numbers_of};
 
-use snap_core::{Entry, Event, EventRefusal, History, View};
+use snap_core::{Entry, Event, EventRefusal, History, Limit, View};
 use std::alloc::{AllocError, Global};
 
 // The number that is paired with a component first, 0 where there is none.
@@ -90,8 +90,9 @@ fn is_among(places: &[u32], place: u32) -> bool
 
 // Appends an event that is not refused.
 fn append(history: &mut History, event: Event) -> Result<(), AllocError>
-    requires { refusal_of history.old event ≡ None }
-    ensures { OnOk result (history.new ≡ history.old ++ event ∷ []) }
+    requires { refusal_of history.old.limit history.old.events event ≡ None }
+    ensures events { OnOk result (history.new.events ≡ history.old.events ++ event ∷ []) }
+    ensures limit { history.new.limit ≡ history.old.limit }
 {
     match history.push(event) {
         Ok(()) => Ok(()),
@@ -113,9 +114,9 @@ pub(crate) fn keep(
 ) -> Result<History, AllocError>
     requires history { IsHistory (kept_from (spec_is_among places.now) (numbers_of pairs.now) 0 events.now) }
     requires short { length events.now ≤ event_cap }
-    ensures { IfOk result (λ kept. kept ≡ kept_from (spec_is_among places.now) (numbers_of pairs.now) 0 events.now) }
+    ensures { IfOk result (λ kept. kept.events ≡ kept_from (spec_is_among places.now) (numbers_of pairs.now) 0 events.now) }
 {
-    let mut history = History::new(alloc);
+    let mut history = History::with_limit(alloc, Limit::greatest());
     for i in 0..events.len() {
         if is_among(places, i as u32) {
             let event = kept_event(alloc, &events[i], pairs)?;

@@ -8,11 +8,10 @@ use Rattle.clap.specs.Words.{Row, Text, subcommand_rows}
 use Rattle.clap.specs.declared.parser.matches.ArgMatches.TheViews.{out-SubCommand}
 use Rattle.clap.specs.declared.parser.matches.SubCommand.{SubCommand}
 use Rattle.snap_words.specs.declared.job.Job.{Job}
-use Rattle.snap_words.specs.declared.job.Asked.{Asked}
 use Rattle.snap_words.specs.declared.job.JobFault.{JobFault}
 use Rattle.snap_words.specs.declared.job.JobFault.TheVariants.{Memory}
-use Rattle.snap_words.specs.Jobs.{IsOn, files_of}
-use Rattle.snap_words.specs.inside.Found.{Finds, GivesOn}
+use Rattle.snap_words.specs.Jobs.{files_of}
+use Rattle.snap_words.specs.inside.Found.{Finds}
 
 -- the name of the command is the one before its rows
 pub command_found : {Z : Type 0} → (entered : Option (Box SubCommand Z)) (name command : Text) (rows : List Row)
@@ -27,15 +26,27 @@ pub has_name : (command name other : Text) → command ≡ name → bytes_eq nam
 has_name command name other is differs same_text same = false≢true (sym differs ∙ ap (λ (text : Text). bytes_eq text other) (sym is ∙ same) ∙ same_text)
 
 -- what gives each job gives those that are asked for
-pub gives_more : (command : Text) (rows : List Row) (Gives More : (Job → Type 0) → Type 0) → ((Is : Job → Type 0) → Gives Is → More Is) → Finds command rows Gives → Finds command rows More
-gives_more command rows Gives More more finds = record {
-  check = λ pieces workers options is asks. more _ (finds.check pieces workers options is asks);
+pub gives_more : (command : Text) (rows : List Row) (Gives More : (Job → Type 0) → Type 0) (GivesNone MoreNone : Type 0)
+    → ((Is : Job → Type 0) → Gives Is → More Is) → (GivesNone → MoreNone) → Finds command rows Gives GivesNone → Finds command rows More MoreNone
+gives_more command rows Gives More GivesNone MoreNone more none finds = record {
+  check = λ asked is asks. more _ (finds.check asked is asks);
+  follow = λ events windows is asks. more _ (finds.follow events windows is asks);
   shrink = λ events drawn is asks. more _ (finds.shrink events drawn is asks);
   explain = λ events drawn is asks. more _ (finds.explain events drawn is asks);
   draw = λ events form is asks. more _ (finds.draw events form is asks);
   recording = λ events workers rounds flags is asks. more _ (finds.recording events workers rounds flags is asks);
+  unfollowed = λ is asks. none (finds.unfollowed is asks);
+  unheeded = λ is asks. none (finds.unheeded is asks);
+  overfull = λ is asks. none (finds.overfull is asks);
 }
 
--- the files of the rows are these
-pub on_files : (rows : List Row) (files : List Text) (Is : Job → Type 0) (result : Result Asked JobFault) → files_of rows ≡ files → GivesOn rows result Is → MatchResult result (IsOn files Is) (λ fault. fault ≡ Memory)
-on_files rows files Is result are gives = subst (λ (names : List Text). MatchResult result (IsOn names Is) (λ fault. fault ≡ Memory)) are gives
+-- the command and the rows by which a job was found are those that the words name
+pub finds_named : (name command : Text) (found rows : List Row) (Gives : (Job → Type 0) → Type 0) (GivesNone : Type 0) → command ≡ name → found ≡ rows
+    → Finds name found Gives GivesNone → Finds command rows Gives GivesNone
+finds_named name command found rows Gives GivesNone is same finds =
+    subst (λ (text : Text). Finds text rows Gives GivesNone) (sym is) (subst (λ (rs : List Row). Finds name rs Gives GivesNone) same finds)
+
+-- a job on the files of the rows is one on these
+pub on_files : (rows : List Row) (files : List Text) (Is : List Text → Job → Type 0) (result : Result Job JobFault) → files_of rows ≡ files
+    → MatchResult result (Is (files_of rows)) (λ fault. fault ≡ Memory) → MatchResult result (Is files) (λ fault. fault ≡ Memory)
+on_files rows files Is result are gives = subst (λ (names : List Text). MatchResult result (Is names) (λ fault. fault ≡ Memory)) are gives

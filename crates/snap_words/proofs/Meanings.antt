@@ -1,14 +1,16 @@
 -- What whole lines mean, where the parser reads them so.
-use Rattle.std.proofs.Common.{◌≡◌, ◌∙◌, ◌≤◌, ◌||◌, ℕ, Bool, List, Option, Some, None, [], true, false, ap, arith, codes, is_some, subst, sym}
-use Rattle.std.specs.Prelude.{decimal, option_map}
+use Rattle.std.proofs.Common.{◌≡◌, ◌∙◌, ◌+◌, ◌≤◌, ℕ, Bool, List, Option, Some, None, [], true, false, ap, arith, codes, length, refl, subst, sym}
+use Rattle.std.specs.Prelude.{IsSome, decimal, option_map}
 use Rattle.std.proofs.lemmas.Bool.{false≢true}
 use Rattle.clap.specs.Words.{Row, Text, first_of, one_of, subcommand_of, takes}
 use Rattle.snap_core.specs.Limits.{IsLimit, event_limit}
 use Rattle.snap_threads.specs.Cuttings.{IsPieces, IsWorkers}
 use Rattle.snap_words.specs.CommandLine.{program_app}
-use Rattle.snap_words.specs.Jobs.{AreRoundsWithin, AreViews, AsksCheck, AsksLimit, AsksRecordWithin, Flags, IsOneForm, IsWindow, SaysOr, color_text, files_of, flag_text, format_text, names_windows, usual_rounds, usual_window}
+use Rattle.snap_record.specs.Plans.{AreRoundsWithin}
+use Rattle.snap_words.specs.Jobs.{AreViews, AsksCheck, AsksFollow, AsksLimit, AsksRecordWithin, Checking, Flags, IsOneForm, IsWindow, SaysColor, SaysOr, files_of, flag_text, format_text, inputs_at, inputs_in, names_unheeded, names_windows, plain_check, usual_rounds, usual_window}
 use Rattle.snap_words.specs.Lines.{Means}
 use Rattle.snap_words.specs.declared.job.Options.{Options}
+use Rattle.snap_words.specs.declared.job.Windows.{Windows}
 use Rattle.snap_words.specs.declared.word.TheConstants.{NUMBER_LIMIT}
 use Rattle.snap_words.proofs.Numbers.{hundred_text, million_text, two_text, usual_text}
 use Rattle.snap_words.proofs.Rows.{rows_in}
@@ -42,14 +44,6 @@ greatest_limit rows is = record { events_fit = (omega arith, omega arith); event
 pub small_limit : (rows : List Row) → one_of (codes "events") rows ≡ Some (codes "100") → AsksLimit 100 rows
 small_limit rows is = record { events_fit = (omega arith, omega arith); events_are = is ∙ ap Some (sym hundred_text) }
 
--- a whole report is one form of answer, and so is an object
-pub whole : (options : Options) → options.quiet ≡ false → options.summary ≡ false → options.follow ≡ false → IsOneForm options
-whole options is_whole no_sums no_windows = record {
-  object = λ _. is_whole;
-  sums = λ sums. absurd (false≢true (sym no_sums ∙ sums));
-  windows = λ windows. absurd (false≢true (sym no_windows ∙ windows));
-}
-
 -- all that the options of a check say, so that its rows are computed once
 pub record Said : Type 0 where
   pub pieces : Option Text
@@ -63,8 +57,12 @@ pub record Said : Type 0 where
   pub window : Option Text
   pub idle : Option Text
   pub windows : Bool
+  pub unheeded : Bool
   pub no_progress : Option Text
   pub color : Option Text
+  pub list : Option Text
+  pub null : Option Text
+  pub folder : Option Text
 
 abbrev pub said_in : List Row → Said
 said_in rows = record {
@@ -79,98 +77,146 @@ said_in rows = record {
   window = one_of (codes "window") rows;
   idle = one_of (codes "idle") rows;
   windows = names_windows rows;
+  unheeded = names_unheeded rows;
   no_progress = one_of (codes "no-progress") rows;
   color = first_of (codes "color") rows;
+  list = first_of (codes "list") rows;
+  null = one_of (codes "null") rows;
+  folder = first_of (codes "folder") rows;
 }
 
--- what is said where so much is asked for, of windows with these texts or without
-abbrev pub saying : ℕ → ℕ → Options → Option Text → Option Text → Said
-saying pieces workers options window idle = record {
-  pieces = Some (decimal pieces);
-  workers = Some (decimal workers);
-  events = Some (decimal options.events);
-  views = Some (decimal options.views);
-  quiet = Some (flag_text options.quiet);
-  format = Some (format_text options.json);
-  summary = Some (flag_text options.summary);
-  follow = Some (flag_text options.follow);
-  window = window;
-  idle = idle;
-  windows = is_some window || is_some idle;
-  no_progress = Some (flag_text options.no_progress);
-  color = Some (color_text options.color);
+-- what is said where this is asked for, by these texts of numbers and colours or without
+abbrev pub saying : Checking → Option Text → Option Text → Option Text → Bool → Said
+saying asked pieces workers color unheeded = record {
+  pieces = pieces;
+  workers = workers;
+  events = Some (decimal asked.events);
+  views = Some (decimal asked.options.views);
+  quiet = Some (flag_text asked.options.quiet);
+  format = Some (format_text asked.options.json);
+  summary = Some (flag_text asked.options.summary);
+  follow = Some (flag_text false);
+  window = None;
+  idle = None;
+  windows = false;
+  unheeded = unheeded;
+  no_progress = Some (flag_text asked.options.no_progress);
+  color = color;
+  list = asked.list;
+  null = Some (flag_text asked.null);
+  folder = asked.folder;
 }
 
--- the options of a check go together, and their numbers are in their ranges; those of windows are what these texts say
-pub record Fit (options : Options) (window idle : Option Text) : Type 0 where
-  pub events_fit : IsLimit options.events
-  pub views_fit : AreViews options.events options.views
-  pub one_form : IsOneForm options
-  pub window_fits : IsWindow options
-  pub idle_fits : options.idle ≤ NUMBER_LIMIT
-  pub windows_follow : (is_some window || is_some idle) ≡ true → options.follow ≡ true
-  pub window_is : SaysOr (usual_window options.events) window options.window
-  pub idle_is : SaysOr 0 idle options.idle
+-- what is asked for goes together with these files, and its numbers are in their ranges and what these texts say
+pub record Fit (asked : Checking) (files : List Text) (pieces workers color : Option Text) : Type 0 where
+  pub pieces_fit : IsPieces asked.pieces
+  pub workers_fit : IsWorkers asked.workers
+  pub events_fit : IsLimit asked.events
+  pub views_fit : AreViews asked.events asked.options.views
+  pub one_form : IsOneForm asked.options
+  pub null_ends : asked.null ≡ true → IsSome asked.list
+  pub input_once : inputs_in files + inputs_at asked.list ≤ 1
+  pub pieces_are : SaysOr 8 pieces asked.pieces
+  pub workers_are : SaysOr 2 workers asked.workers
+  pub color_is : SaysColor color asked.options.color
 
 -- a check is asked for where its options say so
-pub asks_check : {window idle : Option Text} → (rows : List Row) (pieces workers : ℕ) (options : Options) → IsPieces pieces → IsWorkers workers
-    → Fit options window idle → said_in rows ≡ saying pieces workers options window idle → AsksCheck rows pieces workers options
-asks_check rows pieces workers options pieces_fit workers_fit fit said = record {
-  pieces_fit = pieces_fit;
-  workers_fit = workers_fit;
+pub asks_check : {pieces workers color : Option Text} → (rows : List Row) (asked : Checking) (files : List Text) (unheeded : Bool)
+    → Fit asked files pieces workers color → said_in rows ≡ saying asked pieces workers color unheeded → files_of rows ≡ files → AsksCheck rows asked
+asks_check rows asked files unheeded fit said files_are = record {
+  pieces_fit = fit.pieces_fit;
+  workers_fit = fit.workers_fit;
   limit = record { events_fit = fit.events_fit; events_are = ap (λ s. s.events) said };
   views_fit = fit.views_fit;
   one_form = fit.one_form;
-  window_fits = fit.window_fits;
-  idle_fits = fit.idle_fits;
-  windows_follow = λ named. fit.windows_follow (sym (ap (λ s. s.windows) said) ∙ named);
-  pieces_are = ap (λ s. s.pieces) said;
-  workers_are = ap (λ s. s.workers) said;
+  null_ends = fit.null_ends;
+  input_once = subst (λ (names : List Text). inputs_in names + inputs_at asked.list ≤ 1) (sym files_are) fit.input_once;
+  follow_is = ap (λ s. s.follow) said;
+  no_windows = ap (λ s. s.windows) said;
+  pieces_are = subst (λ text. SaysOr 8 text asked.pieces) (sym (ap (λ s. s.pieces) said)) fit.pieces_are;
+  workers_are = subst (λ text. SaysOr 2 text asked.workers) (sym (ap (λ s. s.workers) said)) fit.workers_are;
   views_are = ap (λ s. s.views) said;
   quiet_is = ap (λ s. s.quiet) said;
   format_is = ap (λ s. s.format) said;
   summary_is = ap (λ s. s.summary) said;
-  follow_is = ap (λ s. s.follow) said;
-  window_is = subst (λ text. SaysOr (usual_window options.events) text options.window) (sym (ap (λ s. s.window) said)) fit.window_is;
-  idle_is = subst (λ text. SaysOr 0 text options.idle) (sym (ap (λ s. s.idle) said)) fit.idle_is;
   no_progress_is = ap (λ s. s.no_progress) said;
-  color_is = ap (λ s. s.color) said;
+  color_is = subst (λ text. SaysColor text asked.options.color) (sym (ap (λ s. s.color) said)) fit.color_is;
+  list_is = ap (λ s. s.list) said;
+  null_is = ap (λ s. s.null) said;
+  folder_is = ap (λ s. s.folder) said;
 }
 
--- options that say nothing of windows, and whose views are few, fit
-pub usual_fit : (options : Options) → IsLimit options.events → AreViews options.events options.views → IsOneForm options
-    → options.follow ≡ false → options.window ≡ 1000 → usual_window options.events ≡ 1000 → options.idle ≡ 0 → Fit options None None
-usual_fit options events_fit views_fit one_form no_windows window usual idle = record {
+-- options of a plain check fit, of files of which at most one is standard input
+pub plain_fit : {color : Option Text} → (events : ℕ) (options : Options) (files : List Text) → IsLimit events → AreViews events options.views → IsOneForm options
+    → SaysColor color options.color → inputs_in files ≤ 1 → Fit (record plain_check { events = events; options = options }) files None None color
+plain_fit events options files events_fit views_fit one_form color once = record {
+  pieces_fit = (omega arith, omega arith);
+  workers_fit = (omega arith, omega arith);
   events_fit = events_fit;
   views_fit = views_fit;
   one_form = one_form;
-  window_fits = ((omega (arith, window), omega (arith, window)), λ windows. absurd (false≢true (sym no_windows ∙ windows)));
-  idle_fits = omega (arith, idle);
-  windows_follow = λ named. absurd (false≢true named);
-  window_is = window ∙ sym usual;
-  idle_is = idle;
+  null_ends = λ null. absurd (false≢true null);
+  input_once = omega (arith, once);
+  pieces_are = refl;
+  workers_are = refl;
+  color_is = color;
 }
 
--- the same of 8 pieces and 2 workers
-pub asks_usually : {window idle : Option Text} → (rows : List Row) (options : Options) → Fit options window idle
-    → said_in rows ≡ saying 8 2 options window idle → AsksCheck rows 8 2 options
-asks_usually rows options fit said = asks_check rows 8 2 options (omega arith, omega arith) (omega arith, omega arith) fit said
+-- a whole report is one form of answer, and so is an object
+pub whole : (options : Options) → options.quiet ≡ false → options.summary ≡ false → IsOneForm options
+whole options is_whole no_sums = record {
+  object = λ _. is_whole;
+  sums = λ sums. absurd (false≢true (sym no_sums ∙ sums));
+}
 
 -- lines of `check`
-pub check_of : {window idle : Option Text} → (words : List Text) (pieces workers : ℕ) (options : Options) (files : List Text) → IsPieces pieces
-    → IsWorkers workers → Fit options window idle → takes program_app words ≡ true → command_in (subcommand_of program_app words) ≡ Some (codes "check")
-    → said_in (rows_by words) ≡ saying pieces workers options window idle → files_of (rows_by words) ≡ files
-    → Means words (codes "check") (λ rows. AsksCheck rows pieces workers options) files
-check_of words pieces workers options files pieces_fit workers_fit fit taken named said files_are =
-    means words (codes "check") (λ rows. AsksCheck rows pieces workers options) files taken named
-    (asks_check (rows_by words) pieces workers options pieces_fit workers_fit fit said) files_are
+pub check_of : {pieces workers color : Option Text} → (words : List Text) (asked : Checking) (files : List Text) (unheeded : Bool)
+    → Fit asked files pieces workers color → takes program_app words ≡ true → command_in (subcommand_of program_app words) ≡ Some (codes "check")
+    → said_in (rows_by words) ≡ saying asked pieces workers color unheeded → files_of (rows_by words) ≡ files
+    → Means words (codes "check") (λ rows. AsksCheck rows asked) files
+check_of words asked files unheeded fit taken named said files_are =
+    means words (codes "check") (λ rows. AsksCheck rows asked) files taken named
+    (asks_check (rows_by words) asked files unheeded fit said files_are) files_are
 
--- those with 8 pieces and 2 workers, as where nothing else is said
-pub usual_check : {window idle : Option Text} → (words : List Text) (options : Options) (files : List Text) → Fit options window idle
-    → takes program_app words ≡ true → command_in (subcommand_of program_app words) ≡ Some (codes "check")
-    → said_in (rows_by words) ≡ saying 8 2 options window idle → files_of (rows_by words) ≡ files
-    → Means words (codes "check") (λ rows. AsksCheck rows 8 2 options) files
-usual_check words options files fit = check_of words 8 2 options files (omega arith, omega arith) (omega arith, omega arith) fit
+-- what is said where windows are asked for, by these texts of numbers or without
+abbrev pub following : ℕ → Windows → Option Text → Option Text → Said → Said
+following events windows window idle said = record said {
+  events = Some (decimal events);
+  views = Some (decimal windows.views);
+  quiet = Some (flag_text false);
+  format = Some (format_text false);
+  summary = Some (flag_text false);
+  follow = Some (flag_text true);
+  window = window;
+  idle = idle;
+  unheeded = false;
+  null = Some (flag_text false);
+}
+
+-- lines of `check --follow`
+pub follow_of : {window idle : Option Text} → (words : List Text) (events : ℕ) (windows : Windows) (files : List Text) → IsLimit events
+    → AreViews events windows.views → IsWindow events windows.least → windows.idle ≤ NUMBER_LIMIT → length files ≤ 1
+    → SaysOr (usual_window events) window windows.least → SaysOr 0 idle windows.idle → takes program_app words ≡ true
+    → command_in (subcommand_of program_app words) ≡ Some (codes "check")
+    → said_in (rows_by words) ≡ following events windows window idle (said_in (rows_by words)) → files_of (rows_by words) ≡ files
+    → Means words (codes "check") (λ rows. AsksFollow events rows windows) files
+follow_of words events windows files events_fit views_fit window_fits idle_fits one_file window_is idle_is taken named said files_are =
+    means words (codes "check") (λ rows. AsksFollow events rows windows) files taken named (record {
+      limit = record { events_fit = events_fit; events_are = ap (λ s. s.events) said };
+      views_fit = views_fit;
+      window_fits = window_fits;
+      idle_fits = idle_fits;
+      one_file = subst (λ (names : List Text). length names ≤ 1) (sym files_are) one_file;
+      follow_is = ap (λ s. s.follow) said;
+      all_heeded = ap (λ s. s.unheeded) said;
+      quiet_is = ap (λ s. s.quiet) said;
+      format_is = ap (λ s. s.format) said;
+      summary_is = ap (λ s. s.summary) said;
+      null_is = ap (λ s. s.null) said;
+      views_are = ap (λ s. s.views) said;
+      window_is = subst (λ text. SaysOr (usual_window events) text windows.least) (sym (ap (λ s. s.window) said)) window_is;
+      idle_is = subst (λ text. SaysOr 0 text windows.idle) (sym (ap (λ s. s.idle) said)) idle_is;
+    }) files_are
 
 -- lines of `record` with 2 workers, as where nothing else is said
 pub usual_record : {said : Option Text} → (events : ℕ) (words : List Text) (rounds : ℕ) (flags : Flags)

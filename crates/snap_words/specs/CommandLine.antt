@@ -12,17 +12,17 @@ use Rattle.snap_words.specs.declared.command.Kind.{Kind}
 use Rattle.snap_words.specs.declared.command.Kind.TheVariants.{Check, Draw, Explain, Record, Shrink}
 use Rattle.snap_words.specs.Tables.{with_apps, with_rules}
 
--- --pieces P, 8 where it is not given
+-- --pieces P
 abbrev pub pieces_rule : Rule
-pieces_rule = record (new_rule (codes "pieces")) { long = Some (codes "pieces"); value_names = 1; parser = Some (Signed (pos 1) (pos PIECE_LIMIT)); defaults = codes "8" ∷ [] }
+pieces_rule = record (new_rule (codes "pieces")) { long = Some (codes "pieces"); value_names = 1; parser = Some (Signed (pos 1) (pos PIECE_LIMIT)) }
 
--- --workers W, 2 where it is not given
+-- --workers W
 abbrev pub workers_rule : Rule
-workers_rule = record (new_rule (codes "workers")) { long = Some (codes "workers"); value_names = 1; parser = Some (Signed (pos 1) (pos WORKER_LIMIT)); defaults = codes "2" ∷ [] }
+workers_rule = record (new_rule (codes "workers")) { long = Some (codes "workers"); value_names = 1; parser = Some (Signed (pos 1) (pos WORKER_LIMIT)) }
 
--- --quiet
+-- --quiet, -q
 abbrev pub quiet_rule : Rule
-quiet_rule = record (new_rule (codes "quiet")) { long = Some (codes "quiet"); action = Some SetTrue }
+quiet_rule = record (new_rule (codes "quiet")) { long = Some (codes "quiet"); short = Some 113; action = Some SetTrue }
 
 -- --views N, 0 where it is not given; any number of 32 bits is taken here
 abbrev pub views_rule : Rule
@@ -56,9 +56,9 @@ idle_rule = record (new_rule (codes "idle")) { long = Some (codes "idle"); value
 abbrev pub no_progress_rule : Rule
 no_progress_rule = record (new_rule (codes "no-progress")) { long = Some (codes "no-progress"); action = Some SetTrue }
 
--- --color WHEN, auto where it is not given; any text is taken here
+-- --color WHEN; any text is taken here
 abbrev pub color_rule : Rule
-color_rule = record (new_rule (codes "color")) { long = Some (codes "color"); value_names = 1; defaults = codes "auto" ∷ [] }
+color_rule = record (new_rule (codes "color")) { long = Some (codes "color"); value_names = 1 }
 
 -- FILE .., of which there may be none
 abbrev pub files_rule : Rule

@@ -1,83 +1,134 @@
 -- What the words of a command line ask for.
-use Rattle.std.specs.Prelude.{◌≡◌, ◌-◌, ◌*◌, ◌/◌, ◌<◌, ◌≤◌, ◌||◌, min, ℕ, Bool, true, false, List, [], Option, Some, None, codes, decimal, is_some, map, string_bytes}
+use Rattle.std.specs.Prelude.{◌≡◌, ◌-◌, ◌*◌, ◌/◌, ◌<◌, ◌≤◌, ◌+◌, ◌||◌, min, ℕ, Bool, true, false, List, [], ◌∷◌, Option, Some, None, IsSome, codes, decimal, is_some, if◌then◌else◌, length, map, option_map}
+use Rattle.std.specs.Global.{Vec}
+use Rattle.std.specs.List.{count_by}
+use Rattle.std.specs.Str.{bytes_eq}
 use Rattle.clap.specs.Words.{Row, Text, all_of, first_of, one_of}
 use Rattle.snap_core.specs.Limits.{IsLimit, event_limit}
-use Rattle.snap_record.specs.Plans.{AreWorkers, AreRounds, worker_limit}
+use Rattle.snap_record.specs.Plans.{AreRounds, AreRoundsWithin, AreWorkers, worker_limit}
 use Rattle.snap_threads.specs.Cuttings.{IsPieces, IsWorkers}
 use Rattle.snap_words.specs.declared.drawing.Form.{Form}
-use Rattle.snap_words.specs.declared.job.Asked.{Asked}
+use Rattle.snap_words.specs.declared.input.Input.{Input}
 use Rattle.snap_words.specs.declared.job.Job.{Job}
-use Rattle.snap_words.specs.declared.job.Job.TheVariants.{Check, Shrink, Explain, Draw, Record}
+use Rattle.snap_words.specs.declared.job.Job.TheVariants.{Check, Follow, Shrink, Explain, Draw, Record}
 use Rattle.snap_words.specs.declared.color.Color.{Color}
 use Rattle.snap_words.specs.declared.color.Color.TheVariants.{Auto, Always, Never}
 use Rattle.snap_words.specs.declared.job.Options.{Options}
+use Rattle.snap_words.specs.declared.job.Windows.{Windows}
 use Rattle.snap_words.specs.declared.word.TheConstants.{NUMBER_LIMIT}
 
 -- as many completed views, of two events each, as a history of so many events can have
 abbrev pub AreViews : ℕ → ℕ → Type 0
 AreViews events n = 2 * n ≤ events
 
--- as many rounds, of two calls of each worker, as a history of so many events can have
-abbrev pub AreRoundsWithin : ℕ → ℕ → Type 0
-AreRoundsWithin events rounds = (0 < rounds) × (4 * worker_limit * rounds ≤ events)
-
--- one form of answer is asked for: no object of the verdicts' lines alone, no sums of either, and none of the three of a recording that
--- is judged while it grows
+-- one form of answer is asked for: no object of the verdicts' lines alone, and no sums of either
 pub record IsOneForm (options : Options) : Type 0 where
   pub object : options.json ≡ true → options.quiet ≡ false
   pub sums : options.summary ≡ true → (options.quiet ≡ false) × (options.json ≡ false)
-  pub windows : options.follow ≡ true → (options.quiet ≡ false) × (options.json ≡ false) × (options.summary ≡ false)
 
--- the number of events from which on a window ends is a limit; of a recording that is judged while it grows, no more than a history
--- may have
-abbrev pub IsWindow : Options → Type 0
-IsWindow options = IsLimit options.window × (options.follow ≡ true → options.window ≤ options.events)
+-- the number of events from which on a window ends is a limit, and no more than a history may have
+abbrev pub IsWindow : ℕ → ℕ → Type 0
+IsWindow events least = IsLimit least × (least ≤ events)
 
 -- the numbers of a job are in their ranges; one form of answer is asked for, and no report with stamps
 abbrev pub IsInRange : Job → Type 0
-IsInRange (Check cutting options) =
-    IsPieces cutting.pieces × IsWorkers cutting.workers × IsLimit options.events × AreViews options.events options.views × IsOneForm options
-    × IsWindow options
-IsInRange (Shrink drawn events) = IsLimit events
-IsInRange (Explain drawn events) = IsLimit events
-IsInRange (Draw form events) = IsLimit events
+IsInRange (Check cutting limit options input) =
+    IsPieces cutting.pieces × IsWorkers cutting.workers × IsLimit limit.events × AreViews limit.events options.views × IsOneForm options
+IsInRange (Follow limit windows file) = IsLimit limit.events × AreViews limit.events windows.views × IsWindow limit.events windows.least
+IsInRange (Shrink drawn limit file) = IsLimit limit.events
+IsInRange (Explain drawn limit file) = IsLimit limit.events
+IsInRange (Draw form limit file) = IsLimit limit.events
 IsInRange (Record workers rounds judge scan stamped) = AreWorkers workers × AreRounds rounds × (judge ≡ true → stamped ≡ false)
 
--- a check with so many pieces and workers, and with these options
-abbrev pub IsCheckWith : ℕ → ℕ → Options → Job → Type 0
-IsCheckWith pieces workers options (Check cutting asked) = (cutting.pieces ≡ pieces) × (cutting.workers ≡ workers) × (asked ≡ options)
-IsCheckWith pieces workers options (Shrink drawn within) = ⊥
-IsCheckWith pieces workers options (Explain drawn within) = ⊥
-IsCheckWith pieces workers options (Draw form within) = ⊥
-IsCheckWith pieces workers options (Record w rounds judge scan stamped) = ⊥
+-- the texts of some names, and of one that may be absent
+abbrev pub texts_of : List (Vec ℕ) → List Text
+texts_of names = map (λ name. name.items) names
 
--- the whole report, of any number of completed views, within the usual limit of events; nothing is judged while it grows
+abbrev pub text_of : Option (Vec ℕ) → Option Text
+text_of name = option_map (λ name. name.items) name
+
+-- the first of some names
+abbrev pub first_name : List Text → Option Text
+first_name [] = None
+first_name (name ∷ names) = Some name
+
+-- how often some names are that of standard input
+abbrev pub is_input : Text → Bool
+is_input name = bytes_eq name (codes "-")
+
+abbrev pub inputs_in : List Text → ℕ
+inputs_in names = count_by is_input names
+
+-- the same of a name that may be absent
+abbrev pub inputs_at : Option Text → ℕ
+inputs_at None = 0
+inputs_at (Some name) = if is_input name then 1 else 0
+
+-- what a check is asked for: its cutting, its limit of events and its options, and besides the words a list of names, whose names end
+-- so, and a folder
+pub record Checking : Type 0 where
+  pub pieces : ℕ
+  pub workers : ℕ
+  pub events : ℕ
+  pub options : Options
+  pub list : Option Text
+  pub null : Bool
+  pub folder : Option Text
+
+-- the whole report, of any number of completed views
 abbrev pub no_options : Options
-no_options = record { quiet = false; views = 0; events = event_limit; json = false; summary = false; follow = false; window = 1000; idle = 0; no_progress = false; color = Auto }
+no_options = record { quiet = false; views = 0; json = false; summary = false; no_progress = false; color = Auto }
 
--- a history of so many events at most that is to be cut down, to a text or to its picture
-abbrev pub IsShrink : ℕ → Bool → Job → Type 0
-IsShrink events drawn (Check cutting options) = ⊥
-IsShrink events drawn (Shrink asked within) = (asked ≡ drawn) × (within ≡ events)
-IsShrink events drawn (Explain asked within) = ⊥
-IsShrink events drawn (Draw form within) = ⊥
-IsShrink events drawn (Record w rounds judge scan stamped) = ⊥
+-- what is asked for where nothing is said
+abbrev pub plain_check : Checking
+plain_check = record { pieces = 8; workers = 2; events = event_limit; options = no_options; list = None; null = false; folder = None }
 
--- a history of so many events at most that is to be explained, with a picture or without
-abbrev pub IsExplain : ℕ → Bool → Job → Type 0
-IsExplain events drawn (Check cutting options) = ⊥
-IsExplain events drawn (Shrink asked within) = ⊥
-IsExplain events drawn (Explain asked within) = (asked ≡ drawn) × (within ≡ events)
-IsExplain events drawn (Draw form within) = ⊥
-IsExplain events drawn (Record w rounds judge scan stamped) = ⊥
+-- such a check of these files
+abbrev pub IsCheck : Checking → List Text → Job → Type 0
+IsCheck asked files (Check cutting limit options input) =
+    (cutting.pieces ≡ asked.pieces) × (cutting.workers ≡ asked.workers) × (limit.events ≡ asked.events) × (options ≡ asked.options)
+    × (texts_of input.files.items ≡ files) × (text_of input.list ≡ asked.list) × (input.null ≡ asked.null) × (text_of input.folder ≡ asked.folder)
+IsCheck asked files (Follow limit windows file) = ⊥
+IsCheck asked files (Shrink drawn limit file) = ⊥
+IsCheck asked files (Explain drawn limit file) = ⊥
+IsCheck asked files (Draw form limit file) = ⊥
+IsCheck asked files (Record w rounds judge scan stamped) = ⊥
 
--- a history of so many events at most that is to be drawn in a form
-abbrev pub IsDraw : ℕ → Form → Job → Type 0
-IsDraw events form (Check cutting options) = ⊥
-IsDraw events form (Shrink drawn within) = ⊥
-IsDraw events form (Explain drawn within) = ⊥
-IsDraw events form (Draw asked within) = (asked ≡ form) × (within ≡ events)
-IsDraw events form (Record w rounds judge scan stamped) = ⊥
+-- a recording that is judged while it grows: the only one of these files, with windows of so many events at most
+abbrev pub IsFollow : ℕ → Windows → List Text → Job → Type 0
+IsFollow events windows files (Check cutting limit options input) = ⊥
+IsFollow events windows files (Follow limit asked file) = (limit.events ≡ events) × (asked ≡ windows) × (text_of file ≡ first_name files)
+IsFollow events windows files (Shrink drawn limit file) = ⊥
+IsFollow events windows files (Explain drawn limit file) = ⊥
+IsFollow events windows files (Draw form limit file) = ⊥
+IsFollow events windows files (Record w rounds judge scan stamped) = ⊥
+
+-- the history of so many events at most in the first of these files is to be cut down, to a text or to its picture
+abbrev pub IsShrink : ℕ → Bool → List Text → Job → Type 0
+IsShrink events drawn files (Check cutting limit options input) = ⊥
+IsShrink events drawn files (Follow limit windows file) = ⊥
+IsShrink events drawn files (Shrink asked limit file) = (asked ≡ drawn) × (limit.events ≡ events) × (text_of file ≡ first_name files)
+IsShrink events drawn files (Explain asked limit file) = ⊥
+IsShrink events drawn files (Draw form limit file) = ⊥
+IsShrink events drawn files (Record w rounds judge scan stamped) = ⊥
+
+-- it is to be explained, with a picture or without
+abbrev pub IsExplain : ℕ → Bool → List Text → Job → Type 0
+IsExplain events drawn files (Check cutting limit options input) = ⊥
+IsExplain events drawn files (Follow limit windows file) = ⊥
+IsExplain events drawn files (Shrink asked limit file) = ⊥
+IsExplain events drawn files (Explain asked limit file) = (asked ≡ drawn) × (limit.events ≡ events) × (text_of file ≡ first_name files)
+IsExplain events drawn files (Draw form limit file) = ⊥
+IsExplain events drawn files (Record w rounds judge scan stamped) = ⊥
+
+-- it is to be drawn in a form
+abbrev pub IsDraw : ℕ → Form → List Text → Job → Type 0
+IsDraw events form files (Check cutting limit options input) = ⊥
+IsDraw events form files (Follow limit windows file) = ⊥
+IsDraw events form files (Shrink drawn limit file) = ⊥
+IsDraw events form files (Explain drawn limit file) = ⊥
+IsDraw events form files (Draw asked limit file) = (asked ≡ form) × (limit.events ≡ events) × (text_of file ≡ first_name files)
+IsDraw events form files (Record w rounds judge scan stamped) = ⊥
 
 -- the flags of a recording: its report in place of its history, scans in place of views, and the stamps of its events
 pub record Flags : Type 0 where
@@ -90,10 +141,11 @@ no_flags = record { judge = false; scan = false; stamped = false }
 
 -- a recording of so many workers and rounds with these flags
 abbrev pub IsRecord : ℕ → ℕ → Flags → Job → Type 0
-IsRecord workers rounds flags (Check cutting options) = ⊥
-IsRecord workers rounds flags (Shrink drawn within) = ⊥
-IsRecord workers rounds flags (Explain drawn within) = ⊥
-IsRecord workers rounds flags (Draw form within) = ⊥
+IsRecord workers rounds flags (Check cutting limit options input) = ⊥
+IsRecord workers rounds flags (Follow limit windows file) = ⊥
+IsRecord workers rounds flags (Shrink drawn limit file) = ⊥
+IsRecord workers rounds flags (Explain drawn limit file) = ⊥
+IsRecord workers rounds flags (Draw form limit file) = ⊥
 IsRecord workers rounds flags (Record w r judge scan stamped) =
     (w ≡ workers) × (r ≡ rounds) × (judge ≡ flags.judge) × (scan ≡ flags.scan) × (stamped ≡ flags.stamped)
 
@@ -127,6 +179,11 @@ color_text Auto = codes "auto"
 color_text Always = codes "always"
 color_text Never = codes "never"
 
+-- --color with this word, or its absence, says this
+abbrev pub SaysColor : Option Text → Color → Type 0
+SaysColor None color = color ≡ Auto
+SaysColor (Some text) color = text ≡ color_text color
+
 -- the number of events from which on a window ends where --window is not given: 1000, or half of those that a history may have, if
 -- that is less
 abbrev pub usual_window : ℕ → ℕ
@@ -146,28 +203,68 @@ pub record LacksFollow (rows : List Row) : Type 0 where
   pub no_follow : one_of (codes "follow") rows ≡ Some (flag_text false)
   pub windows_named : names_windows rows ≡ true
 
+-- whether an option is given that a recording that is judged while it grows has no use for: --pieces, --workers, --color,
+-- --files-from or --recursive
+abbrev pub names_unheeded : List Row → Bool
+names_unheeded rows =
+    is_some (first_of (codes "pieces") rows) || is_some (first_of (codes "workers") rows) || is_some (first_of (codes "color") rows)
+    || is_some (first_of (codes "list") rows) || is_some (first_of (codes "folder") rows)
+
+-- --follow is given, and such an option: that asks for no job
+pub record FollowsUnheeding (rows : List Row) : Type 0 where
+  pub followed : one_of (codes "follow") rows ≡ Some (flag_text true)
+  pub unheeded_named : names_unheeded rows ≡ true
+
+-- the files that are named, none where the word is absent
+abbrev pub given_or_none : Option (List Text) → List Text
+given_or_none None = []
+given_or_none (Some names) = names
+
+abbrev pub files_of : List Row → List Text
+files_of rows = given_or_none (all_of (codes "file") rows)
+
 -- the options of `check` have these numbers, which are in their ranges, each flag is given or not, and the format and the colours
--- have their words; one form of answer is asked for, and windows only where a recording is judged while it grows
-pub record AsksCheck (rows : List Row) (pieces : ℕ) (workers : ℕ) (options : Options) : Type 0 where
-  pub pieces_fit : IsPieces pieces
-  pub workers_fit : IsWorkers workers
-  pub limit : AsksLimit options.events rows
-  pub views_fit : AreViews options.events options.views
-  pub one_form : IsOneForm options
-  pub window_fits : IsWindow options
-  pub idle_fits : options.idle ≤ NUMBER_LIMIT
-  pub windows_follow : names_windows rows ≡ true → options.follow ≡ true
-  pub pieces_are : one_of (codes "pieces") rows ≡ Some (decimal pieces)
-  pub workers_are : one_of (codes "workers") rows ≡ Some (decimal workers)
-  pub views_are : one_of (codes "views") rows ≡ Some (decimal options.views)
-  pub quiet_is : one_of (codes "quiet") rows ≡ Some (flag_text options.quiet)
-  pub format_is : first_of (codes "format") rows ≡ Some (format_text options.json)
-  pub summary_is : one_of (codes "summary") rows ≡ Some (flag_text options.summary)
-  pub follow_is : one_of (codes "follow") rows ≡ Some (flag_text options.follow)
-  pub window_is : SaysOr (usual_window options.events) (one_of (codes "window") rows) options.window
-  pub idle_is : SaysOr 0 (one_of (codes "idle") rows) options.idle
-  pub no_progress_is : one_of (codes "no-progress") rows ≡ Some (flag_text options.no_progress)
-  pub color_is : first_of (codes "color") rows ≡ Some (color_text options.color)
+-- have their words; one form of answer is asked for, and none by windows. Names end with a zero byte in a list alone, and standard
+-- input is named once
+pub record AsksCheck (rows : List Row) (asked : Checking) : Type 0 where
+  pub pieces_fit : IsPieces asked.pieces
+  pub workers_fit : IsWorkers asked.workers
+  pub limit : AsksLimit asked.events rows
+  pub views_fit : AreViews asked.events asked.options.views
+  pub one_form : IsOneForm asked.options
+  pub null_ends : asked.null ≡ true → IsSome asked.list
+  pub input_once : inputs_in (files_of rows) + inputs_at asked.list ≤ 1
+  pub follow_is : one_of (codes "follow") rows ≡ Some (flag_text false)
+  pub no_windows : names_windows rows ≡ false
+  pub pieces_are : SaysOr 8 (one_of (codes "pieces") rows) asked.pieces
+  pub workers_are : SaysOr 2 (one_of (codes "workers") rows) asked.workers
+  pub views_are : one_of (codes "views") rows ≡ Some (decimal asked.options.views)
+  pub quiet_is : one_of (codes "quiet") rows ≡ Some (flag_text asked.options.quiet)
+  pub format_is : first_of (codes "format") rows ≡ Some (format_text asked.options.json)
+  pub summary_is : one_of (codes "summary") rows ≡ Some (flag_text asked.options.summary)
+  pub no_progress_is : one_of (codes "no-progress") rows ≡ Some (flag_text asked.options.no_progress)
+  pub color_is : SaysColor (first_of (codes "color") rows) asked.options.color
+  pub list_is : first_of (codes "list") rows ≡ asked.list
+  pub null_is : one_of (codes "null") rows ≡ Some (flag_text asked.null)
+  pub folder_is : first_of (codes "folder") rows ≡ asked.folder
+
+-- the options of `check` ask for windows with these numbers, which are in their ranges, of one recording, and for nothing that has no
+-- use beside them
+pub record AsksFollow (events : ℕ) (rows : List Row) (windows : Windows) : Type 0 where
+  pub limit : AsksLimit events rows
+  pub views_fit : AreViews events windows.views
+  pub window_fits : IsWindow events windows.least
+  pub idle_fits : windows.idle ≤ NUMBER_LIMIT
+  pub one_file : length (files_of rows) ≤ 1
+  pub follow_is : one_of (codes "follow") rows ≡ Some (flag_text true)
+  pub all_heeded : names_unheeded rows ≡ false
+  pub quiet_is : one_of (codes "quiet") rows ≡ Some (flag_text false)
+  pub format_is : first_of (codes "format") rows ≡ Some (format_text false)
+  pub summary_is : one_of (codes "summary") rows ≡ Some (flag_text false)
+  pub null_is : one_of (codes "null") rows ≡ Some (flag_text false)
+  pub views_are : one_of (codes "views") rows ≡ Some (decimal windows.views)
+  pub window_is : SaysOr (usual_window events) (one_of (codes "window") rows) windows.least
+  pub idle_is : SaysOr 0 (one_of (codes "idle") rows) windows.idle
 
 -- the rounds where --rounds is not given: 16, or as many as the limit of events allows, if that is less
 abbrev pub usual_rounds : ℕ → ℕ
@@ -198,15 +295,3 @@ pub record AsksTooManyRounds (rows : List Row) : Type 0 where
 -- the same where no limit of events is chosen
 abbrev pub AsksRecord : List Row → ℕ → ℕ → Flags → Type 0
 AsksRecord = AsksRecordWithin event_limit
-
--- the files that are named, none where the word is absent
-abbrev pub given_or_none : Option (List Text) → List Text
-given_or_none None = []
-given_or_none (Some names) = names
-
-abbrev pub files_of : List Row → List Text
-files_of rows = given_or_none (all_of (codes "file") rows)
-
--- such a job, on just these files
-abbrev pub IsOn : List Text → (Job → Type 0) → Asked → Type 0
-IsOn files Is asked = Is asked.job × (map string_bytes asked.files.items ≡ files)

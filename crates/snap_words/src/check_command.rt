@@ -61,7 +61,7 @@ how many have each status, with the first of them. Not with --quiet, and not wit
 With --follow one recording is judged while it grows, window by window: a file, or all *.csv below a
 folder. Each window ends at a moment at which no call is open, and the next one begins from what was
 left. Each is answered by a line, and the sums come at the end. With --idle N that is when nothing has
-come for N seconds.
+come for N seconds. Not with --quiet, --format json or --summary, nor with --pieces, --workers or --color.
 
 On a terminal a line on standard error shows how far it is, where there are more than 100 files or a
 second has passed. --no-progress leaves it out. The verdicts have colours there, unless --color never
@@ -81,25 +81,23 @@ const WORDS: &[Word<'static>] = &[
         id: "pieces",
         long: Some("pieces"),
         short: None,
-        takes: Takes::NumberOr {
+        takes: Takes::Number {
             name: "P",
             least: 1,
             most: PIECE_LIMIT as i64,
-            usual: "8",
         },
-        help: "Into how many pieces the views are cut, from 1 to 1024",
+        help: "Into how many pieces the views are cut, from 1 to 1024: 8 where it is not given",
     },
     Word {
         id: "workers",
         long: Some("workers"),
         short: None,
-        takes: Takes::NumberOr {
+        takes: Takes::Number {
             name: "W",
             least: 1,
             most: WORKER_LIMIT as i64,
-            usual: "2",
         },
-        help: "How many threads share the pieces, from 1 to 8",
+        help: "How many threads share the pieces, from 1 to 8: 2 where it is not given",
     },
     Word {
         id: "list",
@@ -125,7 +123,7 @@ const WORDS: &[Word<'static>] = &[
     Word {
         id: "quiet",
         long: Some("quiet"),
-        short: None,
+        short: Some('q'),
         takes: Takes::Nothing,
         help: "Write the lines of the verdicts alone",
     },
@@ -199,11 +197,8 @@ const WORDS: &[Word<'static>] = &[
         id: "color",
         long: Some("color"),
         short: None,
-        takes: Takes::TextOr {
-            name: "WHEN",
-            usual: "auto",
-        },
-        help: "Colour the verdicts: auto, which is on a terminal, always or never",
+        takes: Takes::Text { name: "WHEN" },
+        help: "Colour the verdicts: auto, always or never. Without it, and of auto, they have colours on a terminal",
     },
     Word {
         id: "file",

@@ -1,7 +1,7 @@
 //! When verdicts have colours, and the word that says so.
 ghost use Rattle.std.specs.Prelude.{◌≡◌, Some, codes};
 ghost use Rattle.clap.specs.Words.{first_of, found_of, rows_of};
-ghost use Rattle.snap_words.specs.Jobs.{color_text};
+ghost use Rattle.snap_words.specs.Jobs.{SaysColor, color_text};
 ghost use Rattle.snap_words.specs.declared.color.Color.{Color};
 
 use clap::ArgMatches;
@@ -17,14 +17,24 @@ pub enum Color {
     Never,
 }
 
-/// When verdicts are to have colours; none where the word is not known.
-pub(crate) fn color_in(matches: &ArgMatches<'_>) -> Option<Color>
-    ensures given { (color : Color) → first_of (codes "color") (rows_of (found_of matches.now)) ≡ Some (color_text color) → result ≡ Some color }
+// When verdicts are to have colours by a word; none where it is not known.
+fn color_of(word: &str) -> Option<Color>
+    ensures given { (color : Color) → word.now ≡ color_text color → result ≡ Some color }
 {
-    match matches.get_str("color")? {
+    match word {
         "auto" => Some(Color::Auto),
         "always" => Some(Color::Always),
         "never" => Some(Color::Never),
         _ => None,
+    }
+}
+
+/// When verdicts are to have colours; none where the word is not known.
+pub(crate) fn color_in(matches: &ArgMatches<'_>) -> Option<Color>
+    ensures given { (color : Color) → SaysColor (first_of (codes "color") (rows_of (found_of matches.now))) color → result ≡ Some color }
+{
+    match matches.get_str("color") {
+        Some(word) => color_of(word),
+        None => Some(Color::Auto),
     }
 }

@@ -49,7 +49,7 @@ Examples:
     snapjudge explain run.csv                         say of its faults what happened, call by call
     snapjudge draw run.csv > run.html                 draw it as a page for a browser
 
-    snapjudge --version                               print the version";
+    snapjudge --version, snapjudge -V                 print the version";
 
 // A command that takes further words.
 fn with_words<'a>(

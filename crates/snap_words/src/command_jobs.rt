@@ -1,72 +1,141 @@
 //! The job that each command asks for by its options.
-ghost use Rattle.std.specs.Prelude.{◌≡◌, ℕ, Bool, List, Some, codes, IfSome, IsNone, IsSomeAnd};
-ghost use Rattle.clap.specs.Words.{Row, Text, found_of, rows_of, subcommand_rows_of};
+ghost use Rattle.std.specs.Prelude.{◌≡◌, ℕ, Bool, List, Some, codes, IfSome, IsNone, IsSomeAnd, true, false};
+ghost use Rattle.clap.specs.Words.{Row, Text, found_of, rows_of};
 ghost use Rattle.snap_words.specs.Drawing.{AsksDrawWithin};
+ghost use Rattle.snap_words.specs.Inputs.{IsInputOf};
 ghost use Rattle.snap_words.specs.inside.Found.{FindsJob};
-ghost use Rattle.snap_words.specs.Jobs.{AsksCheck, AsksPictureWithin, AsksRecordWithin, AsksTooManyRounds, Flags, IsCheckWith, IsDraw, IsExplain, IsInRange, IsRecord, IsShrink, LacksFollow};
+ghost use Rattle.snap_words.specs.Jobs.{AsksCheck, AsksFollow, AsksPictureWithin, AsksRecordWithin, AsksTooManyRounds, Checking, Flags, FollowsUnheeding, IsCheck, IsDraw, IsExplain, IsFollow, IsInRange, IsRecord, IsShrink, LacksFollow, files_of, first_name, text_of};
+ghost use Rattle.snap_words.specs.declared.job.Windows.{Windows};
 
 use crate::color::color_in;
 use crate::drawing::{Form, form_in};
-use crate::job::{Job, Options};
-use crate::option_values::{events_in, flag_in, json_in, number_in, number_or};
-use crate::ranges::{
-    are_rounds, are_views, is_limit, is_one_form, is_window, rounds_for, window_for,
-};
-use crate::refusals::follow_refusal;
+use crate::input::Input;
+use crate::job::{Job, Options, Windows};
+use crate::option_values::{events_in, flag_in, is_plain, json_in, limit_in, number_in, number_or};
+use crate::ranges::{are_rounds, are_views, is_one_form, is_window, rounds_for, window_for};
+use crate::refusals::{names_unheeded, names_windows};
 use clap::ArgMatches;
 use snap_record::{LEAST_WORKERS, WORKER_LIMIT};
 use snap_threads::Cutting;
 
-// The options of `check` besides its cutting.
+// How a check is cut where nothing is said.
+const USUAL_PIECES: u32 = 8;
+
+const USUAL_WORKERS: u32 = 2;
+
+// The options of `check` besides its cutting and its limit.
 fn options_in(matches: &ArgMatches<'_>) -> Option<Options>
-    ensures { (pieces workers : ℕ) (options : Options) → AsksCheck (rows_of (found_of matches.now)) pieces workers options → result ≡ Some options }
+    ensures { (asked : Checking) → AsksCheck (rows_of (found_of matches.now)) asked → result ≡ Some asked.options }
 {
     let quiet = flag_in(matches, "quiet");
     let views = number_in(matches, "views")?;
-    let events = number_in(matches, "events")?;
     let json = json_in(matches)?;
     let summary = flag_in(matches, "summary");
-    let follow = flag_in(matches, "follow");
-    let window = number_or(matches, "window", window_for(events));
-    let idle = number_or(matches, "idle", 0);
     let no_progress = flag_in(matches, "no-progress");
     let color = color_in(matches)?;
     Some(Options {
         quiet,
         views,
-        events,
         json,
         summary,
-        follow,
-        window,
-        idle,
         no_progress,
         color,
     })
 }
 
-// The check that the options of `check` ask for.
-fn check_in(matches: &ArgMatches<'_>) -> Option<Job>
+// How the options of `check` cut it.
+fn cutting_in(matches: &ArgMatches<'_>) -> Option<Cutting>
+    ensures { (asked : Checking) → AsksCheck (rows_of (found_of matches.now)) asked → IsSomeAnd result (λ cutting. (cutting.pieces ≡ asked.pieces) × (cutting.workers ≡ asked.workers)) }
+{
+    let pieces = number_or(matches, "pieces", USUAL_PIECES);
+    let workers = number_or(matches, "workers", USUAL_WORKERS);
+    Cutting::new(pieces, workers).ok()
+}
+
+// The check of histories that the options of `check` ask for.
+fn check_in(matches: &ArgMatches<'_>, input: Input) -> Option<Job>
+    requires named { IsInputOf (rows_of (found_of matches.now)) input }
     ensures job { IfSome result IsInRange }
-    ensures asked { (pieces workers : ℕ) (options : Options) → AsksCheck (rows_of (found_of matches.now)) pieces workers options → IsSomeAnd result (IsCheckWith pieces workers options) }
+    ensures asked { (asked : Checking) → AsksCheck (rows_of (found_of matches.now)) asked → IsSomeAnd result (IsCheck asked (files_of (rows_of (found_of matches.now)))) }
     ensures unfollowed { LacksFollow (rows_of (found_of matches.now)) → IsNone result }
 {
-    if follow_refusal(matches).is_some() {
-        return None;
-    }
-    let pieces = number_in(matches, "pieces")?;
-    let workers = number_in(matches, "workers")?;
+    let cutting = cutting_in(matches)?;
+    let limit = limit_in(matches)?;
     let options = options_in(matches)?;
-    if !is_limit(options.events)
-        || !are_views(options.events, options.views)
+    if names_windows(matches)
+        || !input.is_readable()
+        || !are_views(limit.events() as u32, options.views)
         || !is_one_form(options)
-        || !is_window(options)
     {
         return None;
     }
-    match Cutting::new(pieces, workers) {
-        Ok(cutting) => Some(Job::Check { cutting, options }),
-        Err(_) => None,
+    Some(Job::Check {
+        cutting,
+        limit,
+        options,
+        input,
+    })
+}
+
+// Whether the options of `check` have only what has a use where a recording is judged while it grows, and name at most one.
+fn follows_alone(matches: &ArgMatches<'_>, input: &Input) -> bool
+    requires named { IsInputOf (rows_of (found_of matches.now)) input.now }
+    ensures asked { (events : ℕ) (windows : Windows) → AsksFollow events (rows_of (found_of matches.now)) windows → result ≡ true }
+    ensures unheeded { FollowsUnheeding (rows_of (found_of matches.now)) → result ≡ false }
+{
+    if names_unheeded(matches) {
+        return false;
+    }
+    if flag_in(matches, "quiet") {
+        return false;
+    }
+    if flag_in(matches, "summary") {
+        return false;
+    }
+    if flag_in(matches, "null") {
+        return false;
+    }
+    if !is_plain(matches) {
+        return false;
+    }
+    input.files.len() <= 1
+}
+
+// The recording that the options of `check` ask to judge while it grows.
+fn follow_in(matches: &ArgMatches<'_>, input: Input) -> Option<Job>
+    requires named { IsInputOf (rows_of (found_of matches.now)) input }
+    ensures job { IfSome result IsInRange }
+    ensures asked { (events : ℕ) (windows : Windows) → AsksFollow events (rows_of (found_of matches.now)) windows → IsSomeAnd result (IsFollow events windows (files_of (rows_of (found_of matches.now)))) }
+    ensures unheeded { FollowsUnheeding (rows_of (found_of matches.now)) → IsNone result }
+{
+    let limit = limit_in(matches)?;
+    let events = limit.events() as u32;
+    let views = number_in(matches, "views")?;
+    let least = number_or(matches, "window", window_for(events));
+    let idle = number_or(matches, "idle", 0);
+    if !follows_alone(matches, &input) || !are_views(events, views) || !is_window(events, least) {
+        return None;
+    }
+    Some(Job::Follow {
+        limit,
+        windows: Windows { least, idle, views },
+        file: input.into_file(),
+    })
+}
+
+// What the options of `check` ask for.
+fn judged_in(matches: &ArgMatches<'_>, input: Input) -> Option<Job>
+    requires named { IsInputOf (rows_of (found_of matches.now)) input }
+    ensures job { IfSome result IsInRange }
+    ensures check { (asked : Checking) → AsksCheck (rows_of (found_of matches.now)) asked → IsSomeAnd result (IsCheck asked (files_of (rows_of (found_of matches.now)))) }
+    ensures follow { (events : ℕ) (windows : Windows) → AsksFollow events (rows_of (found_of matches.now)) windows → IsSomeAnd result (IsFollow events windows (files_of (rows_of (found_of matches.now)))) }
+    ensures unfollowed { LacksFollow (rows_of (found_of matches.now)) → IsNone result }
+    ensures unheeded { FollowsUnheeding (rows_of (found_of matches.now)) → IsNone result }
+{
+    if flag_in(matches, "follow") {
+        follow_in(matches, input)
+    } else {
+        check_in(matches, input)
     }
 }
 
@@ -98,48 +167,46 @@ fn record_in(matches: &ArgMatches<'_>) -> Option<Job>
 }
 
 // The drawing that the options of `draw` ask for.
-fn draw_in(matches: &ArgMatches<'_>) -> Option<Job>
+fn draw_in(matches: &ArgMatches<'_>, file: Option<Vec<u8>>) -> Option<Job>
     ensures job { IfSome result IsInRange }
-    ensures asked { (events : ℕ) (form : Form) → AsksDrawWithin events (rows_of (found_of matches.now)) form → IsSomeAnd result (IsDraw events form) }
+    ensures asked { (events : ℕ) (form : Form) (files : List Text) → text_of file ≡ first_name files → AsksDrawWithin events (rows_of (found_of matches.now)) form → IsSomeAnd result (IsDraw events form files) }
 {
     let form = form_in(matches)?;
-    let events = events_in(matches)?;
-    Some(Job::Draw { form, events })
+    let limit = limit_in(matches)?;
+    Some(Job::Draw { form, limit, file })
 }
 
 // The witness that the options of `shrink` ask for.
-fn shrink_in(matches: &ArgMatches<'_>) -> Option<Job>
+fn shrink_in(matches: &ArgMatches<'_>, file: Option<Vec<u8>>) -> Option<Job>
     ensures job { IfSome result IsInRange }
-    ensures asked { (events : ℕ) (drawn : Bool) → AsksPictureWithin events drawn (rows_of (found_of matches.now)) → IsSomeAnd result (IsShrink events drawn) }
+    ensures asked { (events : ℕ) (drawn : Bool) (files : List Text) → text_of file ≡ first_name files → AsksPictureWithin events drawn (rows_of (found_of matches.now)) → IsSomeAnd result (IsShrink events drawn files) }
 {
     let drawn = flag_in(matches, "draw");
-    let events = events_in(matches)?;
-    Some(Job::Shrink { drawn, events })
+    let limit = limit_in(matches)?;
+    Some(Job::Shrink { drawn, limit, file })
 }
 
 // The explanation that the options of `explain` ask for.
-fn explain_in(matches: &ArgMatches<'_>) -> Option<Job>
+fn explain_in(matches: &ArgMatches<'_>, file: Option<Vec<u8>>) -> Option<Job>
     ensures job { IfSome result IsInRange }
-    ensures asked { (events : ℕ) (drawn : Bool) → AsksPictureWithin events drawn (rows_of (found_of matches.now)) → IsSomeAnd result (IsExplain events drawn) }
+    ensures asked { (events : ℕ) (drawn : Bool) (files : List Text) → text_of file ≡ first_name files → AsksPictureWithin events drawn (rows_of (found_of matches.now)) → IsSomeAnd result (IsExplain events drawn files) }
 {
     let drawn = flag_in(matches, "draw");
-    let events = events_in(matches)?;
-    Some(Job::Explain { drawn, events })
+    let limit = limit_in(matches)?;
+    Some(Job::Explain { drawn, limit, file })
 }
 
-/// The job that the words ask for, where each number is there and in its range.
-pub(crate) fn job_in(matches: &ArgMatches<'_>) -> Option<Job>
+/// The job that a command asks for by its options, where each number is there and in its range.
+pub(crate) fn job_in(name: &str, matches: &ArgMatches<'_>, input: Input) -> Option<Job>
+    requires named { IsInputOf (rows_of (found_of matches.now)) input }
     ensures job { IfSome result IsInRange }
-    ensures asked { (command : Text) (rows : List Row) → subcommand_rows_of matches.now ≡ Some (command, rows) → FindsJob result command rows }
-    ensures unfollowed { (rows : List Row) → subcommand_rows_of matches.now ≡ Some (codes "check", rows) → LacksFollow rows → IsNone result }
-    ensures overfull { (rows : List Row) → subcommand_rows_of matches.now ≡ Some (codes "record", rows) → AsksTooManyRounds rows → IsNone result }
+    ensures asked { FindsJob result name.now (rows_of (found_of matches.now)) }
 {
-    let (name, inner) = matches.subcommand()?;
     match name {
-        "check" => check_in(inner),
-        "shrink" => shrink_in(inner),
-        "explain" => explain_in(inner),
-        "draw" => draw_in(inner),
-        _ => record_in(inner),
+        "check" => judged_in(matches, input),
+        "shrink" => shrink_in(matches, input.into_file()),
+        "explain" => explain_in(matches, input.into_file()),
+        "draw" => draw_in(matches, input.into_file()),
+        _ => record_in(matches),
     }
 }

@@ -1,50 +1,29 @@
-//! The words that a program is given, which need be no text, and what they ask for.
-ghost use Rattle.std.specs.Prelude.{◌≡◌, IfNone, IfOk, length};
-ghost use Rattle.snap_words.specs.Following.{FollowsOne, IsOneRecording, follows};
-ghost use Rattle.snap_words.specs.Jobs.{IsInRange};
+//! The words that a program is given, which may not be UTF-8, and what they ask for.
+ghost use Rattle.std.specs.Prelude.{◌≡◌, ℕ, Bool, List, [], codes, IfOk, IsErr, MatchResult, map, string_bytes};
+ghost use Rattle.clap.specs.Words.{Text};
+ghost use Rattle.snap_words.specs.Drawing.{AsksDrawWithin};
+ghost use Rattle.snap_words.specs.Jobs.{AsksCheck, AsksFollow, AsksPictureWithin, AsksRecordWithin, AsksTooManyRounds, Checking, Flags, FollowsUnheeding, IsCheck, IsDraw, IsExplain, IsFollow, IsInRange, IsRecord, IsShrink, LacksFollow};
+ghost use Rattle.snap_words.specs.Lines.{Means};
+ghost use Rattle.snap_words.specs.declared.drawing.Form.{Form};
+ghost use Rattle.snap_words.specs.declared.job.Windows.{Windows};
 
-use crate::job::{Asked, Job, JobFault, job_of};
-use crate::sources::Sources;
+use crate::input::Input;
+use crate::job::{Job, JobFault, job_of};
 use std::alloc::{AllocError, Global};
 use std::env::FillError;
 use std::rt::Env;
+use std::str;
 
-// What begins a text that stands for a word which is not UTF-8; no word has a zero byte.
+// What stands in a text for the rest of a word from where it is not UTF-8 on; no word has a zero byte.
 const MARK: char = '\0';
 
-/// The words, the program's name first. For one that is not UTF-8 stands the mark, with its place among the others.
+/// The words, the program's name first. For the rest of a word that is not UTF-8 stands the mark, with its place among the others.
 #[derive(Drop)]
 pub struct Words {
     /// The words as texts.
     pub texts: Vec<String>,
-    /// Those that are not UTF-8.
-    others: Vec<Vec<u8>>,
-}
-
-/// Where a check finds the names of files that are no words.
-#[derive(Drop)]
-pub struct Places {
-    /// The list of names; `-` is standard input.
-    pub list: Option<Vec<u8>>,
-    /// The names in the list end with a zero byte, and not with a line end.
-    pub null: bool,
-    /// The folder below which all recordings are judged.
-    pub folder: Option<Vec<u8>>,
-}
-
-impl Places {
-    /// Whether there are any.
-    pub fn are_named(&self) -> bool {
-        self.list.is_some() || self.folder.is_some()
-    }
-}
-
-/// A job, and the names of its files.
-#[derive(Drop)]
-pub struct Wanted {
-    pub job: Job,
-    pub files: Vec<Vec<u8>>,
-    pub places: Places,
+    /// The rests of those that are not UTF-8.
+    pub others: Vec<Vec<u8>>,
 }
 
 // A word of the command line, none where there are fewer.
@@ -64,19 +43,28 @@ fn word_at<Rt: Env>(rt: &Rt, alloc: Global, place: usize) -> Result<Option<Vec<u
     Err(AllocError)
 }
 
+// The front of a word that is UTF-8.
+fn front_of(word: &[u8]) -> &str {
+    match word.utf8_chunks().next() {
+        Some(chunk) => chunk.valid(),
+        None => "",
+    }
+}
+
 // Adds a word that is not UTF-8 to those before it.
-fn add_other(alloc: Global, words: &mut Words, word: Vec<u8>) -> Result<(), AllocError> {
-    let mark = format!(in alloc; "{MARK}{}", words.others.len())?;
-    words.texts.push(mark)?;
-    words.others.push(word)?;
+fn add_other(alloc: Global, words: &mut Words, front: &str, rest: &[u8]) -> Result<(), AllocError> {
+    let text = format!(in alloc; "{front}{MARK}{}", words.others.len())?;
+    words.texts.push(text)?;
+    words.others.push(Vec::from_slice(alloc, rest)?)?;
     Ok(())
 }
 
 // Adds a word to those before it.
-fn add_word(alloc: Global, words: &mut Words, word: Vec<u8>) -> Result<(), AllocError> {
-    match String::from_utf8(word) {
-        Ok(text) => Ok(words.texts.push(text)?),
-        Err(error) => add_other(alloc, words, error.into_bytes()),
+fn add_word(alloc: Global, words: &mut Words, word: &[u8]) -> Result<(), AllocError> {
+    let front = front_of(word);
+    match word.strip_prefix(front.as_bytes()) {
+        Some(rest) if !rest.is_empty() => add_other(alloc, words, front, rest),
+        _ => Ok(words.texts.push(String::from_str(alloc, front)?)?),
     }
 }
 
@@ -90,49 +78,102 @@ pub fn words_of<Rt: Env>(rt: &Rt, alloc: Global) -> Result<Words, AllocError> {
         let Some(word) = word_at(rt, alloc, place)? else {
             break;
         };
-        add_word(alloc, &mut words, word)?;
+        add_word(alloc, &mut words, &word)?;
     }
     Ok(words)
 }
 
-// The word that is not UTF-8 for which a text stands, if it stands for one.
-fn other_of<'a>(text: &str, others: &'a [Vec<u8>]) -> Option<&'a Vec<u8>> {
-    let place = text.strip_prefix(MARK)?;
-    match place.parse::<usize>() {
-        Ok(place) => others.get(place),
-        Err(_) => None,
-    }
+// Where the mark stands in a name, and the rest of the word for which it stands.
+fn other_in<'a>(name: &[u8], others: &'a [Vec<u8>]) -> Option<(usize, &'a Vec<u8>)> {
+    let at = name.iter().position(|byte| *byte == MARK as u8)?;
+    let place = str::from_utf8(&name[at + 1..]).ok()?;
+    let place = place.parse::<usize>().ok()?;
+    Some((at, others.get(place)?))
 }
 
-// The bytes of a word.
-fn bytes_of(alloc: Global, text: String, others: &[Vec<u8>]) -> Result<Vec<u8>, AllocError> {
-    match other_of(&text, others) {
-        Some(word) => Vec::from_slice(alloc, word),
-        None => Ok(text.into_bytes()),
+// Puts the rest of its word into a name in place of the mark.
+fn make_whole(name: &mut Vec<u8>, others: &[Vec<u8>]) -> Result<(), AllocError> {
+    if let Some((at, rest)) = other_in(name, others) {
+        name.truncate(at);
+        name.extend_from_slice(rest)?;
     }
+    Ok(())
 }
 
-fn bytes_of_all(
-    alloc: Global,
-    texts: Vec<String>,
-    others: &[Vec<u8>],
-) -> Result<Vec<Vec<u8>>, AllocError> {
-    let mut names = Vec::new(alloc);
-    for text in texts {
-        names.push(bytes_of(alloc, text, others)?)?;
-    }
-    Ok(names)
+// The same of a name that may be absent.
+fn whole_name(name: Option<Vec<u8>>, others: &[Vec<u8>]) -> Result<Option<Vec<u8>>, AllocError> {
+    let Some(mut name) = name else {
+        return Ok(None);
+    };
+    make_whole(&mut name, others)?;
+    Ok(Some(name))
 }
 
-fn bytes_of_some(
-    alloc: Global,
-    text: Option<String>,
-    others: &[Vec<u8>],
-) -> Result<Option<Vec<u8>>, AllocError> {
-    match text {
-        Some(text) => Ok(Some(bytes_of(alloc, text, others)?)),
-        None => Ok(None),
+fn whole_input(input: Input, others: &[Vec<u8>]) -> Result<Input, AllocError> {
+    let Input {
+        mut files,
+        list,
+        null,
+        folder,
+    } = input;
+    for name in &mut files {
+        make_whole(name, others)?;
     }
+    Ok(Input {
+        files,
+        list: whole_name(list, others)?,
+        null,
+        folder: whole_name(folder, others)?,
+    })
+}
+
+// A job with the whole names of its texts.
+fn whole_job(job: Job, others: &[Vec<u8>]) -> Result<Job, AllocError>
+    requires { IsInRange job }
+    ensures job { IfOk result IsInRange }
+    ensures same { others.now ≡ [] → IfOk result (λ whole. whole ≡ job) }
+{
+    if others.is_empty() {
+        return Ok(job);
+    }
+    Ok(match job {
+        Job::Check {
+            cutting,
+            limit,
+            options,
+            input,
+        } => Job::Check {
+            cutting,
+            limit,
+            options,
+            input: whole_input(input, others)?,
+        },
+        Job::Follow {
+            limit,
+            windows,
+            file,
+        } => Job::Follow {
+            limit,
+            windows,
+            file: whole_name(file, others)?,
+        },
+        Job::Shrink { drawn, limit, file } => Job::Shrink {
+            drawn,
+            limit,
+            file: whole_name(file, others)?,
+        },
+        Job::Explain { drawn, limit, file } => Job::Explain {
+            drawn,
+            limit,
+            file: whole_name(file, others)?,
+        },
+        Job::Draw { form, limit, file } => Job::Draw {
+            form,
+            limit,
+            file: whole_name(file, others)?,
+        },
+        job => job,
+    })
 }
 
 // The fault that a text tells the user.
@@ -143,149 +184,67 @@ fn told(text: Result<String, AllocError>) -> JobFault {
     }
 }
 
-// Why there is no job. A word that is not UTF-8 is not quoted.
-fn readable(alloc: Global, fault: JobFault) -> JobFault {
-    match fault {
-        JobFault::Usage(text) if text.contains(MARK) => told(String::from_str(
-            alloc,
-            "error: a word that is not UTF-8 can only name a file, a list or a folder\n",
-        )),
-        fault => fault,
-    }
-}
-
-// Whether a name is that of standard input.
-fn is_input(name: &[u8]) -> bool {
-    name == b"-".as_slice()
-}
-
-/// Whether some names and a list name standard input more than once.
-pub fn names_input_twice(names: &[Vec<u8>], list: &Option<Vec<u8>>) -> bool {
-    let mut named = match list {
-        Some(list) => is_input(list),
-        None => false,
-    };
-    for name in names {
-        if is_input(name) {
-            if named {
-                return true;
-            }
-            named = true;
-        }
-    }
-    false
-}
-
-// The places that the options name.
-fn places_of(alloc: Global, sources: Sources, others: &[Vec<u8>]) -> Result<Places, AllocError> {
-    let Sources { list, null, folder } = sources;
-    Ok(Places {
-        list: bytes_of_some(alloc, list, others)?,
-        null,
-        folder: bytes_of_some(alloc, folder, others)?,
-    })
-}
-
-// The fault of a recording in place of a job, if there is one.
+// The fault of a recording in place of a command, if there is one.
 fn recording_fault(alloc: Global, texts: &[String]) -> Option<JobFault> {
     match texts.get(1) {
-        Some(name) if name.ends_with(".csv") => Some(told(format!(in alloc;
+        Some(name) if name.ends_with(".csv") && !name.contains(MARK) => Some(told(format!(in alloc;
             "error: to judge a file, write: snapjudge check {name}\n"
         ))),
         _ => None,
     }
 }
 
-// What is asked for, with the words that are not UTF-8.
-fn wanted_of(alloc: Global, asked: Asked, others: &[Vec<u8>]) -> Result<Wanted, AllocError>
-    requires { IsInRange asked.job }
-    ensures { IfOk result (λ wanted. IsInRange wanted.job) }
+// Why there is no job, for the user. A word that is not UTF-8 is not quoted, and for a recording in place of a command there is a fault
+// of its own.
+fn readable(alloc: Global, fault: JobFault, recording: Option<JobFault>) -> JobFault
+    ensures { fault ≡ JobFault.Memory → result ≡ JobFault.Memory }
 {
-    let Asked {
-        job,
-        files,
-        sources,
-    } = asked;
-    Ok(Wanted {
-        job,
-        files: bytes_of_all(alloc, files, others)?,
-        places: places_of(alloc, sources, others)?,
-    })
+    let text = match fault {
+        JobFault::Usage(text) => text,
+        JobFault::Memory => return JobFault::Memory,
+    };
+    if let Some(fault) = recording {
+        return fault;
+    }
+    if text.contains(MARK) {
+        return told(String::from_str(
+            alloc,
+            "error: a word that is not UTF-8 can only name a file, a list or a folder\n",
+        ));
+    }
+    JobFault::Usage(text)
 }
 
-// The job that the words ask for, and its files.
-fn wanted_in(alloc: Global, words: Words) -> Result<Wanted, JobFault>
-    ensures { IfOk result (λ wanted. IsInRange wanted.job) }
+/// The job that the words of the command line ask for, on the names that these words give. Where all words are UTF-8, it is the job
+/// that `job_of` finds in them.
+pub fn wanted_by(alloc: Global, words: Words) -> Result<Job, JobFault>
+    ensures job { IfOk result IsInRange }
+    ensures check { (asked : Checking) (files : List Text) → words.others.items ≡ []
+        → Means (map string_bytes words.texts.items) (codes "check") (λ rows. AsksCheck rows asked) files
+        → MatchResult result (IsCheck asked files) (λ fault. fault ≡ JobFault.Memory) }
+    ensures follow { (events : ℕ) (windows : Windows) (files : List Text) → words.others.items ≡ []
+        → Means (map string_bytes words.texts.items) (codes "check") (λ rows. AsksFollow events rows windows) files
+        → MatchResult result (IsFollow events windows files) (λ fault. fault ≡ JobFault.Memory) }
+    ensures unfollowed { (files : List Text) → Means (map string_bytes words.texts.items) (codes "check") LacksFollow files → IsErr result }
+    ensures unheeded { (files : List Text) → Means (map string_bytes words.texts.items) (codes "check") FollowsUnheeding files → IsErr result }
+    ensures shrink { (events : ℕ) (drawn : Bool) (files : List Text) → words.others.items ≡ []
+        → Means (map string_bytes words.texts.items) (codes "shrink") (AsksPictureWithin events drawn) files
+        → MatchResult result (IsShrink events drawn files) (λ fault. fault ≡ JobFault.Memory) }
+    ensures explain { (events : ℕ) (drawn : Bool) (files : List Text) → words.others.items ≡ []
+        → Means (map string_bytes words.texts.items) (codes "explain") (AsksPictureWithin events drawn) files
+        → MatchResult result (IsExplain events drawn files) (λ fault. fault ≡ JobFault.Memory) }
+    ensures draw { (events : ℕ) (form : Form) (files : List Text) → words.others.items ≡ []
+        → Means (map string_bytes words.texts.items) (codes "draw") (λ rows. AsksDrawWithin events rows form) files
+        → MatchResult result (IsDraw events form files) (λ fault. fault ≡ JobFault.Memory) }
+    ensures recording { (events workers rounds : ℕ) (flags : Flags) (files : List Text) → words.others.items ≡ []
+        → Means (map string_bytes words.texts.items) (codes "record") (λ rows. AsksRecordWithin events rows workers rounds flags) files
+        → MatchResult result (IsRecord workers rounds flags) (λ fault. fault ≡ JobFault.Memory) }
+    ensures overfull { (files : List Text) → Means (map string_bytes words.texts.items) (codes "record") AsksTooManyRounds files → IsErr result }
 {
     let Words { texts, others } = words;
+    let recording = recording_fault(alloc, &texts);
     match job_of(alloc, texts) {
-        Ok(asked) => Ok(wanted_of(alloc, asked, &others)?),
-        Err(fault) => Err(readable(alloc, fault)),
-    }
-}
-
-// Whether a job judges a recording while it grows.
-fn is_following(job: &Job) -> bool
-    ensures { result ≡ follows job.now }
-{
-    match job {
-        Job::Check { options, .. } => options.follow,
-        _ => false,
-    }
-}
-
-// Why no recording among these can be judged while it grows, if that is asked for.
-fn following_refusal(job: &Job, files: &[Vec<u8>], places: &Places) -> Option<&'static str>
-    ensures { IfNone result (IsOneRecording job.now (length files.now) places.now) }
-{
-    if !is_following(job) {
-        None
-    } else if places.list.is_some() {
-        Some("error: the argument '--follow' cannot be used with '--files-from <LIST>'\n")
-    } else if places.folder.is_some() {
-        Some(
-            "error: the argument '--follow' cannot be used with '--recursive <FOLDER>'\n  tip: '--follow FOLDER' follows all recordings below a folder\n",
-        )
-    } else if files.len() > 1 {
-        Some("error: --follow takes one recording\n")
-    } else {
-        None
-    }
-}
-
-// Why the files and places can't be read, if they can't.
-fn refusal_of(files: &[Vec<u8>], places: &Places) -> Option<&'static str> {
-    if places.null && places.list.is_none() {
-        Some("error: the argument '--null' needs '--files-from <LIST>'\n")
-    } else if names_input_twice(files, &places.list) {
-        Some("error: - is standard input, and can be named once\n")
-    } else {
-        None
-    }
-}
-
-// Why what is wanted can't be done, if it can't.
-fn wanted_refusal(wanted: &Wanted) -> Option<&'static str>
-    ensures { IfNone result (FollowsOne wanted.now) }
-{
-    match refusal_of(&wanted.files, &wanted.places) {
-        Some(text) => Some(text),
-        None => following_refusal(&wanted.job, &wanted.files, &wanted.places),
-    }
-}
-
-/// The job that the words of the command line ask for, and its files. Standard input, `-`, can be read once. A recording that is
-/// judged while it grows is one.
-pub fn wanted_by(alloc: Global, words: Words) -> Result<Wanted, JobFault>
-    ensures job { IfOk result (λ wanted. IsInRange wanted.job) }
-    ensures one { IfOk result FollowsOne }
-{
-    if let Some(fault) = recording_fault(alloc, &words.texts) {
-        return Err(fault);
-    }
-    let wanted = wanted_in(alloc, words)?;
-    match wanted_refusal(&wanted) {
-        Some(text) => Err(told(String::from_str(alloc, text))),
-        None => Ok(wanted),
+        Ok(job) => Ok(whole_job(job, &others)?),
+        Err(fault) => Err(readable(alloc, fault, recording)),
     }
 }

@@ -1,34 +1,35 @@
 //! What whole lines of words mean. Each law names lines by their words behind the program's name, which may be any.
-ghost use Rattle.std.specs.Prelude.{◌∷◌, [], Some, None, codes, false, true};
+ghost use Rattle.std.specs.Prelude.{◌∷◌, [], Some, codes, false, true};
 ghost use Rattle.clap.specs.Words.{Text};
+ghost use Rattle.snap_core.specs.Limits.{event_limit};
 ghost use Rattle.snap_words.specs.Drawing.{AsksDraw, AsksDrawWithin};
-ghost use Rattle.snap_words.specs.Jobs.{AsksCheck, AsksPicture, AsksPictureWithin, AsksRecord, AsksRecordWithin, AsksTooManyRounds, LacksFollow, no_flags, no_options};
+ghost use Rattle.snap_words.specs.Jobs.{AsksCheck, AsksFollow, AsksPicture, AsksPictureWithin, AsksRecord, AsksRecordWithin, AsksTooManyRounds, FollowsUnheeding, LacksFollow, no_flags, no_options, plain_check};
 ghost use Rattle.snap_words.specs.Lines.{Means};
-ghost use Rattle.snap_words.specs.Sources.{NamesSources};
 ghost use Rattle.snap_words.specs.declared.color.Color.TheVariants.{Never};
 ghost use Rattle.snap_words.specs.declared.drawing.Form.TheVariants.{Lines, Page, Svg};
 
 /// What lines of `check` ask for: 8 pieces and 2 workers where nothing else is said, and what each option says. A window alone asks
-/// for nothing.
+/// for nothing, and no more does an option that has no use with `--follow`.
 pub fn check_lines()
-    ensures alone { (name : Text) → Means (name ∷ codes "check" ∷ []) (codes "check") (λ rows. AsksCheck rows 8 2 no_options) [] }
-    ensures cut { (name : Text) → Means (name ∷ codes "check" ∷ codes "--pieces" ∷ codes "3" ∷ codes "--workers" ∷ codes "4" ∷ []) (codes "check") (λ rows. AsksCheck rows 3 4 no_options) [] }
-    ensures quiet { (name : Text) → Means (name ∷ codes "check" ∷ codes "--quiet" ∷ []) (codes "check") (λ rows. AsksCheck rows 8 2 (record no_options { quiet = true })) [] }
-    ensures views { (name : Text) → Means (name ∷ codes "check" ∷ codes "--views" ∷ codes "5" ∷ []) (codes "check") (λ rows. AsksCheck rows 8 2 (record no_options { views = 5 })) [] }
-    ensures json { (name : Text) → Means (name ∷ codes "check" ∷ codes "--format" ∷ codes "json" ∷ []) (codes "check") (λ rows. AsksCheck rows 8 2 (record no_options { json = true })) [] }
-    ensures summary { (name : Text) → Means (name ∷ codes "check" ∷ codes "--summary" ∷ []) (codes "check") (λ rows. AsksCheck rows 8 2 (record no_options { summary = true })) [] }
-    ensures follow { (name : Text) → Means (name ∷ codes "check" ∷ codes "--follow" ∷ codes "--window" ∷ codes "500" ∷ codes "--idle" ∷ codes "5" ∷ []) (codes "check") (λ rows. AsksCheck rows 8 2 (record no_options { follow = true; window = 500; idle = 5 })) [] }
-    ensures few { (name : Text) → Means (name ∷ codes "check" ∷ codes "--follow" ∷ codes "--events" ∷ codes "500" ∷ []) (codes "check") (λ rows. AsksCheck rows 8 2 (record no_options { events = 500; follow = true; window = 250 })) [] }
+    ensures alone { (name : Text) → Means (name ∷ codes "check" ∷ []) (codes "check") (λ rows. AsksCheck rows plain_check) [] }
+    ensures cut { (name : Text) → Means (name ∷ codes "check" ∷ codes "--pieces" ∷ codes "3" ∷ codes "--workers" ∷ codes "4" ∷ []) (codes "check") (λ rows. AsksCheck rows (record plain_check { pieces = 3; workers = 4 })) [] }
+    ensures quiet { (name : Text) → Means (name ∷ codes "check" ∷ codes "--quiet" ∷ []) (codes "check") (λ rows. AsksCheck rows (record plain_check { options = record no_options { quiet = true } })) [] }
+    ensures views { (name : Text) → Means (name ∷ codes "check" ∷ codes "--views" ∷ codes "5" ∷ []) (codes "check") (λ rows. AsksCheck rows (record plain_check { options = record no_options { views = 5 } })) [] }
+    ensures json { (name : Text) → Means (name ∷ codes "check" ∷ codes "--format" ∷ codes "json" ∷ []) (codes "check") (λ rows. AsksCheck rows (record plain_check { options = record no_options { json = true } })) [] }
+    ensures summary { (name : Text) → Means (name ∷ codes "check" ∷ codes "--summary" ∷ []) (codes "check") (λ rows. AsksCheck rows (record plain_check { options = record no_options { summary = true } })) [] }
+    ensures follow { (name : Text) → Means (name ∷ codes "check" ∷ codes "--follow" ∷ codes "--window" ∷ codes "500" ∷ codes "--idle" ∷ codes "5" ∷ []) (codes "check") (λ rows. AsksFollow event_limit rows (record { least = 500; idle = 5; views = 0 })) [] }
+    ensures few { (name : Text) → Means (name ∷ codes "check" ∷ codes "--follow" ∷ codes "--events" ∷ codes "500" ∷ []) (codes "check") (λ rows. AsksFollow 500 rows (record { least = 250; idle = 0; views = 0 })) [] }
     ensures unfollowed { (name : Text) → Means (name ∷ codes "check" ∷ codes "--window" ∷ codes "500" ∷ []) (codes "check") LacksFollow [] }
-    ensures color { (name : Text) → Means (name ∷ codes "check" ∷ codes "--color" ∷ codes "never" ∷ []) (codes "check") (λ rows. AsksCheck rows 8 2 (record no_options { color = Never })) [] }
-    ensures events { (name : Text) → Means (name ∷ codes "check" ∷ codes "--events" ∷ codes "1048576" ∷ []) (codes "check") (λ rows. AsksCheck rows 8 2 (record no_options { events = 1048576 })) [] }
-    ensures files { (name : Text) → Means (name ∷ codes "check" ∷ codes "a.csv" ∷ codes "-" ∷ []) (codes "check") (λ rows. AsksCheck rows 8 2 no_options) (codes "a.csv" ∷ codes "-" ∷ []) }
+    ensures color { (name : Text) → Means (name ∷ codes "check" ∷ codes "--color" ∷ codes "never" ∷ []) (codes "check") (λ rows. AsksCheck rows (record plain_check { options = record no_options { color = Never } })) [] }
+    ensures events { (name : Text) → Means (name ∷ codes "check" ∷ codes "--events" ∷ codes "1048576" ∷ []) (codes "check") (λ rows. AsksCheck rows (record plain_check { events = 1048576 })) [] }
+    ensures short { (name : Text) → Means (name ∷ codes "check" ∷ codes "-q" ∷ []) (codes "check") (λ rows. AsksCheck rows (record plain_check { options = record no_options { quiet = true } })) [] }
+    ensures unheeded { (name : Text) → Means (name ∷ codes "check" ∷ codes "--follow" ∷ codes "--workers" ∷ codes "4" ∷ []) (codes "check") FollowsUnheeding [] }
+    ensures files { (name : Text) → Means (name ∷ codes "check" ∷ codes "a.csv" ∷ codes "-" ∷ []) (codes "check") (λ rows. AsksCheck rows plain_check) (codes "a.csv" ∷ codes "-" ∷ []) }
 {}
 
-/// Where the names of files come from: from the words alone, or also from a list and from below a folder.
+/// Names of files come from a list and from below a folder too.
 pub fn source_lines()
-    ensures without { (name : Text) → Means (name ∷ codes "check" ∷ []) (codes "check") (λ rows. NamesSources rows None false None) [] }
-    ensures named { (name : Text) → Means (name ∷ codes "check" ∷ codes "--files-from" ∷ codes "-" ∷ codes "-0" ∷ codes "-r" ∷ codes "runs" ∷ []) (codes "check") (λ rows. AsksCheck rows 8 2 no_options × NamesSources rows (Some (codes "-")) true (Some (codes "runs"))) [] }
+    ensures { (name : Text) → Means (name ∷ codes "check" ∷ codes "--files-from" ∷ codes "-" ∷ codes "-0" ∷ codes "-r" ∷ codes "runs" ∷ []) (codes "check") (λ rows. AsksCheck rows (record plain_check { list = Some (codes "-"); null = true; folder = Some (codes "runs") })) [] }
 {}
 
 /// What lines of `shrink`, `explain` and `draw` ask for.

@@ -1,11 +1,11 @@
 //! What the options of a command say.
-ghost use Rattle.std.specs.Prelude.{◌≡◌, ◌<◌, ◌^◌, ℕ, Bool, Some, None, false, codes, decimal, is_some, IfSome};
+ghost use Rattle.std.specs.Prelude.{◌≡◌, ◌<◌, ◌^◌, ℕ, Bool, Some, None, false, true, codes, decimal, is_some, IfSome, IsSomeAnd};
 ghost use Rattle.clap.specs.Words.{first_of, found_of, one_of, rows_of};
 ghost use Rattle.snap_core.specs.Limits.{IsLimit};
 ghost use Rattle.snap_words.specs.Jobs.{AsksLimit, SaysOr, flag_text, format_text};
 
-use crate::ranges::is_limit;
 use clap::ArgMatches;
+use snap_core::Limit;
 
 /// The number that an option has.
 pub(crate) fn number_in(matches: &ArgMatches<'_>, id: &str) -> Option<u32>
@@ -48,14 +48,29 @@ pub(crate) fn json_in(matches: &ArgMatches<'_>) -> Option<bool>
     }
 }
 
+/// Whether reports are asked for, and no objects.
+pub(crate) fn is_plain(matches: &ArgMatches<'_>) -> bool
+    ensures { first_of (codes "format") (rows_of (found_of matches.now)) ≡ Some (format_text false) → result ≡ true }
+{
+    match json_in(matches) {
+        Some(json) => !json,
+        None => false,
+    }
+}
+
 /// The limit of events that is asked for.
+pub(crate) fn limit_in(matches: &ArgMatches<'_>) -> Option<Limit>
+    ensures limit { IfSome result (λ limit. IsLimit limit.events) }
+    ensures asked { (events : ℕ) → AsksLimit events (rows_of (found_of matches.now)) → IsSomeAnd result (λ limit. limit.events ≡ events) }
+{
+    Limit::new(number_in(matches, "events")?)
+}
+
+/// The limit of events that is asked for, as a number.
 pub(crate) fn events_in(matches: &ArgMatches<'_>) -> Option<u32>
     ensures limit { IfSome result IsLimit }
     ensures asked { (events : ℕ) → AsksLimit events (rows_of (found_of matches.now)) → result ≡ Some events }
 {
-    let events = number_in(matches, "events")?;
-    if !is_limit(events) {
-        return None;
-    }
-    Some(events)
+    let limit = limit_in(matches)?;
+    Some(limit.events() as u32)
 }

@@ -1,22 +1,14 @@
 //! Which numbers are in their ranges, and which options go together.
 ghost use Rattle.std.specs.Prelude.{◌≡◌, true};
 ghost use Rattle.snap_core.specs.Limits.{IsLimit};
-ghost use Rattle.snap_words.specs.Jobs.{AreRoundsWithin, AreViews, IsOneForm, IsWindow, usual_rounds, usual_window};
+ghost use Rattle.snap_record.specs.Plans.{AreRoundsWithin};
+ghost use Rattle.snap_words.specs.Jobs.{AreViews, IsOneForm, IsWindow, usual_rounds, usual_window};
 
 use crate::job::Options;
-use snap_core::EVENT_CAP;
 use snap_record::WORKER_LIMIT;
 
 /// How many events a round may have: two calls of each worker.
 pub(crate) const ROUND_EVENTS: u32 = 4 * WORKER_LIMIT;
-
-/// Whether there is such a limit of events.
-pub(crate) fn is_limit(events: u32) -> bool
-    ensures one { result ≡ true → IsLimit events }
-    ensures asked { IsLimit events → result ≡ true }
-{
-    1 <= events && events <= EVENT_CAP as u32
-}
 
 /// Whether a history of so many events can have so many completed views.
 pub(crate) fn are_views(events: u32, views: u32) -> bool
@@ -46,9 +38,7 @@ pub(crate) fn is_one_form(options: Options) -> bool
     ensures one { result ≡ true → IsOneForm options }
     ensures asked { IsOneForm options → result ≡ true }
 {
-    if options.follow {
-        !(options.quiet || options.json || options.summary)
-    } else if options.summary {
+    if options.summary {
         !options.quiet && !options.json
     } else {
         !(options.quiet && options.json)
@@ -62,10 +52,10 @@ pub(crate) fn window_for(events: u32) -> u32
     (events - events / 2).min(1000)
 }
 
-/// Whether windows may end from so many events on.
-pub(crate) fn is_window(options: Options) -> bool
-    ensures one { result ≡ true → IsWindow options }
-    ensures asked { IsWindow options → result ≡ true }
+/// Whether windows of so many events at most may end from so many on.
+pub(crate) fn is_window(events: u32, least: u32) -> bool
+    ensures one { result ≡ true → IsLimit events → IsWindow events least }
+    ensures asked { IsWindow events least → result ≡ true }
 {
-    is_limit(options.window) && (!options.follow || options.window <= options.events)
+    1 <= least && least <= events
 }

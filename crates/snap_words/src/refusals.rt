@@ -1,8 +1,7 @@
 //! What is said of words that the parser takes, and that ask for no job.
-ghost use Rattle.std.specs.Prelude.{ℕ, IsNone, IsSome};
+ghost use Rattle.std.specs.Prelude.{◌≡◌};
 ghost use Rattle.clap.specs.Words.{found_of, rows_of};
-ghost use Rattle.snap_words.specs.Jobs.{AsksCheck, LacksFollow};
-ghost use Rattle.snap_words.specs.declared.job.Options.{Options};
+ghost use Rattle.snap_words.specs.Jobs.{names_unheeded, names_windows};
 
 use crate::color::color_in;
 use crate::option_values::{flag_in, is_given, json_in, number_in};
@@ -10,30 +9,75 @@ use crate::ranges::{ROUND_EVENTS, are_rounds, are_views};
 use clap::ArgMatches;
 use std::alloc::{AllocError, Global};
 
+/// Whether an option of windows is given.
+pub(crate) fn names_windows(matches: &ArgMatches<'_>) -> bool
+    ensures { result ≡ names_windows (rows_of (found_of matches.now)) }
+{
+    is_given(matches, "window") || is_given(matches, "idle")
+}
+
+/// Whether an option is given that has no use where a recording is judged while it grows.
+pub(crate) fn names_unheeded(matches: &ArgMatches<'_>) -> bool
+    ensures { result ≡ names_unheeded (rows_of (found_of matches.now)) }
+{
+    is_given(matches, "pieces")
+        || is_given(matches, "workers")
+        || is_given(matches, "color")
+        || is_given(matches, "list")
+        || is_given(matches, "folder")
+}
+
 // With which option a recording can't be judged while it grows.
-fn window_refusal(matches: &ArgMatches<'_>, json: bool) -> &'static str {
+fn unheeded_refusal(matches: &ArgMatches<'_>) -> &'static str {
+    if is_given(matches, "pieces") {
+        "error: the argument '--follow' cannot be used with '--pieces <P>'\n"
+    } else if is_given(matches, "workers") {
+        "error: the argument '--follow' cannot be used with '--workers <W>'\n"
+    } else if is_given(matches, "color") {
+        "error: the argument '--follow' cannot be used with '--color <WHEN>'\n"
+    } else if is_given(matches, "list") {
+        "error: the argument '--follow' cannot be used with '--files-from <LIST>'\n"
+    } else {
+        "error: the argument '--follow' cannot be used with '--recursive <FOLDER>'\n  tip: '--follow FOLDER' follows all recordings below a folder\n"
+    }
+}
+
+// Why a check that follows a recording asks for no job.
+fn follow_refusal(matches: &ArgMatches<'_>, json: bool) -> &'static str {
     if flag_in(matches, "quiet") {
         "error: the argument '--follow' cannot be used with '--quiet'\n"
     } else if json {
         "error: the argument '--follow' cannot be used with '--format json'\n"
-    } else {
+    } else if flag_in(matches, "summary") {
         "error: the argument '--follow' cannot be used with '--summary'\n"
+    } else if names_unheeded(matches) {
+        unheeded_refusal(matches)
+    } else if flag_in(matches, "null") {
+        NULL_ALONE
+    } else {
+        "error: --follow takes one recording\n"
     }
 }
 
-/// Which option of windows a check has that judges nothing while it grows.
-pub(crate) fn follow_refusal(matches: &ArgMatches<'_>) -> Option<&'static str>
-    ensures lacks { LacksFollow (rows_of (found_of matches.now)) → IsSome result }
-    ensures asked { (pieces workers : ℕ) (options : Options) → AsksCheck (rows_of (found_of matches.now)) pieces workers options → IsNone result }
-{
-    if flag_in(matches, "follow") {
-        None
-    } else if is_given(matches, "window") {
-        Some("error: the argument '--window <N>' needs '--follow'\n")
+const NULL_ALONE: &str = "error: the argument '--null' needs '--files-from <LIST>'\n";
+
+// Why a check that follows nothing asks for no job.
+fn check_refusal(matches: &ArgMatches<'_>, json: bool) -> &'static str {
+    let quiet = flag_in(matches, "quiet");
+    if is_given(matches, "window") {
+        "error: the argument '--window <N>' needs '--follow'\n"
     } else if is_given(matches, "idle") {
-        Some("error: the argument '--idle <SECONDS>' needs '--follow'\n")
+        "error: the argument '--idle <SECONDS>' needs '--follow'\n"
+    } else if flag_in(matches, "summary") && json {
+        "error: the argument '--summary' cannot be used with '--format json'\n"
+    } else if flag_in(matches, "summary") && quiet {
+        "error: the argument '--summary' cannot be used with '--quiet'\n"
+    } else if quiet && json {
+        "error: the argument '--quiet' cannot be used with '--format json'\n"
+    } else if flag_in(matches, "null") && !is_given(matches, "list") {
+        NULL_ALONE
     } else {
-        None
+        "error: - is standard input, and can be named once\n"
     }
 }
 
@@ -51,16 +95,10 @@ fn refusal_of(matches: &ArgMatches<'_>) -> &'static str {
     };
     if color_in(inner).is_none() {
         "error: invalid value for '--color <WHEN>'\n  [possible values: auto, always, never]\n\nFor more information, try '--help'.\n"
-    } else if let Some(text) = follow_refusal(inner) {
-        text
     } else if flag_in(inner, "follow") {
-        window_refusal(inner, json)
-    } else if !flag_in(inner, "summary") {
-        "error: the argument '--quiet' cannot be used with '--format json'\n"
-    } else if json {
-        "error: the argument '--summary' cannot be used with '--format json'\n"
+        follow_refusal(inner, json)
     } else {
-        "error: the argument '--summary' cannot be used with '--quiet'\n"
+        check_refusal(inner, json)
     }
 }
 
@@ -83,7 +121,10 @@ fn number_and_events(matches: &ArgMatches<'_>, id: &str) -> Option<(u32, u32)> {
 }
 
 // That a check asks for more completed views than a history can have, or for windows that only a longer one can have.
-fn check_refusal(alloc: Global, matches: &ArgMatches<'_>) -> Result<Option<String>, AllocError> {
+fn check_range_refusal(
+    alloc: Global,
+    matches: &ArgMatches<'_>,
+) -> Result<Option<String>, AllocError> {
     let Some((views, events)) = number_and_events(matches, "views") else {
         return Ok(None);
     };
@@ -103,7 +144,7 @@ fn check_refusal(alloc: Global, matches: &ArgMatches<'_>) -> Result<Option<Strin
 // That a number is too great for the limit of events: the parser does not know that.
 fn number_refusal(alloc: Global, matches: &ArgMatches<'_>) -> Result<Option<String>, AllocError> {
     if let Some(inner) = matches.subcommand_matches("check") {
-        return check_refusal(alloc, inner);
+        return check_range_refusal(alloc, inner);
     }
     if let Some(inner) = matches.subcommand_matches("record") {
         let Some((rounds, events)) = number_and_events(inner, "rounds") else {

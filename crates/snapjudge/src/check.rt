@@ -1,19 +1,16 @@
 //! The checks of one text and of several files.
-ghost use Rattle.snap_core.specs.Limits.{IsLimit};
-
 use crate::options::file_options;
 use snap_check::{RunFault, check_run_with};
-use snap_commands::{Failure, in_colors, limit_of, open_only, progress_of, system, too_few_views};
-use snap_core::{Counted, OpenGate};
+use snap_commands::{Failure, in_colors, names_of, open_only, progress_of, system, too_few_views};
+use snap_core::{Counted, Limit, OpenGate};
 use snap_files::{check_all, sum_all};
 use snap_names::{Opener, SystemText};
-use snap_terminal::{Cleared, Painted, Progress, Watched};
+use snap_terminal::{Cleared, Outlet, Painted, Progress, Watched};
 use snap_threads::Cutting;
-use snap_words::Options;
-use std::alloc::Global;
+use snap_words::{Input, Options};
+use std::alloc::{AllocError, Global};
 use std::fs::File;
 use std::io::Write;
-use std::slice;
 use std::thread::Threads;
 
 // The check of one text.
@@ -22,12 +19,11 @@ fn check_text<Rt: Threads + Sync>(
     host: &HostRuntime,
     text: SystemText<File>,
     cutting: Cutting,
+    limit: Limit,
     asked: Options,
-) -> Result<u8, Failure>
-    requires { IsLimit asked.events }
-{
+) -> Result<u8, Failure> {
     let mut reader = Counted::new(text);
-    let mut writer = Counted::new(Painted::new(host.stdout(), in_colors(host, asked)));
+    let mut writer = Counted::new(Painted::new(Outlet::new(host.stdout()), in_colors(host, asked)));
     match check_run_with(
         rt,
         host.alloc(),
@@ -35,36 +31,12 @@ fn check_text<Rt: Threads + Sync>(
         &mut writer,
         cutting,
         &OpenGate,
-        file_options(asked).check,
+        file_options(limit, asked).check,
     ) {
         Ok(Some(status)) => Ok(status.code()),
         Ok(None) => Ok(too_few_views(host, asked.views).code()),
-        Err(fault) => Err(Failure::Run(fault)),
+        Err(fault) => Err(Failure::of_run(fault, &writer.into_inner().into_inner())),
     }
-}
-
-// Whether the answers of a check have the names of their texts: objects and sums always do, and a report beside others.
-fn has_names(files: &[Vec<u8>], asked: Options) -> bool {
-    asked.json || asked.summary || files.len() > 1
-}
-
-// The check of some files, or of standard input where there is none, with their names in the answers or in the sums.
-fn check_files<Rt: Threads + Sync>(
-    rt: &Rt,
-    host: &HostRuntime,
-    files: &[Vec<u8>],
-    cutting: Cutting,
-    asked: Options,
-) -> Result<u8, Failure>
-    requires { IsLimit asked.events }
-{
-    let input = Vec::from_slice(host.alloc(), b"-")?;
-    let names = if files.is_empty() {
-        slice::from_ref(&input)
-    } else {
-        files
-    };
-    check_names(rt, host, names, cutting, asked)
 }
 
 // The answers of some names, or their sums.
@@ -76,10 +48,9 @@ fn answer_all<Rt: Threads + Sync, O: Opener, W: Write, E: Write>(
     writer: &mut Counted<W>,
     errors: &mut Counted<E>,
     cutting: Cutting,
+    limit: Limit,
     asked: Options,
-) -> Result<u8, RunFault>
-    requires { IsLimit asked.events }
-{
+) -> Result<u8, RunFault> {
     if asked.summary {
         sum_all(
             rt,
@@ -90,7 +61,7 @@ fn answer_all<Rt: Threads + Sync, O: Opener, W: Write, E: Write>(
             errors,
             cutting,
             &OpenGate,
-            limit_of(asked.events),
+            limit,
             asked.views,
         )
     } else {
@@ -103,7 +74,7 @@ fn answer_all<Rt: Threads + Sync, O: Opener, W: Write, E: Write>(
             errors,
             cutting,
             &OpenGate,
-            file_options(asked),
+            file_options(limit, asked),
         )
     }
 }
@@ -114,17 +85,16 @@ fn check_watched<Rt: Threads + Sync>(
     host: &HostRuntime,
     names: &[Vec<u8>],
     cutting: Cutting,
+    limit: Limit,
     asked: Options,
     progress: Option<&Progress<'_, HostRuntime>>,
-) -> Result<u8, RunFault>
-    requires { IsLimit asked.events }
-{
+) -> Result<u8, Failure> {
     let opener = Watched {
         opener: system(host),
         progress,
     };
     let answers = Cleared {
-        inner: host.stdout(),
+        inner: Outlet::new(host.stdout()),
         progress,
     };
     let mut writer = Counted::new(Painted::new(answers, in_colors(host, asked)));
@@ -132,7 +102,7 @@ fn check_watched<Rt: Threads + Sync>(
         inner: host.stderr(),
         progress,
     });
-    answer_all(
+    let ended = answer_all(
         rt,
         host.alloc(),
         &opener,
@@ -140,45 +110,63 @@ fn check_watched<Rt: Threads + Sync>(
         &mut writer,
         &mut errors,
         cutting,
+        limit,
         asked,
-    )
+    );
+    match ended {
+        Ok(code) => Ok(code),
+        Err(fault) => Err(Failure::of_run(fault, &writer.into_inner().into_inner().inner)),
+    }
 }
 
-/// The check of some names, with the name in each answer or in the sums.
-pub(crate) fn check_names<Rt: Threads + Sync>(
+// The check of some names, with the name in each answer or in the sums.
+fn check_names<Rt: Threads + Sync>(
     rt: &Rt,
     host: &HostRuntime,
     names: &[Vec<u8>],
     cutting: Cutting,
+    limit: Limit,
     asked: Options,
-) -> Result<u8, Failure>
-    requires { IsLimit asked.events }
-{
+) -> Result<u8, Failure> {
     let line = progress_of(host, names.len(), asked);
     let progress = line.as_ref();
-    let result = check_watched(rt, host, names, cutting, asked, progress);
+    let result = check_watched(rt, host, names, cutting, limit, asked, progress);
     if let Some(progress) = progress {
         progress.clear();
     }
-    match result {
-        Ok(code) => Ok(code),
-        Err(fault) => Err(Failure::Run(fault)),
-    }
+    result
 }
 
-/// The check of some files, or of standard input where there is none.
+// Whether the answers of a check have the names of their texts: objects and sums always do, a report beside others, and one of a text
+// that a list or a folder names.
+fn has_names(input: &Input, asked: Options) -> bool {
+    asked.json || asked.summary || input.has_sources() || input.files.len() > 1
+}
+
+// The name of standard input alone.
+fn input_alone(alloc: Global) -> Result<Vec<Vec<u8>>, AllocError> {
+    let mut names = Vec::new(alloc);
+    names.push(Vec::from_slice(alloc, b"-")?)?;
+    Ok(names)
+}
+
+/// The check of the texts that the words, a list and a folder name, or of standard input where there is none.
 pub(crate) fn check<Rt: Threads + Sync>(
     rt: &Rt,
     host: &HostRuntime,
-    files: &[Vec<u8>],
+    input: Input,
     cutting: Cutting,
+    limit: Limit,
     asked: Options,
-) -> Result<u8, Failure>
-    requires { IsLimit asked.events }
-{
-    if has_names(files, asked) {
-        return check_files(rt, host, files, cutting, asked);
+) -> Result<u8, Failure> {
+    if !has_names(&input, asked) {
+        let text = open_only(host, &input.into_file())?;
+        return check_text(rt, host, text, cutting, limit, asked);
     }
-    let text = open_only(host, files)?;
-    check_text(rt, host, text, cutting, asked)
+    let mut input = input;
+    if input.files.is_empty() && !input.has_sources() {
+        input.files = input_alone(host.alloc())?;
+    }
+    let names = names_of(host, input)?;
+    check_names(rt, host, &names, cutting, limit, asked)
 }

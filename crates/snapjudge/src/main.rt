@@ -1,13 +1,16 @@
 //! Judges a recorded history of a single-writer board: is it regular, is it atomic, and why not?
 #![tactic(auto)]
 
+ghost use Rattle.std.specs.Prelude.{◌≡◌, MatchResult};
+ghost use Rattle.snap_commands.specs.Failures.{failure_code};
+
 mod check;
 mod jobs;
 mod options;
 mod streams;
 mod version;
 
-use crate::jobs::answered;
+use crate::jobs::done;
 use crate::streams::held_place;
 use crate::version::{asks_version, write_version};
 use snap_check::RunFault;
@@ -18,7 +21,9 @@ use std::sync::Wait;
 use std::thread::Threads;
 
 // The exit status where a run ended with a fault. That is said.
-fn failed(rt: &HostRuntime, fault: &RunFault) -> u8 {
+fn failed(rt: &HostRuntime, fault: &RunFault) -> u8
+    ensures { result ≡ 4 }
+{
     let _ = eprintln!(rt; "snapjudge: {fault}");
     4
 }
@@ -30,11 +35,13 @@ fn run<Rt: Threads + Wait + Sync>(rt: &Rt, host: &HostRuntime) -> Result<u8, Fai
     if asks_version(&words.texts) {
         return Ok(write_version(host)?);
     }
-    answered(rt, host, wanted_by(host.alloc(), words)?)
+    done(rt, host, wanted_by(host.alloc(), words)?)
 }
 
 // The exit status of a run. Why it has none of its own is said.
-fn code_of(host: &HostRuntime, ended: Result<u8, Failure>) -> u8 {
+fn code_of(host: &HostRuntime, ended: Result<u8, Failure>) -> u8
+    ensures { MatchResult ended (λ code. result ≡ code) (λ why. result ≡ failure_code why) }
+{
     match ended {
         Ok(code) => code,
         Err(Failure::Words(JobFault::Usage(text))) => {
@@ -42,7 +49,7 @@ fn code_of(host: &HostRuntime, ended: Result<u8, Failure>) -> u8 {
             5
         }
         Err(Failure::Words(JobFault::Memory)) => failed(host, &RunFault::Memory),
-        Err(Failure::Unopened) => 4,
+        Err(Failure::Unopened | Failure::Unheard) => 4,
         Err(Failure::Run(fault)) => failed(host, &fault),
     }
 }

@@ -1,17 +1,15 @@
 //! What the options of a check mean for each file.
 ghost use Rattle.std.specs.Prelude.{◌≡◌, MatchBool};
-ghost use Rattle.snap_core.specs.Limits.{IsLimit};
 ghost use Rattle.snap_files.specs.declared.format.Format.TheVariants.{Json, Plain};
 
-use snap_commands::limit_of;
+use snap_core::Limit;
 use snap_files::FileOptions;
 use snap_words::Options;
 
 /// The check of each file that a check of these options asks for.
-pub(crate) fn file_options(asked: Options) -> FileOptions
-    requires { IsLimit asked.events }
+pub(crate) fn file_options(limit: Limit, asked: Options) -> FileOptions
     ensures format { MatchBool asked.json (result.format ≡ Json) (result.format ≡ Plain) }
-    ensures check { (result.check.quiet ≡ asked.quiet) × (result.check.views ≡ asked.views) × (result.check.limit.events ≡ asked.events) }
+    ensures check { (result.check.quiet ≡ asked.quiet) × (result.check.views ≡ asked.views) × (result.check.limit ≡ limit) }
 {
-    FileOptions::new(asked.json, asked.quiet, asked.views, limit_of(asked.events))
+    FileOptions::new(asked.json, asked.quiet, asked.views, limit)
 }

@@ -3,7 +3,7 @@ use Rattle.std.specs.Prelude.{◌≡◌, ℕ, ◌<◌, ◌≤◌, zero, suc, tru
 use Rattle.snap_core.specs.declared.entry.Entry.{Entry}
 use Rattle.snap_board.specs.declared.desk_state.DeskState.{DeskState}
 use Rattle.snap_account.specs.Seats.{Brief}
-use Rattle.snap_account.specs.Rule.{tick_limit}
+use Rattle.snap_account.specs.Limits.{tick_cap}
 
 abbrev pub brief_of : ℕ → DeskState → Brief
 brief_of d k = record { desk = d; ticks = k.ticks; number = k.stores; value = k.value; idle = true }
@@ -18,7 +18,7 @@ desks_in zero slots = []
 desks_in (suc d) slots = slot_brief d (slice_index_or slots d None) ++ desks_in d slots
 
 abbrev pub AreSmall : List (Option DeskState) → Type 0
-AreSmall slots = (d : ℕ) (k : DeskState) → slice_index_or slots d None ≡ Some k → (k.stores ≤ k.ticks) × (k.ticks ≤ tick_limit)
+AreSmall slots = (d : ℕ) (k : DeskState) → slice_index_or slots d None ≡ Some k → (k.stores ≤ k.ticks) × (k.ticks ≤ tick_cap)
 
 -- all desks below n are in
 abbrev pub AllIn : ℕ → List (Option DeskState) → Type 0

@@ -57,7 +57,7 @@ fn expect_scanned(
     requires { IsDeskOf board.now desk.old }
     ensures { IsDeskOf board.now desk.new }
 {
-    let scanned = board.scan(alloc, desk, 4_194_302)?;
+    let scanned = board.scan(alloc, desk, 1_048_574)?;
     assert!(rt; is_of(&scanned, (0, 0, 2)));
     Ok(())
 }
@@ -66,9 +66,9 @@ fn expect_scanned(
 fn a_scan_is_spent_by_its_tries(rt: HostRuntime) -> Result<(), Fail> {
     let alloc = rt.alloc();
     let (board, _gathered, mut desk) = opened(alloc, 1)?;
-    expect_refused(&rt, alloc, &board, &mut desk, 4_194_303);
+    expect_refused(&rt, alloc, &board, &mut desk, 1_048_575);
     expect_scanned(&rt, alloc, &board, &mut desk)?;
-    expect_refused(&rt, alloc, &board, &mut desk, 4_194_302);
+    expect_refused(&rt, alloc, &board, &mut desk, 1_048_574);
     let viewed = board.collect(alloc, &mut desk)?;
     assert!(rt; is_of(&viewed, (0, 3, 4)));
     Ok(())

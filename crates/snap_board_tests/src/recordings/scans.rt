@@ -1,5 +1,5 @@
 //! Recordings of plans that scan.
-use super::{expect_both_shown, refusal, two_scripts};
+use super::{expect_both_shown, greatest_refusal, refusal, two_scripts};
 use snap_core::OpenGate;
 use snap_record::{PlanRefusal, Step, record_plan};
 use snap_testing::Meeting;
@@ -17,11 +17,20 @@ fn scans_of_a_plan_are_limited(rt: HostRuntime) -> Result<(), Fail> {
     for (steps, tries, known) in [
         (1, 0, refused),
         (1, 1025, refused),
-        (4088, 1024, None),
-        (4089, 1024, refused),
+        (1022, 1024, None),
+        (1023, 1024, refused),
     ] {
         let lists = scans(rt.alloc(), steps, tries)?;
         assert!(rt; refusal(lists) == known, "{steps} scans of {tries} tries");
+    }
+    Ok(())
+}
+
+#[test]
+fn plans_scan_more_by_the_greatest_limit(rt: HostRuntime) -> Result<(), Fail> {
+    for (steps, known) in [(16352, None), (16353, Some(PlanRefusal::TooLong))] {
+        let lists = scans(rt.alloc(), steps, 1024)?;
+        assert!(rt; greatest_refusal(lists) == known, "{steps} scans");
     }
     Ok(())
 }
@@ -49,5 +58,16 @@ fn the_stamps_of_a_lone_scan_leave_its_middle_tick_out(rt: HostRuntime) -> Resul
     let plan = two_scripts(alloc, &first, &[])?;
     let recording = record_plan(&rt, alloc, &plan, &OpenGate)?;
     assert!(rt; recording.stamps.as_slice() == [0, 1, 2, 4, 5, 6].as_slice());
+    Ok(())
+}
+
+#[test]
+fn a_plan_may_have_collects_and_scans(rt: HostRuntime) -> Result<(), Fail> {
+    let alloc = rt.alloc();
+    let first = [Step::Store(9), Step::View, Step::Scan(3), Step::View];
+    let plan = two_scripts(alloc, &first, &[])?;
+    let recording = record_plan(&rt, alloc, &plan, &OpenGate)?;
+    assert!(rt; recording.interfered == 0);
+    assert!(rt; recording.stamps.as_slice() == [0, 1, 2, 3, 4, 6, 7, 8].as_slice());
     Ok(())
 }

@@ -1,8 +1,8 @@
 use Rattle.std.proofs.Common.{subst}
-use Rattle.snap_c.specs.Answers.{IsCheckedWithin}
+use Rattle.snap_c.specs.Answers.{IsChecked}
 use Rattle.snap_c.proofs.snapjudge_check.Goals as goal
 
 pub returns : goal.returns
 returns c =
-    subst (λ n. IsCheckedWithin n c.args.text.now c.args.report.now c.check_within.new.report c.check_within.new.length c.check_within.result)
-    c.usual.ensures c.check_within.ensures
+    subst (λ n. IsChecked n c.args.text.now c.args.report.now c.check_text.new.report c.check_text.new.length c.check_text.result)
+    c.usual.ensures c.check_text.ensures

@@ -1,5 +1,5 @@
 use Rattle.std.proofs.Common.{inl, inr, refl, subst}
-use Rattle.snap_c.specs.Answers.{IsCheckedWithin}
+use Rattle.snap_c.specs.Answers.{IsChecked}
 use Rattle.std.proofs.lemmas.Bool.{false≢true}
 use Rattle.snap_c.proofs.snapjudge_check_limit.Goals as goal
 
@@ -7,8 +7,8 @@ pub returns-in-Some : goal.returns-in-Some
 returns-in-Some c =
     inl (
       c.in-Some.ensures.given.0 refl,
-      subst (λ n. IsCheckedWithin n c.args.text.now c.args.report.now c.check_within.new.report c.check_within.new.length c.check_within.result)
-          c.in-Some.ensures.limit c.check_within.ensures,
+      subst (λ n. IsChecked n c.args.text.now c.args.report.now c.check_text.new.report c.check_text.new.length c.check_text.result)
+          c.in-Some.ensures.limit c.check_text.ensures,
     )
 
 pub returns-in-None : goal.returns-in-None

@@ -47,7 +47,7 @@ pub record Recalls (t : Tables) (es : List Event) : Type 0 where
   pub counts : (k : ℕ) → count_in (writer_in t k) ≡ count_by (begins_update_of k) es
   pub writers : (k p : ℕ) → is_written_by_other p (writer_in t k) ≡ list_any (is_by_other p k) es
 
--- what a `History` keeps: its events, and tables that recall them
+-- events that are a history, and tables that recall them
 pub record IsRecalled (t : Tables) (es : List Event) : Type 0 where
   pub kept : IsBoundedHistory es
   pub recalls : Recalls t es

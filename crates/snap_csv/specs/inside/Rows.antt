@@ -6,12 +6,11 @@ use Rattle.csv.specs.Reading.{records_from, default_config, source_of, Ready}
 use Rattle.csv.specs.declared.reader.Reader.{Reader}
 use Rattle.csv.specs.declared.reader.Trim.TheVariants as trim
 use Rattle.std.proofs.Common.{Bor}
-use Rattle.snap_core.specs.declared.event.Event.{Event}
+use Rattle.snap_core.specs.Limited.{LimitedEvents}
 use Rattle.snap_text.specs.Fields.{Fields}
 use Rattle.snap_format.specs.declared.refusal.ReadRefusal.{ReadRefusal}
 use Rattle.snap_format.specs.Records.{RowsNumbered}
-use Rattle.snap_format.specs.Texts.{RowsRead}
-use Rattle.snap_rows.specs.Taking.{RefusesRows}
+use Rattle.snap_rows.specs.Taking.{AnswersRows, RefusesRows}
 
 -- a reader over memory stands before these records
 pub record Stands (r : Reader (Bor (List ℕ))) (rows : List Fields) : Type 0 where
@@ -27,6 +26,6 @@ pub record Stands (r : Reader (Bor (List ℕ))) (rows : List Fields) : Type 0 wh
   pub gives : records_from default_config fuel r.state left ≡ rows
 
 -- what an answer says of records, with the number of each event's record
-abbrev pub AnswersListed : ℕ → List Fields → Result (List Event × Vec ℕ) ReadRefusal → Type 0
-AnswersListed limit rows (Ok x) = RowsRead limit rows x.0 × RowsNumbered rows x.1.items
+abbrev pub AnswersListed : ℕ → List Fields → Result (LimitedEvents × Vec ℕ) ReadRefusal → Type 0
+AnswersListed limit rows (Ok x) = AnswersRows limit rows (Ok x.0) × RowsNumbered rows x.1.items
 AnswersListed limit rows (Err e) = RefusesRows limit rows e

@@ -1,5 +1,5 @@
 -- The pieces of the completed views, and their tallies.
-use Rattle.std.specs.Prelude.{◌≡◌, ℕ, ◌+◌, ◌*◌, ◌/◌, ◌<◌, true, List, length, slice_index_or, All, map, Result, IfOk, Option, None, MatchOption, is_some}
+use Rattle.std.specs.Prelude.{◌≡◌, ℕ, ◌+◌, ◌-◌, ◌*◌, ◌/◌, ◌<◌, min, true, List, length, slice_index_or, All, map, Result, IfOk, Option, None, MatchOption, is_some}
 use Rattle.std.specs.declared.alloc.AllocError.{AllocError}
 use Rattle.snap_core.specs.Calls.{Call, views_of}
 use Rattle.snap_conditions.specs.Tally.{tally_of}
@@ -17,9 +17,23 @@ piece_start pieces p views = p * views / pieces
 abbrev pub views_in_piece : List Call → ℕ → ℕ → List Call
 views_in_piece calls pieces p = views_between calls (piece_start pieces p (length (views_of calls))) (piece_start pieces (p + 1) (length (views_of calls)))
 
--- the tally of piece p
+-- views are compared with others in blocks of 512: the first view, at a place or behind it, with which a block begins
+abbrev pub block_from : ℕ → ℕ → ℕ
+block_from place views = min ((place + 512 - 1) / 512 * 512) views
+
+-- the views of the blocks that begin in piece p
+abbrev pub views_in_blocks : List Call → ℕ → ℕ → List Call
+views_in_blocks calls pieces p =
+    let views = length (views_of calls) in
+    views_between calls (block_from (piece_start pieces p views) views) (block_from (piece_start pieces (p + 1) views) views)
+
+-- the one tally, but the read faults and the stale views of the other
+abbrev pub with_reads : Tally → Tally → Tally
+with_reads t reads = record t { read = reads.read; stale = reads.stale }
+
+-- the tally of piece p: the read faults of the blocks that begin in it, and the other faults of its views
 abbrev pub IsPieceTally : List Call → ℕ → ℕ → Tally → Type 0
-IsPieceTally calls pieces p t = (p < pieces) × (t ≡ tally_of calls (views_in_piece calls pieces p))
+IsPieceTally calls pieces p t = (p < pieces) × (t ≡ with_reads (tally_of calls (views_in_piece calls pieces p)) (tally_of calls (views_in_blocks calls pieces p)))
 
 abbrev pub AreTallied : List Call → ℕ → List Drawn → Type 0
 AreTallied calls pieces pairs = All (λ pair. IsPieceTally calls pieces pair.piece pair.tally) pairs

@@ -14,6 +14,7 @@ use Rattle.snap_record.specs.Relays.{RelayView, SenderView, IsSenderOf, IsTakerO
 use Rattle.snap_record.specs.Scripts.{AreCallsOf}
 use Rattle.snap_record.specs.inside.Scripts.{DidSome}
 use Rattle.snap_record.specs.Choices.{views_in}
+use Rattle.snap_record.specs.Plans.{PlanView, ticks_within}
 
 -- the worker's desk and its sender are of this recorder, and have one place
 abbrev pub IsWorkerOf : Recorder → Worker → Type 0
@@ -22,6 +23,10 @@ IsWorkerOf r w = IsDeskOf r.board w.desk × IsSenderOf r.relay w.sender × (w.se
 -- the worker has made no call and sent nothing
 abbrev pub IsUnused : Worker → Type 0
 IsUnused w = (records w.desk ≡ []) × (ticks w.desk ≡ 0) × (lost w.desk ≡ []) × (collects w.desk ≡ 0) × (w.sender.sent ≡ []) × (w.desk.calls ≡ [])
+
+-- the desks of the recorder's board may draw as many ticks as the plan's scripts
+abbrev pub HasTicksFor : PlanView → Recorder → Type 0
+HasTicksFor plan recorder = recorder.board.limit ≡ ticks_within plan.limit
 
 -- the worker of desk d ran its script: where memory was not refused, it sent the records of its desk, and they are the script's
 pub record HasRun (recorder : Recorder) (d : ℕ) (steps : List Step) (ran : Ran) : Type 0 where

@@ -1,7 +1,7 @@
-//! Readers that fail while a text is read into a vector, and what the calls answer then.
+//! Readers that fail while a text is read, and what the calls answer then.
 use super::{STALE_VIEW, stamps};
-use snap_core::Counted;
-use snap_csv::{ReadRefusal, read_history_in, read_records};
+use snap_core::{Counted, Limit};
+use snap_csv::{ReadRefusal, read_history, read_records};
 use snap_testing::Drip;
 use std::alloc::Global;
 use std::process::Abort;
@@ -9,11 +9,10 @@ use std::process::Abort;
 // What a call answered, and how many failures and reads were counted then.
 type Found = (Result<usize, ReadRefusal>, u64, u64);
 
-// How many events are read into a vector from a text that comes a byte at a time.
+// How many events are read from a text that comes a byte at a time.
 fn history_in(alloc: Global, text: &[u8], fails_at: u64) -> Found {
     let mut reader = Counted::new(Drip::new(text, fails_at));
-    let mut room = Vec::new(alloc);
-    let count = match read_history_in(alloc, &mut reader, &mut room) {
+    let count = match read_history(alloc, &mut reader) {
         Ok(history) => Ok(history.len()),
         Err(refusal) => Err(refusal),
     };
@@ -24,7 +23,7 @@ fn history_in(alloc: Global, text: &[u8], fails_at: u64) -> Found {
 fn records_in(alloc: Global, text: &[u8], fails_at: u64) -> Found {
     let mut reader = Counted::new(Drip::new(text, fails_at));
     let mut room = Vec::new(alloc);
-    let count = match read_records(alloc, &mut reader, &mut room) {
+    let count = match read_records(alloc, &mut reader, &mut room, Limit::usual()) {
         Ok((_history, records)) => Ok(records.len()),
         Err(refusal) => Err(refusal),
     };
@@ -40,7 +39,7 @@ fn expect_device(rt: &impl Abort, at: u64, found: Found) {
 }
 
 #[test]
-fn a_history_read_into_a_vector_ends_at_the_read_that_fails(rt: HostRuntime) {
+fn a_history_ends_at_the_read_that_fails(rt: HostRuntime) {
     for (text, bytes) in TEXTS {
         for at in 1..*bytes + 2 {
             expect_device(&rt, at, history_in(rt.alloc(), *text, at));
@@ -66,9 +65,9 @@ fn records_that_are_numbered_end_at_the_read_that_fails(rt: HostRuntime) {
 fn a_reader_that_has_failed_once_keeps_its_count(rt: HostRuntime) {
     let mut reader = Counted::new(Drip::new(STALE_VIEW, 1));
     let mut room = Vec::new(rt.alloc());
-    let first = read_history_in(rt.alloc(), &mut reader, &mut room).err();
+    let first = read_records(rt.alloc(), &mut reader, &mut room, Limit::usual()).err();
     assert!(rt; first == Some(ReadRefusal::Device) && reader.failures() == 1);
-    let second = read_history_in(rt.alloc(), &mut reader, &mut room);
+    let second = read_records(rt.alloc(), &mut reader, &mut room, Limit::usual());
     assert!(rt; second.is_ok() && reader.failures() == 1);
     assert_eq!(rt; room.as_slice(), STALE_VIEW);
 }

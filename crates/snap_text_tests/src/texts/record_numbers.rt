@@ -1,6 +1,6 @@
 //! The records of a text by their numbers.
 use super::{STALE_VIEW, VIEW_BESIDE_UPDATE, stamps};
-use snap_core::Counted;
+use snap_core::{Counted, Limit};
 use snap_csv::{ReadRefusal, read_records, record_of};
 use snap_text::TextFault;
 use std::alloc::{AllocError, Global};
@@ -10,7 +10,8 @@ use std::test::Fail;
 // The numbers of the records of a text's events.
 fn records_in(alloc: Global, text: &[u8]) -> Result<Vec<u32>, Fail> {
     let mut room = Vec::new(alloc);
-    let (history, records) = read_records(alloc, &mut Counted::new(text), &mut room)
+    let mut reader = Counted::new(text);
+    let (history, records) = read_records(alloc, &mut reader, &mut room, Limit::usual())
         .ok()
         .ok_or("a history")?;
     if history.len() != records.len() {
@@ -70,7 +71,8 @@ fn looks_up_the_record_at_which_a_text_was_refused(rt: HostRuntime) -> Result<()
     let text =
         b"event,process,op,data\nbegin,0,view,\nend,\"0\",view,\"0:1:1, \"\"x\"\"\"\nend,0\n".as_slice();
     let mut room = Vec::new(rt.alloc());
-    let answer = read_records(rt.alloc(), &mut Counted::new(text), &mut room).err();
+    let mut reader = Counted::new(text);
+    let answer = read_records(rt.alloc(), &mut reader, &mut room, Limit::usual()).err();
     let refusal = ReadRefusal::Text {
         place: 3,
         fault: TextFault::BadData,

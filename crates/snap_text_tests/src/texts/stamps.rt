@@ -1,9 +1,6 @@
 //! Texts whose records have stamps.
-use super::{
-    VIEW_BESIDE_UPDATE, dripped, expect_counts, expect_failed_reads, expect_refusals, is_front,
-    refusal_of,
-};
-use snap_core::{Counted, Event, History};
+use super::{dripped, expect_counts, expect_failed_reads, expect_refusals, is_front, refusal_of};
+use snap_core::{Counted, Event, History, Limit};
 use snap_csv::{WriteRefusal, read_text, write_history, write_history_stamped};
 use snap_testing::Cup;
 use std::alloc::{AllocError, Global};
@@ -104,7 +101,9 @@ fn refuses_the_same_of_lines_with_cr_lf(rt: HostRuntime) -> Result<(), Fail> {
 
 // What write_history writes of the history of a text with stamps.
 fn plain_text_of(alloc: Global, text: &[u8]) -> Result<Vec<u8>, Fail> {
-    let history = read_text(alloc, text).ok().ok_or("a history")?;
+    let history = read_text(alloc, text, Limit::usual())
+        .ok()
+        .ok_or("a history")?;
     let mut writer = Counted::new(Vec::new(alloc));
     write_history(alloc, &mut writer, &history)
         .ok()
@@ -187,21 +186,6 @@ fn reads_stamps_a_byte_at_a_time(rt: HostRuntime) {
 #[test]
 fn a_failed_read_of_stamps_is_the_answer_wherever_it_comes(rt: HostRuntime) {
     expect_failed_reads(&rt, rt.alloc(), STALE_VIEW_STAMPED);
-}
-
-#[test]
-fn writes_each_event_with_its_stamp(rt: HostRuntime) -> Result<(), Fail> {
-    let history = read_text(rt.alloc(), VIEW_BESIDE_UPDATE)
-        .ok()
-        .ok_or("a history")?;
-    assert!(rt; history.len() == 4);
-    let mut writer = Counted::new(Vec::new(rt.alloc()));
-    let answer = write_history_stamped(rt.alloc(), &mut writer, &history, &[2, 3, 5, 8]);
-    assert_eq!(rt; answer, Ok(()));
-    let text =
-        b"at,event,process,op,data\n2,begin,0,update,0:1:3\n3,begin,1,view,\n5,end,1,view,\n8,end,0,update,\n".as_slice();
-    assert_eq!(rt; writer.into_inner().as_slice(), text);
-    Ok(())
 }
 
 #[test]

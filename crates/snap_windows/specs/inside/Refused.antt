@@ -1,5 +1,5 @@
 -- Why an event is refused.
-use Rattle.std.specs.Prelude.{ℕ, Bool, true, false, List, Option, Some, None, length, nat_le, if◌then◌else◌}
+use Rattle.std.specs.Prelude.{ℕ, Bool, true, false, List, Option, Some, None}
 use Rattle.snap_core.specs.declared.event.Event.{Event}
 use Rattle.snap_core.specs.declared.history.EventRefusal.{EventRefusal}
 use Rattle.snap_core.specs.declared.history.EventRefusal.TheVariants.{TooMany, Busy, Idle, OtherOp, Writer, Number, Memory}
@@ -19,5 +19,4 @@ behind_writer false found = found
 
 -- the first refusal of an event, by the window with numbers from 1 and the events before the window
 abbrev pub first_refusal : ℕ → List Event → Event → List Event → Event → Option EventRefusal
-first_refusal most window renumbered before event =
-    if nat_le most (length window) then Some TooMany else behind_writer (has_other_writer before event) (refusal_of window renumbered)
+first_refusal limit window renumbered before event = behind_writer (has_other_writer before event) (refusal_of limit window renumbered)

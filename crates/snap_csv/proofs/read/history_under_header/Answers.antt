@@ -13,4 +13,4 @@ returns-in_err-take_rows c = λ head later heads s.
 pub returns : goal.returns
 returns c = λ head later heads s.
     let m = begun c.args.limit.events (head ∷ later) (Stands c.args.reader.now) head c.with_limit-history.result.events (later, refl, s) heads c.with_limit-history.ensures.events in
-    rw c.into_history.ensures.events (c.in_ok-take_rows.ensures (head ∷ later) m)
+    c.in_ok-take_rows.ensures (head ∷ later) m

@@ -17,7 +17,7 @@ loop-i-init c = record {
 pub returns-then-not-branch : goal.returns-then-not-branch
 returns-then-not-branch c = λ rows begun.
     let m = c.loop-i.invariant.midway rows begun in
-    done c.args.limit.events rows (Stands c.loop-i.reader) c.loop-i.history.events c.loop-i.i m (rw c.if-not-branch.true at (c.in_ok-next_row.ensures _ m.left))
+    done c.args.limit.events rows (Stands c.loop-i.reader) c.loop-i.history c.loop-i.i m (rw c.if-not-branch.true at (c.in_ok-next_row.ensures _ m.left)) c.loop-i.invariant.limit
 
 pub returns-in_err-take_row : goal.returns-in_err-take_row
 returns-in_err-take_row c = λ rows begun.

@@ -6,7 +6,7 @@ use Rattle.snap_csv.proofs.records.listed_history.Goals as goal
 
 pub returns-clause-each : goal.returns-clause-each
 returns-clause-each c =
-    let events = c.in_ok-history.history in
+    let events = c.in_ok-history.history.events in
     let read = c.in_ok-history.ensures in
-    let count = (rows_spell c.args.limit.events (rows_of c.args.text.now) events (numbers_kept (length events) c.in_ok-history.kept) read.0 read.1).count in
+    let count = (rows_spell c.args.limit.events (rows_of c.args.text.now) events (numbers_kept (length events) c.in_ok-history.kept) read.0.0 read.1).count in
     ap length c.in_ok-records.ensures ∙ ap (λ n. length (numbers_kept n c.in_ok-history.kept)) c.len.ensures.len ∙ count

@@ -3,7 +3,7 @@ use Rattle.snap_core.specs.Calls.{calls_of}
 use Rattle.snap_tally.specs.Grids.{AreColumnsOf}
 use Rattle.snap_pairs.specs.inside.Reads.{AreParts, part_start}
 use Rattle.snap_pairs.proofs.Columns.{AreMade, last_part, parts_before, part_joined}
-use Rattle.snap_pairs.proofs.Starts.{ends_whole, starts_at_zero}
+use Rattle.snap_views.proofs.Pieces.{ends_whole, starts_at_zero}
 use Rattle.snap_pairs.proofs.reads.joined.Goals as goal
 
 pub loop-part-preserved : goal.loop-part-preserved

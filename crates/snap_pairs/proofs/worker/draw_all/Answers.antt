@@ -1,14 +1,11 @@
-use Rattle.std.proofs.Common.{◌≡◌, ◌+◌, ◌++◌, ◌∷◌, [], All, rules, arith, length, length-append, map, vec_items, sym, ap, ◌∙◌, subst}
+use Rattle.std.proofs.Common.{◌≡◌, ◌++◌, ◌∷◌, [], All, rules, arith, length, length-append, map, vec_items, sym, ap, ◌∙◌, subst}
 use Rattle.std.proofs.lemmas.List.{map_push, length-map}
-use Rattle.snap_core.specs.Calls.{calls_of, views_of}
-use Rattle.snap_conditions.specs.Tally.{tally_of}
-use Rattle.snap_views.specs.Seen.{views_between}
+use Rattle.snap_core.specs.Calls.{calls_of}
 use Rattle.std.proofs.lemmas.List.Elements.{All-push}
 use Rattle.snap_pairs.specs.Claiming.{ClaimView, pieces_of}
-use Rattle.snap_pairs.specs.inside.Pieces.{IsPieceTally, piece_start, views_in_piece}
+use Rattle.snap_pairs.specs.inside.Pieces.{IsPieceTally}
 use Rattle.snap_pairs.specs.declared.worker.Drawn.{Drawn}
 use Rattle.snap_pairs.proofs.Finishing.{few_pieces, pieces_more}
-use Rattle.snap_pairs.proofs.Starts.{starts_grow}
 use Rattle.snap_pairs.proofs.worker.draw_all.Goals as goal
 
 pub overflow_cast-len : goal.overflow_cast-len
@@ -22,7 +19,6 @@ overflow_cast-len g c =
 pub loop-piece-preserved : goal.loop-piece-preserved
 loop-piece-preserved g c =
     let calls = calls_of c.args.index.now in
-    let views = length (views_of calls) in
     let n = c.args.counter.now.pieces in
     let i = c.loop-piece.invariant in
     let drawn = c.in-Some.ensures in
@@ -30,14 +26,11 @@ loop-piece-preserved g c =
     let p = c.in-Some.piece in
     let t = c.in_ok-tally.tally in
     let pushed : vec_items c.push.new.self ≡ vec_items c.loop-piece.pairs ++ record { piece = p; tally = t } ∷ [] = search rules in
-    let same = c.view_count-views.ensures in
-    let from : c.start_of-from.result ≡ piece_start n p views = c.start_of-from.ensures.start ∙ (λ j. piece_start (sym c.requires.pieces j) p (same j)) in
-    let to : c.start_of-to.result ≡ piece_start n (p + 1) views = c.start_of-to.ensures.start ∙ (λ j. piece_start (sym c.requires.pieces j) (p + 1) (same j)) in
-    let tallied : t ≡ tally_of calls (views_in_piece calls n p) = c.in_ok-tally.ensures ∙ (λ j. tally_of calls (views_between calls (from j) (to j))) in
+    let tallied : IsPieceTally calls n p t = subst (λ m. IsPieceTally calls m p t) (sym c.requires.pieces) c.in_ok-tally.ensures in
     record {
       of_counter = drawn.same.0;
       few = drawn.few;
-      tallied = subst (All (λ (pair : Drawn). IsPieceTally calls n pair.piece pair.tally)) (sym pushed) (All-push (λ (pair : Drawn). IsPieceTally calls n pair.piece pair.tally) (vec_items c.loop-piece.pairs) (record { piece = p; tally = t }) i.tallied (drawn.piece.0, tallied));
+      tallied = subst (All (λ (pair : Drawn). IsPieceTally calls n pair.piece pair.tally)) (sym pushed) (All-push (λ (pair : Drawn). IsPieceTally calls n pair.piece pair.tally) (vec_items c.loop-piece.pairs) (record { piece = p; tally = t }) i.tallied tallied);
       covers = ap pieces_of drawn.piece.1 ∙ pieces_more old.pieces p old.drawn (omega (arith, i.of_counter.1, drawn.piece.0)) ∙ ap (λ ps. ps ++ p ∷ []) i.covers
           ∙ sym (map_push (λ (pair : Drawn). pair.piece) (vec_items c.loop-piece.pairs) (record { piece = p; tally = t })) ∙ ap (map (λ (pair : Drawn). pair.piece)) (sym pushed);
     }
@@ -48,22 +41,8 @@ loop-piece-init g c = search rules
 pub draw-requires : goal.draw-requires
 draw-requires g c = c.loop-piece.invariant.of_counter
 
-pub start_of-from-requires : goal.start_of-from-requires
-start_of-from-requires g c = omega (arith, c.in-Some.ensures.piece.0, c.requires.pieces)
-
-pub overflow_add-piece : goal.overflow_add-piece
-overflow_add-piece g c = omega (arith, c.in-Some.ensures.piece.0, c.requires.pieces, c.args.cutting.pieces_fit.1)
-
-pub start_of-to-requires : goal.start_of-to-requires
-start_of-to-requires g c = omega (arith, c.in-Some.ensures.piece.0, c.requires.pieces)
-
-pub piece_tally-requires-clause-order : goal.piece_tally-requires-clause-order
-piece_tally-requires-clause-order g c =
-    let grow = starts_grow c.in-Some.piece (c.in-Some.piece + 1) c.view_count-views.result c.args.cutting.pieces c.args.cutting.pieces_fit.0 (omega arith) in
-    omega (arith, grow, c.start_of-from.ensures.start, c.start_of-to.ensures.start)
-
-pub piece_tally-requires-clause-views : goal.piece_tally-requires-clause-views
-piece_tally-requires-clause-views g c = omega (arith, c.start_of-to.ensures.inside, c.view_count-views.ensures)
+pub piece_tally-requires-clause-piece : goal.piece_tally-requires-clause-piece
+piece_tally-requires-clause-piece g c = omega (arith, c.in-Some.ensures.piece.0, c.requires.pieces)
 
 pub loop-piece-smaller : goal.loop-piece-smaller
 loop-piece-smaller g c =

@@ -1,15 +1,15 @@
 use Rattle.std.proofs.Common.{inr, refl}
 use Rattle.snap_core.specs.Counting.{inner_of}
-use Rattle.snap_format.specs.Records.{HaveRecordsWithin}
+use Rattle.snap_format.specs.Records.{HaveRecords}
 use Rattle.snap_check.proofs.Runs.{with_text}
 use Rattle.snap_picture.proofs.Drawings.{drawn_refusal, drawn_text}
 use Rattle.snap_picture.proofs.draw.draw_input.Goals as goal
 
 pub returns-in-Ok-clause-answer : goal.returns-in-Ok-clause-answer
 returns-in-Ok-clause-answer g c =
-    let es = c.in-Ok.history in
+    let es = c.in-Ok.history.events in
     let records = c.in-Ok.records.items in
-    with_text (λ text. HaveRecordsWithin c.args.limit.events text es records) _ (g.R.Read.remaining (inner_of c.args.reader.now)) c.in-Ok.ensures.text
+    with_text (λ text. HaveRecords c.args.limit.events text es records) _ (g.R.Read.remaining (inner_of c.args.reader.now)) c.in-Ok.ensures.text
     (λ text have. inr (drawn_text c.args.limit.events _ _ text es records c.deref.result.now _ _ have c.deref.ensures.value c.in_ok-drawn-in-Ok.ensures))
 
 pub returns-in-Err-Text-clause-answer : goal.returns-in-Err-Text-clause-answer

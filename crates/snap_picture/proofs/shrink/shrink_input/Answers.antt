@@ -7,8 +7,8 @@ pub returns-in-History-clause-answer : goal.returns-in-History-clause-answer
 returns-in-History-clause-answer g c =
     from_history c.args.limit.events _ (g.R.Read.remaining (inner_of c.args.reader.now)) c.in_ok-history.field-0 c.in-History.history c.in_ok-history.ensures.text c.in-History.is
     (λ text reads. inr (record {
-      events = c.in-History.history;
-      left = c.in_ok-status-in-History.left;
+      events = c.in-History.history.events;
+      left = c.in_ok-status-in-History.left.events;
       history = reads;
       cut = c.in_ok-status-in-History.ensures;
       drawn = c.in_ok-text-in-History.ensures;

@@ -15,7 +15,7 @@ loop-before-preserved c =
     let pushed : c.push.new.self.items ≡ before ++ record { from = from; to = to } ∷ [] = search rules in
     record {
       pieces = rw pushed (All-push (IsPieceOf lines) before record { from = from; to = to } c.loop-before.invariant.pieces (order, size.within));
-      all = rw pushed (piece_more 0 from to before c.loop-before.invariant.all order);
+      all = rw pushed (piece_more lines 0 from to before c.loop-before.invariant.all order size.ends);
       from = size.within;
       last = λ e.
           let one : c.min-count.result - c.loop-before.before ≡ 1 = omega (arith, e) in let after = rw one at size.after in omega (arith, after, size.within, c.loop-before.invariant.from);

@@ -16,7 +16,7 @@ use Rattle.snap_record.proofs.recorder.close_all.Goals as goal
 
 pub overflow_add-interfered : goal.overflow_add-interfered
 overflow_add-interfered c =
-    let i = c.each.invariant in let ran = c.in-Some.ran in let scripts = c.args.plan.now in
+    let i = c.each.invariant in let ran = c.in-Some.ran in let scripts = c.args.plan.now.scripts in
     let recorder : Recorder = record { board = board_view c.board.inside; relay = c.args.recorder.relay } in
     let is : vec_items c.each.rans ≡ vec_items c.pop.new.self ++ ran ∷ [] = search rules in
     let shorter : vec_len c.each.rans ≡ length (vec_items c.pop.new.self) + 1 = search rules in
@@ -32,11 +32,11 @@ pub give_back-gathered-requires-clause-desk : goal.give_back-gathered-requires-c
 give_back-gathered-requires-clause-desk c =
     let recorder : Recorder = record { board = board_view c.board.inside; relay = c.args.recorder.relay } in
     let is : vec_items c.each.rans ≡ vec_items c.pop.new.self ++ c.in-Some.ran ∷ [] = search rules in
-    subst (λ (b : BoardView). IsDeskOf b c.in-Some.ran.worker.desk) c.board.view_is (run_last recorder c.args.plan.now (vec_items c.each.rans) (vec_items c.pop.new.self) c.in-Some.ran c.each.invariant.ran is).0.worker.0
+    subst (λ (b : BoardView). IsDeskOf b c.in-Some.ran.worker.desk) c.board.view_is (run_last recorder c.args.plan.now.scripts (vec_items c.each.rans) (vec_items c.pop.new.self) c.in-Some.ran c.each.invariant.ran is).0.worker.0
 
 pub each-preserved : goal.each-preserved
 each-preserved c =
-    let i = c.each.invariant in let ran = c.in-Some.ran in let scripts = c.args.plan.now in
+    let i = c.each.invariant in let ran = c.in-Some.ran in let scripts = c.args.plan.now.scripts in
     let recorder : Recorder = record { board = board_view c.board.inside; relay = c.args.recorder.relay } in
     let d = ran.worker.desk in let s = ran.worker.sender in
     let is : vec_items c.each.rans ≡ vec_items c.pop.new.self ++ ran ∷ [] = search rules in

@@ -9,10 +9,10 @@ abbrev pub invariant-each : goal.invariant-each
 invariant-each l = record {
   of_board : IsGatheredOf (board_view l.board-inside) l.gathered;
   inside : length (accounts l.gathered) ≡ vec_len l.senders;
-  count : vec_len l.senders + vec_len l.rans ≡ length l.plan;
-  ran : HaveRun (record { board = board_view l.board-inside; relay = l.relay }) l.plan (vec_items l.rans);
+  count : vec_len l.senders + vec_len l.rans ≡ length l.plan.scripts;
+  ran : HaveRun (record { board = board_view l.board-inside; relay = l.relay }) l.plan.scripts (vec_items l.rans);
   of_relay : All (IsSenderOf l.relay) (vec_items l.senders);
-  done : HaveDone l.plan (accounts l.gathered) (vec_items l.senders) l.interfered;
+  done : HaveDone l.plan.scripts (accounts l.gathered) (vec_items l.senders) l.interfered;
 }
 
 abbrev pub decreases-each : goal.decreases-each

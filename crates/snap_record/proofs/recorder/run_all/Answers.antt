@@ -10,13 +10,13 @@ returns-clause-count g c =
     let others = c.pop.new.self.items in
     let size : length c.args.workers.items ≡ length others + 1 = search rules in
     let own = c.each_job_beside-others.result.1.0 in
-    one_behind (λ v. v.items) (λ r. r.0.items) (λ rans. length rans ≡ length c.args.plan.now) own c.each_job_beside-others.result.0 c.all_done.result
+    one_behind (λ v. v.items) (λ r. r.0.items) (λ rans. length rans ≡ length c.args.plan.now.scripts) own c.each_job_beside-others.result.0 c.all_done.result
     (IfOk-weaker c.each_job_beside-others.result.0 _ _ (λ v answers. omega (arith, size, c.requires.count, answers.len, length-append v.items (own ∷ []))) c.each_job_beside-others.ensures.jobs)
     c.all_done.ensures.ran
 
 pub returns-clause-ran : goal.returns-clause-ran
 returns-clause-ran g c =
-    let r = c.args.recorder.now in let scripts = c.args.plan.now in
+    let r = c.args.recorder.now in let scripts = c.args.plan.now.scripts in
     let own = c.each_job_beside-others.result.1.0 in
     let first = c.in-Some.first in
     let others = c.pop.new.self.items in

@@ -5,6 +5,7 @@ use Rattle.snap_record.proofs.timeline.history_of.Given as goal
 
 abbrev pub invariant-each : goal.invariant-each
 invariant-each l = record {
-  whole : l.history ++ events_in (into_iter_items l.event-iterator) ≡ events_in l.fn.events.items;
+  whole : l.history.events ++ events_in (into_iter_items l.event-iterator) ≡ events_in l.fn.events.items;
+  limit : l.history.limit ≡ l.fn.limit.events;
   left : into_iter_len l.event-iterator ≡ length (into_iter_items l.event-iterator);
 }

@@ -6,7 +6,6 @@ use Rattle.snap_board.specs.declared.record.Record.{Record}
 use Rattle.snap_record.specs.Choices.{IsScan, tries_of, one_view, views_in}
 use Rattle.snap_board.specs.Desks.{records, ticks, lost}
 use Rattle.snap_record.specs.Plans.{step_ticks}
-use Rattle.snap_account.specs.Rule.{tick_limit}
 use Rattle.snap_record.specs.Relays.{SenderView}
 use Rattle.snap_record.specs.Scripts.{AreCallsOf}
 use Rattle.snap_record.specs.inside.Scripts.{IsStepOf, DidSome}
@@ -21,12 +20,12 @@ one_scan (Scan t) h = refl
 pub run_step-requires-clause-tries : goal.run_step-requires-clause-tries
 run_step-requires-clause-tries g c =
     let i = c.steps.invariant in
-    (has_room (tick_limit - ticks c.steps.worker.desk) c.args.script.now c.steps.turn (Store 0) c.steps-test.true i.room).tries
+    (has_room (c.args.recorder.now.board.limit - ticks c.steps.worker.desk) c.args.script.now c.steps.turn (Store 0) c.steps-test.true i.room).tries
 
 pub run_step-requires-clause-room : goal.run_step-requires-clause-room
 run_step-requires-clause-room g c =
     let i = c.steps.invariant in
-    let r = (has_room (tick_limit - ticks c.steps.worker.desk) c.args.script.now c.steps.turn (Store 0) c.steps-test.true i.room).ticks in omega (arith, i.few)
+    let r = (has_room (c.args.recorder.now.board.limit - ticks c.steps.worker.desk) c.args.script.now c.steps.turn (Store 0) c.steps-test.true i.room).ticks in omega (arith, i.few)
 
 pub overflow_add-interfered : goal.overflow_add-interfered
 overflow_add-interfered g c = omega (arith, c.steps.invariant.most, c.steps-test.true, c.requires.short)
@@ -39,14 +38,14 @@ steps-preserved g c =
     let recorded : records c.run_step.new.desk ≡ records c.steps.worker.desk ++ made ∷ [] = subst (λ (o : Option Record). MatchOption o (records c.run_step.new.desk ≡ records c.steps.worker.desk) (λ r. records c.run_step.new.desk ≡ records c.steps.worker.desk ++ r ∷ [])) is e.recorded in
     let same_lost : lost c.run_step.new.desk ≡ lost c.steps.worker.desk = subst (λ (o : Option Record). MatchOption o (lost c.run_step.new.desk ≡ lost c.steps.worker.desk ++ tries_of (get_or script k (Store 0))) (λ r. lost c.run_step.new.desk ≡ lost c.steps.worker.desk)) is e.lost in
     let step : IsStepOf c.steps.worker.desk.desk (get_or script k (Store 0)) made = subst (λ (o : Option Record). IfSome o (IsStepOf c.steps.worker.desk.desk (get_or script k (Store 0)))) is e.step in
-    let r = has_room (tick_limit - ticks c.steps.worker.desk) script k (Store 0) c.steps-test.true i.room in
+    let r = has_room (c.args.recorder.now.board.limit - ticks c.steps.worker.desk) script k (Store 0) c.steps-test.true i.room in
     let few = r.ticks in
     let sent = ap (λ (s : SenderView). s.sent) c.in-Ok.ensures in
     record {
       of_recorder = (e.desk.0, ap (λ (s : SenderView). s.queue) c.in-Ok.ensures ∙ i.of_recorder.1, ap (λ (s : SenderView). s.place) c.in-Ok.ensures ∙ i.of_recorder.2 ∙ sym e.desk.1);
       same = e.desk.1 ∙ i.same;
       few = omega (arith, e.ticks, i.few);
-      room = draws_more (tick_limit - ticks c.steps.worker.desk - step_ticks (get_or script k (Store 0))) (tick_limit - ticks c.run_step.new.desk) (drop (k + 1) script) (omega (arith, e.ticks, i.few)) r.later;
+      room = draws_more (c.args.recorder.now.board.limit - ticks c.steps.worker.desk - step_ticks (get_or script k (Store 0))) (c.args.recorder.now.board.limit - ticks c.run_step.new.desk) (drop (k + 1) script) (omega (arith, e.ticks, i.few)) r.later;
       sent = recorded ∙ ap (λ rs. rs ++ made ∷ []) i.sent ∙ sym sent;
       script = did_push c.args.worker.now.desk.desk script k (Store 0) c.steps.worker.sender.sent c.send.new.sender.sent made (lost c.steps.worker.desk) (lost c.run_step.new.desk) c.steps-test.true sent same_lost i.script
           (subst (λ (d : ℕ). IsStepOf d (get_or script k (Store 0)) made) i.same step);
@@ -64,13 +63,13 @@ steps-preserved-in_default g c =
     let recorded : records c.run_step.new.desk ≡ records c.steps.worker.desk = subst (λ (o : Option Record). MatchOption o (records c.run_step.new.desk ≡ records c.steps.worker.desk) (λ r. records c.run_step.new.desk ≡ records c.steps.worker.desk ++ r ∷ [])) is e.recorded in
     let more_lost : lost c.run_step.new.desk ≡ lost c.steps.worker.desk ++ tries_of (get_or script k (Store 0)) = subst (λ (o : Option Record). MatchOption o (lost c.run_step.new.desk ≡ lost c.steps.worker.desk ++ tries_of (get_or script k (Store 0))) (λ r. lost c.run_step.new.desk ≡ lost c.steps.worker.desk)) is e.lost in
     let scan : IsScan (get_or script k (Store 0)) = subst (λ (o : Option Record). IfNone o (IsScan (get_or script k (Store 0)))) is e.scan in
-    let r = has_room (tick_limit - ticks c.steps.worker.desk) script k (Store 0) c.steps-test.true i.room in
+    let r = has_room (c.args.recorder.now.board.limit - ticks c.steps.worker.desk) script k (Store 0) c.steps-test.true i.room in
     let few = r.ticks in
     record {
       of_recorder = (e.desk.0, i.of_recorder.1, i.of_recorder.2 ∙ sym e.desk.1);
       same = e.desk.1 ∙ i.same;
       few = omega (arith, e.ticks, i.few);
-      room = draws_more (tick_limit - ticks c.steps.worker.desk - step_ticks (get_or script k (Store 0))) (tick_limit - ticks c.run_step.new.desk) (drop (k + 1) script) (omega (arith, e.ticks, i.few)) r.later;
+      room = draws_more (c.args.recorder.now.board.limit - ticks c.steps.worker.desk - step_ticks (get_or script k (Store 0))) (c.args.recorder.now.board.limit - ticks c.run_step.new.desk) (drop (k + 1) script) (omega (arith, e.ticks, i.few)) r.later;
       sent = recorded ∙ i.sent;
       script = did_leave c.args.worker.now.desk.desk script k (Store 0) c.steps.worker.sender.sent (lost c.steps.worker.desk) (lost c.run_step.new.desk) c.steps-test.true more_lost i.script scan;
       count = (let a = ap length more_lost in let b = length-append (lost c.steps.worker.desk) (tries_of (get_or script k (Store 0))) in let o = one_scan (get_or script k (Store 0)) scan in omega (arith, i.count));

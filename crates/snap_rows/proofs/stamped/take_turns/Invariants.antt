@@ -5,6 +5,7 @@ use Rattle.snap_rows.proofs.stamped.take_turns.Given as goal
 
 abbrev pub invariant-each : goal.invariant-each
 invariant-each l = record {
-  turns : MidTurns l.fn.stamped.items (into_iter_items l.place-iterator) l.history;
+  turns : MidTurns l.fn.limit.events l.fn.stamped.items (into_iter_items l.place-iterator) l.history.events;
+  limit : l.history.limit ≡ l.fn.limit.events;
   left : into_iter_len l.place-iterator ≡ length (into_iter_items l.place-iterator);
 }

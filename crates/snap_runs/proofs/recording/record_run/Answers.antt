@@ -8,9 +8,9 @@ pub returns-then-judge-clause-wrote : goal.returns-then-judge-clause-wrote
 returns-then-judge-clause-wrote g c =
     let old = g.W.Write.contents (inner_of c.args.writer.now) in
     let new = g.W.Write.contents (inner_of c.write_report.new.writer) in
-    let written = report_written c.args.plan.now c.in_ok-history.history _ c.in_ok-history.ensures.workers.1 c.in_ok-history.ensures.history c.in_ok-history.ensures.stamps old new c.write_report.result c.write_report.ensures.wrote in
-    subst (λ judge. WroteAs (IsRecorded judge c.args.plan.now) old new c.write_report.result) (sym c.if-judge.true) written
+    let written = report_written c.args.plan.now.scripts c.in_ok-history.history.events _ c.in_ok-history.ensures.workers.1 c.in_ok-history.ensures.history c.in_ok-history.ensures.stamps old new c.write_report.result c.write_report.ensures.wrote in
+    subst (λ judge. WroteAs (IsRecorded judge c.args.plan.now.scripts) old new c.write_report.result) (sym c.if-judge.true) written
 
 pub returns-then-judge-clause-atomic : goal.returns-then-judge-clause-atomic
 returns-then-judge-clause-atomic g c =
-    λ _ none. judged_atomic c.in_ok-history.history (c.in_ok-history.ensures.history.atomic none) (g.W.Write.contents (inner_of c.args.writer.now)) (g.W.Write.contents (inner_of c.write_report.new.writer)) c.write_report.result c.write_report.ensures.wrote
+    λ _ none. judged_atomic c.in_ok-history.history.events (c.in_ok-history.ensures.history.atomic none) (g.W.Write.contents (inner_of c.args.writer.now)) (g.W.Write.contents (inner_of c.write_report.new.writer)) c.write_report.result c.write_report.ensures.wrote

@@ -32,8 +32,9 @@ returns c = λ f h k. elim (cases_lt k c.each.component) [
 ]
 
 pub returns-then-not-shows : goal.returns-then-not-shows
-returns-then-not-shows c = λ f h. (
-  c.each.component,
-  sym (h c.each.component) ∙ ap entry_in c.in-Some.is,
-  λ s. false≢true (sym c.if-not-shows.true ∙ c.shows.ensures.1 (left_is_shown c.args.left.now f c.args.view.now c.each.component c.in-Some.wrote h c.in-Some.is s)),
-)
+returns-then-not-shows c = λ f h. record {
+  component = c.each.component;
+  left_there = sym (h c.each.component) ∙ ap entry_in c.in-Some.is;
+  less = λ s. false≢true (sym c.if-not-shows.true ∙ c.shows.ensures.1 (left_is_shown c.args.left.now f c.args.view.now c.each.component c.in-Some.wrote h c.in-Some.is s));
+  first = λ k l. c.each.invariant f h k l;
+}

@@ -23,7 +23,7 @@ returns-in-Some-first c =
     let calls = calls_of c.args.index.now in
     let i : first_integrity calls ≡ None = no_integrity calls c.args.tally.now c.requires.tally (sym c.first.ensures.first ∙ c.in_default.is) in
     sym (ap (option_map (fault_witness c.args.index.now)) (behind (first_integrity calls) (option_or (first_proximity calls) (option_or (first_read calls) (first_write calls))) i)
-    ∙ before (fault_witness c.args.index.now) (first_proximity calls) (option_or (first_read calls) (first_write calls)) c.in_ok-proximity_witness.field-0 c.in_ok-proximity_witness.ensures)
+    ∙ before (fault_witness c.args.index.now) (first_proximity calls) (option_or (first_read calls) (first_write calls)) c.in_ok-proximity_witness.field-0.events c.in_ok-proximity_witness.ensures)
 
 pub returns-in-Some-first-2 : goal.returns-in-Some-first-2
 returns-in-Some-first-2 c =
@@ -31,7 +31,7 @@ returns-in-Some-first-2 c =
     let i : first_integrity calls ≡ None = no_integrity calls c.args.tally.now c.requires.tally (sym c.first.ensures.first ∙ c.in_default.is) in
     let p : first_proximity calls ≡ None = no_proximity calls c.args.tally.now c.requires.tally (sym c.first-2.ensures.first ∙ c.in_default-first.is) in
     sym (ap (option_map (fault_witness c.args.index.now)) (behind (first_integrity calls) (option_or (first_proximity calls) (option_or (first_read calls) (first_write calls))) i ∙ behind (first_proximity calls) (option_or (first_read calls) (first_write calls)) p)
-    ∙ before (fault_witness c.args.index.now) (first_read calls) (first_write calls) c.in_ok-read_witness.field-0 c.in_ok-read_witness.ensures)
+    ∙ before (fault_witness c.args.index.now) (first_read calls) (first_write calls) c.in_ok-read_witness.field-0.events c.in_ok-read_witness.ensures)
 
 pub returns-in-Some-first-3 : goal.returns-in-Some-first-3
 returns-in-Some-first-3 c =

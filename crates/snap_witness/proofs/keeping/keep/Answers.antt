@@ -1,5 +1,6 @@
 use Rattle.std.proofs.Common.{◌≡◌, true, false, take, sym, ap, ◌∙◌, append-nil}
 use Rattle.snap_core.specs.declared.event.Event.TheVariants.{BeginView}
+use Rattle.snap_core.specs.Events.{event_cap}
 use Rattle.snap_core.specs.Refusals.{refusal_of}
 use Rattle.snap_theory.specs.Kept.{kept_from, kept_event, is_among}
 use Rattle.snap_theory.specs.Witness.{numbers_of}
@@ -11,8 +12,9 @@ pub append-requires : goal.append-requires
 append-requires c =
     let t : is_among c.args.places.now c.loop-i.i ≡ true = sym c.is_among.ensures ∙ c.if-is_among.true in
     let r = none_refused (is_among c.args.places.now) (numbers_of c.args.pairs.now) c.args.events.now c.loop-i.i c.index-events-i.result c.requires.history c.requires.short c.loop-i-test.true t in
-    ap (λ z. refusal_of z c.in_ok-event.event) c.loop-i.invariant
-    ∙ ap (refusal_of (kept_from (is_among c.args.places.now) (numbers_of c.args.pairs.now) 0 (take c.loop-i.i c.args.events.now))) (c.in_ok-event.ensures ∙ ap (kept_event (numbers_of c.args.pairs.now)) c.index-events-i.is)
+    ap (λ n. refusal_of n c.loop-i.history.events c.in_ok-event.event) c.loop-i.invariant.limit
+    ∙ ap (λ z. refusal_of event_cap z c.in_ok-event.event) c.loop-i.invariant.kept
+    ∙ ap (refusal_of event_cap (kept_from (is_among c.args.places.now) (numbers_of c.args.pairs.now) 0 (take c.loop-i.i c.args.events.now))) (c.in_ok-event.ensures ∙ ap (kept_event (numbers_of c.args.pairs.now)) c.index-events-i.is)
     ∙ r
 
 pub loop-i-preserved : goal.loop-i-preserved
@@ -21,10 +23,10 @@ loop-i-preserved c = elim c.if-is_among.branch [
       let t : is_among c.args.places.now c.loop-i.i ≡ true = sym c.is_among.ensures ∙ w.if-is_among.true in
       let m = kept_next (is_among c.args.places.now) (numbers_of c.args.pairs.now) c.args.events.now c.loop-i.i w.index-events-i.result true c.loop-i-test.true t in
       let e = w.in_ok-event.ensures ∙ ap (kept_event (numbers_of c.args.pairs.now)) w.index-events-i.is in
-      cc (m, e, w.in_ok-append.ensures, w.history-is, c.loop-i.invariant)
+      record { kept = cc (m, e, w.in_ok-append.ensures.events, w.history-is, c.loop-i.invariant.kept); limit = cc (w.in_ok-append.ensures.limit, w.history-is, c.loop-i.invariant.limit) }
   | else-is_among w ↦
       let t : is_among c.args.places.now c.loop-i.i ≡ false = sym c.is_among.ensures ∙ w.if-is_among.false in
       let m = kept_next (is_among c.args.places.now) (numbers_of c.args.pairs.now) c.args.events.now c.loop-i.i (BeginView 0) false c.loop-i-test.true t in
       let n = append-nil (kept_from (is_among c.args.places.now) (numbers_of c.args.pairs.now) 0 (take c.loop-i.i c.args.events.now)) in
-      cc (m, n, w.history-is, c.loop-i.invariant)
+      record { kept = cc (m, n, w.history-is, c.loop-i.invariant.kept); limit = cc (w.history-is, c.loop-i.invariant.limit) }
 ]

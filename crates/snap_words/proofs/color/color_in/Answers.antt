@@ -1,61 +1,15 @@
-use Rattle.std.proofs.Common.{◌≡◌, ◌∙◌, Bool, List, Option, Some, None, ap, codes, false, sym, true, ℕ}
-use Rattle.std.specs.Str.{bytes_eq}
+use Rattle.std.proofs.Common.{◌≡◌, ◌∙◌, List, Option, Some, None, ap, codes, subst, sym, ℕ}
 use Rattle.clap.specs.Words.{found_of}
 use Rattle.clap.proofs.WalkLemmas.{first_value-rows}
-use Rattle.snap_words.specs.declared.color.Color.{Color}
-use Rattle.snap_words.specs.declared.color.Color.TheVariants.{Auto, Always, Never}
-use Rattle.snap_words.specs.Jobs.{color_text}
-use Rattle.snap_words.proofs.Rows.{word_is}
+use Rattle.snap_words.specs.Jobs.{SaysColor}
 use Rattle.snap_words.proofs.color.color_in.Goals as goal
 
--- when there are colours, by whether a word is each of those that say so
-abbrev chosen : Bool → Bool → Bool → Option Color
-chosen true always never = Some Auto
-chosen false true never = Some Always
-chosen false false true = Some Never
-chosen false false false = None
-
-abbrev chosen_by : List ℕ → Option Color
-chosen_by word = chosen (bytes_eq word (codes "auto")) (bytes_eq word (codes "always")) (bytes_eq word (codes "never"))
-
-says : (word : List ℕ) (color : Color) → word ≡ color_text color → chosen_by word ≡ Some color
-says word Auto is = ap chosen_by is
-says word Always is = ap chosen_by is
-says word Never is = ap chosen_by is
-
--- a word says one thing
-same_color : (word : List ℕ) (said color : Color) → word ≡ color_text said → word ≡ color_text color → Some said ≡ Some color
-same_color word said color is asked = sym (says word said is) ∙ says word color asked
-
--- a word that is none of the three says nothing
-no_color : (word : List ℕ) → (word ≡ codes "auto" → ⊥) → (word ≡ codes "always" → ⊥) → (word ≡ codes "never" → ⊥) → (color : Color) → word ≡ color_text color → ⊥
-no_color word not_auto not_always not_never Auto is = not_auto is
-no_color word not_auto not_always not_never Always is = not_always is
-no_color word not_auto not_always not_never Never is = not_never is
-
-pub returns-in_err-get_str : goal.returns-in_err-get_str
-returns-in_err-get_str c = record {
-  given = λ color one.
-      let lost = c.in_err-get_str.ensures ∙ first_value-rows (found_of c.args.matches.now) (codes "color") ∙ one in
-      absurd cc;
+pub returns-in-Some : goal.returns-in-Some
+returns-in-Some c = record {
+  given = λ color said. c.color_of.ensures.given color (subst (λ text. SaysColor text color) (sym (c.in-Some.ensures ∙ first_value-rows (found_of c.args.matches.now) (codes "color"))) said);
 }
 
-pub returns-in-auto : goal.returns-in-auto
-returns-in-auto c = record {
-  given = λ color one. same_color c.in_ok-get_str.field-0.now Auto color c.in-auto.is (word_is _ _ _ c.in_ok-get_str.ensures (first_value-rows (found_of c.args.matches.now) (codes "color") ∙ one));
-}
-
-pub returns-in-always : goal.returns-in-always
-returns-in-always c = record {
-  given = λ color one. same_color c.in_ok-get_str.field-0.now Always color c.in-always.is (word_is _ _ _ c.in_ok-get_str.ensures (first_value-rows (found_of c.args.matches.now) (codes "color") ∙ one));
-}
-
-pub returns-in-never : goal.returns-in-never
-returns-in-never c = record {
-  given = λ color one. same_color c.in_ok-get_str.field-0.now Never color c.in-never.is (word_is _ _ _ c.in_ok-get_str.ensures (first_value-rows (found_of c.args.matches.now) (codes "color") ∙ one));
-}
-
-pub returns-in_default : goal.returns-in_default
-returns-in_default c = record {
-  given = λ color one. absurd (no_color c.in_ok-get_str.field-0.now c.in_default.not-auto c.in_default.not-always c.in_default.not-never color (word_is _ _ _ c.in_ok-get_str.ensures (first_value-rows (found_of c.args.matches.now) (codes "color") ∙ one)));
+pub returns-in-None : goal.returns-in-None
+returns-in-None c = record {
+  given = λ color said. ap Some (sym (subst (λ text. SaysColor text color) (sym (c.in-None.ensures ∙ first_value-rows (found_of c.args.matches.now) (codes "color"))) said));
 }

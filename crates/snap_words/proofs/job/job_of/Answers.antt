@@ -2,6 +2,7 @@ use Rattle.std.proofs.Common.{◌≡◌, ◌∙◌, List, Option, ap, ap₂, cod
 use Rattle.std.specs.Prelude.{string_bytes}
 use Rattle.clap.specs.Words.{Row, Text, is_simple, subcommand_of, subcommand_rows_of, takes}
 use Rattle.snap_words.specs.CommandLine.{program_app}
+use Rattle.snap_words.specs.Jobs.{IsCheck, IsDraw, IsExplain, IsFollow, IsShrink}
 use Rattle.snap_words.specs.declared.job.JobFault.TheVariants.{Memory}
 use Rattle.snap_words.proofs.Finding.{on_files}
 use Rattle.snap_words.proofs.Rows.{program_is_simple}
@@ -19,45 +20,51 @@ found c rows is =
     ∙ ap₂ subcommand_of c.in_ok-command.ensures (ap (map string_bytes) c.as_slice.ensures.value) ∙ is
 
 pub returns-in-Err-clause-check : goal.returns-in-Err-clause-check
-returns-in-Err-clause-check c = λ pieces workers options files means. memory c means.taken
+returns-in-Err-clause-check c = λ asked files means. memory c means.taken
 
 pub returns-clause-check : goal.returns-clause-check
-returns-clause-check c = λ pieces workers options files means.
-    on_files means.rows files _ c.asked_by.result means.files_are ((c.asked_by.ensures.asked (codes "check") means.rows (found c _ means.rows_are)).job.check pieces workers options refl means.asks)
+returns-clause-check c = λ asked files means.
+    on_files means.rows files (IsCheck asked) c.asked_by.result means.files_are ((c.asked_by.ensures.asked (codes "check") means.rows (found c _ means.rows_are)).check asked refl means.asks)
+
+pub returns-in-Err-clause-follow : goal.returns-in-Err-clause-follow
+returns-in-Err-clause-follow c = λ events windows files means. memory c means.taken
+
+pub returns-clause-follow : goal.returns-clause-follow
+returns-clause-follow c = λ events windows files means.
+    on_files means.rows files (IsFollow events windows) c.asked_by.result means.files_are ((c.asked_by.ensures.asked (codes "check") means.rows (found c _ means.rows_are)).follow events windows refl means.asks)
 
 pub returns-in-Err-clause-shrink : goal.returns-in-Err-clause-shrink
 returns-in-Err-clause-shrink c = λ events drawn files means. memory c means.taken
 
 pub returns-clause-shrink : goal.returns-clause-shrink
 returns-clause-shrink c = λ events drawn files means.
-    on_files means.rows files _ c.asked_by.result means.files_are ((c.asked_by.ensures.asked (codes "shrink") means.rows (found c _ means.rows_are)).job.shrink events drawn refl means.asks)
+    on_files means.rows files (IsShrink events drawn) c.asked_by.result means.files_are ((c.asked_by.ensures.asked (codes "shrink") means.rows (found c _ means.rows_are)).shrink events drawn refl means.asks)
 
 pub returns-in-Err-clause-explain : goal.returns-in-Err-clause-explain
 returns-in-Err-clause-explain c = λ events drawn files means. memory c means.taken
 
 pub returns-clause-explain : goal.returns-clause-explain
 returns-clause-explain c = λ events drawn files means.
-    on_files means.rows files _ c.asked_by.result means.files_are ((c.asked_by.ensures.asked (codes "explain") means.rows (found c _ means.rows_are)).job.explain events drawn refl means.asks)
+    on_files means.rows files (IsExplain events drawn) c.asked_by.result means.files_are ((c.asked_by.ensures.asked (codes "explain") means.rows (found c _ means.rows_are)).explain events drawn refl means.asks)
 
 pub returns-in-Err-clause-draw : goal.returns-in-Err-clause-draw
 returns-in-Err-clause-draw c = λ events form files means. memory c means.taken
 
 pub returns-clause-draw : goal.returns-clause-draw
 returns-clause-draw c = λ events form files means.
-    on_files means.rows files _ c.asked_by.result means.files_are ((c.asked_by.ensures.asked (codes "draw") means.rows (found c _ means.rows_are)).job.draw events form refl means.asks)
+    on_files means.rows files (IsDraw events form) c.asked_by.result means.files_are ((c.asked_by.ensures.asked (codes "draw") means.rows (found c _ means.rows_are)).draw events form refl means.asks)
 
 pub returns-in-Err-clause-recording : goal.returns-in-Err-clause-recording
 returns-in-Err-clause-recording c = λ events workers rounds flags files means. memory c means.taken
 
 pub returns-clause-recording : goal.returns-clause-recording
-returns-clause-recording c = λ events workers rounds flags files means.
-    on_files means.rows files _ c.asked_by.result means.files_are ((c.asked_by.ensures.asked (codes "record") means.rows (found c _ means.rows_are)).job.recording events workers rounds flags refl means.asks)
-
-pub returns-clause-sources : goal.returns-clause-sources
-returns-clause-sources c = λ list folder null files means. (c.asked_by.ensures.asked (codes "check") means.rows (found c _ means.rows_are)).sources list null folder means.asks
+returns-clause-recording c = λ events workers rounds flags files means. (c.asked_by.ensures.asked (codes "record") means.rows (found c _ means.rows_are)).recording events workers rounds flags refl means.asks
 
 pub returns-clause-unfollowed : goal.returns-clause-unfollowed
-returns-clause-unfollowed c = λ files means. c.asked_by.ensures.unfollowed means.rows (found c _ means.rows_are) means.asks
+returns-clause-unfollowed c = λ files means. (c.asked_by.ensures.asked (codes "check") means.rows (found c _ means.rows_are)).unfollowed refl means.asks
+
+pub returns-clause-unheeded : goal.returns-clause-unheeded
+returns-clause-unheeded c = λ files means. (c.asked_by.ensures.asked (codes "check") means.rows (found c _ means.rows_are)).unheeded refl means.asks
 
 pub returns-clause-overfull : goal.returns-clause-overfull
-returns-clause-overfull c = λ files means. c.asked_by.ensures.overfull means.rows (found c _ means.rows_are) means.asks
+returns-clause-overfull c = λ files means. (c.asked_by.ensures.asked (codes "record") means.rows (found c _ means.rows_are)).overfull refl means.asks

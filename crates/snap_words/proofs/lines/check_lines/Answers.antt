@@ -1,110 +1,111 @@
-use Rattle.std.proofs.Common.{◌∷◌, [], Some, None, arith, codes, refl, true}
+use Rattle.std.proofs.Common.{◌≡◌, ◌∷◌, [], List, Some, None, arith, codes, false, refl, true}
 use Rattle.std.specs.Prelude.{decimal}
 use Rattle.std.proofs.lemmas.Bool.{false≢true}
 use Rattle.std.specs.Fmt.{digits}
+use Rattle.clap.specs.Words.{Text}
 use Rattle.clap.proofs.OnLiterals.{clap_on_literals}
-use Rattle.snap_threads.specs.Cuttings.{IsPieces, IsWorkers}
-use Rattle.snap_words.specs.Jobs.{LacksFollow, no_options}
+use Rattle.snap_core.specs.Limits.{event_limit}
+use Rattle.snap_words.specs.Jobs.{FollowsUnheeding, LacksFollow, inputs_in, no_options, plain_check}
 use Rattle.snap_words.specs.declared.color.Color.TheVariants.{Never}
-use Rattle.snap_words.proofs.Meanings.{Fit, check_of, means, usual_check, usual_fit, whole}
+use Rattle.snap_words.proofs.Meanings.{Fit, check_of, follow_of, means, plain_fit, whole}
 use Rattle.snap_words.proofs.lines.check_lines.Goals as goal
 
--- the options that each line asks for fit; this is shown apart, where the parser is not computed
-plain_fit : Fit no_options None None
-plain_fit = usual_fit _ (omega arith, omega arith) (omega arith) (whole _ refl refl refl) refl refl refl refl
+-- what each line asks for fits; this is shown apart, where the parser is not computed
+nothing_fits : Fit plain_check [] None None None
+nothing_fits = plain_fit _ _ _ (omega arith, omega arith) (omega arith) (whole _ refl refl) refl (omega arith)
 
-quiet_fit : Fit (record no_options { quiet = true }) None None
-quiet_fit = usual_fit _ (omega arith, omega arith) (omega arith) (record { object = λ json. absurd (false≢true json); sums = λ sums. absurd (false≢true sums); windows = λ windows. absurd (false≢true windows) }) refl refl refl refl
-
-views_fit : Fit (record no_options { views = 5 }) None None
-views_fit = usual_fit _ (omega arith, omega arith) (omega arith) (whole _ refl refl refl) refl refl refl refl
-
-json_fit : Fit (record no_options { json = true }) None None
-json_fit = usual_fit _ (omega arith, omega arith) (omega arith) (whole _ refl refl refl) refl refl refl refl
-
-summary_fit : Fit (record no_options { summary = true }) None None
-summary_fit = usual_fit _ (omega arith, omega arith) (omega arith) (record { object = λ _. refl; sums = λ _. (refl, refl); windows = λ windows. absurd (false≢true windows) }) refl refl refl refl
-
-follow_fit : Fit (record no_options { follow = true; window = 500; idle = 5 }) (Some (decimal 500)) (Some (decimal 5))
-follow_fit = record {
-  events_fit = (omega arith, omega arith);
-  views_fit = omega arith;
-  one_form = record { object = λ _. refl; sums = λ sums. absurd (false≢true sums); windows = λ _. (refl, refl, refl) };
-  window_fits = ((omega arith, omega arith), λ _. omega arith);
-  idle_fits = omega arith;
-  windows_follow = λ _. refl;
-  window_is = refl;
-  idle_is = refl;
+cut_fits : Fit (record plain_check { pieces = 3; workers = 4 }) [] (Some (decimal 3)) (Some (decimal 4)) None
+cut_fits = record {
+  pieces_fit = (omega arith, omega arith);
+  workers_fit = (omega arith, omega arith);
+  events_fit = nothing_fits.events_fit;
+  views_fit = nothing_fits.views_fit;
+  one_form = nothing_fits.one_form;
+  null_ends = nothing_fits.null_ends;
+  input_once = nothing_fits.input_once;
+  pieces_are = refl;
+  workers_are = refl;
+  color_is = refl;
 }
 
-few_fit : Fit (record no_options { events = 500; follow = true; window = 250 }) None None
-few_fit = record {
-  events_fit = (omega arith, omega arith);
-  views_fit = omega arith;
-  one_form = record { object = λ _. refl; sums = λ sums. absurd (false≢true sums); windows = λ _. (refl, refl, refl) };
-  window_fits = ((omega arith, omega arith), λ _. omega arith);
-  idle_fits = omega arith;
-  windows_follow = λ _. refl;
-  window_is = refl;
-  idle_is = refl;
-}
+quiet_fits : Fit (record plain_check { options = record no_options { quiet = true } }) [] None None None
+quiet_fits = plain_fit _ _ _ (omega arith, omega arith) (omega arith) (record { object = λ json. absurd (false≢true json); sums = λ sums. absurd (false≢true sums) }) refl (omega arith)
 
-color_fit : Fit (record no_options { color = Never }) None None
-color_fit = usual_fit _ (omega arith, omega arith) (omega arith) (whole _ refl refl refl) refl refl refl refl
+views_fits : Fit (record plain_check { options = record no_options { views = 5 } }) [] None None None
+views_fits = plain_fit _ _ _ (omega arith, omega arith) (omega arith) (whole _ refl refl) refl (omega arith)
 
-events_fit : Fit (record no_options { events = 1048576 }) None None
-events_fit = usual_fit _ (omega arith, omega arith) (omega arith) (whole _ refl refl refl) refl refl refl refl
+json_fits : Fit (record plain_check { options = record no_options { json = true } }) [] None None None
+json_fits = plain_fit _ _ _ (omega arith, omega arith) (omega arith) (whole _ refl refl) refl (omega arith)
 
-few_pieces : IsPieces 3
-few_pieces = (omega arith, omega arith)
+summary_fits : Fit (record plain_check { options = record no_options { summary = true } }) [] None None None
+summary_fits = plain_fit _ _ _ (omega arith, omega arith) (omega arith) (record { object = λ _. refl; sums = λ _. (refl, refl) }) refl (omega arith)
 
-few_workers : IsWorkers 4
-few_workers = (omega arith, omega arith)
+color_fits : Fit (record plain_check { options = record no_options { color = Never } }) [] None None (Some (codes "never"))
+color_fits = plain_fit _ _ _ (omega arith, omega arith) (omega arith) (whole _ refl refl) refl (omega arith)
+
+events_fits : Fit (record plain_check { events = 1048576 }) [] None None None
+events_fits = plain_fit _ _ _ (omega arith, omega arith) (omega arith) (whole _ refl refl) refl (omega arith)
+
+abbrev named : List Text
+named = codes "a.csv" ∷ codes "-" ∷ []
+
+named_fits : Fit plain_check named None None None
+named_fits =
+    let once : inputs_in named ≡ 1 = refl in
+    plain_fit _ _ _ (omega arith, omega arith) (omega arith) (whole _ refl refl) refl (omega (arith, once))
 
 pub returns-clause-alone : goal.returns-clause-alone
 unfolding clap_on_literals digits
-returns-clause-alone c = λ name. usual_check (name ∷ codes "check" ∷ []) no_options [] plain_fit refl refl refl refl
+returns-clause-alone c = λ name. check_of (name ∷ codes "check" ∷ []) plain_check [] false nothing_fits refl refl refl refl
 
 pub returns-clause-cut : goal.returns-clause-cut
 unfolding clap_on_literals digits
-returns-clause-cut c = λ name. check_of (name ∷ codes "check" ∷ codes "--pieces" ∷ codes "3" ∷ codes "--workers" ∷ codes "4" ∷ []) 3 4 no_options [] few_pieces few_workers plain_fit refl refl refl refl
+returns-clause-cut c = λ name. check_of (name ∷ codes "check" ∷ codes "--pieces" ∷ codes "3" ∷ codes "--workers" ∷ codes "4" ∷ []) (record plain_check { pieces = 3; workers = 4 }) [] true cut_fits refl refl refl refl
 
 pub returns-clause-quiet : goal.returns-clause-quiet
 unfolding clap_on_literals digits
-returns-clause-quiet c = λ name. usual_check (name ∷ codes "check" ∷ codes "--quiet" ∷ []) (record no_options { quiet = true }) [] quiet_fit refl refl refl refl
+returns-clause-quiet c = λ name. check_of (name ∷ codes "check" ∷ codes "--quiet" ∷ []) (record plain_check { options = record no_options { quiet = true } }) [] false quiet_fits refl refl refl refl
 
 pub returns-clause-views : goal.returns-clause-views
 unfolding clap_on_literals digits
-returns-clause-views c = λ name. usual_check (name ∷ codes "check" ∷ codes "--views" ∷ codes "5" ∷ []) (record no_options { views = 5 }) [] views_fit refl refl refl refl
+returns-clause-views c = λ name. check_of (name ∷ codes "check" ∷ codes "--views" ∷ codes "5" ∷ []) (record plain_check { options = record no_options { views = 5 } }) [] false views_fits refl refl refl refl
 
 pub returns-clause-json : goal.returns-clause-json
 unfolding clap_on_literals digits
-returns-clause-json c = λ name. usual_check (name ∷ codes "check" ∷ codes "--format" ∷ codes "json" ∷ []) (record no_options { json = true }) [] json_fit refl refl refl refl
+returns-clause-json c = λ name. check_of (name ∷ codes "check" ∷ codes "--format" ∷ codes "json" ∷ []) (record plain_check { options = record no_options { json = true } }) [] false json_fits refl refl refl refl
 
 pub returns-clause-summary : goal.returns-clause-summary
 unfolding clap_on_literals digits
-returns-clause-summary c = λ name. usual_check (name ∷ codes "check" ∷ codes "--summary" ∷ []) (record no_options { summary = true }) [] summary_fit refl refl refl refl
+returns-clause-summary c = λ name. check_of (name ∷ codes "check" ∷ codes "--summary" ∷ []) (record plain_check { options = record no_options { summary = true } }) [] false summary_fits refl refl refl refl
+
+pub returns-clause-color : goal.returns-clause-color
+unfolding clap_on_literals digits
+returns-clause-color c = λ name. check_of (name ∷ codes "check" ∷ codes "--color" ∷ codes "never" ∷ []) (record plain_check { options = record no_options { color = Never } }) [] true color_fits refl refl refl refl
+
+pub returns-clause-events : goal.returns-clause-events
+unfolding clap_on_literals digits
+returns-clause-events c = λ name. check_of (name ∷ codes "check" ∷ codes "--events" ∷ codes "1048576" ∷ []) (record plain_check { events = 1048576 }) [] false events_fits refl refl refl refl
+
+pub returns-clause-short : goal.returns-clause-short
+unfolding clap_on_literals digits
+returns-clause-short c = λ name. check_of (name ∷ codes "check" ∷ codes "-q" ∷ []) (record plain_check { options = record no_options { quiet = true } }) [] false quiet_fits refl refl refl refl
+
+pub returns-clause-files : goal.returns-clause-files
+unfolding clap_on_literals digits
+returns-clause-files c = λ name. check_of (name ∷ codes "check" ∷ codes "a.csv" ∷ codes "-" ∷ []) plain_check named false named_fits refl refl refl refl
 
 pub returns-clause-follow : goal.returns-clause-follow
 unfolding clap_on_literals digits
-returns-clause-follow c = λ name. usual_check (name ∷ codes "check" ∷ codes "--follow" ∷ codes "--window" ∷ codes "500" ∷ codes "--idle" ∷ codes "5" ∷ []) (record no_options { follow = true; window = 500; idle = 5 }) [] follow_fit refl refl refl refl
+returns-clause-follow c = λ name. follow_of {window = Some (decimal 500)} {idle = Some (decimal 5)} (name ∷ codes "check" ∷ codes "--follow" ∷ codes "--window" ∷ codes "500" ∷ codes "--idle" ∷ codes "5" ∷ []) event_limit (record { least = 500; idle = 5; views = 0 }) [] (omega arith, omega arith) (omega arith) ((omega arith, omega arith), omega arith) (omega arith) (omega arith) refl refl refl refl refl refl
 
 pub returns-clause-few : goal.returns-clause-few
 unfolding clap_on_literals digits
-returns-clause-few c = λ name. usual_check (name ∷ codes "check" ∷ codes "--follow" ∷ codes "--events" ∷ codes "500" ∷ []) (record no_options { events = 500; follow = true; window = 250 }) [] few_fit refl refl refl refl
+returns-clause-few c = λ name. follow_of {window = None} {idle = None} (name ∷ codes "check" ∷ codes "--follow" ∷ codes "--events" ∷ codes "500" ∷ []) 500 (record { least = 250; idle = 0; views = 0 }) [] (omega arith, omega arith) (omega arith) ((omega arith, omega arith), omega arith) (omega arith) (omega arith) refl refl refl refl refl refl
 
 pub returns-clause-unfollowed : goal.returns-clause-unfollowed
 unfolding clap_on_literals
 returns-clause-unfollowed c = λ name. means (name ∷ codes "check" ∷ codes "--window" ∷ codes "500" ∷ []) (codes "check") LacksFollow [] refl refl (record { no_follow = refl; windows_named = refl }) refl
 
-pub returns-clause-color : goal.returns-clause-color
-unfolding clap_on_literals digits
-returns-clause-color c = λ name. usual_check (name ∷ codes "check" ∷ codes "--color" ∷ codes "never" ∷ []) (record no_options { color = Never }) [] color_fit refl refl refl refl
-
-pub returns-clause-events : goal.returns-clause-events
-unfolding clap_on_literals digits
-returns-clause-events c = λ name. usual_check (name ∷ codes "check" ∷ codes "--events" ∷ codes "1048576" ∷ []) (record no_options { events = 1048576 }) [] events_fit refl refl refl refl
-
-pub returns-clause-files : goal.returns-clause-files
-unfolding clap_on_literals digits
-returns-clause-files c = λ name. usual_check (name ∷ codes "check" ∷ codes "a.csv" ∷ codes "-" ∷ []) no_options (codes "a.csv" ∷ codes "-" ∷ []) plain_fit refl refl refl refl
+pub returns-clause-unheeded : goal.returns-clause-unheeded
+unfolding clap_on_literals
+returns-clause-unheeded c = λ name. means (name ∷ codes "check" ∷ codes "--follow" ∷ codes "--workers" ∷ codes "4" ∷ []) (codes "check") FollowsUnheeding [] refl refl (record { followed = refl; unheeded_named = refl }) refl

@@ -1,22 +1,27 @@
-use Rattle.std.proofs.Common.{◌∷◌, [], None, arith, codes, refl}
+use Rattle.std.proofs.Common.{◌∷◌, [], Some, None, arith, codes, refl, true}
 use Rattle.std.specs.Fmt.{digits}
-use Rattle.clap.specs.Words.{Text}
 use Rattle.clap.proofs.OnLiterals.{clap_on_literals}
-use Rattle.snap_words.specs.Jobs.{AsksCheck, no_options}
-use Rattle.snap_words.proofs.Meanings.{Fit, asks_usually, means, rows_by, usual_fit, whole}
+use Rattle.snap_words.specs.Jobs.{plain_check}
+use Rattle.snap_words.proofs.Meanings.{Fit, check_of, plain_fit, whole}
 use Rattle.snap_words.proofs.lines.source_lines.Goals as goal
 
-pub returns-clause-without : goal.returns-clause-without
-unfolding clap_on_literals
-returns-clause-without c = λ name. means _ _ _ _ refl refl (record { list_is = refl; null_is = refl; folder_is = refl }) refl
+plain_fits : Fit plain_check [] None None None
+plain_fits = plain_fit _ _ _ (omega arith, omega arith) (omega arith) (whole _ refl refl) refl (omega arith)
 
-plain_fit : Fit no_options None None
-plain_fit = usual_fit _ (omega arith, omega arith) (omega arith) (whole _ refl refl refl) refl refl refl refl
+fits : Fit (record plain_check { list = Some (codes "-"); null = true; folder = Some (codes "runs") }) [] None None None
+fits = record {
+  pieces_fit = plain_fits.pieces_fit;
+  workers_fit = plain_fits.workers_fit;
+  events_fit = plain_fits.events_fit;
+  views_fit = plain_fits.views_fit;
+  one_form = plain_fits.one_form;
+  null_ends = λ _. refl;
+  input_once = omega arith;
+  pieces_are = refl;
+  workers_are = refl;
+  color_is = refl;
+}
 
-asks : (name : Text) → AsksCheck (rows_by (name ∷ codes "check" ∷ codes "--files-from" ∷ codes "-" ∷ codes "-0" ∷ codes "-r" ∷ codes "runs" ∷ [])) 8 2 no_options
+pub returns : goal.returns
 unfolding clap_on_literals digits
-asks name = asks_usually _ no_options plain_fit refl
-
-pub returns-clause-named : goal.returns-clause-named
-unfolding clap_on_literals
-returns-clause-named c = λ name. means _ _ _ _ refl refl (asks name, record { list_is = refl; null_is = refl; folder_is = refl }) refl
+returns c = λ name. check_of (name ∷ codes "check" ∷ codes "--files-from" ∷ codes "-" ∷ codes "-0" ∷ codes "-r" ∷ codes "runs" ∷ []) (record plain_check { list = Some (codes "-"); null = true; folder = Some (codes "runs") }) [] true fits refl refl refl refl

@@ -1,10 +1,10 @@
-use Rattle.std.proofs.Common.{◌≡◌, ℕ, length, map, true≢false, refl, ap, ◌∙◌, sym, subst}
-use Rattle.snap_account.specs.Rule.{Boarded}
+use Rattle.std.proofs.Common.{◌≡◌, ℕ, ◌*◌, ◌≤◌, length, map, true≢false, refl, ap, ◌∙◌, sym, subst}
+use Rattle.snap_account.specs.Rule.{Boarded, clock}
 use Rattle.snap_board.specs.Boards.{BoardView, GatheredView}
 use Rattle.snap_account.specs.Seats.{brief}
 use Rattle.snap_board.specs.Settled.{Settled, ScansSettled, TicksSettled}
 use Rattle.snap_board.specs.inside.Slots.{desks_in, AllIn, HasLast}
-use Rattle.snap_board.proofs.Closing.{settles, settles_scans, settles_ticks}
+use Rattle.snap_board.proofs.Closing.{settles, settles_clock, settles_scans, settles_ticks}
 use Rattle.snap_board.proofs.Ordering.{close_history, close_completed, close_regular}
 use Rattle.snap_board.proofs.Monotone.{close_monotone}
 use Rattle.snap_board.proofs.Atomic.{close_atomic}
@@ -36,7 +36,7 @@ returns-clause-settled c _ =
     let at = gathered_at self _ old _ c.self.view_is c.gathered.view_is c.requires in
     subst (λ (b : BoardView). Settled b.desks c.args.gathered.accounts) c.self.view_is
     (subst (λ (g : GatheredView). Settled self.desks g.accounts) c.gathered.view_is
-    (settles self.desks old.seat.id old.seat.me.0 old.slots v.0 (subst (λ (z : ℕ). Boarded z v.0) c.self.invariant.keyed v.1.0) v.1.1
+    (settles self.desks self.table.shared.key.limit.ticks old.seat.id old.seat.me.0 old.slots v.0 (subst (λ (z : ℕ). Boarded z self.table.shared.key.limit.ticks v.0) c.self.invariant.keyed v.1.0) v.1.1
     (c.gathered.invariant.matches ∙ ap (λ z. desks_in z old.slots) at.1) (subst (λ (z : ℕ). AllIn z old.slots) at.1 (c.if-not-all_in.ensures.0 refl))))
 
 pub returns-clause-ticks : goal.returns-clause-ticks
@@ -45,8 +45,19 @@ returns-clause-ticks c _ =
     let v = c.close_with.ensures.values.2 in
     let at = gathered_at self _ old _ c.self.view_is c.gathered.view_is c.requires in
     subst (λ (g : GatheredView). TicksSettled g.accounts) c.gathered.view_is
-    (settles_ticks self.desks old.seat.id old.seat.me.0 old.slots v.0 (subst (λ (z : ℕ). Boarded z v.0) c.self.invariant.keyed v.1.0) v.1.1
+    (settles_ticks self.desks self.table.shared.key.limit.ticks old.seat.id old.seat.me.0 old.slots v.0 (subst (λ (z : ℕ). Boarded z self.table.shared.key.limit.ticks v.0) c.self.invariant.keyed v.1.0) v.1.1
     (c.gathered.invariant.matches ∙ ap (λ z. desks_in z old.slots) at.1) (subst (λ (z : ℕ). AllIn z old.slots) at.1 (c.if-not-all_in.ensures.0 refl)))
+
+pub returns-clause-clock : goal.returns-clause-clock
+returns-clause-clock c _ =
+    let old = c.gathered.inside in let self = c.self.inside in
+    let v = c.close_with.ensures.values.2 in
+    let at = gathered_at self _ old _ c.self.view_is c.gathered.view_is c.requires in
+    subst (λ (b : BoardView). clock c.args.gathered.accounts ≤ b.desks * b.limit) c.self.view_is
+    (subst (λ (g : GatheredView). clock g.accounts ≤ self.desks * self.limit.ticks) c.gathered.view_is
+    (subst (λ (l : ℕ). clock old.seat.me.0 ≤ self.desks * l) c.self.invariant.limited
+    (settles_clock self.desks self.table.shared.key.limit.ticks old.seat.id old.seat.me.0 old.slots v.0 (subst (λ (z : ℕ). Boarded z self.table.shared.key.limit.ticks v.0) c.self.invariant.keyed v.1.0) v.1.1
+    (c.gathered.invariant.matches ∙ ap (λ z. desks_in z old.slots) at.1) (subst (λ (z : ℕ). AllIn z old.slots) at.1 (c.if-not-all_in.ensures.0 refl)))))
 
 pub returns-clause-history : goal.returns-clause-history
 returns-clause-history c e = close_history c.args.self.desks c.args.gathered.accounts (returns-clause-settled c e)
@@ -65,7 +76,7 @@ returns-clause-scans c _ =
     let old = c.gathered.inside in let self = c.self.inside in
     let v = c.close_with.ensures.values.2 in
     subst (λ (g : GatheredView). ScansSettled g.accounts) c.gathered.view_is
-    (settles_scans self.desks old.seat.id old.seat.me.0 v.0 (subst (λ (z : ℕ). Boarded z v.0) c.self.invariant.keyed v.1.0) v.1.1)
+    (settles_scans self.desks self.table.shared.key.limit.ticks old.seat.id old.seat.me.0 v.0 (subst (λ (z : ℕ). Boarded z self.table.shared.key.limit.ticks v.0) c.self.invariant.keyed v.1.0) v.1.1)
 
 pub returns-clause-interfered : goal.returns-clause-interfered
 returns-clause-interfered c e = were_interfered c.args.self.desks c.args.gathered.accounts (returns-clause-settled c e) (returns-clause-scans c e)

@@ -3,7 +3,7 @@ use Rattle.snap_account.specs.Plays.{Seated, entry_of}
 use Rattle.std.proofs.lemmas.List.{length-map}
 use Rattle.snap_account.specs.Seats.{answered_of, desk_of, pairs, IsUpToDate}
 use Rattle.snap_board.specs.Boards.{BoardView}
-use Rattle.snap_board.proofs.Fields.{desk_at}
+use Rattle.snap_board.proofs.Fields.{desk_at, limit_at}
 use Rattle.snap_board.specs.declared.record.Record.{Record}
 use Rattle.snap_account.specs.Calls.{latest}
 use Rattle.snap_account.specs.declared.account.Answered.{Answered}
@@ -20,10 +20,11 @@ use Rattle.snap_board.proofs.board.Board.collect.Goals as goal
 pub fetch_add-begun-requires : goal.fetch_add-begun-requires
 fetch_add-begun-requires c =
     let ok = c.desk.invariant in
+    let most = limit_at c.self.inside _ c.self.invariant c.self.view_is in
     let board = c.self.invariant in let n = ap (λ (v : BoardView). v.desks) c.self.view_is in
     let at = desk_at c.self.inside _ c.desk.inside _ c.self.view_is c.desk.view_is c.requires in
     let keyed = board.keyed ∙ n in let few = board.few.1 in
-    (at.0, omega (arith, board.words), begins_view_as _ _ _ _ _ _ _ (omega arith) (ap (λ m. m.0) ok.alone) (omega (arith, c.if-desk.false)))
+    (at.0, omega (arith, board.words), begins_view_as _ _ _ _ _ _ _ _ (omega arith) most.1 (ap (λ m. m.0) ok.alone) (omega (arith, most.0, most.1, c.if-not-has_room.ensures.room.0 refl)))
 
 pub load_words-requires : goal.load_words-requires
 load_words-requires c =
@@ -39,6 +40,7 @@ load_words-requires c =
 pub fetch_add-ended-requires : goal.fetch_add-ended-requires
 fetch_add-ended-requires c =
     let ok = c.desk.invariant in
+    let most = limit_at c.self.inside _ c.self.invariant c.self.view_is in
     let board = c.self.invariant in let n = ap (λ (v : BoardView). v.desks) c.self.view_is in
     let at = desk_at c.self.inside _ c.desk.inside _ c.self.view_is c.desk.view_is c.requires in
     let keyed = board.keyed ∙ n in let few = board.few.1 in
@@ -48,7 +50,7 @@ fetch_add-ended-requires c =
     let me2 = grew _ _ _ _ _ _ xs me1 c.load_words.ensures.read in (
       c.load_words.ensures.seat ∙ c.fetch_add-begun.ensures.0 ∙ at.0,
       omega (arith, board.words),
-      ends_view_as _ _ _ _ _ _ _ (omega arith) _ xs (ap (λ m. m.0) me2) (length-map ws entry_of ∙ c.load_words.ensures.all ∙ sym keyed) (omega (arith, c.if-desk.false)),
+      ends_view_as _ _ _ _ _ _ _ _ (omega arith) most.1 _ xs (ap (λ m. m.0) me2) (length-map ws entry_of ∙ c.load_words.ensures.all ∙ sym keyed) (omega (arith, most.0, most.1, c.if-not-has_room.ensures.room.0 refl)),
     )
 
 pub view_of-view-requires : goal.view_of-view-requires
@@ -78,13 +80,14 @@ told_of c =
 pub invariant_of-desk : goal.invariant_of-desk
 invariant_of-desk c =
     let desk = c.desk.inside in let ok = c.desk.invariant in
+    let most = limit_at c.self.inside _ c.self.invariant c.self.view_is in
     let at = (goal.at.invariant_of-desk c).After-fetch_add-ended in
     let rs = answered_of desk.seat.me.0 in
     let a = alone_of c.fetch_add-ended.new.seat.me desk.desk (rs ++ call at ∷ []) (desk.kept.ticks + 2) (desk.kept.ticks + 2) (done at).me refl in
     record {
       alone = a.0;
       stored = ap (λ l. latest (0, 0) l) a.1 ∙ latest-push (0, 0) rs (call at) ∙ ok.stored;
-      small = (omega (arith, ok.small.0), omega (arith, c.if-desk.false));
+      small = (omega (arith, ok.small.0), omega (arith, most.0, most.1, c.if-not-has_room.ensures.room.0 refl));
     }
 
 pub returns-clause-stamps : goal.returns-clause-stamps

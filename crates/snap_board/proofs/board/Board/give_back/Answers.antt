@@ -14,14 +14,14 @@ join_seat-requires c = (
   (desk_at c.self.inside _ c.desk.inside _ c.self.view_is c.desk.view_is c.requires.desk).0,
   ap (λ m. m.1) c.desk.invariant.alone,
   omega (arith, c.self.invariant.words),
-  joins _ _ _ _ _,
+  joins _ _ _ _ _ _,
 )
 
 pub load-requires : goal.load-requires
 load-requires c = (
   c.join_seat.ensures.0 ∙ (gathered_at c.self.inside _ c.gathered.inside _ c.self.view_is c.gathered.view_is c.requires.gathered).0,
   omega (arith, c.self.invariant.words),
-  looks _ _ _ _,
+  looks _ _ _ _ _,
 )
 
 pub invariant_of-result : goal.invariant_of-result

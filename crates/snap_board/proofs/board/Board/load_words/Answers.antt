@@ -15,7 +15,7 @@ load-word-requires c =
     let keyed = board.keyed in let few = board.few.1 in let wide = board.words in let count = i.count in let size = length-map c.words.words.items entry_of in (
       i.at ∙ c.requires.seat ∙ sym (ap (λ (v : BoardView). v.board) view),
       omega (arith, c.from.ensures, c.words-test.true),
-      loads_at self.table.shared.key.desks self.table.shared.table_id.slots c.words.seat.id c.words.seat.me (desk_of me0.0) (answered_of me0.0) (ticks_of me0.0) (omega arith) (showing xs (doing_of me0.0)) xs (c.from.result + 1)
+      loads_at self.table.shared.key.desks self.table.shared.key.limit.ticks self.table.shared.table_id.slots c.words.seat.id c.words.seat.me (desk_of me0.0) (answered_of me0.0) (ticks_of me0.0) (omega arith) self.table.shared.key.limit.fits.1 (showing xs (doing_of me0.0)) xs (c.from.result + 1)
           (ap (λ m. m.0) i.reads) (has_showing (doing_of me0.0) [] xs c.requires.ready.1) (omega (arith, c.words-test.true)) (omega (arith, c.from.ensures)),
     )
 

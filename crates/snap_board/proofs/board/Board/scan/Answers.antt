@@ -4,7 +4,7 @@ use Rattle.snap_account.specs.declared.account.Answered.{Answered}
 use Rattle.snap_account.specs.declared.account.Answer.TheVariants.{Scanned, Interfered}
 use Rattle.snap_account.specs.declared.account.Doing.TheVariants.{Scanning}
 use Rattle.snap_board.specs.Boards.{BoardView}
-use Rattle.snap_board.proofs.Fields.{desk_at}
+use Rattle.snap_board.proofs.Fields.{desk_at, limit_at}
 use Rattle.snap_board.specs.declared.record.Record.{Record}
 use Rattle.snap_account.specs.Calls.{latest}
 use Rattle.snap_board.specs.Desks.{records_at, lost_in, collects_in}
@@ -23,10 +23,11 @@ use Rattle.snap_board.proofs.board.Board.scan.Goals as goal
 pub fetch_add-begun-requires : goal.fetch_add-begun-requires
 fetch_add-begun-requires c =
     let ok = c.desk.invariant in
+    let most = limit_at c.self.inside _ c.self.invariant c.self.view_is in
     let board = c.self.invariant in let n = ap (λ (v : BoardView). v.desks) c.self.view_is in
     let at = desk_at c.self.inside _ c.desk.inside _ c.self.view_is c.desk.view_is c.requires.desk in
     let keyed = board.keyed ∙ n in let few = board.few.1 in
-    (at.0, omega (arith, board.words), begins_view_as _ _ _ _ _ _ _ (omega arith) (ap (λ m. m.0) ok.alone) (omega (arith, c.if-from.false, c.from.ensures, c.from-2.ensures, c.from-3.ensures)))
+    (at.0, omega (arith, board.words), begins_view_as _ _ _ _ _ _ _ _ (omega arith) most.1 (ap (λ m. m.0) ok.alone) (omega (arith, most.0, most.1, c.if-not-has_room.ensures.room.0 refl)))
 
 pub load_words-requires : goal.load_words-requires
 load_words-requires c =
@@ -36,7 +37,7 @@ load_words-requires c =
     record {
       seat = c.fetch_add-begun.ensures.0 ∙ at.0 ∙ ap (λ (v : BoardView). v.board) c.self.view_is;
       ready = ready _ _ _ _ _ me1 refl;
-      room = (c.in-Ok.ensures.items, omega (arith, c.in-Ok.ensures.capacity, c.from-4.ensures));
+      room = (c.in-Ok.ensures.items, omega (arith, c.in-Ok.ensures.capacity, c.from.ensures));
     }
 
 pub try_until-requires-clause-read : goal.try_until-requires-clause-read
@@ -63,6 +64,7 @@ all_failed c =
 pub fetch_add-requires : goal.fetch_add-requires
 fetch_add-requires c =
     let desk = c.desk.inside in let ok = c.desk.invariant in
+    let most = limit_at c.self.inside _ c.self.invariant c.self.view_is in
     let board = c.self.invariant in let n = ap (λ (v : BoardView). v.desks) c.self.view_is in
     let at = desk_at c.self.inside _ c.desk.inside _ c.self.view_is c.desk.view_is c.requires.desk in
     let rs = answered_of desk.seat.me.0 in
@@ -76,7 +78,7 @@ fetch_add-requires c =
     let a = after_tries _ _ _ _ _ _ c.args.tries _ (Scanning s.0) r e.seat.1 e.account (omega (arith, e.ticks, e.made)) s.1 in (
       e.seat.0 ∙ c.load_words.ensures.seat ∙ c.fetch_add-begun.ensures.0 ∙ at.0,
       omega (arith, board.words),
-      gives_up_as _ _ _ _ _ _ _ (omega arith) s.0 (ap (λ m. m.0) a.0) (s.4 ∙ sym keyed) (ap length s.2 ∙ failed.1.0 ∙ sym keyed) (λ same. s.3 (same ∙ s.2)) (omega (arith, c.if-from.false, c.from.ensures, c.from-2.ensures, c.from-3.ensures)),
+      gives_up_as _ _ _ _ _ _ _ _ (omega arith) most.1 s.0 (ap (λ m. m.0) a.0) (s.4 ∙ sym keyed) (ap length s.2 ∙ failed.1.0 ∙ sym keyed) (λ same. s.3 (same ∙ s.2)) (omega (arith, most.0, most.1, c.if-not-has_room.ensures.room.0 refl)),
     )
 
 -- what a scan without a record leaves
@@ -98,13 +100,14 @@ lost_called c = ap (λ (m : Seated). answered_of m.0) (gone c).3
 pub invariant_of-desk : goal.invariant_of-desk
 invariant_of-desk c =
     let desk = c.desk.inside in let ok = c.desk.invariant in
+    let most = limit_at c.self.inside _ c.self.invariant c.self.view_is in
     let at = (goal.at.invariant_of-desk c).After-fetch_add in
     let rs = answered_of desk.seat.me.0 in
     let a = alone_of c.fetch_add.new.seat.me desk.desk (rs ++ lost_call at ∷ []) (desk.kept.ticks + c.args.tries + 2) (desk.kept.ticks + (c.args.tries + 2)) (gone at).3 (omega arith) in
     record {
       alone = a.0;
       stored = ap (λ l. latest (0, 0) l) a.1 ∙ latest-push (0, 0) rs (lost_call at) ∙ ok.stored;
-      small = (omega (arith, ok.small.0), omega (arith, c.if-from.false, c.from.ensures, c.from-2.ensures, c.from-3.ensures));
+      small = (omega (arith, ok.small.0), omega (arith, most.0, most.1, c.if-not-has_room.ensures.room.0 refl));
     }
 
 pub returns-in_default-try_until-clause-left : goal.returns-in_default-try_until-clause-left
@@ -156,6 +159,7 @@ last_read c =
 pub fetch_add-ended-requires : goal.fetch_add-ended-requires
 fetch_add-ended-requires c =
     let ok = c.desk.invariant in
+    let most = limit_at c.self.inside _ c.self.invariant c.self.view_is in
     let board = c.self.invariant in let n = ap (λ (v : BoardView). v.desks) c.self.view_is in
     let at = desk_at c.self.inside _ c.desk.inside _ c.self.view_is c.desk.view_is c.requires.desk in
     let keyed = board.keyed ∙ n in let few = board.few.1 in
@@ -168,7 +172,7 @@ fetch_add-ended-requires c =
     let a = after_tries _ _ _ _ _ _ m _ (Scanning s.0) r e.seat.1 e.account (omega (arith, e.ticks, e.made.0)) s.1 in (
       e.seat.0 ∙ c.load_words.ensures.seat ∙ c.fetch_add-begun.ensures.0 ∙ at.0,
       omega (arith, board.words),
-      ends_scan_as _ _ _ _ _ _ _ (omega arith) s.0 (ap (λ m. m.0) a.0) (ap length s.3 ∙ read.0 ∙ sym keyed) (s.2 ∙ sym s.3) (omega (arith, e.made.2, c.if-from.false, c.from.ensures, c.from-2.ensures, c.from-3.ensures)),
+      ends_scan_as _ _ _ _ _ _ _ _ (omega arith) most.1 s.0 (ap (λ m. m.0) a.0) (ap length s.3 ∙ read.0 ∙ sym keyed) (s.2 ∙ sym s.3) (omega (arith, e.made.2, most.0, most.1, c.if-not-has_room.ensures.room.0 refl)),
     )
 
 pub view_of-view-requires : goal.view_of-view-requires
@@ -176,13 +180,14 @@ view_of-view-requires c =
     let e = c.in-Some.ensures in let n = ap (λ (v : BoardView). v.desks) c.self.view_is in
     let l = e.read.0 in let m = length-map c.try_until.new.since.items entry_of in
     record {
-      room = (c.in-Ok-with_capacity-2.ensures.items, omega (arith, c.in-Ok-with_capacity-2.ensures.capacity, c.from-6.ensures));
+      room = (c.in-Ok-with_capacity-2.ensures.items, omega (arith, c.in-Ok-with_capacity-2.ensures.capacity, c.from-3.ensures));
       short = omega (arith, c.self.invariant.few.1);
     }
 
 pub invariant_of-desk-2 : goal.invariant_of-desk-2
 invariant_of-desk-2 c =
     let desk = c.desk.inside in let ok = c.desk.invariant in
+    let most = limit_at c.self.inside _ c.self.invariant c.self.view_is in
     let at = (goal.at.invariant_of-desk-2 c).After-fetch_add-ended in
     let rs = answered_of desk.seat.me.0 in
     let m = c.in-Some.made in let made = c.in-Some.ensures.made in
@@ -190,7 +195,7 @@ invariant_of-desk-2 c =
     record {
       alone = a.0;
       stored = ap (λ l. latest (0, 0) l) a.1 ∙ latest-push (0, 0) rs (call at) ∙ ok.stored;
-      small = (omega (arith, ok.small.0), omega (arith, made.2, c.if-from.false, c.from.ensures, c.from-2.ensures, c.from-3.ensures));
+      small = (omega (arith, ok.small.0), omega (arith, made.2, most.0, most.1, c.if-not-has_room.ensures.room.0 refl));
     }
 
 pub returns-clause-recorded : goal.returns-clause-recorded

@@ -2,7 +2,7 @@ use Rattle.std.proofs.Common.{◌≡◌, ℕ, ◌+◌, ◌*◌, [], ◌∷◌, �
 use Rattle.snap_account.specs.Rule.{code}
 use Rattle.snap_account.specs.Plays.{Seated}
 use Rattle.snap_board.specs.Boards.{BoardView}
-use Rattle.snap_board.proofs.Fields.{desk_at}
+use Rattle.snap_board.proofs.Fields.{desk_at, limit_at}
 use Rattle.snap_board.specs.declared.record.Record.{Record}
 use Rattle.snap_board.specs.declared.record.RecordedOp.TheVariants as Kind
 use Rattle.snap_account.specs.Seats.{answered_of}
@@ -21,14 +21,16 @@ use Rattle.snap_board.proofs.board.Board.store.Goals as goal
 pub fetch_add-begun-requires : goal.fetch_add-begun-requires
 fetch_add-begun-requires c =
     let ok = c.desk.invariant in
+    let most = limit_at c.self.inside _ c.self.invariant c.self.view_is in
     let board = c.self.invariant in let n = ap (λ (v : BoardView). v.desks) c.self.view_is in
     let at = desk_at c.self.inside _ c.desk.inside _ c.self.view_is c.desk.view_is c.requires in
     let keyed = board.keyed ∙ n in let few = board.few.1 in
-    (at.0, omega (arith, board.words), begins_store_as _ _ _ _ _ _ _ (omega arith) (ap (λ m. m.0) ok.alone) (omega (arith, c.if-desk.false)))
+    (at.0, omega (arith, board.words), begins_store_as _ _ _ _ _ _ _ _ (omega arith) most.1 (ap (λ m. m.0) ok.alone) (omega (arith, most.0, most.1, c.if-not-has_room.ensures.room.0 refl)))
 
 pub store-requires : goal.store-requires
 store-requires c =
     let desk = c.desk.inside in let ok = c.desk.invariant in
+    let most = limit_at c.self.inside _ c.self.invariant c.self.view_is in
     let board = c.self.invariant in let n = ap (λ (v : BoardView). v.desks) c.self.view_is in
     let at = desk_at c.self.inside _ c.desk.inside _ c.self.view_is c.desk.view_is c.requires in
     let keyed = board.keyed ∙ n in let few = board.few.1 in
@@ -41,12 +43,13 @@ store-requires c =
     let low = at.1 in let wide = board.words in (
       c.fetch_add-begun.ensures.0 ∙ at.0,
       omega (arith, c.from-3.ensures),
-      writes_at _ _ _ _ _ _ _ (omega arith) _ number value word (c.from-3.result + 1) (ap (λ m. m.0) me1) (omega arith) c.ranges.value.fits words (omega (arith, c.from-3.ensures)),
+      writes_at _ _ _ _ _ _ _ _ (omega arith) most.1 _ number value word (c.from-3.result + 1) (ap (λ m. m.0) me1) (omega arith) c.ranges.value.fits words (omega (arith, c.from-3.ensures)),
     )
 
 pub fetch_add-ended-requires : goal.fetch_add-ended-requires
 fetch_add-ended-requires c =
     let desk = c.desk.inside in let ok = c.desk.invariant in
+    let most = limit_at c.self.inside _ c.self.invariant c.self.view_is in
     let board = c.self.invariant in let n = ap (λ (v : BoardView). v.desks) c.self.view_is in
     let at = desk_at c.self.inside _ c.desk.inside _ c.self.view_is c.desk.view_is c.requires in
     let keyed = board.keyed ∙ n in let few = board.few.1 in
@@ -58,7 +61,7 @@ fetch_add-ended-requires c =
     let me2 = written_after _ _ _ _ _ _ number value word me1 words c.ranges.value.fits c.store.ensures.2 in (
       c.store.ensures.0 ∙ c.fetch_add-begun.ensures.0 ∙ at.0,
       omega (arith, board.words),
-      ends_store_as _ _ _ _ _ _ _ (omega arith) _ number value (ap (λ m. m.0) me2) (omega (arith, c.if-desk.false)),
+      ends_store_as _ _ _ _ _ _ _ _ (omega arith) most.1 _ number value (ap (λ m. m.0) me2) (omega (arith, most.0, most.1, c.if-not-has_room.ensures.room.0 refl)),
     )
 
 -- what the three steps leave in the desk's seat
@@ -77,13 +80,14 @@ called c = ap (λ (m : Seated). answered_of m.0) (done c).me
 pub invariant_of-desk : goal.invariant_of-desk
 invariant_of-desk c =
     let desk = c.desk.inside in let ok = c.desk.invariant in
+    let most = limit_at c.self.inside _ c.self.invariant c.self.view_is in
     let at = (goal.at.invariant_of-desk c).After-fetch_add-ended in
     let rs = answered_of desk.seat.me.0 in
     let a = alone_of c.fetch_add-ended.new.seat.me desk.desk (rs ++ call at ∷ []) (desk.kept.ticks + 2) (desk.kept.ticks + 2) (done at).me refl in
     record {
       alone = a.0;
       stored = ap (λ l. latest (0, 0) l) a.1 ∙ latest-push (0, 0) rs (call at);
-      small = (omega (arith, ok.small.0), omega (arith, c.if-desk.false));
+      small = (omega (arith, ok.small.0), omega (arith, most.0, most.1, c.if-not-has_room.ensures.room.0 refl));
     }
 
 pub returns-clause-stamps : goal.returns-clause-stamps

@@ -10,7 +10,7 @@ use Rattle.snap_board.proofs.board.Board.take.Goals.{In-Some-slots}
 use Rattle.snap_board.proofs.board.Board.take.Goals as goal
 
 pub split_seat-seat-requires : goal.split_seat-seat-requires
-split_seat-seat-requires c = ((gathered_at c.self.inside _ c.gathered.inside _ c.self.view_is c.gathered.view_is c.requires).0, omega (arith, c.self.invariant.words), splits _ _ _)
+split_seat-seat-requires c = ((gathered_at c.self.inside _ c.gathered.inside _ c.self.view_is c.gathered.view_is c.requires).0, omega (arith, c.self.invariant.words), splits _ _ _ _)
 
 -- what is kept of the desk
 kept_here : (c : In-Some-slots) → slice_index_or c.gathered.inside.slots c.in-Some.desk None ≡ Some c.in-Some-slots.kept

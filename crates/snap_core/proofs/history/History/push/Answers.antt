@@ -1,8 +1,9 @@
-use Rattle.std.proofs.Common.{◌≡◌, ◌++◌, ◌∷◌, [], None, sym, subst, rules, ℕ, cond}
+use Rattle.std.proofs.Common.{◌≡◌, ◌≤◌, ◌++◌, ◌∷◌, [], None, rules, ℕ, cond, arith, length-append}
 use Rattle.std.specs.Prelude.{◌==◌}
-use Rattle.snap_core.specs.Events.{process_of}
+use Rattle.snap_core.specs.Events.{process_of, event_cap}
 use Rattle.snap_core.specs.Refusals.{refusal_of}
 use Rattle.snap_core.specs.inside.Tables.{begun_by, call_in, IsRecalled, writer_by, writer_in}
+use Rattle.snap_core.proofs.Picks.{accepted_none}
 use Rattle.snap_core.proofs.Recalled.{recalled_push}
 use Rattle.snap_core.proofs.history.History.push.Goals as goal
 
@@ -10,12 +11,17 @@ pub invariant_of-self-2 : goal.invariant_of-self-2
 invariant_of-self-2 c =
     let old = c.self.inside.events.items in
     let e = c.args.event in
-    let free : refusal_of old e ≡ None = search rules in
+    let limit = c.self.inside.limit.events in
+    let free : refusal_of limit old e ≡ None = search rules in
     let items : c.push.new.self.items ≡ old ++ e ∷ [] = search rules in
     let calls : (p : ℕ) → call_in c.note.new.self p ≡ cond (process_of e == p) (begun_by e) (call_in c.make_room.new.self p) = search rules in
     let writers : (k : ℕ) → writer_in c.note.new.self k ≡ writer_by (process_of e) (begun_by e) k (writer_in c.make_room.new.self k) = search rules in
-    subst (IsRecalled c.note.new.self) (sym items)
-    (recalled_push c.self.inside.tables c.make_room.new.self c.note.new.self old e c.self.invariant free c.fits.ensures c.make_room.ensures.calls c.make_room.ensures.writers calls writers)
+    let within : limit ≤ event_cap = c.self.inside.limit.fits.1 in
+    let grown : IsRecalled c.note.new.self (old ++ e ∷ []) =
+    recalled_push limit c.self.inside.tables c.make_room.new.self c.note.new.self old e within c.self.invariant.0 free c.fits.ensures c.make_room.ensures.calls c.make_room.ensures.writers calls writers
+    in
+    let room = (accepted_none limit old e free).1 in
+    rw items (grown, let l = length-append old (e ∷ []) in omega (arith, l, room))
 
 pub returns-in-Err-clause-ok : goal.returns-in-Err-clause-ok
 returns-in-Err-clause-ok c = search rules

@@ -16,19 +16,19 @@ use Rattle.snap_index.proofs.index.Index.build.Goals.{in-Update+in_ok-put-in-Upd
 
 pub loop-c-init : goal.loop-c-init
 loop-c-init c =
-    subst (λ z. AreTables (take 0 (calls_of c.args.history.now)) z c.new-updates.result 0) (sym c.new-views.ensures.items)
-    (none_noted (calls_of c.args.history.now) c.new-updates.result c.new-updates.ensures)
+    subst (λ z. AreTables (take 0 (calls_of c.args.history.now.events)) z c.new-updates.result 0) (sym c.new-views.ensures.items)
+    (none_noted (calls_of c.args.history.now.events) c.new-updates.result c.new-updates.ensures)
 
 pub overflow_cast-number : goal.overflow_cast-number
 overflow_cast-number c =
-    let es = c.args.history.now in
+    let es = c.args.history.now.events in
     let calls : c.in_ok-calls.calls.items ≡ map as_indexed (calls_of es) = c.in_ok-calls.ensures ∙ ap (λ z. map as_indexed (calls_of z)) c.events-events.ensures.events in
     let count = count_is es c.in_ok-calls.calls.items calls in
     word_fits c.loop-c.c (omega (arith, count, call_count_within es, c.events-events.ensures.history.short))
 
 pub overflow_add-pending : goal.overflow_add-pending
 overflow_add-pending c =
-    let es = c.args.history.now in
+    let es = c.args.history.now.events in
     let calls : c.in_ok-calls.calls.items ≡ map as_indexed (calls_of es) = c.in_ok-calls.ensures ∙ ap (λ z. map as_indexed (calls_of z)) c.events-events.ensures.events in
     let count = count_is es c.in_ok-calls.calls.items calls in
     word_fits _ (omega (arith, count, call_count_within es, c.events-events.ensures.history.short, pending_few (calls_of es) c.loop-c.c _ _ _ (omega (arith, count)) c.loop-c.invariant))
@@ -39,7 +39,7 @@ no_call = record { process = 0; op = Update (record { component = 0; number = 0;
 
 pub loop-c-preserved : goal.loop-c-preserved
 loop-c-preserved c =
-    let es = c.args.history.now in
+    let es = c.args.history.now.events in
     let calls : c.in_ok-calls.calls.items ≡ map as_indexed (calls_of es) = c.in_ok-calls.ensures ∙ ap (λ z. map as_indexed (calls_of z)) c.events-events.ensures.events in
     let count = count_is es c.in_ok-calls.calls.items calls in
     let x = get_or c.deref-call-items.result.now c.loop-c.c no_call in

@@ -5,4 +5,4 @@ use Rattle.snap_index.proofs.index.Index.call_count.Goals as goal
 pub overflow_cast-result : goal.overflow_cast-result
 overflow_cast-result c =
     let es = c.args.self.now in
-    word_fits c.len.result (let count = count_is _ _ c.self.invariant.indexed_calls in omega (arith, count, call_count_within c.self.inside.history.now, c.self.invariant.kept.short, c.len.ensures))
+    word_fits c.len.result (let count = count_is _ _ c.self.invariant.indexed_calls in omega (arith, count, call_count_within c.self.inside.history.now.events, c.self.invariant.kept.short, c.len.ensures))

@@ -12,6 +12,6 @@ returns-clause-cut c = λ before since h.
     let v = c.in_ok-verdict.verdict in
     let is = c.in_ok-verdict.ensures.window before since h in
     let quiet = (c.in_ok-verdict.ensures.quiet before since h).0 c.if-not-quiet.false in
-    cut_taken judge before since c.new.result _ _ h quiet c.new.ensures
+    cut_taken judge before since c.with_limit.result _ _ h quiet c.with_limit.ensures.events c.with_limit.ensures.limit
     (regular_whole judge before since v.regular _ h is.regular (both_are judge.regular v.regular))
     (atomic_whole judge before since v.atomic _ h is.atomic (both_are judge.atomic v.atomic))

@@ -13,8 +13,8 @@ returns-clause-window c = λ before since h.
     let judge = c.args.self.now in
     let k = c.events-events.ensures.history in
     let whole = c.in_ok-tally.ensures.tally ∙ ap (λ z. tally_of (calls_of z) (views_of (calls_of z))) c.in_ok-index.ensures in
-    let local : IsTrue c.is_regular.result ↔ CountsNoLocalFault (tally_of (calls_of judge.window) (views_of (calls_of judge.window))) = subst (λ z. IsTrue c.is_regular.result ↔ CountsNoLocalFault z) whole c.is_regular.ensures in
-    let none : IsTrue c.is_atomic.result ↔ CountsNoFault (tally_of (calls_of judge.window) (views_of (calls_of judge.window))) = subst (λ z. IsTrue c.is_atomic.result ↔ CountsNoFault z) whole c.is_atomic.ensures in
+    let local : IsTrue c.is_regular.result ↔ CountsNoLocalFault (tally_of (calls_of judge.window.events) (views_of (calls_of judge.window.events))) = subst (λ z. IsTrue c.is_regular.result ↔ CountsNoLocalFault z) whole c.is_regular.ensures in
+    let none : IsTrue c.is_atomic.result ↔ CountsNoFault (tally_of (calls_of judge.window.events) (views_of (calls_of judge.window.events))) = subst (λ z. IsTrue c.is_atomic.result ↔ CountsNoFault z) whole c.is_atomic.ensures in
     record {
       regular = regular_window judge before since c.is_regular.result _ h k local (both_are judge.shows c.is_regular.result);
       atomic = atomic_window judge before since c.is_atomic.result _ h k none (both_are judge.shows c.is_atomic.result);

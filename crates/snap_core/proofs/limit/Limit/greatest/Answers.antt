@@ -1,0 +1,5 @@
+use Rattle.std.proofs.Common.{refl}
+use Rattle.snap_core.proofs.limit.Limit.greatest.Goals as goal
+
+pub returns : goal.returns
+returns c = refl

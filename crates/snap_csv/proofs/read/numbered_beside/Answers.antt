@@ -1,5 +1,0 @@
-use Rattle.snap_format.specs.Rows.{rows_of}
-use Rattle.snap_csv.proofs.read.numbered_beside.Goals as goal
-
-pub returns : goal.returns
-returns g c = c.history_of_lines_beside.ensures (rows_of c.args.text.now) c.lines_of.ensures

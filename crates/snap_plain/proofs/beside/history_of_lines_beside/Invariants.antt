@@ -1,4 +1,0 @@
-use Rattle.snap_plain.proofs.beside.history_of_lines_beside.Given as goal
-
-abbrev pub ghosts-shared_history : goal.ghosts-shared_history
-ghosts-shared_history g a = record { lines = a.lines.now }

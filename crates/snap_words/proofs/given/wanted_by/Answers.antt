@@ -1,0 +1,46 @@
+use Rattle.std.proofs.Common.{◌∙◌, subst, sym}
+use Rattle.snap_words.specs.Jobs.{IsCheck, IsDraw, IsExplain, IsFollow, IsRecord, IsShrink}
+use Rattle.snap_words.proofs.given.wanted_by.Goals as goal
+
+-- the job is the one that `job_of` gives, and so is want of memory
+pub returns-in-Ok-clause-check : goal.returns-in-Ok-clause-check
+returns-in-Ok-clause-check c = λ asked files whole means.
+    subst (IsCheck asked files) (sym (c.in_ok-whole_job-in-Ok.ensures.same (c.deref-in-Ok.ensures.value ∙ whole))) (c.in-Ok.ensures.check asked files means)
+
+pub returns-clause-check : goal.returns-clause-check
+returns-clause-check c = λ asked files whole means. c.readable.ensures (c.in-Err.ensures.check asked files means)
+
+pub returns-in-Ok-clause-follow : goal.returns-in-Ok-clause-follow
+returns-in-Ok-clause-follow c = λ events windows files whole means.
+    subst (IsFollow events windows files) (sym (c.in_ok-whole_job-in-Ok.ensures.same (c.deref-in-Ok.ensures.value ∙ whole))) (c.in-Ok.ensures.follow events windows files means)
+
+pub returns-clause-follow : goal.returns-clause-follow
+returns-clause-follow c = λ events windows files whole means. c.readable.ensures (c.in-Err.ensures.follow events windows files means)
+
+pub returns-in-Ok-clause-shrink : goal.returns-in-Ok-clause-shrink
+returns-in-Ok-clause-shrink c = λ events drawn files whole means.
+    subst (IsShrink events drawn files) (sym (c.in_ok-whole_job-in-Ok.ensures.same (c.deref-in-Ok.ensures.value ∙ whole))) (c.in-Ok.ensures.shrink events drawn files means)
+
+pub returns-clause-shrink : goal.returns-clause-shrink
+returns-clause-shrink c = λ events drawn files whole means. c.readable.ensures (c.in-Err.ensures.shrink events drawn files means)
+
+pub returns-in-Ok-clause-explain : goal.returns-in-Ok-clause-explain
+returns-in-Ok-clause-explain c = λ events drawn files whole means.
+    subst (IsExplain events drawn files) (sym (c.in_ok-whole_job-in-Ok.ensures.same (c.deref-in-Ok.ensures.value ∙ whole))) (c.in-Ok.ensures.explain events drawn files means)
+
+pub returns-clause-explain : goal.returns-clause-explain
+returns-clause-explain c = λ events drawn files whole means. c.readable.ensures (c.in-Err.ensures.explain events drawn files means)
+
+pub returns-in-Ok-clause-draw : goal.returns-in-Ok-clause-draw
+returns-in-Ok-clause-draw c = λ events form files whole means.
+    subst (IsDraw events form files) (sym (c.in_ok-whole_job-in-Ok.ensures.same (c.deref-in-Ok.ensures.value ∙ whole))) (c.in-Ok.ensures.draw events form files means)
+
+pub returns-clause-draw : goal.returns-clause-draw
+returns-clause-draw c = λ events form files whole means. c.readable.ensures (c.in-Err.ensures.draw events form files means)
+
+pub returns-in-Ok-clause-recording : goal.returns-in-Ok-clause-recording
+returns-in-Ok-clause-recording c = λ events workers rounds flags files whole means.
+    subst (IsRecord workers rounds flags) (sym (c.in_ok-whole_job-in-Ok.ensures.same (c.deref-in-Ok.ensures.value ∙ whole))) (c.in-Ok.ensures.recording events workers rounds flags files means)
+
+pub returns-clause-recording : goal.returns-clause-recording
+returns-clause-recording c = λ events workers rounds flags files whole means. c.readable.ensures (c.in-Err.ensures.recording events workers rounds flags files means)
