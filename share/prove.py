@@ -10,8 +10,9 @@ a sum over all that it is made of. The libraries have no proofs in them, as in t
 --keep they have, and each check keeps its work, as `rt check` and `rt lib` want both. With --built, libraries that are newer than the
 file BEGUN are taken, as a gate leaves them.
 
-It tells on standard error how far it is, and about how long it will still take, by the seconds in share/proof-times.txt. --times
-writes such a file. The first crate that fails ends all others, with what its check said on standard output and the status 1.
+It tells on standard error how far it is, and about how long it will still take: by the seconds in share/proof-times.txt, and by how
+long the crates took here that are proved. --times writes such a file, which also tells when each check began and ended, in seconds
+after the first, and its jobs. The first crate that fails ends all others, with what its check said on standard output and status 1.
 """
 import contextlib
 import functools
@@ -24,16 +25,13 @@ import subprocess
 import sys
 import time
 
+import schedule
+
 TOP = os.path.dirname(os.path.dirname(os.path.abspath(__file__)))
 KIT = os.path.dirname(os.path.dirname(os.path.realpath(shutil.which("rt") or sys.exit("there is no rt on the path"))))
 sys.path.insert(0, f"{KIT}/bin")
 import rtlib  # noqa: E402
 
-# What a crate takes that the file of times does not know: seconds, and megabytes of memory.
-UNKNOWN = (60, 1500)
-# Further jobs serve crates over so few libraries. Over many, each job takes as long to load them as it then spares.
-FEW_BELOW = 1
-MOST_JOBS = 3
 # How many lines are told of what a failed check said: first those that name what was wrong. Those that only count, or say what is
 # proved, are left out.
 TOLD = 20
@@ -41,17 +39,8 @@ WRONG = re.compile(r"\berror\b|not proved")
 LEFT_OUT = re.compile(r"statements |crate |rattle build: |.*: proved\b")
 # How long standard error is silent at most, in seconds, where it is no terminal.
 SILENCE = 60
-
-
-def noted_times():
-    """The processor seconds and the megabytes that each crate took when it was last measured."""
-    found = {}
-    with contextlib.suppress(FileNotFoundError), open(f"{TOP}/share/proof-times.txt", encoding="utf-8") as lines:
-        for line in lines:
-            words = line.partition("#")[0].split()
-            if words:
-                found[words[0]] = (int(words[1]), int(words[2]))
-    return found
+# Where all proofs take more seconds, a first line says so.
+LONG = 120
 
 
 def clock(seconds):
@@ -141,6 +130,9 @@ class Check:
         how = {"cwd": crate.folder, "stdin": subprocess.DEVNULL, "stdout": self.log, "stderr": subprocess.STDOUT}
         self.run = subprocess.Popen([*rtlib.guarded(), *words], **how)
 
+    def running(self):
+        return schedule.Running(self.crate, self.jobs, self.megabytes, time.monotonic() - self.begun)
+
     def end(self, status, used):
         """Takes in how the run ended, and returns why it failed, or None."""
         self.run.returncode = os.waitstatus_to_exitcode(status)
@@ -166,34 +158,27 @@ class Check:
 class Progress:
     """What standard error says of how far the proofs are."""
 
-    def __init__(self, crates, times):
-        self.crates, self.times, self.done = crates, times, 0
+    def __init__(self, crates):
+        self.crates, self.done = crates, 0
         self.begun, self.said, self.is_terminal = time.monotonic(), 0, sys.stderr.isatty()
-        self.expected, self.took = 0, 0
 
-    def ended(self, check):
-        self.done += 1
-        self.expected += self.times.get(check.crate.name, UNKNOWN)[0]
-        self.took += check.seconds
+    def announce(self, seconds, lanes, is_program):
+        """Says before a long proof what comes."""
+        if seconds > LONG:
+            processors = "processor" if lanes == 1 else "processors"
+            crates = "crate" if self.crates == 1 else "crates"
+            front = f"snapjudge: this proves {self.crates} {crates} first, about {clock(seconds)} on {lanes} {processors}"
+            more = "; ./try runs it unproved in one or two" if is_program else ""
+            print(f"{front}{more}", file=sys.stderr, flush=True)
 
-    def left(self, waiting, running, lanes):
-        """About how many seconds remain: the longest chain, or all that is left on the processors, whichever is more."""
-        pace = self.took / self.expected if self.expected else 1
-        seconds = {it: self.times.get(it.name, UNKNOWN)[0] * pace for it in waiting}
-        for it in running:
-            seconds[it.crate] = max(self.times.get(it.crate.name, UNKNOWN)[0] * pace - (time.monotonic() - it.begun), 5)
-        chain = {}
-        for it in seconds:
-            chain[it] = seconds[it] + max((chain[below] for below in it.below() if below in chain), default=0)
-        return max(max(chain.values(), default=0), sum(seconds.values()) / lanes)
+    def is_due(self, is_news):
+        return self.is_terminal or is_news or time.monotonic() - self.said >= SILENCE
 
-    def say(self, waiting, running, lanes, is_news):
-        now = time.monotonic()
-        if not self.is_terminal and not is_news and now - self.said < SILENCE:
-            return
-        self.said = now
-        under_way = ", ".join(f"{it.crate.name} {clock(now - it.begun)}" for it in running)
-        text = f"snapjudge: {self.done} of {self.crates} proved; now {under_way}; about {clock(self.left(waiting, running, lanes))} to go"
+    def say(self, running, seconds):
+        """Says what is proved now, and in about how many seconds all will be."""
+        self.said = time.monotonic()
+        under_way = ", ".join(f"{it.crate.name} {clock(it.taken)}" for it in running)
+        text = f"snapjudge: {self.done} of {self.crates} proved; now {under_way}; about {clock(seconds)} to go"
         if self.is_terminal:
             width = shutil.get_terminal_size().columns - 1
             print(f"\r\033[K{text[:width]}", end="", file=sys.stderr, flush=True)
@@ -206,52 +191,37 @@ class Progress:
         print(f"snapjudge: {self.done} of {self.crates} proved in {clock(time.monotonic() - self.begun)}", file=sys.stderr, flush=True)
 
 
-def order(crates, times):
-    """The crates, first those with the longest chain of others above them."""
-    behind = {}
-    for it in reversed(crates):
-        above = [behind[other] for other in crates if other in behind and it in other.below()]
-        behind[it] = times.get(it.name, UNKNOWN)[0] + max(above, default=0)
-    return sorted(crates, key=lambda it: -behind[it])
-
-
-def jobs_for(crate, idle, is_last):
-    """How many jobs a check has: one, and one more for each idle processor where there is little below the crate to load again, or
-    where no other crate is left to use that processor."""
-    return 1 + max(0, min(MOST_JOBS - 1, idle)) if is_last or len(crate.below()) <= FEW_BELOW else 1
-
-
 def prove(crates, keep, flags, times):
     """Proves the crates, each with its flags, and returns what was measured, or why one was not proved."""
     lanes = rtlib.cores()
     room = 0.85 * rtlib.number_in("/proc/meminfo", r"MemAvailable:\s+(\d+)") / 1024
-    waiting, running, measured = order(crates, times), [], {}
-    progress = Progress(len(crates), times)
+    waiting, checks, measured = schedule.order(crates, times), [], {}
+    pace = schedule.Pace(times, lanes, os.getloadavg()[0])
+    progress = Progress(len(crates))
+    progress.announce(schedule.left(waiting, [], lanes, room, pace), lanes, any(it.name == "snapjudge" for it in crates))
     try:
-        while waiting or running:
-            blocked = {*waiting, *(it.crate for it in running)}
-            ready = [it for it in waiting if not any(below in blocked for below in it.below())]
+        while waiting or checks:
             is_news = False
-            for at, crate in enumerate(ready):
-                needs = times.get(crate.name, UNKNOWN)[1]
-                free = lanes - sum(it.jobs for it in running)
-                fitting = int(room - sum(it.megabytes for it in running)) // needs
-                if running and (free < 1 or fitting < 1):
-                    break
+            while start := schedule.next_start(waiting, checks, lanes, room, times):
+                crate, jobs, megabytes = start
                 waiting.remove(crate)
-                jobs = max(1, min(jobs_for(crate, free - (len(ready) - at), not waiting), fitting))
-                running.append(Check(crate, jobs, keep, flags.get(crate, []), needs))
+                checks.append(Check(crate, jobs, keep, flags.get(crate, []), megabytes))
                 is_news = True
-            progress.say(waiting, running, lanes, is_news)
-            check, why = next_end(running)
+            if progress.is_due(is_news):
+                running = [it.running() for it in checks]
+                progress.say(running, schedule.left(waiting, running, lanes, room, pace))
+            check, why = next_end(checks)
             if check is None:
                 continue
-            running.remove(check)
+            checks.remove(check)
             if why:
                 progress.close()
                 return None, why
-            progress.ended(check)
-            measured[check.crate.name] = (round(check.seconds), check.most)
+            progress.done += 1
+            ended = time.monotonic()
+            pace.ended(check.crate, check.jobs, ended - check.begun)
+            when = (round(check.begun - progress.begun), round(ended - progress.begun), check.jobs)
+            measured[check.crate.name] = (round(check.seconds), check.most, *when)
     except KeyboardInterrupt:
         progress.close()
         return None, "it was interrupted"
@@ -301,16 +271,16 @@ def main(words):
         is_fresh = Built(it, flags.get(it, [])).is_fresh(keep, begun)
         if not is_fresh or any(below in left for below in it.below()):
             left.append(it)
-    measured, why = prove(left, keep, flags, noted_times()) if left else ({}, None)
+    measured, why = prove(left, keep, flags, schedule.noted_times()) if left else ({}, None)
     del held
     if why:
         print(why, flush=True)
         return 1
     if file:
         with open(file, "w", encoding="utf-8") as times:
-            print("# processor seconds and megabytes of memory of each crate's proof from nothing", file=times)
-            for name, (seconds, megabytes) in measured.items():
-                print(f"{name} {seconds} {megabytes}", file=times)
+            print("# each crate's proof: processor seconds, megabytes of memory, begin and end in seconds after the first, and jobs", file=times)
+            for name, numbers in measured.items():
+                print(name, *numbers, file=times)
     return 0
 
 

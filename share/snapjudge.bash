@@ -11,13 +11,13 @@ _snapjudge() {
   case ${COMP_WORDS[1]} in
     check | shrink | explain | draw)
       words=--help
-      [[ ${COMP_WORDS[1]} != check ]] || words='--pieces --workers --files-from --null --recursive --quiet --views --events --format --summary --follow --window --idle --no-progress --color --help'
+      [[ ${COMP_WORDS[1]} != check ]] || words='--pieces --workers --files-from --null --recursive --quiet -q --views --events --format --summary --follow --window --idle --no-progress --color --help'
       [[ ${COMP_WORDS[1]} != draw ]] || words='--svg --text --events --help'
       [[ ${COMP_WORDS[1]} != @(shrink|explain) ]] || words='--draw --events --help'
       [[ $word == -* ]] || { mapfile -t COMPREPLY < <(compgen -f -- "$word"); return; }
       ;;
     record) words='--workers --rounds --events --scan --judge --stamped --help' ;;
-    *) words='check shrink explain draw record --help --version' ;;
+    *) words='check shrink explain draw record --help --version -V' ;;
   esac
   mapfile -t COMPREPLY < <(compgen -W "$words" -- "$word")
 }

@@ -50,7 +50,10 @@ stub build build 'exit 0'
 stub examples snapjudge 'cat examples/one.report'
 stub launcher share/test.sh 'echo "3 passed, 0 failed"'
 stub library ffi/test.sh 'echo "3 passed, 0 failed"'
-stub pages share/test-pages.py 'echo "3 passed, 0 failed"'
+stub '$(case $1 in --text) echo pages ;; *) echo dialogues ;; esac)' share/test-pages.py 'echo "3 passed, 0 failed"'
+stub try share/test-try.sh 'echo "3 passed, 0 failed"'
+stub edits share/test-edits.py 'echo "3 passed, 0 failed"'
+stub schedule share/test-schedule.py 'echo "3 passed, 0 failed"'
 stub pictures share/test-draw.py 'echo "3 passed, 0 failed"'
 stub package share/test-package.sh 'echo "3 passed, 0 failed"'
 stub recorders ffi/record/test.sh 'echo "3 passed, 0 failed"'
@@ -74,10 +77,26 @@ expect() {
   fi
 }
 
-parts="gate wrong-bodies proofs must-catch build examples launcher library pages pictures package recorders systems scans sweep"
-expect "all parts pass" 0 "41 passed, 0 failed" "proved: ci."
+# Whether the part that waits has ended. It is gone once its parent, which ended too, has been waited for by another.
+has_ended() {
+  for _ in {1..600}; do
+    kill -0 "$(cat "$room/waiting")" 2>/dev/null || return 0
+    sleep 0.1
+  done
+  return 1
+}
+
+parts="pages edits schedule try gate must-catch wrong-bodies proofs build examples launcher library dialogues pictures package recorders systems scans sweep"
+expect "all parts pass" 0 "53 passed, 0 failed" "proved: ci."
+if [ "$(awk '/^part / { inside = 1; next } /^all / { inside = 0 } inside { print $1 }' "$room/out" | tr '\n' ' ')" = "${parts/recorders systems scans sweep/systems scans sweep recorders} " ]; then
+  passed=$((passed + 1))
+else
+  failed=$((failed + 1))
+  echo "gate: FAILED: the table has another order"
+  cat "$room/out"
+fi
 words=(--anew)
-expect "all is proved anew" 0 "41 passed, 0 failed" "proved: ci --anew."
+expect "all is proved anew" 0 "53 passed, 0 failed" "proved: ci --anew."
 words=()
 for part in $parts; do
   for way in fails dies "ends early" "denies its failure" "denies its status"; do
@@ -91,19 +110,35 @@ for part in $parts; do
   rm "$room/$part"
 done
 echo fails >"$room/build"
-expect "parts that need the program are named" 1 "12 passed, 11 failed" "launcher was not reached: there is no program"
+expect "parts that need the program are named" 1 "24 passed, 11 failed" "launcher was not reached: there is no program"
 rm "$room/build"
 rm "$room/tree/crates/snapjudge/out/snapjudge"
-expect "the program is not proved" 1 "12 passed, 11 failed" "build was not reached: the program is not proved"
+expect "the program is not proved" 1 "24 passed, 11 failed" "build was not reached: the program is not proved"
 touch "$room/tree/crates/snapjudge/out/snapjudge"
+# what fails early ends the gate before the proofs, which would take five minutes here
+echo waits >"$room/proofs"
+SECONDS=0
+echo fails >"$room/pages"
+expect "a page is wrong" 1 "8 passed, 13 failed" "proofs was not reached: a part that takes seconds has failed"
+rm "$room/pages"
+echo fails >"$room/must-catch"
+expect "a part beside the proofs fails" 1 "20 passed, 13 failed" "proofs was not reached: a part beside them has failed"
+rm "$room/must-catch" "$room/proofs"
+if [ "$SECONDS" -lt 200 ] && has_ended; then
+  passed=$((passed + 1))
+else
+  failed=$((failed + 1))
+  echo "gate: FAILED: after $SECONDS seconds the proofs go on, or the gate has waited for them"
+fi
+rm -f "$room/waiting"
 echo skips >"$room/recorders"
-expect "what is skipped is said" 0 "40 passed, 0 failed, 1 skipped" "recorders: java: skipped, there is no javac"
+expect "what is skipped is said" 0 "52 passed, 0 failed, 1 skipped" "recorders: java: skipped, there is no javac"
 echo fails >"$room/recorders"
-expect "what failed is said at the end" 1 "40 passed, 1 failed" "recorders: java: FAILED"
+expect "what failed is said at the end" 1 "52 passed, 1 failed" "recorders: java: FAILED"
 echo "fails without a name" >"$room/recorders"
-expect "the last lines stand for a name" 1 "40 passed, 1 failed" "recorders: no name"
+expect "the last lines stand for a name" 1 "52 passed, 1 failed" "recorders: no name"
 echo "names an edit of skipped" >"$room/recorders"
-expect "a name with the word is not skipped" 0 "40 passed, 0 failed"
+expect "a name with the word is not skipped" 0 "52 passed, 0 failed"
 if grep -q "^recorders: must-fail" "$room/out"; then
   failed=$((failed + 1))
   echo "gate: FAILED: a wrong body with the word skipped in its name counts as skipped"
@@ -114,7 +149,7 @@ fi
 for part in launcher recorders; do
   echo works >"$room/$part"
 done
-expect "parts that take processor time" 0 "41 passed, 0 failed"
+expect "parts that take processor time" 0 "53 passed, 0 failed"
 for part in launcher recorders; do
   if grep -Eq "^$part +3 +0 +0 +[0-9]+:[0-9]+ +0:0[1-9]$" "$room/out"; then
     passed=$((passed + 1))
@@ -135,12 +170,7 @@ for _ in {1..600}; do
 done
 kill "$gate"
 wait "$gate"
-# it is gone once its parent, which ended too, has been waited for by another
-for _ in {1..600}; do
-  kill -0 "$(cat "$room/waiting")" 2>/dev/null || break
-  sleep 0.1
-done
-if [ -s "$room/waiting" ] && ! kill -0 "$(cat "$room/waiting")" 2>/dev/null; then
+if [ -s "$room/waiting" ] && has_ended; then
   passed=$((passed + 1))
 else
   failed=$((failed + 1))
@@ -149,9 +179,9 @@ else
 fi
 rm "$room/recorders"
 echo "has a bad edit" >"$room/proofs"
-expect "a wrong body that can't be applied" 1 "41 passed, 1 failed" "proofs: must-fail snap_core/push.edit: BAD EDIT"
+expect "a wrong body that can't be applied" 1 "53 passed, 1 failed" "proofs: must-fail snap_core/push.edit: BAD EDIT"
 rm "$room/proofs"
-for file in share/test-wrong-bodies.py share/wrong_bodies.py share/test-pages.py share/test-draw.py share/test.sh ffi/test.sh share/test-package.sh ffi/record/test.sh examples/systems/test.sh sweep/scans.sh sweep/test.sh sweep/must_catch.py build; do
+for file in share/test-edits.py share/test-schedule.py share/test-try.sh share/test-wrong-bodies.py share/wrong_bodies.py share/test-pages.py share/test-draw.py share/test.sh ffi/test.sh share/test-package.sh ffi/record/test.sh examples/systems/test.sh sweep/scans.sh sweep/test.sh sweep/must_catch.py build; do
   mv "$room/tree/$file" "$room/kept"
   expect "$file is not there" 1 '[0-9]+ passed, [1-9][0-9]* failed'
   mv "$room/kept" "$room/tree/$file"
@@ -159,15 +189,18 @@ done
 
 # what is tried of a change
 words=(--quick)
-expect "nothing has changed" 0 "4 passed, 0 failed" "left out: snap_core, since nothing of snap_core has changed"
+expect "nothing has changed" 0 "13 passed, 0 failed" "left out: snap_core, since nothing of snap_core has changed"
 echo snap_core >"$room/touched"
-expect "a crate has changed" 0 "6 passed, 0 failed" "left out: launcher, since nothing of snapjudge share has changed"
+expect "a crate has changed" 0 "15 passed, 0 failed" "left out: launcher, since nothing of snapjudge share has changed"
 echo fails >"$room/proofs"
-expect "a wrong body of a changed crate is let through" 1 "4 passed, 2 failed" "program was not reached: a crate has failed"
+expect "a wrong body of a changed crate is let through" 1 "13 passed, 2 failed" "program was not reached: a crate has failed"
 rm "$room/proofs"
 echo fails >"$room/rt"
-expect "a changed crate fails" 1 "3 passed, 3 failed" "program was not reached: a crate has failed"
+expect "a changed crate fails" 1 "12 passed, 3 failed" "program was not reached: a crate has failed"
 rm "$room/rt"
+echo fails >"$room/pages"
+expect "a page is wrong" 1 "11 passed, 2 failed" "crates was not reached: a part that takes seconds has failed"
+rm "$room/pages"
 rm "$room/tree/built/passed"
 expect "no gate has passed" 1 "no gate has passed here yet.*"
 words=(--slow)

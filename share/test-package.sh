@@ -164,7 +164,7 @@ calls_from_c() {
 
 # own PREFIX COMMAND ..: the right object of the recorders is atomic by what is under the prefix
 own() {
-  [ "$(env -u SNAPJUDGE_LIBRARY SNAPJUDGE_PROGRAM="$1/bin/snapjudge" "${@:2}" double --runs 5)" = "double: atomic 5, regular 0, neither 0" ]
+  [[ $(env -u SNAPJUDGE_LIBRARY SNAPJUDGE_PROGRAM="$1/bin/snapjudge" "${@:2}" double --runs 5) == "double: atomic 5, only-regular 0, not-regular 0; "* ]]
 }
 
 records_in_c() {
@@ -233,6 +233,69 @@ same_files() {
   diff <(sort "$1/$documents/SHA256SUMS") <(sed 's,/zsh/vendor-completions/,/zsh/site-functions/,' "$2/$documents/SHA256SUMS" | sort)
 }
 
+. share/own-root.sh
+
+# What a machine has that has nothing: the C library, and the tools of bare.
+has_own_root() {
+  own_root=$room/own
+  mkdir -p "$own_root/home" "$own_root/dev" "$own_root/tmp" && : >"$own_root/dev/null" &&
+    add_tools "$own_root" env cut gzip mkdir rm sh sha256sum tar xargs && can_change_root "$own_root"
+}
+
+# judges_there PROGRAM: whether a program judges each example in that root
+judges_there() {
+  local history report status
+  for history in "$top"/examples/*.csv; do
+    report=${history%.csv}.report
+    in_root "$own_root" "$1" check <"$history" >"$room/out"
+    status=$?
+    cmp "$room/out" "$report" && [ "$status" = "$(status_of "$report")" ] || return 1
+  done
+}
+
+# Does in that root what docs/INSTALL.md tells, and tries the program, which finds its examples there.
+installs_archive_there() {
+  cp "$archive" "$dist/SHA256SUMS" "$own_root/home" && write_script "Install without Rattle" 1 && cp "$room/script" "$own_root/home/first" &&
+    write_script "The archive" 1 && cp "$room/script" "$own_root/home/second" &&
+    in_root "$own_root" /bin/sh -eu -c 'cd /home && . ./first && . ./second' && judges_there /home/.local/bin/snapjudge
+}
+
+# What the Debian package depends on is there: no more than the C library.
+installs_deb_there() {
+  dpkg-deb -x "$deb" "$own_root" && judges_there /usr/bin/snapjudge
+}
+
+# Python comes from here, and the module from the wheel alone.
+judges_in_python_there() {
+  python3 -m pip install -q --no-index --disable-pip-version-check --root-user-action=ignore --target "$own_root/module" "$wheel" &&
+    add_python "$own_root" && mkdir -p "$own_root/examples" && cp "$top"/examples/*.csv "$top"/examples/*.report "$own_root/examples" &&
+    in_root "$own_root" "$(cat "$own_root/python")" -B -c '
+import glob, sys
+sys.path.insert(0, "/module")
+import snapjudge
+names = glob.glob("/examples/*.csv")
+assert len(names) > 5
+for name in names:
+    with open(name, "rb") as text, open(name[:-4] + ".report") as wanted:
+        assert snapjudge.report(text.read())[1] == wanted.read(), name
+'
+}
+
+# Packs once more what the archive has, by a copy of the scripts in a folder of another name, for which the files are new. What
+# was packed is proved already, and so nothing is proved twice.
+packed_elsewhere() {
+  local copy="$room/an other tree" parts=$room/parts
+  mkdir -p "$copy" "$parts" "$room/alone/share" &&
+    tar cf - --exclude=.git --exclude=out --exclude=./built --exclude=./ffi/build --exclude=target --exclude=__pycache__ . | tar xmf - -C "$copy" &&
+    tar xmf "$archive" -C "$parts" --strip-components=1 &&
+    cp -r "$parts/bin" "$parts/lib" "$parts/include" "$room/alone" &&
+    cp -r "$parts/share/man" "$parts/share/bash-completion" "$parts/share/zsh" "$parts/share/fish" "$room/alone/share" &&
+    (cd / && umask 077 && TZ=America/Lima PYTHONHASHSEED=3 python3 -B "$copy/share/package.py" "$room/alone" "$parts/lib" \
+      "$(head -n 1 "$parts/$documents/PROVED")" "$(sed -n 's/^sources //p' "$parts/$documents/PROVED")" \
+      "$(tar tvf "$archive" --full-time --utc | awk 'NR == 1 { print $4, $5 }' | date -u -f - +%s)" "$room/elsewhere") &&
+    same "$room/elsewhere" "$dist"
+}
+
 # refuses STATUS REASON WORD ..: package ends with this status, says why, and leaves nothing
 refuses() {
   ./package "${@:3}" "$room/none" 2>"$room/err"
@@ -299,6 +362,15 @@ if has dpkg "dpkg -i" && { [ "$(id -u)" = 0 ] || { skip "dpkg -i" "the right of 
   try "dpkg -i" installs "$deb"
   try "dpkg -i: the examples" judges "$room/root/usr"
   try "dpkg -r" removes
+fi
+
+try "the same bytes, in another folder" packed_elsewhere
+if has_own_root; then
+  try "archive: in a root of its own" installs_archive_there
+  has dpkg-deb "the Debian package in a root of its own" && try "Debian: in a root of its own" installs_deb_there
+  has_pip && try "the wheel in a root of its own" judges_in_python_there
+else
+  skip "each package in a root of its own" "the right to change it"
 fi
 
 try "archive: removed as docs/INSTALL.md tells" runs_as_told "The archive" 2

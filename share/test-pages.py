@@ -1,7 +1,9 @@
 #!/usr/bin/env python3
 """Tries the pages: their dialogues, links, pictures, paths and sizes. The last line is 'N passed, M failed', with ', K skipped' behind it.
 
-usage: test-pages.py [PAGE ..]      all pages where none is named
+usage: test-pages.py [--text | --commands] [PAGE ..]      all pages where none is named
+
+With --text it runs no command, takes a second, and needs no program; with --commands it tries the dialogues alone.
 
 A dialogue is a block with the mark `console`: a line `$ COMMAND`, and below it what that command writes. All dialogues run
 one after the other in one scratch copy of the tree, each by a shell of its own at the top. A block with `file=NAME` in its mark is
@@ -24,15 +26,16 @@ import subprocess
 import sys
 import tempfile
 
+import api
+import definitions
 import graph
 import inside
 import pictures
+from pages import BUILT, Block, Page, all_pages
 
 TOP = graph.TOP
-# What is no page and goes into no copy.
-BUILT = {".git", "out", "target", "dist", "__pycache__"}
-# How many lines the first page and that of a crate may have.
-README_LINES, CRATE_LINES = 110, 40
+# How many lines the first page and that of a crate may have, and how many commands the first page: a screen.
+README_LINES, CRATE_LINES, README_COMMANDS = 110, 40, 24
 # A sentence has no more words; and outside of tables none of so many words stands twice.
 WORDS, SAME_WORDS = 25, 4
 # So many words at least say what a picture shows.
@@ -79,7 +82,6 @@ LONGEST = 300
 # The least status that is no verdict, and the least that a shell or a signal gives.
 NO_VERDICT, NOT_RUN = 4, 126
 
-FENCE = re.compile(r"^( *)```(.*)$")
 # Small pages, each with what is wrong with it.
 WRONG = {
     "another output": "```console\n$ echo one\ntwo\n```\n",
@@ -95,15 +97,13 @@ WRONG = {
     "a block without an end": "```\n",
     "commands without a mark": "```\n$ echo one\none\n```\n",
     "a line too many": "\n" * (README_LINES + 1),
+    "a command too many": "```console any\n" + "$ true\n" * (README_COMMANDS + 1) + "```\n",
     "a sentence too long": "Word" + " word" * WORDS + ".\n",
     "a sentence too long around a colon": "Word" + " word" * 12 + ": 7" + " words" * 12 + ".\n",
     "a sentence twice": "This stands twice: 2.\n\n" * 2,
 }
 
-LINK = re.compile(r"!?\[((?:[^\[\]]|\[[^\]]*\])*)\]\(([^()\s]+)\)")
 PICTURE = re.compile(r"!\[([^\[\]]*)\]\(([^()\s]+\.svg)\)")
-CODE = re.compile(r"(`+)(.+?)\1")
-PATH = re.compile(r"(?:(?:crates|docs|bench|ffi|sweep|examples)/[\w./-]*\w|share/[\w.-]*\w)")
 
 
 class Count:
@@ -126,115 +126,6 @@ class Count:
         more = f", {self.skipped} skipped" if self.skipped else ""
         print(f"{self.passed} passed, {self.failed} failed{more}")
         return 1 if self.failed else 0
-
-
-class Block:
-    """A fenced block of a page: the words of its mark, and its lines."""
-
-    def __init__(self, page, line, words):
-        self.page, self.line, self.words, self.lines = page, line, words, []
-
-    @property
-    def is_dialogue(self):
-        return self.words[:1] == ["console"]
-
-    def file(self):
-        """The name of the file that it shows, or none."""
-        return next((word.partition("=")[2] for word in self.words if word.startswith("file=")), None)
-
-    def missing(self):
-        """The first tool or file that its commands need and that is not there."""
-        needs = [it for word in self.words if word.startswith("needs=") for it in word.partition("=")[2].split(",")]
-        return next((it for it in needs if not shutil.which(it) and not (TOP / it).exists()), None)
-
-    def commands(self):
-        """Each command with its line and the lines that it shall write."""
-        found = []
-        for line, text in enumerate(self.lines, self.line + 1):
-            if text.startswith("$ "):
-                found.append((line, text[2:], []))
-            elif found:
-                found[-1][2].append(text)
-        return found
-
-
-class Page:
-    """A page: its blocks, and the text beside them."""
-
-    def __init__(self, name, text=None):
-        self.name, self.blocks, self.prose = name, [], []
-        lines = ((TOP / name).read_text(encoding="utf-8") if text is None else text).splitlines()
-        self.length = len(lines)
-        inside = None
-        for line, text in enumerate(lines, 1):
-            fence = FENCE.match(text)
-            if fence:
-                indent = fence.group(1)
-                inside = None if inside else Block(self, line, fence.group(2).split())
-                self.blocks += [inside] if inside else []
-            elif inside:
-                inside.lines.append(text.removeprefix(indent))
-            else:
-                self.prose.append((line, text))
-        self.is_whole = inside is None
-
-    def headings(self):
-        """The anchors of its headings, as they are made from their texts."""
-        found = []
-        for _, text in self.prose:
-            if text.startswith("#"):
-                plain = LINK.sub(r"\1", text.lstrip("#").strip()).replace("`", "").lower()
-                anchor = re.sub(r"[^\w\- ]", "", plain).replace(" ", "-")
-                times = sum(it == anchor or re.fullmatch(re.escape(anchor) + r"-\d+", it) is not None for it in found)
-                found.append(f"{anchor}-{times}" if times else anchor)
-        return found
-
-    def links(self):
-        for line, text in self.prose:
-            for _, target in LINK.findall(CODE.sub(lambda it: "" if "](" in it.group(2) else it.group(), text)):
-                yield line, target
-
-    def paths(self):
-        """The paths of the tree that it names in code."""
-        for line, text in self.prose:
-            for _, code in CODE.findall(text):
-                if PATH.fullmatch(code):
-                    yield line, code
-
-    def sentences(self, with_tables=True):
-        """Its sentences, each with a line: the cells of tables and the items of lists by themselves."""
-        paragraph = []
-        for line, text in [*self.prose, (self.length, "")]:
-            starts = re.match(r"\s*(?:[-*] |\d+\. |\||#|<|$)", text)
-            if starts and paragraph:
-                yield from split(paragraph)
-                paragraph = []
-            if text.startswith("|"):
-                for cell in text.strip("|").split("|") if with_tables else ():
-                    yield from split([(line, cell)])
-            elif text.strip() and not text.startswith(("#", "<")):
-                paragraph.append((line, re.sub(r"^\s*(?:[-*] |\d+\. )", "", text)))
-
-
-def split(paragraph):
-    """The sentences of a paragraph: code counts as a word, and a colon ends none."""
-    whole = " ".join(text.strip() for _, text in paragraph)
-    whole = CODE.sub(lambda it: "`" + re.sub(r"[\s.:!?]", "_", it.group(2)) + "`", LINK.sub(r"\1", whole)).replace("**", "")
-    for sentence in re.split(r"(?<=[.!?])[)*\"]* +(?=[\"(*]*[A-Z0-9_./`])", whole):
-        if sentence.strip():
-            yield paragraph[0][0], sentence.strip()
-
-
-def all_pages():
-    found = []
-    for folder, folders, names in os.walk(TOP):
-        at = pathlib.Path(folder).relative_to(TOP)
-        # no part of a crate has a page, and what is built is no page
-        folders[:] = sorted(it for it in folders if it not in BUILT and not (at / it).as_posix() in ("ffi/build", "built"))
-        if at.parts[:1] == ("crates",) and len(at.parts) == 2:
-            folders[:] = []
-        found += [(at / name).as_posix() for name in sorted(names) if name.endswith(".md")]
-    return sorted(found)
 
 
 def try_links(count, page, pages):
@@ -275,6 +166,9 @@ def try_form(count, page):
             count.expect(False, f"{page.name}:{block.line}: a block of commands has no mark `console`")
     crate = re.fullmatch(r"crates/\w+/README.md", page.name)
     most = README_LINES if page.name == "README.md" else CRATE_LINES if crate else None
+    if page.name == "README.md":
+        commands = sum(len(block.commands()) for block in page.blocks)
+        count.expect(commands <= README_COMMANDS, f"{page.name} has {commands} commands, and may have {README_COMMANDS}")
     if most:
         count.expect(page.length <= most, f"{page.name} has {page.length} lines, and may have {most}")
 
@@ -288,10 +182,22 @@ def try_graph(count):
         count.expect((TOP / f"crates/{crate}/README.md").exists(), f"crates/{crate} has no README.md")
 
 
+def try_definitions(count):
+    """The page on the proof shows the very definitions of the theorems."""
+    count.expect(definitions.in_page() == definitions.shown(), "docs/PROOF.md shows other definitions than the sources: run share/definitions.py --write")
+
+
 def try_inside(count):
     """What callers read cites no definition that only proofs need."""
     for file, number, name in inside.all_cited():
         count.expect(False, f"{file.relative_to(TOP)}:{number}: {name} is in specs/inside/, and callers read this")
+    count.expect(True, "")
+
+
+def try_api(count):
+    """The page of the calls that do not change shows them as the sources have them, and each has a caller."""
+    for fault in api.faults():
+        count.expect(False, fault)
     count.expect(True, "")
 
 
@@ -394,30 +300,45 @@ def try_tests(count):
     count.expect(list(inside.imported_in(CITING)) == [(1, "IsKept, Other")], "inside.py overlooks an import")
 
 
+def try_texts(count, pages):
+    """Tries all that needs no program."""
+    for page in pages.values():
+        try_form(count, page)
+        try_links(count, page, pages)
+        try_pictures(count, page)
+    try_graph(count)
+    try_definitions(count)
+    try_inside(count)
+    try_api(count)
+    try_version(count)
+    try_sentences(count, pages.values())
+
+
+def try_commands(count, pages):
+    """Runs the dialogues of the pages in one copy of the tree."""
+    if is_program_fresh():
+        with tempfile.TemporaryDirectory() as room:
+            os.mkdir(f"{room}/home")
+            shutil.copytree(TOP, f"{room}/tree", ignore=shutil.ignore_patterns(*BUILT), symlinks=True)
+            for page in pages.values():
+                try_page(count, page, room)
+    else:
+        count.expect(False, "no command was tried: the program in built/ is not there, or not of these sources; run ./build")
+
+
 def main(words):
+    parts = [try_texts, try_commands]
+    if words[:1] in (["--text"], ["--commands"]):
+        parts = [try_texts if words[0] == "--text" else try_commands]
+        words = words[1:]
     names = words or all_pages()
     count = Count()
     if not all((TOP / name).exists() for name in names):
         sys.exit(__doc__)
     try_tests(count)
     pages = {name: Page(name) for name in names}
-    chosen = list(pages.values())
-    for page in chosen:
-        try_form(count, page)
-        try_links(count, page, pages)
-        try_pictures(count, page)
-    try_graph(count)
-    try_inside(count)
-    try_version(count)
-    try_sentences(count, chosen)
-    if is_program_fresh():
-        with tempfile.TemporaryDirectory() as room:
-            os.mkdir(f"{room}/home")
-            shutil.copytree(TOP, f"{room}/tree", ignore=shutil.ignore_patterns(*BUILT), symlinks=True)
-            for page in chosen:
-                try_page(count, page, room)
-    else:
-        count.expect(False, "no command was tried: the program in built/ is not there, or not of these sources; run ./build")
+    for part in parts:
+        part(count, pages)
     return count.end()
 
 

@@ -549,7 +549,7 @@ fi
 # A tree of one crate, with a prover that does what the file `answer` says, and tells when it is at work.
 mkdir -p tree/share tree/crates/snapjudge/src/tests tree/crates/snapjudge/specs tree/crates/snapjudge/proofs tree/crates/snap_sweep/src bin
 cp "$top/snapjudge" "$top/build" tree
-cp "$top/share/sources.sh" "$top/share/library.sh" tree/share
+cp "$top/share/sources.sh" "$top/share/library.sh" "$top/share/heed.sh" tree/share
 mkdir -p tree/ffi
 cat >tree/ffi/build.sh <<'SH'
 #!/bin/sh
@@ -567,6 +567,8 @@ import os, sys, time
 
 with open(os.environ["ANSWER"]) as file:
     answer = file.read().strip()
+with open(os.environ["ANSWER"] + ".pid", "w") as file:
+    file.write(str(os.getpid()))
 print("at work", file=sys.stderr, flush=True)
 while os.path.exists(os.environ["ANSWER"] + ".wait"):
     time.sleep(0.02)
@@ -862,6 +864,9 @@ at work
 snapjudge: the build failed: it was interrupted
 " sh -c 'echo "$1"; cat one one.err' sh "$codes"
 builds "a build after it" new
+
+. "$top/share/test-signals.sh"
+
 for closed in '<&-' '2>&-' '<&- 2>&-'; do
   echo "${#closed}" >$main
   expect "a build, and $closed" 0 "${#closed}

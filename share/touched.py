@@ -16,7 +16,7 @@ PAGES = sorted([*glob.glob("*.md", root_dir=TOP), *glob.glob("crates/*/README.md
 # What the gate tries beside the crates, and the files at the top that belong to it.
 FOLDERS = {
     "examples": [],
-    "share": ["examples", "build", "install", "package", "snapjudge", "test", "docs/FORMAT.md", "docs/INSTALL.md"],
+    "share": ["examples", "build", "install", "package", "snapjudge", "test", "try", "docs/FORMAT.md", "docs/INSTALL.md"],
     "docs": ["crates.txt", "examples", *PAGES],
     "ffi": ["bench/generate.py", "bench/histories.py", "bench/recordings.py", "docs/OWN-OBJECT.md", "docs/RECORDING.md"],
     "sweep": [],

@@ -1,15 +1,18 @@
 #!/usr/bin/env python3
 """Tries what the tests have to catch, since no contract says it.
 
-usage: must_catch.py [NAME ..]       where each NAME is must-catch/NAME.edit; without one it tries all but those by hand
+usage: must_catch.py [NAME ..]       where each NAME is must-catch/NAME.edit; without one it tries all
 
 An edit has a line 'tests: CRATE', lines 'catches: TEST', and then, as the edits of must-fail, lines 'file: PATH', from the top of
 the repository, and pairs of lines 'old: TEXT' and 'new: TEXT', each old text once in its file. It is applied to a copy of the
-crates, whose tests are built without a proof and run. Each of the named tests has to fail. An edit with a line 'by hand: REASON'
-is tried where it is named, and else only applied. The last line is 'N passed, M failed', with ', K skipped' behind it.
+crates, whose tests are built without a proof and run. Each of the named tests has to be there, and to fail. An edit with a line
+'by hand: REASON' is tried to its end where it is named, and else for two minutes: if that is too short, it is skipped. The last
+line is 'N passed, M failed', with ', K skipped' behind it.
 """
 import os
+import re
 import shutil
+import signal
 import subprocess
 import sys
 import tempfile
@@ -17,12 +20,16 @@ import tempfile
 HERE = os.path.dirname(os.path.abspath(__file__))
 TOP = os.path.dirname(HERE)
 
+# for how many seconds an edit by hand is tried where it is not named
+BY_HAND = 120
+
 
 def parsed(lines):
     """The crate of the tests, the tests that have to fail, file, old and new text of each change, and why it is tried by hand."""
     crate, tests, changes, reason, file, old = None, [], [], None, None, None
     for line in lines:
-        word, _, text = line.rstrip("\n").partition(": ")
+        word, _, text = line.rstrip("\n").partition(":")
+        text = text.removeprefix(" ")
         if word == "tests":
             crate = text
         elif word == "catches":
@@ -59,6 +66,31 @@ def applied(folder, changes):
     return None
 
 
+def is_test(folder, crate, test):
+    """Whether a crate in the copy has a test: in the file of its module, or in a module within a file."""
+    *modules, name = test.split("::")
+    source = os.path.join(folder, "crates", crate, "src")
+    files = [os.path.join(source, *modules[:count]) + ".rt" for count in range(len(modules), 0, -1)]
+    head = re.compile(rf"#\[test\]\s+fn {re.escape(name)}\(")
+    for file in filter(os.path.exists, files):
+        with open(file, encoding="utf-8") as text:
+            if head.search(text.read()):
+                return True
+    return False
+
+
+def said_by_tests(where, seconds):
+    """What the tests of a crate say, or nothing where they take longer than so many seconds."""
+    command = ["rt", "try", "--test"]
+    tests = subprocess.Popen(command, cwd=where, stdout=subprocess.PIPE, stderr=subprocess.STDOUT, text=True, start_new_session=True)
+    try:
+        return tests.communicate(timeout=seconds)[0].splitlines()
+    except subprocess.TimeoutExpired:
+        os.killpg(tests.pid, signal.SIGKILL)
+        tests.communicate()
+        return None
+
+
 def fault(name, is_named):
     """Why an edit is not caught, or nothing where it is; and why it was not tried, or nothing where it was."""
     with open(os.path.join(HERE, "must-catch", name + ".edit"), encoding="utf-8") as edit:
@@ -68,11 +100,12 @@ def fault(name, is_named):
         hindered = applied(folder, changes)
         if hindered:
             return hindered, None
-        if reason and not is_named:
-            return None, reason
-        where = os.path.join(folder, "crates", crate)
-        run = subprocess.run(["rt", "try", "--test"], cwd=where, capture_output=True, text=True)
-    said = (run.stdout + run.stderr).splitlines()
+        gone = [test for test in tests if not is_test(folder, crate, test)]
+        if gone or not tests:
+            return f"{crate} has no test {', '.join(gone)}" if gone else "it names no test", None
+        said = said_by_tests(os.path.join(folder, "crates", crate), None if is_named or not reason else BY_HAND)
+    if said is None:
+        return None, reason
     if not any(line.startswith("test result: ") for line in said):
         return "the tests did not run:\n" + "\n".join(said[-20:]), None
     missed = [test for test in tests if f"test {test} ... FAILED" not in said]

@@ -400,7 +400,7 @@ class Tests:
                 ("an empty text", empty, whole, (3, b"refused record 1: header\n", b"")),
                 ("a folder", folder, whole, (4, b"", READ_FAILED)),
                 ("a full device", empty, full, (4, None, WRITE_FAILED)),
-                ("a pipe that nobody reads", empty, closed, (4, None, WRITE_FAILED)),
+                ("a pipe that nobody reads", empty, closed, (4, None, b"")),
             ):
                 run = subprocess.run([PROGRAM, "check"], stdin=source, stdout=target, stderr=whole, timeout=LIMIT)
                 if (run.returncode, run.stdout, run.stderr) != wanted:
