@@ -27,8 +27,9 @@ out=$(cd "$out" && pwd)
 work=$(mktemp -d)
 trap 'rm -rf "$work" "$out"/libsnapjudge.*.new' EXIT
 
+. "$top/share/heed.sh"
 # proves snap_c, and below it what is not proved already; how far it is goes to standard error
-if ! python3 -B "$top/share/prove.py" ${begun:+--built "$begun"} snap_c >"$work/log"; then
+if ! heed python3 -B "$top/share/prove.py" ${begun:+--built "$begun"} snap_c >"$work/log"; then
   tail -n 20 "$work/log" >&2
   exit 1
 fi

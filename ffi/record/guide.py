@@ -1,5 +1,5 @@
-"""Runs the first five minutes of a guide, in Python, and compares what is printed with what stands there: each line of `double`, those
-of `naive` but for numbers, and of an explanation the verdict. usage: guide.py GUIDE RECORDERS PROGRAM FOLDER"""
+"""Runs the first five minutes of a guide, in Python, and compares what is printed with what stands there: each line of `double`
+but for its views, those of `naive` but for numbers, and of an explanation the verdict. usage: guide.py GUIDE RECORDERS PROGRAM FOLDER"""
 import os
 import pathlib
 import re
@@ -10,8 +10,10 @@ import sys
 START = ["./install", "cp -r ffi/record /tmp/own", "cd /tmp/own/python"]
 # A slow machine says how far it is more than once; only the last of these lines is to be there.
 PROGRESS = re.compile(r"run (\d+) of (?!\1:)")
+# How many views overlap an update varies.
+OVERLAP = re.compile(r"\d+ of \d+ views")
 FORMS = {
-    "python3 own.py double": lambda lines: [line for line in lines if not PROGRESS.search(line)],
+    "python3 own.py double": lambda lines: [OVERLAP.sub("N of N views", line) for line in lines if not PROGRESS.search(line)],
     "python3 own.py naive": lambda lines: [re.sub(r"\d+", "N", line) for line in lines if not PROGRESS.search(line)],
     "cat naive-explained.txt": lambda lines: lines[:1],
 }

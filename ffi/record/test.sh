@@ -13,6 +13,7 @@ failed=0
 skipped=0
 work=$(mktemp -d)
 trap 'rm -rf "$work"' EXIT
+guide=$here/../../docs/OWN-OBJECT.md
 cd "$work" || exit 1
 
 # try NAME COMMAND ..: one test, which passes where the command ends with 0
@@ -42,21 +43,37 @@ has() {
   return 1
 }
 
-# ends STATUS OUTPUT COMMAND ..: the command ends so, and writes that. What it tells on standard error is kept in the file told.
-ends() {
-  local status=$1 output=$2 found
-  shift 2
+# ended STATUS COMMAND ..: the command ends so. What it writes is kept in the file said, and what it tells on standard error in told.
+ended() {
+  local status=$1 found
+  shift
   timeout 900 "$@" >said 2>told
   found=$?
   cat said told
-  [ "$found" = "$status" ] && [ "$(cat said)" = "$output" ]
+  [ "$found" = "$status" ]
 }
 
-# misused START OPTION ..: the driver of `faulty` ends with status 4, writes nothing, and the last line that it tells begins so
+# ends STATUS OUTPUT COMMAND ..: the command ends so, and writes that
+ends() {
+  ended "$1" "${@:3}" && [ "$(cat said)" = "$2" ]
+}
+
+# What a driver writes behind the counts of verdicts.
+overlaps='; [0-9]+ of [0-9]+ views overlapped an update, in [0-9]+ of [0-9]+ runs$'
+
+# counts STATUS NAME ATOMIC ONLY-REGULAR NOT-REGULAR COMMAND ..: the driver ends so, and writes one line, with these counts of verdicts
+counts() {
+  ended "$1" "${@:6}" && [[ $(cat said) =~ ^"$2: atomic $3, only-regular $4, not-regular $5"$overlaps ]]
+}
+
+# unseen START OPTION ..: the driver of `faulty` ends with status 3, writes no verdict, and the last line that it tells begins so
+unseen() {
+  ends 3 "" "${faulty[@]}" "${@:2}" && [[ $(tail -n 1 told) == "$1"* ]]
+}
+
+# misused START OPTION ..: the same with status 4
 misused() {
-  local start=$1
-  shift
-  ends 4 "" "${faulty[@]}" "$@" && [[ $(tail -n 1 told) == "$start"* ]]
+  ends 4 "" "${faulty[@]}" "${@:2}" && [[ $(tail -n 1 told) == "$1"* ]]
 }
 
 # unwritten OUTPUT [OPTION ..]: the same of a standard output that can't be written, a redirection
@@ -80,8 +97,7 @@ chosen() {
 
 # atomic [OPTION ..]: each run of the double collect is atomic, and the last line tells so
 atomic() {
-  ends 0 "double: atomic 20, regular 0, neither 0" "${own[@]}" double --runs 20 "$@" &&
-    [ "$(tail -n 1 told)" = "double: run 20 of 20: atomic 20, regular 0, neither 0" ]
+  counts 0 double 20 0 0 "${own[@]}" double --runs 20 "$@" && [ "$(tail -n 1 told)" = "double: run 20 of 20: $(sed 's/^double: //' said)" ]
 }
 
 # One run of the naive collect is caught, and is kept. More than half of all runs are caught where threads run in the middle of a
@@ -89,7 +105,7 @@ atomic() {
 caught() {
   rm -f naive-*
   timeout 900 "${own[@]}" naive --runs 1000 --stop 1 "$@" >said 2>told
-  [ $? = 1 ] && [[ $(cat said) =~ ^naive:\ atomic\ ([0-9]+),\ regular\ 1,\ neither\ 0$ ]] &&
+  [ $? = 1 ] && [[ $(cat said) =~ ^"naive: atomic "([0-9]+)", only-regular 1, not-regular 0"$overlaps ]] &&
     grep -q "^naive: run $((BASH_REMATCH[1] + 1)) is not atomic: see ./naive-caught.csv" told && judges_alike naive-caught.csv naive-witness.csv &&
     "$program" explain <naive-caught.csv | cmp - naive-explained.txt && "$program" shrink <naive-caught.csv | cmp - naive-witness.csv
 }
@@ -97,7 +113,7 @@ caught() {
 # The runs make the calls that are chosen: of two runs the second alone is caught, and its threads begin what it has for them.
 made() {
   rm -f second-*
-  ends 2 "second: atomic 1, regular 0, neither 1" "${faulty[@]}" second --threads 3 --components 5 --calls 40 --runs 2 --seed 7 || return 1
+  counts 2 second 1 0 1 "${faulty[@]}" second --threads 3 --components 5 --calls 40 --runs 2 --seed 7 || return 1
   python3 -B "$here/choices.py" 3 5 40 2 7 choice | sed -n 's/^2 //p' >wanted
   awk -F '[,:]' '$2 == "begin" { print $3, $4 ($4 == "update" ? " " $5 : "") }' second-caught.csv | cmp wanted -
 }
@@ -123,10 +139,17 @@ at,event,process,op,data
 5,end,0,view,
 TEXT
 
+# a run of more events than the judge takes where it is not asked for them; the words are a setting
+long_run() {
+  rm -f stale-*
+  counts 2 stale 0 0 1 env "$@" "${faulty[@]}" stale --threads 2 --components 2 --calls 16385 --runs 1 --events 65540 &&
+    [ "$("$program" check --quiet stale-witness.csv | tail -n 1)" = "atomic no" ] && [ "$(head -n 1 stale-explained.txt)" = "not regular" ]
+}
+
 # such runs are caught, and the first is kept to the byte; the words are a setting
 stale() {
   rm -f stale-*
-  ends 2 "stale: atomic 0, regular 0, neither 3" env "$@" "${faulty[@]}" "${small_run[@]}" &&
+  counts 2 stale 0 0 3 env "$@" "${faulty[@]}" "${small_run[@]}" &&
     grep -qxF 'stale: run 1 is not atomic: see ./stale-caught.csv and the files beside it' told && cmp stale-caught.csv small-run.csv
 }
 
@@ -171,7 +194,7 @@ WORDS
 # the third has no end, and the thread makes no call behind it. The dropped update has the stamp 0, which is no event's.
 fails() {
   rm -f fails-*
-  ends 2 "fails: atomic 0, regular 0, neither 1" "${faulty[@]}" fails --threads 1 --components 1 --calls 9 --order turn --runs 1 &&
+  counts 2 fails 0 0 1 "${faulty[@]}" fails --threads 1 --components 1 --calls 9 --order turn --runs 1 &&
     cmp fails-caught.csv - <<'TEXT'
 at,event,process,op,data
 1,begin,0,view,
@@ -190,16 +213,38 @@ library_alone() {
   stale SNAPJUDGE_LIBRARY="$library" SNAPJUDGE_PROGRAM=./none && [ ! -e stale-witness.csv ] && [ ! -e stale-explained.txt ]
 }
 
-# Programs that stand for the judge: one dies; another one is beside a library, as it is installed, and only shrinks and explains.
+# Programs that stand for the judge: one ends with 0 whatever it is given, and one dies where it judges; another one is beside a
+# library, as it is installed, and only shrinks and explains.
+mkdir -p wrong prefix/bin prefix/lib
+printf '#!/bin/sh\nexit 0\n' >wrong/snapjudge
 # shellcheck disable=SC2016
-printf '#!/bin/sh\nkill -9 $$\n' >dies
-mkdir -p prefix/bin prefix/lib
+printf '#!/bin/sh\n[ "$1" = --version ] || kill -9 $$\nexec "%s" "$@"\n' "$program" >dies
 # shellcheck disable=SC2016
 printf '#!/bin/sh\n[ "$1" != check ] || kill -9 $$\nexec "%s" "$@"\n' "$program" >prefix/bin/snapjudge
 # shellcheck disable=SC2016
 printf '#!/bin/sh\n[ "$1" != shrink ] || exit 4\nexec "%s" "$@"\n' "$program" >shrinks-not
-chmod +x dies shrinks-not prefix/bin/snapjudge
+chmod +x wrong/snapjudge dies shrinks-not prefix/bin/snapjudge
 [ ! -e "$library" ] || cp "$library" prefix/lib
+
+# wrong_on_path: what is called snapjudge on the path is no judge
+wrong_on_path() {
+  local faulty=(env -u SNAPJUDGE_PROGRAM PATH="$work/wrong:$PATH" "${faulty[@]}")
+  misused "slow: no judge: " slow
+}
+
+# helps: the list of options goes to standard output, with all that the guide has and the objects
+helps() {
+  local word
+  for word in --help -h; do
+    ended 0 "${own[@]}" "$word" && [[ $(tail -n 1 said) =~ ^"objects: "(naive double|double naive)$ ]] &&
+      diff <(sed -n 's/^  \(--[a-z]*\).*/\1/p' said | sort) <(sed -n 's/^| `\(--[a-z]*\)[ `].*/\1/p' "$guide" | sort) || return 1
+  done
+}
+
+# lists_objects: a name that is no object's is answered with those of all
+lists_objects() {
+  misused "other: usage: there is no object other" other && grep -q '^objects: .*\bstale\b' told && grep -q '^objects: .*\bgives-up\b' told
+}
 
 # the program and the library that are installed are found
 installed() {
@@ -211,6 +256,7 @@ by_library() {
   if [ -e "$library" ]; then
     try "$language: the library judges" explained SNAPJUDGE_LIBRARY="$library" SNAPJUDGE_PROGRAM=prefix/bin/snapjudge
     try "$language: the library alone judges" library_alone
+    try "$language: the library judges more events" long_run SNAPJUDGE_LIBRARY="$library" SNAPJUDGE_PROGRAM=prefix/bin/snapjudge
     try "$language: what is installed is found" installed
     SNAPJUDGE_LIBRARY=$library try "$language: a folder that is not there, before a run is caught" \
       misused "gives-up: files: " gives-up --out ./none
@@ -227,29 +273,40 @@ drivers() {
   has python3 "$language: choices" && try "$language: choices" chosen
   has python3 "$language: the calls of a run" && try "$language: the calls of a run" made
   try "$language: double collect" atomic
-  try "$language: one slow component" ends 0 "slow: atomic 5, regular 0, neither 0" "${faulty[@]}" slow --components 1 --nap 40 --calls 60 \
-    --runs 5
+  try "$language: one slow component" counts 0 slow 5 0 0 "${faulty[@]}" slow --components 1 --nap 40 --calls 60 --runs 5
   try "$language: double collect in turn of 7 threads and 64 components" atomic --order turn --threads 7 --components 64 --calls 60
   try "$language: naive collect is caught" caught
   try "$language: naive collect with naps is caught" caught --nap 60 --calls 50
   try "$language: a stale object" explained
   try "$language: updates that fail" fails
-  try "$language: updates that are tried again" ends 0 "retries: atomic 5, regular 0, neither 0" "${faulty[@]}" retries --components 1 \
-    --nap 40 --calls 60 --runs 5
-  try "$language: a view that gives up" ends 0 "gives-up: atomic 2, regular 0, neither 0" "${faulty[@]}" gives-up --runs 2
+  try "$language: updates that are tried again" counts 0 retries 5 0 0 "${faulty[@]}" retries --components 1 --nap 40 --calls 60 --runs 5
+  try "$language: a view that gives up" unseen "gives-up: few views: 0 views ended in 2 runs, fewer than 1: " gives-up --runs 2
+  try "$language: the same where no view is asked for" counts 0 gives-up 2 0 0 "${faulty[@]}" gives-up --runs 2 --views 0
+  try "$language: too few views" unseen "slow: few views: " slow --components 1 --calls 10 --runs 1 --views 41
+  try "$language: too few views of a caught run" counts 2 stale 0 0 3 "${faulty[@]}" "${small_run[@]}" --views 1000
+  try "$language: one thread" unseen "slow: no overlap: none of " slow --components 1 --threads 1 --calls 10 --runs 2
   try "$language: a call that hangs" misused "hangs: hangs: a run took more than 1 s: a call of the object does not end" hangs --limit 1
-  for word in "threads 64" "components 64" "calls 32768" "runs 1000000000" "limit 100000"; do
+  try "$language: too many events" misused "stale: limits: events is a number from 2 to 1048576" stale --events 1048577
+  try "$language: more events than the judge takes unasked" long_run
+  try "$language: too many views" misused "stale: limits: views is a number from 0 to 1000000000" stale --views 1000000001
+  for word in "threads 64" "components 64" "calls 524288" "runs 1000000000" "limit 100000"; do
     read -r name most <<<"$word"
     try "$language: no $name" misused "stale: limits: $name is a number from 1 to $most" stale "--$name" 0
     try "$language: too many $name" misused "stale: limits: $name is a number from 1 to $most" stale "--$name" $((most + 1))
   done
   try "$language: too many calls" misused "stale: limits: all threads make at most 32768 calls" stale --calls 8193
   try "$language: another order" misused "stale: usage: order is choice or turn" stale --order both
-  try "$language: another option" misused "stale: usage: " stale --nope 1
-  try "$language: an option without its value" misused "stale: usage: " stale --runs
-  try "$language: a value that is no number" misused "stale: usage: " stale --seed -1
-  try "$language: another object" misused "other: usage: there is no object other" other
+  try "$language: another option" misused "stale: usage: there is no option --nope" stale --nope 1
+  try "$language: a word that is not an option" misused "stale: usage: other is not an option" stale other
+  try "$language: an option without its value" misused "stale: usage: --runs has no value" stale --runs
+  try "$language: a word in place of a number" misused "stale: usage: --calls: abc is not a number" stale --calls abc
+  try "$language: a number with a sign" misused "stale: usage: --seed: -1 is not a number" stale --seed -1
+  try "$language: a number of 65 bits" misused "stale: limits: seed is a number from 0 to 18446744073709551615" stale --seed 18446744073709551616
+  try "$language: help" helps
+  try "$language: another object" lists_objects
   try "$language: a program that is not there" misused "stale: no judge: there is no program ./none" stale --program ./none
+  try "$language: a program that judges nothing" misused "slow: no judge: " slow --program ./wrong/snapjudge
+  try "$language: the same on the path" wrong_on_path
   try "$language: a program that dies" misused "stale: no verdict: " stale --program ./dies
   try "$language: a folder that is not there" misused "stale: files: " stale --out ./none
   try "$language: a file in place of the folder" misused "stale: files: " stale --out ./dies
@@ -313,9 +370,9 @@ naive_processes() {
   for ((i = 0; i < 1000; i++)); do
     timeout 900 python3 -B "$here/python/processes.py" "$program" naive 1 >printed || return 1
     cat printed
-    [ "$(cat printed)" != "naive: atomic 1, regular 0, neither 0, refused 0" ] && break
+    [ "$(cat printed)" != "naive: atomic 1, only-regular 0, not-regular 0, refused 0" ] && break
   done
-  [ "$(cat printed)" = "naive: atomic 0, regular 1, neither 0, refused 0" ]
+  [ "$(cat printed)" = "naive: atomic 0, only-regular 1, not-regular 0, refused 0" ]
 }
 
 # judge_c_processes OBJECT: the status of the judge on one run of processes in C
@@ -350,8 +407,10 @@ commands() {
 }
 
 try_processes() {
-  local way all="atomic 20, regular 0, neither 0, refused 0" none="atomic 0, regular 0, neither 20, refused 0"
+  local way all="atomic 20, only-regular 0, not-regular 0, refused 0" none="atomic 0, only-regular 0, not-regular 20, refused 0"
   try "processes: logs and what is wrong with them" python3 -B -W error "$here/python/misuse_logs.py" "$program"
+  try "processes: all orders of the calls of small runs" python3 -B -W error "$here/python/try_orders.py" "$program"
+  try "processes: histories of Jepsen" python3 -B -W error "$here/python/try_jepsen.py" "$program"
   try "processes: board under a lock" prints "lock: $all" python3 -B "$here/python/processes.py" "$program" lock 20
   try "processes: naive collect is caught" naive_processes
   if has cc "processes in C"; then
@@ -368,8 +427,6 @@ try_processes() {
 }
 
 # ---- the recorders of each language
-
-guide=$here/../../docs/OWN-OBJECT.md
 
 # each listing of the guide stands in the file of its language
 listings() {
@@ -388,7 +445,7 @@ first_verdict() {
     status=$?
   done
   cat said
-  [ $status = 1 ] && [[ $(tail -n 1 said) =~ ^naive:\ atomic\ [0-9]+,\ regular\ [1-9][0-9]*,\ neither\ 0$ ]]
+  [ $status = 1 ] && [[ $(tail -n 1 said) =~ ^"naive: atomic "[0-9]+", only-regular "[1-9][0-9]*", not-regular 0"$overlaps ]]
 }
 
 # sanitized COMPILER FLAG FOLDER ENDING: no race is found between threads that call both boards, nor where updates fail
@@ -406,6 +463,95 @@ sanitized() {
       return 1
     fi
   done
+}
+
+# ---- the order of calls: what a recorder says happened before, ThreadSanitizer and the race detector of Go see
+
+ordered_c() { cc -std=gnu11 -O1 -g -fsanitize=thread -o ordered "$1/ordered.c" -pthread; }
+
+ordered_cpp() { c++ -std=c++17 -O1 -g -fsanitize=thread -o ordered "$1/ordered.cpp" -pthread; }
+
+ordered_rust() { rustc +nightly --edition 2021 -O -Zsanitizer=thread -Cunsafe-allow-abi-mismatch=sanitizer -o ordered "$1/ordered.rs"; }
+
+ordered_go() { (cd "$1" && go build -race -o "$work/ordered" ./ordered); }
+
+# in_order FOLDER: a word that is written and read in calls that follow each other is in no race
+in_order() {
+  "ordered_$1" "$here/$1" && ends 0 "$(calls_in_turn)" ./ordered && ! [ -s told ]
+}
+
+# The history of 20 updates and 20 views in turn.
+calls_in_turn() {
+  echo "at,event,process,op,data"
+  awk 'BEGIN { for (i = 0; i < 20; i++) printf "%d,begin,0,update,0:%d:%d\n%d,end,0,update,\n", 4 * i, i + 1, i + 1, 4 * i + 1
+    for (i = 0; i < 20; i++) printf "%d,begin,1,view,\n%d,end,1,view,0:%d:%d\n", 4 * i + 2, 4 * i + 3, i + 1, i + 1 }'
+}
+
+# wrong_clock FOLDER FILE CHANGE: with this change of a recorder, an expression of sed, the same word is in a race, and that is seen
+wrong_clock() {
+  rm -rf clocked
+  cp -r "$here/$1" clocked
+  sed "$3" "$here/$1/$2" >"clocked/$2"
+  ! cmp -s "$here/$1/$2" "clocked/$2" && "ordered_$1" clocked || return 1
+  ended 66 ./ordered && grep -qi "warning: .*data race" told
+}
+
+# try_order LANGUAGE FOLDER FILE OLD NEW ..: calls are in order by the recorder, and not by one whose clock has other words
+try_order() {
+  local wrong
+  try "$1: calls are in order" in_order "$2"
+  for wrong in "${@:5}"; do
+    try "$1: a wrong clock is seen: $wrong" wrong_clock "$2" "$3" "s/$4/$wrong/"
+  done
+}
+
+# ---- copies of logs: what is recorded in one would be lost
+
+# refused_copy RIGHT WRONG COMMAND ..: the command takes a program with the first words, and not with the others
+refused_copy() {
+  printf '%s\n' "$1" >copy_right
+  printf '%s\n' "$2" >copy_wrong
+  "${@:3}" copy_right || return 1
+  ! "${@:3}" copy_wrong 2>refused || return 1
+  cat refused
+}
+
+# copied_cpp HOW: a program that takes a log so
+copied_cpp() {
+  printf '#include "%s/cpp/snaprecord.hpp"\nint main() { snaprecord::Recorder r(1, 1, 1); %s log = r.log(0); return !log.begin_view(); }' "$here" "$1"
+}
+
+no_copy_in_cpp() {
+  refused_copy "$(copied_cpp 'auto &')" "$(copied_cpp auto)" c++ -std=c++17 -fsyntax-only -x c++ && grep -q deleted refused
+}
+
+copied_rust() {
+  printf '#[path = "%s/rust/snaprecord.rs"]\nmod snaprecord;\nfn main() { let mut r = snaprecord::Recorder::new(1, 1, 1).unwrap();' "$here"
+  printf ' let %s; assert!(log.begin_view()); drop(r.text()); }' "$1"
+}
+
+no_copy_in_rust() {
+  local command=(rustc --edition 2021 --emit metadata -o copy_metadata)
+  refused_copy "$(copied_rust 'log = &mut r.logs[0]')" "$(copied_rust 'mut log = r.logs[0].clone()')" "${command[@]}" && grep -q E0599 refused &&
+    refused_copy "$(copied_rust 'log = &mut r.logs[0]')" "$(copied_rust 'mut log = r.logs[0]')" "${command[@]}" && grep -q E0507 refused
+}
+
+copied_go() {
+  printf 'package main\n\nimport "snaprecord"\n\nfunc main() {\n'
+  printf '\trecorder, _ := snaprecord.New[uint32](1, 1, 1)\n\tkept := recorder.Log(0)\n\tlog := %s\n\tlog.BeginView()\n}\n' "$1"
+}
+
+# go vet tells of a copy, if it is not of what a call answers; that one the recorder refuses
+no_copy_in_go() {
+  rm -rf copied
+  cp -r "$here/go" copied
+  mkdir copied/copy
+  copied_go kept >copied/copy/copy.go
+  (cd copied && go vet ./copy) || return 1
+  copied_go '*kept' >copied/copy/copy.go
+  (cd copied && ! go vet ./copy) 2>refused || return 1
+  cat refused
+  grep -q 'copies lock value' refused
 }
 
 # the same threads with logs of a quarter of their calls: what was recorded until the first was full is atomic
@@ -435,7 +581,12 @@ try_c() {
   try "C: threads that can't be started" few_threads 150000
   try "C: the command of the guide" first_verdict "cd ../c &&"
   try "C: logs that get full" full
-  sanitizes cc C && try "C: without races" sanitized cc -std=gnu11 c c
+  try "C: builds a caller" cc -std=gnu11 "${flags[@]}" -o caller "$here/c/caller.c" -pthread
+  SNAPJUDGE_LIBRARY='' SNAPJUDGE_PROGRAM=$program try "C: a caller with an alarm, and two objects at once" ./caller
+  if sanitizes cc C; then
+    try "C: without races" sanitized cc -std=gnu11 c c
+    try_order C c snaprecord.h memory_order_acq_rel memory_order_{relaxed,acquire,release}
+  fi
 }
 
 try_cpp() {
@@ -449,7 +600,11 @@ try_cpp() {
   throws C++
   try "C++: threads that can't be started" few_threads 150000
   try "C++: the command of the guide" first_verdict "cd ../cpp &&"
-  sanitizes c++ C++ && try "C++: without races" sanitized c++ -std=c++17 cpp cpp
+  try "C++: no copies of logs" no_copy_in_cpp
+  if sanitizes c++ C++; then
+    try "C++: without races" sanitized c++ -std=c++17 cpp cpp
+    try_order C++ cpp snaprecord.hpp memory_order_acq_rel memory_order_relaxed
+  fi
 }
 
 try_rust() {
@@ -463,6 +618,12 @@ try_rust() {
   throws Rust
   try "Rust: threads that can't be started" few_threads 150000
   try "Rust: the command of the guide" first_verdict "cd ../rust &&"
+  try "Rust: no copies of logs" no_copy_in_rust
+  if ordered_rust "$here/rust" 2>/dev/null; then
+    try_order Rust rust snaprecord.rs Ordering::AcqRel Ordering::Relaxed
+  else
+    skip "Rust: the order of calls" "a nightly rustc with ThreadSanitizer"
+  fi
 }
 
 # Threads with stacks of 100 MB, in a Java that has so little memory itself that it starts under the limit.
@@ -490,7 +651,7 @@ nothing_left() {
 }
 
 # runs of two calls, which ./judges judges, in batches where they are not slow
-batched=(--threads 1 --components 1 --calls 2 --order turn --program ./judges)
+batched=(--threads 1 --components 1 --calls 2 --order turn --views 0 --program ./judges)
 
 # fourth_is_kept: of the runs of `numbered` the fourth was told and kept, and its view shows a 4
 fourth_is_kept() {
@@ -502,7 +663,7 @@ fourth_is_kept() {
 # batch WORDS NEITHER OPTION ..: runs of which so many are caught, while the program calls these words
 batch() {
   judging "$1"
-  ends 2 "numbered: atomic 3, regular 0, neither $2" "${faulty[@]}" numbered "${batched[@]}" "${@:3}" && fourth_is_kept
+  counts 2 numbered 3 0 "$2" "${faulty[@]}" numbered "${batched[@]}" "${@:3}" && fourth_is_kept
 }
 
 # batch_fails WORDS START OPTION ..: the fourth run is kept, and then the driver ends with a line that begins so
@@ -523,16 +684,16 @@ judge_fails() {
 few_starts() {
   local begun=$SECONDS
   judging 'echo $# $(ls run-* | wc -l) >>starts'
-  ends 0 "gives-up: atomic 300, regular 0, neither 0" "${faulty[@]}" gives-up "${batched[@]}" --runs 300 || return 1
+  counts 0 gives-up 300 0 0 "${faulty[@]}" gives-up "${batched[@]}" --runs 300 || return 1
   cat starts
-  [ "$(head -n 1 starts)" = "1 1" ] && [ "$(wc -l <starts)" -le $((10 + 2 * (SECONDS - begun + 1))) ] &&
-    awk '$2 != ($1 == 1 ? 1 : $1 - 4) || $2 > 64 { exit 1 }' starts
+  [ "$(head -n 1 starts)" = "2 1" ] && [ "$(wc -l <starts)" -le $((10 + 2 * (SECONDS - begun + 1))) ] &&
+    awk '$2 != ($1 == 2 ? 1 : $1 - 5) || $2 > 64 { exit 1 }' starts
 }
 
 # slow runs are judged one by one
 slow_runs() {
   judging 'echo >>starts'
-  ends 0 "slows: atomic 4, regular 0, neither 0" "${faulty[@]}" slows "${batched[@]}" --runs 4 && [ "$(wc -l <starts)" = 4 ]
+  counts 0 slows 4 0 0 "${faulty[@]}" slows "${batched[@]}" --runs 4 && [ "$(wc -l <starts)" = 4 ]
 }
 
 # with room for one character, each run is a batch
@@ -542,7 +703,7 @@ bounded_batches() {
   cp -r "$here/java" bounded
   sed 's/MOST_CHARACTERS = 1 << 24/MOST_CHARACTERS = 1/' "$here/java/SnapDriver.java" >bounded/SnapDriver.java
   ! cmp -s bounded/SnapDriver.java "$here/java/SnapDriver.java" && javac -d bounded bounded/*.java || return 1
-  ends 0 "gives-up: atomic 5, regular 0, neither 0" java -cp bounded Faulty gives-up "${batched[@]}" --runs 5 && [ "$(wc -l <starts)" = 5 ]
+  counts 0 gives-up 5 0 0 java -cp bounded Faulty gives-up "${batched[@]}" --runs 5 && [ "$(wc -l <starts)" = 5 ]
 }
 
 # the driver is ended while the program reads the files of its second start, and they are gone
@@ -555,7 +716,7 @@ ended_in_batch() {
 # Where a batch is not judged at once, its runs are judged one by one.
 # shellcheck disable=SC2016
 java_batches() {
-  local died="numbered: died: a call of thread 0 threw " alone='[ $# = 1 ] ||' seen="grep -q ':5$' run-*"
+  local died="numbered: died: a call of thread 0 threw " alone='[ $# = 2 ] ||' seen="grep -q ':5$' run-*"
   try "Java: the first of a batch is kept" batch : 2 --runs 5
   try "Java: a batch with the last run that counts" batch : 1 --runs 5 --stop 1
   try "Java: a fault behind the last run that counts" batch : 1 --runs 8 --stop 1
@@ -564,13 +725,27 @@ java_batches() {
   try "Java: a program that knows no batches" batch "$alone exit 0" 2 --runs 5
   try "Java: a program that leaves out a run" batch "$alone { \"$program\" \"\$@\" >all; found=\$?; sed 1,3d all; exit \$found; }" 2 --runs 5
   try "Java: a program that ends otherwise than it tells" batch "$alone { \"$program\" \"\$@\" | sed 's/ no/ yes/'; exit 2; }" 2 --runs 5
-  try "Java: a full disk for a batch" batch '[ $# != 1 ] || ln -sfn /dev/full run-$PPID-1.csv' 2 --runs 5
+  try "Java: a full disk for a batch" batch '[ $# != 2 ] || ln -sfn /dev/full run-$PPID-0-1.csv' 2 --runs 5
   try "Java: a program that fails later" judge_fails '[ ! -e checked ] || exit 4; touch checked' "numbered: no verdict: the judge ends with status 4"
   try "Java: a program that is gone later" judge_fails 'rm judges' "numbered: files: a file can't be written, or the program can't be run: "
   try "Java: few starts of the program" few_starts
   try "Java: slow runs are judged at once" slow_runs
   try "Java: batches of few characters" bounded_batches
   try "Java: ended in a batch" ended_in_batch
+}
+
+# the listing of the guide and its main are a program
+guide_in_java() {
+  mkdir -p guide_java
+  {
+    echo "import java.util.concurrent.atomic.AtomicLongArray;"
+    echo "public final class Guide {"
+    sed -n '/^```java$/,/^```$/ { /^```/d; p }' "$guide"
+    sed -n 's/^In Java, with `\(public static void main.*\)`:$/\1/p' "$guide"
+    echo "}"
+  } >guide_java/Guide.java
+  javac -Xlint:all -Werror -d guide_java -cp java guide_java/Guide.java && grep -q "SnapDriver.main" guide_java/Guide.java &&
+    ended 0 java -cp guide_java:java Guide --help
 }
 
 try_java() {
@@ -582,6 +757,7 @@ try_java() {
   java_batches
   few_java_threads
   try "Java: the command of the guide" first_verdict "cd ../java &&"
+  try "Java: the listing of the guide" guide_in_java
 }
 
 try_python() {
@@ -623,6 +799,14 @@ try_go() {
   throws Go
   try "Go: without cgo" without_cgo
   try "Go: the command of the guide" first_verdict "cd ../go &&"
+  try "Go: no copies of logs" no_copy_in_go
+  if ordered_go "$here/go" 2>/dev/null; then
+    try "Go: calls are in order" in_order go
+    # a bare reading of a clock orders nothing
+    try "Go: a wrong clock is seen" wrong_clock go snaprecord.go 's/log.recorder.clock.Add(1) - 1/uint64(time.Now().UnixNano())/; s/^import ($/&"time"/'
+  else
+    skip "Go: the order of calls" "the race detector of Go"
+  fi
 }
 
 if [ -x "$program" ]; then

@@ -27,6 +27,7 @@ static void counted_free(void *memory) {
 #include "snaprecord.h"
 #include <setjmp.h>
 #include <signal.h>
+#include <sys/resource.h>
 
 static int passed, failed;
 
@@ -67,6 +68,12 @@ static bool is_written(snaprecord *recorder, const char *name) {
     return written;
 }
 
+/* Whether so many views ended, and so many of them overlapped an update. */
+static bool has_views(snaprecord *recorder, uint32_t ended, uint32_t overlapping) {
+    snaprecord_views views;
+    return snaprecord_count_views(recorder, &views) && views.ended == ended && views.overlapping == overlapping;
+}
+
 static bool worked(snaprecord *recorder, const char *name) {
     snaprecord_log *writer = snaprecord_log_of(recorder, 0), *viewer = snaprecord_log_of(recorder, 1);
     bool begun = snaprecord_begin_update(writer, 0, 7) == 1 && snaprecord_begin_view(viewer);
@@ -80,6 +87,7 @@ static bool worked(snaprecord *recorder, const char *name) {
     snaprecord_drop_view(viewer);
     begun = begun && snaprecord_begin_view(viewer);
     snaprecord_end_view_values(viewer, (const uint32_t[]){99, 0}); /* nobody wrote 99 */
+    expect("the views of the worked run", has_views(recorder, 3, 1));
     return begun && is_written(recorder, name);
 }
 
@@ -96,6 +104,7 @@ static bool failed_calls(snaprecord *recorder, const char *name) {
     begun = begun && snaprecord_begin_update(writer, 1, 8) == 1;
     view(recorder, 1, (const uint32_t[]){7, 8});
     view(recorder, 2, (const uint32_t[]){7, 8});
+    expect("the views beside an update that stays pending", has_views(recorder, 4, 3));
     return begun && is_written(recorder, name);
 }
 
@@ -132,11 +141,14 @@ static bool lacks_memory(snaprecord *recorder) {
     unsigned opened = 0, told = 0;
     size_t length;
     char *text = NULL;
+    snaprecord_views views;
     for (scarce = 0; !snaprecord_open(recorder, 2, 1, 2); scarce = ++opened)
         if (recorder->fault != SNAPRECORD_MEMORY || strcmp(recorder->message, "out of memory") || held) return false;
     for (scarce = 0; !(text = snaprecord_text(recorder, &length)); scarce = ++told)
         if (recorder->fault != SNAPRECORD_MEMORY || strcmp(recorder->message, "out of memory")) return false;
     free(text);
+    scarce = 0;
+    if (snaprecord_count_views(recorder, &views) || recorder->fault != SNAPRECORD_MEMORY) return false;
     snaprecord_close(recorder);
     scarce = 1000000;
     return opened == 5 && told == 3 && !held; /* two logs of two parts each and their list; two tables and the text */
@@ -152,6 +164,48 @@ static bool has_no_log(snaprecord *recorder, uint32_t thread) {
     if (setjmp(aborted)) return true;
     snaprecord_log_of(recorder, thread);
     return false;
+}
+
+/* How many pages this process was given so far, without a read from a disk. */
+static long pages(void) {
+    struct rusage usage;
+    return getrusage(RUSAGE_SELF, &usage) ? 0 : usage.ru_minflt;
+}
+
+/* The logs take some 3,000 pages, and all of them are there before. */
+static bool makes_no_pages(void) {
+    static const uint32_t values[64];
+    static snaprecord r;
+    snaprecord_open(&r, 1, 64, 16000);
+    long before = pages();
+    for (uint32_t i = 0; i < 16000; i++) view(&r, 0, values);
+    bool is_made = pages() - before < 300 && has_views(&r, 16000, 0);
+    snaprecord_close(&r);
+    return is_made;
+}
+
+/* What is recorded in a copy is in no text, so a copy refuses to record, and all threads stop. */
+static void try_copies(void) {
+    static snaprecord r, copied;
+    snaprecord_open(&r, 2, 1, 4);
+    snaprecord_log begins = *snaprecord_log_of(&r, 0);
+    expect("a copy of a log is refused", !snaprecord_begin_update(&begins, 0, 1));
+    expect("a copy of a log stops all threads", !snaprecord_begin_view(snaprecord_log_of(&r, 1)));
+    expect("a copy of a log", fault_of(&r) == SNAPRECORD_COPIED);
+
+    snaprecord_open(&r, 1, 1, 4);
+    expect("an update", snaprecord_begin_update(snaprecord_log_of(&r, 0), 0, 1) == 1);
+    snaprecord_log ends = *snaprecord_log_of(&r, 0);
+    snaprecord_end_update(&ends);
+    expect("an end by a copy of a log", fault_of(&r) == SNAPRECORD_COPIED);
+
+    snaprecord_open(&r, 1, 1, 4);
+    copied = r;
+    expect("a log of a copied recorder", has_no_log(&copied, 0) && !has_no_log(&r, 0));
+    snaprecord_close(&r);
+    snaprecord_open(&r, 1, 1, 4);
+    copied = r;
+    expect("a text of a copied recorder", fault_of(&copied) == SNAPRECORD_COPIED);
 }
 
 int main(int count, char **words) {
@@ -175,6 +229,8 @@ int main(int count, char **words) {
     snaprecord_open(&r, 2, 1, 2);
     expect("a log that there is not", has_no_log(&r, 2) && !has_no_log(&r, 1));
     snaprecord_close(&r);
+    try_copies();
+    expect("no page is made while calls are recorded", makes_no_pages());
 
     snaprecord_open(&r, 2, 1, 2);
     for (uint32_t value = 1; value <= 3; value++) update(&r, 0, 0, value);

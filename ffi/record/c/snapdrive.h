@@ -26,7 +26,6 @@
 #include "snapverdict.h"
 #include <pthread.h>
 #include <sched.h>
-#include <signal.h>
 #include <stddef.h>
 #include <time.h>
 
@@ -41,34 +40,38 @@ typedef struct {
 } snapdrive_object;
 
 typedef struct {
-    uint64_t threads, components, calls, runs, seed, nap, stop, limit;
+    uint64_t threads, components, calls, runs, seed, nap, stop, limit, views, events;
     const char *order, *out, *program;
 } snapdrive_options;
 
 #define SNAPDRIVE_OPTIONS                                                                                                  \
-    ((snapdrive_options){.threads = 4, .components = 4, .calls = 200, .runs = 20, .seed = 1, .limit = 60, .order = "choice", \
-                         .out = "."})
+    ((snapdrive_options){.threads = 4, .components = 4, .calls = 200, .runs = 20, .seed = 1, .limit = 60, .views = 1,      \
+                         .events = 65536, .order = "choice", .out = "."})
 
 #define SNAPDRIVE_USAGE                                                                                \
     "usage: [OBJECT] [OPTION VALUE ..]\n"                                                              \
     "  --threads 4      how many threads, at most 64\n"                                                \
     "  --components 4   how many components, at most 64; thread t updates t, t + threads and so on\n"  \
-    "  --calls 200      how many calls each thread makes; all threads make at most 32768\n"            \
+    "  --calls 200      how many calls each thread makes; all threads make at most half of --events\n" \
+    "  --events 65536   how many events a run may have, at most 1048576; a call has two\n"             \
     "  --runs 20        how many runs, each of a fresh object\n"                                       \
     "  --seed 1         what the choice of the calls begins with\n"                                    \
     "  --order choice   each call is chosen by the seed; or turn: updates and a view in turn\n"        \
     "  --nap 0          where not 0, pauses and the gaps between calls last up to so many microseconds\n" \
     "  --stop 0         where not 0, ends after so many runs that were not atomic\n"                   \
     "  --limit 60       how many seconds a run may take\n"                                             \
+    "  --views 1        how many views have to end in all runs together; 0 asks for none\n"            \
     "  --out .          the folder for the first run that was not atomic\n"                            \
     "  --program FILE   the program snapjudge; else SNAPJUDGE_PROGRAM names it, else it is on the PATH\n" \
-    "  --choices        writes the calls that the seed chooses, and runs nothing"
+    "  --choices        writes the calls that the seed chooses, and runs nothing\n"                    \
+    "  --help           writes this"
 
-/* How many runs were atomic, only regular, or neither; and which was the first that was not atomic, from 1, or 0. Where there is
- * no verdict, `fault` is usage, limits, memory, no judge, no verdict, files, or a misuse of the recorder. A call that hangs ends the
+/* How many runs were atomic, only regular, or not regular; and which was the first that was not atomic, from 1, or 0. How many views
+ * ended in all runs, how many of these overlapped an update, and how many runs have such a view. Where there is no verdict, `fault` is
+ * usage, limits, memory, few views, no overlap, no judge, no verdict, files, or a misuse of the recorder. A call that hangs ends the
  * process, with status 4. */
 typedef struct {
-    uint64_t found[3], first;
+    uint64_t found[3], first, views, overlapping, overlapped;
     const char *fault;
     char message[1600];
 } snapdrive_outcome;
@@ -138,18 +141,64 @@ static inline void snapdrive_unknown(void) { snapdrive_fate_of_update = SNAPDRIV
 
 /* ---- one run */
 
+/* What the threads of a run share, and how many of them run. */
+typedef struct {
+    pthread_barrier_t start;
+    pthread_mutex_t lock;
+    pthread_cond_t ended;
+    uint32_t running;
+} snapdrive_race;
+
+static inline void snapdrive_race_open(snapdrive_race *race, uint32_t threads) {
+    pthread_condattr_t by_clock;
+    pthread_condattr_init(&by_clock);
+    pthread_condattr_setclock(&by_clock, CLOCK_MONOTONIC);
+    pthread_cond_init(&race->ended, &by_clock);
+    pthread_condattr_destroy(&by_clock);
+    pthread_mutex_init(&race->lock, NULL);
+    pthread_barrier_init(&race->start, NULL, threads);
+    race->running = threads;
+}
+
+static inline void snapdrive_race_close(snapdrive_race *race) {
+    pthread_barrier_destroy(&race->start);
+    pthread_mutex_destroy(&race->lock);
+    pthread_cond_destroy(&race->ended);
+}
+
+static inline void snapdrive_race_end(snapdrive_race *race) {
+    pthread_mutex_lock(&race->lock);
+    if (--race->running == 0) pthread_cond_signal(&race->ended);
+    pthread_mutex_unlock(&race->lock);
+}
+
+/* A call that hangs can't be ended, so the process is. */
+static inline void snapdrive_race_wait(snapdrive_race *race, const char *name, uint64_t limit) {
+    struct timespec end;
+    int late = 0;
+    clock_gettime(CLOCK_MONOTONIC, &end);
+    end.tv_sec += (time_t)limit;
+    pthread_mutex_lock(&race->lock);
+    while (race->running && !late) late = pthread_cond_timedwait(&race->ended, &race->lock, &end);
+    bool hangs = race->running;
+    pthread_mutex_unlock(&race->lock);
+    if (!hangs) return;
+    fprintf(stderr, "%s: hangs: a run took more than %" PRIu64 " s: a call of the object does not end\n", name, limit);
+    _exit(4);
+}
+
 typedef struct {
     const snapdrive_object *object;
     const snapdrive_options *options;
     snaprecord_log *log;
-    pthread_barrier_t *start;
+    snapdrive_race *race;
     uint64_t seed;
 } snapdrive_worker;
 
 static inline void *snapdrive_work(void *argument) {
     snapdrive_worker worker = *(snapdrive_worker *)argument;
     uint32_t thread = worker.log->process, values[SNAPDRIVE_COMPONENTS] = {0};
-    pthread_barrier_wait(worker.start);
+    pthread_barrier_wait(&worker.race->start);
     for (uint64_t i = 0; i < worker.options->calls; i++) {
         uint32_t component = snapdrive_choose(worker.options, thread, i, &worker.seed);
         if (component == SNAPDRIVE_VIEW) {
@@ -167,48 +216,46 @@ static inline void *snapdrive_work(void *argument) {
         }
         if (snapdrive_longest_nap) snapdrive_pause();
     }
+    snapdrive_race_end(worker.race);
     return NULL;
 }
 
-/* What is said where a run takes too long; a handler of signals can't put it together. */
-static char snapdrive_too_long[200];
-
-static inline void snapdrive_hangs(int signal) {
-    ssize_t written = write(STDERR_FILENO, snapdrive_too_long, strlen(snapdrive_too_long));
-    _exit(written && signal ? 4 : 5);
-}
-
-/* The history of a fresh object, to be given to free(). */
+/* The history of a fresh object, to be given to free(). Its views are counted. */
 static inline char *snapdrive_record(const snapdrive_object *object, const snapdrive_options *options, uint64_t *seeds,
                                      size_t *length, snapdrive_outcome *outcome) {
     static const char *const faults[] = {
         [SNAPRECORD_LIMITS] = "limits", [SNAPRECORD_MEMORY] = "memory", [SNAPRECORD_NESTED] = "nested",
         [SNAPRECORD_NOT_OPEN] = "not open", [SNAPRECORD_AFTER_FULL] = "after full", [SNAPRECORD_COMPONENT] = "component",
-        [SNAPRECORD_TWO_WRITERS] = "two writers", [SNAPRECORD_SAME_VALUE] = "same value"};
-    static snaprecord recorder;
+        [SNAPRECORD_TWO_WRITERS] = "two writers", [SNAPRECORD_SAME_VALUE] = "same value", [SNAPRECORD_COPIED] = "copied"};
+    snaprecord recorder;
+    snaprecord_views views;
     pthread_t threads[SNAPDRIVE_THREADS];
     snapdrive_worker workers[SNAPDRIVE_THREADS];
-    pthread_barrier_t start;
+    snapdrive_race race;
     uint32_t count = (uint32_t)options->threads;
     char *text = NULL;
     if (snaprecord_open(&recorder, count, (uint32_t)options->components, (uint32_t)options->calls)) {
         object->begin((uint32_t)options->components);
-        pthread_barrier_init(&start, NULL, count);
+        snapdrive_race_open(&race, count);
         for (uint32_t t = 0; t < count; t++)
-            workers[t] = (snapdrive_worker){object, options, snaprecord_log_of(&recorder, t), &start, snapdrive_next(seeds)};
-        snprintf(snapdrive_too_long, sizeof snapdrive_too_long,
-                 "%s: hangs: a run took more than %" PRIu64 " s: a call of the object does not end\n", object->name, options->limit);
-        signal(SIGALRM, snapdrive_hangs);
-        alarm((unsigned)options->limit);
+            workers[t] = (snapdrive_worker){object, options, snaprecord_log_of(&recorder, t), &race, snapdrive_next(seeds)};
         for (uint32_t t = 0; t < count; t++)
             if (pthread_create(&threads[t], NULL, snapdrive_work, &workers[t])) {
                 fprintf(stderr, "%s: memory: thread %" PRIu32 " can't be started\n", object->name, t);
                 exit(4); /* those before it wait for it */
             }
+        snapdrive_race_wait(&race, object->name, options->limit);
         for (uint32_t t = 0; t < count; t++) pthread_join(threads[t], NULL);
-        alarm(0);
-        pthread_barrier_destroy(&start);
+        snapdrive_race_close(&race);
         text = snaprecord_text(&recorder, length);
+    }
+    if (text && snaprecord_count_views(&recorder, &views)) {
+        outcome->views += views.ended;
+        outcome->overlapping += views.overlapping;
+        outcome->overlapped += views.overlapping > 0;
+    } else if (text) {
+        free(text);
+        text = NULL;
     }
     if (!text) snapdrive_failed(outcome, faults[recorder.fault], "%s", recorder.message);
     snaprecord_close(&recorder);
@@ -230,27 +277,51 @@ static const struct {
     {"nap", offsetof(snapdrive_options, nap), 0, 1000000},
     {"stop", offsetof(snapdrive_options, stop), 0, 1000000000},
     {"limit", offsetof(snapdrive_options, limit), 1, 100000},
+    {"views", offsetof(snapdrive_options, views), 0, 1000000000},
+    {"events", offsetof(snapdrive_options, events), 2, SNAPRECORD_EVENTS},
 };
 enum { SNAPDRIVE_RANGES = sizeof snapdrive_ranges / sizeof *snapdrive_ranges };
 
+static inline bool snapdrive_is_beyond(size_t range, snapdrive_outcome *outcome) {
+    return snapdrive_failed(outcome, "limits", "%s is a number from %" PRIu64 " to %" PRIu64, snapdrive_ranges[range].name,
+                            snapdrive_ranges[range].least, snapdrive_ranges[range].greatest);
+}
+
 static inline bool snapdrive_fits(const snapdrive_options *options, snapdrive_outcome *outcome) {
     for (size_t i = 0; i < SNAPDRIVE_RANGES; i++) {
-        uint64_t least = snapdrive_ranges[i].least, greatest = snapdrive_ranges[i].greatest, value;
+        uint64_t value;
         memcpy(&value, (const char *)options + snapdrive_ranges[i].place, sizeof value);
-        if (value < least || value > greatest)
-            return snapdrive_failed(outcome, "limits", "%s is a number from %" PRIu64 " to %" PRIu64, snapdrive_ranges[i].name, least,
-                                    greatest);
+        if (value < snapdrive_ranges[i].least || value > snapdrive_ranges[i].greatest) return snapdrive_is_beyond(i, outcome);
     }
-    if (options->threads * options->calls > SNAPRECORD_EVENTS / 2)
-        return snapdrive_failed(outcome, "limits", "all threads make at most %u calls", SNAPRECORD_EVENTS / 2);
+    if (options->threads * options->calls > options->events / 2)
+        return snapdrive_failed(outcome, "limits", "all threads make at most %" PRIu64 " calls", options->events / 2);
     if (strcmp(options->order, "choice") && strcmp(options->order, "turn"))
         return snapdrive_failed(outcome, "usage", "order is choice or turn");
     return true;
 }
 
+static inline uint64_t snapdrive_runs(const snapdrive_outcome *outcome) {
+    return outcome->found[0] + outcome->found[1] + outcome->found[2];
+}
+
 static inline void snapdrive_tell(const snapdrive_outcome *outcome, FILE *to) {
-    fprintf(to, "atomic %" PRIu64 ", regular %" PRIu64 ", neither %" PRIu64 "\n", outcome->found[0], outcome->found[1],
-            outcome->found[2]);
+    fprintf(to,
+            "atomic %" PRIu64 ", only-regular %" PRIu64 ", not-regular %" PRIu64 "; %" PRIu64 " of %" PRIu64
+            " views overlapped an update, in %" PRIu64 " of %" PRIu64 " runs\n",
+            outcome->found[0], outcome->found[1], outcome->found[2], outcome->overlapping, outcome->views, outcome->overlapped,
+            snapdrive_runs(outcome));
+}
+
+/* Whether the runs say something of the object: some run was not atomic, or enough views ended and one of them overlapped an update. */
+static inline bool snapdrive_has_looked(const snapdrive_options *options, snapdrive_outcome *outcome) {
+    uint64_t runs = snapdrive_runs(outcome);
+    if (outcome->first || !options->views) return true;
+    if (outcome->views < options->views)
+        return snapdrive_failed(outcome, "few views", "%" PRIu64 " views ended in %" PRIu64 " runs, fewer than %" PRIu64
+                                ": there is no verdict", outcome->views, runs, options->views);
+    if (outcome->overlapping) return true;
+    return snapdrive_failed(outcome, "no overlap", "none of %" PRIu64 " views overlapped an update in %" PRIu64
+                            " runs: there is no verdict on calls at the same time", outcome->views, runs);
 }
 
 /* Runs fresh objects, and counts the verdicts. Of the first run that is not atomic it keeps NAME-caught.csv, the history,
@@ -262,7 +333,8 @@ static inline bool snapdrive_run(const snapdrive_object *object, const snapdrive
     struct timespec now, told;
     *outcome = (snapdrive_outcome){0};
     if (!snapdrive_fits(options, outcome)) return false;
-    if (!snapverdict_open(&judge, options->program)) return snapdrive_failed(outcome, judge.fault, "%s", judge.message);
+    if (!snapverdict_open(&judge, options->program, (uint32_t)options->events))
+        return snapdrive_failed(outcome, judge.fault, "%s", judge.message);
     if (snprintf(front, sizeof front, "%s/%s", options->out, object->name) >= PATH_MAX)
         return snapdrive_failed(outcome, "files", "the name of the folder is too long");
     if (!snapverdict_can_keep(&judge, options->out)) return snapdrive_failed(outcome, judge.fault, "%s", judge.message);
@@ -292,43 +364,59 @@ static inline bool snapdrive_run(const snapdrive_object *object, const snapdrive
             snapdrive_tell(outcome, stderr);
         }
     }
-    return true;
+    return snapdrive_has_looked(options, outcome);
 }
 
 /* ---- the command line */
 
-static inline bool snapdrive_read_number(snapdrive_options *options, size_t range, const char *value) {
-    char *end = NULL;
+typedef enum { SNAPDRIVE_RUNS, SNAPDRIVE_CHOICES, SNAPDRIVE_HELP } snapdrive_job;
+
+static inline bool snapdrive_read_number(snapdrive_options *options, size_t range, const char *value, snapdrive_outcome *outcome) {
+    const char *name = snapdrive_ranges[range].name;
+    if (!*value || value[strspn(value, "0123456789")]) return snapdrive_failed(outcome, "usage", "--%s: %s is not a number", name, value);
     errno = 0;
-    uint64_t number = strtoull(value, &end, 10);
-    if (*value < '0' || *value > '9' || *end || errno) return false;
+    uint64_t number = strtoull(value, NULL, 10);
+    if (errno) return snapdrive_is_beyond(range, outcome);
     memcpy((char *)options + snapdrive_ranges[range].place, &number, sizeof number);
     return true;
 }
 
-static inline bool snapdrive_read_option(snapdrive_options *options, const char *name, const char *value) {
-    for (size_t i = 0; i < SNAPDRIVE_RANGES; i++)
-        if (!strcmp(name, snapdrive_ranges[i].name)) return snapdrive_read_number(options, i, value);
+static inline bool snapdrive_read_option(snapdrive_options *options, const char *name, const char *value, snapdrive_outcome *outcome) {
     const char **text = !strcmp(name, "order")     ? &options->order
                         : !strcmp(name, "out")     ? &options->out
                         : !strcmp(name, "program") ? &options->program
                                                    : NULL;
-    if (text) *text = value;
-    return text;
+    size_t range = 0;
+    while (range < SNAPDRIVE_RANGES && strcmp(name, snapdrive_ranges[range].name)) range++;
+    if (!text && range == SNAPDRIVE_RANGES) return snapdrive_failed(outcome, "usage", "there is no option --%s", name);
+    if (!value) return snapdrive_failed(outcome, "usage", "--%s has no value", name);
+    if (!text) return snapdrive_read_number(options, range, value, outcome);
+    *text = value;
+    return true;
 }
 
 /* The options of a command line, whose words begin after the object. */
-static inline bool snapdrive_read(char **words, snapdrive_options *options, bool *shows_choices, snapdrive_outcome *outcome) {
+static inline bool snapdrive_read(char **words, snapdrive_options *options, snapdrive_job *job, snapdrive_outcome *outcome) {
     for (; *words; words++) {
+        if (!strcmp(*words, "--help") || !strcmp(*words, "-h")) {
+            *job = SNAPDRIVE_HELP;
+            return true;
+        }
         if (!strcmp(*words, "--choices")) {
-            *shows_choices = true;
+            *job = SNAPDRIVE_CHOICES;
             continue;
         }
-        if (strncmp(*words, "--", 2) || !words[1] || !snapdrive_read_option(options, *words + 2, words[1]))
-            return snapdrive_failed(outcome, "usage", "%s is no option with its value", *words);
+        if (strncmp(*words, "--", 2)) return snapdrive_failed(outcome, "usage", "%s is not an option", *words);
+        if (!snapdrive_read_option(options, *words + 2, words[1], outcome)) return false;
         words++;
     }
     return true;
+}
+
+static inline void snapdrive_show_usage(const snapdrive_object *objects, FILE *to) {
+    fprintf(to, "%s\nobjects:", SNAPDRIVE_USAGE);
+    for (; objects->name; objects++) fprintf(to, " %s", objects->name);
+    fprintf(to, "\n");
 }
 
 static inline bool snapdrive_show_choices(const snapdrive_options *options, snapdrive_outcome *outcome) {
@@ -354,26 +442,28 @@ static inline bool snapdrive_flush(snapdrive_outcome *outcome) {
 }
 
 /* Runs the object that the command line names, or the first one; the last of the objects is {0}. The status is 0 where each run was
- * atomic, 1 where some were only regular, 2 where some were neither, and 4 where there is no verdict. */
+ * atomic, 1 where some were only regular, 2 where some were not regular, 3 where too little was seen for a verdict, and 4 where there
+ * is none for another reason. */
 static inline int snapdrive_main(int count, char **words, const snapdrive_object *objects) {
     const snapdrive_object *object = objects;
     snapdrive_options options = SNAPDRIVE_OPTIONS;
     snapdrive_outcome outcome = {0};
-    bool is_named = count > 1 && strncmp(words[1], "--", 2), shows_choices = false, is_fine;
+    snapdrive_job job = SNAPDRIVE_RUNS;
+    bool is_named = count > 1 && *words[1] != '-';
     while (is_named && object->name && strcmp(object->name, words[1])) object++;
-    if (!object->name) is_fine = snapdrive_failed(&outcome, "usage", "there is no object %s", words[1]);
-    else is_fine = snapdrive_read(words + 1 + is_named, &options, &shows_choices, &outcome);
-    if (is_fine && shows_choices) is_fine = snapdrive_show_choices(&options, &outcome);
-    else if (is_fine) is_fine = snapdrive_run(object, &options, &outcome);
-    if (is_fine && !shows_choices) {
+    bool is_fine = object->name ? snapdrive_read(words + 1 + is_named, &options, &job, &outcome)
+                                : snapdrive_failed(&outcome, "usage", "there is no object %s", words[1]);
+    if (is_fine && job == SNAPDRIVE_HELP) {
+        snapdrive_show_usage(objects, stdout);
+    } else if (is_fine && job == SNAPDRIVE_CHOICES) {
+        is_fine = snapdrive_show_choices(&options, &outcome);
+    } else if (is_fine && (is_fine = snapdrive_run(object, &options, &outcome))) {
         printf("%s: ", object->name);
         snapdrive_tell(&outcome, stdout);
     }
-    if (!is_fine || !snapdrive_flush(&outcome)) {
-        if (!strcmp(outcome.fault, "usage")) fprintf(stderr, "%s\n", SNAPDRIVE_USAGE);
-        fprintf(stderr, "%s: %s: %s\n", object->name ? object->name : words[1], outcome.fault, outcome.message);
-        return 4;
-    }
-    return outcome.found[2] ? 2 : outcome.found[1] ? 1 : 0;
+    if (is_fine && snapdrive_flush(&outcome)) return outcome.found[2] ? 2 : outcome.found[1] ? 1 : 0;
+    if (!strcmp(outcome.fault, "usage")) snapdrive_show_usage(objects, stderr);
+    fprintf(stderr, "%s: %s: %s\n", object->name ? object->name : words[1], outcome.fault, outcome.message);
+    return strcmp(outcome.fault, "few views") && strcmp(outcome.fault, "no overlap") ? 4 : 3;
 }
 #endif

@@ -4,7 +4,7 @@
  *     snaprecord recorder;
  *     if (!snaprecord_open(&recorder, THREADS, COMPONENTS, CALLS)) die(recorder.message);
  *
- *     snaprecord_log *log = snaprecord_log_of(&recorder, t);          // thread t, and no other
+ *     snaprecord_log *log = snaprecord_log_of(&recorder, t);          // thread t, and no other; never a copy of the log
  *     if (!snaprecord_begin_update(log, component, value)) return;    // refused: make no further call
  *     board_update(component, value);
  *     snaprecord_end_update(log);
@@ -42,7 +42,7 @@
 #include <string.h>
 
 /* What the judge takes. */
-#define SNAPRECORD_EVENTS 65536u    /* in all; a call has two, its begin and its end */
+#define SNAPRECORD_EVENTS 1048576u  /* in all; a call has two, its begin and its end. More than 65536 the judge takes by --events N */
 #define SNAPRECORD_COMPONENTS 256u
 #define SNAPRECORD_PROCESSES 65536u /* a thread is one process */
 
@@ -55,7 +55,8 @@ typedef enum {
     SNAPRECORD_AFTER_FULL,  /* a call was made although its begin was refused */
     SNAPRECORD_COMPONENT,   /* a component is too high, or the entries of a view do not rise */
     SNAPRECORD_TWO_WRITERS, /* two threads updated one component */
-    SNAPRECORD_SAME_VALUE   /* views tell values, and a component got one value twice, or its initial one */
+    SNAPRECORD_SAME_VALUE,  /* views tell values, and a component got one value twice, or its initial one */
+    SNAPRECORD_COPIED       /* a call was made of a copy of a log, or of the recorder: keep a pointer */
 } snaprecord_fault;
 
 /* What a view shows of a component; number 0 is its initial state. */
@@ -161,10 +162,15 @@ static inline bool snaprecord_open(snaprecord *recorder, uint32_t threads, uint3
     return true;
 }
 
-/* The log of a thread, which is the process of that number. Where there is none, the process ends and says so. */
+/* Whether the recorder is a copy of the one that was opened. Its logs then belong to that one. */
+static inline bool snaprecord_is_copied(const snaprecord *recorder) { return recorder->logs && recorder->logs->recorder != recorder; }
+
+/* The log of a thread, which is the process of that number. Where there is none, or the recorder was copied since it was opened, the
+ * process ends and says so. */
 static inline snaprecord_log *snaprecord_log_of(snaprecord *recorder, uint32_t thread) {
-    if (recorder->logs && thread < recorder->threads) return &recorder->logs[thread];
-    fprintf(stderr, "snaprecord: thread %" PRIu32 " has no log\n", thread);
+    bool is_copied = snaprecord_is_copied(recorder);
+    if (!is_copied && recorder->logs && thread < recorder->threads) return &recorder->logs[thread];
+    fprintf(stderr, "snaprecord: thread %" PRIu32 " has no log%s\n", thread, is_copied ? ": the recorder is a copy" : "");
     abort();
 }
 
@@ -181,7 +187,11 @@ static inline bool snaprecord_misused(snaprecord_log *log, snaprecord_fault faul
     return false;
 }
 
+/* Whether the log is a copy. What it records is in no text, and so a history without it could look right. */
+static inline bool snaprecord_is_copy(const snaprecord_log *log) { return log != &log->recorder->logs[log->process]; }
+
 static inline bool snaprecord_may_begin(snaprecord_log *log) {
+    if (snaprecord_is_copy(log)) return snaprecord_misused(log, SNAPRECORD_COPIED);
     if (log->state >= SNAPRECORD_UPDATING) return snaprecord_misused(log, SNAPRECORD_NESTED);
     if (log->length == 2 * log->recorder->calls) /* all threads stop, else views show updates that no one recorded */
         atomic_store_explicit(&log->recorder->stopped, true, memory_order_relaxed);
@@ -201,6 +211,7 @@ static inline void snaprecord_begin(snaprecord_log *log, snaprecord_state state,
 }
 
 static inline bool snaprecord_may_end(snaprecord_log *log, snaprecord_state state) {
+    if (snaprecord_is_copy(log)) return snaprecord_misused(log, SNAPRECORD_COPIED);
     if (log->state == state) return true;
     return snaprecord_misused(log, log->state == SNAPRECORD_REFUSED ? SNAPRECORD_AFTER_FULL : SNAPRECORD_NOT_OPEN);
 }
@@ -353,6 +364,17 @@ static inline bool snaprecord_tabulate(snaprecord *recorder, snaprecord_table *t
     return true;
 }
 
+/* How many of these rising stamps are below another one. */
+static inline uint32_t snaprecord_below(const uint64_t *stamps, uint32_t count, uint64_t stamp) {
+    uint32_t low = 0;
+    while (low < count) {
+        uint32_t middle = low + (count - low) / 2;
+        if (stamps[middle] < stamp) low = middle + 1;
+        else count = middle;
+    }
+    return low;
+}
+
 /* The number of the value that a view shows. One that nobody wrote gets the last number that had begun when the view ended:
  * the judge then says `integrity`, and no more of this entry by itself. */
 static inline uint32_t snaprecord_number(const snaprecord_table *table, const snaprecord_entry *entry, uint64_t ended) {
@@ -365,12 +387,8 @@ static inline uint32_t snaprecord_number(const snaprecord_table *table, const sn
         else high = middle;
     }
     if (low < end && table->written[low].value == entry->value) return table->written[low].number;
-    for (low = first, high = end; low < high;) {
-        uint32_t middle = low + (high - low) / 2;
-        if (table->begun[middle] < ended) low = middle + 1;
-        else high = middle;
-    }
-    return low > first ? low - first : 1;
+    uint32_t last = snaprecord_below(table->begun + first, end - first, ended);
+    return last ? last : 1;
 }
 
 /* Writes the record of an event, and answers where the next one begins. */
@@ -399,11 +417,16 @@ static inline char *snaprecord_text(snaprecord *recorder, size_t *length) {
         [SNAPRECORD_NOT_OPEN] = "ended a call that it had not begun",
         [SNAPRECORD_AFTER_FULL] = "made a call although begin had refused it: a log was full",
         [SNAPRECORD_COMPONENT] = "named a component that is too high, or entries that do not rise",
+        [SNAPRECORD_COPIED] = "used a copy of its log, whose records would be lost: keep a pointer to the log",
     };
     uint32_t misuse = atomic_load(&recorder->misuse);
     snaprecord_table table = {.recorder = recorder};
     char *text = NULL;
     *length = 0;
+    if (snaprecord_is_copied(recorder)) {
+        snaprecord_failed(recorder, SNAPRECORD_COPIED, "the recorder is a copy of the one that was opened");
+        return NULL;
+    }
     if (misuse) {
         recorder->fault = (snaprecord_fault)(misuse % 16);
         snprintf(recorder->message, sizeof recorder->message, "thread %" PRIu32 " %s", misuse / 16, misuses[misuse % 16]);
@@ -425,5 +448,44 @@ static inline char *snaprecord_text(snaprecord *recorder, size_t *length) {
     free(table.begun);
     free(table.written);
     return text;
+}
+
+static inline int snaprecord_compare_stamps(const void *left, const void *right) {
+    const uint64_t *a = left, *b = right;
+    return *a < *b ? -1 : *a > *b;
+}
+
+/* How many views of the history ended, and how many of these overlapped an update: both calls were open at one moment. A run in which
+ * none did says nothing of calls at the same time. */
+typedef struct {
+    uint32_t ended, overlapping;
+} snaprecord_views;
+
+/* Counts the views, after the threads were joined. False, with `fault` MEMORY, where there is no memory. */
+static inline bool snaprecord_count_views(snaprecord *recorder, snaprecord_views *views) {
+    uint32_t total = 0, begins = 0, ends = 0;
+    for (uint32_t t = 0; t < recorder->threads; t++) total += recorder->logs[t].length;
+    /* the begins of updates from the front on, and their ends behind them */
+    uint64_t *begun = malloc((2 * (size_t)total + 1) * sizeof *begun), *ended = begun + total;
+    if (!begun) return snaprecord_failed(recorder, SNAPRECORD_MEMORY, "out of memory");
+    for (uint32_t t = 0; t < recorder->threads; t++)
+        for (uint32_t i = 0; i < recorder->logs[t].length; i++) {
+            const snaprecord_event *event = &recorder->logs[t].events[i];
+            if (event->kind == SNAPRECORD_BEGIN_UPDATE) begun[begins++] = event->stamp;
+            if (event->kind == SNAPRECORD_END_UPDATE) ended[ends++] = event->stamp;
+        }
+    qsort(begun, begins, sizeof *begun, snaprecord_compare_stamps);
+    qsort(ended, ends, sizeof *ended, snaprecord_compare_stamps);
+    *views = (snaprecord_views){0, 0};
+    for (uint32_t t = 0; t < recorder->threads; t++)
+        for (uint32_t i = 1; i < recorder->logs[t].length; i++) { /* the event before an end is the begin of its call */
+            const snaprecord_event *event = &recorder->logs[t].events[i];
+            if (event->kind < SNAPRECORD_END_VIEW) continue;
+            views->ended++;
+            /* more updates began before its end than ended before its begin */
+            views->overlapping += snaprecord_below(begun, begins, event->stamp) > snaprecord_below(ended, ends, event[-1].stamp);
+        }
+    free(begun);
+    return true;
 }
 #endif

@@ -2,8 +2,8 @@
  * One file, gnu11 and POSIX, no dependencies; snapdrive.h uses it. Nothing is linked: the library is opened while the program runs.
  *
  *     snapverdict_judge judge;
- *     if (!snapverdict_open(&judge, NULL)) die(judge.message);
- *     int status = snapverdict_of(&judge, text, length, ".");      // 0 atomic, 1 regular, 2 neither, -1 no verdict
+ *     if (!snapverdict_open(&judge, NULL, 65536)) die(judge.message);  // so many events may a history have
+ *     int status = snapverdict_of(&judge, text, length, ".");      // 0 atomic, 1 only regular, 2 not regular, -1 no verdict
  *
  * SPDX-License-Identifier: 0BSD
  * Copyright (C) 2026 by the authors of snapjudge
@@ -31,7 +31,8 @@
 
 typedef struct {
     char program[PATH_MAX]; /* empty where there is none */
-    uint32_t (*check)(const uint8_t *, size_t, uint8_t *, size_t, size_t *); /* of the library, or NULL */
+    uint32_t (*check)(const uint8_t *, size_t, uint32_t, uint8_t *, size_t, size_t *); /* of the library, or NULL */
+    uint32_t events; /* so many may a history have */
     const char *fault; /* why there is no judge or no verdict: no judge, no verdict or files; and a sentence */
     char message[600];
 } snapverdict_judge;
@@ -60,24 +61,51 @@ static inline void snapverdict_find(const char *named, char *place) {
     }
 }
 
+/* Whether the program says its version. A program of another kind may end with 0 whatever it is given, which no verdict is. */
+static inline bool snapverdict_is_judge(const snapverdict_judge *judge) {
+    extern char **environ;
+    char *const words[] = {"snapjudge", "--version", NULL};
+    char said[64] = "";
+    posix_spawn_file_actions_t files;
+    pid_t process;
+    int ends[2], status = 1;
+    ssize_t taken = 0;
+    if (pipe(ends)) return false;
+    posix_spawn_file_actions_init(&files);
+    posix_spawn_file_actions_addclose(&files, ends[0]); /* first: where an input or output is closed, it has that number */
+    posix_spawn_file_actions_addopen(&files, STDIN_FILENO, "/dev/null", O_RDONLY, 0);
+    posix_spawn_file_actions_adddup2(&files, ends[1], STDOUT_FILENO);
+    bool is_started = !posix_spawn(&process, judge->program, &files, NULL, words, environ);
+    posix_spawn_file_actions_destroy(&files);
+    close(ends[1]);
+    for (size_t length = 0; length + 1 < sizeof said && (taken = read(ends[0], said + length, sizeof said - 1 - length)) > 0;)
+        length += (size_t)taken;
+    close(ends[0]);
+    bool has_ended = is_started && waitpid(process, &status, 0) == process && WIFEXITED(status) && !WEXITSTATUS(status);
+    return has_ended && !strncmp(said, "snapjudge ", 10) && said[10] >= '0' && said[10] <= '9';
+}
+
 static inline bool snapverdict_load(snapverdict_judge *judge, const char *place) {
     uint32_t (*version)(void) = NULL;
     void *library = dlopen(place, RTLD_NOW), *found = library ? dlsym(library, "snapjudge_version") : NULL;
     memcpy(&version, &found, sizeof found);
     if (!version || version() != 1) return false;
-    found = dlsym(library, "snapjudge_check");
+    found = dlsym(library, "snapjudge_check_limit");
     memcpy(&judge->check, &found, sizeof found);
     return judge->check;
 }
 
 /* The program is the one that is named, else that of SNAPJUDGE_PROGRAM, else snapjudge. SNAPJUDGE_LIBRARY names the library; it is
  * empty for none. Else the library is sought beside the program. */
-static inline bool snapverdict_open(snapverdict_judge *judge, const char *program) {
+static inline bool snapverdict_open(snapverdict_judge *judge, const char *program, uint32_t events) {
     const char *library = getenv("SNAPJUDGE_LIBRARY"), *named = program ? program : getenv("SNAPJUDGE_PROGRAM");
-    char folder[PATH_MAX], place[PATH_MAX + 40];
+    char folder[PATH_MAX], place[PATH_MAX + 60];
     if (!named || !*named) named = "snapjudge";
     memset(judge, 0, sizeof *judge);
+    judge->events = events;
     snapverdict_find(named, judge->program);
+    if (*judge->program && !snapverdict_is_judge(judge))
+        return snapverdict_failed(judge, "no judge", "%s is not snapjudge: it tells no version of it", judge->program);
     snprintf(folder, sizeof folder, "%s", *judge->program ? judge->program : "./");
     *strrchr(folder, '/') = 0;
     if (library && *library && !snapverdict_load(judge, library))
@@ -92,9 +120,13 @@ static inline bool snapverdict_open(snapverdict_judge *judge, const char *progra
     return snapverdict_failed(judge, "no judge", "there is no program %s: install snapjudge, or name it by --program", named);
 }
 
-/* Runs the program from a file to a file; its status, or 4. */
-static inline int snapverdict_call(const snapverdict_judge *judge, char *const *words, const char *from, const char *to) {
+/* Runs a command of the program from a file to a file; its status, or 4. */
+static inline int snapverdict_call(const snapverdict_judge *judge, const char *command, const char *from, const char *to) {
     extern char **environ;
+    char name[16], events[24];
+    char *const words[] = {"snapjudge", name, events, strcmp(command, "check") ? NULL : "--quiet", NULL};
+    snprintf(name, sizeof name, "%s", command);
+    snprintf(events, sizeof events, "--events=%" PRIu32, judge->events);
     posix_spawn_file_actions_t files;
     pid_t process;
     int status = 0;
@@ -113,30 +145,31 @@ static inline bool snapverdict_write(snapverdict_judge *judge, const char *name,
     return snapverdict_failed(judge, "files", "%s can't be written: %s", name, strerror(errno));
 }
 
-/* The name of a file that this process may write into a folder. */
-static inline void snapverdict_scratch(char *name, const char *out) { snprintf(name, PATH_MAX + 40, "%s/run-%ld.csv", out, (long)getpid()); }
+/* The name of a file that this judge of this process may write into a folder. */
+static inline void snapverdict_scratch(const snapverdict_judge *judge, char *name, const char *out) {
+    snprintf(name, PATH_MAX + 60, "%s/run-%ld-%" PRIxPTR ".csv", out, (long)getpid(), (uintptr_t)judge);
+}
 
 /* Whether files can be written into a folder; it is tried before the first run, so that none is lost. */
 static inline bool snapverdict_can_keep(snapverdict_judge *judge, const char *out) {
-    char name[PATH_MAX + 40];
-    snapverdict_scratch(name, out);
+    char name[PATH_MAX + 60];
+    snapverdict_scratch(judge, name, out);
     return snapverdict_write(judge, name, "", 0) && !remove(name);
 }
 
-/* 0 for atomic, 1 for regular, 2 for neither; or -1, and `fault` says why. A file of the folder `out` holds the text meanwhile. */
+/* 0 for atomic, 1 for only regular, 2 for not regular; or -1, and `fault` says why. A file of the folder `out` holds the text meanwhile. */
 static inline int snapverdict_of(snapverdict_judge *judge, const char *text, size_t length, const char *out) {
     uint32_t status;
     if (judge->check) {
         size_t room = 2 * length + 256, report_length = 0;
         uint8_t *report = calloc(room, 1);
-        status = report ? judge->check((const uint8_t *)text, length, report, room, &report_length) : 4;
+        status = report ? judge->check((const uint8_t *)text, length, judge->events, report, room, &report_length) : 4;
         free(report);
     } else {
-        char name[PATH_MAX + 40];
-        snapverdict_scratch(name, out);
+        char name[PATH_MAX + 60];
+        snapverdict_scratch(judge, name, out);
         if (!snapverdict_write(judge, name, text, length)) return -1;
-        char *const words[] = {"snapjudge", "check", "--quiet", NULL};
-        status = (uint32_t)snapverdict_call(judge, words, name, "/dev/null");
+        status = (uint32_t)snapverdict_call(judge, "check", name, "/dev/null");
         remove(name);
     }
     if (status < 3) return (int)status;
@@ -154,8 +187,7 @@ static inline bool snapverdict_keep(snapverdict_judge *judge, const char *text, 
     remove(witness); /* of an earlier run */
     remove(explained);
     if (!*judge->program) return true;
-    bool is_kept = snapverdict_call(judge, (char *const[]){"snapjudge", "shrink", NULL}, caught, witness) < 3 &&
-                   snapverdict_call(judge, (char *const[]){"snapjudge", "explain", NULL}, caught, explained) < 3;
+    bool is_kept = snapverdict_call(judge, "shrink", caught, witness) < 3 && snapverdict_call(judge, "explain", caught, explained) < 3;
     return is_kept || snapverdict_failed(judge, "files", "%s or %s can't be written", witness, explained);
 }
 #endif

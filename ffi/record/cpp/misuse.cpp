@@ -5,6 +5,7 @@
 #include <fstream>
 #include <iostream>
 #include <memory>
+#include <sys/resource.h>
 
 using snaprecord::Fault;
 using snaprecord::Log;
@@ -43,6 +44,17 @@ static void view(Log &log, const std::vector<std::uint32_t> &values) {
     if (log.begin_view()) log.end_view_values(values);
 }
 
+// Whether so many views ended, and so many of them overlapped an update.
+static bool has_views(const Recorder &recorder, std::size_t ended, std::size_t overlapping) {
+    return recorder.views().ended == ended && recorder.views().overlapping == overlapping;
+}
+
+// What is recorded in a copy is in no text.
+static_assert(!std::is_copy_constructible_v<Log> && !std::is_move_constructible_v<Log>);
+static_assert(!std::is_copy_assignable_v<Log> && !std::is_move_assignable_v<Log>);
+static_assert(!std::is_copy_constructible_v<Recorder> && !std::is_move_constructible_v<Recorder>);
+static_assert(!std::is_copy_assignable_v<Recorder> && !std::is_move_assignable_v<Recorder>);
+
 static std::string worked() {
     Recorder recorder(2, 2, 6);
     Log &writer = recorder.log(0), &viewer = recorder.log(1);
@@ -54,6 +66,7 @@ static std::string worked() {
     if (viewer.begin_view()) viewer.end_view({{0, 2, 8}, {1, 0, 0}});
     if (viewer.begin_view()) viewer.drop_view();
     view(viewer, {99, 0}); // nobody wrote 99
+    expect("the views of the worked run", has_views(recorder, 3, 1));
     return recorder.text();
 }
 
@@ -71,6 +84,7 @@ static std::string failed_calls() {
     expect("an update that stays pending", writer.begin_update(1, 8) == 1);
     view(viewer, {7, 8});
     view(spare, {7, 8});
+    expect("the views beside an update that stays pending", has_views(recorder, 4, 3));
     return recorder.text();
 }
 
@@ -93,6 +107,21 @@ static std::string goes_on() {
     return recorder.text();
 }
 
+// How many pages this process was given so far, without a read from a disk.
+static long pages() {
+    rusage usage{};
+    return getrusage(RUSAGE_SELF, &usage) ? 0 : usage.ru_minflt;
+}
+
+// The logs take some 3,000 pages, and all of them are there before.
+static bool makes_no_pages() {
+    Recorder recorder(1, 64, 16000);
+    const std::vector<std::uint32_t> values(64);
+    const long before = pages();
+    for (int i = 0; i < 16000; i++) view(recorder.log(0), values);
+    return pages() - before < 300 && has_views(recorder, 16000, 0);
+}
+
 static bool has_log(Recorder &recorder, std::uint32_t thread) {
     try {
         recorder.log(thread);
@@ -111,10 +140,11 @@ int main(int count, char **words) {
     expect("a history that goes on", goes_on() == "at,event,process,op,data\n0,begin,0,view,\n1,end,0,view,\n2,begin,0,update,0:1:0\n"
                                                   "3,end,0,update,\n4,begin,0,view,\n5,end,0,view,0:1:0\n");
 
+    expect("no page is made while calls are recorded", makes_no_pages());
     expect("limits of threads", limits(0, 1, 1) == Fault::limits && limits(65537, 1, 1) == Fault::limits);
     expect("limits of components", limits(1, 257, 1) == Fault::limits);
     expect("limits of calls", limits(2, 1, snaprecord::event_limit / 4 + 1) == Fault::limits && limits(1, 1, 0) == Fault::limits);
-    expect("within limits", limits(snaprecord::event_limit / 2, 1, 1) == Fault::none && limits(2, 256, snaprecord::event_limit / 4) == Fault::none);
+    expect("within limits", limits(2, 256, 100) == Fault::none && limits(16, 1, snaprecord::event_limit / 32) == Fault::none);
     {
         Recorder r(2, 1, 2);
         for (std::uint32_t value = 1; value <= 2; value++) update(r.log(0), 0, value);

@@ -40,31 +40,40 @@ constexpr const char *usage =
     "usage: [OBJECT] [OPTION VALUE ..]\n"
     "  --threads 4      how many threads, at most 64\n"
     "  --components 4   how many components, at most 64; thread t updates t, t + threads and so on\n"
-    "  --calls 200      how many calls each thread makes; all threads make at most 32768\n"
+    "  --calls 200      how many calls each thread makes; all threads make at most half of --events\n"
+    "  --events 65536   how many events a run may have, at most 1048576; a call has two\n"
     "  --runs 20        how many runs, each of a fresh object\n"
     "  --seed 1         what the choice of the calls begins with\n"
     "  --order choice   each call is chosen by the seed; or turn: updates and a view in turn\n"
     "  --nap 0          where not 0, pauses and the gaps between calls last up to so many microseconds\n"
     "  --stop 0         where not 0, ends after so many runs that were not atomic\n"
     "  --limit 60       how many seconds a run may take\n"
+    "  --views 1        how many views have to end in all runs together; 0 asks for none\n"
     "  --out .          the folder for the first run that was not atomic\n"
     "  --program FILE   the program snapjudge; else SNAPJUDGE_PROGRAM names it, else it is on the PATH\n"
-    "  --choices        writes the calls that the seed chooses, and runs nothing";
+    "  --choices        writes the calls that the seed chooses, and runs nothing\n"
+    "  --help           writes this";
 
-// Why runs have no verdict; the name is usage, limits, view or died, or as of a judge no judge, no verdict or files.
+// Why runs have no verdict; the name is usage, limits, view, died, few views or no overlap, or as of a judge no judge, no verdict or
+// files.
 using snapverdict::Error;
 
 struct Options {
-    std::uint64_t threads = 4, components = 4, calls = 200, runs = 20, seed = 1, nap = 0, stop = 0, limit = 60;
+    std::uint64_t threads = 4, components = 4, calls = 200, runs = 20, seed = 1, nap = 0, stop = 0, limit = 60, views = 1, events = 65536;
     std::string order = "choice", out = ".", program;
 };
 
-// How many runs were atomic, only regular, or neither; and which was the first that was not atomic, from 1, or 0.
+// How many runs were atomic, only regular, or not regular; and which was the first that was not atomic, from 1, or 0. How many views
+// ended in all runs, how many of these overlapped an update, and how many runs have such a view.
 struct Outcome {
-    std::uint64_t atomic = 0, regular = 0, neither = 0, first = 0;
+    std::uint64_t atomic = 0, only_regular = 0, not_regular = 0, first = 0, views = 0, overlapping = 0, overlapped = 0;
 
+    std::uint64_t caught() const { return only_regular + not_regular; }
+    std::uint64_t runs() const { return atomic + caught(); }
     std::string text() const {
-        return "atomic " + std::to_string(atomic) + ", regular " + std::to_string(regular) + ", neither " + std::to_string(neither);
+        return "atomic " + std::to_string(atomic) + ", only-regular " + std::to_string(only_regular) + ", not-regular " +
+               std::to_string(not_regular) + "; " + std::to_string(overlapping) + " of " + std::to_string(views) +
+               " views overlapped an update, in " + std::to_string(overlapped) + " of " + std::to_string(runs()) + " runs";
     }
 };
 
@@ -201,8 +210,8 @@ template <class Board> std::unique_ptr<Board> fresh(std::uint32_t components) {
     }
 }
 
-// The history of a fresh object.
-template <class Board> std::string record(const std::string &name, const Options &options, Random &seeds) {
+// The history of a fresh object. Its views are counted.
+template <class Board> std::string record(const std::string &name, const Options &options, Random &seeds, Outcome &outcome) {
     const auto threads = static_cast<std::uint32_t>(options.threads), components = static_cast<std::uint32_t>(options.components);
     snaprecord::Recorder recorder(threads, components, static_cast<std::uint32_t>(options.calls));
     const std::unique_ptr<Board> board = fresh<Board>(components);
@@ -232,6 +241,10 @@ template <class Board> std::string record(const std::string &name, const Options
     race.wait(name, options.limit);
     for (std::thread &thread : all) thread.join();
     if (race.failed) std::rethrow_exception(race.failed);
+    const snaprecord::Views views = recorder.views();
+    outcome.views += views.ended;
+    outcome.overlapping += views.overlapping;
+    outcome.overlapped += views.overlapping > 0;
     return recorder.text();
 }
 
@@ -251,23 +264,39 @@ inline const Range ranges[] = {
     {"nap", &Options::nap, 0, 1000000},
     {"stop", &Options::stop, 0, 1000000000},
     {"limit", &Options::limit, 1, 100000},
+    {"views", &Options::views, 0, 1000000000},
+    {"events", &Options::events, 2, snaprecord::event_limit},
 };
+
+inline Error beyond(const Range &range) {
+    return Error("limits", std::string(range.name) + " is a number from " + std::to_string(range.least) + " to " +
+                               std::to_string(range.greatest));
+}
 
 inline void test(const Options &options) {
     for (const Range &range : ranges)
-        if (options.*range.place < range.least || options.*range.place > range.greatest)
-            throw Error("limits", std::string(range.name) + " is a number from " + std::to_string(range.least) + " to " +
-                                      std::to_string(range.greatest));
-    if (options.threads * options.calls > snaprecord::event_limit / 2)
-        throw Error("limits", "all threads make at most " + std::to_string(snaprecord::event_limit / 2) + " calls");
+        if (options.*range.place < range.least || options.*range.place > range.greatest) throw beyond(range);
+    if (options.threads * options.calls > options.events / 2)
+        throw Error("limits", "all threads make at most " + std::to_string(options.events / 2) + " calls");
     if (options.order != "choice" && options.order != "turn") throw Error("usage", "order is choice or turn");
+}
+
+// Throws where the runs say nothing of the object: all were atomic, and too few views ended, or none of them overlapped an update.
+inline void test_looked(const Options &options, const Outcome &outcome) {
+    const std::string runs = std::to_string(outcome.runs()) + " runs", views = std::to_string(outcome.views) + " views";
+    if (outcome.first != 0 || options.views == 0) return;
+    if (outcome.views < options.views)
+        throw Error("few views", views + " ended in " + runs + ", fewer than " + std::to_string(options.views) + ": there is no verdict");
+    if (outcome.overlapping == 0)
+        throw Error("no overlap", "none of " + views + " overlapped an update in " + runs +
+                                      ": there is no verdict on calls at the same time");
 }
 
 // Runs fresh objects, and counts the verdicts. Of the first run that is not atomic it keeps NAME-caught.csv, the history,
 // NAME-witness.csv, the least of it that is not atomic, and NAME-explained.txt.
 template <class Board> Outcome run(const std::string &name, const Options &options = {}) {
     test(options);
-    const snapverdict::Judge judge(options.program);
+    const snapverdict::Judge judge(options.program, static_cast<std::uint32_t>(options.events));
     judge.test_folder(options.out);
     const std::string front = options.out + "/" + name;
     Random seeds(options.seed);
@@ -276,23 +305,25 @@ template <class Board> Outcome run(const std::string &name, const Options &optio
     longest_nap = options.nap;
     naps = options.seed;
     for (std::uint64_t number = 1;; number++) {
-        const std::string text = record<Board>(name, options, seeds);
+        const std::string text = record<Board>(name, options, seeds, outcome);
         const int status = judge.status(text, options.out);
-        (status == 0 ? outcome.atomic : status == 1 ? outcome.regular : outcome.neither)++;
+        (status == 0 ? outcome.atomic : status == 1 ? outcome.only_regular : outcome.not_regular)++;
         if (status != 0 && outcome.first == 0) {
             outcome.first = number;
             judge.keep(text, front);
             std::cerr << name << ": run " << number << " is not atomic: see " << front << "-caught.csv and the files beside it"
                       << std::endl;
         }
-        const bool has_ended = number == options.runs || (options.stop > 0 && outcome.regular + outcome.neither == options.stop);
+        const bool has_ended = number == options.runs || (options.stop > 0 && outcome.caught() == options.stop);
         const auto now = std::chrono::steady_clock::now();
         if (has_ended || now >= told + std::chrono::seconds(1)) {
             told = now;
             std::cerr << name << ": run " << number << " of " << options.runs << ": " << outcome.text() << std::endl;
         }
-        if (has_ended) return outcome;
+        if (has_ended) break;
     }
+    test_looked(options, outcome);
+    return outcome;
 }
 
 // ---- the command line
@@ -306,17 +337,27 @@ template <class Board> Object object(const std::string &name) {
     return {name, [name](const Options &options) { return run<Board>(name, options); }};
 }
 
-inline bool read_option(Options &options, const std::string &name, const std::string &value) {
-    for (const Range &range : ranges)
-        if (name == range.name) {
-            if (value.empty() || value.find_first_not_of("0123456789") != std::string::npos || value.size() > 20) return false;
-            errno = 0;
-            options.*range.place = std::strtoull(value.c_str(), nullptr, 10);
-            return errno == 0;
-        }
-    std::string *text = name == "order" ? &options.order : name == "out" ? &options.out : name == "program" ? &options.program : nullptr;
-    if (text) *text = value;
-    return text;
+inline void read_number(Options &options, const Range &range, const std::string &value) {
+    if (value.empty() || value.find_first_not_of("0123456789") != std::string::npos)
+        throw Error("usage", std::string("--") + range.name + ": " + value + " is not a number");
+    errno = 0;
+    options.*range.place = std::strtoull(value.c_str(), nullptr, 10);
+    if (errno != 0) throw beyond(range);
+}
+
+// An option, and its value where there is one.
+inline void read_option(Options &options, const std::string &word, const std::string *value) {
+    const auto has_name = [&word](const Range &it) { return "--" + std::string(it.name) == word; };
+    const auto range = std::find_if(std::begin(ranges), std::end(ranges), has_name);
+    std::string *text = word == "--order"     ? &options.order
+                        : word == "--out"     ? &options.out
+                        : word == "--program" ? &options.program
+                                              : nullptr;
+    if (!text && range == std::end(ranges))
+        throw Error("usage", word.rfind("--", 0) == 0 ? "there is no option " + word : word + " is not an option");
+    if (!value) throw Error("usage", word + " has no value");
+    if (text) *text = *value;
+    else read_number(options, *range, *value);
 }
 
 inline void show_choices(const Options &options) {
@@ -338,18 +379,24 @@ inline const char *name_of(snaprecord::Fault fault) {
     return names[static_cast<std::size_t>(fault)];
 }
 
+inline void show_usage(const std::vector<Object> &objects, std::ostream &to) {
+    to << usage << "\nobjects:";
+    for (const Object &object : objects) to << ' ' << object.name;
+    to << std::endl;
+}
+
 // Runs the object that the command line names, or the first one. The status is 0 where each run was atomic, 1 where some were only
-// regular, 2 where some were neither, and 4 where there is no verdict.
+// regular, 2 where some were not regular, 3 where too little was seen for a verdict, and 4 where there is none for another reason.
 inline int main(int count, char **words, const std::vector<Object> &objects) {
     std::vector<std::string> rest(words + 1, words + count);
     std::string name = objects.front().name;
-    const auto failed = [&name](const std::string &fault, const char *message) {
-        if (fault == "usage") std::cerr << usage << std::endl;
+    const auto failed = [&](const std::string &fault, const char *message) {
+        if (fault == "usage") show_usage(objects, std::cerr);
         std::cerr << name << ": " << fault << ": " << message << std::endl;
-        return 4;
+        return fault == "few views" || fault == "no overlap" ? 3 : 4;
     };
     try {
-        if (!rest.empty() && rest[0].rfind("--", 0) != 0) {
+        if (!rest.empty() && rest[0].rfind("-", 0) != 0) {
             name = rest[0];
             rest.erase(rest.begin());
         }
@@ -359,18 +406,21 @@ inline int main(int count, char **words, const std::vector<Object> &objects) {
         const auto choices = std::find(rest.begin(), rest.end(), "--choices");
         const bool shows_choices = choices != rest.end();
         if (shows_choices) rest.erase(choices);
-        for (std::size_t at = 0; at < rest.size(); at += 2)
-            if (rest[at].rfind("--", 0) != 0 || at + 1 == rest.size() || !read_option(options, rest[at].substr(2), rest[at + 1]))
-                throw Error("usage", rest[at] + " is no option with its value");
+        const auto asks_help = [](const std::string &word) { return word == "--help" || word == "-h"; };
+        const bool shows_help = std::any_of(rest.begin(), rest.end(), asks_help);
+        for (std::size_t at = 0; at < rest.size() && !shows_help; at += 2)
+            read_option(options, rest[at], at + 1 < rest.size() ? &rest[at + 1] : nullptr);
         Outcome outcome;
-        if (shows_choices) {
+        if (shows_help) {
+            show_usage(objects, std::cout);
+        } else if (shows_choices) {
             show_choices(options);
         } else {
             outcome = chosen->run(options);
             std::cout << name << ": " << outcome.text() << '\n';
         }
         if (!std::cout.flush()) throw Error("files", "standard output can't be written");
-        return outcome.neither ? 2 : outcome.regular ? 1 : 0;
+        return outcome.not_regular ? 2 : outcome.only_regular ? 1 : 0;
     } catch (const Error &error) {
         return failed(error.name, error.what());
     } catch (const snaprecord::Error &error) {

@@ -3,7 +3,7 @@
 //
 //     snaprecord::Recorder recorder(threads, components, calls);
 //
-//     snaprecord::Log &log = recorder.log(t);                  // thread t, and no other
+//     snaprecord::Log &log = recorder.log(t);                  // thread t, and no other; a log has no copies
 //     if (!log.begin_update(component, value)) return;         // refused: make no further call
 //     board.update(component, value);
 //     log.end_update();
@@ -43,7 +43,7 @@
 namespace snaprecord {
 
 // What the judge takes.
-constexpr std::uint32_t event_limit = 65536; // in all; a call has two, its begin and its end
+constexpr std::uint32_t event_limit = 1048576; // in all; a call has two. More than 65536 the judge takes by --events N
 constexpr std::uint32_t component_limit = 256;
 constexpr std::uint32_t process_limit = 65536; // a thread is one process
 
@@ -71,11 +71,22 @@ struct Entry {
     std::uint32_t component, number, value;
 };
 
+// How many views of the history ended, and how many of these overlapped an update: both calls were open at one moment. A run in which
+// none did says nothing of calls at the same time.
+struct Views {
+    std::size_t ended = 0, overlapping = 0;
+};
+
 class Recorder;
 
-// What one thread recorded. A log stands alone in its lines of the cache.
+// What one thread recorded. A log stands alone in its lines of the cache. It is neither copied nor moved: what a copy records would be
+// in no text.
 class alignas(128) Log {
   public:
+    Log() = default;
+    Log(const Log &) = delete;
+    Log &operator=(const Log &) = delete;
+
     // The number of the update, from 1 in each component; or 0: a log is full, or a call was misused. Then make no further call.
     [[nodiscard]] std::uint32_t begin_update(std::uint32_t component, std::uint32_t value);
     void end_update();
@@ -168,6 +179,27 @@ class Recorder {
         return text;
     }
 
+    // Counts the views, after the threads were joined.
+    Views views() const {
+        std::vector<std::uint64_t> begun, ended; // the stamps of the updates
+        for (const Log &log : logs)
+            for (std::uint32_t i = 0; i < log.length; i++) {
+                if (log.events[i].kind == Log::Kind::begin_update) begun.push_back(log.events[i].stamp);
+                if (log.events[i].kind == Log::Kind::end_update) ended.push_back(log.events[i].stamp);
+            }
+        std::sort(begun.begin(), begun.end());
+        std::sort(ended.begin(), ended.end());
+        Views views;
+        for (const Log &log : logs)
+            for (std::uint32_t i = 1; i < log.length; i++) { // the event before an end is the begin of its call
+                if (log.events[i].kind < Log::Kind::end_view) continue;
+                views.ended++;
+                // more updates began before its end than ended before its begin
+                views.overlapping += below(begun, log.events[i].stamp) > below(ended, log.events[i - 1].stamp);
+            }
+        return views;
+    }
+
   private:
     friend class Log;
     // All updates, to look numbers up.
@@ -213,6 +245,11 @@ class Recorder {
         return table;
     }
 
+    // How many of these rising stamps are below another one.
+    static std::size_t below(const std::vector<std::uint64_t> &stamps, std::uint64_t stamp) {
+        return static_cast<std::size_t>(std::lower_bound(stamps.begin(), stamps.end(), stamp) - stamps.begin());
+    }
+
     std::uint32_t initial_of(std::uint32_t component) const { return initials.empty() ? initial : initials[component]; }
 
     // The number of the value that a view shows. One that nobody wrote gets the last number that had begun when the view ended:
@@ -221,8 +258,7 @@ class Recorder {
         if (entry.value == initial_of(entry.component)) return 0;
         const auto found = table.numbers.find({entry.component, entry.value});
         if (found != table.numbers.end()) return found->second;
-        const auto &begun = table.begun[entry.component];
-        return std::max(1u, static_cast<std::uint32_t>(std::lower_bound(begun.begin(), begun.end(), ended) - begun.begin()));
+        return std::max(1u, static_cast<std::uint32_t>(below(table.begun[entry.component], ended)));
     }
 
     void write(std::string &text, const Table &table, const Log &log, const Log::Event &event) const {

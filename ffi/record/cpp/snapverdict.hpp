@@ -2,7 +2,7 @@
 // One file, C++17 and POSIX, no dependencies; snapdrive.hpp uses it. Nothing is linked: the library is opened while the program runs.
 //
 //     const snapverdict::Judge judge;                          // throws snapverdict::Error
-//     const int status = judge.status(text, ".");              // 0 atomic, 1 regular, 2 neither
+//     const int status = judge.status(text, ".");              // 0 atomic, 1 only regular, 2 not regular
 //
 // SPDX-License-Identifier: 0BSD
 // Copyright (C) 2026 by the authors of snapjudge
@@ -39,11 +39,12 @@ class Error : public std::runtime_error {
 // The library where it is there, and else the program. SNAPJUDGE_LIBRARY names the library; it is empty for none.
 class Judge {
   public:
-    // The program is the one that is named, else that of SNAPJUDGE_PROGRAM, else snapjudge.
-    explicit Judge(const std::string &named = "") {
+    // The program is the one that is named, else that of SNAPJUDGE_PROGRAM, else snapjudge. So many events may a history have.
+    explicit Judge(const std::string &named = "", std::uint32_t most_events = 65536) : events(most_events) {
         const char *library = std::getenv("SNAPJUDGE_LIBRARY"), *by_name = std::getenv("SNAPJUDGE_PROGRAM");
         const std::string wanted = !named.empty() ? named : by_name && *by_name ? by_name : "snapjudge";
         program = find(wanted);
+        if (!program.empty() && !is_judge()) throw Error("no judge", program + " is not snapjudge: it tells no version of it");
         const std::string folder = program.empty() ? "." : std::filesystem::path(program).parent_path().string();
         std::vector<std::string> places{folder + "/../lib/libsnapjudge.so", folder + "/ffi/build/libsnapjudge.so", "libsnapjudge.so"};
         if (library) places = {library};
@@ -61,7 +62,7 @@ class Judge {
         std::remove(scratch(out).c_str());
     }
 
-    // 0 for atomic, 1 for regular, 2 for neither. A file of the folder `out` holds the text meanwhile.
+    // 0 for atomic, 1 for only regular, 2 for not regular. A file of the folder `out` holds the text meanwhile.
     int status(const std::string &text, const std::string &out) const {
         const int status = check ? by_library(text) : by_program(text, out);
         if (status > 2) throw Error("no verdict", "the judge ends with status " + std::to_string(status));
@@ -73,8 +74,8 @@ class Judge {
         write(front + "-caught.csv", text);
         for (const char *name : {"-witness.csv", "-explained.txt"}) std::remove((front + name).c_str()); // of an earlier run
         if (program.empty()) return;
-        const bool is_kept = call({"shrink"}, front + "-caught.csv", front + "-witness.csv") < 3 &&
-                             call({"explain"}, front + "-caught.csv", front + "-explained.txt") < 3;
+        const bool is_kept = call("shrink", front + "-caught.csv", front + "-witness.csv") < 3 &&
+                             call("explain", front + "-caught.csv", front + "-explained.txt") < 3;
         if (!is_kept) throw Error("files", front + "-witness.csv or " + front + "-explained.txt can't be written");
     }
 
@@ -97,23 +98,25 @@ class Judge {
         void *library = dlopen(place.c_str(), RTLD_NOW);
         if (!library) return;
         const auto version = reinterpret_cast<std::uint32_t (*)()>(dlsym(library, "snapjudge_version"));
-        if (version && version() == 1) check = reinterpret_cast<Check *>(dlsym(library, "snapjudge_check"));
+        if (version && version() == 1) check = reinterpret_cast<Check *>(dlsym(library, "snapjudge_check_limit"));
     }
 
     int by_library(const std::string &text) const {
         std::vector<std::uint8_t> report(2 * text.size() + 256);
         std::size_t length = 0;
         const auto bytes = reinterpret_cast<const std::uint8_t *>(text.data());
-        return static_cast<int>(check(bytes, text.size(), report.data(), report.size(), &length));
+        return static_cast<int>(check(bytes, text.size(), events, report.data(), report.size(), &length));
     }
 
-    // The name of a file that this process may write into a folder.
-    static std::string scratch(const std::string &out) { return out + "/run-" + std::to_string(getpid()) + ".csv"; }
+    // The name of a file that this judge of this process may write into a folder.
+    std::string scratch(const std::string &out) const {
+        return out + "/run-" + std::to_string(getpid()) + "-" + std::to_string(reinterpret_cast<std::uintptr_t>(this)) + ".csv";
+    }
 
     int by_program(const std::string &text, const std::string &out) const {
         const std::string name = scratch(out);
         write(name, text);
-        const int status = call({"check", "--quiet"}, name, "/dev/null");
+        const int status = call("check", name, "/dev/null");
         std::remove(name.c_str());
         return status;
     }
@@ -125,23 +128,56 @@ class Judge {
         if (!file) throw Error("files", name + " can't be written");
     }
 
-    // Runs the program from a file to a file; its status, or 4.
-    int call(std::vector<std::string> words, const std::string &from, const std::string &to) const {
+    // Starts the program, and answers its number, or -1. The files are given back.
+    pid_t start(std::vector<std::string> words, posix_spawn_file_actions_t &files) const {
         std::vector<char *> given{const_cast<char *>("snapjudge")};
         for (std::string &word : words) given.push_back(word.data());
         given.push_back(nullptr);
+        pid_t process;
+        const bool is_started = posix_spawn(&process, program.c_str(), &files, nullptr, given.data(), environ) == 0;
+        posix_spawn_file_actions_destroy(&files);
+        return is_started ? process : -1;
+    }
+
+    // The status that a process ends with, or 4.
+    static int end_of(pid_t process) {
+        int status = 0;
+        return process > 0 && waitpid(process, &status, 0) == process && WIFEXITED(status) ? WEXITSTATUS(status) : 4;
+    }
+
+    // Runs a command of the program from a file to a file; its status, or 4.
+    int call(const std::string &command, const std::string &from, const std::string &to) const {
         posix_spawn_file_actions_t files;
         posix_spawn_file_actions_init(&files);
         posix_spawn_file_actions_addopen(&files, STDIN_FILENO, from.c_str(), O_RDONLY, 0);
         posix_spawn_file_actions_addopen(&files, STDOUT_FILENO, to.c_str(), O_WRONLY | O_CREAT | O_TRUNC, 0666);
-        pid_t process;
-        int status = 0;
-        const bool is_started = posix_spawn(&process, program.c_str(), &files, nullptr, given.data(), environ) == 0;
-        posix_spawn_file_actions_destroy(&files);
-        return is_started && waitpid(process, &status, 0) == process && WIFEXITED(status) ? WEXITSTATUS(status) : 4;
+        std::vector<std::string> words{command, "--events=" + std::to_string(events)};
+        if (command == "check") words.push_back("--quiet");
+        return end_of(start(words, files));
     }
 
-    using Check = std::uint32_t(const std::uint8_t *, std::size_t, std::uint8_t *, std::size_t, std::size_t *);
+    // Whether the program says its version. A program of another kind may end with 0 whatever it is given, which no verdict is.
+    bool is_judge() const {
+        int ends[2];
+        if (pipe(ends) != 0) return false;
+        posix_spawn_file_actions_t files;
+        posix_spawn_file_actions_init(&files);
+        posix_spawn_file_actions_addclose(&files, ends[0]); // first: where an input or output is closed, it has that number
+        posix_spawn_file_actions_addopen(&files, STDIN_FILENO, "/dev/null", O_RDONLY, 0);
+        posix_spawn_file_actions_adddup2(&files, ends[1], STDOUT_FILENO);
+        const pid_t process = start({"--version"}, files);
+        close(ends[1]);
+        char said[64] = "";
+        ssize_t taken = 0;
+        for (std::size_t length = 0; length + 1 < sizeof said && (taken = read(ends[0], said + length, sizeof said - 1 - length)) > 0;)
+            length += static_cast<std::size_t>(taken);
+        close(ends[0]);
+        const std::string text = said, name = "snapjudge ";
+        return end_of(process) == 0 && text.rfind(name, 0) == 0 && text.find_first_of("0123456789") == name.size();
+    }
+
+    using Check = std::uint32_t(const std::uint8_t *, std::size_t, std::uint32_t, std::uint8_t *, std::size_t, std::size_t *);
+    std::uint32_t events;
     std::string program; // empty where there is none
     Check *check = nullptr;
 };

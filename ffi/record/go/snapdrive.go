@@ -16,16 +16,19 @@ import (
 const usage = `usage: [OBJECT] [OPTION VALUE ..]
   --threads 4      how many threads, at most 64; they are goroutines
   --components 4   how many components, at most 64; thread t updates t, t + threads and so on
-  --calls 200      how many calls each thread makes; all threads make at most 32768
+  --calls 200      how many calls each thread makes; all threads make at most half of --events
+  --events 65536   how many events a run may have, at most 1048576; a call has two
   --runs 20        how many runs, each of a fresh object
   --seed 1         what the choice of the calls begins with
   --order choice   each call is chosen by the seed; or turn: updates and a view in turn
   --nap 0          where not 0, pauses and the gaps between calls last up to so many microseconds
   --stop 0         where not 0, ends after so many runs that were not atomic
   --limit 60       how many seconds a run may take
+  --views 1        how many views have to end in all runs together; 0 asks for none
   --out .          the folder for the first run that was not atomic
   --program FILE   the program snapjudge; else SNAPJUDGE_PROGRAM names it, else it is on the PATH
-  --choices        writes the calls that the seed chooses, and runs nothing`
+  --choices        writes the calls that the seed chooses, and runs nothing
+  --help           writes this`
 
 // A Board is an object under test; each component is 0 at first. A view has one value for each component, and is nil where it gave
 // up. Where an object calls Pause between its steps, the other goroutines run in the middle of its calls.
@@ -78,22 +81,32 @@ func (object Object) made(components int) (board FallibleBoard, err error) {
 }
 
 type Options struct {
-	Threads, Components, Calls, Runs, Seed, Nap, Stop, Limit uint64
-	Order, Out, Program                                      string
+	Threads, Components, Calls, Runs, Seed, Nap, Stop, Limit, Views, Events uint64
+	Order, Out, Program                                                     string
 }
 
 func DefaultOptions() Options {
-	return Options{Threads: 4, Components: 4, Calls: 200, Runs: 20, Seed: 1, Limit: 60, Order: "choice", Out: "."}
+	return Options{Threads: 4, Components: 4, Calls: 200, Runs: 20, Seed: 1, Limit: 60, Views: 1, Events: 65536, Order: "choice", Out: "."}
 }
 
-// An Outcome tells how many runs were atomic, only regular, or neither; and which was the first that was not atomic, from 1, or 0.
-type Outcome struct{ Atomic, Regular, Neither, First uint64 }
+// An Outcome tells how many runs were atomic, only regular, or not regular; and which was the first that was not atomic, from 1, or 0.
+// Views ended in all runs, Overlapping of these overlapped an update, and Overlapped runs have such a view.
+type Outcome struct {
+	Atomic, OnlyRegular, NotRegular, First uint64
+	Views, Overlapping, Overlapped         uint64
+}
+
+func (outcome Outcome) caught() uint64 { return outcome.OnlyRegular + outcome.NotRegular }
+
+func (outcome Outcome) runs() uint64 { return outcome.Atomic + outcome.caught() }
 
 func (outcome Outcome) String() string {
-	return fmt.Sprintf("atomic %d, regular %d, neither %d", outcome.Atomic, outcome.Regular, outcome.Neither)
+	return fmt.Sprintf("atomic %d, only-regular %d, not-regular %d; %d of %d views overlapped an update, in %d of %d runs",
+		outcome.Atomic, outcome.OnlyRegular, outcome.NotRegular, outcome.Overlapping, outcome.Views, outcome.Overlapped, outcome.runs())
 }
 
-// A DriveError is why runs have no verdict; its name is usage, limits, view, died, hangs, no judge, no verdict or files.
+// A DriveError is why runs have no verdict; its name is usage, limits, view, died, hangs, few views, no overlap, no judge, no verdict
+// or files.
 type DriveError struct{ Name, Message string }
 
 func (err *DriveError) Error() string { return err.Name + ": " + err.Message }
@@ -210,8 +223,8 @@ func work(board FallibleBoard, log *Log[uint32], calls []int, options Options) (
 	return nil
 }
 
-// The history of a fresh object under a schedule.
-func record(object Object, options Options, schedule [][]int) (string, error) {
+// The history of a fresh object under a schedule. Its views are counted.
+func record(object Object, options Options, schedule [][]int, outcome *Outcome) (string, error) {
 	recorder, err := New[uint32](int(options.Threads), int(options.Components), int(options.Calls))
 	if err != nil {
 		return "", err
@@ -243,6 +256,12 @@ func record(object Object, options Options, schedule [][]int) (string, error) {
 			return "", failed("hangs", "a run took more than %d s: a call of the object does not end", options.Limit)
 		}
 	}
+	views := recorder.Views()
+	outcome.Views += uint64(views.Ended)
+	outcome.Overlapping += uint64(views.Overlapping)
+	if views.Overlapping > 0 {
+		outcome.Overlapped++
+	}
 	return recorder.Text()
 }
 
@@ -264,20 +283,41 @@ func numbers(options *Options) []number {
 		{"nap", &options.Nap, 0, 1000000},
 		{"stop", &options.Stop, 0, 1000000000},
 		{"limit", &options.Limit, 1, 100000},
+		{"views", &options.Views, 0, 1000000000},
+		{"events", &options.Events, 2, EventLimit},
 	}
+}
+
+func (it number) beyond() error {
+	return failed("limits", "%s is a number from %d to %d", it.name, it.least, it.greatest)
 }
 
 func test(options Options) error {
 	for _, it := range numbers(&options) {
 		if *it.place < it.least || *it.place > it.greatest {
-			return failed("limits", "%s is a number from %d to %d", it.name, it.least, it.greatest)
+			return it.beyond()
 		}
 	}
-	if options.Threads*options.Calls > EventLimit/2 {
-		return failed("limits", "all threads make at most %d calls", EventLimit/2)
+	if options.Threads*options.Calls > options.Events/2 {
+		return failed("limits", "all threads make at most %d calls", options.Events/2)
 	}
 	if options.Order != "choice" && options.Order != "turn" {
 		return failed("usage", "order is choice or turn")
+	}
+	return nil
+}
+
+// An error where the runs say nothing of the object: all were atomic, and too few views ended, or none of them overlapped an update.
+func testLooked(options Options, outcome Outcome) error {
+	if outcome.First > 0 || options.Views == 0 {
+		return nil
+	}
+	if outcome.Views < options.Views {
+		return failed("few views", "%d views ended in %d runs, fewer than %d: there is no verdict", outcome.Views, outcome.runs(), options.Views)
+	}
+	if outcome.Overlapping == 0 {
+		return failed("no overlap", "none of %d views overlapped an update in %d runs: there is no verdict on calls at the same time",
+			outcome.Views, outcome.runs())
 	}
 	return nil
 }
@@ -289,7 +329,7 @@ func Run(object Object, options Options) (Outcome, error) {
 	if err := test(options); err != nil {
 		return outcome, err
 	}
-	judge, err := findJudge(options.Program)
+	judge, err := findJudge(options.Program, options.Events)
 	if err != nil {
 		return outcome, err
 	}
@@ -300,7 +340,7 @@ func Run(object Object, options Options) (Outcome, error) {
 	longestNap.Store(options.Nap)
 	naps.Store(options.Seed)
 	for run := uint64(1); ; run++ {
-		text, err := record(object, options, next())
+		text, err := record(object, options, next(), &outcome)
 		if err != nil {
 			return outcome, err
 		}
@@ -308,7 +348,7 @@ func Run(object Object, options Options) (Outcome, error) {
 		if err != nil {
 			return outcome, err
 		}
-		*[]*uint64{&outcome.Atomic, &outcome.Regular, &outcome.Neither}[status]++
+		*[]*uint64{&outcome.Atomic, &outcome.OnlyRegular, &outcome.NotRegular}[status]++
 		if status > 0 && outcome.First == 0 {
 			outcome.First = run
 			if err := judge.keep(text, front); err != nil {
@@ -316,48 +356,90 @@ func Run(object Object, options Options) (Outcome, error) {
 			}
 			fmt.Fprintf(os.Stderr, "%s: run %d is not atomic: see %s-caught.csv and the files beside it\n", object.Name, run, front)
 		}
-		hasEnded := run == options.Runs || options.Stop > 0 && outcome.Regular+outcome.Neither == options.Stop
+		hasEnded := run == options.Runs || options.Stop > 0 && outcome.caught() == options.Stop
 		if hasEnded || time.Since(told) >= time.Second {
 			told = time.Now()
 			fmt.Fprintf(os.Stderr, "%s: run %d of %d: %v\n", object.Name, run, options.Runs, outcome)
 		}
 		if hasEnded {
-			return outcome, nil
+			return outcome, testLooked(options, outcome)
 		}
 	}
 }
 
 // ---- the command line
 
-func readOption(options *Options, name, value string) bool {
-	for _, it := range numbers(options) {
-		if it.name == name {
-			read, err := strconv.ParseUint(value, 10, 64)
-			*it.place = read
-			return err == nil
-		}
+// The number of a word, or an error.
+func (it number) read(word string) error {
+	read, err := strconv.ParseUint(word, 10, 64)
+	if errors.Is(err, strconv.ErrRange) {
+		return it.beyond()
 	}
-	texts := map[string]*string{"order": &options.Order, "out": &options.Out, "program": &options.Program}
-	if text := texts[name]; text != nil {
-		*text = value
+	if err != nil {
+		return failed("usage", "--%s: %s is not a number", it.name, word)
 	}
-	return texts[name] != nil
+	*it.place = read
+	return nil
 }
 
-// The options of a command line, and whether the choices are to be shown.
-func read(words []string) (Options, bool, error) {
-	options, showsChoices := DefaultOptions(), false
+// Takes the option that stands first among words.
+func readOption(options *Options, words []string) error {
+	name := strings.TrimPrefix(words[0], "--")
+	text := map[string]*string{"order": &options.Order, "out": &options.Out, "program": &options.Program}[name]
+	var place *number
+	for _, it := range numbers(options) {
+		if it.name == name {
+			place = &number{it.name, it.place, it.least, it.greatest}
+		}
+	}
+	switch {
+	case !strings.HasPrefix(words[0], "--"):
+		return failed("usage", "%s is not an option", words[0])
+	case text == nil && place == nil:
+		return failed("usage", "there is no option %s", words[0])
+	case len(words) == 1:
+		return failed("usage", "%s has no value", words[0])
+	case text == nil:
+		return place.read(words[1])
+	}
+	*text = words[1]
+	return nil
+}
+
+// What a command line asks for.
+type job int
+
+const (
+	runs job = iota
+	choices
+	help
+)
+
+// The options of a command line, and what it asks for.
+func read(words []string) (Options, job, error) {
+	options, asked := DefaultOptions(), runs
 	for len(words) > 0 {
-		if words[0] == "--choices" {
-			showsChoices, words = true, words[1:]
+		switch words[0] {
+		case "--help", "-h":
+			return options, help, nil
+		case "--choices":
+			asked, words = choices, words[1:]
 			continue
 		}
-		if !strings.HasPrefix(words[0], "--") || len(words) == 1 || !readOption(&options, words[0][2:], words[1]) {
-			return options, false, failed("usage", "%s is no option with its value", words[0])
+		if err := readOption(&options, words); err != nil {
+			return options, asked, err
 		}
 		words = words[2:]
 	}
-	return options, showsChoices, test(options)
+	return options, asked, test(options)
+}
+
+func usageOf(objects []Object) string {
+	text := usage + "\nobjects:"
+	for _, object := range objects {
+		text += " " + object.Name
+	}
+	return text + "\n"
 }
 
 // Writes to standard output.
@@ -387,13 +469,13 @@ func showChoices(options Options) error {
 }
 
 // Main runs the object that the command line names, or the first one. The status is 0 where each run was atomic, 1 where some were
-// only regular, 2 where some were neither, and 4 where there is no verdict.
+// only regular, 2 where some were not regular, 3 where too little was seen for a verdict, and 4 where there is none for another reason.
 func Main(objects ...Object) {
 	words, name := os.Args[1:], objects[0].Name
-	if len(words) > 0 && !strings.HasPrefix(words[0], "--") {
+	if len(words) > 0 && !strings.HasPrefix(words[0], "-") {
 		name, words = words[0], words[1:]
 	}
-	options, showsChoices, err := read(words)
+	options, asked, err := read(words)
 	var outcome Outcome
 	var chosen *Object
 	for i := range objects {
@@ -404,7 +486,9 @@ func Main(objects ...Object) {
 	switch {
 	case chosen == nil:
 		err = failed("usage", "there is no object %s", name)
-	case err == nil && showsChoices:
+	case err == nil && asked == help:
+		err = tell("%s", usageOf(objects))
+	case err == nil && asked == choices:
 		err = showChoices(options)
 	case err == nil:
 		if outcome, err = Run(*chosen, options); err == nil {
@@ -412,17 +496,26 @@ func Main(objects ...Object) {
 		}
 	}
 	if err != nil {
-		var why *DriveError
-		if errors.As(err, &why) && why.Name == "usage" {
-			fmt.Fprintln(os.Stderr, usage)
-		}
-		fmt.Fprintf(os.Stderr, "%s: %v\n", name, err)
-		os.Exit(4)
+		os.Exit(tellError(name, err, objects))
 	}
 	switch {
-	case outcome.Neither > 0:
+	case outcome.NotRegular > 0:
 		os.Exit(2)
-	case outcome.Regular > 0:
+	case outcome.OnlyRegular > 0:
 		os.Exit(1)
 	}
+}
+
+// Tells why there is no verdict, and answers the status.
+func tellError(name string, err error, objects []Object) int {
+	var why *DriveError
+	isNamed := errors.As(err, &why)
+	if isNamed && why.Name == "usage" {
+		fmt.Fprint(os.Stderr, usageOf(objects))
+	}
+	fmt.Fprintf(os.Stderr, "%s: %v\n", name, err)
+	if isNamed && (why.Name == "few views" || why.Name == "no overlap") {
+		return 3
+	}
+	return 4
 }

@@ -5,7 +5,7 @@
 //
 //	recorder, err := snaprecord.New[uint32](threads, components, calls)
 //
-//	log := recorder.Log(t)                                   // goroutine t, and no other
+//	log := recorder.Log(t)                                   // goroutine t, and no other; never a copy of the log
 //	if log.BeginUpdate(component, value) == 0 { return }     // refused: make no further call
 //	board.Update(component, value)
 //	log.EndUpdate()
@@ -18,8 +18,8 @@
 // Values may be of any type that Go compares. Those of type uint32 stand for themselves, others are numbered by a table.
 //
 // What the record says: where call A ended before call B began, A happened before B. Each stamp is one atomic step of one clock;
-// that of a begin is taken last in Begin.., that of an end first in End... A goroutine writes to its own log alone. Nothing is
-// locked or allocated while goroutines run.
+// that of a begin is taken last in Begin.., that of an end first in End... A goroutine writes to its own log alone. A call locks and
+// allocates nothing, but where it is misused, and all pages of a log are there before goroutines run.
 // What it cannot say: the clock orders more calls than the object may, so a fault that needs two calls without such an order can
 // hide.
 //
@@ -39,7 +39,7 @@ import (
 
 // What the judge takes.
 const (
-	EventLimit     = 65536 // in all; a call has two, its begin and its end
+	EventLimit     = 1048576 // in all; a call has two. More than 65536 the judge takes by --events N
 	ComponentLimit = 256
 	ProcessLimit   = 65536 // a goroutine is one process
 )
@@ -57,6 +57,7 @@ const (
 	SameValue                   // views tell values, and a component got one value twice, or its initial one
 	Part                        // a view tells the values of fewer components than there are
 	Initials                    // there are first values, and not as many as components
+	Copied                      // a call was made of a copy of a log: keep what Log answers
 )
 
 var sentences = map[Fault]string{
@@ -69,6 +70,7 @@ var sentences = map[Fault]string{
 	SameValue:  "same value: a component got one value twice, or its initial one: make the values differ, or end views with numbers",
 	Part:       "part: a view tells the values of fewer components than there are: record each part by a recorder of its own",
 	Initials:   "initials: there are first values, and not as many as components",
+	Copied:     "copied: a call was made of a copy of a log, whose records would be lost: keep what Log answers",
 }
 
 func (fault Fault) Error() string { return sentences[fault] }
@@ -104,8 +106,15 @@ type event struct {
 	first, count int // its entries
 }
 
+// go vet tells of copies of what has one of these.
+type noCopy struct{}
+
+func (*noCopy) Lock()   {}
+func (*noCopy) Unlock() {}
+
 // A Log is what one goroutine recorded.
 type Log[V comparable] struct {
+	_        noCopy
 	recorder *Recorder[V]
 	thread   int
 	state    state
@@ -142,10 +151,20 @@ func New[V comparable](threads, components, calls int) (*Recorder[V], error) {
 	for t := range recorder.logs {
 		log := &recorder.logs[t]
 		log.recorder, log.thread = recorder, t
-		log.events = make([]event, 0, 2*calls)
-		log.entries = make([]Entry[V], 0, calls*(components+1))
+		log.events = touched(2*calls, event{stamp: 1})
+		log.entries = touched(calls*(components+1), Entry[V]{Number: 1})
 	}
 	return recorder, nil
+}
+
+// An empty list with room for so many, each of which was written once, so that no page is made while goroutines run. What is written
+// is not zero, since new pages have that.
+func touched[T any](room int, with T) []T {
+	list := make([]T, room)
+	for i := range list {
+		list[i] = with
+	}
+	return list[:0]
 }
 
 // Log is the log of a goroutine, which is the process of that number.
@@ -162,7 +181,13 @@ func (log *Log[V]) misused(fault Fault) bool {
 	return false
 }
 
+// Whether the log is a copy. What it records is in no text, and so a history without it could look right.
+func (log *Log[V]) isCopy() bool { return log != &log.recorder.logs[log.thread] }
+
 func (log *Log[V]) mayBegin() bool {
+	if log.isCopy() {
+		return log.misused(Copied)
+	}
 	if log.state >= updating {
 		return log.misused(Nested)
 	}
@@ -176,6 +201,9 @@ func (log *Log[V]) mayBegin() bool {
 }
 
 func (log *Log[V]) mayEnd(expected state) bool {
+	if log.isCopy() {
+		return log.misused(Copied)
+	}
 	switch log.state {
 	case expected:
 		return true

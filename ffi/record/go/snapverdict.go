@@ -15,10 +15,11 @@ import (
 type judge struct {
 	program string
 	library library
+	events  uint64 // so many may a history have
 }
 
 // SNAPJUDGE_LIBRARY names the library; it is empty for none. Else it is sought beside the program.
-func findJudge(named string) (judge, error) {
+func findJudge(named string, events uint64) (judge, error) {
 	for _, name := range []string{os.Getenv("SNAPJUDGE_PROGRAM"), "snapjudge"} {
 		if named == "" {
 			named = name
@@ -33,6 +34,8 @@ func findJudge(named string) (judge, error) {
 	}
 	if err != nil {
 		program = ""
+	} else if !isJudge(program) {
+		return judge{}, failed("no judge", "%s is not snapjudge: it tells no version of it", program)
 	}
 	folder := filepath.Dir(program)
 	places := []string{folder + "/../lib/libsnapjudge.so", folder + "/ffi/build/libsnapjudge.so", "libsnapjudge.so"}
@@ -40,7 +43,7 @@ func findJudge(named string) (judge, error) {
 	if isNamed {
 		places = []string{only}
 	}
-	found := judge{program: program}
+	found := judge{program: program, events: events}
 	for _, place := range places {
 		if place != "" && !found.library.isThere() {
 			found.library = load(place)
@@ -55,13 +58,28 @@ func findJudge(named string) (judge, error) {
 	return found, nil
 }
 
-// 0 for atomic, 1 for regular, 2 for neither.
+// Whether the program says its version. A program of another kind may end with 0 whatever it is given, which no verdict is.
+func isJudge(program string) bool {
+	said, err := exec.Command(program, "--version").Output()
+	rest := strings.TrimPrefix(string(said), "snapjudge ")
+	return err == nil && len(rest) < len(said) && rest != "" && '0' <= rest[0] && rest[0] <= '9'
+}
+
+func (judge judge) command(verb string) *exec.Cmd {
+	words := []string{verb, fmt.Sprint("--events=", judge.events)}
+	if verb == "check" {
+		words = append(words, "--quiet")
+	}
+	return exec.Command(judge.program, words...)
+}
+
+// 0 for atomic, 1 for only regular, 2 for not regular.
 func (judge judge) status(text string) (int, error) {
 	status := 4
 	if judge.library.isThere() {
-		status = judge.library.check(text)
+		status = judge.library.check(text, judge.events)
 	} else {
-		command := exec.Command(judge.program, "check", "--quiet")
+		command := judge.command("check")
 		command.Stdin = strings.NewReader(text)
 		if err := command.Run(); err == nil || errors.As(err, new(*exec.ExitError)) {
 			status = command.ProcessState.ExitCode()
@@ -96,7 +114,7 @@ func (judge judge) keep(text, front string) error {
 		if judge.program == "" {
 			continue
 		}
-		command := exec.Command(judge.program, verb)
+		command := judge.command(verb)
 		command.Stdin = strings.NewReader(text)
 		said, err := command.Output()
 		if err != nil && command.ProcessState.ExitCode() > 2 {

@@ -38,6 +38,47 @@ func (recorder *Recorder[V]) Text() (string, error) {
 	return text.String(), nil
 }
 
+// Views tells how many views of the history ended, and how many of these overlapped an update: both calls were open at one moment.
+type Views struct{ Ended, Overlapping int }
+
+// Views counts the views, after the goroutines have ended. A run in which none overlapped an update says nothing of calls at the same
+// time.
+func (recorder *Recorder[V]) Views() Views {
+	var begun, ended []uint64 // the stamps of the updates
+	var views Views
+	for t := range recorder.logs {
+		for _, event := range recorder.logs[t].events {
+			switch event.kind {
+			case beginUpdate:
+				begun = append(begun, event.stamp)
+			case endUpdate:
+				ended = append(ended, event.stamp)
+			}
+		}
+	}
+	sort.Slice(begun, func(i, j int) bool { return begun[i] < begun[j] })
+	sort.Slice(ended, func(i, j int) bool { return ended[i] < ended[j] })
+	for t := range recorder.logs {
+		events := recorder.logs[t].events
+		for i, event := range events {
+			if event.kind != endView && event.kind != endViewValues {
+				continue
+			}
+			views.Ended++
+			// more updates began before its end than ended before its begin; the event before an end is the begin of its call
+			if below(begun, event.stamp) > below(ended, events[i-1].stamp) {
+				views.Overlapping++
+			}
+		}
+	}
+	return views
+}
+
+// How many of these rising stamps are below another one.
+func below(stamps []uint64, stamp uint64) int {
+	return sort.Search(len(stamps), func(i int) bool { return stamps[i] >= stamp })
+}
+
 // Table has the values by the numbers that stand for them in the last Text, from 0 on. It is empty where values are of type uint32.
 func (recorder *Recorder[V]) Table() []V { return recorder.table }
 
@@ -89,11 +130,10 @@ func (of *updates[V]) number(value V, ended uint64) uint32 {
 	if number := of.numbers[value]; number != 0 {
 		return number
 	}
-	last := sort.Search(len(of.begun), func(i int) bool { return of.begun[i] >= ended })
-	if last == 0 {
-		return 1
+	if last := below(of.begun, ended); last > 0 {
+		return uint32(last)
 	}
-	return uint32(last)
+	return 1
 }
 
 // What stands for a value: itself, or its place in the table.

@@ -100,7 +100,7 @@ public final class Faulty implements SnapDriver.Board {
         return begun < 4 ? null : values;
     }
 
-    public static void main(String[] words) throws InterruptedException {
+    public static void main(String[] words) {
         Map<String, IntFunction<? extends SnapDriver.Board>> objects = new HashMap<>();
         for (String name : List.of(
             "stale", "gives-up", "hangs", "short", "dies", "odd", "second", "slow", "fails", "retries", "unmade", "numbered", "slows"))

@@ -41,6 +41,11 @@ public final class Misuse {
         if (log.beginView()) log.endViewValues(values);
     }
 
+    /** Whether so many views ended, and so many of them overlapped an update. */
+    static boolean hasViews(SnapRecorder recorder, int ended, int overlapping) {
+        return recorder.views().ended == ended && recorder.views().overlapping == overlapping;
+    }
+
     static String worked() {
         SnapRecorder recorder = new SnapRecorder(2, 2, 6);
         SnapRecorder.Log writer = recorder.log(0), viewer = recorder.log(1);
@@ -52,6 +57,7 @@ public final class Misuse {
         if (viewer.beginView()) viewer.endView(new long[] {2, 0}, new long[] {8, 0});
         if (viewer.beginView()) viewer.dropView();
         view(viewer, 99, 0); // nobody wrote 99
+        expect("the views of the worked run", hasViews(recorder, 3, 1));
         return recorder.text();
     }
 
@@ -69,6 +75,7 @@ public final class Misuse {
         expect("an update that stays pending", writer.beginUpdate(1, 8) == 1);
         view(viewer, 7, 8);
         view(spare, 7, 8);
+        expect("the views beside an update that stays pending", hasViews(recorder, 4, 3));
         return recorder.text();
     }
 
@@ -162,7 +169,7 @@ public final class Misuse {
         expect("limits of components", limits(1, 257, 1) == SnapRecorder.Fault.LIMITS);
         expect("limits of calls", limits(2, 1, SnapRecorder.EVENT_LIMIT / 4 + 1) == SnapRecorder.Fault.LIMITS);
         expect("no call", limits(1, 1, 0) == SnapRecorder.Fault.LIMITS && limits(1, -1, 1) == SnapRecorder.Fault.LIMITS);
-        expect("within limits", limits(2, 256, SnapRecorder.EVENT_LIMIT / 4) == null);
+        expect("within limits", limits(2, 256, 100) == null && limits(16, 1, SnapRecorder.EVENT_LIMIT / 32) == null);
 
         SnapRecorder full = new SnapRecorder(2, 1, 2);
         update(full.log(0), 0, 1);

@@ -44,7 +44,7 @@ public final class Own {
         }
     }
 
-    public static void main(String[] words) throws InterruptedException {
+    public static void main(String[] words) {
         SnapDriver.main(words, Map.of("naive", Naive::new, "double", Double::new));
     }
 }

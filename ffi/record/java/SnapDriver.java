@@ -20,6 +20,7 @@ import java.util.Collections;
 import java.util.List;
 import java.util.Locale;
 import java.util.Map;
+import java.util.TreeSet;
 import java.util.concurrent.CyclicBarrier;
 import java.util.concurrent.atomic.AtomicLong;
 import java.util.concurrent.atomic.AtomicReference;
@@ -55,16 +56,19 @@ public final class SnapDriver {
         "usage: [OBJECT] [OPTION VALUE ..]",
         "  --threads 4      how many threads, at most 64",
         "  --components 4   how many components, at most 64; thread t updates t, t + threads and so on",
-        "  --calls 200      how many calls each thread makes; all threads make at most 32768",
+        "  --calls 200      how many calls each thread makes; all threads make at most half of --events",
+        "  --events 65536   how many events a run may have, at most 1048576; a call has two",
         "  --runs 20        how many runs, each of a fresh object",
         "  --seed 1         what the choice of the calls begins with",
         "  --order choice   each call is chosen by the seed; or turn: updates and a view in turn",
         "  --nap 0          where not 0, pauses and the gaps between calls last up to so many microseconds",
         "  --stop 0         where not 0, ends after so many runs that were not atomic",
         "  --limit 60       how many seconds a run may take",
+        "  --views 1        how many views have to end in all runs together; 0 asks for none",
         "  --out .          the folder for the first run that was not atomic",
         "  --program FILE   the program snapjudge; else SNAPJUDGE_PROGRAM names it, else it is on the PATH",
-        "  --choices        writes the calls that the seed chooses, and runs nothing");
+        "  --choices        writes the calls that the seed chooses, and runs nothing",
+        "  --help           writes this");
 
     /** An object under test. */
     public interface Board {
@@ -87,7 +91,10 @@ public final class SnapDriver {
         private static final long serialVersionUID = 1;
     }
 
-    /** Why runs have no verdict; the name is usage, limits, view, died, hangs, memory, no judge, no verdict or files. */
+    /**
+     * Why runs have no verdict; the name is usage, limits, view, died, hangs, memory, few views, no overlap, no judge, no verdict or
+     * files.
+     */
     public static final class DriveException extends RuntimeException {
         private static final long serialVersionUID = 1;
         public final String name;
@@ -107,7 +114,9 @@ public final class SnapDriver {
         SEED(0, -1, 1),
         NAP(0, 1000000, 0),
         STOP(0, 1000000000, 0),
-        LIMIT(1, 100000, 60);
+        LIMIT(1, 100000, 60),
+        VIEWS(0, 1000000000, 1),
+        EVENTS(2, SnapRecorder.EVENT_LIMIT, 65536);
 
         final long least, greatest, preset;
 
@@ -132,17 +141,19 @@ public final class SnapDriver {
             return this;
         }
 
+        private static boolean has(String name) {
+            return List.of("order", "out", "program").contains(name)
+                || Arrays.stream(Number.values()).anyMatch(it -> it.name().toLowerCase(Locale.ROOT).equals(name));
+        }
+
         private void setNumber(String name, String value) {
-            for (Number number : Number.values())
-                if (number.name().toLowerCase(Locale.ROOT).equals(name) && value.matches("[0-9]+")) {
-                    BigInteger read = new BigInteger(value);
-                    BigInteger greatest = new BigInteger(Long.toUnsignedString(number.greatest));
-                    if (read.compareTo(BigInteger.valueOf(number.least)) < 0 || read.compareTo(greatest) > 0)
-                        throw new DriveException("limits", name + " is a number from " + number.least + " to " + greatest);
-                    numbers[number.ordinal()] = read.longValue();
-                    return;
-                }
-            throw new DriveException("usage", name + " " + value + " is no option with its value");
+            if (!has(name)) throw new DriveException("usage", "there is no option --" + name);
+            if (!value.matches("[0-9]+")) throw new DriveException("usage", "--" + name + ": " + value + " is not a number");
+            Number number = Number.valueOf(name.toUpperCase(Locale.ROOT));
+            BigInteger read = new BigInteger(value), greatest = new BigInteger(Long.toUnsignedString(number.greatest));
+            if (read.compareTo(BigInteger.valueOf(number.least)) < 0 || read.compareTo(greatest) > 0)
+                throw new DriveException("limits", name + " is a number from " + number.least + " to " + greatest);
+            numbers[number.ordinal()] = read.longValue();
         }
 
         private int get(Number number) {
@@ -150,19 +161,55 @@ public final class SnapDriver {
         }
 
         private void test() {
-            if ((long) get(Number.THREADS) * get(Number.CALLS) > SnapRecorder.EVENT_LIMIT / 2)
-                throw new DriveException("limits", "all threads make at most " + SnapRecorder.EVENT_LIMIT / 2 + " calls");
+            if ((long) get(Number.THREADS) * get(Number.CALLS) > get(Number.EVENTS) / 2)
+                throw new DriveException("limits", "all threads make at most " + get(Number.EVENTS) / 2 + " calls");
             if (!order.equals("choice") && !order.equals("turn")) throw new DriveException("usage", "order is choice or turn");
         }
     }
 
-    /** How many runs were atomic, only regular, or neither; and which was the first that was not atomic, from 1, or 0. */
+    /**
+     * How many runs were atomic, only regular, or not regular; and which was the first that was not atomic, from 1, or 0. How many
+     * views ended in all runs, how many of these overlapped an update, and how many runs have such a view.
+     */
     public static final class Outcome {
-        public int atomic, regular, neither, first;
+        public int atomic, onlyRegular, notRegular, first, overlapped;
+        public long views, overlapping;
+
+        private int caught() {
+            return onlyRegular + notRegular;
+        }
+
+        private int runs() {
+            return atomic + caught();
+        }
 
         @Override
         public String toString() {
-            return "atomic " + atomic + ", regular " + regular + ", neither " + neither;
+            String verdicts = "atomic " + atomic + ", only-regular " + onlyRegular + ", not-regular " + notRegular;
+            String seen = overlapping + " of " + views + " views overlapped an update, in " + overlapped + " of " + runs() + " runs";
+            return verdicts + "; " + seen;
+        }
+
+        /** Throws where the runs say nothing of the object: all were atomic, and too few views ended, or none overlapped an update. */
+        private void test(int asked) {
+            if (first > 0 || asked == 0) return;
+            if (views < asked)
+                throw new DriveException(
+                    "few views", views + " views ended in " + runs() + " runs, fewer than " + asked + ": there is no verdict");
+            if (overlapping == 0)
+                throw new DriveException("no overlap", "none of " + views + " views overlapped an update in " + runs()
+                    + " runs: there is no verdict on calls at the same time");
+        }
+    }
+
+    /** A history, and its views. */
+    private static final class Run {
+        private final String text;
+        private final SnapRecorder.Views views;
+
+        private Run(SnapRecorder recorder) {
+            text = recorder.text();
+            views = recorder.views();
         }
     }
 
@@ -264,7 +311,7 @@ public final class SnapDriver {
     }
 
     /** The history of a fresh object. */
-    private static String record(IntFunction<? extends Board> make, Options options, Random seeds) throws InterruptedException {
+    private static Run record(IntFunction<? extends Board> make, Options options, Random seeds) throws InterruptedException {
         int count = options.get(Number.THREADS);
         SnapRecorder recorder = new SnapRecorder(count, options.get(Number.COMPONENTS), options.get(Number.CALLS));
         Board board = fresh(make, options.get(Number.COMPONENTS));
@@ -292,7 +339,7 @@ public final class SnapDriver {
         if (threads.stream().anyMatch(Thread::isAlive))
             throw new DriveException(
                 "hangs", "a run took more than " + options.get(Number.LIMIT) + " s: a call of the object does not end");
-        return recorder.text();
+        return new Run(recorder);
     }
 
     // ---- the judge: the program alone, since Java calls a library in C only from version 22 on
@@ -303,13 +350,27 @@ public final class SnapDriver {
         List<String> folders = name.contains("/") || path == null ? List.of("") : List.of(path.split(":"));
         for (String folder : folders)
             if (Files.isRegularFile(Path.of(folder, name)) && Files.isExecutable(Path.of(folder, name)))
-                return Path.of(folder, name);
+                return tested(Path.of(folder, name));
         throw new DriveException("no judge", "there is no program " + name + ": install snapjudge, or name it by --program");
     }
 
-    /** Runs the program from a file to a file; its status. */
-    private static int call(Path program, String verb, String from, String to) throws IOException, InterruptedException {
-        return new ProcessBuilder(program.toString(), verb)
+    /** The program, where it says its version. One of another kind may end with 0 whatever it is given, which no verdict is. */
+    private static Path tested(Path program) {
+        String said = "";
+        try {
+            Process process = new ProcessBuilder(program.toString(), "--version").redirectInput(new File("/dev/null")).start();
+            said = new String(process.getInputStream().readAllBytes(), StandardCharsets.UTF_8);
+            if (process.waitFor() != 0) said = "";
+        } catch (IOException | InterruptedException error) {
+            said = "";
+        }
+        if (said.matches("(?s)snapjudge [0-9].*")) return program;
+        throw new DriveException("no judge", program + " is not snapjudge: it tells no version of it");
+    }
+
+    /** Runs the program from a file to a file, for histories of so many events; its status. */
+    private static int call(Path program, String verb, int events, String from, String to) throws IOException, InterruptedException {
+        return new ProcessBuilder(program.toString(), verb, "--events=" + events)
             .redirectInput(new File(from))
             .redirectOutput(new File(to))
             .redirectError(ProcessBuilder.Redirect.INHERIT)
@@ -318,10 +379,10 @@ public final class SnapDriver {
     }
 
     /** Writes a history, its witness and its explanation. */
-    private static void keep(Path program, String text, String front) throws IOException, InterruptedException {
+    private static void keep(Path program, int events, String text, String front) throws IOException, InterruptedException {
         Files.writeString(Path.of(front + "-caught.csv"), text);
-        if (call(program, "shrink", front + "-caught.csv", front + "-witness.csv") > 2
-            || call(program, "explain", front + "-caught.csv", front + "-explained.txt") > 2)
+        if (call(program, "shrink", events, front + "-caught.csv", front + "-witness.csv") > 2
+            || call(program, "explain", events, front + "-caught.csv", front + "-explained.txt") > 2)
             throw new DriveException("files", front + "-witness.csv or " + front + "-explained.txt can't be written");
     }
 
@@ -332,9 +393,9 @@ public final class SnapDriver {
         Runtime.getRuntime().addShutdownHook(new Thread(scratching::lock));
     }
 
-    /** The names of so many files that this process may write into a folder. */
-    private static List<Path> scratch(String out, int count) {
-        String front = "run-" + ProcessHandle.current().pid() + "-";
+    /** The names of so many files that judge `number` of this process may write into a folder. */
+    private static List<Path> scratch(String out, long number, int count) {
+        String front = "run-" + ProcessHandle.current().pid() + "-" + number + "-";
         return IntStream.range(0, count).mapToObj(it -> Path.of(out, front + it + ".csv")).collect(Collectors.toList());
     }
 
@@ -353,10 +414,10 @@ public final class SnapDriver {
     }
 
     /** Tries whether files can be written into a folder, before the first run, so that none is lost. */
-    private static void testFolder(String out) {
+    private static void testFolder(String out, long number) {
         try {
-            write(scratch(out, 1).get(0), "");
-            remove(scratch(out, 1));
+            write(scratch(out, number, 1).get(0), "");
+            remove(scratch(out, number, 1));
         } catch (IOException error) {
             throw new DriveException("files", "a file can't be written: " + error);
         }
@@ -364,9 +425,9 @@ public final class SnapDriver {
 
     private static final Pattern VERDICTS = Pattern.compile("(?md)^.*: regular (yes|no)\n.*: monotone (?:yes|no)\n.*: atomic (yes|no)$");
 
-    /** Of each of several files 0 for atomic, 1 for regular, 2 for neither; or nothing where some have no verdict. */
-    private static List<Integer> check(Path program, List<Path> names) throws IOException, InterruptedException {
-        List<String> words = new ArrayList<>(List.of(program.toString(), "check", "--quiet", "--no-progress", "--"));
+    /** Of each of several files 0 for atomic, 1 for only regular, 2 for not regular; or nothing where some have no verdict. */
+    private static List<Integer> check(Path program, int events, List<Path> names) throws IOException, InterruptedException {
+        List<String> words = new ArrayList<>(List.of(program.toString(), "check", "--quiet", "--no-progress", "--events=" + events, "--"));
         for (Path name : names) words.add(name.toString());
         Process process = new ProcessBuilder(words)
             .redirectInput(new File("/dev/null"))
@@ -384,11 +445,13 @@ public final class SnapDriver {
     private static final class Judge {
         private static final int MOST_RUNS = 64, MOST_CHARACTERS = 1 << 24;
         private static final long SECOND = 1000000000L;
+        private static final AtomicLong judges = new AtomicLong();
+        private final long number = judges.getAndIncrement();
         private final String name, out;
         private final Path program;
-        private final int runs, stop;
+        private final int runs, stop, events;
         private final Outcome outcome = new Outcome();
-        private final List<String> batch = new ArrayList<>(); // the histories of runs that are not yet judged
+        private final List<Run> batch = new ArrayList<>(); // the histories of runs that are not yet judged
         private int most = 1; // so many runs fill the batch
         private long begun = System.nanoTime(), told = begun; // when the batch began, and when it was last told how far the runs are
 
@@ -396,30 +459,31 @@ public final class SnapDriver {
             this.name = name;
             out = options.out;
             program = findProgram(options.program);
-            testFolder(out);
+            testFolder(out, number);
             runs = options.get(Number.RUNS);
             stop = options.get(Number.STOP);
+            events = options.get(Number.EVENTS);
         }
 
         private int judged() {
-            return outcome.atomic + outcome.regular + outcome.neither;
+            return outcome.runs();
         }
 
         private boolean hasEnded() {
-            return judged() == runs || stop > 0 && outcome.regular + outcome.neither == stop;
+            return judged() == runs || stop > 0 && outcome.caught() == stop;
         }
 
         /** Whether the batch is to be judged: it is full, or has the last run, or half a second has passed since the last judgement. */
         private boolean isDue() {
             return batch.size() >= most || judged() + batch.size() == runs || System.nanoTime() - begun >= SECOND / 2
-                || batch.stream().mapToLong(String::length).sum() >= MOST_CHARACTERS;
+                || batch.stream().mapToLong(run -> run.text.length()).sum() >= MOST_CHARACTERS;
         }
 
         private int judgeAlone(String text) throws IOException, InterruptedException {
-            List<Path> names = scratch(out, 1);
+            List<Path> names = scratch(out, number, 1);
             try {
                 write(names.get(0), text);
-                int status = call(program, "check", names.get(0).toString(), "/dev/null");
+                int status = call(program, "check", events, names.get(0).toString(), "/dev/null");
                 if (status > 2) throw new DriveException("no verdict", "the judge ends with status " + status);
                 return status;
             } finally {
@@ -430,10 +494,10 @@ public final class SnapDriver {
         /** The status of each run of the batch; or nothing where each has to be judged alone, which then tells what is wrong. */
         private List<Integer> judgeTogether() throws IOException, InterruptedException {
             if (batch.size() == 1) return List.of();
-            List<Path> names = scratch(out, batch.size());
+            List<Path> names = scratch(out, number, batch.size());
             try {
-                for (int i = 0; i < names.size(); i++) write(names.get(i), batch.get(i));
-                return check(program, names);
+                for (int i = 0; i < names.size(); i++) write(names.get(i), batch.get(i).text);
+                return check(program, events, names);
             } catch (IOException error) {
                 return List.of();
             } finally {
@@ -441,13 +505,16 @@ public final class SnapDriver {
             }
         }
 
-        private void count(String text, int status) throws IOException, InterruptedException {
+        private void count(Run run, int status) throws IOException, InterruptedException {
             if (status == 0) outcome.atomic++;
-            else if (status == 1) outcome.regular++;
-            else outcome.neither++;
+            else if (status == 1) outcome.onlyRegular++;
+            else outcome.notRegular++;
+            outcome.views += run.views.ended;
+            outcome.overlapping += run.views.overlapping;
+            if (run.views.overlapping > 0) outcome.overlapped++;
             if (status == 0 || outcome.first > 0) return;
             outcome.first = judged();
-            keep(program, text, out + "/" + name);
+            keep(program, events, run.text, out + "/" + name);
             System.err.println(
                 name + ": run " + outcome.first + " is not atomic: see " + out + "/" + name + "-caught.csv and the files beside it");
         }
@@ -464,7 +531,7 @@ public final class SnapDriver {
             try {
                 List<Integer> found = judgeTogether();
                 for (int i = 0; i < batch.size() && !hasEnded(); i++)
-                    count(batch.get(i), found.isEmpty() ? judgeAlone(batch.get(i)) : found.get(i));
+                    count(batch.get(i), found.isEmpty() ? judgeAlone(batch.get(i).text) : found.get(i));
             } catch (IOException error) {
                 throw new DriveException("files", "a file can't be written, or the program can't be run: " + error);
             }
@@ -496,6 +563,7 @@ public final class SnapDriver {
             }
             if (judge.isDue()) judge.judge();
         }
+        judge.outcome.test(options.get(Number.VIEWS));
         return judge.outcome;
     }
 
@@ -504,9 +572,11 @@ public final class SnapDriver {
     private static Options read(List<String> words) {
         Options options = new Options();
         for (int at = 0; at < words.size(); at += 2) {
-            if (!words.get(at).startsWith("--") || at + 1 == words.size())
-                throw new DriveException("usage", words.get(at) + " is no option with its value");
-            options.with(words.get(at).substring(2), words.get(at + 1));
+            String word = words.get(at);
+            if (!word.startsWith("--")) throw new DriveException("usage", word + " is not an option");
+            if (!Options.has(word.substring(2))) throw new DriveException("usage", "there is no option " + word);
+            if (at + 1 == words.size()) throw new DriveException("usage", word + " has no value");
+            options.with(word.substring(2), words.get(at + 1));
         }
         return options;
     }
@@ -526,38 +596,57 @@ public final class SnapDriver {
         if (System.out.checkError()) throw new DriveException("files", "standard output can't be written");
     }
 
+    private static String usageOf(Map<String, ?> objects) {
+        return USAGE + "\nobjects: " + String.join(" ", new TreeSet<>(objects.keySet()));
+    }
+
+    /** Runs what the words ask for, and answers the status of its verdicts. */
+    private static int answer(String name, List<String> words, Map<String, IntFunction<? extends Board>> objects)
+        throws InterruptedException {
+        Outcome outcome = new Outcome();
+        if (words.contains("--help") || words.contains("-h")) {
+            System.out.println(usageOf(objects));
+        } else {
+            if (name.isEmpty()) throw new DriveException("usage", "name one of the objects");
+            if (!objects.containsKey(name)) throw new DriveException("usage", "there is no object " + name);
+            if (words.remove("--choices")) {
+                showChoices(read(words));
+            } else {
+                outcome = run(name, objects.get(name), read(words));
+                System.out.println(name + ": " + outcome);
+            }
+        }
+        flush();
+        return outcome.notRegular > 0 ? 2 : outcome.onlyRegular > 0 ? 1 : 0;
+    }
+
     /** The same for one object. */
-    public static void main(String[] words, String name, IntFunction<? extends Board> make) throws InterruptedException {
+    public static void main(String[] words, String name, IntFunction<? extends Board> make) {
         main(words, Map.of(name, make));
     }
 
     /**
-     * Runs the object that the command line names, or the only one. The status is 0 where each run was atomic, 1 where some were
-     * only regular, 2 where some were neither, and 4 where there is no verdict.
+     * Runs the object that the command line names, or the only one, and ends Java. The status is 0 where each run was atomic, 1 where
+     * some were only regular, 2 where some were not regular, 3 where too little was seen for a verdict, and 4 where there is none for
+     * another reason.
      */
-    public static void main(String[] words, Map<String, IntFunction<? extends Board>> objects) throws InterruptedException {
+    public static void main(String[] words, Map<String, IntFunction<? extends Board>> objects) {
         List<String> rest = new ArrayList<>(List.of(words));
-        boolean isNamed = !rest.isEmpty() && !rest.get(0).startsWith("--");
+        boolean isNamed = !rest.isEmpty() && !rest.get(0).startsWith("-");
         String name = isNamed ? rest.remove(0) : objects.size() == 1 ? objects.keySet().iterator().next() : "";
+        int status = 4;
         try {
-            if (name.isEmpty()) throw new DriveException("usage", "name one of the objects " + objects.keySet());
-            if (!objects.containsKey(name)) throw new DriveException("usage", "there is no object " + name);
-            if (rest.remove("--choices")) {
-                showChoices(read(rest));
-                flush();
-                return;
-            }
-            Outcome outcome = run(name, objects.get(name), read(rest));
-            System.out.println(name + ": " + outcome);
-            flush();
-            System.exit(outcome.neither > 0 ? 2 : outcome.regular > 0 ? 1 : 0);
+            status = answer(name, rest, objects);
         } catch (DriveException error) {
-            if (error.name.equals("usage")) System.err.println(USAGE);
+            if (error.name.equals("usage")) System.err.println(usageOf(objects));
             System.err.println(name + ": " + error.name + ": " + error.getMessage());
+            if (error.name.equals("few views") || error.name.equals("no overlap")) status = 3;
         } catch (SnapRecorder.RecordException error) {
             System.err.println(name + ": " + error.fault.name().toLowerCase(Locale.ROOT).replace('_', ' ') + ": " + error.getMessage());
+        } catch (InterruptedException error) {
+            System.err.println(name + ": died: the thread of the driver was interrupted");
         }
-        System.exit(4);
+        System.exit(status);
     }
 
     private SnapDriver() {}

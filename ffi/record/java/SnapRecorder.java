@@ -9,6 +9,7 @@
  */
 
 import java.util.ArrayList;
+import java.util.Arrays;
 import java.util.Collections;
 import java.util.HashMap;
 import java.util.LinkedHashSet;
@@ -19,6 +20,7 @@ import java.util.Set;
 import java.util.concurrent.atomic.AtomicBoolean;
 import java.util.concurrent.atomic.AtomicLong;
 import java.util.concurrent.atomic.AtomicReference;
+import java.util.stream.IntStream;
 
 /**
  * Records the calls that threads make of a single-writer board, and writes them as a history for {@code snapjudge check}.
@@ -50,8 +52,8 @@ import java.util.concurrent.atomic.AtomicReference;
  * order can hide.
  */
 public final class SnapRecorder {
-    /** How many events a history may have; a call has two, its begin and its end. */
-    public static final int EVENT_LIMIT = 65536;
+    /** How many events a history may have; a call has two. More than 65536 the judge takes by --events N. */
+    public static final int EVENT_LIMIT = 1048576;
     public static final int COMPONENT_LIMIT = 256;
     /** A thread is one process. */
     public static final int PROCESS_LIMIT = 65536;
@@ -73,6 +75,16 @@ public final class SnapRecorder {
 
         Fault(String sentence) {
             this.sentence = sentence;
+        }
+    }
+
+    /** How many views of a history ended, and how many of these overlapped an update: both calls were open at one moment. */
+    public static final class Views {
+        public final int ended, overlapping;
+
+        private Views(int ended, int overlapping) {
+            this.ended = ended;
+            this.overlapping = overlapping;
         }
     }
 
@@ -306,6 +318,36 @@ public final class SnapRecorder {
         StringBuilder text = new StringBuilder("at,event,process,op,data\n");
         for (Log log : logs) for (int i = 0; i < log.length; i++) write(text, updates, places, log, i);
         return text.toString();
+    }
+
+    /**
+     * Counts the views, after the threads were joined. A run in which none overlapped an update says nothing of calls at the same
+     * time.
+     */
+    public Views views() {
+        long[] begun = stampsOf(BEGIN_UPDATE), ended = stampsOf(END_UPDATE);
+        int views = 0, overlapping = 0;
+        for (Log log : logs)
+            for (int i = 1; i < log.length; i++) { // the event before an end is the begin of its call
+                if (log.kinds[i] != END_VIEW && log.kinds[i] != END_VIEW_VALUES) continue;
+                views++;
+                // more updates began before its end than ended before its begin
+                if (below(begun, log.stamps[i]) > below(ended, log.stamps[i - 1])) overlapping++;
+            }
+        return new Views(views, overlapping);
+    }
+
+    /** The stamps of all events of this kind, rising. */
+    private long[] stampsOf(int kind) {
+        return Arrays.stream(logs)
+            .flatMapToLong(log -> IntStream.range(0, log.length).filter(i -> log.kinds[i] == kind).mapToLong(i -> log.stamps[i]))
+            .sorted()
+            .toArray();
+    }
+
+    /** How many of these rising stamps are below another one, which is none of them. */
+    private static int below(long[] stamps, long stamp) {
+        return -1 - Arrays.binarySearch(stamps, stamp);
     }
 
     /**

@@ -90,7 +90,7 @@ def main():
         if status not in range(4):
             raise SystemExit(f"{program} does not judge")
         found[status] += 1
-    print(f"{way}: atomic {found[0]}, regular {found[1]}, neither {found[2]}, refused {found[3]}")
+    print(f"{way}: atomic {found[0]}, only-regular {found[1]}, not-regular {found[2]}, refused {found[3]}")
 
 
 main()

@@ -1,17 +1,23 @@
 """Puts the logs of several processes together as one history for `snapjudge check`.
 
-    python3 merge_logs.py [--error NS] [--initial VALUE[,VALUE..]] [--part K[,K..]] [--table FILE] [--events N] LOG.. > history.csv
+    python3 merge_logs.py [--error NS] [--initial VALUE[,VALUE..]] [--part K[,K..]] [--table FILE] [--versions] [--events N] LOG..
 
 One file, Python 3.8 or later, no dependencies: copy it into a harness. docs/RECORDING.md of snapjudge has the form of a log.
+The history goes to standard output.
 
     --error NS       how far the clock of a host may be from the true time, in nanoseconds: 0 where all processes read one clock
     --initial VALUE  the value that each component has at first, 0 where it is not given; or those of components 0, 1 and so on
     --part K,..      takes these components alone, and the views that list each of them
     --table FILE     values may be any words, and FILE then has the number that stands for each: lines NUMBER,WORD
+    --versions       the store numbers the updates of a component: ends of updates and entries of views have these versions
     --events N       how many events the history may have, 65536 where it is not given; `snapjudge check` then needs the same
 
-The status is 0 where the history was written, and 3 where the logs are none: standard error then has the log, the line, a word
-and a sentence. It is 4 where reading or writing failed, and 5 where the words of the command line were not taken.
+Where several processes update a component, its updates get a process of their own, and standard error says so. It also says which
+updates were left out or cut short.
+
+The status is 0 where the history was written. It is 1 where the versions contradict time, so that the run is not atomic, and no
+history was written. It is 3 where the logs are not a history: standard error then has the log, the line, a word and a sentence. It
+is 4 where reading or writing failed, and 5 where the words of the command line were not taken.
 
 SPDX-License-Identifier: 0BSD
 Copyright (C) 2026 by the authors of snapjudge
@@ -43,6 +49,8 @@ FAULTS = {
     "op": "the field op is update or view",
     "data": "the begin of an update has COMPONENT:VALUE, the end of a view has such entries, components rising, and other lines "
     "have nothing; a component is at most 255, and a value has 32 bits, or with --table is a word",
+    "version": "with --versions the end of an update has its VERSION or nothing, and an entry of a view is COMPONENT:VERSION:VALUE or "
+    "COMPONENT::VALUE; a version is a number of at most 64 bits, and each line says the same one of an update",
     "another": "a log has one process, and this line names another",
     "back": "the clock went back: the line before has a later reading",
     "busy": "a call begins, and the last one has not ended: one whose fate is unknown is the last of its process",
@@ -50,34 +58,54 @@ FAULTS = {
     "otherop": "a call ends, and the open one is of the other kind",
     "close": "a call begins too soon after the last one: more than twice the clocks' error has to lie between them",
     "twice": "another log has this process",
-    "writer": "another process has updated this component",
+    "overlap": "two updates of one component overlap, with --versions also where they are cut to what their order allows",
+    "unversioned": "no line tells the version of this update",
+    "versions": "two updates of one component have this version",
     "same": "a component gets one value twice, or the one that it has at first: make its values differ",
     "initial": "--initial has no value for this component",
     "part": "the view does not list each component: choose a part by --part",
+    "process-limit": "there is no number left for a process that has the updates of a component",
     "toomany": f"the logs have more events than --events allows, or than {EVENT_LIMIT} where it is not given",
     "span": "the readings lie too far apart for a stamp of 64 bits",
 }
 
 
 class LogError(Exception):
-    """Why the logs are no history: `word` names what is wrong, and `place` is a log and a line, or empty."""
+    """Why the logs are not a history: `word` names what is wrong, and `place` is a log and a line, or empty; `other` is where the
+    other call stands that is part of it.
+    """
 
-    def __init__(self, word, *place):
-        super().__init__(":".join(map(str, place)) + ": " * bool(place) + f"{word}: {FAULTS[word]}")
+    def __init__(self, word, *place, other=None):
+        where = ":".join(map(str, place)) + ": " * bool(place)
+        super().__init__(f"{where}{word}: {FAULTS[word]}" + (f": the other one is {other.log}:{other.line}" if other else ""))
         self.word, self.place = word, place
+
+
+class Contradiction(Exception):
+    """The versions contradict time: of two updates of one component the one with the lower version began after the other had ended.
+    No order of the calls keeps both, so the run is not atomic.
+    """
+
+    def __init__(self, lower, higher):
+        super().__init__(
+            f"{lower.log}:{lower.line} and {higher.log}:{higher.line}: not atomic: the first update has the lower version, and it began "
+            "after the second had ended"
+        )
 
 
 class Placed:
     """What stands in a line of a log."""
 
-    def require(self, holds, word):
+    def require(self, holds, word, other=None):
         if not holds:
-            raise LogError(word, self.log, self.line)
+            raise LogError(word, self.log, self.line, other=other)
 
 
 @dataclasses.dataclass
 class Call(Placed):
-    """A call without an end is pending. `shown` has, by components, what an update writes or a view shows; None is a first value."""
+    """A call without an end is pending. `shown` has, by components, what an update writes or a view shows; None is a first value.
+    `versions` has, by components, the versions that its lines tell.
+    """
 
     log: str
     line: int
@@ -86,6 +114,15 @@ class Call(Placed):
     begun: int
     shown: dict
     ended: "int | None" = None
+    versions: dict = dataclasses.field(default_factory=dict)
+
+    def component(self):
+        """The component of an update."""
+        return next(iter(self.shown))
+
+    def value(self):
+        """What an update writes."""
+        return next(iter(self.shown.values()))
 
 
 def number_below(limit, word):
@@ -97,8 +134,8 @@ def number_below(limit, word):
 class Reader(Placed):
     """Takes the lines of one log, and has its calls in their order."""
 
-    def __init__(self, log, error, has_words):
-        self.log, self.error, self.has_words = log, error, has_words
+    def __init__(self, log, error, has_words, has_versions):
+        self.log, self.error, self.has_words, self.has_versions = log, error, has_words, has_versions
         self.calls, self.open, self.line = [], None, 1
         self.process = self.reading = self.left = None  # left: the reading at the end of the last call
 
@@ -112,32 +149,46 @@ class Reader(Placed):
         self.require(event in ("begin", "end", "drop"), "event")
         self.require(process is not None, "process")
         self.require(op in ("update", "view"), "op")
-        shown = self.shown(event, op, data)
+        shown, versions = self.data(event, op, data)
         self.require(self.process in (None, process), "another")
         self.require(self.reading is None or self.reading <= reading, "back")
         self.process, self.reading = process, reading
         if event == "begin":
             self.begin(reading, op, shown)
         else:
-            self.leave(reading, event, op, shown)
+            self.leave(reading, event, op, shown, versions)
 
-    def shown(self, event, op, data):
-        """The entries that stand in the field data."""
+    def data(self, event, op, data):
+        """The values that stand in the field data, and the versions, each by components."""
+        if self.has_versions and (event, op) == ("end", "update"):
+            # which component that is of, the begin of the call has told
+            return {}, {None: self.version(data)} if data else {}
         if (event, op) not in HAVE_DATA:
             self.require(data == "", "data")
-            return {}
-        entries = [self.entry(word) for word in data.split(" ")] if data else []
-        components = [component for component, _ in entries]
+            return {}, {}
+        entries = [self.entry(word, self.has_versions and op == "view") for word in data.split(" ")] if data else []
+        components = [component for component, _, _ in entries]
         self.require(all(low < high for low, high in zip(components, components[1:])), "data")
-        self.require(op == "view" or len(entries) == 1 and entries[0][1] is not None, "data")
-        return dict(entries)
+        self.require(op == "view" or len(entries) == 1 and entries[0][2] is not None, "data")
+        shown = {component: value for component, _, value in entries}
+        return shown, {component: version for component, version, _ in entries if version is not None}
 
-    def entry(self, word):
+    def entry(self, word, has_version):
+        """The component, the version or None, and the value of an entry. An entry with a first value needs no version."""
         component, colon, value = word.partition(":")
-        component = number_below(COMPONENT_LIMIT, component)
-        is_value = self.has_words or value == "" or number_below(1 << 32, value) is not None
-        self.require(component is not None and colon and is_value, "data")
-        return component, value or None
+        component, version = number_below(COMPONENT_LIMIT, component), None
+        self.require(component is not None and colon, "data")
+        if has_version and value:
+            word, colon, value = value.partition(":")
+            self.require(colon, "version")
+            version = self.version(word) if word else None
+        self.require(self.has_words or value == "" or number_below(1 << 32, value) is not None, "data")
+        return component, version, value or None
+
+    def version(self, word):
+        version = number_below(1 << 64, word)
+        self.require(version is not None, "version")
+        return version
 
     def begin(self, reading, op, shown):
         self.require(self.open is None, "busy")
@@ -145,7 +196,7 @@ class Reader(Placed):
         self.open = Call(self.log, self.line, self.process, op, reading - self.error, shown)
         self.calls.append(self.open)
 
-    def leave(self, reading, event, op, shown):
+    def leave(self, reading, event, op, shown, versions):
         self.require(self.open is not None, "idle")
         self.require(self.open.op == op, "otherop")
         if event == "drop":
@@ -153,41 +204,144 @@ class Reader(Placed):
         else:
             self.left, self.open.ended = reading, reading + self.error
             if op == "view":
-                self.open.line, self.open.shown = self.line, shown
+                self.open.line, self.open.shown, self.open.versions = self.line, shown, versions
+            elif versions:
+                self.open.versions = {self.open.component(): versions[None]}
         self.open = None
 
 
-def read_log(log, text, error=0, has_words=False):
+def read_log(log, text, error=0, has_words=False, has_versions=False):
     """The calls of a log, and whether its last line has no end: that one is left out, since a process that is killed cuts it."""
     *lines, rest = text.split("\n")
     if lines and lines[0] != HEADER:
         raise LogError("header", log, 1)
-    reader = Reader(log, error, has_words)
+    reader = Reader(log, error, has_words, has_versions)
     for line in lines[1:]:
         reader.take(line)
     return reader.calls, rest != ""
 
 
-class Board:
-    """The updates of each component, numbered from 1 on."""
+class Component:
+    """The updates of one component, as the history has them: `updates` are in the order of their numbers, and none overlaps the next.
 
-    def __init__(self, calls, initials):
-        self.initials, self.writers, self.begun, self.numbers = initials, {}, {}, {}
-        for call in calls:
-            if call.op == "update":
-                self.add(call)
+    Without versions their begins tell that order. With them the versions do, and each update is cut to the times that the order
+    allows it: it stands after the begin of each update with a lower version, and before the end of each with a higher one. Then the
+    same orders of all calls explain the run. An update without an end that no view shows may be left out. One that a view shows took
+    effect before the end of that view.
+    """
+
+    def __init__(self, component, updates, first_shown, has_versions):
+        self.component, self.first_shown, self.has_versions = component, first_shown, has_versions
+        self.updates = sorted(updates, key=lambda update: update.begun)
+        kept = [update for update in self.updates if not self.may_go(update)]
+        self.left_out = len(updates) - len(kept)
+        self.writers = sorted({update.process for update in kept})
+        if has_versions:
+            for update in kept:
+                update.require(component in update.versions, "unversioned")
+            kept.sort(key=lambda update: update.versions[component])
+            for update, later in zip(kept, kept[1:]):
+                later.require(update.versions[component] != later.versions[component], "versions", update)
+        self.updates = self.cut([self.ended(update, update is kept[-1]) for update in kept])
+        self.cut_short = sum(after != before for after, before in zip(self.updates, kept))
+        for update, later in zip(self.updates, self.updates[1:]):
+            later.require(update.ended is not None and update.ended < later.begun, "overlap", update)
+
+    def may_go(self, update):
+        """Whether the update has no end and no view shows it; without versions the last one of the component stays pending."""
+        is_unknown = update.ended is None and (self.component, update.value()) not in self.first_shown
+        return is_unknown and (self.has_versions or update is not self.updates[-1])
+
+    def ended(self, update, is_last):
+        """The update with an end, where it has none and others come after it."""
+        view = self.first_shown.get((self.component, update.value()))
+        if update.ended is not None or is_last or view is None or view.ended < update.begun:
+            return update
+        return dataclasses.replace(update, ended=view.ended)
+
+    def cut(self, updates):
+        """The updates, each cut to what the order of their versions allows."""
+        if not self.has_versions:
+            return updates
+        begins, ends = [], []
+        for update in updates:
+            begins.append(max([update, *begins[-1:]], key=lambda it: it.begun))
+        for update in reversed(updates):
+            ends.append(min([update, *ends[-1:]], key=lambda it: (it.ended is None, it.ended)))
+        cut = []
+        for update, begun, ended in zip(updates, begins, reversed(ends)):
+            if ended.ended is not None and ended.ended < begun.begun:
+                raise Contradiction(begun, ended)
+            cut.append(dataclasses.replace(update, begun=begun.begun, ended=ended.ended))
+        return cut
+
+    def told(self, process):
+        """What was done to the updates, a line each; the process is the one that they got."""
+        if process is not None:
+            writers = " and ".join(map(str, self.writers))
+            yield f"component {self.component}: processes {writers} update it; in the history its updates have process {process}"
+        if self.left_out:
+            yield f"component {self.component}: updates without an end that no view shows, left out: {self.left_out}"
+        if self.cut_short:
+            yield f"component {self.component}: updates cut short: {self.cut_short}; atomic stays as it is, regular may become stricter"
+
+
+class Board:
+    """All calls, as the history has them, and the updates of each component, numbered from 1 on."""
+
+    def __init__(self, calls, initials, has_versions=False):
+        self.initials, self.numbers, self.begun, self.told = initials, {}, {}, []
+        views = sorted((call for call in calls if call.op == "view" and call.ended is not None), key=lambda view: view.ended)
+        written = self.written(call for call in calls if call.op == "update")
+        if has_versions:
+            self.tell_versions(written, views)
+        first_shown, updates = {}, {}
+        for view in views:
+            for entry in view.shown.items():
+                first_shown.setdefault(entry, view)
+        for (k, _), update in written.items():
+            updates.setdefault(k, []).append(update)
+        free = self.free_processes(calls)
+        self.calls = [call for call in calls if call.op == "view"]
+        for k in sorted(updates):
+            component = Component(k, updates[k], first_shown, has_versions)
+            process = None
+            if len(component.writers) > 1:
+                process = next(free, None)
+                component.updates[0].require(process is not None, "process-limit")
+            self.told += component.told(process)
+            for number, update in enumerate(component.updates, 1):
+                self.numbers[k, update.value()] = number
+                self.calls.append(update if process is None else dataclasses.replace(update, process=process))
+            self.begun[k] = [update.begun for update in component.updates]
+
+    def written(self, updates):
+        """The updates by components and values: each value is written once."""
+        written = {}
+        for update in updates:
+            component, value = update.component(), update.value()
+            update.require((component, value) not in written and value != self.initial_of(update, component), "same")
+            written[component, value] = update
+        return written
+
+    def tell_versions(self, written, views):
+        """Gives the updates the versions that views show of them."""
+        for view in views:
+            for component, version in view.versions.items():
+                update = written.get((component, view.shown[component]))
+                if update is not None:
+                    view.require(update.versions.setdefault(component, version) == version, "version", update)
+
+    @staticmethod
+    def free_processes(calls):
+        """The numbers of processes that no log has, those above all others first."""
+        taken = {call.process for call in calls}
+        above = max(taken, default=-1) + 1
+        return (process for process in [*range(above, PROCESS_LIMIT), *range(above)] if process not in taken)
 
     def initial_of(self, call, component):
         call.require(len(self.initials) == 1 or component < len(self.initials), "initial")
         return self.initials[0 if len(self.initials) == 1 else component]
-
-    def add(self, call):
-        ((component, value),) = call.shown.items()
-        call.require(self.writers.setdefault(component, call.process) == call.process, "writer")
-        call.require((component, value) not in self.numbers and value != self.initial_of(call, component), "same")
-        begun = self.begun.setdefault(component, [])
-        begun.append(call.begun)
-        self.numbers[component, value] = len(begun)
 
     def number(self, call, component, value):
         """The number of an entry of a view. A value that nobody wrote gets the last number that had begun when the view ended: the
@@ -216,9 +370,11 @@ def chosen(calls, part):
         return calls
     updates = [call for call in calls if call.op == "update" and part.issuperset(call.shown)]
     views = [call for call in calls if call.op == "view" and part.issubset(call.shown)]  # a pending one shows nothing
-    for view in views:
-        view.shown = {component: value for component, value in view.shown.items() if component in part}
-    return updates + views
+
+    def within(entries):
+        return {component: entry for component, entry in entries.items() if component in part}
+
+    return updates + [dataclasses.replace(view, shown=within(view.shown), versions=within(view.versions)) for view in views]
 
 
 def stamped(calls, limit):
@@ -239,27 +395,27 @@ def stamped(calls, limit):
     return events
 
 
-def merge(calls, initials=("0",), part=None, has_words=False, limit=EVENT_LIMIT):
-    """The history of the calls of all logs, and its table of words."""
-    calls = chosen(calls, part)
-    board, lines, table = Board(calls, initials), ["at,event,process,op,data"], {}
+def merge(calls, initials=("0",), part=None, has_words=False, limit=EVENT_LIMIT, has_versions=False):
+    """The history of the calls of all logs, its table of words, and what is to be told of it."""
+    board = Board(chosen(calls, part), initials, has_versions)
+    lines, table = ["at,event,process,op,data"], {}
 
     def spelled(value):
         return table.setdefault(value, len(table)) if has_words else value
 
-    for stamp, event, call in stamped(calls, limit):
+    for stamp, event, call in stamped(board.calls, limit):
         entries = board.entries(call) if (event, call.op) in HAVE_DATA else []
         data = " ".join(f"{component}:{number}:{spelled(value)}" for component, number, value in entries)
         lines.append(f"{stamp},{event},{call.process},{call.op},{data}")
-    return "\n".join(lines) + "\n", table
+    return "\n".join(lines) + "\n", table, board.told
 
 
-def read_logs(names, error=0, has_words=False):
+def read_logs(names, error=0, has_words=False, has_versions=False):
     """The calls of all logs. What is left out of one is told on standard error."""
     logs = {}
     for name in names:
         with open(name, encoding="utf-8-sig", errors="surrogateescape") as file:
-            calls, is_cut = read_log(name, file.read(), error, has_words)
+            calls, is_cut = read_log(name, file.read(), error, has_words, has_versions)
         if is_cut:
             print(f"{name}: the last line has no end, and is left out", file=sys.stderr)
         if calls:
@@ -278,19 +434,19 @@ def words_of_command():
     def count(word):
         number = number_below(1 << 64, word)
         if number is None:
-            raise argparse.ArgumentTypeError(f"{word} is no number of nanoseconds")
+            raise argparse.ArgumentTypeError(f"{word} is not a number of nanoseconds")
         return number
 
     def events(word):
         number = number_below(MOST_EVENTS + 1, word)
         if not number:
-            raise argparse.ArgumentTypeError(f"{word} is no number from 1 to {MOST_EVENTS}")
+            raise argparse.ArgumentTypeError(f"{word} is not a number from 1 to {MOST_EVENTS}")
         return number
 
     def components(word):
         numbers = [number_below(COMPONENT_LIMIT, part) for part in word.split(",")]
         if None in numbers:
-            raise argparse.ArgumentTypeError(f"{word} is no list of components")
+            raise argparse.ArgumentTypeError(f"{word} is not a list of components")
         return set(numbers)
 
     parser = Parser(description="Puts the logs of several processes together as one history.")
@@ -302,6 +458,8 @@ def words_of_command():
     option("--initial", "VALUE[,VALUE..]", told, type=lambda word: word.split(","), default=["0"])
     option("--part", "K[,K..]", "takes these components alone, and the views that list each of them", type=components)
     option("--table", "FILE", "values may be any words; FILE then has the number for each, in lines NUMBER,WORD")
+    told = "the store numbers the updates of a component: ends of updates and entries of views have these versions"
+    parser.add_argument("--versions", help=told, action="store_true")
     option("--events", "N", f"how many events the history may have, {EVENT_LIMIT} if not said", type=events, default=EVENT_LIMIT)
     option("logs", "LOG", "the log of one process", nargs="+")
     words = parser.parse_args()
@@ -314,7 +472,10 @@ def main():
     words = words_of_command()
     has_words = words.table is not None
     try:
-        history, table = merge(read_logs(words.logs, words.error, has_words), words.initial, words.part, has_words, words.events)
+        calls = read_logs(words.logs, words.error, has_words, words.versions)
+        history, table, told = merge(calls, words.initial, words.part, has_words, words.events, words.versions)
+        for line in told:
+            print(line, file=sys.stderr)
         if has_words:
             with open(words.table, "w", encoding="utf-8", errors="surrogateescape") as file:
                 file.writelines(f"{number},{word}\n" for word, number in table.items())
@@ -322,6 +483,9 @@ def main():
             raise OSError("standard output is closed")
         sys.stdout.write(history)
         sys.stdout.flush()
+    except Contradiction as found:
+        print(found, file=sys.stderr)
+        return 1
     except LogError as error:
         print(error, file=sys.stderr)
         return 3

@@ -36,6 +36,7 @@ class Misuse(unittest.TestCase):
         self.assertTrue(viewer.begin_view())
         viewer.drop_view()
         view(viewer, 99, 0)  # nobody wrote 99
+        self.assertEqual(recorder.views(), (3, 1))
         with open(os.path.join(HERE, "..", "worked.csv")) as file:
             self.assertEqual(recorder.text(), file.read())
 
@@ -53,6 +54,7 @@ class Misuse(unittest.TestCase):
         view(spare, 7, 8)
         with open(os.path.join(HERE, "..", "failed.csv")) as file:
             self.assertEqual(recorder.text(), file.read())
+        self.assertEqual(recorder.views(), (4, 3))
 
     def test_dropped_update_that_was_seen(self):
         recorder = Recorder(2, 1, 2)
@@ -100,7 +102,8 @@ class Misuse(unittest.TestCase):
             with self.assertRaises(RecordError) as raised:
                 Recorder(*words)
             self.assertIs(raised.exception.fault, Fault.LIMITS)
-        Recorder(2, 256, EVENT_LIMIT // 4)
+        Recorder(2, 256, 100)
+        Recorder(16, 1, EVENT_LIMIT // 32)
 
     def test_log_that_there_is_not(self):
         for thread in (-1, 2, "0", True):
@@ -202,6 +205,30 @@ class Misuse(unittest.TestCase):
             recorder = Recorder(1, 2, 4)
             view(recorder.log(0), *values)
             self.assertFault(fault, recorder)
+
+    def test_no_call_raises(self):
+        class Odd:
+            def __hash__(self):
+                raise RuntimeError("no hash")
+
+        def broken():
+            yield 1
+            raise RuntimeError("no value")
+
+        ends = [lambda log, it=it: log.end_view_values(it) for it in (None, 5, [Odd()], broken())]
+        ends += [lambda log, it=it: log.end_view(it) for it in (None, 5, [(0, 1)], [5], [None], [(0, 1, Odd())], broken())]
+        for end in ends:
+            recorder = Recorder(1, 1, 4)
+            self.assertTrue(recorder.log(0).begin_view())
+            end(recorder.log(0))
+            self.assertFault(Fault.VALUE, recorder)
+        recorder = Recorder(1, 1, 4)
+        self.assertEqual(recorder.log(0).begin_update(0, Odd()), 0)
+        self.assertFault(Fault.VALUE, recorder)
+        for component in (None, "0", [0], Odd()):
+            recorder = Recorder(1, 1, 4)
+            self.assertEqual(recorder.log(0).begin_update(component, 1), 0)
+            self.assertFault(Fault.COMPONENT, recorder)
 
     def test_initial_values(self):
         for initials in ([4], [4, 5, 6]):

@@ -209,6 +209,65 @@ class Logs(unittest.TestCase):
     def test_logs_of_nothing(self):
         self.assertEqual(self.merged([b"", log_of(), b""]), f"{STAMPED}\n")
 
+    # ---- several writers of a component
+
+    def test_two_writers(self):
+        """Their updates do not overlap, and get a process of their own. The second update is the one that the view shows."""
+        logs = [log_of(*update(0, 1, 2, "5:1")), log_of(*view(1, 1, 2, "5:1"), *update(1, 8, 9, "5:2"), *view(1, 10, 11, "5:2"))]
+        status, history, told = self.merge(logs)
+        self.assertEqual(told, "component 5: processes 0 and 1 update it; in the history its updates have process 2\n")
+        updates = "1,begin,2,update,5:1:1", "7,end,2,update,", "29,begin,2,update,5:2:2", "35,end,2,update,"
+        views = "0,begin,1,view,", "6,end,1,view,5:1:1", "36,begin,1,view,", "42,end,1,view,5:2:2"
+        lines = sorted(updates + views, key=lambda line: int(line.split(",")[0]))
+        self.assertEqual((status, history.splitlines()), (0, [STAMPED, *lines]))
+        self.assertEqual(judge(history, "--quiet")[0], 0)
+
+    def test_no_process_is_left(self):
+        calls = [call for process in range(65536) for call in read_log("0.log", log_of(f"{3 * process + 1},begin,{process},view,").decode())[0]]
+        for process in (0, 1):
+            calls += read_log(f"{process}.log", log_of(*update(process, 3 * process + 1, 3 * process + 2, f"5:{process + 1}")).decode())[0]
+        with self.assertRaises(LogError) as raised:
+            merge(calls, limit=1 << 20)
+        self.assertEqual(raised.exception.word, "process-limit")
+
+    def test_unknown_updates_of_several_writers(self):
+        """An update without an end that no view shows goes; one that a view shows ends with that view, if another update follows."""
+        unknown, other = "1,begin,0,update,5:1", log_of(*update(1, 7, 9, "5:2"))
+        gone = self.merge([log_of(unknown), other, log_of(*view(2, 4, 6, "5:0"))])
+        self.assertEqual(gone[2], "component 5: updates without an end that no view shows, left out: 1\n")
+        self.assertNotIn("5:1:1", gone[1])
+        shown = self.merge([log_of(unknown), other, log_of(*view(2, 4, 6, "5:1"))])
+        told = "component 5: updates cut short: 1; atomic stays as it is, regular may become stricter"
+        self.assertEqual(shown[2].splitlines()[1:], [told])
+        self.assertIn(",end,2,view,5:1:1\n", shown[1])
+        self.assertEqual(judge(shown[1], "--quiet")[0], 0)
+        self.assertRefused("1.log:2: ", "overlap", [log_of(unknown), other, log_of(*view(2, 4, 7, "5:1"))])
+
+    def test_versions(self):
+        """The versions tell the order, and each update is cut to the times that it allows. The first one is shown before it ends."""
+        first = log_of("1,begin,0,update,5:1", "9,end,0,update,7")
+        second = log_of("2,begin,1,update,5:2", "12,end,1,update,8")
+        self.assertRefused("1.log:2: ", "overlap", [first, second, log_of(*view(2, 4, 8, "5:7:1"))], "--versions")
+        later = log_of("10,begin,1,update,5:2", "12,end,1,update,8")
+        history = self.merged([first, later, log_of(*view(2, 4, 8, "5:7:1"))][:1], "--versions")
+        self.assertEqual(history, f"{STAMPED}\n0,begin,0,update,5:1:1\n17,end,0,update,\n")
+        status, history, told = self.merge([first, later, log_of(*view(2, 4, 13, "5::2"))], "--versions")
+        self.assertEqual((status, told), (0, "component 5: processes 0 and 1 update it; in the history its updates have process 3\n"))
+        self.assertEqual(judge(history, "--quiet")[0], 0)
+
+    def test_cut_by_versions(self):
+        """An update without an end ends before one of a higher version does, and then overlaps it no more."""
+        unknown, view_of_it = log_of("1,begin,0,update,5:1"), log_of(*view(2, 2, 3, "5:7:1"), *view(2, 11, 12, "5:8:2"))
+        logs = [unknown, log_of("4,begin,1,update,5:2", "10,end,1,update,8"), view_of_it]
+        status, history, told = self.merge(logs, "--versions")
+        self.assertEqual((status, told.count("cut short: 1")), (0, 1))
+        self.assertEqual(judge(history, "--quiet")[0], 0)
+
+    def test_versions_against_time(self):
+        logs = [log_of("1,begin,0,update,5:1", "2,end,0,update,8"), log_of("3,begin,1,update,5:2", "4,end,1,update,7")]
+        told = "1.log:2 and 0.log:2: not atomic: the first update has the lower version, and it began after the second had ended\n"
+        self.assertEqual(self.merge(logs, "--versions"), (1, "", told))
+
     # ---- what is wrong
 
     def test_header(self):
@@ -270,8 +329,23 @@ class Logs(unittest.TestCase):
     def test_two_logs_of_one_process(self):
         self.assertRefused("2.log:2: ", "twice", [log_of(*view(3, 1, 2, "")), log_of(), log_of(*view(3, 8, 9, ""))])
 
-    def test_two_writers(self):
-        self.assertRefused("1.log:4: ", "writer", [log_of(*update(0, 1, 2, "5:1")), log_of(*view(1, 1, 2, "5:1"), *update(1, 8, 9, "5:2"))])
+    def test_updates_that_overlap(self):
+        logs = [log_of(*update(0, 1, 8, "5:1")), log_of(*view(1, 1, 2, "5:1"), *update(1, 8, 9, "5:2"))]
+        self.assertRefused("1.log:4: ", "overlap", logs)
+        self.assertTrue(self.merge(logs)[2].endswith(": the other one is 0.log:2\n"))
+        versions = [log_of("1,begin,0,update,5:1", "8,end,0,update,1"), log_of("7,begin,1,update,5:2", "9,end,1,update,2")]
+        self.assertRefused("1.log:2: ", "overlap", versions, "--versions")
+
+    def test_versions_that_are_wrong(self):
+        first = log_of("1,begin,0,update,5:1", "2,end,0,update,4")
+        self.assertRefused("0.log:3: ", "version", [log_of("1,begin,0,update,5:1", "2,end,0,update,x")], "--versions")
+        self.assertRefused("0.log:3: ", "data", [first])
+        self.assertRefused("1.log:3: ", "version", [first, log_of(*view(1, 3, 4, "5:5:1"))], "--versions")
+        self.assertRefused("1.log:3: ", "version", [first, log_of(*view(1, 3, 4, "5:1"))], "--versions")
+        self.assertRefused("1.log:2: ", "versions", [first, log_of("3,begin,1,update,5:2", "4,end,1,update,4")], "--versions")
+        self.assertRefused("1.log:2: ", "unversioned", [first, log_of(*update(1, 3, 4, "5:2"))], "--versions")
+        unknown = [first, log_of("1,begin,1,update,5:2"), log_of(*view(2, 3, 4, "5::2"))]
+        self.assertRefused("1.log:2: ", "unversioned", unknown, "--versions")
 
     def test_value_written_twice(self):
         self.assertRefused("0.log:4: ", "same", [log_of(*update(0, 1, 2, "0:7"), *update(0, 3, 4, "0:7"))])

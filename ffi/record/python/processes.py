@@ -68,7 +68,7 @@ def work(board, process, start):
             log("end", "view", " ".join(f"{k}:{value}" for k, value in enumerate(values)))
 
 
-# ---- one run, and its status: 0 atomic, 1 regular, 2 neither, 3 refused
+# ---- one run, and its status: 0 atomic, 1 only regular, 2 not regular, 3 refused
 
 
 def run(program, has_lock):
@@ -80,7 +80,7 @@ def run(program, has_lock):
         process.join()
     if any(process.exitcode for process in processes):
         raise SystemExit("a process died")
-    history, _ = merge(read_logs([f"{process}.log" for process in range(PROCESSES)]))
+    history, _, _ = merge(read_logs([f"{process}.log" for process in range(PROCESSES)]))
     status = subprocess.run([program, "check"], input=history.encode(), stdout=subprocess.DEVNULL).returncode
     if status not in range(4):
         raise SystemExit(f"{program} does not judge")
@@ -99,7 +99,7 @@ def main():
         found[run(program, name == "lock")] += 1
     for process in range(PROCESSES):
         os.remove(f"{process}.log")
-    print(f"{name}: atomic {found[0]}, regular {found[1]}, neither {found[2]}, refused {found[3]}")
+    print(f"{name}: atomic {found[0]}, only-regular {found[1]}, not-regular {found[2]}, refused {found[3]}")
 
 
 main()

@@ -24,6 +24,7 @@ CONTRACT, NEGLIGENCE OR OTHER TORTIOUS ACTION, ARISING OUT OF OR IN CONNECTION W
 import ctypes
 import dataclasses
 import os
+import re
 import shutil
 import subprocess
 import sys
@@ -43,20 +44,25 @@ RANGES = {
     "nap": (0, 10**6),
     "stop": (0, 10**9),
     "limit": (1, 10**5),
+    "views": (0, 10**9),
+    "events": (2, EVENT_LIMIT),
 }
 USAGE = """usage: [OBJECT] [OPTION VALUE ..]
   --threads 4      how many threads, at most 64
   --components 4   how many components, at most 64; thread t updates t, t + threads and so on
-  --calls 200      how many calls each thread makes; all threads make at most 32768
+  --calls 200      how many calls each thread makes; all threads make at most half of --events
+  --events 65536   how many events a run may have, at most 1048576; a call has two
   --runs 20        how many runs, each of a fresh object
   --seed 1         what the choice of the calls begins with
   --order choice   each call is chosen by the seed; or turn: updates and a view in turn
   --nap 0          where not 0, pauses and the gaps between calls last up to so many microseconds
   --stop 0         where not 0, ends after so many runs that were not atomic
   --limit 60       how many seconds a run may take
+  --views 1        how many views have to end in all runs together; 0 asks for none
   --out .          the folder for the first run that was not atomic
   --program FILE   the program snapjudge; else SNAPJUDGE_PROGRAM names it, else it is on the PATH
-  --choices        writes the calls that the seed chooses, and runs nothing"""
+  --choices        writes the calls that the seed chooses, and runs nothing
+  --help           writes this"""
 
 
 @dataclasses.dataclass
@@ -69,6 +75,8 @@ class Options:
     nap: int = 0
     stop: int = 0
     limit: int = 60
+    views: int = 1
+    events: int = 65536
     order: str = "choice"
     out: str = "."
     program: str = ""
@@ -78,27 +86,57 @@ class Options:
             value = getattr(self, name)
             if type(value) is not int or not least <= value <= greatest:
                 raise DriveError("limits", f"{name} is a number from {least} to {greatest}")
-        if self.threads * self.calls > EVENT_LIMIT // 2:
-            raise DriveError("limits", f"all threads make at most {EVENT_LIMIT // 2} calls")
+        if self.threads * self.calls > self.events // 2:
+            raise DriveError("limits", f"all threads make at most {self.events // 2} calls")
         if self.order not in ("choice", "turn"):
             raise DriveError("usage", "order is choice or turn")
 
 
 @dataclasses.dataclass
 class Outcome:
-    """How many runs were atomic, only regular, or neither; and which was the first that was not atomic, from 1, or 0."""
+    """How many runs were atomic, only regular, or not regular; and which was the first that was not atomic, from 1, or 0. How many
+    views ended in all runs, how many of these overlapped an update, and how many runs have such a view."""
 
     atomic: int = 0
-    regular: int = 0
-    neither: int = 0
+    only_regular: int = 0
+    not_regular: int = 0
     first: int = 0
+    views: int = 0
+    overlapping: int = 0
+    overlapped: int = 0
+
+    @property
+    def caught(self):
+        return self.only_regular + self.not_regular
+
+    @property
+    def runs(self):
+        return self.atomic + self.caught
+
+    def add(self, views, overlapping):
+        self.views += views
+        self.overlapping += overlapping
+        self.overlapped += overlapping > 0
+
+    def test_looked(self, asked):
+        """Raises where the runs say nothing of the object: all were atomic, and too few views ended, or none overlapped an update."""
+        if self.first or not asked:
+            return
+        if self.views < asked:
+            raise DriveError("few views", f"{self.views} views ended in {self.runs} runs, fewer than {asked}: there is no verdict")
+        if not self.overlapping:
+            none = f"none of {self.views} views overlapped an update in {self.runs} runs"
+            raise DriveError("no overlap", f"{none}: there is no verdict on calls at the same time")
 
     def __str__(self):
-        return f"atomic {self.atomic}, regular {self.regular}, neither {self.neither}"
+        verdicts = f"atomic {self.atomic}, only-regular {self.only_regular}, not-regular {self.not_regular}"
+        overlaps = f"{self.overlapping} of {self.views} views overlapped an update, in {self.overlapped} of {self.runs} runs"
+        return f"{verdicts}; {overlaps}"
 
 
 class DriveError(Exception):
-    """Why runs have no verdict; `name` is usage, limits, view, died, hangs, memory, no judge, no verdict or files."""
+    """Why runs have no verdict; `name` is usage, limits, view, died, hangs, memory, few views, no overlap, no judge, no verdict or
+    files."""
 
     def __init__(self, name, message):
         super().__init__(message)
@@ -211,7 +249,7 @@ def start_all(threads):
 
 
 def record(make, options, schedule):
-    """The history of a fresh object under a schedule."""
+    """The recorder of a fresh object under a schedule."""
     board, recorder = fresh(make, options), Recorder(options.threads, options.components, options.calls)
     start, failed = threading.Barrier(options.threads), []
 
@@ -233,7 +271,7 @@ def record(make, options, schedule):
         raise failed[0]
     if any(thread.is_alive() for thread in threads):
         raise DriveError("hangs", f"a run took more than {options.limit} s: a call of the object does not end")
-    return recorder.text()
+    return recorder
 
 
 # ---- the judge
@@ -242,9 +280,12 @@ def record(make, options, schedule):
 class Judge:
     """The library where it is there, and else the program. SNAPJUDGE_LIBRARY names the library; it is empty for none."""
 
-    def __init__(self, named):
+    def __init__(self, named, events):
+        self.events = events
         named = named or os.environ.get("SNAPJUDGE_PROGRAM") or "snapjudge"
         self.program = shutil.which(named)
+        if self.program and not self._is_judge():
+            raise DriveError("no judge", f"{self.program} is not snapjudge: it tells no version of it")
         folder = os.path.dirname(os.path.realpath(self.program)) if self.program else "."
         library = os.environ.get("SNAPJUDGE_LIBRARY")
         places = [f"{folder}/../lib/libsnapjudge.so", f"{folder}/ffi/build/libsnapjudge.so", "libsnapjudge.so"]
@@ -260,8 +301,16 @@ class Judge:
         except (OSError, AttributeError):
             return None
 
+    def _is_judge(self):
+        """Whether the program says its version. One of another kind may end with 0 whatever it is given, which no verdict is."""
+        try:
+            done = subprocess.run([self.program, "--version"], stdin=subprocess.DEVNULL, stdout=subprocess.PIPE)
+        except OSError:
+            return False
+        return done.returncode == 0 and re.match(b"snapjudge [0-9]", done.stdout) is not None
+
     def status(self, text):
-        """0 for atomic, 1 for regular, 2 for neither."""
+        """0 for atomic, 1 for only regular, 2 for not regular."""
         status = self._by_library(text.encode()) if self.library else self._by_program(text)
         if status not in range(3):
             raise DriveError("no verdict", f"the judge ends with status {status}")
@@ -269,14 +318,17 @@ class Judge:
 
     def _by_library(self, text):
         room, length = ctypes.create_string_buffer(2 * len(text) + 256), ctypes.c_size_t()
-        sized = ctypes.c_size_t(len(text)), room, ctypes.c_size_t(len(room))
-        return self.library.snapjudge_check(text, *sized, ctypes.byref(length))
+        sized = ctypes.c_size_t(len(text)), ctypes.c_uint32(self.events), room, ctypes.c_size_t(len(room))
+        return self.library.snapjudge_check_limit(text, *sized, ctypes.byref(length))
+
+    def _command(self, verb):
+        return [self.program, verb, f"--events={self.events}", *(["--quiet"] if verb == "check" else [])]
 
     def _by_program(self, text):
         with tempfile.TemporaryFile("w+") as file:
             file.write(text)
             file.seek(0)
-            return subprocess.run([self.program, "check", "--quiet"], stdin=file, stdout=subprocess.DEVNULL).returncode
+            return subprocess.run(self._command("check"), stdin=file, stdout=subprocess.DEVNULL).returncode
 
     def keep(self, text, front):
         """Writes a history, its witness and its explanation."""
@@ -288,7 +340,7 @@ class Judge:
                 os.remove(name)  # of an earlier run
             if self.program:
                 with open(history, encoding="ascii") as file, open(name, "wb") as out:
-                    if subprocess.run([self.program, verb], stdin=file, stdout=out).returncode not in range(3):
+                    if subprocess.run(self._command(verb), stdin=file, stdout=out).returncode not in range(3):
                         raise DriveError("files", f"{name} can't be written")
 
 
@@ -307,14 +359,16 @@ def run(make, name="object", **words):
     """Runs fresh objects, and counts the verdicts. Of the first run that is not atomic it keeps NAME-caught.csv, the history,
     NAME-witness.csv, the least of it that is not atomic, and NAME-explained.txt. The words are the options."""
     options = Options(**words)
-    judge, outcome, told = Judge(options.program), Outcome(), time.monotonic()
+    judge, outcome, told = Judge(options.program, options.events), Outcome(), time.monotonic()
     front = os.path.join(options.out, name)
     test_folder(options.out)
     _Naps.longest, _Naps.random = options.nap, splitmix64(options.seed)
     for number, schedule in enumerate(schedules(options), 1):
-        text = record(make, options, schedule)
+        recorder = record(make, options, schedule)
+        text = recorder.text()
+        outcome.add(*recorder.views())
         status = judge.status(text)
-        found = ("atomic", "regular", "neither")[status]
+        found = ("atomic", "only_regular", "not_regular")[status]
         setattr(outcome, found, getattr(outcome, found) + 1)
         if status and not outcome.first:
             outcome.first = number
@@ -323,22 +377,29 @@ def run(make, name="object", **words):
             except OSError as error:
                 raise DriveError("files", f"the first run that was caught can't be written: {error}") from error
             print(f"{name}: run {number} is not atomic: see {front}-caught.csv and the files beside it", file=sys.stderr)
-        ended = number == options.runs or 0 < options.stop == outcome.regular + outcome.neither
+        ended = number == options.runs or 0 < options.stop == outcome.caught
         if ended or time.monotonic() >= told + 1:
             told = time.monotonic()
             print(f"{name}: run {number} of {options.runs}: {outcome}", file=sys.stderr)
         if ended:
-            return outcome
+            break
+    outcome.test_looked(options.views)
+    return outcome
 
 
 def read(words):
     """The options of a command line."""
     found = {}
     for at in range(0, len(words), 2):
-        name, value = words[at][2:] if words[at].startswith("--") else "", (words[at + 1 :] or [""])[0]
-        is_number = value.isascii() and value.isdigit()
-        if name not in Options.__dataclass_fields__ or not value or name in RANGES and not is_number:
-            raise DriveError("usage", f"{words[at]} is no option with its value")
+        word, name, value = words[at], words[at][2:], (words[at + 1 :] or [None])[0]
+        if not word.startswith("--"):
+            raise DriveError("usage", f"{word} is not an option")
+        if name not in Options.__dataclass_fields__:
+            raise DriveError("usage", f"there is no option {word}")
+        if value is None:
+            raise DriveError("usage", f"{word} has no value")
+        if name in RANGES and not (value.isascii() and value.isdigit()):
+            raise DriveError("usage", f"{word}: {value} is not a number")
         found[name] = int(value) if name in RANGES else value
     return found
 
@@ -362,23 +423,35 @@ def tell(lines):
         raise DriveError("files", f"standard output can't be written: {error.strerror or error}") from error
 
 
+def answer(objects, name, words):
+    """Runs what the words ask for, and answers what was found, or nothing where nothing was run."""
+    if "--help" in words or "-h" in words:
+        return tell([usage_of(objects)])
+    if name not in objects:
+        raise DriveError("usage", f"there is no object {name}")
+    if "--choices" in words:
+        words.remove("--choices")
+        return tell(choices(Options(**read(words))))
+    outcome = run(objects[name], name, **read(words))
+    tell([f"{name}: {outcome}"])
+    return outcome
+
+
+def usage_of(objects):
+    return f"{USAGE}\nobjects: {' '.join(objects)}"
+
+
 def main(objects):
     """Runs the object that the command line names, or the first one. It ends with 0 where each run was atomic, 1 where some were
-    only regular, 2 where some were neither, and 4 where there is no verdict."""
+    only regular, 2 where some were not regular, 3 where too little was seen for a verdict, and 4 where there is none for another reason.
+    """
     words = sys.argv[1:]
-    name = words.pop(0) if words and not words[0].startswith("--") else next(iter(objects))
+    name = words.pop(0) if words and not words[0].startswith("-") else next(iter(objects))
     try:
-        if name not in objects:
-            raise DriveError("usage", f"there is no object {name}")
-        if "--choices" in words:
-            words.remove("--choices")
-            tell(choices(Options(**read(words))))
-            sys.exit()
-        outcome = run(objects[name], name, **read(words))
-        tell([f"{name}: {outcome}"])
+        outcome = answer(objects, name, words) or Outcome()
     except (DriveError, RecordError) as error:
         fault = error.name if isinstance(error, DriveError) else error.fault.name.lower().replace("_", " ")
-        usage = f"{USAGE}\n" if fault == "usage" else ""
+        usage = f"{usage_of(objects)}\n" if fault == "usage" else ""
         print(f"{usage}{name}: {fault}: {error}", file=sys.stderr, flush=True)
-        os._exit(4)  # a call that hangs holds up no more
-    sys.exit(2 if outcome.neither else 1 if outcome.regular else 0)
+        os._exit(3 if fault in ("few views", "no overlap") else 4)  # a call that hangs holds up no more
+    sys.exit(2 if outcome.not_regular else 1 if outcome.only_regular else 0)

@@ -20,7 +20,7 @@ A value may be all that a dict takes as a key, but None. In a view None is the v
 
 What the record says: where call A ended before call B began, it was so. Each stamp is one step of one clock; that of a begin is
 taken last in begin_.., that of an end first in end_... A thread appends to its own log alone. There is no lock where the
-interpreter has its global one, and nothing is raised while threads run.
+interpreter has its global one. No call of a log raises, whatever it is given, but where memory is missing: what is wrong is a misuse.
 What it cannot say: the clock orders more calls than the object may, so a fault that needs two calls without such an order can
 hide.
 
@@ -38,7 +38,7 @@ import itertools
 import sys
 import threading
 
-EVENT_LIMIT = 65536  # of a history; a call has two, its begin and its end
+EVENT_LIMIT = 1048576  # of a history; a call has two. More than 65536 the judge takes by --events N
 COMPONENT_LIMIT = 256
 PROCESS_LIMIT = 65536  # a thread is one process
 
@@ -51,7 +51,10 @@ class Fault(enum.Enum):
     NOT_OPEN = "a call ended that had not begun"
     AFTER_FULL = "a call was made although begin had refused it: a log was full"
     COMPONENT = "a component is too high, or the entries of a view do not rise"
-    VALUE = "a number is not a whole number of 32 bits without a sign, or a value is None or can't be a key of a dict"
+    VALUE = (
+        "a number is not a whole number of 32 bits without a sign, a value is None or can't be a key of a dict, or what a view shows is "
+        "no list of them"
+    )
     TWO_WRITERS = "two threads updated one component"
     SAME_VALUE = "views tell values, and a component got one value twice, or its initial one: make them differ, or end views with numbers"
     PART = "a view tells the values of fewer components than there are: record each part by a recorder of its own"
@@ -103,9 +106,25 @@ def _has_32_bits(number):
 def _is_value(value):
     try:
         hash(value)
-    except TypeError:
+    except Exception:  # of a class of the caller, whose hash may raise what it likes
         return False
     return value is not None
+
+
+def _entries(shown):
+    """What a view shows as triples, or None where it is no list of them."""
+    try:
+        return tuple((component, number, value) for component, number, value in shown)
+    except Exception:
+        return None
+
+
+def _numbered(values):
+    """The values of components 0, 1 and so on as triples without numbers, or None where they are no list."""
+    try:
+        return tuple((component, 0, value) for component, value in enumerate(values))
+    except Exception:
+        return None
 
 
 class Log:
@@ -175,7 +194,7 @@ class Log:
 
     def end_view(self, entries):
         """The end of a view that shows these (component, number, value), components rising. Number 0, or no entry, is the initial state."""
-        self._end_view(self._tick(), _Kind.END_VIEW, tuple(entries))
+        self._end_view(self._tick(), _Kind.END_VIEW, _entries(entries))
 
     def end_view_values(self, values):
         """The end of a view that shows these values, of each component from 0 on; None is the one that it has at first.
@@ -184,10 +203,13 @@ class Log:
         each other and from the one that it has at first.
         """
         stamp = self._tick()
-        self._end_view(stamp, _Kind.END_VIEW_VALUES, tuple((k, 0, value) for k, value in enumerate(values)))
+        self._end_view(stamp, _Kind.END_VIEW_VALUES, _numbered(values))
 
     def _end_view(self, stamp, kind, data):
         if not self._may_end(_State.VIEWING):
+            return
+        if data is None:
+            self._misused(Fault.VALUE)
             return
         components = [component for component, _, _ in data]
         if not all(map(self._is_component, components)) or any(low >= high for low, high in zip(components, components[1:])):
@@ -272,6 +294,21 @@ class Recorder:
         for front, data in records:
             lines.append(front + " ".join(f"{component}:{number}:{places.get(value, value)}" for component, number, value in data))
         return "\n".join(lines) + "\n"
+
+    def views(self):
+        """How many views of the history ended, and how many of these overlapped an update: both calls were open at one moment.
+
+        A run in which none did says nothing of calls at the same time. It is counted after the threads were joined.
+        """
+        events = [event for log in self.logs for event in log.events]
+        begun = sorted(stamp for stamp, kind, _ in events if kind is _Kind.BEGIN_UPDATE)
+        ended = sorted(stamp for stamp, kind, _ in events if kind is _Kind.END_UPDATE)
+        # the event before an end is the begin of its call
+        calls = [call for log in self.logs for call in zip(log.events, log.events[1:])]
+        views = [(begin[0], end[0]) for begin, end in calls if end[1] in (_Kind.END_VIEW, _Kind.END_VIEW_VALUES)]
+        # more updates began before its end than ended before its begin
+        overlapping = sum(bisect.bisect_left(begun, end) > bisect.bisect_left(ended, begin) for begin, end in views)
+        return len(views), overlapping
 
     def _initial_of(self, component):
         return self.initial if self.initials is None else self.initials[component]

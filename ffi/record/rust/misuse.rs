@@ -1,7 +1,7 @@
 //! The recorder's texts of two worked runs, and the fault of each misuse.
 mod snaprecord;
 
-use snaprecord::{Entry, Fault, Log, Recorder, EVENT_LIMIT};
+use snaprecord::{Entry, Fault, Log, Recorder, Views, EVENT_LIMIT};
 
 fn recorder(threads: usize, components: usize, calls: usize) -> Recorder {
     Recorder::new(threads, components, calls).expect("within the limits")
@@ -34,6 +34,7 @@ fn a_worked_run_has_its_text() {
     viewer.drop_view();
     view(viewer, &[99, 0]); // nobody wrote 99
     assert_eq!(r.text().as_deref(), Ok(include_str!("../worked.csv")));
+    assert_eq!(r.views(), Views { ended: 3, overlapping: 1 });
 }
 
 #[test]
@@ -51,6 +52,7 @@ fn failed_calls_have_their_text() {
     view(viewer, &[7, 8]);
     view(spare, &[7, 8]);
     assert_eq!(r.text().as_deref(), Ok(include_str!("../failed.csv")));
+    assert_eq!(r.views(), Views { ended: 4, overlapping: 3 });
 }
 
 #[test]
@@ -94,8 +96,8 @@ fn more_than_the_judge_takes_is_refused() {
     for (threads, components, calls) in [(0, 1, 1), (65537, 1, 1), (1, 257, 1), (2, 1, EVENT_LIMIT / 4 + 1), (1, 1, 0)] {
         assert_eq!(Recorder::new(threads, components, calls).err(), Some(Fault::Limits));
     }
-    recorder(EVENT_LIMIT / 2, 1, 1);
-    recorder(2, 256, EVENT_LIMIT / 4);
+    recorder(2, 256, 100);
+    recorder(16, 1, EVENT_LIMIT / 32);
 }
 
 #[test]
@@ -225,4 +227,22 @@ fn a_log_that_is_missing_is_told() {
     assert_eq!(r.text(), Err(Fault::LogMissing));
     r.logs.pop();
     assert_eq!(r.text(), Err(Fault::LogMissing));
+}
+
+/// How many pages this process was given so far, without a read from a disk.
+fn pages() -> u64 {
+    let told = std::fs::read_to_string("/proc/thread-self/stat").expect("a Linux");
+    told.split(' ').nth(9).and_then(|field| field.parse().ok()).expect("a number of faults")
+}
+
+/// The logs take some 3,000 pages, and all of them are there before.
+#[test]
+fn no_page_is_made_while_calls_are_recorded() {
+    let mut r = recorder(1, 64, 16000);
+    let before = pages();
+    for _ in 0..16000 {
+        view(&mut r.logs[0], &[0; 64]);
+    }
+    assert!(pages() - before < 300);
+    assert_eq!(r.views(), Views { ended: 16000, overlapping: 0 });
 }

@@ -30,7 +30,7 @@
 //! CONTRACT, NEGLIGENCE OR OTHER TORTIOUS ACTION, ARISING OUT OF OR IN CONNECTION WITH THE USE OR PERFORMANCE OF THIS SOFTWARE.
 #![allow(dead_code)]
 
-use crate::snaprecord::{self, Log, Recorder, EVENT_LIMIT};
+use crate::snaprecord::{self, Log, Recorder, Views, EVENT_LIMIT};
 use crate::snapverdict::{self, Judge};
 use std::io::{self, Write};
 use std::panic::{self, AssertUnwindSafe};
@@ -43,16 +43,19 @@ use std::{env, fmt, thread};
 pub const USAGE: &str = "usage: [OBJECT] [OPTION VALUE ..]
   --threads 4      how many threads, at most 64
   --components 4   how many components, at most 64; thread t updates t, t + threads and so on
-  --calls 200      how many calls each thread makes; all threads make at most 32768
+  --calls 200      how many calls each thread makes; all threads make at most half of --events
+  --events 65536   how many events a run may have, at most 1048576; a call has two
   --runs 20        how many runs, each of a fresh object
   --seed 1         what the choice of the calls begins with
   --order choice   each call is chosen by the seed; or turn: updates and a view in turn
   --nap 0          where not 0, pauses and the gaps between calls last up to so many microseconds
   --stop 0         where not 0, ends after so many runs that were not atomic
   --limit 60       how many seconds a run may take
+  --views 1        how many views have to end in all runs together; 0 asks for none
   --out .          the folder for the first run that was not atomic
   --program FILE   the program snapjudge; else SNAPJUDGE_PROGRAM names it, else it is on the PATH
-  --choices        writes the calls that the seed chooses, and runs nothing";
+  --choices        writes the calls that the seed chooses, and runs nothing
+  --help           writes this";
 
 /// An object under test; each component is 0 at first.
 pub trait Board: Sync {
@@ -101,6 +104,8 @@ pub struct Options {
     pub nap: u64,
     pub stop: u64,
     pub limit: u64,
+    pub views: u64,
+    pub events: u64,
     pub order: String,
     pub out: String,
     pub program: Option<String>,
@@ -109,22 +114,62 @@ pub struct Options {
 impl Default for Options {
     fn default() -> Self {
         let (order, out) = ("choice".into(), ".".into());
-        Options { threads: 4, components: 4, calls: 200, runs: 20, seed: 1, nap: 0, stop: 0, limit: 60, order, out, program: None }
+        let (events, program) = (65536, None);
+        let (threads, components, calls, runs, seed, nap, stop, limit, views) = (4, 4, 200, 20, 1, 0, 0, 60, 1);
+        Options { threads, components, calls, runs, seed, nap, stop, limit, views, events, order, out, program }
     }
 }
 
-/// How many runs were atomic, only regular, or neither; and which was the first that was not atomic, from 1.
+/// How many runs were atomic, only regular, or not regular; and which was the first that was not atomic, from 1.
 #[derive(Clone, Debug, Default, PartialEq, Eq)]
 pub struct Outcome {
     pub atomic: u64,
-    pub regular: u64,
-    pub neither: u64,
+    pub only_regular: u64,
+    pub not_regular: u64,
     pub first: Option<u64>,
+    /// How many views ended in all runs.
+    pub views: u64,
+    /// How many of these overlapped an update.
+    pub overlapping: u64,
+    /// How many runs have such a view.
+    pub overlapped: u64,
+}
+
+impl Outcome {
+    fn caught(&self) -> u64 {
+        self.only_regular + self.not_regular
+    }
+
+    fn runs(&self) -> u64 {
+        self.atomic + self.caught()
+    }
+
+    fn add(&mut self, views: Views) {
+        self.views += views.ended as u64;
+        self.overlapping += views.overlapping as u64;
+        self.overlapped += u64::from(views.overlapping > 0);
+    }
+
+    /// An error where the runs say nothing of the object: all were atomic, and too few views ended, or none of them overlapped an update.
+    fn test_looked(&self, options: &Options) -> Result<(), Error> {
+        let (views, runs) = (self.views, self.runs());
+        if self.first.is_some() || options.views == 0 {
+            Ok(())
+        } else if views < options.views {
+            Err(Error::FewViews(format!("{views} views ended in {runs} runs, fewer than {}: there is no verdict", options.views)))
+        } else if self.overlapping == 0 {
+            let none = format!("none of {views} views overlapped an update in {runs} runs");
+            Err(Error::NoOverlap(format!("{none}: there is no verdict on calls at the same time")))
+        } else {
+            Ok(())
+        }
+    }
 }
 
 impl fmt::Display for Outcome {
     fn fmt(&self, f: &mut fmt::Formatter<'_>) -> fmt::Result {
-        write!(f, "atomic {}, regular {}, neither {}", self.atomic, self.regular, self.neither)
+        write!(f, "atomic {}, only-regular {}, not-regular {}; ", self.atomic, self.only_regular, self.not_regular)?;
+        write!(f, "{} of {} views overlapped an update, in {} of {} runs", self.overlapping, self.views, self.overlapped, self.runs())
     }
 }
 
@@ -138,6 +183,10 @@ pub enum Error {
     View(String),
     /// A call of the object panicked, or its making did.
     Died(String),
+    /// All runs were atomic, and fewer views ended than were asked for.
+    FewViews(String),
+    /// All runs were atomic, and no view overlapped an update.
+    NoOverlap(String),
     Judge(snapverdict::Error),
     Recorder(snaprecord::Fault),
 }
@@ -149,6 +198,8 @@ impl fmt::Display for Error {
             Error::Limits(message) => write!(f, "limits: {message}"),
             Error::View(message) => write!(f, "view: {message}"),
             Error::Died(message) => write!(f, "died: {message}"),
+            Error::FewViews(message) => write!(f, "few views: {message}"),
+            Error::NoOverlap(message) => write!(f, "no overlap: {message}"),
             Error::Judge(error) => error.fmt(f),
             Error::Recorder(fault) => write!(f, "recorder: {fault}"),
         }
@@ -263,8 +314,8 @@ fn watch(ended: &mpsc::Receiver<()>, name: &str, limit: u64) {
     }
 }
 
-/// The history of a fresh object.
-fn record<B: FallibleBoard>(name: &str, options: &Options, seeds: &mut Random) -> Result<String, Error> {
+/// The history of a fresh object, and its views.
+fn record<B: FallibleBoard>(name: &str, options: &Options, seeds: &mut Random) -> Result<(String, Views), Error> {
     let mut recorder = Recorder::new(options.threads as usize, options.components as usize, options.calls as usize)?;
     let board = panic::catch_unwind(|| B::new(options.components as usize))
         .map_err(|_| Error::Died("the object can't be made: it panicked".into()))?;
@@ -290,13 +341,13 @@ fn record<B: FallibleBoard>(name: &str, options: &Options, seeds: &mut Random) -
         watch(&ended, name, options.limit);
         workers.into_iter().try_for_each(|worker| worker.join().expect("a worker catches what its object panics with"))
     })?;
-    Ok(recorder.text()?)
+    Ok((recorder.text()?, recorder.views()))
 }
 
 // ---- all runs
 
 /// Of each number among the options the least and the greatest.
-fn ranges(options: &mut Options) -> [(&'static str, &mut u64, u64, u64); 8] {
+fn ranges(options: &mut Options) -> [(&'static str, &mut u64, u64, u64); 10] {
     [
         ("threads", &mut options.threads, 1, 64),
         ("components", &mut options.components, 1, 64),
@@ -306,17 +357,23 @@ fn ranges(options: &mut Options) -> [(&'static str, &mut u64, u64, u64); 8] {
         ("nap", &mut options.nap, 0, 1_000_000),
         ("stop", &mut options.stop, 0, 1_000_000_000),
         ("limit", &mut options.limit, 1, 100_000),
+        ("views", &mut options.views, 0, 1_000_000_000),
+        ("events", &mut options.events, 2, EVENT_LIMIT as u64),
     ]
+}
+
+fn beyond(name: &str, least: u64, greatest: u64) -> Error {
+    Error::Limits(format!("{name} is a number from {least} to {greatest}"))
 }
 
 fn test(options: &Options) -> Result<(), Error> {
     for (name, value, least, greatest) in ranges(&mut options.clone()) {
         if !(least..=greatest).contains(value) {
-            return Err(Error::Limits(format!("{name} is a number from {least} to {greatest}")));
+            return Err(beyond(name, least, greatest));
         }
     }
-    if options.threads * options.calls > EVENT_LIMIT as u64 / 2 {
-        return Err(Error::Limits(format!("all threads make at most {} calls", EVENT_LIMIT / 2)));
+    if options.threads * options.calls > options.events / 2 {
+        return Err(Error::Limits(format!("all threads make at most {} calls", options.events / 2)));
     }
     match options.order.as_str() {
         "choice" | "turn" => Ok(()),
@@ -328,7 +385,7 @@ fn test(options: &Options) -> Result<(), Error> {
 /// NAME-witness.csv, the least of it that is not atomic, and NAME-explained.txt.
 pub fn run<B: FallibleBoard>(name: &str, options: &Options) -> Result<Outcome, Error> {
     test(options)?;
-    let judge = Judge::find(options.program.as_deref())?;
+    let judge = Judge::find(options.program.as_deref(), options.events as u32)?;
     judge.test_folder(&options.out)?;
     let front = format!("{}/{name}", options.out);
     let mut seeds = Random(options.seed);
@@ -337,15 +394,16 @@ pub fn run<B: FallibleBoard>(name: &str, options: &Options) -> Result<Outcome, E
     LONGEST_NAP.store(options.nap, Ordering::Relaxed);
     NAPS.store(options.seed, Ordering::Relaxed);
     for number in 1..=options.runs {
-        let text = record::<B>(name, options, &mut seeds)?;
+        let (text, views) = record::<B>(name, options, &mut seeds)?;
+        outcome.add(views);
         let status = judge.status(&text, &options.out)?;
-        *[&mut outcome.atomic, &mut outcome.regular, &mut outcome.neither][status as usize] += 1;
+        *[&mut outcome.atomic, &mut outcome.only_regular, &mut outcome.not_regular][status as usize] += 1;
         if status != 0 && outcome.first.is_none() {
             outcome.first = Some(number);
             judge.keep(&text, &front)?;
             eprintln!("{name}: run {number} is not atomic: see {front}-caught.csv and the files beside it");
         }
-        let has_ended = number == options.runs || options.stop > 0 && outcome.regular + outcome.neither == options.stop;
+        let has_ended = number == options.runs || options.stop > 0 && outcome.caught() == options.stop;
         if has_ended || told.elapsed() >= Duration::from_secs(1) {
             told = Instant::now();
             eprintln!("{name}: run {number} of {}: {outcome}", options.runs);
@@ -354,32 +412,44 @@ pub fn run<B: FallibleBoard>(name: &str, options: &Options) -> Result<Outcome, E
             break;
         }
     }
+    outcome.test_looked(options)?;
     Ok(outcome)
 }
 
 // ---- the command line
 
-fn read_option(options: &mut Options, name: &str, value: &str) -> Option<()> {
+/// Takes an option, and its value where there is one.
+fn read_option(options: &mut Options, word: &str, value: Option<&String>) -> Result<(), Error> {
+    let name = word.strip_prefix("--").ok_or_else(|| Error::Usage(format!("{word} is not an option")))?;
+    let is_known = ["order", "out", "program"].contains(&name) || ranges(options).iter().any(|range| range.0 == name);
+    if !is_known {
+        return Err(Error::Usage(format!("there is no option {word}")));
+    }
+    let value = value.ok_or_else(|| Error::Usage(format!("{word} has no value")))?;
     match name {
         "order" => options.order = value.into(),
         "out" => options.out = value.into(),
         "program" => options.program = Some(value.into()),
-        _ => {
-            let (_, place, ..) = ranges(options).into_iter().find(|range| range.0 == name)?;
-            *place = Some(value).filter(|value| !value.starts_with('+'))?.parse().ok()?;
-        }
+        _ => return read_number(options, name, value),
     }
-    Some(())
+    Ok(())
+}
+
+fn read_number(options: &mut Options, name: &str, value: &str) -> Result<(), Error> {
+    if value.is_empty() || !value.bytes().all(|byte| byte.is_ascii_digit()) {
+        return Err(Error::Usage(format!("--{name}: {value} is not a number")));
+    }
+    for (_, place, least, greatest) in ranges(options).into_iter().filter(|range| range.0 == name) {
+        *place = value.parse().map_err(|_| beyond(name, least, greatest))?;
+    }
+    Ok(())
 }
 
 /// The options of a command line.
 fn read(words: &[String]) -> Result<Options, Error> {
     let mut options = Options::default();
     for pair in words.chunks(2) {
-        let name = pair[0].strip_prefix("--");
-        name.zip(pair.get(1))
-            .and_then(|(name, value)| read_option(&mut options, name, value))
-            .ok_or_else(|| Error::Usage(format!("{} is no option with its value", pair[0])))?;
+        read_option(&mut options, &pair[0], pair.get(1))?;
     }
     Ok(options)
 }
@@ -408,31 +478,43 @@ fn show_choices(options: &Options) -> Result<(), Error> {
 /// An object of the command line: its name, and `run` of its type.
 pub type Object<'a> = (&'a str, fn(&str, &Options) -> Result<Outcome, Error>);
 
+fn usage_of(objects: &[Object]) -> String {
+    let names: Vec<&str> = objects.iter().map(|object| object.0).collect();
+    format!("{USAGE}\nobjects: {}\n", names.join(" "))
+}
+
+/// Runs what the words ask for. `None` is no run, but the list of options or of calls.
+fn answer(objects: &[Object], name: &str, mut words: Vec<String>) -> Result<Option<Outcome>, Error> {
+    let (_, run) = objects.iter().find(|object| object.0 == name).ok_or_else(|| Error::Usage(format!("there is no object {name}")))?;
+    if words.iter().any(|word| word == "--help" || word == "-h") {
+        return print(&usage_of(objects)).map(|()| None);
+    }
+    let shows_choices = words.iter().position(|word| word == "--choices").map(|at| words.remove(at)).is_some();
+    let options = read(&words)?;
+    if shows_choices {
+        return show_choices(&options).map(|()| None);
+    }
+    let outcome = run(name, &options)?;
+    print(&format!("{name}: {outcome}\n")).map(|()| Some(outcome))
+}
+
 /// Runs the object that the command line names, or the first one. The status is 0 where each run was atomic, 1 where some were
-/// only regular, 2 where some were neither, and 4 where there is no verdict.
+/// only regular, 2 where some were not regular, 3 where too little was seen for a verdict, and 4 where there is none for another reason.
 pub fn main(objects: &[Object]) -> ExitCode {
     let mut words: Vec<String> = env::args().skip(1).collect();
-    let is_named = words.first().is_some_and(|word| !word.starts_with("--"));
+    let is_named = words.first().is_some_and(|word| !word.starts_with('-'));
     let name = if is_named { words.remove(0) } else { objects[0].0.into() };
-    let shows_choices = words.iter().position(|word| word == "--choices").map(|at| words.remove(at)).is_some();
-    let outcome = read(&words).and_then(|options| {
-        let chosen = objects.iter().find(|object| object.0 == name);
-        let (_, run) = chosen.ok_or_else(|| Error::Usage(format!("there is no object {name}")))?;
-        if shows_choices {
-            show_choices(&options).map(|()| Outcome::default())
-        } else {
-            let outcome = run(&name, &options)?;
-            print(&format!("{name}: {outcome}\n")).map(|()| outcome)
-        }
-    });
-    match outcome {
+    match answer(objects, &name, words) {
         Err(error) => {
             if matches!(error, Error::Usage(_)) {
-                eprintln!("{USAGE}");
+                eprint!("{}", usage_of(objects));
             }
             eprintln!("{name}: {error}");
-            ExitCode::from(4)
+            ExitCode::from(if matches!(error, Error::FewViews(_) | Error::NoOverlap(_)) { 3 } else { 4 })
         }
-        Ok(outcome) => ExitCode::from(if outcome.neither > 0 { 2 } else { u8::from(outcome.regular > 0) }),
+        Ok(outcome) => {
+            let outcome = outcome.unwrap_or_default();
+            ExitCode::from(if outcome.not_regular > 0 { 2 } else { u8::from(outcome.only_regular > 0) })
+        }
     }
 }

@@ -18,7 +18,7 @@
 //!
 //! What the record says: where call A ended before call B began, A happened before B. Each stamp is a `fetch_add` of one clock
 //! with acquire and release; that of a begin is taken last in `begin_..`, that of an end first in `end_..`. A thread writes
-//! to its own log alone. Nothing is locked or allocated, and nothing panics, while threads run.
+//! to its own log alone. A call locks and allocates nothing, and does not panic, and all pages of a log are there before threads run.
 //! What it cannot say: the clock orders more calls than the object may, so a fault that needs two calls without such an
 //! order can hide.
 //!
@@ -36,8 +36,8 @@ use std::fmt::{self, Write};
 use std::sync::atomic::{AtomicBool, AtomicU64, Ordering};
 use std::sync::{Arc, OnceLock};
 
-/// How many events a history may have; a call has two, its begin and its end.
-pub const EVENT_LIMIT: usize = 65536;
+/// How many events a history may have; a call has two. More than 65,536 the judge takes by `--events N`.
+pub const EVENT_LIMIT: usize = 1_048_576;
 pub const COMPONENT_LIMIT: usize = 256;
 /// A thread is one process.
 pub const PROCESS_LIMIT: usize = 65536;
@@ -127,6 +127,13 @@ enum State {
     Viewing,
 }
 
+/// How many views of the history ended, and how many of these overlapped an update: both calls were open at one moment.
+#[derive(Clone, Copy, Debug, Default, PartialEq, Eq)]
+pub struct Views {
+    pub ended: usize,
+    pub overlapping: usize,
+}
+
 #[derive(Clone, Copy, PartialEq, Eq)]
 enum Kind {
     BeginUpdate,
@@ -136,6 +143,7 @@ enum Kind {
     EndViewValues,
 }
 
+#[derive(Clone, Copy)]
 struct Event {
     stamp: u64,
     kind: Kind,
@@ -143,7 +151,15 @@ struct Event {
     count: usize,
 }
 
-/// What one thread recorded, as the process of its number.
+/// An empty list with room for so many, each of which was written once, so that no page is made while threads run. What is written is
+/// not zero, since new pages have that.
+fn touched<T: Copy>(room: usize, with: T) -> Vec<T> {
+    let mut list = vec![with; room];
+    list.clear();
+    list
+}
+
+/// What one thread recorded, as the process of its number. It has no copies: what a copy records would be in no text.
 #[repr(align(128))]
 pub struct Log {
     shared: Arc<Shared>,
@@ -329,8 +345,8 @@ impl Recorder {
                 components,
                 calls,
                 state: State::Idle,
-                events: Vec::with_capacity(2 * calls),
-                entries: Vec::with_capacity(calls * components.max(1)),
+                events: touched(2 * calls, Event { stamp: 1, kind: Kind::BeginView, first: 1, count: 1 }),
+                entries: touched(calls * components.max(1), Entry { component: 1, number: 1, value: 1 }),
                 begun: [0; COMPONENT_LIMIT],
             })
             .collect();
@@ -360,6 +376,25 @@ impl Recorder {
         Ok(text)
     }
 
+    /// Counts the views, after the threads were joined. A run in which none overlapped an update says nothing of calls at the same time.
+    pub fn views(&self) -> Views {
+        let stamps_of = |kind| {
+            let events = self.logs.iter().flat_map(|log| &log.events);
+            let mut stamps: Vec<u64> = events.filter(|event| event.kind == kind).map(|event| event.stamp).collect();
+            stamps.sort_unstable();
+            stamps
+        };
+        let (begun, ended) = (stamps_of(Kind::BeginUpdate), stamps_of(Kind::EndUpdate));
+        // the event before an end is the begin of its call
+        let calls = self.logs.iter().flat_map(|log| log.events.windows(2));
+        let views = calls.filter(|call| matches!(call[1].kind, Kind::EndView | Kind::EndViewValues));
+        views.fold(Views::default(), |found, view| Views {
+            ended: found.ended + 1,
+            // more updates began before its end than ended before its begin
+            overlapping: found.overlapping + usize::from(below(&begun, view[1].stamp) > below(&ended, view[0].stamp)),
+        })
+    }
+
     fn initial_of(&self, component: u32) -> u32 {
         self.initials.get(component as usize).copied().unwrap_or(self.initial)
     }
@@ -382,6 +417,11 @@ impl Recorder {
         let data = shown.collect::<Vec<_>>().join(" ");
         writeln!(text, "{},{word},{},{op},{data}", event.stamp, log.thread).expect("a string takes all that is written");
     }
+}
+
+/// How many of these rising stamps are below another one.
+fn below(stamps: &[u64], stamp: u64) -> usize {
+    stamps.partition_point(|&it| it < stamp)
 }
 
 /// All updates, to look numbers up.
@@ -416,7 +456,7 @@ impl Updates {
     /// The number of the value that a view shows. One that nobody wrote gets the last number that had begun when the view
     /// ended: the judge then says `integrity`, and no more of this entry by itself.
     fn number(&self, entry: &Entry, ended: u64) -> u32 {
-        let last = || self.begun[entry.component as usize].partition_point(|&begun| begun < ended).max(1) as u32;
+        let last = || below(&self.begun[entry.component as usize], ended).max(1) as u32;
         self.numbers.get(&(entry.component, entry.value)).copied().unwrap_or_else(last)
     }
 }

@@ -8,6 +8,7 @@ import (
 	"os"
 	"reflect"
 	"strings"
+	"syscall"
 
 	. "snaprecord"
 )
@@ -68,6 +69,7 @@ func worked() []byte {
 		viewer.DropView()
 	}
 	show(viewer, 99, 0) // nobody wrote 99
+	expect("the views of the worked run", recorder.Views() == Views{Ended: 3, Overlapping: 1})
 	return textOf(recorder)
 }
 
@@ -84,6 +86,7 @@ func failed() []byte {
 	expect("an update of which it is not known whether it had an effect", writer.BeginUpdate(1, 8) == 1)
 	show(viewer, 7, 8)
 	show(spare, 7, 8)
+	expect("the views beside an update that stays pending", recorder.Views() == Views{Ended: 4, Overlapping: 3})
 	return textOf(recorder)
 }
 
@@ -94,6 +97,42 @@ func dirty() string {
 	show(recorder.Log(1), 9)
 	recorder.Log(0).DropUpdate()
 	return string(textOf(recorder))
+}
+
+// How many pages this process was given so far, without a read from a disk.
+func pages() int64 {
+	var usage syscall.Rusage
+	expect("the use of resources", syscall.Getrusage(syscall.RUSAGE_SELF, &usage) == nil)
+	return usage.Minflt
+}
+
+// The logs take some 3,000 pages, and all of them are there before.
+func tryPages() {
+	recorder, values := recorder(1, 64, 16000), make([]uint32, 64)
+	before := pages()
+	for i := 0; i < 16000; i++ {
+		show(recorder.Log(0), values...)
+	}
+	expect("no page is made while calls are recorded", pages()-before < 300)
+	expect("all of them ended", recorder.Views() == Views{Ended: 16000})
+}
+
+// A copy of a log, of which go vet would tell if it were made by a plain assignment.
+func copyOf(log *Log[uint32]) *Log[uint32] {
+	copied := reflect.New(reflect.TypeOf(log).Elem())
+	copied.Elem().Set(reflect.ValueOf(log).Elem())
+	return copied.Interface().(*Log[uint32])
+}
+
+// What is recorded in a copy is in no text, so a copy refuses to record, and all goroutines stop.
+func tryCopies() {
+	begins, ends := recorder(2, 1, 4), recorder(1, 1, 4)
+	expect("a copy of a log is refused", copyOf(begins.Log(0)).BeginUpdate(0, 1) == 0)
+	expect("a copy of a log stops all goroutines", !begins.Log(1).BeginView())
+	expectFault("a copy of a log", begins, Copied)
+	expect("an update", ends.Log(0).BeginUpdate(0, 1) == 1)
+	copyOf(ends.Log(0)).EndUpdate()
+	expectFault("an end by a copy of a log", ends, Copied)
 }
 
 // The values of the last view of one history are the first ones of the next, which may write older ones again.
@@ -122,7 +161,8 @@ func main() {
 		_, err := New[uint32](of[0], of[1], of[2])
 		expect("limits", errors.Is(err, Limits))
 	}
-	recorder(2, 256, EventLimit/4)
+	recorder(2, 256, 100)
+	recorder(16, 1, EventLimit/32)
 
 	header := "at,event,process,op,data\n"
 	expect("a dropped update that was seen", dirty() == header+"1,begin,1,view,\n2,end,1,view,0:1:9\n")
@@ -130,6 +170,9 @@ func main() {
 		"3,end,0,update,\n4,begin,0,view,\n5,end,0,view,0:1:0\n")
 	two := recorder(2, 1, 1)
 	expect("a log that there is not", hasLog(two, 1) && !hasLog(two, 2) && !hasLog(two, -1))
+
+	tryCopies()
+	tryPages()
 
 	full := recorder(2, 1, 2)
 	update(full.Log(0), 0, 1)
