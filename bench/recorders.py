@@ -69,9 +69,10 @@ def output(command, folder):
 def drive(command, name, options, runs, folder):
     """How many of so many runs were atomic, and how many milliseconds one took."""
     begun = time.monotonic()
-    words = [*command, name, *options.split(), "--runs", str(runs)]
+    # few short runs may have no overlap, which here is a count like any other
+    words = [*command, name, *options.split(), "--runs", str(runs), "--views", "0"]
     done = subprocess.run(words, cwd=folder, stdout=subprocess.PIPE, stderr=subprocess.DEVNULL, timeout=LIMIT, text=True)
-    found = re.fullmatch(rf"{name}: atomic (\d+), regular (\d+), neither (\d+)\n", done.stdout)
+    found = re.fullmatch(rf"{name}: atomic (\d+), only-regular (\d+), not-regular (\d+); .*\n", done.stdout)
     if not found or done.returncode > 2:
         sys.exit(f"{words} ended with status {done.returncode}")
     return int(found[1]), (time.monotonic() - begun) * 1000 / runs

@@ -2,13 +2,15 @@
 """Prints a table of the time and the peak memory of `snapjudge check`, by kind of history, size and number of workers.
 
 usage: run.py [--against PROGRAM] [--repeats N] [--median] [--workers W] [--pieces P] [--events N] [--most COMPONENTS] [KIND ..]
+       run.py --growth [--against PROGRAM] [--repeats N] [--median] [--pieces P] [KIND ..]
 
 Each history is made by generate.py from the number 1. With one worker, with W (2, if not said) and, where another judge of the same
 text and report is given, by that one, it is judged in turn, N times (7, if not said), and the least time of each counts, or with
 --median the one in the middle. The reports are compared byte for byte. PROGRAM is called as `PROGRAM check`, with the history on its
 standard input; words that stand behind it in one argument are put behind `check`. With --pieces the views are cut into so many
 pieces. With --events each kind and number of components is judged once, with so many events, and with --most only histories of at
-most so many components. All run in an environment in which the C library takes memory in large pages, as docs/MANY.md tells how to
+most so many components. With --growth each kind is judged with 65,536, 262,144 and 1,048,576 events by 1, 2 and 4 workers, beside an
+earlier program where --against names one: it is given the same options. All run in an environment in which the C library takes memory in large pages, as docs/MANY.md tells how to
 ask for them.
 
 The first row is of a process that does nothing.
@@ -37,6 +39,10 @@ CASES = [
     ("random", 16384, 8), ("random", 16384, 256),
     ("newlines", 67108864, 0),
 ]
+# kinds and components of --growth, the numbers of events, and those of workers
+GROWING = [("atomic", 8), ("pending", 8), ("stale", 8), ("overlapping", 4), ("late", 32), ("writes", 8)]
+GROWTH = (65536, 262144, 1048576)
+WORKERS = (1, 2, 4)
 
 
 def run(words, history, report):
@@ -73,6 +79,33 @@ def cases_of(asked):
     return list(dict.fromkeys((kind, asked.events, components) for kind, _, components in cases if kind != "newlines"))
 
 
+def generated(room, kind, events, components):
+    """The name of a file with such a history."""
+    history = os.path.join(room, "history.csv")
+    with open(history, "wb") as text:
+        subprocess.run([sys.executable, os.path.join(HERE, "generate.py"), kind, str(events), str(components)], stdout=text, check=True)
+    return history
+
+
+def print_growth(asked, room, chosen):
+    """Prints a table of long histories by the number of workers."""
+    judges = [SNAPJUDGE] + ([asked.against] if asked.against else [])
+    pieces = ["--pieces", asked.pieces] if asked.pieces else []
+    print("| kind | events | components | workers | ms | of that user, ms | peak, MB | before, ms | of that user, ms | before, MB | reports |")
+    print("|---|---|---|---|---|---|---|---|---|---|---|")
+    for kind, components in GROWING:
+        if asked.kinds and kind not in asked.kinds:
+            continue
+        for events in GROWTH:
+            history = generated(room, kind, events, components)
+            for workers in WORKERS:
+                options = ["check", "--events", str(events), "--workers", str(workers), *pieces]
+                seen = measure([[*shlex.split(judge), *options] for judge in judges], history, room, asked.repeats, chosen)
+                same = "same" if all(each[-1] and each[0] == seen[0][0] for each in seen) else "DIFFERENT"
+                columns = [f"{clock:.1f} | {user:.1f} | {peak:.0f}" for _, clock, user, peak, _ in seen]
+                print(f"| {kind} | {events} | {components} | {workers} | {' | '.join((columns + ['- | - | -'])[:2])} | {same} |", flush=True)
+
+
 def main():
     words = argparse.ArgumentParser(description="times of `snapjudge check`")
     words.add_argument("--against", metavar="PROGRAM", help="another judge of the same text and report")
@@ -82,8 +115,14 @@ def main():
     words.add_argument("--pieces", metavar="P", help="cut the views into so many pieces")
     words.add_argument("--events", metavar="N", help="judge each kind and number of components with so many events")
     words.add_argument("--most", type=int, default=256, metavar="COMPONENTS", help="judge none with more components")
+    words.add_argument("--growth", action="store_true", help="judge long histories by 1, 2 and 4 workers")
     words.add_argument("kinds", nargs="*", metavar="KIND")
     asked = words.parse_args()
+    chosen = statistics.median if asked.median else min
+    if asked.growth:
+        with tempfile.TemporaryDirectory() as room:
+            print_growth(asked, room, chosen)
+        return
     limit = [word for option in ("events", "pieces") if getattr(asked, option) for word in (f"--{option}", getattr(asked, option))]
     programs = [[SNAPJUDGE, "check", "--workers", count, *limit] for count in ("1", asked.workers)]
     if asked.against:
@@ -95,10 +134,8 @@ def main():
         idle = min(run(["/bin/true"], os.devnull, os.devnull)[1] for _ in range(20))
         print(f"| nothing | 0 | 0 | 0 | 0 | {idle:.1f} | 0.0 | {idle:.1f} | 1.00 | - | - | - | - |")
         for kind, events, components in cases_of(asked):
-            history = os.path.join(room, "history.csv")
-            with open(history, "wb") as text:
-                subprocess.run([sys.executable, os.path.join(HERE, "generate.py"), kind, str(events), str(components)], stdout=text, check=True)
-            alone, both, *other = measure(programs, history, room, asked.repeats, statistics.median if asked.median else min)
+            history = generated(room, kind, events, components)
+            alone, both, *other = measure(programs, history, room, asked.repeats, chosen)
             same = "same" if all(seen[-1] and seen[0] == alone[0] for seen in [both, *other]) else "DIFFERENT"
             told = f"{other[0][1]:.1f} | {min(alone[1], both[1]) / other[0][1]:.1f}" if other else "- | -"
             print(f"| {kind} | {events} | {components} | {os.path.getsize(history)} | {alone[0]} | {alone[1]:.1f} | {alone[2]:.1f} | {both[1]:.1f} | {both[1] / alone[1]:.2f} | {max(alone[3], both[3]):.0f} | {told} | {same} |", flush=True)

@@ -9,7 +9,7 @@ public final class Cost {
     static final int ROUNDS = 101; // the first ones are not compiled yet
 
     static double round(int threads) throws InterruptedException {
-        int calls = SnapRecorder.EVENT_LIMIT / 2 / threads;
+        int calls = 32768 / threads;
         SnapRecorder recorder = new SnapRecorder(threads, threads, calls);
         CyclicBarrier start = new CyclicBarrier(threads);
         double[] took = new double[threads];

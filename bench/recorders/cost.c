@@ -36,7 +36,7 @@ static int compare(const void *left, const void *right) {
 int main(int count, char **words) {
     threads = count > 1 ? (uint32_t)atoi(words[1]) : 1;
     if (threads < 1 || threads > MOST) return 2;
-    calls = SNAPRECORD_EVENTS / 2 / threads;
+    calls = 32768 / threads;
     for (int round = 0; round < ROUNDS; round++) {
         static snaprecord recorder;
         pthread_t all[MOST];

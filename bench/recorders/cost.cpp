@@ -19,7 +19,7 @@ static void work(snaprecord::Log &log, std::uint32_t own, std::uint32_t calls, s
 
 int main(int count, char **words) {
     const auto threads = static_cast<std::uint32_t>(count > 1 ? std::stoi(words[1]) : 1);
-    const std::uint32_t calls = snaprecord::event_limit / 2 / threads;
+    const std::uint32_t calls = 32768 / threads;
     std::vector<double> found;
     for (int round = 0; round < rounds; round++) {
         snaprecord::Recorder recorder(threads, threads, calls);

@@ -9,13 +9,13 @@ import threading
 import time
 
 sys.path.insert(0, os.path.join(os.path.dirname(os.path.abspath(__file__)), "..", "..", "ffi", "record", "python"))
-from snaprecord import EVENT_LIMIT, Recorder
+from snaprecord import Recorder
 
 ROUNDS = 21
 
 
 def run(threads):
-    calls = EVENT_LIMIT // 2 // threads
+    calls = 32768 // threads
     recorder, start, took = Recorder(threads, threads, calls), threading.Barrier(threads), [0.0] * threads
 
     def work(log, own):

@@ -3,7 +3,7 @@
 #[path = "../../ffi/record/rust/snaprecord.rs"]
 mod snaprecord;
 
-use snaprecord::{Log, Recorder, EVENT_LIMIT};
+use snaprecord::{Log, Recorder};
 use std::sync::Barrier;
 use std::time::Instant;
 use std::{env, thread};
@@ -23,7 +23,7 @@ fn work(log: &mut Log, own: usize, calls: usize, start: &Barrier) -> f64 {
 }
 
 fn round(threads: usize) -> f64 {
-    let calls = EVENT_LIMIT / 2 / threads;
+    let calls = 32768 / threads;
     let mut recorder = Recorder::new(threads, threads, calls).expect("within the limits");
     let start = Barrier::new(threads);
     let took: Vec<f64> = thread::scope(|scope| {

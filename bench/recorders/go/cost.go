@@ -14,7 +14,7 @@ import (
 const rounds = 21
 
 func round(threads int) float64 {
-	calls := snaprecord.EventLimit / 2 / threads
+	calls := 32768 / threads
 	recorder, err := snaprecord.New[uint32](threads, threads, calls)
 	if err != nil {
 		panic(err)
