@@ -3,3 +3,4 @@ pub mod Refusals
 pub mod Faults
 pub mod Orders
 pub mod Reports
+pub mod inside

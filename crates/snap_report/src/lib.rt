@@ -8,5 +8,5 @@ mod text;
 mod words;
 
 pub use refusal::refusal_text;
-pub use text::{report, report_in, verdict_text};
+pub use text::{report, report_in, report_shared, verdict_text};
 pub use words::{put_call, put_entry, put_number, put_update};

@@ -4,14 +4,16 @@ ghost use Rattle.std.specs.Option.{ForSome, option_copied, option_map};
 ghost use Rattle.snap_core.specs.Calls.{calls_of};
 ghost use Rattle.snap_report.specs.Lines.{line_text, text_of};
 ghost use Rattle.snap_report.specs.Orders.{HasLine, calls_numbered};
+ghost use Rattle.snap_report.specs.inside.Parts.{front_text};
 ghost use Rattle.snap_report.specs.Reports.{count_line, has_no_fault, has_no_local_fault, has_no_stale_view, report_text, verdict_line, verdict_lines};
 
 use crate::faults::put_faults;
-use crate::order::put_order;
+use crate::order::{put_order, put_order_shared};
 use crate::words::put_number;
 use snap_conditions::{Tally, is_atomic, is_monotone, is_regular};
 use snap_index::Index;
 use std::alloc::{AllocError, Global};
+use std::thread::Threads;
 
 // Adds the line with the numbers of a history.
 fn put_counts(out: &mut Vec<u8>, index: &Index<'_>) -> Result<(), AllocError>
@@ -57,6 +59,17 @@ pub fn verdict_text(alloc: Global, tally: &Tally) -> Result<Vec<u8>, AllocError>
     Ok(out)
 }
 
+// The lines that stand before the order or the faults, in the memory of a vector. What the vector had is lost.
+fn front_in(room: Vec<u8>, index: &Index<'_>, tally: &Tally) -> Result<Vec<u8>, AllocError>
+    ensures { IfOk result (λ text. text.items ≡ front_text index.now tally.now) }
+{
+    let mut out = room;
+    out.clear();
+    put_counts(&mut out, index)?;
+    put_verdicts(&mut out, tally)?;
+    Ok(out)
+}
+
 /// The report of a history by the tally of its faults, one line for each kind that has some, or by an order of its calls,
 /// which is given by their numbers.
 pub fn report(
@@ -85,12 +98,31 @@ pub fn report_in(
     ensures { IfOk result (λ text. text.items ≡ report_text index.now tally.now
         (option_map (calls_numbered (calls_of index.now)) (option_copied order.entry))) }
 {
-    let mut out = room;
-    out.clear();
-    put_counts(&mut out, index)?;
-    put_verdicts(&mut out, tally)?;
+    let mut out = front_in(room, index, tally)?;
     match order {
         Some(order) => put_order(&mut out, index, order)?,
+        None => put_faults(&mut out, tally)?,
+    }
+    Ok(out)
+}
+
+/// The report of `report_in`, where so many workers share the lines of an order. Each has 16,384 or more, in a thread of its own.
+pub fn report_shared<R: Threads + Sync>(
+    rt: &R,
+    room: Vec<u8>,
+    index: &Index<'_>,
+    tally: &Tally,
+    order: Option<&[u32]>,
+    workers: u32,
+) -> Result<Vec<u8>, AllocError>
+    requires order { is_some order ≡ has_no_fault tally.now }
+    requires calls { ForSome order (λ numbers. All (HasLine (calls_of index.now)) numbers.now) }
+    ensures { IfOk result (λ text. text.items ≡ report_text index.now tally.now
+        (option_map (calls_numbered (calls_of index.now)) (option_copied order.entry))) }
+{
+    let mut out = front_in(room, index, tally)?;
+    match order {
+        Some(order) => put_order_shared(rt, &mut out, index, order, workers)?,
         None => put_faults(&mut out, tally)?,
     }
     Ok(out)

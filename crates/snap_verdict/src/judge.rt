@@ -16,16 +16,36 @@ use snap_core::{History, Limit};
 use snap_csv::{ReadRefusal, read_text};
 use snap_index::Index;
 use snap_order::{build_alone, build_of_chain};
-use snap_report::{refusal_text, report_in, verdict_text};
+use snap_report::{refusal_text, report_in, report_shared, verdict_text};
 use snap_tally::tally_and_chain_alone;
 use snap_views::ViewChain;
 use std::alloc::{AllocError, Global};
 use std::thread::Threads;
 
 // The status and the report of a history, by its index, the tally of all its completed views, and the numbers of its printed
-// order, which is given exactly where the tally has no fault. The report takes the memory of a vector; what the vector had is
-// lost.
-fn verdict_of(
+// order, which is given exactly where the tally has no fault. So many workers share the lines of the order at most. The report takes
+// the memory of a vector; what the vector had is lost.
+fn verdict_of<R: Threads + Sync>(
+    rt: &R,
+    index: &Index<'_>,
+    tally: &Tally,
+    order: Option<&[u32]>,
+    room: Vec<u8>,
+    workers: u32,
+) -> Result<(Status, Vec<u8>), AllocError>
+    requires tally { tally.now ≡ tally_of (calls_of index.now) (views_of (calls_of index.now)) }
+    requires given { is_some order ≡ has_no_fault tally.now }
+    requires order { ForSome order (λ numbers. numbers.now ≡ map (λ c. c.number) (printed_order (calls_of index.now))) }
+    ensures { IfOk result (λ answer. IsVerdict index.now answer.0 answer.1.items) }
+{
+    // what is known of the history that the index is of
+    let _events = index.event_count();
+    let text = report_shared(rt, room, index, tally, order, workers)?;
+    Ok((status_by(tally), text))
+}
+
+// The status and the report of `verdict_of` on the calling thread, for who has no runtime.
+fn verdict_alone(
     index: &Index<'_>,
     tally: &Tally,
     order: Option<&[u32]>,
@@ -88,8 +108,8 @@ pub fn order_alone(
 }
 
 /// The status and the report of a history, by its index, the tally of all its completed views, and these as a chain, which is given
-/// where no two of them are a read fault. So many workers share the calls at most. The report takes the memory of a vector; what the
-/// vector had is lost.
+/// where no two of them are a read fault. So many workers share the calls and their lines at most. The report takes the memory of a
+/// vector; what the vector had is lost.
 pub fn verdict_of_chain<R: Threads + Sync>(
     rt: &R,
     alloc: Global,
@@ -105,7 +125,7 @@ pub fn verdict_of_chain<R: Threads + Sync>(
     ensures { IfOk result (λ answer. IsVerdict index.now answer.0 answer.1.items) }
 {
     let order = order_by(rt, alloc, index, tally, chain, workers)?;
-    verdict_of(index, tally, order.as_deref(), room)
+    verdict_of(rt, index, tally, order.as_deref(), room, workers)
 }
 
 /// The status of a history, by its index and the tally of all its completed views.
@@ -149,7 +169,7 @@ fn verdict_in(
     let (tally, chain) = tally_and_chain_alone(alloc, &index)?;
     let room = Vec::with_capacity(alloc, size)?;
     let order = order_alone(alloc, &index, &tally, chain)?;
-    verdict_of(&index, &tally, order.as_deref(), room)
+    verdict_alone(&index, &tally, order.as_deref(), room)
 }
 
 /// The status and the report of a text in memory, without a runtime: on the calling thread alone. A history may have as many
