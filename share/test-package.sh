@@ -237,7 +237,7 @@ same_files() {
 
 # What a machine has that has nothing: the C library, and the tools of bare.
 has_own_root() {
-  own_root=$room/own
+  own_root=$room/alone
   mkdir -p "$own_root/home" "$own_root/dev" "$own_root/tmp" && : >"$own_root/dev/null" &&
     add_tools "$own_root" env cut gzip mkdir rm sh sha256sum tar xargs && can_change_root "$own_root"
 }
