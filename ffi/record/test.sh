@@ -786,8 +786,24 @@ without_cgo() {
   CGO_ENABLED=0 go_builds faulty_plain faulty && SNAPJUDGE_PROGRAM=$program explained SNAPJUDGE_LIBRARY=
 }
 
+go_tests_porcupine() {
+  (cd "$here/go" && SNAPJUDGE_PROGRAM=$program go test ./fromporcupine)
+}
+
+# stored KIND LEAST MOST: the history of such a store, by operations and by events, is judged with a status from LEAST to MOST
+stored() {
+  local how status
+  [ -x stored_go ] || go_builds stored_go stored || return 1
+  for how in operations events; do
+    ./stored_go "$1" stored.csv "$how" || return 1
+    "$program" check --quiet stored.csv
+    status=$?
+    [ "$status" -ge "$2" ] && [ "$status" -le "$3" ] || return 1
+  done
+}
+
 try_go() {
-  local own=(./own_go) faulty=(./faulty_go)
+  local kind own=(./own_go) faulty=(./faulty_go)
   local -x GOCACHE=$work/go-build GOFLAGS=-buildvcs=false GOPROXY=off
   try "Go: builds" go_builds misuse_go misuse
   try "Go: harness builds" go_builds own_go own
@@ -798,6 +814,12 @@ try_go() {
   by_library
   throws Go
   try "Go: without cgo" without_cgo
+  try "Go: operations of Porcupine" go_tests_porcupine
+  for kind in "right 0 0" "stale 1 2" "lost 1 2"; do
+    read -r -a kind <<<"$kind"
+    try "Go: the example of Porcupine, ${kind[0]}" stored "${kind[@]}"
+  done
+  has python3 "Go: the listing of Porcupine" && try "Go: the listing of Porcupine" python3 -B "$here/listings.py" "$here/../../docs/PORCUPINE.md" "$here" go
   try "Go: the command of the guide" first_verdict "cd ../go &&"
   try "Go: no copies of logs" no_copy_in_go
   if ordered_go "$here/go" 2>/dev/null; then
