@@ -207,6 +207,16 @@ at,event,process,op,data
 TEXT
 }
 
+# unfinished OBJECT STATUS VERDICT [OPTION ..]: the run ends so, and what it made until then is a history of that verdict, with some
+# call that has no end.
+unfinished() {
+  rm -f "$1-unfinished.csv"
+  ended "$2" "${faulty[@]}" "$1" "${@:4}" || return 1
+  grep -q "its calls so far are in ./$1-unfinished.csv" told || return 1
+  "$program" check --quiet <"$1-unfinished.csv"
+  [ $? = "$3" ] && awk -F, '$2 == "begin" { n++ } $2 == "end" { n-- } END { exit n < 1 }' "$1-unfinished.csv"
+}
+
 # without a program the library judges, and there is no witness; one of an earlier run is gone
 library_alone() {
   touch stale-witness.csv
@@ -286,6 +296,7 @@ drivers() {
   try "$language: too few views of a caught run" counts 2 stale 0 0 3 "${faulty[@]}" "${small_run[@]}" --views 1000
   try "$language: one thread" unseen "slow: no overlap: none of " slow --components 1 --threads 1 --calls 10 --runs 2
   try "$language: a call that hangs" misused "hangs: hangs: a run took more than 1 s: a call of the object does not end" hangs --limit 1
+  try "$language: what a call that hangs leaves" unfinished hangs 4 0 --limit 1
   try "$language: too many events" misused "stale: limits: events is a number from 2 to 1048576" stale --events 1048577
   try "$language: more events than the judge takes unasked" long_run
   try "$language: too many views" misused "stale: limits: views is a number from 0 to 1000000000" stale --views 1000000001
@@ -323,6 +334,7 @@ throws() {
   local -x SNAPJUDGE_LIBRARY='' SNAPJUDGE_PROGRAM=$program
   try "$1: a view that is too short" misused "short: view: a view has 3 values of 4 components" short
   try "$1: an update that throws" misused "dies: died: a call of thread 0 " dies --threads 1
+  try "$1: what a call that throws leaves" unfinished dies 4 0 --threads 1
   try "$1: an object that can't be made" misused "unmade: died: the object can't be made" unmade
   case $1 in
     C++ | Java | Python) try "$1: an update that throws otherwise" misused "odd: died: a call of thread 0 " odd --threads 1 ;;
@@ -570,14 +582,34 @@ sanitizes() {
   return 1
 }
 
+# crashes LANGUAGE: what an object leaves that ends the process, after the 30th of its updates had its effect and before it ended, and
+# one that fills its stack
+crashes() {
+  local -x SNAPJUDGE_LIBRARY='' SNAPJUDGE_PROGRAM=$program
+  try "$1: what an object leaves that crashes" crashed
+  try "$1: what an object leaves whose stack is full" overflowed
+}
+
+crashed() {
+  unfinished crashes 139 0 --components 1 --nap 20 && [ "$(grep -c ',begin,.*,update,' crashes-unfinished.csv)" -ge 30 ]
+}
+
+overflowed() {
+  rm -f overflows-unfinished.csv
+  ended 139 "${faulty[@]}" overflows && [ "$(head -n 1 overflows-unfinished.csv)" = at,event,process,op,data ] &&
+    grep -q ',begin,.*,view,' overflows-unfinished.csv
+}
+
 try_c() {
   local flags=(-Wall -Wextra -pedantic -Werror -O2) own=(./own_c) faulty=(./faulty_c)
-  try "C: builds" cc -std=c11 "${flags[@]}" -o misuse_c "$here/c/misuse.c"
+  try "C: the recorder is C11 alone" cc -std=c11 "${flags[@]}" -fsyntax-only -include "$here/c/snaprecord.h" -x c /dev/null
+  try "C: builds" cc -std=gnu11 "${flags[@]}" -o misuse_c "$here/c/misuse.c"
   try "C: harness builds" cc -std=gnu11 "${flags[@]}" -Wno-unused-parameter -o own_c "$here/c/own.c" -pthread
   try "C: faulty objects build" cc -std=gnu11 "${flags[@]}" -o faulty_c "$here/c/faulty.c" -pthread
   try "C: misuse" worked ./misuse_c
   drivers C
   by_library
+  crashes C
   try "C: threads that can't be started" few_threads 150000
   try "C: the command of the guide" first_verdict "cd ../c &&"
   try "C: logs that get full" full
@@ -597,6 +629,7 @@ try_cpp() {
   try "C++: misuse" worked ./misuse_cpp
   drivers C++
   by_library
+  crashes C++
   throws C++
   try "C++: threads that can't be started" few_threads 150000
   try "C++: the command of the guide" first_verdict "cd ../cpp &&"

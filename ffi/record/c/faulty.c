@@ -1,7 +1,9 @@
 /* Objects that a driver has to answer for: usage as that of own. `stale` shows nothing but the initial values, `gives-up` never has a
  * view, and a view of `hangs` does not end. `second` is stale from its second run on, and gives up before. `slow` pauses around what it
  * does, and is right with one component. `fails` is stale; of its updates the first had no effect, and of the third it is not known.
- * `retries` is slow, and right with one component: of five updates one has no effect, one is tried again, and the 13th comes late. */
+ * `retries` is slow, and right with one component: of five updates one has no effect, one is tried again, and the 13th comes late.
+ * `crashes` is slow, and right with one component; its 30th update writes where there is no memory, and has its effect before. A view of
+ * `overflows` calls itself until the stack is full. */
 #include "snapdrive.h"
 
 static uint32_t components, begun;
@@ -81,6 +83,19 @@ static bool retried_view(uint32_t thread, uint32_t *values) {
     return true;
 }
 
+static void crashing_update(uint32_t thread, uint32_t component, uint32_t value) {
+    slow_update(thread, component, value);
+    if (++updates == 30) {
+        snapdrive_pause();
+        *(volatile uint32_t *)NULL = value;
+    }
+}
+
+static bool overflows(uint32_t thread, uint32_t *values) {
+    volatile char room[4096] = {(char)thread};
+    return thread < UINT32_MAX && overflows(thread + 1, values) && room[0];
+}
+
 static bool hangs(uint32_t thread, uint32_t *values) {
     for (;;) sleep(thread + 1);
     return values;
@@ -90,6 +105,7 @@ int main(int count, char **words) {
     static const snapdrive_object objects[] = {
         {"stale", begin, update, stale}, {"gives-up", begin, update, gives_up}, {"hangs", begin, update, hangs},
         {"second", begin, update, second}, {"slow", begin, slow_update, slow_view},
-        {"fails", begin, failing_update, stale}, {"retries", begin, retried_update, retried_view}, {0}};
+        {"fails", begin, failing_update, stale}, {"retries", begin, retried_update, retried_view},
+        {"crashes", begin, crashing_update, slow_view}, {"overflows", begin, update, overflows}, {0}};
     return snapdrive_main(count, words, objects);
 }

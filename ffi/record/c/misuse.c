@@ -24,7 +24,7 @@ static void counted_free(void *memory) {
 #define malloc scarce_malloc
 #define aligned_alloc scarce_aligned_alloc
 #define free counted_free
-#include "snaprecord.h"
+#include "snapsofar.h"
 #include <setjmp.h>
 #include <signal.h>
 #include <sys/resource.h>
@@ -58,9 +58,20 @@ static void view(snaprecord *recorder, uint32_t thread, const uint32_t *values) 
     if (snaprecord_begin_view(log)) snaprecord_end_view_values(log, values);
 }
 
+/* Whether this text is written of what the recorder has so far. */
+static bool has_so_far(snaprecord *recorder, const char *text) {
+    char found[1000] = {0};
+    FILE *file = tmpfile();
+    bool is_fine = file && snapsofar_write(recorder, fileno(file)) && fseek(file, 0, SEEK_SET) == 0;
+    if (is_fine) found[fread(found, 1, sizeof found - 1, file)] = 0;
+    if (file) fclose(file);
+    return is_fine && !strcmp(found, text);
+}
+
 static bool is_written(snaprecord *recorder, const char *name) {
     size_t length;
     char *text = snaprecord_text(recorder, &length);
+    expect("what there is so far is all that there is", text && has_so_far(recorder, text));
     FILE *file = fopen(name, "wb");
     bool written = text && file && fwrite(text, 1, length, file) == length && fclose(file) == 0;
     free(text);
@@ -117,6 +128,15 @@ static bool is_dirty(snaprecord *recorder) {
     char *text = snaprecord_text(recorder, &length);
     bool is_told = begun && text && !strcmp(text, "at,event,process,op,data\n1,begin,1,view,\n2,end,1,view,0:1:9\n");
     free(text);
+    snaprecord_close(recorder);
+    return is_told;
+}
+
+/* What there is while a call is open. */
+static bool writes_so_far(snaprecord *recorder) {
+    bool begun = snaprecord_begin_update(snaprecord_log_of(recorder, 0), 0, 7) == 1;
+    view(recorder, 1, (const uint32_t[]){7});
+    bool is_told = begun && has_so_far(recorder, "at,event,process,op,data\n0,begin,0,update,0:1:7\n1,begin,1,view,\n2,end,1,view,0:1:7\n");
     snaprecord_close(recorder);
     return is_told;
 }
@@ -219,6 +239,8 @@ int main(int count, char **words) {
     expect("a dropped update that was seen", is_dirty(&r));
     snaprecord_open(&r, 1, 2, 4);
     expect("a history that goes on", goes_on(&r));
+    expect("two threads and a component", snaprecord_open(&r, 2, 1, 2));
+    expect("what there is so far", writes_so_far(&r));
     expect("no memory", lacks_memory(&r));
 
     expect("limits of threads", !snaprecord_open(&r, 0, 1, 1) && r.fault == SNAPRECORD_LIMITS && !snaprecord_open(&r, 65537, 1, 1));

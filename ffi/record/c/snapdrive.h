@@ -1,5 +1,5 @@
 /* Drives a snapshot object of one's own: threads update and view it by a seeded schedule, and the judge judges each run.
- * Beside it stand snaprecord.h and snapverdict.h, gnu11 and POSIX threads: copy all three. docs/OWN-OBJECT.md of snapjudge shows
+ * Beside it stand snaprecord.h, snapsofar.h and snapverdict.h, gnu11 and POSIX threads: copy all four. docs/OWN-OBJECT.md of snapjudge shows
  * how.
  *
  *     static void begin(uint32_t components) { .. }                                      // a fresh object, 0 in each component
@@ -23,6 +23,7 @@
 #ifndef SNAPDRIVE_H
 #define SNAPDRIVE_H
 #include "snaprecord.h"
+#include "snapsofar.h"
 #include "snapverdict.h"
 #include <pthread.h>
 #include <sched.h>
@@ -147,6 +148,8 @@ typedef struct {
     pthread_mutex_t lock;
     pthread_cond_t ended;
     uint32_t running;
+    snaprecord *recorder;
+    char unfinished[PATH_MAX]; /* the file of a run that does not end */
 } snapdrive_race;
 
 static inline void snapdrive_race_open(snapdrive_race *race, uint32_t threads) {
@@ -172,6 +175,13 @@ static inline void snapdrive_race_end(snapdrive_race *race) {
     pthread_mutex_unlock(&race->lock);
 }
 
+/* What a run that does not end made so far is written. */
+static inline void snapdrive_race_keep(const snapdrive_race *race, const char *name) {
+    int file = open(race->unfinished, O_WRONLY | O_CREAT | O_TRUNC, 0666);
+    if (file >= 0 && snapsofar_write(race->recorder, file) && close(file) == 0)
+        fprintf(stderr, "%s: its calls so far are in %s\n", name, race->unfinished);
+}
+
 /* A call that hangs can't be ended, so the process is. */
 static inline void snapdrive_race_wait(snapdrive_race *race, const char *name, uint64_t limit) {
     struct timespec end;
@@ -183,6 +193,7 @@ static inline void snapdrive_race_wait(snapdrive_race *race, const char *name, u
     bool hangs = race->running;
     pthread_mutex_unlock(&race->lock);
     if (!hangs) return;
+    snapdrive_race_keep(race, name);
     fprintf(stderr, "%s: hangs: a run took more than %" PRIu64 " s: a call of the object does not end\n", name, limit);
     _exit(4);
 }
@@ -198,6 +209,8 @@ typedef struct {
 static inline void *snapdrive_work(void *argument) {
     snapdrive_worker worker = *(snapdrive_worker *)argument;
     uint32_t thread = worker.log->process, values[SNAPDRIVE_COMPONENTS] = {0};
+    char room[SNAPSOFAR_STACK]; /* the front of its stack, where that does not get full */
+    snapsofar_use_stack(room);
     pthread_barrier_wait(&worker.race->start);
     for (uint64_t i = 0; i < worker.options->calls; i++) {
         uint32_t component = snapdrive_choose(worker.options, thread, i, &worker.seed);
@@ -237,6 +250,9 @@ static inline char *snapdrive_record(const snapdrive_object *object, const snapd
     if (snaprecord_open(&recorder, count, (uint32_t)options->components, (uint32_t)options->calls)) {
         object->begin((uint32_t)options->components);
         snapdrive_race_open(&race, count);
+        race.recorder = &recorder;
+        snprintf(race.unfinished, sizeof race.unfinished, "%s/%s-unfinished.csv", options->out, object->name);
+        snapsofar_keep(&recorder, race.unfinished);
         for (uint32_t t = 0; t < count; t++)
             workers[t] = (snapdrive_worker){object, options, snaprecord_log_of(&recorder, t), &race, snapdrive_next(seeds)};
         for (uint32_t t = 0; t < count; t++)
@@ -246,6 +262,7 @@ static inline char *snapdrive_record(const snapdrive_object *object, const snapd
             }
         snapdrive_race_wait(&race, object->name, options->limit);
         for (uint32_t t = 0; t < count; t++) pthread_join(threads[t], NULL);
+        snapsofar_leave(&recorder);
         snapdrive_race_close(&race);
         text = snaprecord_text(&recorder, length);
     }

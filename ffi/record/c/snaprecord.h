@@ -13,7 +13,7 @@
  *     snaprecord_end_view_values(log, values);                        // or snaprecord_end_view, of numbers
  *                                                                     // a call that failed: snaprecord_drop_view, _drop_update
  *
- *     char *text = snaprecord_text(&recorder, &length);               // after the threads were joined
+ *     char *text = snaprecord_text(&recorder, &length);               // after the threads were joined; snapsofar.h writes one before
  *     if (!text) die(recorder.message);
  *     snaprecord_close(&recorder);
  *
@@ -85,6 +85,7 @@ typedef struct {
     alignas(128) struct snaprecord *recorder;
     snaprecord_state state;
     uint32_t process, length, entry_count;
+    _Atomic uint32_t whole, drops; /* how many events others may read, and how often a begin was taken back */
     snaprecord_event *events;
     snaprecord_entry *entries;
     uint32_t begun[SNAPRECORD_COMPONENTS]; /* how many updates of each component */
@@ -200,6 +201,12 @@ static inline bool snaprecord_may_begin(snaprecord_log *log) {
     return false;
 }
 
+/* Others may read the events up to here. What the object writes next does not come before that: no instruction on x86. */
+static inline void snaprecord_publish(snaprecord_log *log) {
+    atomic_store_explicit(&log->whole, log->length, memory_order_release);
+    atomic_thread_fence(memory_order_release);
+}
+
 static inline void snaprecord_begin(snaprecord_log *log, snaprecord_state state, snaprecord_kind kind, uint32_t count) {
     snaprecord_event *event = &log->events[log->length++];
     event->kind = kind;
@@ -208,6 +215,7 @@ static inline void snaprecord_begin(snaprecord_log *log, snaprecord_state state,
     log->entry_count += count;
     log->state = state;
     event->stamp = snaprecord_tick(log);
+    snaprecord_publish(log);
 }
 
 static inline bool snaprecord_may_end(snaprecord_log *log, snaprecord_state state) {
@@ -220,6 +228,7 @@ static inline void snaprecord_end(snaprecord_log *log, uint64_t stamp, snaprecor
     log->events[log->length++] = (snaprecord_event){stamp, kind, log->entry_count, count};
     log->entry_count += count;
     log->state = SNAPRECORD_IDLE;
+    snaprecord_publish(log);
 }
 
 /* The number of the update, from 1 in each component; or 0: a log is full, or a call was misused. Then make no further call. */
@@ -272,6 +281,8 @@ static inline bool snaprecord_dropped(snaprecord_log *log, snaprecord_state stat
     if (!snaprecord_may_end(log, state)) return false;
     log->length--;
     log->state = SNAPRECORD_IDLE;
+    atomic_fetch_add(&log->drops, 1);
+    snaprecord_publish(log);
     return true;
 }
 

@@ -3,7 +3,8 @@
 // one of `odd` throws a number. `unmade` can't be made. `second` is stale from its
 // second run on, and gives up before. `slow` pauses around what it does, and is right with one component. `fails` is stale; of its
 // updates the first had no effect, and of the third it is not known. `retries` is slow, and right with one component: of five updates
-// one has no effect, one is tried again, and the 13th comes late.
+// one has no effect, one is tried again, and the 13th comes late. `crashes` is slow, and right with one component; its 30th update
+// writes where there is no memory, and has its effect before. A view of `overflows` calls itself until the stack is full.
 #include "snapdrive.hpp"
 
 struct Stale {
@@ -109,10 +110,28 @@ struct Retries : Slow {
     }
 };
 
+struct Crashes : Slow {
+    using Slow::Slow;
+    std::atomic<std::uint32_t> updates{0};
+    void update(std::uint32_t thread, std::uint32_t component, std::uint32_t value) {
+        Slow::update(thread, component, value);
+        if (++updates == 30) *static_cast<volatile std::uint32_t *>(nullptr) = value;
+    }
+};
+
+struct Overflows : Stale {
+    using Stale::Stale;
+    std::vector<std::uint32_t> view(std::uint32_t depth) {
+        volatile char room[4096] = {static_cast<char>(depth)};
+        return depth < UINT32_MAX && room[0] != 1 ? view(depth + 2) : Stale::view(depth);
+    }
+};
+
 int main(int count, char **words) {
     return snapdrive::main(count, words,
                            {snapdrive::object<Stale>("stale"), snapdrive::object<GivesUp>("gives-up"), snapdrive::object<Hangs>("hangs"),
                             snapdrive::object<Short>("short"), snapdrive::object<Dies>("dies"), snapdrive::object<Second>("second"),
                             snapdrive::object<Slow>("slow"), snapdrive::object<Fails>("fails"),
-                            snapdrive::object<Retries>("retries"), snapdrive::object<Unmade>("unmade"), snapdrive::object<Odd>("odd")});
+                            snapdrive::object<Retries>("retries"), snapdrive::object<Unmade>("unmade"), snapdrive::object<Odd>("odd"),
+                            snapdrive::object<Crashes>("crashes"), snapdrive::object<Overflows>("overflows")});
 }

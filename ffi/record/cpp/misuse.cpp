@@ -1,7 +1,7 @@
 // The recorder's texts of two worked runs, written to the files that are named, and the fault of each misuse.
 // usage: misuse FILE FILE
 #define _GLIBCXX_ASSERTIONS // the indexes of vectors are tested
-#include "snaprecord.hpp"
+#include "snapsofar.hpp"
 #include <fstream>
 #include <iostream>
 #include <memory>
@@ -55,6 +55,24 @@ static_assert(!std::is_copy_assignable_v<Log> && !std::is_move_assignable_v<Log>
 static_assert(!std::is_copy_constructible_v<Recorder> && !std::is_move_constructible_v<Recorder>);
 static_assert(!std::is_copy_assignable_v<Recorder> && !std::is_move_assignable_v<Recorder>);
 
+// What there is so far, as it is written into a file.
+static std::string so_far(const Recorder &recorder) {
+    char found[1000] = {0};
+    std::FILE *file = std::tmpfile();
+    expect("what there is so far is written", file && snaprecord::write_so_far(recorder, fileno(file)) && std::fseek(file, 0, SEEK_SET) == 0);
+    found[std::fread(found, 1, sizeof found - 1, file)] = 0;
+    std::fclose(file);
+    return found;
+}
+
+// What there is while a call is open.
+static std::string open() {
+    Recorder recorder(2, 1, 2);
+    if (!recorder.log(0).begin_update(0, 7)) return "";
+    view(recorder.log(1), {7});
+    return so_far(recorder);
+}
+
 static std::string worked() {
     Recorder recorder(2, 2, 6);
     Log &writer = recorder.log(0), &viewer = recorder.log(1);
@@ -67,6 +85,7 @@ static std::string worked() {
     if (viewer.begin_view()) viewer.drop_view();
     view(viewer, {99, 0}); // nobody wrote 99
     expect("the views of the worked run", has_views(recorder, 3, 1));
+    expect("what there is so far is all that there is", so_far(recorder) == recorder.text());
     return recorder.text();
 }
 
@@ -85,6 +104,7 @@ static std::string failed_calls() {
     view(viewer, {7, 8});
     view(spare, {7, 8});
     expect("the views beside an update that stays pending", has_views(recorder, 4, 3));
+    expect("what there is so far is all that there is", so_far(recorder) == recorder.text());
     return recorder.text();
 }
 
@@ -135,6 +155,7 @@ int main(int count, char **words) {
     if (count < 3) return 2;
     std::ofstream(words[1]) << worked();
     std::ofstream(words[2]) << failed_calls();
+    expect("what there is so far", open() == "at,event,process,op,data\n0,begin,0,update,0:1:7\n1,begin,1,view,\n2,end,1,view,0:1:7\n");
     expect("a dropped update that was seen", dirty() == "at,event,process,op,data\n1,begin,1,view,\n2,end,1,view,0:1:9\n");
 
     expect("a history that goes on", goes_on() == "at,event,process,op,data\n0,begin,0,view,\n1,end,0,view,\n2,begin,0,update,0:1:0\n"

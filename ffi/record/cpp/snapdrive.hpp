@@ -1,5 +1,6 @@
 // Drives a snapshot object of one's own: threads update and view it by a seeded schedule, and the judge judges each run.
-// Beside it stand snaprecord.hpp and snapverdict.hpp, C++17 and POSIX: copy all three. docs/OWN-OBJECT.md of snapjudge shows how.
+// Beside it stand snaprecord.hpp, snapsofar.hpp and snapverdict.hpp, C++17 and POSIX: copy all four. docs/OWN-OBJECT.md of snapjudge
+// shows how.
 //
 //     struct Board {                                            // a fresh one for each run, with 0 in each component
 //         explicit Board(std::uint32_t components);
@@ -23,6 +24,7 @@
 #ifndef SNAPDRIVE_HPP
 #define SNAPDRIVE_HPP
 #include "snaprecord.hpp"
+#include "snapsofar.hpp"
 #include "snapverdict.hpp"
 #include <chrono>
 #include <condition_variable>
@@ -183,12 +185,18 @@ class Race {
         if (--running == 0) ended.notify_all();
     }
 
-    // A call that hangs can't be ended, so the process is.
-    void wait(const std::string &name, std::uint64_t limit) {
+    // A call that hangs can't be ended, so the process is. What the run made so far is written.
+    void wait(const std::string &name, std::uint64_t limit, const snaprecord::Recorder &recorder, const std::string &unfinished) {
         std::unique_lock guard(lock);
         if (ended.wait_for(guard, std::chrono::seconds(limit), [this] { return running == 0; })) return;
+        keep(name, recorder, unfinished);
         std::cerr << name << ": hangs: a run took more than " << limit << " s: a call of the object does not end" << std::endl;
         std::_Exit(4);
+    }
+
+    static void keep(const std::string &name, const snaprecord::Recorder &recorder, const std::string &unfinished) {
+        if (snaprecord::write_so_far(recorder, unfinished.c_str()))
+            std::cerr << name << ": its calls so far are in " << unfinished << std::endl;
     }
 
     std::exception_ptr failed;
@@ -217,7 +225,10 @@ template <class Board> std::string record(const std::string &name, const Options
     const std::unique_ptr<Board> board = fresh<Board>(components);
     Race race(threads);
     std::vector<std::thread> all;
+    const std::string unfinished = options.out + "/" + name + "-unfinished.csv";
+    const snaprecord::Kept kept(recorder, unfinished);
     const auto run_thread = [&](std::uint32_t t, const Random &random) {
+        const snaprecord::Stack stack;
         std::exception_ptr error;
         race.start();
         try {
@@ -238,8 +249,9 @@ template <class Board> std::string record(const std::string &name, const Options
             std::cerr << name << ": memory: thread " << t << " can't be started" << std::endl;
             std::_Exit(4); // those before it wait for it
         }
-    race.wait(name, options.limit);
+    race.wait(name, options.limit, recorder, unfinished);
     for (std::thread &thread : all) thread.join();
+    if (race.failed) Race::keep(name, recorder, unfinished);
     if (race.failed) std::rethrow_exception(race.failed);
     const snaprecord::Views views = recorder.views();
     outcome.views += views.ended;

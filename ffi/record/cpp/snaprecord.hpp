@@ -12,6 +12,7 @@
 //     log.end_view_values(values);                             // or end_view, of numbers; of a call that failed drop_..
 //
 //     std::string text = recorder.text();                      // after the threads were joined; throws snaprecord::Error
+//                                                              // snapsofar.hpp writes one before
 //
 // What the record says: where call A ended before call B began, A happened before B in the sense of C++. Each stamp is a
 // fetch_add of one clock with acquire and release; that of a begin is taken last in begin_.., that of an end first in
@@ -112,6 +113,7 @@ class alignas(128) Log {
 
   private:
     friend class Recorder;
+    friend class SoFar;
     enum class State { idle, refused, updating, viewing };
     enum class Kind { begin_update, end_update, begin_view, end_view, end_view_values };
     struct Event {
@@ -121,6 +123,7 @@ class alignas(128) Log {
     };
 
     std::uint64_t tick();
+    void publish();
     bool misused(Fault fault);
     bool may_begin();
     bool may_end(State expected);
@@ -131,6 +134,7 @@ class alignas(128) Log {
     Recorder *recorder = nullptr;
     State state = State::idle;
     std::uint32_t process = 0, length = 0, entry_count = 0;
+    std::atomic<std::uint32_t> whole{0}, drops{0}; // how many events others may read, and how often a begin was taken back
     std::vector<Event> events; // both are as long as they can get before the threads start
     std::vector<Entry> entries;
     std::array<std::uint32_t, component_limit> begun{}; // how many updates of each component
@@ -202,6 +206,9 @@ class Recorder {
 
   private:
     friend class Log;
+    friend class SoFar;
+    static constexpr const char *words[] = {",begin,", ",end,", ",begin,", ",end,", ",end,"};
+    static constexpr const char *ops[] = {",update,", ",update,", ",view,", ",view,", ",view,"};
     // All updates, to look numbers up.
     struct Table {
         std::array<std::vector<std::uint64_t>, component_limit> begun;            // by number: the stamp of the begin
@@ -262,8 +269,6 @@ class Recorder {
     }
 
     void write(std::string &text, const Table &table, const Log &log, const Log::Event &event) const {
-        static constexpr const char *words[] = {",begin,", ",end,", ",begin,", ",end,", ",end,"};
-        static constexpr const char *ops[] = {",update,", ",update,", ",view,", ",view,", ",view,"};
         const auto kind = static_cast<std::size_t>(event.kind);
         text += std::to_string(event.stamp) + words[kind] + std::to_string(log.process) + ops[kind];
         const char *space = "";
@@ -309,6 +314,12 @@ inline bool Log::may_end(State expected) {
     return state == expected || misused(state == State::refused ? Fault::after_full : Fault::not_open);
 }
 
+// Others may read the events up to here. What the object writes next does not come before that: no instruction on x86.
+inline void Log::publish() {
+    whole.store(length, std::memory_order_release);
+    std::atomic_thread_fence(std::memory_order_release);
+}
+
 inline void Log::begin(State next, Kind kind, std::uint32_t count) {
     Event &event = events[length++];
     event.kind = kind;
@@ -317,12 +328,14 @@ inline void Log::begin(State next, Kind kind, std::uint32_t count) {
     entry_count += count;
     state = next;
     event.stamp = tick();
+    publish();
 }
 
 inline void Log::end(std::uint64_t stamp, Kind kind, std::uint32_t count) {
     events[length++] = {stamp, kind, entry_count, count};
     entry_count += count;
     state = State::idle;
+    publish();
 }
 
 inline std::uint32_t Log::begin_update(std::uint32_t component, std::uint32_t value) {
@@ -377,6 +390,8 @@ inline bool Log::dropped(State expected) {
     if (!may_end(expected)) return false;
     length--;
     state = State::idle;
+    drops++;
+    publish();
     return true;
 }
 

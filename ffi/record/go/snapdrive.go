@@ -223,7 +223,22 @@ func work(board FallibleBoard, log *Log[uint32], calls []int, options Options) (
 	return nil
 }
 
-// The history of a fresh object under a schedule. Its views are counted.
+// Writes the calls so far of a run that does not end, or in which a call died.
+func keepUnfinished(name, out string, recorder *Recorder[uint32]) {
+	file := fmt.Sprintf("%s/%s-unfinished.csv", out, name)
+	text, err := recorder.TextSoFar()
+	if err == nil {
+		err = os.WriteFile(file, []byte(text), 0o666)
+	}
+	if err != nil {
+		fmt.Fprintf(os.Stderr, "%s: its calls so far can't be written: %v\n", name, err)
+		return
+	}
+	fmt.Fprintf(os.Stderr, "%s: its calls so far are in %s\n", name, file)
+}
+
+// The history of a fresh object under a schedule. Its views are counted. What a run made that did not end stands in
+// NAME-unfinished.csv.
 func record(object Object, options Options, schedule [][]int, outcome *Outcome) (string, error) {
 	recorder, err := New[uint32](int(options.Threads), int(options.Components), int(options.Calls))
 	if err != nil {
@@ -248,12 +263,13 @@ func record(object Object, options Options, schedule [][]int, outcome *Outcome) 
 	late := time.After(time.Duration(options.Limit) * time.Second)
 	for range schedule {
 		select {
-		case err := <-ended:
-			if err != nil {
-				return "", err
-			}
+		case err = <-ended:
 		case <-late:
-			return "", failed("hangs", "a run took more than %d s: a call of the object does not end", options.Limit)
+			err = failed("hangs", "a run took more than %d s: a call of the object does not end", options.Limit)
+		}
+		if err != nil {
+			keepUnfinished(object.Name, options.Out, recorder)
+			return "", err
 		}
 	}
 	views := recorder.Views()

@@ -13,7 +13,7 @@
 //	values := board.View()
 //	log.EndViewValues(values)                                // or EndView, of numbers; of a call that failed Drop..
 //
-//	text, err := recorder.Text()                             // after the goroutines have ended
+//	text, err := recorder.Text()                             // after the goroutines have ended; TextSoFar gives one before
 //
 // Values may be of any type that Go compares. Those of type uint32 stand for themselves, others are numbered by a table.
 //
@@ -112,6 +112,14 @@ type noCopy struct{}
 func (*noCopy) Lock()   {}
 func (*noCopy) Unlock() {}
 
+// What others may read of a log: the room of its lists, how many events there are, and how often a begin was taken back.
+type recorded[V comparable] struct {
+	events  []event
+	entries []Entry[V]
+	count   atomic.Int64
+	drops   atomic.Int64
+}
+
 // A Log is what one goroutine recorded.
 type Log[V comparable] struct {
 	_        noCopy
@@ -120,6 +128,7 @@ type Log[V comparable] struct {
 	state    state
 	events   []event // both have room for all that they can get
 	entries  []Entry[V]
+	recorded recorded[V]
 	begun    [ComponentLimit]uint32
 	_        [128]byte // alone in its lines of the cache
 }
@@ -153,6 +162,7 @@ func New[V comparable](threads, components, calls int) (*Recorder[V], error) {
 		log.recorder, log.thread = recorder, t
 		log.events = touched(2*calls, event{stamp: 1})
 		log.entries = touched(calls*(components+1), Entry[V]{Number: 1})
+		log.recorded.events, log.recorded.entries = log.events[:cap(log.events)], log.entries[:cap(log.entries)]
 	}
 	return recorder, nil
 }
@@ -218,11 +228,13 @@ func (log *Log[V]) begin(next state, kind kind, first int) {
 	log.state = next
 	log.events = append(log.events, event{0, kind, first, len(log.entries) - first})
 	log.events[len(log.events)-1].stamp = log.tick()
+	log.recorded.count.Store(int64(len(log.events)))
 }
 
 func (log *Log[V]) end(stamp uint64, kind kind, first int) {
 	log.events = append(log.events, event{stamp, kind, first, len(log.entries) - first})
 	log.state = idle
+	log.recorded.count.Store(int64(len(log.events)))
 }
 
 // BeginUpdate answers the number of the update, from 1 in each component; or 0: a log is full, or a call was misused. Then make no
@@ -302,6 +314,8 @@ func (log *Log[V]) dropped(expected state) bool {
 	if may {
 		log.events = log.events[:len(log.events)-1]
 		log.state = idle
+		log.recorded.drops.Add(1)
+		log.recorded.count.Store(int64(len(log.events)))
 	}
 	return may
 }

@@ -19,10 +19,40 @@ type updates[V comparable] struct {
 // Text is the history that all logs hold. They stand one after the other: the judge puts the events in the order of their stamps.
 // The error is the first misuse, or Initials, TwoWriters or SameValue.
 func (recorder *Recorder[V]) Text() (string, error) {
+	parts := make([][]event, len(recorder.logs))
+	for t := range recorder.logs {
+		parts[t] = recorder.logs[t].events
+	}
+	return recorder.text(parts)
+}
+
+// TextSoFar is the same while goroutines run: a call that is open, or ends meanwhile, has no end in it. An update whose begin is left out
+// had not begun before each view that is in it had ended. So a right run is never called wrong.
+func (recorder *Recorder[V]) TextSoFar() (string, error) {
+	now, parts := recorder.clock.Load(), make([][]event, len(recorder.logs))
+	for t := range recorder.logs {
+		parts[t] = recorder.logs[t].recorded.before(now)
+	}
+	return recorder.text(parts)
+}
+
+// The events that began or ended before this moment. A begin that is taken back meanwhile is read again.
+func (recorded *recorded[V]) before(now uint64) []event {
+	for {
+		drops, count := recorded.drops.Load(), recorded.count.Load()
+		events := append([]event(nil), recorded.events[:count]...)
+		if drops == recorded.drops.Load() {
+			return events[:sort.Search(len(events), func(i int) bool { return events[i].stamp >= now })]
+		}
+	}
+}
+
+// The history of these events of each log.
+func (recorder *Recorder[V]) text(parts [][]event) (string, error) {
 	if misuse := recorder.misuse.Load(); misuse != nil {
 		return "", *misuse
 	}
-	updates, err := recorder.tabulate()
+	updates, err := recorder.tabulate(parts)
 	if err != nil {
 		return "", err
 	}
@@ -31,7 +61,7 @@ func (recorder *Recorder[V]) Text() (string, error) {
 	recorder.table = nil
 	text.WriteString("at,event,process,op,data\n")
 	for t := range recorder.logs {
-		for _, event := range recorder.logs[t].events {
+		for _, event := range parts[t] {
 			recorder.write(&text, updates, places, &recorder.logs[t], event)
 		}
 	}
@@ -82,7 +112,7 @@ func below(stamps []uint64, stamp uint64) int {
 // Table has the values by the numbers that stand for them in the last Text, from 0 on. It is empty where values are of type uint32.
 func (recorder *Recorder[V]) Table() []V { return recorder.table }
 
-func (recorder *Recorder[V]) tabulate() ([]updates[V], error) {
+func (recorder *Recorder[V]) tabulate(parts [][]event) ([]updates[V], error) {
 	table := make([]updates[V], recorder.components)
 	if recorder.Initials != nil && len(recorder.Initials) != recorder.components {
 		return nil, Initials
@@ -94,18 +124,18 @@ func (recorder *Recorder[V]) tabulate() ([]updates[V], error) {
 		}
 	}
 	byValues := false
-	for t := range recorder.logs {
-		for _, event := range recorder.logs[t].events {
+	for _, events := range parts {
+		for _, event := range events {
 			byValues = byValues || event.kind == endViewValues
 		}
 	}
 	for t := range recorder.logs {
 		log := &recorder.logs[t]
-		for _, event := range log.events {
+		for _, event := range parts[t] {
 			if event.kind != beginUpdate {
 				continue
 			}
-			entry := log.entries[event.first]
+			entry := log.recorded.entries[event.first]
 			of := &table[entry.Component]
 			if of.writer != nil && of.writer != log {
 				return nil, fmt.Errorf("component %d: %w", entry.Component, TwoWriters)
@@ -155,7 +185,7 @@ var words = [...]string{"begin,%d,update,", "end,%d,update,", "begin,%d,view,", 
 func (recorder *Recorder[V]) write(text *strings.Builder, updates []updates[V], places map[V]int, log *Log[V], event event) {
 	fmt.Fprintf(text, "%d,"+words[event.kind], event.stamp, log.thread)
 	space := ""
-	for _, entry := range log.entries[event.first : event.first+event.count] {
+	for _, entry := range log.recorded.entries[event.first : event.first+event.count] {
 		number := entry.Number
 		if event.kind == endViewValues {
 			number = updates[entry.Component].number(entry.Value, event.stamp)

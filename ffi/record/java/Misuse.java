@@ -80,6 +80,17 @@ public final class Misuse {
     }
 
     /** A view shows what a dropped update wrote. */
+    /** What there is while a call is open. */
+    static String soFar() {
+        SnapRecorder recorder = new SnapRecorder(2, 1, 2);
+        expect("an update begins", recorder.log(0).beginUpdate(0, 7) == 1);
+        view(recorder.log(1), 7);
+        String text = recorder.textSoFar();
+        recorder.log(0).endUpdate();
+        expect("what there is so far is all that there is", recorder.textSoFar().equals(recorder.text()));
+        return text;
+    }
+
     static String dirty() {
         SnapRecorder recorder = new SnapRecorder(2, 1, 2);
         expect("an update begins", recorder.log(0).beginUpdate(0, 9) == 1);
@@ -158,6 +169,8 @@ public final class Misuse {
     public static void main(String[] words) throws IOException {
         Files.writeString(Path.of(words[0]), worked());
         Files.writeString(Path.of(words[1]), failedCalls());
+        expect("what there is so far", soFar().equals(
+            "at,event,process,op,data\n0,begin,0,update,0:1:7\n1,begin,1,view,\n2,end,1,view,0:1:7\n"));
         expect("a dropped update that was seen", dirty().equals("at,event,process,op,data\n1,begin,1,view,\n2,end,1,view,0:1:9\n"));
         expect("a history that goes on", goesOn().equals("at,event,process,op,data\n0,begin,0,view,\n1,end,0,view,\n"
             + "2,begin,0,update,0:1:0\n3,end,0,update,\n4,begin,0,view,\n5,end,0,view,0:1:0\n"));

@@ -310,8 +310,8 @@ public final class SnapDriver {
             }
     }
 
-    /** The history of a fresh object. */
-    private static Run record(IntFunction<? extends Board> make, Options options, Random seeds) throws InterruptedException {
+    /** The history of a fresh object. What a run made that did not end stands in FRONT-unfinished.csv. */
+    private static Run record(IntFunction<? extends Board> make, Options options, Random seeds, Path front) throws InterruptedException {
         int count = options.get(Number.THREADS);
         SnapRecorder recorder = new SnapRecorder(count, options.get(Number.COMPONENTS), options.get(Number.CALLS));
         Board board = fresh(make, options.get(Number.COMPONENTS));
@@ -335,11 +335,23 @@ public final class SnapDriver {
         start(threads);
         long end = System.nanoTime() + options.get(Number.LIMIT) * 1000000000L;
         for (Thread thread : threads) thread.join(Math.max(1, (end - System.nanoTime()) / 1000000));
-        if (failed.get() != null) throw failed.get();
         if (threads.stream().anyMatch(Thread::isAlive))
-            throw new DriveException(
-                "hangs", "a run took more than " + options.get(Number.LIMIT) + " s: a call of the object does not end");
-        return new Run(recorder);
+            failed.compareAndSet(null, new DriveException(
+                "hangs", "a run took more than " + options.get(Number.LIMIT) + " s: a call of the object does not end"));
+        if (failed.get() == null) return new Run(recorder);
+        keepUnfinished(recorder, front);
+        throw failed.get();
+    }
+
+    /** Writes the calls so far of a run that does not end, or in which a call died. */
+    private static void keepUnfinished(SnapRecorder recorder, Path front) {
+        Path file = Path.of(front + "-unfinished.csv");
+        try {
+            Files.writeString(file, recorder.textSoFar());
+            System.err.println(front.getFileName() + ": its calls so far are in " + file);
+        } catch (IOException | SnapRecorder.RecordException error) {
+            System.err.println(front.getFileName() + ": its calls so far can't be written: " + error.getMessage());
+        }
     }
 
     // ---- the judge: the program alone, since Java calls a library in C only from version 22 on
@@ -556,7 +568,7 @@ public final class SnapDriver {
         naps.set(options.numbers[Number.SEED.ordinal()]);
         while (!judge.hasEnded()) {
             try {
-                judge.batch.add(record(make, options, seeds));
+                judge.batch.add(record(make, options, seeds, Path.of(options.out, name)));
             } catch (Throwable fault) {
                 judge.judge(); // the runs before may have ended all
                 if (!judge.hasEnded()) throw fault;

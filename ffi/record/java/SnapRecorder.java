@@ -8,6 +8,10 @@
  * CONTRACT, NEGLIGENCE OR OTHER TORTIOUS ACTION, ARISING OUT OF OR IN CONNECTION WITH THE USE OR PERFORMANCE OF THIS SOFTWARE.
  */
 
+import java.io.IOException;
+import java.lang.invoke.VarHandle;
+import java.nio.file.Files;
+import java.nio.file.Path;
 import java.util.ArrayList;
 import java.util.Arrays;
 import java.util.Collections;
@@ -18,6 +22,7 @@ import java.util.Map;
 import java.util.Objects;
 import java.util.Set;
 import java.util.concurrent.atomic.AtomicBoolean;
+import java.util.concurrent.atomic.AtomicInteger;
 import java.util.concurrent.atomic.AtomicLong;
 import java.util.concurrent.atomic.AtomicReference;
 import java.util.stream.IntStream;
@@ -38,7 +43,8 @@ import java.util.stream.IntStream;
  * long[] values = board.view();
  * log.endViewValues(values);                              // or endView, of numbers; of a call that failed drop..
  *
- * String text = recorder.text();                          // after the threads were joined
+ * String text = recorder.text();                          // after the threads were joined; textSoFar() writes one before
+ * Thread hook = recorder.keep(path);                      // or writes that where the process ends
  * </pre>
  *
  * <p>Values may be of any class with equals and hashCode, as strings, lists and records are. A Byte, Short, Integer and Long are
@@ -147,6 +153,8 @@ public final class SnapRecorder {
         private final int[] begun = new int[COMPONENT_LIMIT];
         private int length;
         private int shown;
+        /** How many events others may read, and how often a begin was taken back. */
+        private final AtomicInteger whole = new AtomicInteger(), drops = new AtomicInteger();
         private State state = State.IDLE;
 
         private Log(int thread) {
@@ -202,6 +210,23 @@ public final class SnapRecorder {
             firsts[length + 1] = shown;
             state = next;
             stamps[length++] = clock.getAndIncrement();
+            publish();
+        }
+
+        /** Others may read the events up to here. What the object writes next does not come before that. */
+        private void publish() {
+            whole.setRelease(length);
+            VarHandle.releaseFence();
+        }
+
+        /** How many events began or ended before this moment. A begin that is taken back meanwhile is looked at again. */
+        private int lengthAt(long now) {
+            for (;;) {
+                int dropped = drops.get(), count = whole.getAcquire(), at = count;
+                while (at > 0 && stamps[at - 1] >= now) at--;
+                VarHandle.acquireFence();
+                if (dropped == drops.get()) return at;
+            }
         }
 
         private void end(long stamp, int kind) {
@@ -209,6 +234,7 @@ public final class SnapRecorder {
             firsts[length + 1] = shown;
             stamps[length++] = stamp;
             state = State.IDLE;
+            publish();
         }
 
         /** The number of the update, from 1 in each component; or 0: a log is full, or a call was misused. Then make no further call. */
@@ -287,6 +313,8 @@ public final class SnapRecorder {
             if (!mayEnd(expected)) return false;
             length--;
             state = State.IDLE;
+            drops.getAndIncrement();
+            publish();
             return true;
         }
 
@@ -309,14 +337,44 @@ public final class SnapRecorder {
      * events in the order of their stamps. Throws RecordException of the first misuse, of INITIALS, TWO_WRITERS or SAME_VALUE.
      */
     public String text() {
+        return text(Arrays.stream(logs).mapToInt(log -> log.length).toArray());
+    }
+
+    /**
+     * The same while threads run: a call that is open, or ends meanwhile, has no end in it. An update whose begin is left out had not
+     * begun before each view that is in it had ended. So a right run is never called wrong.
+     */
+    public String textSoFar() {
+        long now = clock.get();
+        return text(Arrays.stream(logs).mapToInt(log -> log.lengthAt(now)).toArray());
+    }
+
+    /**
+     * If the process ends, the history so far is written into this file: at System.exit, where all threads have ended, or by SIGTERM or
+     * SIGINT. Runtime.removeShutdownHook of the answer ends that. A process that dies otherwise writes nothing.
+     */
+    public Thread keep(Path path) {
+        Thread hook = new Thread(() -> {
+            try {
+                Files.writeString(path, textSoFar());
+            } catch (IOException | RecordException error) {
+                System.err.println(path + " can't be written: " + error);
+            }
+        });
+        Runtime.getRuntime().addShutdownHook(hook);
+        return hook;
+    }
+
+    /** The history of so many events of each log. */
+    private String text(int[] lengths) {
         if (misuse.get() != null) throw misuse.get();
         if (initials != null && initials.length != components) throw new RecordException(Fault.INITIALS, "");
-        Updates updates = new Updates();
-        tabulate(updates);
+        Updates updates = new Updates(lengths);
+        tabulate(updates, lengths);
         Map<Object, Integer> places = new HashMap<>();
         for (int place = 0; place < table.size(); place++) places.put(table.get(place), place);
         StringBuilder text = new StringBuilder("at,event,process,op,data\n");
-        for (Log log : logs) for (int i = 0; i < log.length; i++) write(text, updates, places, log, i);
+        for (Log log : logs) for (int i = 0; i < lengths[log.thread]; i++) write(text, updates, places, log, i);
         return text.toString();
     }
 
@@ -358,10 +416,10 @@ public final class SnapRecorder {
         return table;
     }
 
-    private void tabulate(Updates updates) {
+    private void tabulate(Updates updates, int[] lengths) {
         Set<Object> values = new LinkedHashSet<>();
         for (Log log : logs)
-            for (int i = 0; i < log.length; i++)
+            for (int i = 0; i < lengths[log.thread]; i++)
                 for (int e = log.firsts[i]; e < log.firsts[i + 1]; e++)
                     if (number(updates, log, i, e) != 0) values.add(log.value(e));
         boolean standForThemselves = values.stream().allMatch(value -> value instanceof Long && (Long) value >>> 32 == 0);
@@ -403,16 +461,16 @@ public final class SnapRecorder {
         private final List<List<Long>> begun = new ArrayList<>(); // by component and number: the stamp of the begin
         private final List<Map<Object, Integer>> numbers = new ArrayList<>(); // by component and value, where views tell values
 
-        private Updates() {
+        private Updates(int[] lengths) {
             boolean byValues = false;
-            for (Log log : logs) for (int i = 0; i < log.length; i++) byValues |= log.kinds[i] == END_VIEW_VALUES;
+            for (Log log : logs) for (int i = 0; i < lengths[log.thread]; i++) byValues |= log.kinds[i] == END_VIEW_VALUES;
             Log[] writers = new Log[COMPONENT_LIMIT];
             for (int k = 0; k < COMPONENT_LIMIT; k++) {
                 begun.add(new ArrayList<>());
                 numbers.add(new HashMap<>());
             }
             for (Log log : logs)
-                for (int i = 0; i < log.length; i++) {
+                for (int i = 0; i < lengths[log.thread]; i++) {
                     if (log.kinds[i] != BEGIN_UPDATE) continue;
                     int component = log.shownComponents[log.firsts[i]];
                     Object value = log.value(log.firsts[i]);

@@ -1,5 +1,8 @@
 """The recorder's texts of worked runs, and the fault of each misuse."""
 import os
+import subprocess
+import sys
+import tempfile
 import unittest
 
 from snaprecord import EVENT_LIMIT, Fault, Recorder, RecordError
@@ -55,6 +58,28 @@ class Misuse(unittest.TestCase):
         with open(os.path.join(HERE, "..", "failed.csv")) as file:
             self.assertEqual(recorder.text(), file.read())
         self.assertEqual(recorder.views(), (4, 3))
+
+    def test_what_there_is_so_far(self):
+        """What there is while a call is open; and later all."""
+        recorder = Recorder(2, 1, 2)
+        self.assertEqual(recorder.log(0).begin_update(0, 7), 1)
+        view(recorder.log(1), 7)
+        events = "0,begin,0,update,0:1:7\n1,begin,1,view,\n2,end,1,view,0:1:7\n"
+        self.assertEqual(recorder.text_so_far(), f"at,event,process,op,data\n{events}")
+        recorder.log(0).end_update()
+        self.assertEqual(recorder.text_so_far(), recorder.text())
+
+    def test_what_is_kept(self):
+        """A process that ends, by an exception or by SIGTERM, leaves what there is so far; by os._exit it leaves nothing."""
+        begin = "from snaprecord import Recorder; import os, signal; r = Recorder(1, 1, 2); r.keep('kept.csv'); r.log(0).begin_view(); "
+        for end, status in (("0", 0), ("raise KeyError", 1), ("os.kill(os.getpid(), signal.SIGTERM)", 143), ("r.leave()", 0), ("os._exit(7)", 7)):
+            with tempfile.TemporaryDirectory() as folder:
+                done = subprocess.run([sys.executable, "-B", "-c", begin + end], cwd=folder, env={"PYTHONPATH": HERE}, stderr=subprocess.DEVNULL)
+                self.assertEqual(done.returncode, status)
+                self.assertEqual(os.listdir(folder), ["kept.csv"] if end not in ("r.leave()", "os._exit(7)") else [])
+                if os.listdir(folder):
+                    with open(f"{folder}/kept.csv") as file:
+                        self.assertEqual(file.read(), "at,event,process,op,data\n0,begin,0,view,\n")
 
     def test_dropped_update_that_was_seen(self):
         recorder = Recorder(2, 1, 2)

@@ -248,9 +248,10 @@ def start_all(threads):
             raise DriveError("memory", f"thread {number} can't be started") from error
 
 
-def record(make, options, schedule):
-    """The recorder of a fresh object under a schedule."""
+def record(make, options, schedule, front):
+    """The recorder of a fresh object under a schedule. What a run made that did not end stands in FRONT-unfinished.csv."""
     board, recorder = fresh(make, options), Recorder(options.threads, options.components, options.calls)
+    recorder.keep(f"{front}-unfinished.csv")
     start, failed = threading.Barrier(options.threads), []
 
     def run_thread(thread):
@@ -267,11 +268,24 @@ def record(make, options, schedule):
     start_all(threads)
     for thread in threads:
         thread.join(max(0, end - time.monotonic()))
+    if not failed and any(thread.is_alive() for thread in threads):
+        failed.append(DriveError("hangs", f"a run took more than {options.limit} s: a call of the object does not end"))
     if failed:
+        keep_unfinished(recorder, front)
         raise failed[0]
-    if any(thread.is_alive() for thread in threads):
-        raise DriveError("hangs", f"a run took more than {options.limit} s: a call of the object does not end")
+    recorder.leave()
     return recorder
+
+
+def keep_unfinished(recorder, front):
+    """Writes the calls so far of a run that does not end, or in which a call died."""
+    recorder.leave()
+    try:
+        with open(f"{front}-unfinished.csv", "w", encoding="ascii") as file:
+            file.write(recorder.text_so_far())
+    except (OSError, RecordError):
+        return  # what is told of the run matters more
+    print(f"{os.path.basename(front)}: its calls so far are in {front}-unfinished.csv", file=sys.stderr)
 
 
 # ---- the judge
@@ -364,7 +378,7 @@ def run(make, name="object", **words):
     test_folder(options.out)
     _Naps.longest, _Naps.random = options.nap, splitmix64(options.seed)
     for number, schedule in enumerate(schedules(options), 1):
-        recorder = record(make, options, schedule)
+        recorder = record(make, options, schedule, front)
         text = recorder.text()
         outcome.add(*recorder.views())
         status = judge.status(text)

@@ -15,6 +15,7 @@ One file, Python 3.8 or later, no dependencies: copy it into a harness. docs/OWN
     log.end_view_values(values)                     # or end_view, of numbers; of a call that failed drop_..
 
     text = recorder.text()                          # after the threads were joined; raises RecordError
+    recorder.keep("unfinished.csv")                 # before: writes what there is so far where the process ends
 
 A value may be all that a dict takes as a key, but None. In a view None is the value that the component has at first.
 
@@ -32,9 +33,11 @@ WARRANTIES OF MERCHANTABILITY AND FITNESS. IN NO EVENT SHALL THE AUTHOR BE LIABL
 CONSEQUENTIAL DAMAGES OR ANY DAMAGES WHATSOEVER RESULTING FROM LOSS OF USE, DATA OR PROFITS, WHETHER IN AN ACTION OF
 CONTRACT, NEGLIGENCE OR OTHER TORTIOUS ACTION, ARISING OUT OF OR IN CONNECTION WITH THE USE OR PERFORMANCE OF THIS SOFTWARE.
 """
+import atexit
 import bisect
 import enum
 import itertools
+import signal
 import sys
 import threading
 
@@ -267,11 +270,42 @@ class Recorder:
         Whole numbers of 32 bits stand for themselves where all values are such. Else `table` then has the values, by the numbers
         that stand for them, from 0 on. Raises RecordError of the first misuse, of INITIALS, TWO_WRITERS or SAME_VALUE.
         """
+        return self._text([log.events for log in self.logs])
+
+    def text_so_far(self):
+        """The same while threads run: a call that is open, or ends meanwhile, has no end in it.
+
+        An update whose begin is left out had not begun before each view that is in it had ended. So a right run is never called wrong.
+        """
+        now = self._tick()
+        whole = [[tuple(event) for event in list(log.events)] for log in self.logs]
+        return self._text([[event for event in events if event[0] is not None and event[0] < now] for events in whole])
+
+    def keep(self, path):
+        """If the process ends before the next call of `leave`, the history so far is written into a file of this path.
+
+        That is at the end of Python, also by an exception or sys.exit, and by SIGTERM where it is called by the main thread. A process
+        that dies otherwise, as by os._exit or SIGKILL, writes nothing.
+        """
+        self._path = path
+        atexit.register(self._write)
+        if threading.current_thread() is threading.main_thread() and signal.getsignal(signal.SIGTERM) is signal.SIG_DFL:
+            signal.signal(signal.SIGTERM, lambda number, frame: sys.exit(128 + number))
+
+    def leave(self):
+        """Ends what `keep` began."""
+        atexit.unregister(self._write)
+
+    def _write(self):
+        with open(self._path, "w", encoding="ascii") as file:
+            file.write(self.text_so_far())
+
+    def _text(self, logs):
         if self._misuse is not None:
             raise self._misuse
         if self.initials is not None and len(self.initials) != self.components:
             raise RecordError(Fault.INITIALS, f"{len(self.initials)} values, {self.components} components")
-        begun, numbers = self._updates()
+        begun, numbers = self._updates(logs)
 
         def number_of(component, value, ended):
             if value is None or value == self._initial_of(component):
@@ -282,11 +316,11 @@ class Recorder:
             return numbers.get((component, value), last)
 
         records = []
-        for log in self.logs:
-            for stamp, kind, data in log.events:
+        for thread, events in enumerate(logs):
+            for stamp, kind, data in events:
                 if kind is _Kind.END_VIEW_VALUES:
                     data = [(component, number_of(component, value, stamp), value) for component, _, value in data]
-                records.append((f"{stamp},{kind.value[0]},{log.thread},{kind.value[1]},", [entry for entry in data if entry[1]]))
+                records.append((f"{stamp},{kind.value[0]},{thread},{kind.value[1]},", [entry for entry in data if entry[1]]))
         values = [value for _, data in records for _, _, value in data]
         self.table = [] if all(map(_has_32_bits, values)) else list(dict.fromkeys(values))
         places = {value: place for place, value in enumerate(self.table)}
@@ -313,16 +347,16 @@ class Recorder:
     def _initial_of(self, component):
         return self.initial if self.initials is None else self.initials[component]
 
-    def _updates(self):
+    def _updates(self, logs):
         """Of each component the stamps of its updates' begins; and by component and value the numbers, where some view tells values."""
-        by_values = any(kind is _Kind.END_VIEW_VALUES for log in self.logs for _, kind, _ in log.events)
+        by_values = any(kind is _Kind.END_VIEW_VALUES for events in logs for _, kind, _ in events)
         begun, numbers, writers = {}, {}, {}
-        for log in self.logs:
-            for stamp, kind, data in log.events:
+        for thread, events in enumerate(logs):
+            for stamp, kind, data in events:
                 if kind is not _Kind.BEGIN_UPDATE:
                     continue
                 ((component, number, value),) = data
-                if writers.setdefault(component, log) is not log:
+                if writers.setdefault(component, thread) != thread:
                     raise RecordError(Fault.TWO_WRITERS, f"component {component}")
                 begun.setdefault(component, []).append(stamp)
                 is_new = numbers.setdefault((component, value), number) == number

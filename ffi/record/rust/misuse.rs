@@ -55,6 +55,19 @@ fn failed_calls_have_their_text() {
     assert_eq!(r.views(), Views { ended: 4, overlapping: 3 });
 }
 
+/// What there is while a call is open; and later all.
+#[test]
+fn what_there_is_so_far() {
+    let mut r = recorder(2, 1, 2);
+    let so_far = r.so_far();
+    assert_eq!(r.logs[0].begin_update(0, 7), Some(1));
+    view(&mut r.logs[1], &[7]);
+    let events = "0,begin,0,update,0:1:7\n1,begin,1,view,\n2,end,1,view,0:1:7\n";
+    assert_eq!(so_far.text(), Ok(format!("at,event,process,op,data\n{events}")));
+    r.logs[0].end_update();
+    assert_eq!(so_far.text(), r.text());
+}
+
 #[test]
 fn a_dropped_update_that_was_seen_is_a_value_nobody_wrote() {
     let mut r = recorder(2, 1, 2);

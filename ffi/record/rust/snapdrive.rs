@@ -30,7 +30,7 @@
 //! CONTRACT, NEGLIGENCE OR OTHER TORTIOUS ACTION, ARISING OUT OF OR IN CONNECTION WITH THE USE OR PERFORMANCE OF THIS SOFTWARE.
 #![allow(dead_code)]
 
-use crate::snaprecord::{self, Log, Recorder, Views, EVENT_LIMIT};
+use crate::snaprecord::{self, Log, Recorder, SoFar, Views, EVENT_LIMIT};
 use crate::snapverdict::{self, Judge};
 use std::io::{self, Write};
 use std::panic::{self, AssertUnwindSafe};
@@ -38,7 +38,7 @@ use std::process::{self, ExitCode};
 use std::sync::atomic::{AtomicU64, Ordering};
 use std::sync::{mpsc, Barrier};
 use std::time::{Duration, Instant};
-use std::{env, fmt, thread};
+use std::{env, fmt, fs, thread};
 
 pub const USAGE: &str = "usage: [OBJECT] [OPTION VALUE ..]
   --threads 4      how many threads, at most 64
@@ -306,20 +306,31 @@ fn work<B: FallibleBoard>(board: &B, log: &mut Log, thread: usize, options: &Opt
     Ok(())
 }
 
+/// Writes the calls so far of a run that does not end, or in which a call died.
+fn keep_unfinished(name: &str, out: &str, so_far: &SoFar) {
+    let file = format!("{out}/{name}-unfinished.csv");
+    if so_far.text().is_ok_and(|text| fs::write(&file, text).is_ok()) {
+        eprintln!("{name}: its calls so far are in {file}");
+    }
+}
+
 /// Ends the process where nobody sends or hangs up within so many seconds: a call that hangs can't be ended.
-fn watch(ended: &mpsc::Receiver<()>, name: &str, limit: u64) {
+fn watch(ended: &mpsc::Receiver<()>, name: &str, options: &Options, so_far: &SoFar) {
+    let limit = options.limit;
     if ended.recv_timeout(Duration::from_secs(limit)) == Err(mpsc::RecvTimeoutError::Timeout) {
+        keep_unfinished(name, &options.out, so_far);
         eprintln!("{name}: hangs: a run took more than {limit} s: a call of the object does not end");
         process::exit(4);
     }
 }
 
-/// The history of a fresh object, and its views.
+/// The history of a fresh object, and its views. What a run made that did not end stands in NAME-unfinished.csv.
 fn record<B: FallibleBoard>(name: &str, options: &Options, seeds: &mut Random) -> Result<(String, Views), Error> {
     let mut recorder = Recorder::new(options.threads as usize, options.components as usize, options.calls as usize)?;
     let board = panic::catch_unwind(|| B::new(options.components as usize))
         .map_err(|_| Error::Died("the object can't be made: it panicked".into()))?;
     let start = Barrier::new(options.threads as usize);
+    let so_far = recorder.so_far();
     let (running, ended) = mpsc::channel();
     thread::scope(|scope| {
         let workers: Vec<_> = recorder.logs.iter_mut().enumerate().map(|(thread, log)| (thread, log, Random(seeds.next()))).collect();
@@ -338,8 +349,12 @@ fn record<B: FallibleBoard>(name: &str, options: &Options, seeds: &mut Random) -
         });
         let workers: Vec<_> = workers.collect();
         drop(running);
-        watch(&ended, name, options.limit);
+        watch(&ended, name, options, &so_far);
         workers.into_iter().try_for_each(|worker| worker.join().expect("a worker catches what its object panics with"))
+    })
+    .map_err(|error| {
+        keep_unfinished(name, &options.out, &so_far);
+        error
     })?;
     Ok((recorder.text()?, recorder.views()))
 }

@@ -14,6 +14,9 @@
 //! log.end_view_values(&values);                                            // or end_view, of numbers; of a failed call drop_..
 //!
 //! let text = recorder.text()?;                                             // after the threads were joined
+//!
+//! let so_far = recorder.so_far();                                          // before they start
+//! let text = so_far.text()?;                                               // at any time, from any thread
 //! ```
 //!
 //! What the record says: where call A ended before call B began, A happened before B. Each stamp is a `fetch_add` of one clock
@@ -33,7 +36,7 @@
 
 use std::collections::HashMap;
 use std::fmt::{self, Write};
-use std::sync::atomic::{AtomicBool, AtomicU64, Ordering};
+use std::sync::atomic::{fence, AtomicBool, AtomicU32, AtomicU64, AtomicUsize, Ordering};
 use std::sync::{Arc, OnceLock};
 
 /// How many events a history may have; a call has two. More than 65,536 the judge takes by `--events N`.
@@ -143,6 +146,8 @@ enum Kind {
     EndViewValues,
 }
 
+const KINDS: [Kind; 5] = [Kind::BeginUpdate, Kind::EndUpdate, Kind::BeginView, Kind::EndView, Kind::EndViewValues];
+
 #[derive(Clone, Copy)]
 struct Event {
     stamp: u64,
@@ -151,12 +156,73 @@ struct Event {
     count: usize,
 }
 
-/// An empty list with room for so many, each of which was written once, so that no page is made while threads run. What is written is
-/// not zero, since new pages have that.
-fn touched<T: Copy>(room: usize, with: T) -> Vec<T> {
-    let mut list = vec![with; room];
-    list.clear();
-    list
+/// An event as others may read it: its stamp, its kind, and the first of its entries and their number.
+struct Slot(AtomicU64, AtomicU32, AtomicU32, AtomicU32);
+
+/// What a log has recorded. Its thread writes it, and others read the events up to `whole`. `drops` tells how often a begin was taken
+/// back. The lists have room for all that they can get. Each place was written once, so that no page is made while threads run: what is
+/// written is not zero, since new pages have that.
+struct Recorded {
+    events: Vec<Slot>,
+    entries: Vec<[AtomicU32; 3]>,
+    whole: AtomicUsize,
+    drops: AtomicUsize,
+}
+
+impl Recorded {
+    fn new(events: usize, entries: usize) -> Self {
+        let number = || AtomicU32::new(1);
+        Recorded {
+            events: (0..events).map(|_| Slot(AtomicU64::new(1), number(), number(), number())).collect(),
+            entries: (0..entries).map(|_| [number(), number(), number()]).collect(),
+            whole: AtomicUsize::new(0),
+            drops: AtomicUsize::new(0),
+        }
+    }
+
+    fn set_event(&self, at: usize, event: Event) {
+        let Slot(stamp, kind, first, count) = &self.events[at];
+        kind.store(event.kind as u32, Ordering::Relaxed);
+        first.store(event.first as u32, Ordering::Relaxed);
+        count.store(event.count as u32, Ordering::Relaxed);
+        stamp.store(event.stamp, Ordering::Relaxed);
+    }
+
+    fn event(&self, at: usize) -> Event {
+        let Slot(stamp, kind, first, count) = &self.events[at];
+        let number = |of: &AtomicU32| of.load(Ordering::Relaxed) as usize;
+        Event { stamp: stamp.load(Ordering::Relaxed), kind: KINDS[number(kind)], first: number(first), count: number(count) }
+    }
+
+    fn set_entry(&self, at: usize, entry: Entry) {
+        for (place, word) in self.entries[at].iter().zip([entry.component, entry.number, entry.value]) {
+            place.store(word, Ordering::Relaxed);
+        }
+    }
+
+    fn entry(&self, at: usize) -> Entry {
+        let [component, number, value] = [0, 1, 2].map(|word: usize| self.entries[at][word].load(Ordering::Relaxed));
+        Entry { component, number, value }
+    }
+
+    /// Others may read so many events. What the object writes next does not come before that: no instruction on x86.
+    fn publish(&self, whole: usize) {
+        self.whole.store(whole, Ordering::Release);
+        fence(Ordering::Release);
+    }
+
+    /// The events that began or ended before this moment. A begin that is taken back meanwhile is read again.
+    fn before(&self, now: u64) -> Vec<Event> {
+        loop {
+            let drops = self.drops.load(Ordering::Acquire);
+            let events = (0..self.whole.load(Ordering::Acquire)).map(|at| self.event(at));
+            let events = events.take_while(|event| event.stamp < now).collect();
+            fence(Ordering::Acquire);
+            if drops == self.drops.load(Ordering::Relaxed) {
+                return events;
+            }
+        }
+    }
 }
 
 /// What one thread recorded, as the process of its number. It has no copies: what a copy records would be in no text.
@@ -167,9 +233,9 @@ pub struct Log {
     components: usize,
     calls: usize,
     state: State,
-    // both have room for all that they can get
-    events: Vec<Event>,
-    entries: Vec<Entry>,
+    recorded: Arc<Recorded>,
+    events: usize,
+    entries: usize,
     begun: [u32; COMPONENT_LIMIT],
 }
 
@@ -189,7 +255,7 @@ impl Log {
         if matches!(self.state, State::Updating | State::Viewing) {
             self.misused(Fault::Nested { thread: self.thread });
         }
-        if self.events.len() == 2 * self.calls {
+        if self.events == 2 * self.calls {
             // all threads stop, else views show updates that no one recorded
             self.shared.stopped.store(true, Ordering::Relaxed);
         }
@@ -209,19 +275,24 @@ impl Log {
     }
 
     fn begin(&mut self, state: State, kind: Kind, first: usize) {
-        let count = self.entries.len() - first;
+        let (recorded, place) = (&self.recorded, self.events);
         self.state = state;
-        self.events.push(Event { stamp: 0, kind, first, count });
-        let stamp = self.tick();
-        if let Some(event) = self.events.last_mut() {
-            event.stamp = stamp;
-        }
+        recorded.set_event(place, Event { stamp: u64::MAX, kind, first, count: self.entries - first });
+        recorded.events[place].0.store(self.tick(), Ordering::Relaxed);
+        self.events += 1;
+        recorded.publish(self.events);
     }
 
     fn end(&mut self, stamp: u64, kind: Kind, first: usize) {
-        let count = self.entries.len() - first;
-        self.events.push(Event { stamp, kind, first, count });
+        self.recorded.set_event(self.events, Event { stamp, kind, first, count: self.entries - first });
         self.state = State::Idle;
+        self.events += 1;
+        self.recorded.publish(self.events);
+    }
+
+    fn show(&mut self, entry: Entry) {
+        self.recorded.set_entry(self.entries, entry);
+        self.entries += 1;
     }
 
     /// The number of the update, from 1 in each component; or `None`: a log is full, or a call was misused. Then make no
@@ -238,8 +309,8 @@ impl Log {
         let begun = &mut self.begun[component as usize];
         *begun += 1;
         let number = *begun;
-        let first = self.entries.len();
-        self.entries.push(Entry { component, number, value });
+        let first = self.entries;
+        self.show(Entry { component, number, value });
         self.begin(State::Updating, Kind::BeginUpdate, first);
         Some(number)
     }
@@ -247,7 +318,7 @@ impl Log {
     pub fn end_update(&mut self) {
         let stamp = self.tick();
         if self.may_end(State::Updating) {
-            self.end(stamp, Kind::EndUpdate, self.entries.len());
+            self.end(stamp, Kind::EndUpdate, self.entries);
         }
     }
 
@@ -256,7 +327,7 @@ impl Log {
     pub fn begin_view(&mut self) -> bool {
         let may = self.may_begin();
         if may {
-            self.begin(State::Viewing, Kind::BeginView, self.entries.len());
+            self.begin(State::Viewing, Kind::BeginView, self.entries);
         }
         may
     }
@@ -271,8 +342,8 @@ impl Log {
         if !rise || shown.last().is_some_and(|entry| entry.component as usize >= self.components) {
             return self.misused(Fault::Component { thread: self.thread });
         }
-        let first = self.entries.len();
-        self.entries.extend_from_slice(shown);
+        let first = self.entries;
+        shown.iter().for_each(|&entry| self.show(entry));
         self.end(stamp, Kind::EndView, first);
     }
 
@@ -287,16 +358,18 @@ impl Log {
             let thread = self.thread;
             return self.misused(if shown.len() > self.components { Fault::Component { thread } } else { Fault::Part { thread } });
         }
-        let first = self.entries.len();
-        self.entries.extend((0..).zip(shown).map(|(component, &value)| Entry { component, number: 0, value }));
+        let first = self.entries;
+        (0..).zip(shown).for_each(|(component, &value)| self.show(Entry { component, number: 0, value }));
         self.end(stamp, Kind::EndViewValues, first);
     }
 
     fn dropped(&mut self, expected: State) -> bool {
         let may = self.may_end(expected);
         if may {
-            self.events.pop();
+            self.events -= 1;
             self.state = State::Idle;
+            self.recorded.drops.fetch_add(1, Ordering::AcqRel);
+            self.recorded.publish(self.events);
         }
         may
     }
@@ -310,9 +383,8 @@ impl Log {
     /// next update of its component gets its number. Where that is not known, end nothing, and use this log no more.
     pub fn drop_update(&mut self) {
         if self.dropped(State::Updating) {
-            if let Some(entry) = self.entries.pop() {
-                self.begun[entry.component as usize] -= 1;
-            }
+            self.entries -= 1;
+            self.begun[self.recorded.entry(self.entries).component as usize] -= 1;
         }
     }
 }
@@ -345,8 +417,9 @@ impl Recorder {
                 components,
                 calls,
                 state: State::Idle,
-                events: touched(2 * calls, Event { stamp: 1, kind: Kind::BeginView, first: 1, count: 1 }),
-                entries: touched(calls * components.max(1), Entry { component: 1, number: 1, value: 1 }),
+                recorded: Arc::new(Recorded::new(2 * calls, calls * components.max(1))),
+                events: 0,
+                entries: 0,
                 begun: [0; COMPONENT_LIMIT],
             })
             .collect();
@@ -366,27 +439,31 @@ impl Recorder {
         if !self.initials.is_empty() && self.initials.len() != self.components {
             return Err(Fault::Initials);
         }
-        let updates = Updates::of(self)?;
-        let mut text = String::from("at,event,process,op,data\n");
-        for log in &self.logs {
-            for event in &log.events {
-                self.write(&mut text, &updates, log, event);
-            }
+        self.so_far().text()
+    }
+
+    /// What the recorder has so far can be read by this at any time, from any thread. Set `initial` or `initials` before.
+    pub fn so_far(&self) -> SoFar {
+        SoFar {
+            shared: Arc::clone(&self.shared),
+            recorded: self.logs.iter().map(|log| Arc::clone(&log.recorded)).collect(),
+            initial: self.initial,
+            initials: self.initials.clone(),
         }
-        Ok(text)
     }
 
     /// Counts the views, after the threads were joined. A run in which none overlapped an update says nothing of calls at the same time.
     pub fn views(&self) -> Views {
+        let parts: Vec<Vec<Event>> = self.logs.iter().map(|log| log.recorded.before(u64::MAX)).collect();
         let stamps_of = |kind| {
-            let events = self.logs.iter().flat_map(|log| &log.events);
+            let events = parts.iter().flatten();
             let mut stamps: Vec<u64> = events.filter(|event| event.kind == kind).map(|event| event.stamp).collect();
             stamps.sort_unstable();
             stamps
         };
         let (begun, ended) = (stamps_of(Kind::BeginUpdate), stamps_of(Kind::EndUpdate));
         // the event before an end is the begin of its call
-        let calls = self.logs.iter().flat_map(|log| log.events.windows(2));
+        let calls = parts.iter().flat_map(|events| events.windows(2));
         let views = calls.filter(|call| matches!(call[1].kind, Kind::EndView | Kind::EndViewValues));
         views.fold(Views::default(), |found, view| Views {
             ended: found.ended + 1,
@@ -394,28 +471,58 @@ impl Recorder {
             overlapping: found.overlapping + usize::from(below(&begun, view[1].stamp) > below(&ended, view[0].stamp)),
         })
     }
+}
+
+/// Reads what a recorder has, while its threads run.
+pub struct SoFar {
+    shared: Arc<Shared>,
+    recorded: Vec<Arc<Recorded>>,
+    initial: u32,
+    initials: Vec<u32>,
+}
+
+impl SoFar {
+    /// The history so far: a call that is open, or ends meanwhile, has no end in it. An update whose begin is left out had not begun
+    /// before each view that is in it had ended. So a right run is never called wrong. The fault is the first misuse, or one of
+    /// `TwoWriters` and `SameValue`.
+    pub fn text(&self) -> Result<String, Fault> {
+        if let Some(&misuse) = self.shared.misuse.get() {
+            return Err(misuse);
+        }
+        let now = self.shared.clock.0.load(Ordering::Acquire);
+        let parts: Vec<Vec<Event>> = self.recorded.iter().map(|recorded| recorded.before(now)).collect();
+        let updates = Updates::of(self, &parts)?;
+        let mut text = String::from("at,event,process,op,data\n");
+        for (thread, events) in parts.iter().enumerate() {
+            for event in events {
+                self.write(&mut text, &updates, thread, event);
+            }
+        }
+        Ok(text)
+    }
 
     fn initial_of(&self, component: u32) -> u32 {
         self.initials.get(component as usize).copied().unwrap_or(self.initial)
     }
 
-    fn write(&self, text: &mut String, updates: &Updates, log: &Log, event: &Event) {
+    fn write(&self, text: &mut String, updates: &Updates, thread: usize, event: &Event) {
         let (word, op) = match event.kind {
             Kind::BeginUpdate => ("begin", "update"),
             Kind::EndUpdate => ("end", "update"),
             Kind::BeginView => ("begin", "view"),
             Kind::EndView | Kind::EndViewValues => ("end", "view"),
         };
-        let shown = log.entries[event.first..event.first + event.count].iter().filter_map(|entry| {
+        let entries = (event.first..event.first + event.count).map(|at| self.recorded[thread].entry(at));
+        let shown = entries.filter_map(|entry| {
             let number = match event.kind {
                 Kind::EndViewValues if entry.value == self.initial_of(entry.component) => 0,
-                Kind::EndViewValues => updates.number(entry, event.stamp),
+                Kind::EndViewValues => updates.number(&entry, event.stamp),
                 _ => entry.number,
             };
             (number > 0).then(|| format!("{}:{number}:{}", entry.component, entry.value))
         });
         let data = shown.collect::<Vec<_>>().join(" ");
-        writeln!(text, "{},{word},{},{op},{data}", event.stamp, log.thread).expect("a string takes all that is written");
+        writeln!(text, "{},{word},{thread},{op},{data}", event.stamp).expect("a string takes all that is written");
     }
 }
 
@@ -433,14 +540,14 @@ struct Updates {
 }
 
 impl Updates {
-    fn of(recorder: &Recorder) -> Result<Self, Fault> {
-        let by_values = recorder.logs.iter().flat_map(|log| &log.events).any(|event| event.kind == Kind::EndViewValues);
+    fn of(recorder: &SoFar, parts: &[Vec<Event>]) -> Result<Self, Fault> {
+        let by_values = parts.iter().flatten().any(|event| event.kind == Kind::EndViewValues);
         let mut updates = Updates { begun: vec![Vec::new(); COMPONENT_LIMIT], numbers: HashMap::new() };
         let mut writers = [None; COMPONENT_LIMIT];
-        for log in &recorder.logs {
-            for event in log.events.iter().filter(|event| event.kind == Kind::BeginUpdate) {
-                let Entry { component, number, value } = log.entries[event.first];
-                if writers[component as usize].replace(log.thread).is_some_and(|other| other != log.thread) {
+        for (thread, events) in parts.iter().enumerate() {
+            for event in events.iter().filter(|event| event.kind == Kind::BeginUpdate) {
+                let Entry { component, number, value } = recorder.recorded[thread].entry(event.first);
+                if writers[component as usize].replace(thread).is_some_and(|other| other != thread) {
                     return Err(Fault::TwoWriters { component });
                 }
                 updates.begun[component as usize].push(event.stamp);

@@ -90,6 +90,19 @@ func failed() []byte {
 	return textOf(recorder)
 }
 
+// What there is while a call is open.
+func soFar() string {
+	recorder := recorder(2, 1, 2)
+	expect("an update begins", recorder.Log(0).BeginUpdate(0, 7) == 1)
+	show(recorder.Log(1), 7)
+	text, err := recorder.TextSoFar()
+	expect("there is a text so far", err == nil)
+	recorder.Log(0).EndUpdate()
+	whole, err := recorder.TextSoFar()
+	expect("what there is so far is all that there is", err == nil && whole == string(textOf(recorder)))
+	return text
+}
+
 // The view shows what a dropped update wrote.
 func dirty() string {
 	recorder := recorder(2, 1, 2)
@@ -165,6 +178,7 @@ func main() {
 	recorder(16, 1, EventLimit/32)
 
 	header := "at,event,process,op,data\n"
+	expect("what there is so far", soFar() == header+"0,begin,0,update,0:1:7\n1,begin,1,view,\n2,end,1,view,0:1:7\n")
 	expect("a dropped update that was seen", dirty() == header+"1,begin,1,view,\n2,end,1,view,0:1:9\n")
 	expect("a history that goes on", goesOn() == header+"0,begin,0,view,\n1,end,0,view,\n2,begin,0,update,0:1:0\n"+
 		"3,end,0,update,\n4,begin,0,view,\n5,end,0,view,0:1:0\n")
