@@ -25,7 +25,7 @@ VERSION = (TOP / "VERSION").read_text().strip()
 DOCUMENTS = "share/doc/snapjudge"
 # What a recorder's folder may have besides, as a compiler or Python leaves it, is not packed.
 RECORDERS = {".c", ".cpp", ".csv", ".go", ".h", ".hpp", ".java", ".mod", ".py", ".rs", ".sh"}
-OUR_TESTS = {"test.sh", "listings.py", "choices.py", "commands.py", "guide.py"}
+OUR_TESTS = {"test.sh", "listings.py", "choices.py", "commands.py", "guide.py", "turns.py"}
 # Where a link of a page leads.
 LINK = re.compile(r"\]\(([^()\s#]+)")
 

@@ -110,6 +110,22 @@ caught() {
     "$program" explain <naive-caught.csv | cmp - naive-explained.txt && "$program" shrink <naive-caught.csv | cmp - naive-witness.csv
 }
 
+# Runs in turns come again: each makes the calls, and changes the turns at the points, that are worked out independently. The options
+# are threads, components, calls, runs, seed and depth.
+in_turns() {
+  local of words
+  for of in "4 4 200 20 1 3" "3 5 40 60 7 5" "8 2 30 40 18446744073709551615 1"; do
+    read -r -a of <<<"$of"
+    words=(--schedule pct --threads "${of[0]}" --components "${of[1]}" --calls "${of[2]}" --runs "${of[3]}" --seed "${of[4]}" --depth "${of[5]}")
+    rm -f naive-*
+    python3 -B "$here/turns.py" "$program" "${of[@]}" >wanted
+    timeout 900 "${own[@]}" naive "${words[@]}" --stop 1 --views 0 >said 2>told
+    [ $? -le 2 ] || return 1
+    [ ! -s wanted ] || cmp wanted naive-caught.csv || return 1
+    [ -s wanted ] || [ ! -e naive-caught.csv ] || return 1
+  done
+}
+
 # The runs make the calls that are chosen: of two runs the second alone is caught, and its threads begin what it has for them.
 made() {
   rm -f second-*
@@ -282,7 +298,9 @@ drivers() {
   local -x SNAPJUDGE_LIBRARY='' SNAPJUDGE_PROGRAM=$program
   has python3 "$language: choices" && try "$language: choices" chosen
   has python3 "$language: the calls of a run" && try "$language: the calls of a run" made
+  has python3 "$language: turns" && try "$language: turns" in_turns
   try "$language: double collect" atomic
+  try "$language: double collect, threads take turns" atomic --schedule pct
   try "$language: one slow component" counts 0 slow 5 0 0 "${faulty[@]}" slow --components 1 --nap 40 --calls 60 --runs 5
   try "$language: double collect in turn of 7 threads and 64 components" atomic --order turn --threads 7 --components 64 --calls 60
   try "$language: naive collect is caught" caught
@@ -300,13 +318,14 @@ drivers() {
   try "$language: too many events" misused "stale: limits: events is a number from 2 to 1048576" stale --events 1048577
   try "$language: more events than the judge takes unasked" long_run
   try "$language: too many views" misused "stale: limits: views is a number from 0 to 1000000000" stale --views 1000000001
-  for word in "threads 64" "components 64" "calls 524288" "runs 1000000000" "limit 100000"; do
+  for word in "threads 64" "components 64" "calls 524288" "runs 1000000000" "limit 100000" "depth 64"; do
     read -r name most <<<"$word"
     try "$language: no $name" misused "stale: limits: $name is a number from 1 to $most" stale "--$name" 0
     try "$language: too many $name" misused "stale: limits: $name is a number from 1 to $most" stale "--$name" $((most + 1))
   done
   try "$language: too many calls" misused "stale: limits: all threads make at most 32768 calls" stale --calls 8193
   try "$language: another order" misused "stale: usage: order is choice or turn" stale --order both
+  try "$language: another schedule" misused "stale: usage: schedule is free or pct" stale --schedule both
   try "$language: another option" misused "stale: usage: there is no option --nope" stale --nope 1
   try "$language: a word that is not an option" misused "stale: usage: other is not an option" stale other
   try "$language: an option without its value" misused "stale: usage: --runs has no value" stale --runs
@@ -611,6 +630,7 @@ try_c() {
   by_library
   crashes C
   try "C: threads that can't be started" few_threads 150000
+  try "C: threads that wait for others, and take turns" counts 0 waits 5 0 0 ./faulty_c waits --schedule pct --runs 5 --calls 20 --program "$program"
   try "C: the command of the guide" first_verdict "cd ../c &&"
   try "C: logs that get full" full
   try "C: builds a caller" cc -std=gnu11 "${flags[@]}" -o caller "$here/c/caller.c" -pthread

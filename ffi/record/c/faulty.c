@@ -3,7 +3,7 @@
  * does, and is right with one component. `fails` is stale; of its updates the first had no effect, and of the third it is not known.
  * `retries` is slow, and right with one component: of five updates one has no effect, one is tried again, and the 13th comes late.
  * `crashes` is slow, and right with one component; its 30th update writes where there is no memory, and has its effect before. A view of
- * `overflows` calls itself until the stack is full. */
+ * `overflows` calls itself until the stack is full. The calls of `waits` wait for each other by a loop, and it is right. */
 #include "snapdrive.h"
 
 static uint32_t components, begun;
@@ -96,6 +96,35 @@ static bool overflows(uint32_t thread, uint32_t *values) {
     return thread < UINT32_MAX && overflows(thread + 1, values) && room[0];
 }
 
+static _Atomic bool is_taken;
+static uint32_t guarded[SNAPDRIVE_COMPONENTS];
+
+static void take(void) {
+    while (atomic_exchange(&is_taken, true)) snapdrive_pause();
+    snapdrive_pause();
+}
+
+static void waiting_begin(uint32_t count) {
+    begin(count);
+    memset(guarded, 0, sizeof guarded);
+}
+
+static void waiting_update(uint32_t thread, uint32_t component, uint32_t value) {
+    (void)thread;
+    take();
+    guarded[component] = value;
+    snapdrive_pause();
+    is_taken = false;
+}
+
+static bool waiting_view(uint32_t thread, uint32_t *values) {
+    (void)thread;
+    take();
+    memcpy(values, guarded, components * sizeof *values);
+    is_taken = false;
+    return true;
+}
+
 static bool hangs(uint32_t thread, uint32_t *values) {
     for (;;) sleep(thread + 1);
     return values;
@@ -106,6 +135,7 @@ int main(int count, char **words) {
         {"stale", begin, update, stale}, {"gives-up", begin, update, gives_up}, {"hangs", begin, update, hangs},
         {"second", begin, update, second}, {"slow", begin, slow_update, slow_view},
         {"fails", begin, failing_update, stale}, {"retries", begin, retried_update, retried_view},
-        {"crashes", begin, crashing_update, slow_view}, {"overflows", begin, update, overflows}, {0}};
+        {"crashes", begin, crashing_update, slow_view}, {"overflows", begin, update, overflows},
+        {"waits", waiting_begin, waiting_update, waiting_view}, {0}};
     return snapdrive_main(count, words, objects);
 }

@@ -9,7 +9,8 @@
  *     static const snapdrive_object objects[] = {{"board", begin, update, view}, {0}};
  *     int main(int count, char **words) { return snapdrive_main(count, words, objects); }
  *
- * Where an object calls snapdrive_pause() between its steps, the other threads run in the middle of its calls. An update that
+ * Where an object calls snapdrive_pause() between its steps, the other threads run in the middle of its calls. snapdrive_point() marks
+ * such a place for the schedule pct alone. An update that
  * failed calls snapdrive_no_effect() or snapdrive_unknown() before it returns. In a test of one's own, snapdrive_run does the same
  * without a command line.
  *
@@ -27,6 +28,7 @@
 #include "snapverdict.h"
 #include <pthread.h>
 #include <sched.h>
+#include <semaphore.h>
 #include <stddef.h>
 #include <time.h>
 
@@ -41,13 +43,13 @@ typedef struct {
 } snapdrive_object;
 
 typedef struct {
-    uint64_t threads, components, calls, runs, seed, nap, stop, limit, views, events;
-    const char *order, *out, *program;
+    uint64_t threads, components, calls, runs, seed, nap, stop, limit, views, events, depth;
+    const char *order, *schedule, *out, *program;
 } snapdrive_options;
 
 #define SNAPDRIVE_OPTIONS                                                                                                  \
     ((snapdrive_options){.threads = 4, .components = 4, .calls = 200, .runs = 20, .seed = 1, .limit = 60, .views = 1,      \
-                         .events = 65536, .order = "choice", .out = "."})
+                         .events = 65536, .depth = 3, .order = "choice", .schedule = "free", .out = "."})
 
 #define SNAPDRIVE_USAGE                                                                                \
     "usage: [OBJECT] [OPTION VALUE ..]\n"                                                              \
@@ -58,6 +60,8 @@ typedef struct {
     "  --runs 20        how many runs, each of a fresh object\n"                                       \
     "  --seed 1         what the choice of the calls begins with\n"                                    \
     "  --order choice   each call is chosen by the seed; or turn: updates and a view in turn\n"        \
+    "  --schedule free  threads run freely; or pct: in turns that the seed chooses, the same in each try\n" \
+    "  --depth 3        by pct the turns change at so many moments less one, at most 64\n"               \
     "  --nap 0          where not 0, pauses and the gaps between calls last up to so many microseconds\n" \
     "  --stop 0         where not 0, ends after so many runs that were not atomic\n"                   \
     "  --limit 60       how many seconds a run may take\n"                                             \
@@ -116,8 +120,99 @@ static inline uint32_t snapdrive_choose(const snapdrive_options *options, uint32
 __attribute__((weak)) _Atomic uint64_t snapdrive_naps;
 __attribute__((weak)) uint64_t snapdrive_longest_nap;
 
+/* ---- turns: probabilistic concurrency testing, by Burckhardt, Kothari, Musuvathi and Nagarakatte (2010)
+ *
+ * One thread runs at a time: of those that have not ended the one with the highest priority. The seed chooses these, and the points at
+ * which the running thread gets a priority below all of them. Only the running thread reads and writes the turns. */
+
+enum { SNAPDRIVE_DEPTH = 64, SNAPDRIVE_SPIN = 10000 };
+
+/* What all runs share: the source of choices, and how many points the last run had. */
+typedef struct {
+    uint64_t random, points;
+} snapdrive_pace;
+
+typedef struct {
+    uint32_t threads, changes_left;
+    uint64_t points, spins, changes[SNAPDRIVE_DEPTH];
+    int64_t priorities[SNAPDRIVE_THREADS], lowest;
+    bool has_ended[SNAPDRIVE_THREADS];
+    sem_t turn[SNAPDRIVE_THREADS];
+} snapdrive_turns;
+
+/* The turns of a thread, and its number; none where it runs freely. One for all files of a program. */
+__attribute__((weak)) _Thread_local snapdrive_turns *snapdrive_turns_of_thread;
+__attribute__((weak)) _Thread_local uint32_t snapdrive_thread;
+
+static inline void snapdrive_turns_open(snapdrive_turns *turns, const snapdrive_options *options, snapdrive_pace *pace) {
+    uint32_t order[SNAPDRIVE_THREADS], count = (uint32_t)options->threads;
+    memset(turns, 0, sizeof *turns);
+    turns->threads = count;
+    turns->changes_left = (uint32_t)options->depth - 1;
+    for (uint32_t t = 0; t < count; t++) order[t] = t;
+    for (uint32_t i = count; i-- > 0;) {
+        uint32_t j = (uint32_t)(snapdrive_next(&pace->random) % (i + 1)), kept = order[i];
+        order[i] = order[j];
+        order[j] = kept;
+        turns->priorities[order[i]] = (int64_t)(options->depth + i);
+        sem_init(&turns->turn[i], 0, 0);
+    }
+    for (uint32_t i = 0; i < turns->changes_left; i++) turns->changes[i] = 1 + snapdrive_next(&pace->random) % pace->points;
+}
+
+/* The turn goes to the thread that has it now. */
+static inline void snapdrive_turns_pass(snapdrive_turns *turns, uint32_t from) {
+    uint32_t next = turns->threads;
+    for (uint32_t t = 0; t < turns->threads; t++)
+        if (!turns->has_ended[t] && (next == turns->threads || turns->priorities[t] > turns->priorities[next])) next = t;
+    if (next == from || next == turns->threads) return;
+    bool waits = from < turns->threads && !turns->has_ended[from];
+    sem_post(&turns->turn[next]);
+    while (waits && sem_wait(&turns->turn[from])) {}
+}
+
+/* A place between two steps. By the schedule pct the turn may change here; else nothing is done. A thread that comes to many points
+ * without the end of a call may wait for another one, and goes behind all others. */
+static inline void snapdrive_point(void) {
+    snapdrive_turns *turns = snapdrive_turns_of_thread;
+    if (!turns) return;
+    turns->points++;
+    for (uint32_t i = 0; i < turns->changes_left; i++)
+        if (turns->changes[i] == turns->points) turns->priorities[snapdrive_thread] = i;
+    if (++turns->spins > SNAPDRIVE_SPIN) {
+        turns->spins = 0;
+        turns->priorities[snapdrive_thread] = --turns->lowest;
+    }
+    snapdrive_turns_pass(turns, snapdrive_thread);
+}
+
+/* A call has ended. */
+static inline void snapdrive_goes_on(void) {
+    if (snapdrive_turns_of_thread) snapdrive_turns_of_thread->spins = 0;
+}
+
+/* A thread begins, and waits for its turn. */
+static inline void snapdrive_turns_enter(snapdrive_turns *turns, uint32_t thread) {
+    snapdrive_turns_of_thread = turns;
+    snapdrive_thread = thread;
+    while (turns && sem_wait(&turns->turn[thread])) {}
+}
+
+/* A thread ends. */
+static inline void snapdrive_turns_leave(void) {
+    snapdrive_turns *turns = snapdrive_turns_of_thread;
+    snapdrive_turns_of_thread = NULL;
+    if (!turns) return;
+    turns->has_ended[snapdrive_thread] = true;
+    snapdrive_turns_pass(turns, snapdrive_thread);
+}
+
 /* Lets the other threads run, and naps where the options ask for it. */
 static inline void snapdrive_pause(void) {
+    if (snapdrive_turns_of_thread) {
+        snapdrive_point();
+        return;
+    }
     if (!snapdrive_longest_nap) {
         sched_yield();
         return;
@@ -203,6 +298,7 @@ typedef struct {
     const snapdrive_options *options;
     snaprecord_log *log;
     snapdrive_race *race;
+    snapdrive_turns *turns; /* NULL where threads run freely */
     uint64_t seed;
 } snapdrive_worker;
 
@@ -212,30 +308,39 @@ static inline void *snapdrive_work(void *argument) {
     char room[SNAPSOFAR_STACK]; /* the front of its stack, where that does not get full */
     snapsofar_use_stack(room);
     pthread_barrier_wait(&worker.race->start);
+    snapdrive_turns_enter(worker.turns, thread);
     for (uint64_t i = 0; i < worker.options->calls; i++) {
+        snapdrive_point();
         uint32_t component = snapdrive_choose(worker.options, thread, i, &worker.seed);
         if (component == SNAPDRIVE_VIEW) {
             if (!snaprecord_begin_view(worker.log)) break;
-            if (worker.object->view(thread, values)) snaprecord_end_view_values(worker.log, values);
+            snapdrive_point();
+            bool is_done = worker.object->view(thread, values);
+            snapdrive_point();
+            if (is_done) snaprecord_end_view_values(worker.log, values);
             else snaprecord_drop_view(worker.log);
         } else {
             uint32_t value = (thread + 1) * 1000000 + (uint32_t)i; /* each value once */
             if (!snaprecord_begin_update(worker.log, component, value)) break;
             snapdrive_fate_of_update = SNAPDRIVE_DONE;
+            snapdrive_point();
             worker.object->update(thread, component, value);
+            snapdrive_point();
             if (snapdrive_fate_of_update == SNAPDRIVE_UNKNOWN) break;
             if (snapdrive_fate_of_update == SNAPDRIVE_NO_EFFECT) snaprecord_drop_update(worker.log);
             else snaprecord_end_update(worker.log);
         }
-        if (snapdrive_longest_nap) snapdrive_pause();
+        snapdrive_goes_on();
+        if (snapdrive_longest_nap && !worker.turns) snapdrive_pause();
     }
+    snapdrive_turns_leave();
     snapdrive_race_end(worker.race);
     return NULL;
 }
 
 /* The history of a fresh object, to be given to free(). Its views are counted. */
 static inline char *snapdrive_record(const snapdrive_object *object, const snapdrive_options *options, uint64_t *seeds,
-                                     size_t *length, snapdrive_outcome *outcome) {
+                                     snapdrive_pace *pace, size_t *length, snapdrive_outcome *outcome) {
     static const char *const faults[] = {
         [SNAPRECORD_LIMITS] = "limits", [SNAPRECORD_MEMORY] = "memory", [SNAPRECORD_NESTED] = "nested",
         [SNAPRECORD_NOT_OPEN] = "not open", [SNAPRECORD_AFTER_FULL] = "after full", [SNAPRECORD_COMPONENT] = "component",
@@ -245,6 +350,8 @@ static inline char *snapdrive_record(const snapdrive_object *object, const snapd
     pthread_t threads[SNAPDRIVE_THREADS];
     snapdrive_worker workers[SNAPDRIVE_THREADS];
     snapdrive_race race;
+    snapdrive_turns turns;
+    bool takes_turns = !strcmp(options->schedule, "pct");
     uint32_t count = (uint32_t)options->threads;
     char *text = NULL;
     if (snaprecord_open(&recorder, count, (uint32_t)options->components, (uint32_t)options->calls)) {
@@ -253,16 +360,20 @@ static inline char *snapdrive_record(const snapdrive_object *object, const snapd
         race.recorder = &recorder;
         snprintf(race.unfinished, sizeof race.unfinished, "%s/%s-unfinished.csv", options->out, object->name);
         snapsofar_keep(&recorder, race.unfinished);
+        if (takes_turns) snapdrive_turns_open(&turns, options, pace);
         for (uint32_t t = 0; t < count; t++)
-            workers[t] = (snapdrive_worker){object, options, snaprecord_log_of(&recorder, t), &race, snapdrive_next(seeds)};
+            workers[t] = (snapdrive_worker){object, options, snaprecord_log_of(&recorder, t), &race, takes_turns ? &turns : NULL,
+                                            snapdrive_next(seeds)};
         for (uint32_t t = 0; t < count; t++)
             if (pthread_create(&threads[t], NULL, snapdrive_work, &workers[t])) {
                 fprintf(stderr, "%s: memory: thread %" PRIu32 " can't be started\n", object->name, t);
                 exit(4); /* those before it wait for it */
             }
+        if (takes_turns) snapdrive_turns_pass(&turns, count);
         snapdrive_race_wait(&race, object->name, options->limit);
         for (uint32_t t = 0; t < count; t++) pthread_join(threads[t], NULL);
         snapsofar_leave(&recorder);
+        if (takes_turns) pace->points = turns.points;
         snapdrive_race_close(&race);
         text = snaprecord_text(&recorder, length);
     }
@@ -296,6 +407,7 @@ static const struct {
     {"limit", offsetof(snapdrive_options, limit), 1, 100000},
     {"views", offsetof(snapdrive_options, views), 0, 1000000000},
     {"events", offsetof(snapdrive_options, events), 2, SNAPRECORD_EVENTS},
+    {"depth", offsetof(snapdrive_options, depth), 1, SNAPDRIVE_DEPTH},
 };
 enum { SNAPDRIVE_RANGES = sizeof snapdrive_ranges / sizeof *snapdrive_ranges };
 
@@ -314,6 +426,8 @@ static inline bool snapdrive_fits(const snapdrive_options *options, snapdrive_ou
         return snapdrive_failed(outcome, "limits", "all threads make at most %" PRIu64 " calls", options->events / 2);
     if (strcmp(options->order, "choice") && strcmp(options->order, "turn"))
         return snapdrive_failed(outcome, "usage", "order is choice or turn");
+    if (strcmp(options->schedule, "free") && strcmp(options->schedule, "pct"))
+        return snapdrive_failed(outcome, "usage", "schedule is free or pct");
     return true;
 }
 
@@ -347,6 +461,7 @@ static inline bool snapdrive_run(const snapdrive_object *object, const snapdrive
     snapverdict_judge judge;
     char front[PATH_MAX];
     uint64_t seeds = options->seed;
+    snapdrive_pace pace = {snapdrive_mix(options->seed), 6 * options->threads * options->calls};
     struct timespec now, told;
     *outcome = (snapdrive_outcome){0};
     if (!snapdrive_fits(options, outcome)) return false;
@@ -360,7 +475,7 @@ static inline bool snapdrive_run(const snapdrive_object *object, const snapdrive
     clock_gettime(CLOCK_MONOTONIC, &told);
     for (uint64_t run = 1, has_ended = false; !has_ended; run++) {
         size_t length = 0;
-        char *text = snapdrive_record(object, options, &seeds, &length, outcome);
+        char *text = snapdrive_record(object, options, &seeds, &pace, &length, outcome);
         int status = text ? snapverdict_of(&judge, text, length, options->out) : -1;
         if (status >= 0) outcome->found[status]++;
         if (status > 0 && !outcome->first) {
@@ -400,6 +515,7 @@ static inline bool snapdrive_read_number(snapdrive_options *options, size_t rang
 
 static inline bool snapdrive_read_option(snapdrive_options *options, const char *name, const char *value, snapdrive_outcome *outcome) {
     const char **text = !strcmp(name, "order")     ? &options->order
+                        : !strcmp(name, "schedule") ? &options->schedule
                         : !strcmp(name, "out")     ? &options->out
                         : !strcmp(name, "program") ? &options->program
                                                    : NULL;

@@ -10,7 +10,8 @@
 //
 //     int main(int count, char **words) { return snapdrive::main(count, words, {snapdrive::object<Board>("board")}); }
 //
-// Where an object calls snapdrive::pause() between its steps, the other threads run in the middle of its calls. An update that
+// Where an object calls snapdrive::pause() between its steps, the other threads run in the middle of its calls. snapdrive::point()
+// marks such a place for the schedule pct alone. An update that
 // failed throws snapdrive::NoEffect or snapdrive::Unknown. In a test of one's own, snapdrive::run<Board> does the same without a
 // command line; it throws snapdrive::Error and snaprecord::Error.
 //
@@ -33,6 +34,7 @@
 #include <memory>
 #include <mutex>
 #include <optional>
+#include <semaphore.h>
 #include <system_error>
 #include <thread>
 
@@ -47,6 +49,8 @@ constexpr const char *usage =
     "  --runs 20        how many runs, each of a fresh object\n"
     "  --seed 1         what the choice of the calls begins with\n"
     "  --order choice   each call is chosen by the seed; or turn: updates and a view in turn\n"
+    "  --schedule free  threads run freely; or pct: in turns that the seed chooses, the same in each try\n"
+    "  --depth 3        by pct the turns change at so many moments less one, at most 64\n"
     "  --nap 0          where not 0, pauses and the gaps between calls last up to so many microseconds\n"
     "  --stop 0         where not 0, ends after so many runs that were not atomic\n"
     "  --limit 60       how many seconds a run may take\n"
@@ -61,8 +65,9 @@ constexpr const char *usage =
 using snapverdict::Error;
 
 struct Options {
-    std::uint64_t threads = 4, components = 4, calls = 200, runs = 20, seed = 1, nap = 0, stop = 0, limit = 60, views = 1, events = 65536;
-    std::string order = "choice", out = ".", program;
+    std::uint64_t threads = 4, components = 4, calls = 200, runs = 20, seed = 1, nap = 0, stop = 0, limit = 60, views = 1, events = 65536,
+                  depth = 3;
+    std::string order = "choice", schedule = "free", out = ".", program;
 };
 
 // How many runs were atomic, only regular, or not regular; and which was the first that was not atomic, from 1, or 0. How many views
@@ -110,11 +115,111 @@ inline std::optional<std::uint32_t> choose(const Options &options, std::uint32_t
     return static_cast<std::uint32_t>(thread + place * options.threads);
 }
 
+// ---- turns
+
+// What all runs share: the source of choices, and how many points the last run had.
+struct Pace {
+    Random random;
+    std::uint64_t points;
+
+    explicit Pace(const Options &options) : random(Random::mix(options.seed)), points(6 * options.threads * options.calls) {}
+};
+
+// Turns of the threads of a run: probabilistic concurrency testing, by Burckhardt, Kothari, Musuvathi and Nagarakatte (2010). One thread
+// runs at a time: of those that have not ended the one with the highest priority. The seed chooses these, and the points at which the
+// running thread gets a priority below all of them. Only the running thread reads and writes the turns.
+class Turns {
+  public:
+    Turns(const Options &options, Pace &pace) : states(options.threads) {
+        std::vector<std::size_t> order(states.size());
+        for (std::size_t t = 0; t < order.size(); t++) order[t] = t;
+        for (std::size_t i = order.size(); i-- > 0;) {
+            std::swap(order[i], order[pace.random.next() % (i + 1)]);
+            states[order[i]].priority = static_cast<std::int64_t>(options.depth + i);
+        }
+        for (std::uint64_t i = 1; i < options.depth; i++) changes.push_back(1 + pace.random.next() % pace.points);
+        for (State &state : states) sem_init(&state.turn, 0, 0);
+    }
+
+    // A thread begins, and waits for its turn.
+    void enter(std::size_t thread) {
+        of_thread = this;
+        number = thread;
+        wait(thread);
+    }
+
+    // A thread ends.
+    void leave() {
+        of_thread = nullptr;
+        states[number].has_ended = true;
+        pass();
+    }
+
+    // The first turn is given.
+    void start() { sem_post(&states[first()].turn); }
+
+    void point() {
+        points++;
+        for (std::size_t i = 0; i < changes.size(); i++)
+            if (changes[i] == points) states[number].priority = static_cast<std::int64_t>(i);
+        if (++spins > most_spins) {
+            spins = 0;
+            states[number].priority = --lowest;
+        }
+        pass();
+    }
+
+    // The turns of this thread; none where it runs freely.
+    static inline thread_local Turns *of_thread = nullptr;
+    std::uint64_t points = 0;
+    std::uint64_t spins = 0; // points since the last end of a call
+
+  private:
+    struct State {
+        std::int64_t priority = 0;
+        bool has_ended = false;
+        sem_t turn;
+    };
+
+    // The thread that has the turn; or the number of threads, where all have ended.
+    std::size_t first() const {
+        std::size_t first = states.size();
+        for (std::size_t t = 0; t < states.size(); t++)
+            if (!states[t].has_ended && (first == states.size() || states[t].priority > states[first].priority)) first = t;
+        return first;
+    }
+
+    void pass() {
+        const std::size_t next = first(), from = number;
+        if (next == from || next == states.size()) return;
+        const bool waits = !states[from].has_ended;
+        sem_post(&states[next].turn);
+        if (waits) wait(from);
+    }
+
+    void wait(std::size_t thread) {
+        while (sem_wait(&states[thread].turn) != 0) {}
+    }
+
+    // A thread that comes to so many points without the end of a call may wait for another one, and goes behind all others.
+    static constexpr std::uint64_t most_spins = 10000;
+    static inline thread_local std::size_t number = 0;
+    std::vector<State> states;
+    std::vector<std::uint64_t> changes;
+    std::int64_t lowest = 0;
+};
+
+// A place between two steps. By the schedule pct the turn may change here; else nothing is done.
+inline void point() {
+    if (Turns::of_thread) Turns::of_thread->point();
+}
+
 inline std::atomic<std::uint64_t> naps{0};
 inline std::uint64_t longest_nap = 0;
 
 // Lets the other threads run, and naps where the options ask for it.
 inline void pause() {
+    if (Turns::of_thread) return point();
     if (longest_nap == 0) return std::this_thread::yield();
     const std::uint64_t state = naps.fetch_add(Random::gamma, std::memory_order_relaxed) + Random::gamma;
     std::this_thread::sleep_for(std::chrono::microseconds(Random::mix(state) % (longest_nap + 1)));
@@ -136,7 +241,9 @@ struct Unknown : std::runtime_error {
 template <class Board>
 bool update(Board &board, snaprecord::Log &log, std::uint32_t thread, std::uint32_t component, std::uint32_t value) {
     try {
+        point();
         board.update(thread, component, value);
+        point();
         log.end_update();
     } catch (const NoEffect &) {
         log.drop_update();
@@ -151,6 +258,7 @@ bool update(Board &board, snaprecord::Log &log, std::uint32_t thread, std::uint3
 template <class Board>
 void work(Board &board, snaprecord::Log &log, std::uint32_t thread, const Options &options, Random random) {
     for (std::uint64_t i = 0; i < options.calls; i++) {
+        point();
         const auto component = choose(options, thread, i, random);
         if (component) {
             const auto value = static_cast<std::uint32_t>((thread + 1) * 1000000 + i); // each value once
@@ -158,14 +266,17 @@ void work(Board &board, snaprecord::Log &log, std::uint32_t thread, const Option
             if (!update(board, log, thread, *component, value)) return;
         } else {
             if (!log.begin_view()) return;
+            point();
             const std::optional<std::vector<std::uint32_t>> values = board.view(thread);
+            point();
             if (values) log.end_view_values(*values);
             else log.drop_view();
             if (values && values->size() != options.components)
                 throw Error("view", "a view has " + std::to_string(values->size()) + " values of " + std::to_string(options.components) +
                                         " components");
         }
-        if (longest_nap > 0) pause();
+        if (Turns::of_thread) Turns::of_thread->spins = 0;
+        else if (longest_nap > 0) pause();
     }
 }
 
@@ -219,11 +330,13 @@ template <class Board> std::unique_ptr<Board> fresh(std::uint32_t components) {
 }
 
 // The history of a fresh object. Its views are counted.
-template <class Board> std::string record(const std::string &name, const Options &options, Random &seeds, Outcome &outcome) {
+template <class Board> std::string record(const std::string &name, const Options &options, Random &seeds, Pace &pace, Outcome &outcome) {
     const auto threads = static_cast<std::uint32_t>(options.threads), components = static_cast<std::uint32_t>(options.components);
     snaprecord::Recorder recorder(threads, components, static_cast<std::uint32_t>(options.calls));
     const std::unique_ptr<Board> board = fresh<Board>(components);
     Race race(threads);
+    std::optional<Turns> turns;
+    if (options.schedule == "pct") turns.emplace(options, pace);
     std::vector<std::thread> all;
     const std::string unfinished = options.out + "/" + name + "-unfinished.csv";
     const snaprecord::Kept kept(recorder, unfinished);
@@ -231,6 +344,7 @@ template <class Board> std::string record(const std::string &name, const Options
         const snaprecord::Stack stack;
         std::exception_ptr error;
         race.start();
+        if (turns) turns->enter(t);
         try {
             work(*board, recorder.log(t), t, options, random);
         } catch (const Error &) {
@@ -240,6 +354,7 @@ template <class Board> std::string record(const std::string &name, const Options
         } catch (...) {
             error = std::make_exception_ptr(Error("died", "a call of thread " + std::to_string(t) + " threw no std::exception"));
         }
+        if (turns) turns->leave();
         race.end(error);
     };
     for (std::uint32_t t = 0; t < threads; t++)
@@ -249,7 +364,9 @@ template <class Board> std::string record(const std::string &name, const Options
             std::cerr << name << ": memory: thread " << t << " can't be started" << std::endl;
             std::_Exit(4); // those before it wait for it
         }
+    if (turns) turns->start();
     race.wait(name, options.limit, recorder, unfinished);
+    if (turns) pace.points = turns->points;
     for (std::thread &thread : all) thread.join();
     if (race.failed) Race::keep(name, recorder, unfinished);
     if (race.failed) std::rethrow_exception(race.failed);
@@ -278,6 +395,7 @@ inline const Range ranges[] = {
     {"limit", &Options::limit, 1, 100000},
     {"views", &Options::views, 0, 1000000000},
     {"events", &Options::events, 2, snaprecord::event_limit},
+    {"depth", &Options::depth, 1, 64},
 };
 
 inline Error beyond(const Range &range) {
@@ -291,6 +409,7 @@ inline void test(const Options &options) {
     if (options.threads * options.calls > options.events / 2)
         throw Error("limits", "all threads make at most " + std::to_string(options.events / 2) + " calls");
     if (options.order != "choice" && options.order != "turn") throw Error("usage", "order is choice or turn");
+    if (options.schedule != "free" && options.schedule != "pct") throw Error("usage", "schedule is free or pct");
 }
 
 // Throws where the runs say nothing of the object: all were atomic, and too few views ended, or none of them overlapped an update.
@@ -312,12 +431,13 @@ template <class Board> Outcome run(const std::string &name, const Options &optio
     judge.test_folder(options.out);
     const std::string front = options.out + "/" + name;
     Random seeds(options.seed);
+    Pace pace(options);
     Outcome outcome;
     auto told = std::chrono::steady_clock::now();
     longest_nap = options.nap;
     naps = options.seed;
     for (std::uint64_t number = 1;; number++) {
-        const std::string text = record<Board>(name, options, seeds, outcome);
+        const std::string text = record<Board>(name, options, seeds, pace, outcome);
         const int status = judge.status(text, options.out);
         (status == 0 ? outcome.atomic : status == 1 ? outcome.only_regular : outcome.not_regular)++;
         if (status != 0 && outcome.first == 0) {
@@ -361,10 +481,11 @@ inline void read_number(Options &options, const Range &range, const std::string 
 inline void read_option(Options &options, const std::string &word, const std::string *value) {
     const auto has_name = [&word](const Range &it) { return "--" + std::string(it.name) == word; };
     const auto range = std::find_if(std::begin(ranges), std::end(ranges), has_name);
-    std::string *text = word == "--order"     ? &options.order
-                        : word == "--out"     ? &options.out
-                        : word == "--program" ? &options.program
-                                              : nullptr;
+    std::string *text = word == "--order"      ? &options.order
+                        : word == "--schedule" ? &options.schedule
+                        : word == "--out"      ? &options.out
+                        : word == "--program"  ? &options.program
+                                               : nullptr;
     if (!text && range == std::end(ranges))
         throw Error("usage", word.rfind("--", 0) == 0 ? "there is no option " + word : word + " is not an option");
     if (!value) throw Error("usage", word + " has no value");

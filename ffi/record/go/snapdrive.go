@@ -21,6 +21,8 @@ const usage = `usage: [OBJECT] [OPTION VALUE ..]
   --runs 20        how many runs, each of a fresh object
   --seed 1         what the choice of the calls begins with
   --order choice   each call is chosen by the seed; or turn: updates and a view in turn
+  --schedule free  threads run freely; or pct: in turns that the seed chooses, the same in each try
+  --depth 3        by pct the turns change at so many moments less one, at most 64
   --nap 0          where not 0, pauses and the gaps between calls last up to so many microseconds
   --stop 0         where not 0, ends after so many runs that were not atomic
   --limit 60       how many seconds a run may take
@@ -81,12 +83,13 @@ func (object Object) made(components int) (board FallibleBoard, err error) {
 }
 
 type Options struct {
-	Threads, Components, Calls, Runs, Seed, Nap, Stop, Limit, Views, Events uint64
-	Order, Out, Program                                                     string
+	Threads, Components, Calls, Runs, Seed, Nap, Stop, Limit, Views, Events, Depth uint64
+	Order, Schedule, Out, Program                                                  string
 }
 
 func DefaultOptions() Options {
-	return Options{Threads: 4, Components: 4, Calls: 200, Runs: 20, Seed: 1, Limit: 60, Views: 1, Events: 65536, Order: "choice", Out: "."}
+	return Options{Threads: 4, Components: 4, Calls: 200, Runs: 20, Seed: 1, Limit: 60, Views: 1, Events: 65536, Depth: 3, Order: "choice",
+		Schedule: "free", Out: "."}
 }
 
 // An Outcome tells how many runs were atomic, only regular, or not regular; and which was the first that was not atomic, from 1, or 0.
@@ -174,6 +177,9 @@ var naps, longestNap atomic.Uint64
 
 // Pause lets the other goroutines run, and naps where the options ask for it.
 func Pause() {
+	if Point() {
+		return
+	}
 	if longest := longestNap.Load(); longest > 0 {
 		time.Sleep(time.Duration(mix(naps.Add(gamma))%(longest+1)) * time.Microsecond)
 	} else {
@@ -190,11 +196,14 @@ func work(board FallibleBoard, log *Log[uint32], calls []int, options Options) (
 		}
 	}()
 	for i, component := range calls {
+		Point()
 		if component == view {
 			if !log.BeginView() {
 				return nil
 			}
+			Point()
 			values := board.View(log.thread)
+			Point()
 			if values == nil {
 				log.DropView()
 				continue
@@ -208,7 +217,10 @@ func work(board FallibleBoard, log *Log[uint32], calls []int, options Options) (
 			if log.BeginUpdate(component, value) == 0 {
 				return nil
 			}
-			if err := board.Update(log.thread, component, value); err == nil {
+			Point()
+			err := board.Update(log.thread, component, value)
+			Point()
+			if err == nil {
 				log.EndUpdate()
 			} else if errors.Is(err, NoEffect) {
 				log.DropUpdate()
@@ -216,9 +228,7 @@ func work(board FallibleBoard, log *Log[uint32], calls []int, options Options) (
 				return nil
 			}
 		}
-		if options.Nap > 0 {
-			Pause()
-		}
+		goOn(options)
 	}
 	return nil
 }
@@ -239,7 +249,7 @@ func keepUnfinished(name, out string, recorder *Recorder[uint32]) {
 
 // The history of a fresh object under a schedule. Its views are counted. What a run made that did not end stands in
 // NAME-unfinished.csv.
-func record(object Object, options Options, schedule [][]int, outcome *Outcome) (string, error) {
+func record(object Object, options Options, schedule [][]int, pace *pace, outcome *Outcome) (string, error) {
 	recorder, err := New[uint32](int(options.Threads), int(options.Components), int(options.Calls))
 	if err != nil {
 		return "", err
@@ -249,16 +259,22 @@ func record(object Object, options Options, schedule [][]int, outcome *Outcome) 
 		return "", err
 	}
 	ready, start, ended := make(chan bool, len(schedule)), make(chan bool), make(chan error, len(schedule))
+	turns := newTurns(options, pace)
 	for t, calls := range schedule {
 		go func(log *Log[uint32], calls []int) {
 			ready <- true
 			<-start
-			ended <- work(board, log, calls, options)
+			turns.enter(log.thread)
+			err := work(board, log, calls, options)
+			turns.leave(log.thread)
+			ended <- err
 		}(recorder.Log(t), calls)
 	}
 	for range schedule {
 		<-ready
 	}
+	turns.start()
+	defer turns.end(pace)
 	close(start)
 	late := time.After(time.Duration(options.Limit) * time.Second)
 	for range schedule {
@@ -301,6 +317,7 @@ func numbers(options *Options) []number {
 		{"limit", &options.Limit, 1, 100000},
 		{"views", &options.Views, 0, 1000000000},
 		{"events", &options.Events, 2, EventLimit},
+		{"depth", &options.Depth, 1, 64},
 	}
 }
 
@@ -319,6 +336,9 @@ func test(options Options) error {
 	}
 	if options.Order != "choice" && options.Order != "turn" {
 		return failed("usage", "order is choice or turn")
+	}
+	if options.Schedule != "free" && options.Schedule != "pct" {
+		return failed("usage", "schedule is free or pct")
 	}
 	return nil
 }
@@ -352,11 +372,11 @@ func Run(object Object, options Options) (Outcome, error) {
 	if err := testFolder(options.Out); err != nil {
 		return outcome, err
 	}
-	front, told, next := options.Out+"/"+object.Name, time.Now(), schedules(options)
+	front, told, next, pace := options.Out+"/"+object.Name, time.Now(), schedules(options), newPace(options)
 	longestNap.Store(options.Nap)
 	naps.Store(options.Seed)
 	for run := uint64(1); ; run++ {
-		text, err := record(object, options, next(), &outcome)
+		text, err := record(object, options, next(), pace, &outcome)
 		if err != nil {
 			return outcome, err
 		}
@@ -401,7 +421,7 @@ func (it number) read(word string) error {
 // Takes the option that stands first among words.
 func readOption(options *Options, words []string) error {
 	name := strings.TrimPrefix(words[0], "--")
-	text := map[string]*string{"order": &options.Order, "out": &options.Out, "program": &options.Program}[name]
+	text := map[string]*string{"order": &options.Order, "schedule": &options.Schedule, "out": &options.Out, "program": &options.Program}[name]
 	var place *number
 	for _, it := range numbers(options) {
 		if it.name == name {

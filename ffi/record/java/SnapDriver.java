@@ -22,6 +22,7 @@ import java.util.Locale;
 import java.util.Map;
 import java.util.TreeSet;
 import java.util.concurrent.CyclicBarrier;
+import java.util.concurrent.Semaphore;
 import java.util.concurrent.atomic.AtomicLong;
 import java.util.concurrent.atomic.AtomicReference;
 import java.util.concurrent.locks.LockSupport;
@@ -47,7 +48,8 @@ import java.util.stream.IntStream;
  * SnapDriver.main(words, "mine", Mine::new);
  * </pre>
  *
- * <p>Where an object calls SnapDriver.pause() between its steps, the other threads run in the middle of its calls. An update that
+ * <p>Where an object calls SnapDriver.pause() between its steps, the other threads run in the middle of its calls. SnapDriver.point()
+ * marks such a place for the schedule pct alone. An update that
  * failed throws SnapDriver.NoEffect or SnapDriver.Unknown. In a test of one's own, SnapDriver.run does the same without a command
  * line; it throws DriveException and RecordException.
  */
@@ -61,6 +63,8 @@ public final class SnapDriver {
         "  --runs 20        how many runs, each of a fresh object",
         "  --seed 1         what the choice of the calls begins with",
         "  --order choice   each call is chosen by the seed; or turn: updates and a view in turn",
+        "  --schedule free  threads run freely; or pct: in turns that the seed chooses, the same in each try",
+        "  --depth 3        by pct the turns change at so many moments less one, at most 64",
         "  --nap 0          where not 0, pauses and the gaps between calls last up to so many microseconds",
         "  --stop 0         where not 0, ends after so many runs that were not atomic",
         "  --limit 60       how many seconds a run may take",
@@ -116,7 +120,8 @@ public final class SnapDriver {
         STOP(0, 1000000000, 0),
         LIMIT(1, 100000, 60),
         VIEWS(0, 1000000000, 1),
-        EVENTS(2, SnapRecorder.EVENT_LIMIT, 65536);
+        EVENTS(2, SnapRecorder.EVENT_LIMIT, 65536),
+        DEPTH(1, 64, 3);
 
         final long least, greatest, preset;
 
@@ -130,11 +135,12 @@ public final class SnapDriver {
     /** What a run is asked for. A seed has 64 bits without a sign. */
     public static final class Options {
         private final long[] numbers = Arrays.stream(Number.values()).mapToLong(it -> it.preset).toArray();
-        private String order = "choice", out = ".", program;
+        private String order = "choice", schedule = "free", out = ".", program;
 
         /** Sets an option by its name, as the command line does. */
         public Options with(String name, Object value) {
             if (name.equals("order")) order = value.toString();
+            else if (name.equals("schedule")) schedule = value.toString();
             else if (name.equals("out")) out = value.toString();
             else if (name.equals("program")) program = value.toString();
             else setNumber(name, value.toString());
@@ -142,7 +148,7 @@ public final class SnapDriver {
         }
 
         private static boolean has(String name) {
-            return List.of("order", "out", "program").contains(name)
+            return List.of("order", "schedule", "out", "program").contains(name)
                 || Arrays.stream(Number.values()).anyMatch(it -> it.name().toLowerCase(Locale.ROOT).equals(name));
         }
 
@@ -164,6 +170,7 @@ public final class SnapDriver {
             if ((long) get(Number.THREADS) * get(Number.CALLS) > get(Number.EVENTS) / 2)
                 throw new DriveException("limits", "all threads make at most " + get(Number.EVENTS) / 2 + " calls");
             if (!order.equals("choice") && !order.equals("turn")) throw new DriveException("usage", "order is choice or turn");
+            if (!schedule.equals("free") && !schedule.equals("pct")) throw new DriveException("usage", "schedule is free or pct");
         }
     }
 
@@ -255,12 +262,115 @@ public final class SnapDriver {
         return calls;
     }
 
+    // ---- turns
+
+    /** What all runs share: the source of choices, and how many points the last run had. */
+    private static final class Pace {
+        private final Random random;
+        private long points;
+
+        private Pace(Options options) {
+            random = new Random(mix(options.numbers[Number.SEED.ordinal()]));
+            points = 6L * options.get(Number.THREADS) * options.get(Number.CALLS);
+        }
+
+        /** A number below this one. */
+        private long below(long limit) {
+            return Long.remainderUnsigned(random.next(), limit);
+        }
+    }
+
+    /**
+     * Turns of the threads of a run: probabilistic concurrency testing, by Burckhardt, Kothari, Musuvathi and Nagarakatte (2010). One
+     * thread runs at a time: of those that have not ended the one with the highest priority. The seed chooses these, and the points at
+     * which the running thread gets a priority below all of them. Only the running thread reads and writes the turns.
+     */
+    private static final class Turns {
+        /** A thread that comes to so many points without the end of a call may wait for another one, and goes behind all others. */
+        private static final int MOST_SPINS = 10000;
+        private static final long ENDED = Long.MIN_VALUE;
+        private static final ThreadLocal<Turns> OF_THREAD = new ThreadLocal<>();
+        private static final ThreadLocal<Integer> NUMBER = new ThreadLocal<>();
+        private final long[] priorities, changes;
+        private final Semaphore[] turn;
+        private long points, lowest;
+        private int spins;
+
+        private Turns(Options options, Pace pace) {
+            int count = options.get(Number.THREADS), depth = options.get(Number.DEPTH);
+            int[] order = IntStream.range(0, count).toArray();
+            priorities = new long[count];
+            for (int i = count - 1; i >= 0; i--) {
+                int j = (int) pace.below(i + 1), kept = order[i];
+                order[i] = order[j];
+                order[j] = kept;
+                priorities[order[i]] = depth + i;
+            }
+            changes = IntStream.range(1, depth).mapToLong(i -> 1 + pace.below(pace.points)).toArray();
+            turn = IntStream.range(0, count).mapToObj(t -> new Semaphore(0)).toArray(Semaphore[]::new);
+        }
+
+        /** A thread begins, and waits for its turn. */
+        private void enter(int thread) {
+            OF_THREAD.set(this);
+            NUMBER.set(thread);
+            turn[thread].acquireUninterruptibly();
+        }
+
+        /** A thread ends. */
+        private void leave(int thread) {
+            OF_THREAD.remove();
+            priorities[thread] = ENDED;
+            pass(thread);
+        }
+
+        private int first() {
+            return IntStream.range(0, priorities.length).reduce(0, (a, b) -> priorities[b] > priorities[a] ? b : a);
+        }
+
+        private void start() {
+            turn[first()].release();
+        }
+
+        private void pass(int from) {
+            int next = first();
+            if (next == from || priorities[next] == ENDED) return;
+            boolean waits = priorities[from] != ENDED;
+            turn[next].release();
+            if (waits) turn[from].acquireUninterruptibly();
+        }
+
+        private void point(int thread) {
+            points++;
+            for (int i = 0; i < changes.length; i++) if (changes[i] == points) priorities[thread] = i;
+            if (++spins > MOST_SPINS) {
+                spins = 0;
+                priorities[thread] = --lowest;
+            }
+            pass(thread);
+        }
+    }
+
+    /** A place between two steps. By the schedule pct the turn may change here; else nothing is done. */
+    public static void point() {
+        Turns turns = Turns.OF_THREAD.get();
+        if (turns != null) turns.point(Turns.NUMBER.get());
+    }
+
+    /** A call has ended. */
+    private static void goOn() {
+        Turns turns = Turns.OF_THREAD.get();
+        if (turns != null) turns.spins = 0;
+        else if (longestNap > 0) pause();
+    }
+
     private static final AtomicLong naps = new AtomicLong();
     private static volatile long longestNap;
 
     /** Lets the other threads run, and naps where the options ask for it. */
     public static void pause() {
-        if (longestNap == 0) Thread.yield();
+        if (Turns.OF_THREAD.get() != null) point();
+        else if (longestNap == 0) Thread.yield();
         else LockSupport.parkNanos(Long.remainderUnsigned(mix(naps.addAndGet(GAMMA)), longestNap + 1) * 1000);
     }
 
@@ -268,9 +378,12 @@ public final class SnapDriver {
 
     private static void work(Board board, SnapRecorder.Log log, int thread, int[] calls, Options options) throws Exception {
         for (int i = 0; i < calls.length; i++) {
+            point();
             if (calls[i] == VIEW) {
                 if (!log.beginView()) return;
+                point();
                 long[] values = board.view(thread);
+                point();
                 if (values == null) log.dropView();
                 else log.endViewValues(values);
                 if (values != null && values.length != options.get(Number.COMPONENTS))
@@ -280,7 +393,9 @@ public final class SnapDriver {
                 long value = (thread + 1) * 1000000L + i; // each value once
                 if (log.beginUpdate(calls[i], value) == 0) return;
                 try {
+                    point();
                     board.update(thread, calls[i], value);
+                    point();
                     log.endUpdate();
                 } catch (NoEffect failed) {
                     log.dropUpdate();
@@ -288,7 +403,7 @@ public final class SnapDriver {
                     return;
                 }
             }
-            if (longestNap > 0) pause();
+            goOn();
         }
     }
 
@@ -311,12 +426,14 @@ public final class SnapDriver {
     }
 
     /** The history of a fresh object. What a run made that did not end stands in FRONT-unfinished.csv. */
-    private static Run record(IntFunction<? extends Board> make, Options options, Random seeds, Path front) throws InterruptedException {
+    private static Run record(IntFunction<? extends Board> make, Options options, Random seeds, Pace pace, Path front)
+        throws InterruptedException {
         int count = options.get(Number.THREADS);
         SnapRecorder recorder = new SnapRecorder(count, options.get(Number.COMPONENTS), options.get(Number.CALLS));
         Board board = fresh(make, options.get(Number.COMPONENTS));
         CyclicBarrier start = new CyclicBarrier(count);
         AtomicReference<DriveException> failed = new AtomicReference<>();
+        Turns turns = options.schedule.equals("pct") ? new Turns(options, pace) : null;
         List<Thread> threads = new ArrayList<>();
         for (int t = 0; t < count; t++) {
             int thread = t;
@@ -324,20 +441,24 @@ public final class SnapDriver {
             threads.add(new Thread(() -> {
                 try {
                     start.await();
+                    if (turns != null) turns.enter(thread);
                     work(board, recorder.log(thread), thread, calls, options);
                 } catch (DriveException error) {
                     failed.compareAndSet(null, error);
                 } catch (Throwable error) {
                     failed.compareAndSet(null, new DriveException("died", "a call of thread " + thread + " threw " + error));
                 }
+                if (turns != null) turns.leave(thread);
             }));
         }
         start(threads);
+        if (turns != null) turns.start();
         long end = System.nanoTime() + options.get(Number.LIMIT) * 1000000000L;
         for (Thread thread : threads) thread.join(Math.max(1, (end - System.nanoTime()) / 1000000));
         if (threads.stream().anyMatch(Thread::isAlive))
             failed.compareAndSet(null, new DriveException(
                 "hangs", "a run took more than " + options.get(Number.LIMIT) + " s: a call of the object does not end"));
+        if (turns != null) pace.points = turns.points;
         if (failed.get() == null) return new Run(recorder);
         keepUnfinished(recorder, front);
         throw failed.get();
@@ -564,11 +685,12 @@ public final class SnapDriver {
         options.test();
         Judge judge = new Judge(name, options);
         Random seeds = new Random(options.numbers[Number.SEED.ordinal()]);
+        Pace pace = new Pace(options);
         longestNap = options.get(Number.NAP);
         naps.set(options.numbers[Number.SEED.ordinal()]);
         while (!judge.hasEnded()) {
             try {
-                judge.batch.add(record(make, options, seeds, Path.of(options.out, name)));
+                judge.batch.add(record(make, options, seeds, pace, Path.of(options.out, name)));
             } catch (Throwable fault) {
                 judge.judge(); // the runs before may have ended all
                 if (!judge.hasEnded()) throw fault;

@@ -46,6 +46,7 @@ RANGES = {
     "limit": (1, 10**5),
     "views": (0, 10**9),
     "events": (2, EVENT_LIMIT),
+    "depth": (1, 64),
 }
 USAGE = """usage: [OBJECT] [OPTION VALUE ..]
   --threads 4      how many threads, at most 64
@@ -55,6 +56,8 @@ USAGE = """usage: [OBJECT] [OPTION VALUE ..]
   --runs 20        how many runs, each of a fresh object
   --seed 1         what the choice of the calls begins with
   --order choice   each call is chosen by the seed; or turn: updates and a view in turn
+  --schedule free  threads run freely; or pct: in turns that the seed chooses, the same in each try
+  --depth 3        by pct the turns change at so many moments less one, at most 64
   --nap 0          where not 0, pauses and the gaps between calls last up to so many microseconds
   --stop 0         where not 0, ends after so many runs that were not atomic
   --limit 60       how many seconds a run may take
@@ -77,7 +80,9 @@ class Options:
     limit: int = 60
     views: int = 1
     events: int = 65536
+    depth: int = 3
     order: str = "choice"
+    schedule: str = "free"
     out: str = "."
     program: str = ""
 
@@ -90,6 +95,8 @@ class Options:
             raise DriveError("limits", f"all threads make at most {self.events // 2} calls")
         if self.order not in ("choice", "turn"):
             raise DriveError("usage", "order is choice or turn")
+        if self.schedule not in ("free", "pct"):
+            raise DriveError("usage", "schedule is free or pct")
 
 
 @dataclasses.dataclass
@@ -182,12 +189,97 @@ def schedules(options):
         yield [list(calls_of(options, thread, next(seeds))) for thread in range(options.threads)]
 
 
+class Turns:
+    """Turns of the threads of a run: probabilistic concurrency testing, by Burckhardt, Kothari, Musuvathi and Nagarakatte (2010).
+
+    One thread runs at a time: of those that have not ended the one with the highest priority. The seed chooses these, and the points at
+    which the running thread gets a priority below all of them. Only the running thread reads and writes the turns.
+    """
+
+    SPIN = 10000  # after so many points without the end of a call a thread may wait for another one, and goes behind all others
+    of_thread = threading.local()
+
+    def __init__(self, options, random, points):
+        """`points` is how many points the run before had."""
+        order = list(range(options.threads))
+        self.priorities, self.points, self.spins, self.lowest = {}, 0, 0, 0
+        for i in reversed(range(options.threads)):
+            j = next(random) % (i + 1)
+            order[i], order[j] = order[j], order[i]
+            self.priorities[order[i]] = options.depth + i
+        self.changes = [1 + next(random) % points for _ in range(options.depth - 1)]
+        self.turn = [threading.Semaphore(0) for _ in order]
+
+    def enter(self, thread):
+        """A thread begins, and waits for its turn."""
+        Turns.of_thread.turns, Turns.of_thread.number = self, thread
+        self.turn[thread].acquire()
+
+    def leave(self, thread):
+        """A thread ends."""
+        del Turns.of_thread.turns, self.priorities[thread]
+        self.give(thread)
+
+    def give(self, thread=None):
+        """The turn goes to the thread that has it now; another one then waits for its own."""
+        first = max(self.priorities, key=self.priorities.get, default=thread)
+        if first != thread:
+            self.turn[first].release()
+            if thread in self.priorities:
+                self.turn[thread].acquire()
+
+    def point(self, thread):
+        self.points += 1
+        self.spins += 1
+        for i, at in enumerate(self.changes):
+            if at == self.points:
+                self.priorities[thread] = i
+        if self.spins > self.SPIN:
+            self.spins, self.lowest = 0, self.lowest - 1
+            self.priorities[thread] = self.lowest
+        self.give(thread)
+
+
+class FreeTurns:
+    """Threads that run freely."""
+
+    points = 1
+
+    def enter(self, thread):
+        pass
+
+    leave = enter
+
+    def give(self):
+        pass
+
+
+class Pace:
+    """What all runs share: the source of choices, and how many points the last run had."""
+
+    def __init__(self, options):
+        self.options, self.random, self.points = options, splitmix64(mix(options.seed)), 6 * options.threads * options.calls
+
+    def turns(self):
+        return Turns(self.options, self.random, self.points) if self.options.schedule == "pct" else FreeTurns()
+
+
+def point():
+    """A place between two steps. By the schedule pct the turn may change here; else nothing is done."""
+    turns = getattr(Turns.of_thread, "turns", None)
+    if turns:
+        turns.point(Turns.of_thread.number)
+    return turns
+
+
 class _Naps:
     longest, random = 0, splitmix64(0)
 
 
 def pause():
     """Lets the other threads run, and naps where the options ask for it."""
+    if point():
+        return
     time.sleep(next(_Naps.random) % (_Naps.longest + 1) / 1e6 if _Naps.longest else 0)
 
 
@@ -208,10 +300,13 @@ class Unknown(Exception):
 
 def work(board, log, thread, calls, options):
     for i, component in enumerate(calls):
+        turns = point()
         if component is None:
             if not log.begin_view():
                 return
+            point()
             values = board.view(thread)
+            point()
             if values is None:
                 log.drop_view()
             else:
@@ -223,13 +318,17 @@ def work(board, log, thread, calls, options):
             if not log.begin_update(component, value):
                 return
             try:
+                point()
                 board.update(thread, component, value)
+                point()
                 log.end_update()
             except NoEffect:
                 log.drop_update()
             except Unknown:
                 return
-        if options.nap:
+        if turns:
+            turns.spins = 0
+        elif options.nap:
             pause()
 
 
@@ -248,7 +347,7 @@ def start_all(threads):
             raise DriveError("memory", f"thread {number} can't be started") from error
 
 
-def record(make, options, schedule, front):
+def record(make, options, schedule, front, turns):
     """The recorder of a fresh object under a schedule. What a run made that did not end stands in FRONT-unfinished.csv."""
     board, recorder = fresh(make, options), Recorder(options.threads, options.components, options.calls)
     recorder.keep(f"{front}-unfinished.csv")
@@ -257,15 +356,18 @@ def record(make, options, schedule, front):
     def run_thread(thread):
         try:
             start.wait()
+            turns.enter(thread)
             work(board, recorder.log(thread), thread, schedule[thread], options)
         except DriveError as error:
             failed.append(error)
         except BaseException as error:  # also SystemExit, which else would end this thread alone
             failed.append(DriveError("died", f"a call of thread {thread} raised {error!r}"))
+        turns.leave(thread)
 
     threads = [threading.Thread(target=run_thread, args=(thread,), daemon=True) for thread in range(options.threads)]
     end = time.monotonic() + options.limit
     start_all(threads)
+    turns.give()
     for thread in threads:
         thread.join(max(0, end - time.monotonic()))
     if not failed and any(thread.is_alive() for thread in threads):
@@ -376,9 +478,11 @@ def run(make, name="object", **words):
     judge, outcome, told = Judge(options.program, options.events), Outcome(), time.monotonic()
     front = os.path.join(options.out, name)
     test_folder(options.out)
-    _Naps.longest, _Naps.random = options.nap, splitmix64(options.seed)
+    _Naps.longest, _Naps.random, pace = options.nap, splitmix64(options.seed), Pace(options)
     for number, schedule in enumerate(schedules(options), 1):
-        recorder = record(make, options, schedule, front)
+        turns = pace.turns()
+        recorder = record(make, options, schedule, front, turns)
+        pace.points = turns.points
         text = recorder.text()
         outcome.add(*recorder.views())
         status = judge.status(text)

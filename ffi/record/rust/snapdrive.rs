@@ -32,11 +32,12 @@
 
 use crate::snaprecord::{self, Log, Recorder, SoFar, Views, EVENT_LIMIT};
 use crate::snapverdict::{self, Judge};
+use std::cell::RefCell;
 use std::io::{self, Write};
 use std::panic::{self, AssertUnwindSafe};
 use std::process::{self, ExitCode};
 use std::sync::atomic::{AtomicU64, Ordering};
-use std::sync::{mpsc, Barrier};
+use std::sync::{mpsc, Arc, Barrier, Condvar, Mutex, MutexGuard, PoisonError};
 use std::time::{Duration, Instant};
 use std::{env, fmt, fs, thread};
 
@@ -48,6 +49,8 @@ pub const USAGE: &str = "usage: [OBJECT] [OPTION VALUE ..]
   --runs 20        how many runs, each of a fresh object
   --seed 1         what the choice of the calls begins with
   --order choice   each call is chosen by the seed; or turn: updates and a view in turn
+  --schedule free  threads run freely; or pct: in turns that the seed chooses, the same in each try
+  --depth 3        by pct the turns change at so many moments less one, at most 64
   --nap 0          where not 0, pauses and the gaps between calls last up to so many microseconds
   --stop 0         where not 0, ends after so many runs that were not atomic
   --limit 60       how many seconds a run may take
@@ -106,17 +109,19 @@ pub struct Options {
     pub limit: u64,
     pub views: u64,
     pub events: u64,
+    pub depth: u64,
     pub order: String,
+    pub schedule: String,
     pub out: String,
     pub program: Option<String>,
 }
 
 impl Default for Options {
     fn default() -> Self {
-        let (order, out) = ("choice".into(), ".".into());
-        let (events, program) = (65536, None);
+        let (order, schedule, out) = ("choice".into(), "free".into(), ".".into());
+        let (events, depth, program) = (65536, 3, None);
         let (threads, components, calls, runs, seed, nap, stop, limit, views) = (4, 4, 200, 20, 1, 0, 0, 60, 1);
-        Options { threads, components, calls, runs, seed, nap, stop, limit, views, events, order, out, program }
+        Options { threads, components, calls, runs, seed, nap, stop, limit, views, events, depth, order, schedule, out, program }
     }
 }
 
@@ -258,11 +263,163 @@ fn choose(options: &Options, thread: usize, i: u64, random: &mut Random) -> Opti
     own.nth(place as usize)
 }
 
+// ---- turns
+
+/// What all runs share: the source of choices, and how many points the last run had.
+struct Pace {
+    random: Random,
+    points: u64,
+}
+
+impl Pace {
+    fn new(options: &Options) -> Self {
+        Pace { random: Random(mix(options.seed)), points: 6 * options.threads * options.calls }
+    }
+}
+
+/// Opens once for each time that it is told to.
+#[derive(Default)]
+struct Gate(Mutex<bool>, Condvar);
+
+impl Gate {
+    fn open(&self) {
+        *lock(&self.0) = true;
+        self.1.notify_one();
+    }
+
+    fn pass(&self) {
+        let mut is_open = lock(&self.0);
+        while !*is_open {
+            is_open = self.1.wait(is_open).unwrap_or_else(PoisonError::into_inner);
+        }
+        *is_open = false;
+    }
+}
+
+fn lock<T>(mutex: &Mutex<T>) -> MutexGuard<'_, T> {
+    mutex.lock().unwrap_or_else(PoisonError::into_inner)
+}
+
+/// What the turns are chosen by. A thread that has ended has no priority.
+struct Order {
+    priorities: Vec<Option<i64>>,
+    changes: Vec<u64>,
+    points: u64,
+    spins: u64,
+    lowest: i64,
+}
+
+impl Order {
+    fn new(options: &Options, pace: &mut Pace) -> Self {
+        let mut order: Vec<usize> = (0..options.threads as usize).collect();
+        let mut priorities = vec![None; order.len()];
+        for i in (0..order.len()).rev() {
+            order.swap(i, (pace.random.next() % (i as u64 + 1)) as usize);
+            priorities[order[i]] = Some((options.depth + i as u64) as i64);
+        }
+        let changes = (1..options.depth).map(|_| 1 + pace.random.next() % pace.points).collect();
+        Order { priorities, changes, points: 0, spins: 0, lowest: 0 }
+    }
+
+    /// The thread that has the turn.
+    fn first(&self) -> Option<usize> {
+        let running = (0..self.priorities.len()).filter(|&thread| self.priorities[thread].is_some());
+        running.max_by_key(|&thread| self.priorities[thread])
+    }
+
+    /// A thread comes to a point.
+    fn step(&mut self, thread: usize) {
+        self.points += 1;
+        for (i, _) in self.changes.iter().enumerate().filter(|change| *change.1 == self.points) {
+            self.priorities[thread] = Some(i as i64);
+        }
+        self.spins += 1;
+        if self.spins > MOST_SPINS {
+            self.spins = 0;
+            self.lowest -= 1;
+            self.priorities[thread] = Some(self.lowest);
+        }
+    }
+}
+
+/// A thread that comes to so many points without the end of a call may wait for another one, and goes behind all others.
+const MOST_SPINS: u64 = 10_000;
+
+/// Turns of the threads of a run: probabilistic concurrency testing, by Burckhardt, Kothari, Musuvathi and Nagarakatte (2010). One thread
+/// runs at a time: of those that have not ended the one with the highest priority. The seed chooses these, and the points at which the
+/// running thread gets a priority below all of them.
+struct Turns {
+    order: Mutex<Order>,
+    gates: Vec<Gate>,
+}
+
+impl Turns {
+    fn new(options: &Options, pace: &mut Pace) -> Self {
+        Turns { order: Mutex::new(Order::new(options, pace)), gates: (0..options.threads).map(|_| Gate::default()).collect() }
+    }
+
+    fn start(&self) {
+        let first = lock(&self.order).first();
+        first.into_iter().for_each(|thread| self.gates[thread].open());
+    }
+
+    /// A thread begins, and waits for its turn.
+    fn enter(self: &Arc<Self>, thread: usize) {
+        TURNS.with(|turns| *turns.borrow_mut() = Some((Arc::clone(self), thread)));
+        self.gates[thread].pass();
+    }
+
+    /// A thread ends.
+    fn leave(&self, thread: usize) {
+        TURNS.with(|turns| *turns.borrow_mut() = None);
+        lock(&self.order).priorities[thread] = None;
+        self.start();
+    }
+
+    fn point(&self, thread: usize) {
+        let mut order = lock(&self.order);
+        order.step(thread);
+        let first = order.first();
+        drop(order);
+        if first != Some(thread) {
+            first.into_iter().for_each(|first| self.gates[first].open());
+            self.gates[thread].pass();
+        }
+    }
+}
+
+thread_local! {
+    /// The turns of this thread and its number; none where it runs freely.
+    static TURNS: RefCell<Option<(Arc<Turns>, usize)>> = const { RefCell::new(None) };
+}
+
+/// A place between two steps. By the schedule pct the turn may change here, and the answer is true; else nothing is done.
+pub fn point() -> bool {
+    let turns = TURNS.with(|turns| turns.borrow().clone());
+    turns.is_some_and(|(turns, thread)| {
+        turns.point(thread);
+        true
+    })
+}
+
+/// A call has ended.
+fn go_on(options: &Options) {
+    let turns = TURNS.with(|turns| turns.borrow().clone());
+    match turns {
+        Some((turns, _)) => lock(&turns.order).spins = 0,
+        None if options.nap > 0 => pause(),
+        None => (),
+    }
+}
+
 static NAPS: AtomicU64 = AtomicU64::new(0);
 static LONGEST_NAP: AtomicU64 = AtomicU64::new(0);
 
 /// Lets the other threads run, and naps where the options ask for it.
 pub fn pause() {
+    if point() {
+        return;
+    }
     let longest = LONGEST_NAP.load(Ordering::Relaxed);
     if longest == 0 {
         thread::yield_now();
@@ -276,12 +433,16 @@ pub fn pause() {
 
 fn work<B: FallibleBoard>(board: &B, log: &mut Log, thread: usize, options: &Options, mut random: Random) -> Result<(), Error> {
     for i in 0..options.calls {
+        point();
         if let Some(component) = choose(options, thread, i, &mut random) {
             let value = (thread as u32 + 1) * 1_000_000 + i as u32; // each value once
             if log.begin_update(component as u32, value).is_none() {
                 break;
             }
-            match board.update(thread, component, value) {
+            point();
+            let done = board.update(thread, component, value);
+            point();
+            match done {
                 Ok(()) => log.end_update(),
                 Err(Failed::NoEffect) => log.drop_update(),
                 Err(Failed::Unknown) => break,
@@ -290,7 +451,9 @@ fn work<B: FallibleBoard>(board: &B, log: &mut Log, thread: usize, options: &Opt
             if !log.begin_view() {
                 break;
             }
+            point();
             let values = board.view(thread);
+            point();
             match &values {
                 Some(values) => log.end_view_values(values),
                 None => log.drop_view(),
@@ -299,9 +462,7 @@ fn work<B: FallibleBoard>(board: &B, log: &mut Log, thread: usize, options: &Opt
                 return Err(Error::View(format!("a view has {} values of {} components", values.len(), options.components)));
             }
         }
-        if options.nap > 0 {
-            pause();
-        }
+        go_on(options);
     }
     Ok(())
 }
@@ -325,22 +486,25 @@ fn watch(ended: &mpsc::Receiver<()>, name: &str, options: &Options, so_far: &SoF
 }
 
 /// The history of a fresh object, and its views. What a run made that did not end stands in NAME-unfinished.csv.
-fn record<B: FallibleBoard>(name: &str, options: &Options, seeds: &mut Random) -> Result<(String, Views), Error> {
+fn record<B: FallibleBoard>(name: &str, options: &Options, seeds: &mut Random, pace: &mut Pace) -> Result<(String, Views), Error> {
     let mut recorder = Recorder::new(options.threads as usize, options.components as usize, options.calls as usize)?;
     let board = panic::catch_unwind(|| B::new(options.components as usize))
         .map_err(|_| Error::Died("the object can't be made: it panicked".into()))?;
     let start = Barrier::new(options.threads as usize);
     let so_far = recorder.so_far();
+    let turns = (options.schedule == "pct").then(|| Arc::new(Turns::new(options, pace)));
     let (running, ended) = mpsc::channel();
     thread::scope(|scope| {
         let workers: Vec<_> = recorder.logs.iter_mut().enumerate().map(|(thread, log)| (thread, log, Random(seeds.next()))).collect();
         let workers = workers.into_iter().map(|(thread, log, random)| {
-            let (board, start, running) = (&board, &start, running.clone());
+            let (board, start, turns, running) = (&board, &start, &turns, running.clone());
             let started = thread::Builder::new().spawn_scoped(scope, move || {
                 let _running = running; // dropped at the end, which the watch hears
                 start.wait();
-                panic::catch_unwind(AssertUnwindSafe(|| work(board, log, thread, options, random)))
-                    .unwrap_or_else(|_| Err(Error::Died(format!("a call of thread {thread} panicked"))))
+                turns.iter().for_each(|turns| turns.enter(thread));
+                let done = panic::catch_unwind(AssertUnwindSafe(|| work(board, log, thread, options, random)));
+                turns.iter().for_each(|turns| turns.leave(thread));
+                done.unwrap_or_else(|_| Err(Error::Died(format!("a call of thread {thread} panicked"))))
             });
             started.unwrap_or_else(|_| {
                 eprintln!("{name}: memory: thread {thread} can't be started");
@@ -349,6 +513,7 @@ fn record<B: FallibleBoard>(name: &str, options: &Options, seeds: &mut Random) -
         });
         let workers: Vec<_> = workers.collect();
         drop(running);
+        turns.iter().for_each(|turns| turns.start());
         watch(&ended, name, options, &so_far);
         workers.into_iter().try_for_each(|worker| worker.join().expect("a worker catches what its object panics with"))
     })
@@ -356,13 +521,16 @@ fn record<B: FallibleBoard>(name: &str, options: &Options, seeds: &mut Random) -
         keep_unfinished(name, &options.out, &so_far);
         error
     })?;
+    if let Some(turns) = turns {
+        pace.points = lock(&turns.order).points;
+    }
     Ok((recorder.text()?, recorder.views()))
 }
 
 // ---- all runs
 
 /// Of each number among the options the least and the greatest.
-fn ranges(options: &mut Options) -> [(&'static str, &mut u64, u64, u64); 10] {
+fn ranges(options: &mut Options) -> [(&'static str, &mut u64, u64, u64); 11] {
     [
         ("threads", &mut options.threads, 1, 64),
         ("components", &mut options.components, 1, 64),
@@ -374,6 +542,7 @@ fn ranges(options: &mut Options) -> [(&'static str, &mut u64, u64, u64); 10] {
         ("limit", &mut options.limit, 1, 100_000),
         ("views", &mut options.views, 0, 1_000_000_000),
         ("events", &mut options.events, 2, EVENT_LIMIT as u64),
+        ("depth", &mut options.depth, 1, 64),
     ]
 }
 
@@ -390,8 +559,9 @@ fn test(options: &Options) -> Result<(), Error> {
     if options.threads * options.calls > options.events / 2 {
         return Err(Error::Limits(format!("all threads make at most {} calls", options.events / 2)));
     }
-    match options.order.as_str() {
-        "choice" | "turn" => Ok(()),
+    match (options.order.as_str(), options.schedule.as_str()) {
+        ("choice" | "turn", "free" | "pct") => Ok(()),
+        ("choice" | "turn", _) => Err(Error::Usage("schedule is free or pct".into())),
         _ => Err(Error::Usage("order is choice or turn".into())),
     }
 }
@@ -404,12 +574,13 @@ pub fn run<B: FallibleBoard>(name: &str, options: &Options) -> Result<Outcome, E
     judge.test_folder(&options.out)?;
     let front = format!("{}/{name}", options.out);
     let mut seeds = Random(options.seed);
+    let mut pace = Pace::new(options);
     let mut outcome = Outcome::default();
     let mut told = Instant::now();
     LONGEST_NAP.store(options.nap, Ordering::Relaxed);
     NAPS.store(options.seed, Ordering::Relaxed);
     for number in 1..=options.runs {
-        let (text, views) = record::<B>(name, options, &mut seeds)?;
+        let (text, views) = record::<B>(name, options, &mut seeds, &mut pace)?;
         outcome.add(views);
         let status = judge.status(&text, &options.out)?;
         *[&mut outcome.atomic, &mut outcome.only_regular, &mut outcome.not_regular][status as usize] += 1;
@@ -436,13 +607,14 @@ pub fn run<B: FallibleBoard>(name: &str, options: &Options) -> Result<Outcome, E
 /// Takes an option, and its value where there is one.
 fn read_option(options: &mut Options, word: &str, value: Option<&String>) -> Result<(), Error> {
     let name = word.strip_prefix("--").ok_or_else(|| Error::Usage(format!("{word} is not an option")))?;
-    let is_known = ["order", "out", "program"].contains(&name) || ranges(options).iter().any(|range| range.0 == name);
+    let is_known = ["order", "schedule", "out", "program"].contains(&name) || ranges(options).iter().any(|range| range.0 == name);
     if !is_known {
         return Err(Error::Usage(format!("there is no option {word}")));
     }
     let value = value.ok_or_else(|| Error::Usage(format!("{word} has no value")))?;
     match name {
         "order" => options.order = value.into(),
+        "schedule" => options.schedule = value.into(),
         "out" => options.out = value.into(),
         "program" => options.program = Some(value.into()),
         _ => return read_number(options, name, value),
