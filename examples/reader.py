@@ -1,10 +1,13 @@
-"""Reads a history as docs/FORMAT.md tells, and writes its counts; or names its first fault. usage: reader.py [FILE]"""
-import csv, io, pathlib, sys
+"""The texts of judge.py, as docs/FORMAT.md tells: it reads histories, and names the first fault of a text that is none. It is not proved."""
+import csv, io, sys
 PLAIN, STAMPED = ["event", "process", "op", "data"], ["at", "event", "process", "op", "data"]
+
+class Refused(Exception):
+    """The record at fault, and the fault by its word."""
+
 def require(is_so, record, word):
     if not is_so:
-        print(f"refused record {record}: {word}")
-        sys.exit(3)
+        raise Refused(f"refused record {record}: {word}")
 
 def is_number(field, limits):
     is_decimal = field.isascii() and field.isdigit() and (field == "0" or field[0] != "0")
@@ -27,19 +30,21 @@ def event_of(fields, header, record, stamps):
     stamps.add(at)
     return int(at), record, event, process, op, data
 
-def counts_of(text):
+def events_of(text):
+    """The events of a history, in their order: what happens, the process, what it does, and the data. Raises Refused."""
     require(len(text) <= 67108864, 0, "toolong")
-    csv.field_size_limit(len(text))
-    lines = io.StringIO(text.removeprefix(b"\xef\xbb\xbf").decode("latin-1"), newline="")
+    csv.field_size_limit(len(text) + 1)
+    text = text[3:] if text.startswith(b"\xef\xbb\xbf") else text
+    # Before Python 3.11 the module csv takes no zero byte, and no field of a history has one.
+    lines = io.StringIO(text.decode("latin-1").replace("\0", "\u0100"), newline="")
     header, *records = [fields for fields in csv.reader(lines) if fields] or [[]]
     require(header in (PLAIN, STAMPED), 1, "header")
-    stamps, opened, writers, numbers, views = set(), {}, {}, {}, 0
+    stamps, opened, writers, numbers = set(), {}, {}, {}
     events = (event_of(fields, header, record, stamps) for record, fields in enumerate(records, 2))
     for _, record, event, process, op, data in sorted(events) if header == STAMPED else events:
         require(event == "end" or process not in opened, record, "busy")
         require(event == "begin" or process in opened, record, "idle")
         require(opened.pop(process, op) == op, record, "otherop")
-        views += (event, op) == ("end", "view")
         if event == "begin":
             opened[process] = op
         if event == "begin" and op == "update":
@@ -47,14 +52,22 @@ def counts_of(text):
             require(writers.setdefault(component, process) == process, record, "writer")
             require(int(number) == numbers.get(component, 0) + 1, record, "number")
             numbers[component] = int(number)
-    print(f"events {len(records)} calls {(len(records) + len(opened)) // 2} pending {len(opened)} views {views}")
+        yield event, process, op, data
 
-if len(sys.argv) > 2 or sys.argv[-1].startswith("-"):
-    print("usage: reader.py [FILE]", file=sys.stderr)
-    sys.exit(5)
-name = sys.argv[1] if len(sys.argv) == 2 else "/dev/stdin"
-try:
-    counts_of(pathlib.Path(name).read_bytes())
-except OSError as error:
-    print(f"reader.py: {name}: {error.strerror}", file=sys.stderr)
-    sys.exit(4)
+def run(answer):
+    """Writes the lines that answer the text of a file or of standard input, and ends with their status."""
+    program, name = sys.argv[0].replace("\\", "/").split("/")[-1], sys.argv[1] if len(sys.argv) == 2 else 0
+    if len(sys.argv) > 2 or sys.argv[-1].startswith("-"):
+        print(f"usage: {program} [FILE]", file=sys.stderr)
+        sys.exit(5)
+    try:
+        with open(name, "rb") as file:
+            text = file.read()
+        status, lines = answer(text)
+    except OSError as error:
+        print(f"{program}: {name or 'standard input'}: {error.strerror}", file=sys.stderr)
+        sys.exit(4)
+    except Refused as refused:
+        status, lines = 3, [str(refused)]
+    sys.stdout.buffer.write("".join(line + "\n" for line in lines).encode())
+    sys.exit(status)

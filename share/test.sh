@@ -380,32 +380,33 @@ a b.csv 2 4
   rm "$broken"
 fi
 
-# The reader that follows docs/FORMAT.md counts each example as the judge does, and names the same fault of a broken
-# text. The texts are the page's own: those of its commands, a fault of each name among them.
-reads_as_judged() {
-  judged=$("$top/snapjudge" check <"$2" | head -n 1)
-  status=0
-  case $judged in refused*) status=3 ;; esac
-  expect "a second reader of $1" "$status" "$judged
-" sh -c 'python3 "$1" <"$2"' sh "$examples/reader.py" "$2"
+# The judge in Python, which follows docs/FORMAT.md, says of each example what the program says, and names the same fault of a
+# broken text. The texts are the page's own: those of its commands, a fault of each name among them.
+judged_as_by_hand() {
+  judged=$("$top/snapjudge" check <"$2")
+  status=$?
+  expect "a second judge of $1" "$status" "$judged
+" sh -c 'python3 -B "$1" <"$2"' sh "$examples/judge.py" "$2"
 }
 if has python3; then
   for history in "$examples"/*.csv; do
-    reads_as_judged "${history##*/}" "$history"
+    judged_as_by_hand "${history##*/}" "$history"
   done
-  expect "the second reader has at most 60 lines" 0 "" test "$(wc -l <"$examples/reader.py")" -le 60
-  expect "a second reader of a file by name" 3 "refused record 4: number
-" python3 "$examples/reader.py" "$examples/skipped-number.csv"
-  expect "a file by name that is not there" 4 "" python3 "$examples/reader.py" none.csv
-  expect_said "its name and the reason" "reader.py: none.csv: No such file or directory"
+  expect "the second judge has at most 100 lines" 0 "" test "$(wc -l <"$examples/judge.py")" -le 100
+  expect "a second judge of a file by name" 3 "refused record 4: number
+" python3 -B "$examples/judge.py" "$examples/skipped-number.csv"
+  expect "a file by name that is not there" 4 "" python3 -B "$examples/judge.py" none.csv
+  expect_said "its name and the reason" "judge.py: none.csv: No such file or directory"
   for words in -x --help "old.csv old.csv"; do
-    expect "the reader's words $words" 5 "" python3 "$examples/reader.py" $words
-    expect_said "the usage" "usage: reader.py [FILE]"
+    expect "the second judge's words $words" 5 "" python3 -B "$examples/judge.py" $words
+    expect_said "the usage" "usage: judge.py [FILE]"
   done
+  expect "the second judge of thousands of texts" 0 "4076 passed, 0 failed
+" python3 -B "$top/share/test-judge.py" "$top/snapjudge"
   sed -n 's/^\$ \(.*\) | \.\/snapjudge [a-z]*$/\1/p' "$top/docs/FORMAT.md" >texts
   while IFS= read -r text; do
     sh -c "$text" >text
-    reads_as_judged "$text" text
+    judged_as_by_hand "$text" text
     cat out >>named
   done <texts
   for word in header fields toomany at event process op data repeated busy idle otherop writer number toolong; do
@@ -422,7 +423,7 @@ if has python3; then
     "$stamped"'18446744073709551616,begin,0,view,' "$stamped"'5,begin,0,view,\n1,begin,0,view,\n5,end,0,view' \
     "$stamped"'5,begin,0,view,\n1,begin,0,view,\n3,begin,0,view,' "$stamped"'2,end,0,view,\n1,end,1,view,\n0,begin,0,update,0:2:0'; do
     printf "$text" >text
-    reads_as_judged "$text" text
+    judged_as_by_hand "$text" text
   done
 fi
 

@@ -233,8 +233,8 @@ class Differential(unittest.TestCase):
             before = sum(window[0] for window in found[:faulty])
             self.assertTrue(before <= at < before + found[faulty][0])
 
-    def test_what_is_no_history_has_the_refusal_of_the_judge_and_of_the_reader(self):
-        reader = os.path.join(EXAMPLES, "reader.py")
+    def test_what_is_no_history_has_the_refusal_of_the_judge_and_of_the_one_in_python(self):
+        second = os.path.join(EXAMPLES, "judge.py")
         refused = 0
         for at, text in zip(range(TEXTS), texts_of(random.Random(11))):
             found, said = followed(text), snapjudge.report(text)
@@ -242,7 +242,7 @@ class Differential(unittest.TestCase):
                 refused += 1
                 self.assertEqual(found, said[1].strip(), text)
                 if refused <= READ:
-                    ran = subprocess.run([sys.executable, "-B", reader], input=text, capture_output=True, check=False)
+                    ran = subprocess.run([sys.executable, "-B", second], input=text, capture_output=True, check=False)
                     self.assertEqual(ran.stdout.decode().strip(), found, text)
             else:
                 self.assertEqual(found, snapjudge.STATUSES.index(said[0]), text)
