@@ -1,4 +1,5 @@
 """Chromium without a window, as test-draw.py asks it: one process shows all pages, one after the other, and answers through pipes."""
+import base64
 import json
 import os
 import select
@@ -76,21 +77,29 @@ class Browser:
         # an element gets the focus as in a window that people look at
         self.order("Emulation.setFocusEmulationEnabled", enabled=True)
 
-    def ask(self, page, width, scheme, script):
-        """The value of a script on a page that is so wide, where people like the scheme `light` or `dark`; or nothing."""
+    def shown(self, page, width, tall, scheme, answer):
+        """An answer on a page of a size, where people like the scheme `light` or `dark`; or nothing."""
         if self.is_lost:
             return None
         try:
             if not self.session:
                 self.begin()
-            self.order("Emulation.setDeviceMetricsOverride", width=width, height=TALL, deviceScaleFactor=1, mobile=False)
+            self.order("Emulation.setDeviceMetricsOverride", width=width, height=tall, deviceScaleFactor=1, mobile=False)
             self.order("Emulation.setEmulatedMedia", features=[{"name": "prefers-color-scheme", "value": scheme}])
             self.order("Page.navigate", "Page.loadEventFired", url=page)
-            return self.order("Runtime.evaluate", expression=script, returnByValue=True)["result"].get("value")
+            return answer()
         except (OSError, EOFError, KeyError, ValueError) as wrong:
             self.is_lost = True
             print(f"the browser failed: {wrong!r}")
             return None
+
+    def ask(self, page, width, scheme, script):
+        """The value of a script on a page that is so wide."""
+        return self.shown(page, width, TALL, scheme, lambda: self.order("Runtime.evaluate", expression=script, returnByValue=True)["result"].get("value"))
+
+    def shot(self, page, width, tall, scheme):
+        """A page of that size as a PNG."""
+        return self.shown(page, width, tall, scheme, lambda: base64.b64decode(self.order("Page.captureScreenshot", format="png")["data"]))
 
     def end(self):
         """Ends it, and leaves nothing of it."""

@@ -4,7 +4,8 @@
 usage: test-draw.py [--write] [PROGRAM]      the program is ./snapjudge where none is named
 
 What a picture must show is worked out here from the history's text and from the report that is kept beside it. The picture is
-read as XML, and its numbers are compared. Where chromium is here, the page is opened in it at two widths, light and dark. Pictures
+read as XML, and its numbers are compared. Where chromium is here, the page is opened in it at two widths, light and dark. Where
+rsvg-convert or the module cairosvg is here too, they must give the parts of each picture the colours that chromium gives them. Pictures
 are kept in docs/pictures as pages can show them: folded, and of a run that is too wide for a page its witness too. They must be what
 the program draws today; with --write they are written. First the tests are tried themselves: each must find what is wrong with a
 changed picture.
@@ -22,7 +23,9 @@ import xml.etree.ElementTree as tree
 
 from browser import Browser
 from drawn_lines import WRONG as WRONG_LINES, LinePicture, try_lines
-from pictures import SVG, WIDEST, Picture, calls_of, faults_of, folded, number, points_of
+from pictures import SVG, WIDEST, Picture, bar_box, calls_of, faults_of, folded, number, points_of, text_box
+from rendered import try_colours
+from wrong_pictures import WRONG, WRONG_COLOURS, WRONG_FOLDED, WRONG_ORDERS, WRONG_PAGES
 
 TOP = pathlib.Path(__file__).resolve().parent.parent
 PICTURES, ASKED = TOP / "docs/pictures", TOP / "share/test-draw.js"
@@ -145,6 +148,20 @@ def try_order(count, name, picture, order):
         count.expect(label.text == str(place) and number(label, "x") == across, f"{name}: the label of place {place}")
 
 
+def try_backs(count, name, picture, order):
+    """The line of an order leads through no label: behind each stands ground, which covers no bar."""
+    if not order:
+        return
+    backs = [bar_box(it) for it in picture.by["backs"]] if "backs" in picture.by else []
+    for it in picture.root.iter(SVG + "text"):
+        kind = it.get("class")
+        box = text_box(it, kind == "place")
+        is_held = any(back.left <= box.left + 1 and box.right <= back.right + 1 and back.top <= box.top and box.bottom <= back.bottom for back in backs)
+        count.expect(is_held or kind not in ("label", "place"), f"{name}: the line leads through {it.text}")
+    bars = [picture.bar(call) for call in picture.ids("call-")]
+    count.expect(not any(back.meets(bar) for back in backs for bar in bars), f"{name}: the ground behind a label covers a bar")
+
+
 def try_alone(count, name, page):
     """A page names nothing that it would have to load."""
     bare = page.replace('xmlns="http://www.w3.org/2000/svg"', "")
@@ -198,10 +215,11 @@ def try_folded(count, name, shown, calls):
         count.same(lines, picture.text(f"fault-{kind}", "title"), f"{name}, folded: the sentence on {kind}")
 
 
-def try_kept(count, name, text, calls, is_written):
-    """The picture in docs/pictures is the one that is drawn today, folded. Its width is returned."""
+def try_kept(count, browser, name, text, calls, is_written):
+    """The picture in docs/pictures is the one that is drawn today, folded, and every program draws it. Its width is returned."""
     if not picture_of(count, name, text):
         return 0
+    try_colours(count, browser, name, folded(text))
     shown, kept = folded(text), PICTURES / f"{name}.svg"
     if shown != text:
         try_folded(count, name, shown, calls)
@@ -211,12 +229,12 @@ def try_kept(count, name, text, calls, is_written):
     return number(Picture(shown).root, "width")
 
 
-def try_witness(count, program, path, is_written):
+def try_witness(count, program, browser, path, is_written):
     """The picture of the witness of a history."""
     name, witness = f"{path.stem}-witness", asked(program, "shrink", path)[1]
     text, report, said = (asked(program, *words, given=witness)[1] for words in (("draw", "--svg"), ("check",), ("explain",)))
     try_picture(count, name, text, witness, report, said.splitlines())
-    width = try_kept(count, name, text, calls_of(witness), is_written)
+    width = try_kept(count, browser, name, text, calls_of(witness), is_written)
     count.expect(width <= WIDEST, f"{name}: it is {width} wide")
     return name
 
@@ -240,8 +258,8 @@ def try_example(count, program, browser, path, is_written):
         try_browser(count, browser, name, page, calls, faults_of(report, calls)[0])
     else:
         count.skip(f"{name}: the page in a browser, since chromium is not here")
-    is_wide = try_kept(count, name, picture_text, calls, is_written) > WIDEST
-    return [name, try_witness(count, program, path, is_written)] if is_wide else [name]
+    is_wide = try_kept(count, browser, name, picture_text, calls, is_written) > WIDEST
+    return [name, try_witness(count, program, browser, path, is_written)] if is_wide else [name]
 
 
 def try_text(count, program, path, status):
@@ -264,30 +282,6 @@ def try_text(count, program, path, status):
     count.same(asked(program, "shrink", "--draw", path), (status, asked(program, "draw", "--text", given=witness)[1]), f"{name}: the picture of the witness")
 
 
-# What is changed in the picture of new-old-inversion, so that it is wrong.
-WRONG = {
-    "a call is left out": (r'<g class="call[^>]*id="call-3".*?</g>', ""),
-    "a call stands twice": (r'(<g class="call[^>]*id="call-2".*?</g>)', r"\1\1"),
-    "a call has another number": (r'id="call-3"', 'id="call-4"'),
-    "a bar ends at the next event": (r'(id="call-1".*?width=")\d+', r"\g<1>48"),
-    "a bar begins too early": (r'(id="call-3".*?<rect class="bar" x=")\d+', r"\g<1>100"),
-    "a bar lies in the lane of a neighbour": (r'(id="call-3".*?<rect[^>]*y=")\d+', r"\g<1>168"),
-    "the second call of a fault is not marked": (r'call view fault-read" id="call-3"', 'call view" id="call-3"'),
-    "a call of no fault is marked": (r'call update" id="call-1"', 'call update fault-read" id="call-1"'),
-    "a marked call has no tag": (r'(id="call-3".*?)<text class="tag".*?</text>', r"\1"),
-    "a call that ended is open": (r'call view fault-read" id="call-2"', 'call view pending fault-read" id="call-2"'),
-    "a title has another entry": (r"view 0:1:7</title>", "view 0:1:8</title>"),
-    "a call has other records": (r'data-records="3-4"', 'data-records="3-5"'),
-    "a label covers another": (r'(<text class="label" x=")\d+(" y=")\d+(">3 view)', r"\g<1>136\g<2>163\3"),
-    "a label leaves the picture": (r'(<text class="label" x=")\d+(" y="\d+">3 view)', r"\g<1>5000\2"),
-    "a fault has no sentence": (r'<g class="mark".*?</g>', ""),
-    "a fault has another sentence": (r">read: view 2 shows more of component 0", ">read: view 2 shows more of component 1"),
-    "a fault is not in the strip": (r'<path class="tick[^>]*/>', ""),
-    "an order is drawn of what has none": ("</svg>", '<text id="place-1" x="0" y="0">1</text></svg>'),
-    "a font is loaded": ("<style>", "<style>@import url(https://example.org/font.css);"),
-}
-
-
 def try_picture(count, name, text, history, report, said):
     """All that is said of a picture of a history."""
     calls = calls_of(history)
@@ -298,34 +292,29 @@ def try_picture(count, name, text, history, report, said):
         try_overlap(count, name, picture, calls)
         try_faults(count, name, picture, faults, said)
         try_order(count, name, picture, order)
+        try_backs(count, name, picture, order)
 
 
 def explained(program, path):
     return subprocess.run([program, "explain", path], capture_output=True, text=True, check=False).stdout.splitlines()
 
 
-# What is changed in its folded picture.
-WRONG_FOLDED = {
-    "a line is left out": (r'<text x="8" y="\d+">[^<]*</text></g>', "</g>"),
-    "a line covers another": (r'y="\d+">and had', 'y="296">and had'),
-    "a line is too long": (r">and had ended[^<]*", ">and had ended before that view began, and this is more than fits"),
-    "the picture is not higher": (r'height="326"', 'height="300"'),
-}
-
-
-# What is changed in the page of new-old-inversion, so that it is wrong at one width at least, or in one scheme.
-WRONG_PAGES = {
-    "a dark page has dark words": ("--quiet: #a3adb8", "--quiet: #444c55"),
-    "a light page has light bars": ("--update: #2c69a8", "--update: #c3d9f0"),
-    "no page is dark": ("prefers-color-scheme: dark", "prefers-color-scheme: none"),
-    "a narrow page is too wide": ("#help {", "#help { width: 500px;"),
-    "letters are too small": ("font: 11px", "font: 7px"),
-    "a label lies over a bar": (r'(<text class="label" x="\d+" y=")\d+', r"\g<1>122"),
-    "a legend is missing": (r"<li data-of='.view'>.*?</li>", ""),
-    "the panel is wrong": ("said.match", "''.match"),
-    "a page loads something": ("<h1 id", "<img src='no.png'><h1 id"),
-    "a script fails": ("const by =", "const const by ="),
-}
+def try_other_tests(count, program, browser):
+    """The same on an order, and on colours."""
+    path = TOP / "examples/atomic-run.csv"
+    history, report = path.read_text(), path.with_suffix(".report").read_text()
+    text, said = draw(program, path, "--svg")[1], explained(program, path)
+    for what, (old, new) in WRONG_ORDERS.items():
+        wrong, found = re.sub(old, new, text, count=1, flags=re.S), Count()
+        with contextlib.redirect_stdout(io.StringIO()):
+            try_picture(found, what, wrong, history, report, said)
+        count.expect(wrong != text and found.failed > 0, f"a picture is not found wrong where {what}")
+    text = draw(program, TOP / "examples/new-old-inversion.csv", "--svg")[1]
+    for what, (old, new) in WRONG_COLOURS.items() if browser else ():
+        wrong, found = re.sub(old, new, text, count=1, flags=re.S), Count()
+        with contextlib.redirect_stdout(io.StringIO()):
+            try_colours(found, browser, what, wrong)
+        count.expect(wrong != text and (found.failed > 0 or found.skipped > 1), f"colours are not found wrong where {what}")
 
 
 def try_tests(count, program, browser):
@@ -339,6 +328,7 @@ def try_tests(count, program, browser):
         with contextlib.redirect_stdout(io.StringIO()):
             try_picture(found, what, wrong, history, report, said)
         count.expect(wrong != text and found.failed > 0, f"a picture is not found wrong where {what}")
+    try_other_tests(count, program, browser)
     for what, (old, new) in WRONG_FOLDED.items():
         wrong, found = re.sub(old, new, folded(text), count=1, flags=re.S), Count()
         with contextlib.redirect_stdout(io.StringIO()):

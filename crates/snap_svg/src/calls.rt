@@ -1,7 +1,10 @@
 //! The calls of a picture.
+use crate::look::{FAULT, PENDING, ROUND, UPDATE, UPDATE_ARROW, VIEW, VIEW_ARROW};
 use crate::parts::put_parts;
 use crate::scale::{MARGIN, WIDE, across, right_of, x_of, y_of};
-use snap_draw::{Bar, Mark, Picture, Shapes, label_of, put_cut, put_kinds, put_title, record_at};
+use snap_draw::{
+    Bar, KINDS, Mark, Picture, Shapes, has_kind, label_of, put_cut, put_kinds, put_title, record_at,
+};
 use snap_index::{CallOp, Index};
 use snap_report::{put_call, put_number};
 use std::alloc::{AllocError, Global};
@@ -17,8 +20,8 @@ pub(crate) fn next_of(bars: &[Bar], bar: &Bar) -> Option<usize> {
     next
 }
 
-// How many characters have room up to the next call of a bar's lane, or else up to the edge of a picture of this width.
-fn room_of(bars: &[Bar], bar: &Bar, width: usize) -> usize {
+/// How many characters have room up to the next call of a bar's lane, or else up to the edge of a picture of this width.
+pub(crate) fn room_of(bars: &[Bar], bar: &Bar, width: usize) -> usize {
     let end = match next_of(bars, bar) {
         Some(column) => across(column),
         None => width,
@@ -57,6 +60,44 @@ fn put_names(out: &mut Vec<u8>, picture: &Picture<'_, '_>, bar: &Bar) -> Result<
     out.extend_from_slice(b"</title>")
 }
 
+// Whether a call is one of a first fault.
+fn is_marked(marks: &[Mark], bar: &Bar) -> bool {
+    KINDS
+        .iter()
+        .any(|kind| has_kind(marks, bar.drawn.number, *kind))
+}
+
+// Adds the look of a bar.
+fn put_look(out: &mut Vec<u8>, marks: &[Mark], bar: &Bar) -> Result<(), AllocError> {
+    let is_view = matches!(bar.drawn.call.op, CallOp::View);
+    out.extend_from_slice(match (is_marked(marks, bar), is_view) {
+        (true, _) => FAULT,
+        (false, true) => VIEW,
+        (false, false) => UPDATE,
+    })?;
+    if is_view {
+        out.extend_from_slice(ROUND)?;
+    }
+    if bar.end.is_none() {
+        out.extend_from_slice(PENDING)?;
+    }
+    Ok(())
+}
+
+// Adds the arrow of a pending call.
+fn put_arrow(out: &mut Vec<u8>, bar: &Bar, x: u64, y: u64) -> Result<(), AllocError> {
+    put_parts(
+        out,
+        &[(b"<path class=\"open\" d=\"M ", x), (b" ", y)],
+        b" l 9 9 l -9 9\"",
+    )?;
+    out.extend_from_slice(match bar.drawn.call.op {
+        CallOp::Update(_entry) => UPDATE_ARROW,
+        CallOp::View => VIEW_ARROW,
+    })?;
+    out.extend_from_slice(b"/>")
+}
+
 // Adds the bar of a call, and behind a pending one an arrow.
 fn put_bar(out: &mut Vec<u8>, shapes: &Shapes, bar: &Bar) -> Result<(), AllocError> {
     let x = x_of(bar.begin);
@@ -72,16 +113,14 @@ fn put_bar(out: &mut Vec<u8>, shapes: &Shapes, bar: &Bar) -> Result<(), AllocErr
             (b"\" y=\"", y),
             (b"\" width=\"", end.saturating_sub(x)),
         ],
-        b"\" height=\"18\"/>",
+        b"\" height=\"18\"",
     )?;
-    if bar.end.is_some() {
-        return Ok(());
+    put_look(out, &shapes.marks, bar)?;
+    out.extend_from_slice(b"/>")?;
+    match bar.end {
+        Some(_column) => Ok(()),
+        None => put_arrow(out, bar, end, y),
     }
-    put_parts(
-        out,
-        &[(b"<path class=\"open\" d=\"M ", end), (b" ", y)],
-        b" l 9 9 l -9 9\"/>",
-    )
 }
 
 // Adds text of a class at a place, cut where it is longer than its room.
@@ -125,7 +164,13 @@ fn put_tag(
     }
     let text = tag.strip_prefix(b" ").unwrap_or(&tag);
     let place = (x_of(bar.begin), y_of(bar.lane, 49));
-    put_words(out, b"<text class=\"tag\" x=\"", place, text, room)
+    put_words(
+        out,
+        b"<text class=\"tag\" fill=\"#b3261e\" font-weight=\"bold\" x=\"",
+        place,
+        text,
+        room,
+    )
 }
 
 // Adds a call: its names, its bar, its label, and its kinds of fault.

@@ -1,7 +1,9 @@
 //! The shapes of a history as a picture: SVG, and a page around it.
 #![tactic(auto)]
 
+mod backs;
 mod calls;
+mod look;
 mod page;
 mod parts;
 mod points;

@@ -1,13 +1,22 @@
-//! The look of a picture, and the page around it. No byte of them depends on a history.
+//! The page around a picture, with a style for light and dark. No byte of it depends on a history.
 
-/// What stands first in each picture: its colours, and the pattern of a fault.
-pub(crate) const STYLE: &[u8] = b"\
+/// What a page has before its picture.
+pub(crate) const HEAD: &[u8] = b"\
+<!doctype html>
+<html lang='en'>
+<head>
+<meta charset='utf-8'>
+<meta name='viewport' content='width=device-width, initial-scale=1'>
+<meta http-equiv='Content-Security-Policy' content='default-src &#39;none&#39;; style-src &#39;unsafe-inline&#39;; script-src &#39;unsafe-inline&#39;'>
+<title>A run, drawn by snapjudge</title>
 <style>
 :root { color-scheme: light dark; --ground: #ffffff; --ink: #1c2127; --faint: #c3c9d0; --quiet: #59636e; --update: #2c69a8; --view: #ffffff; --edge: #1d6b52; --fault: #b3261e; --wash: #fbe3e0; --line: #7a4d9f; }
 @media (prefers-color-scheme: dark) { :root { --ground: #15181c; --ink: #e8ebee; --faint: #444c55; --quiet: #a3adb8; --update: #5b9bd9; --view: #15181c; --edge: #5cc3a0; --fault: #ff8a7f; --wash: #4a2320; --line: #c79bea; } }
 @media print { :root { color-scheme: light; --ground: #ffffff; --ink: #000000; --faint: #bbbbbb; --quiet: #444444; --update: #2c69a8; --view: #ffffff; --edge: #1d6b52; --fault: #b3261e; --wash: #fbe3e0; --line: #7a4d9f; } }
 #run { background: var(--ground); color: var(--ink); font: 11px ui-monospace, 'DejaVu Sans Mono', Menlo, Consolas, monospace; }
 #run text { fill: var(--ink); }
+.ground { display: none; }
+#backs { fill: var(--ground); }
 #verdict { font-size: 13px; font-weight: bold; }
 #strip .all { fill: var(--faint); }
 #strip .window { fill: none; stroke: var(--quiet); stroke-width: 1.5; }
@@ -29,23 +38,8 @@ pub(crate) const STYLE: &[u8] = b"\
 #order .line { fill: none; stroke: var(--line); stroke-width: 1.5; stroke-opacity: 0.8; stroke-linejoin: round; }
 #places .point { fill: var(--line); stroke: var(--ground); stroke-width: 1.5; }
 #run .place { font-weight: bold; fill: var(--line); }
-#run .label, #run .tag, #run .place { paint-order: stroke; stroke: var(--ground); stroke-width: 3; stroke-linejoin: round; }
 .call:focus { outline: none; }
 .call:focus .bar, .call:hover .bar, .call.chosen .bar { stroke: var(--ink); stroke-width: 4; }
-</style>
-<defs><pattern id='hatch' width='7' height='7' patternUnits='userSpaceOnUse' patternTransform='rotate(45)'><rect class='hatch-ground' width='7' height='7'/><path class='hatch-line' d='M 0 0 V 7'/></pattern></defs>
-";
-
-/// What a page has before its picture.
-pub(crate) const HEAD: &[u8] = b"\
-<!doctype html>
-<html lang='en'>
-<head>
-<meta charset='utf-8'>
-<meta name='viewport' content='width=device-width, initial-scale=1'>
-<meta http-equiv='Content-Security-Policy' content='default-src &#39;none&#39;; style-src &#39;unsafe-inline&#39;; script-src &#39;unsafe-inline&#39;'>
-<title>A run, drawn by snapjudge</title>
-<style>
 body { margin: 0 auto; padding: 12px; max-width: 1400px; box-sizing: border-box; background: var(--ground); color: var(--ink); font: 15px/1.4 system-ui, sans-serif; }
 h1 { font-size: 20px; margin: 0 0 8px; }
 h2 { font-size: 15px; margin: 0 0 4px; }

@@ -45,8 +45,8 @@ pub(crate) fn points_of(
     Ok(points)
 }
 
-// Where a point stands from left to right: those behind one column share the room up to the next.
-fn spread(points: &[Point], point: &Point) -> u64 {
+/// Where a point stands from left to right: those behind one column share the room up to the next.
+pub(crate) fn spread(points: &[Point], point: &Point) -> u64 {
     let mut all = 0u64;
     let mut nth = 0u64;
     for other in points {
@@ -66,7 +66,9 @@ pub(crate) fn put_line(out: &mut Vec<u8>, points: &[Point]) -> Result<(), AllocE
     if points.is_empty() {
         return Ok(());
     }
-    out.extend_from_slice(b"<g id=\"order\"><path class=\"line\" d=\"")?;
+    out.extend_from_slice(
+        b"<g id=\"order\"><path class=\"line\" fill=\"none\" stroke=\"#7a4d9f\" stroke-width=\"1.5\" stroke-opacity=\"0.8\" stroke-linejoin=\"round\" d=\"",
+    )?;
     let mut step: &[u8] = b"M ";
     for point in points {
         let x = spread(points, point);
@@ -84,7 +86,7 @@ fn put_place(out: &mut Vec<u8>, point: &Point, x: u64) -> Result<(), AllocError>
             (b"<circle class=\"point\" cx=\"", x),
             (b"\" cy=\"", y_of(point.lane, 27)),
             (
-                b"\" r=\"4\"/><text class=\"place\" id=\"place-",
+                b"\" r=\"4\" stroke=\"#ffffff\" stroke-width=\"1.5\"/><text class=\"place\" id=\"place-",
                 point.place,
             ),
             (b"\" x=\"", x),
@@ -100,7 +102,9 @@ pub(crate) fn put_places(out: &mut Vec<u8>, points: &[Point]) -> Result<(), Allo
     if points.is_empty() {
         return Ok(());
     }
-    out.extend_from_slice(b"<g id=\"places\">")?;
+    out.extend_from_slice(
+        b"<g id=\"places\" fill=\"#7a4d9f\" font-weight=\"bold\" text-anchor=\"middle\">",
+    )?;
     for point in points {
         put_place(out, point, spread(points, point))?;
     }

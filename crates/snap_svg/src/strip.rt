@@ -72,10 +72,13 @@ fn put_window(
         out,
         &[
             (b"<rect class=\"all\" x=\"64\" y=\"34\" width=\"", width),
-            (b"\" height=\"8\"/><rect class=\"window\" x=\"", from),
+            (
+                b"\" height=\"8\" fill=\"#c3c9d0\"/><rect class=\"window\" x=\"",
+                from,
+            ),
             (b"\" y=\"31\" width=\"", to.saturating_sub(from)),
         ],
-        b"\" height=\"14\"/>",
+        b"\" height=\"14\" fill=\"none\" stroke=\"#59636e\" stroke-width=\"1.5\"/>",
     )
 }
 
@@ -83,7 +86,11 @@ fn put_window(
 fn put_tick(out: &mut Vec<u8>, kind: Kind, x: u64) -> Result<(), AllocError> {
     out.extend_from_slice(b"<path class=\"tick fault-")?;
     out.extend_from_slice(word_of(kind))?;
-    put_parts(out, &[(b"\" d=\"M ", x)], b" 29 v 18\"/>")
+    put_parts(
+        out,
+        &[(b"\" d=\"M ", x)],
+        b" 29 v 18\" fill=\"none\" stroke=\"#b3261e\" stroke-width=\"3\"/>",
+    )
 }
 
 // Adds a mark for each kind that has a fault.

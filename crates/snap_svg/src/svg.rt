@@ -1,6 +1,8 @@
 //! A picture of shapes, as SVG.
+use crate::backs::put_backs;
 use crate::calls::{next_of, put_calls};
-use crate::page::{HEAD, STYLE, TAIL};
+use crate::look::{GROUND, WHOLE};
+use crate::page::{HEAD, TAIL};
 use crate::parts::{put_escaped, put_parts};
 use crate::points::{points_of, put_line, put_places};
 use crate::scale::{LANE, MARGIN, TOP, WIDE, across, right_of, scaled, x_of, y_of};
@@ -75,24 +77,28 @@ fn put_size(out: &mut Vec<u8>, picture: &Picture<'_, '_>, width: u64) -> Result<
             (b"\" width=\"", width),
             (b"\" height=\"", height),
         ],
-        b"\" role=\"group\" aria-label=\"",
+        b"\"",
     )?;
+    out.extend_from_slice(WHOLE)?;
+    out.extend_from_slice(b" role=\"group\" aria-label=\"")?;
     put_escaped(out, verdict_of(picture.said))?;
     out.extend_from_slice(b"\">\n")
 }
 
-// Adds the first line, the style, and the verdict.
+// Adds the first line, the ground, and the verdict.
 fn put_head(out: &mut Vec<u8>, picture: &Picture<'_, '_>, width: usize) -> Result<(), AllocError> {
     put_size(out, picture, width as u64)?;
-    out.extend_from_slice(STYLE)?;
-    out.extend_from_slice(b"<text id=\"verdict\" x=\"8\" y=\"20\">")?;
+    out.extend_from_slice(GROUND)?;
+    out.extend_from_slice(
+        b"<text id=\"verdict\" x=\"8\" y=\"20\" font-size=\"13\" font-weight=\"bold\">",
+    )?;
     put_escaped(out, front_of(verdict_of(picture.said)))?;
     out.extend_from_slice(b"</text>\n")
 }
 
 // Adds the number of the record of each event above its column.
 fn put_records(out: &mut Vec<u8>, shapes: &Shapes, records: &[u32]) -> Result<(), AllocError> {
-    out.extend_from_slice(b"<g id=\"records\">")?;
+    out.extend_from_slice(b"<g id=\"records\" fill=\"#59636e\" text-anchor=\"middle\">")?;
     for column in 0..shapes.columns {
         if let Some(place) = place_at(&shapes.bars, column) {
             let record = record_at(records, place);
@@ -113,12 +119,15 @@ fn put_lanes(out: &mut Vec<u8>, shapes: &Shapes) -> Result<(), AllocError> {
             out,
             &[
                 (b"<g class=\"lane\" id=\"lane-", process),
-                (b"\"><text class=\"name\" x=\"8\" y=\"", y_of(lane, 31)),
+                (
+                    b"\"><text class=\"name\" font-weight=\"bold\" x=\"8\" y=\"",
+                    y_of(lane, 31),
+                ),
                 (b"\">p", process),
                 (b"</text><path class=\"line\" d=\"M 64 ", y_of(lane, 27)),
                 (b" H ", right_of(shapes.columns)),
             ],
-            b"\"/></g>\n",
+            b"\" fill=\"none\" stroke=\"#c3c9d0\"/></g>\n",
         )?;
     }
     Ok(())
@@ -128,7 +137,7 @@ fn put_lanes(out: &mut Vec<u8>, shapes: &Shapes) -> Result<(), AllocError> {
 fn put_mark(out: &mut Vec<u8>, line: &[u8], y: u64) -> Result<(), AllocError> {
     out.extend_from_slice(b"<g class=\"mark\" id=\"fault-")?;
     put_escaped(out, front_of(line))?;
-    out.extend_from_slice(b"\"><title>")?;
+    out.extend_from_slice(b"\" fill=\"#b3261e\" font-weight=\"bold\"><title>")?;
     put_escaped(out, line)?;
     put_parts(out, &[(b"</title><text x=\"8\" y=\"", y)], b"\">")?;
     put_escaped(out, line)?;
@@ -168,6 +177,7 @@ fn put_run(
 ) -> Result<(), AllocError> {
     let points = points_of(alloc, &picture.shapes.bars, picture.order)?;
     put_line(out, &points)?;
+    put_backs(alloc, out, picture, &points, width)?;
     put_calls(alloc, out, picture, width)?;
     put_marks(out, picture)?;
     put_places(out, &points)
