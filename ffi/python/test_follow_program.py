@@ -23,8 +23,8 @@ sys.path[:0] = [os.path.join(HERE, "..")]
 from differential import history  # noqa: E402
 
 PROGRAM = os.environ["SNAPJUDGE_PROGRAM"]
-# How many recordings are drawn, and how many of folders.
-DRAWN, FOLDERS = 400, 100
+# How many recordings are drawn, how many of folders, and how many to be written in several ways.
+DRAWN, FOLDERS, WRITTEN = 400, 100, 60
 
 
 def by_program(text, *words):
@@ -47,6 +47,26 @@ def program_over(path, *words, idle="1"):
     """The program that follows a path."""
     asked = [PROGRAM, "check", "--follow", "--idle", idle, *words, path]
     return subprocess.Popen(asked, stdout=subprocess.PIPE, stderr=subprocess.PIPE, text=True)
+
+
+def by_check(text):
+    """The exit status of a check of the whole text, which another reader reads, and its first line."""
+    ran = subprocess.run([PROGRAM, "check", "--quiet"], input=text.encode(), capture_output=True, check=False)
+    return ran.returncode, ran.stdout.decode().partition("\n")[0]
+
+
+def quoted(row, places):
+    """The row with the fields at these places in quotes."""
+    return ",".join(f'"{field}"' if place in places else field for place, field in enumerate(row.split(",")))
+
+
+def ways_of(rows, draw):
+    """The texts of a recording: with each end of a line, with empty lines, and with quotes."""
+    rows = [HEADER.rstrip("\n"), *rows]
+    for change in (str, lambda row: quoted(row, range(4)), lambda row: quoted(row, draw.sample(range(4), draw.randrange(4)))):
+        for end in ("\n", "\r\n", "\r"):
+            yield "".join(change(row) + end for row in rows)
+            yield "".join(end * draw.randrange(3) + change(row) + end * draw.randint(1, 3) for row in rows)
 
 
 class Calm:
@@ -84,6 +104,33 @@ class Beside(unittest.TestCase):
             text = text_of(changed(history(draw)[1:], draw))
             seen[self.same(text, draw.choice((1, 2, 5)))] += 1
         self.assertTrue(min(seen) > DRAWN / 50, seen)
+
+    def test_ends_of_lines_and_quotes_change_no_line(self):
+        draw, seen = random.Random(31), [0] * 4
+        for _ in range(WRITTEN):
+            rows = changed(history(draw)[1:], draw)
+            status, lines = found = by_program(text_of(rows), "--window", "2")
+            seen[status] += 1
+            for text in ways_of(rows, draw):
+                self.assertEqual(by_program(text, "--window", "2"), found, text)
+                whole, line = by_check(text)
+                self.assertEqual(whole, status, text)
+                if status == 3:
+                    self.assertIn(f" {line}\n", lines, text)
+        self.assertTrue(min(seen) > 0, seen)
+
+    def test_quotes_that_a_field_needs_stay(self):
+        for row, word in (('begin,0,"view,",', "op"), ('begin,0,"vi""ew",', "op"), ('begin,0,"view"s,', "op"), ('begin,0,vi"ew,', "op"),
+                          ('"begin,0,view,"', "fields"), ('"begin",0,view', "fields"), ('"', "fields"), ('""', "fields"), ('"","",,', "event")):
+            for end in ("\n", "\r\n"):
+                text = text_of(CALM).replace("\n", end) + row + end
+                self.assertEqual(by_check(text), (3, f"refused record 6: {word}"), row)
+                status, lines = by_program(text, "--window", "4")
+                self.assertEqual((status, lines.splitlines()[1]), (3, f"window 2 refused record 6: {word}"), row)
+        # text behind a quoted part belongs to the field, and a field may be left open
+        for row in ('"be"gin,2,"view",""', 'begin,"2","view","', "\ufeffbegin,2,view,", '\ufeffbegin,2,"view",'):
+            status, lines = by_program(text_of(CALM + [row]), "--window", "4")
+            self.assertEqual((status, lines.splitlines()[1]), (0, "window 2 events 1 atomic from 6 to 6"), row)
 
     def test_long_recordings_have_the_same_lines(self):
         for name in ("none overlaps, width 8", "atomic, width 8", "toggling views", "wrong values, the last view"):

@@ -1,4 +1,5 @@
 pub mod Opening
+pub mod Unquoting
 pub mod Reading
 pub mod Refusing
 pub mod Statuses

@@ -8,11 +8,14 @@ ghost use Rattle.snap_follow.specs.inside.Refusals.{ended_by};
 ghost use Rattle.snap_follow.specs.declared.follow.Ended.TheVariants as ends;
 ghost use Rattle.snap_core.specs.Orders.{IsAtomic};
 ghost use Rattle.snap_core.specs.Regular.{IsRegular};
+ghost use Rattle.snap_csv.specs.OneLine.{AnswersLine};
+ghost use Rattle.snap_format.specs.Rows.{rows_of};
 ghost use Rattle.snap_theory.specs.Windows.{IsQuiet};
 ghost use Rattle.snap_windows.specs.Taken.{HasTaken};
 ghost use Rattle.snap_windows.specs.Verdicts.{IsVerdict};
 ghost use Rattle.snap_follow.specs.Followed.{EndsText, HasNoRecord, HasRead, IsLack, ReadsLine, RefusesLine};
 
+use crate::quotes::unquote;
 use snap_core::{Entry, Event, EventRefusal, Limit};
 use snap_csv::{ReadRefusal, fault_for, is_header_line, read_line};
 use snap_text::{Known, TextFault};
@@ -68,6 +71,8 @@ impl From<AllocError> for Ended {
 pub struct Follow {
     pub(crate) judge: WindowJudge,
     known: Known,
+    // room for a line without its quotes
+    bare: Vec<u8>,
     // whether the header of the text at hand was read, and the record that was read last
     pub(crate) headed: bool,
     place: Place,
@@ -140,6 +145,7 @@ impl Follow {
         Follow {
             judge: WindowJudge::new(alloc, most),
             known: Known::new(alloc),
+            bare: Vec::new(alloc),
             headed: false,
             place,
             least: least as usize,
@@ -221,16 +227,30 @@ impl Follow {
         Ok(())
     }
 
+    // The event of a line under the header. Quotes that no field needs are taken off first, since a reader of `csv` costs much more.
+    fn read_event(&mut self, alloc: Global, line: &[u8]) -> Result<Option<Event>, ReadRefusal>
+        ensures event { AnswersLine 0 (rows_of line.now) result }
+        ensures same { (self.new.judge ≡ self.old.judge) × (self.new.headed ≡ self.old.headed) × (self.new.least ≡ self.old.least) × (self.new.open_calls ≡ self.old.open_calls) }
+    {
+        if unquote(line, &mut self.bare)? {
+            return read_line(alloc, &mut self.known, &self.bare, 0);
+        }
+        read_line(alloc, &mut self.known, line, 0)
+    }
+
     /// Reads the next line of the text at hand. A line without a record says nothing. The first record is the header, and each other
     /// one an event. After a refusal the recording is followed no further.
     pub fn take_line(&mut self, alloc: Global, line: &[u8]) -> Result<(), Ended>
         ensures read { OnOk result (ReadsLine self.old self.new line.now) }
         ensures refused { IfErr result (λ why. RefusesLine self.old line.now why) }
     {
+        if line.is_empty() {
+            return Ok(());
+        }
         if !self.headed {
             return self.take_header(alloc, line);
         }
-        let event = match read_line(alloc, &mut self.known, line, 0) {
+        let event = match self.read_event(alloc, line) {
             Ok(None) => return Ok(()),
             Ok(Some(event)) => event,
             Err(ReadRefusal::Text { place: _, fault }) => return Err(self.refused_next(fault)),

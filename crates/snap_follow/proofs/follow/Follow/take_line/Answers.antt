@@ -1,19 +1,33 @@
-use Rattle.std.proofs.Common.{refl}
+use Rattle.std.proofs.Common.{◌∙◌, ◌++◌, ◌∷◌, [], List, ap, refl, subst, sym}
+use Rattle.snap_core.specs.declared.event.Event.{Event}
+use Rattle.snap_windows.specs.Taken.{HasTaken}
+use Rattle.snap_follow.specs.inside.Counts.{CountsOpen}
 use Rattle.snap_follow.proofs.Reading.{event_read, nothing_more, on_both}
 use Rattle.snap_follow.proofs.Refusing.{event_refused, on_err}
+use Rattle.snap_follow.proofs.Unquoting.{no_rows}
 use Rattle.snap_follow.proofs.follow.Follow.take_line.Goals as goal
 
+pub returns-then-is_empty-clause-read : goal.returns-then-is_empty-clause-read
+returns-then-is_empty-clause-read c = nothing_more c.args.self.now c.args.self.now c.args.line.now refl refl refl refl (no_rows c.args.line.now (sym c.if-is_empty.ensures))
+
 pub returns-in-Ok-None-clause-read : goal.returns-in-Ok-None-clause-read
-returns-in-Ok-None-clause-read c = nothing_more c.args.self.now _ c.args.line.now refl refl refl refl (rw c.in-Ok-None.field-0-is at c.in-Ok-None.ensures)
+returns-in-Ok-None-clause-read c =
+    let same = c.read_event.ensures.same in
+    nothing_more c.args.self.now _ c.args.line.now same.0 same.2 same.3 same.1 (rw c.in-Ok-None.field-0-is at c.in-Ok-None.ensures.event)
 
 pub returns-clause-read : goal.returns-clause-read
 returns-clause-read c =
-    let found = rw c.in-Ok-Some.field-0-is at c.in-Ok-Some.ensures in
+    let found = rw c.in-Ok-Some.field-0-is at c.in-Ok-Some.ensures.event in
+    let same = c.read_event.ensures.same in
+    let rule = c.take_event.ensures.rule in
+    let x = c.in-Ok-Some.event in
     on_both c.take_event.result _ _ _ c.take_event.ensures.taken c.take_event.ensures.counted
-    (λ taken counts. event_read c.args.self.now c.take_event.new.self c.args.line.now found.0 c.in-Ok-Some.event c.if-not-self.false c.take_event.ensures.headed found.1 found.2 c.take_event.ensures.rule counts taken)
+    (λ taken counts. event_read c.args.self.now c.take_event.new.self c.args.line.now found.0 x c.if-not-self.false (c.take_event.ensures.headed ∙ same.1) found.1 found.2
+    (rule.0 ∙ same.2, rule.1 ∙ ap (λ z. z.most) same.0) (subst (λ z. CountsOpen z x c.take_event.new.self.open_calls) same.3 counts)
+    (subst (λ z. (before since : List Event) → HasTaken z before since → HasTaken c.take_event.new.self.judge before (since ++ x ∷ [])) same.0 taken))
 
 pub returns-clause-refused : goal.returns-clause-refused
 returns-clause-refused c =
-    let found = rw c.in-Ok-Some.field-0-is at c.in-Ok-Some.ensures in
+    let found = rw c.in-Ok-Some.field-0-is at c.in-Ok-Some.ensures.event in
     on_err c.take_event.result _ _ c.take_event.ensures.refused
-    (λ why refused. event_refused c.args.self.now c.args.line.now why found.0 c.in-Ok-Some.event c.if-not-self.false found.1 found.2 refused)
+    (λ why refused. event_refused c.args.self.now c.args.line.now why found.0 c.in-Ok-Some.event c.if-not-self.false found.1 found.2 (rw c.read_event.ensures.same.0 at refused))
