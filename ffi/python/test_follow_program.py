@@ -212,6 +212,21 @@ class Beside(unittest.TestCase):
                 at = os.path.join(folder, name) if name else folder
                 self.assertEqual((ran.returncode, lines.splitlines()[0], said), (4, "window 3 failed", f"snapjudge: {at}: {told}\n"))
 
+    def test_a_file_that_becomes_shorter_has_failed(self):
+        for is_folder in (False, True):
+            with tempfile.TemporaryDirectory() as room:
+                path = os.path.join(room, "run.csv")
+                with open(path, "w") as file:
+                    file.write(text_of(CALM + LATER))
+                place = f" of {path}" if is_folder else ""
+                with program_over(room if is_folder else path, "--window", "4", idle="20") as ran:
+                    for line in (f"window 1 events 4 atomic from 2{place} to 5{place}\n", f"window 2 events 4 atomic from 6{place} to 9{place}\n"):
+                        self.assertEqual(ran.stdout.readline(), line)
+                    os.truncate(path, len(HEADER))
+                    lines, said = ran.communicate(timeout=PATIENCE)
+                self.assertEqual((ran.returncode, lines.splitlines()[:2], said), (4, ["window 3 failed", "windows 3 events 8 views 2"],
+                                                                                f"snapjudge: {path}: has become shorter\n"))
+
     def test_a_folder_without_recordings_has_no_verdict(self):
         with tempfile.TemporaryDirectory() as room:
             with program_over(room) as ran:

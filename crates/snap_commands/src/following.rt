@@ -6,12 +6,13 @@ use crate::refusal::too_few_views;
 use snap_check::RunFault;
 use snap_core::{Counted, Limit};
 use snap_follow::{
-    FolderTexts, FollowFault, FollowOptions, Followed, Lost, OneText, Reason, Texts, Until,
-    follow_run,
+    FileText, FolderTexts, FollowFault, FollowOptions, Followed, Lost, OneText, Reason, Texts,
+    Until, follow_run,
 };
 use snap_names::{Opener, SystemFolders, Trouble};
 use snap_terminal::Outlet;
 use snap_words::Windows;
+use std::io::Read;
 use std::sync::Wait;
 
 // The same fault, as that of any run. That there is no text is said.
@@ -31,13 +32,19 @@ fn say_lost(host: &HostRuntime, lost: &Lost) {
         Reason::Unopened(trouble) => say_trouble(host, &lost.name, trouble),
         Reason::Late => say(host, &lost.name, "came too late: a later name is read"),
         Reason::Changed => say(host, &lost.name, "has changed after a later file began"),
+        Reason::Shorter => say(host, &lost.name, "has become shorter"),
         Reason::TooManyFolders => say(host, &lost.name, "has more than 1048576 folders"),
     }
 }
 
+// Whether a name is that of standard input.
+fn is_input(name: &[u8]) -> bool {
+    name == b"-".as_slice()
+}
+
 // How long a recording is followed: standard input to its end, and any other until nothing has come for so many seconds.
 fn until_of(name: &[u8], windows: Windows) -> Until {
-    if name == b"-".as_slice() {
+    if is_input(name) {
         Until::End
     } else if windows.idle == 0 {
         Until::Ever
@@ -82,6 +89,23 @@ fn follow_texts<Rt: Wait, T: Texts>(
     }
 }
 
+// Follows one text, which must not become shorter. Standard input has no length.
+fn follow_text<Rt: Wait, R: Read + Drop>(
+    rt: &Rt,
+    host: &HostRuntime,
+    text: R,
+    name: &[u8],
+    limit: Limit,
+    windows: Windows,
+) -> Result<u8, Failure> {
+    if is_input(name) {
+        return follow_texts(rt, host, &mut OneText::new(text), name, limit, windows);
+    }
+    let opener = system(host);
+    let mut texts = FileText::new(text, &opener, name);
+    follow_texts(rt, host, &mut texts, name, limit, windows)
+}
+
 // Follows the texts below a folder.
 fn follow_folder<Rt: Wait>(
     rt: &Rt,
@@ -110,7 +134,7 @@ pub fn follow<Rt: Wait>(
         None => b"-".as_slice(),
     };
     match system(host).open(name) {
-        Ok(text) => follow_texts(rt, host, &mut OneText::new(text), name, limit, windows),
+        Ok(text) => follow_text(rt, host, text, name, limit, windows),
         Err(Trouble::Folder) => follow_folder(rt, host, name, limit, windows),
         Err(trouble) => {
             say_trouble(host, name, trouble);

@@ -1,5 +1,5 @@
 //! A recording whose texts stand below a folder.
-use crate::texts::{Lost, Opened, Reason, Texts, TextsFault};
+use crate::texts::{Longest, Lost, Opened, Reason, Texts, TextsFault, lost_at};
 use snap_names::{Folders, Lengths, NamesFault, Opener, Trouble, names_below};
 use std::alloc::{AllocError, Global};
 
@@ -14,14 +14,8 @@ pub struct FolderTexts<'a, F, O> {
     opened: usize,
     // of those that were left, how many bytes were read
     lengths: Vec<u64>,
-}
-
-// A name at which the recording ends.
-fn lost(alloc: Global, name: &[u8], reason: Reason) -> TextsFault {
-    match Vec::from_slice(alloc, name) {
-        Ok(name) => TextsFault::Lost(Lost { name, reason }),
-        Err(_) => TextsFault::Memory,
-    }
+    // how long the one at hand was at most
+    longest: Longest,
 }
 
 impl<'a, F, O> FolderTexts<'a, F, O> {
@@ -39,6 +33,7 @@ impl<'a, F, O> FolderTexts<'a, F, O> {
             names: Vec::new(alloc),
             opened: 0,
             lengths: Vec::new(alloc),
+            longest: Longest::nothing(),
         }
     }
 
@@ -57,6 +52,20 @@ impl<'a, F, O> FolderTexts<'a, F, O> {
 }
 
 impl<F, O: Lengths> FolderTexts<'_, F, O> {
+    // Looks whether the text at hand has become shorter.
+    fn check_longest(&mut self, alloc: Global) -> Result<(), TextsFault> {
+        let Some(before) = self.opened.checked_sub(1) else {
+            return Ok(());
+        };
+        let Some(name) = self.names.get(before) else {
+            return Ok(());
+        };
+        if self.longest.has_shrunk(self.opener, name) {
+            return Err(lost_at(alloc, name, Reason::Shorter));
+        }
+        Ok(())
+    }
+
     // Whether a text that was left has another length now.
     fn has_changed(&self, place: usize, name: &[u8]) -> bool {
         match (self.lengths.get(place), self.opener.length(name)) {
@@ -69,14 +78,14 @@ impl<F, O: Lengths> FolderTexts<'_, F, O> {
     fn take_name(&mut self, alloc: Global, name: Vec<u8>) -> Result<(), TextsFault> {
         // a folder that can't be listed stands among the names itself, and so does what may be no text
         if name.as_slice() == self.folder || !name.ends_with(b".csv") {
-            return Err(lost(alloc, &name, Reason::Unopened(Trouble::Unopened)));
+            return Err(lost_at(alloc, &name, Reason::Unopened(Trouble::Unopened)));
         }
         match self.names.binary_search(&name) {
             Ok(place) if self.has_changed(place, &name) => {
-                Err(lost(alloc, &name, Reason::Changed))
+                Err(lost_at(alloc, &name, Reason::Changed))
             }
             Ok(_) => Ok(()),
-            Err(place) if place < self.names.len() => Err(lost(alloc, &name, Reason::Late)),
+            Err(place) if place < self.names.len() => Err(lost_at(alloc, &name, Reason::Late)),
             Err(_) => Ok(self.add_name(name)?),
         }
     }
@@ -88,7 +97,7 @@ impl<F: Folders, O> FolderTexts<'_, F, O> {
         match names_below(alloc, self.folders, self.folder) {
             Ok(names) => Ok(names),
             Err(NamesFault::TooManyFolders) => {
-                Err(lost(alloc, self.folder, Reason::TooManyFolders))
+                Err(lost_at(alloc, self.folder, Reason::TooManyFolders))
             }
             Err(_) => Err(TextsFault::Memory),
         }
@@ -115,6 +124,7 @@ impl<F: Folders, O: Opener + Lengths> Texts for FolderTexts<'_, F, O> {
     }
 
     fn look(&mut self, alloc: Global) -> Result<(), TextsFault> {
+        self.check_longest(alloc)?;
         // What comes while a folder is listed may be shown without what came before it. So the names up to the last one are listed
         // once more, when all before that are there.
         match self.listed(alloc)?.last() {
@@ -133,6 +143,7 @@ impl<F: Folders, O: Opener + Lengths> Texts for FolderTexts<'_, F, O> {
         };
         let name = Vec::from_slice(alloc, known)?;
         self.leave(read)?;
+        self.longest = Longest::of(self.opener, &name);
         match self.opener.open(&name) {
             Ok(text) => Ok(Some(Opened {
                 text,

@@ -15,4 +15,4 @@ pub use course::RECORD_LIMIT;
 pub use folder::FolderTexts;
 pub use follow::{Ended, Follow, Place, Span, Window};
 pub use run::{FollowFault, FollowOptions, Followed, Until, follow_run};
-pub use texts::{Lost, OneText, Opened, Reason, Texts, TextsFault};
+pub use texts::{FileText, Lost, OneText, Opened, Reason, Texts, TextsFault};

@@ -1,5 +1,5 @@
 //! Where the texts of a recording come from.
-use snap_names::Trouble;
+use snap_names::{Lengths, Trouble};
 use std::alloc::{AllocError, Global};
 use std::io::Read;
 
@@ -12,6 +12,8 @@ pub enum Reason {
     Late,
     /// The text has changed since a later one began.
     Changed,
+    /// The text at hand has become shorter.
+    Shorter,
     /// There are too many folders.
     TooManyFolders,
 }
@@ -63,6 +65,84 @@ pub trait Texts {
         alloc: Global,
         read: u64,
     ) -> Result<Option<Opened<Self::Text>>, TextsFault>;
+}
+
+// A name at which the recording ends.
+pub(crate) fn lost_at(alloc: Global, name: &[u8], reason: Reason) -> TextsFault {
+    match Vec::from_slice(alloc, name) {
+        Ok(name) => TextsFault::Lost(Lost { name, reason }),
+        Err(_) => TextsFault::Memory,
+    }
+}
+
+/// How long the text of a name was at most.
+#[derive(Clone, Copy)]
+pub(crate) struct Longest {
+    bytes: u64,
+}
+
+impl Longest {
+    /// As long as nothing.
+    pub(crate) fn nothing() -> Longest {
+        Longest { bytes: 0 }
+    }
+
+    /// As long as it is now. What has no length, as a pipe or a text that is not there, is as long as nothing.
+    pub(crate) fn of<O: Lengths>(opener: &O, name: &[u8]) -> Longest {
+        let bytes = opener.length(name).unwrap_or(0);
+        Longest { bytes }
+    }
+
+    /// Looks how long it is now. Whether it is shorter than it was. A text that is gone is not.
+    pub(crate) fn has_shrunk<O: Lengths>(&mut self, opener: &O, name: &[u8]) -> bool {
+        let Some(bytes) = opener.length(name) else {
+            return false;
+        };
+        let has_shrunk = bytes < self.bytes;
+        self.bytes = self.bytes.max(bytes);
+        has_shrunk
+    }
+}
+
+/// A recording that is the text of a name, which must not become shorter.
+#[derive(Drop)]
+pub struct FileText<'a, R, O> {
+    text: OneText<R>,
+    opener: &'a O,
+    name: &'a [u8],
+    longest: Longest,
+}
+
+impl<'a, R, O: Lengths> FileText<'a, R, O> {
+    /// The recording.
+    pub fn new(text: R, opener: &'a O, name: &'a [u8]) -> FileText<'a, R, O> {
+        let longest = Longest::of(opener, name);
+        FileText {
+            text: OneText::new(text),
+            opener,
+            name,
+            longest,
+        }
+    }
+}
+
+impl<R: Read + Drop, O: Lengths> Texts for FileText<'_, R, O> {
+    type Text = R;
+
+    fn has_next(&self) -> bool {
+        self.text.has_next()
+    }
+
+    fn look(&mut self, alloc: Global) -> Result<(), TextsFault> {
+        if self.longest.has_shrunk(self.opener, self.name) {
+            return Err(lost_at(alloc, self.name, Reason::Shorter));
+        }
+        Ok(())
+    }
+
+    fn open_next(&mut self, alloc: Global, read: u64) -> Result<Option<Opened<R>>, TextsFault> {
+        self.text.open_next(alloc, read)
+    }
 }
 
 /// A recording that is one text.
