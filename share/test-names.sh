@@ -16,6 +16,27 @@ can_be_refused() {
   return 1
 }
 
+# Whether a folder has a link for each folder in it; else a note under a name that is not UTF-8 may be a folder.
+counts_links() {
+  mkdir -p links/inner
+  [ -z "$(find links -prune -links 3)" ] || return 0
+  echo "skipped: the file system counts no folders ($1)"
+  skipped=$((skipped + 1))
+  return 1
+}
+
+# The sums of snapjudge.cluster, where there is Python and the library.
+by_cluster() {
+  if ! has python3 || [ ! -e "$top/ffi/build/libsnapjudge.so" ]; then
+    echo "skipped: python3 and ffi/build/libsnapjudge.so ($1)"
+    skipped=$((skipped + 1))
+    return 1
+  fi
+  about=$1 status=$2 wanted=$3
+  shift 3
+  expect "$about" "$status" "$wanted" env PYTHONPATH="$top/ffi/python" python3 -B -m snapjudge.cluster --workers 1 "$@"
+}
+
 two='old.csv
 a b.csv
 '
@@ -44,28 +65,29 @@ printf 'old.csv\r\n' >list
 asked "a list with carriage returns" 4 "" --files-from list
 expect_said "the name and the reason" 'snapjudge: old.csv\r: no such file'
 bare=$(printf '\377.csv')
+bare_shown='\xff.csv'
 cp old.csv "$bare"
 printf 'old.csv\n%s\n' "$bare" >list
 asked "a name in a list that is not UTF-8" 4 "old.csv
 " --files-from list
-expect_said "the name and the reason" "snapjudge: $bare: is not UTF-8"
+expect_said "the name and the reason" "snapjudge: $bare_shown: is not UTF-8"
 asked "a name among the words that is not UTF-8" 4 "a b.csv
 " "$bare" "a b.csv"
-expect_said "the name and the reason" "snapjudge: $bare: is not UTF-8"
+expect_said "the name and the reason" "snapjudge: $bare_shown: is not UTF-8"
 expect "sums with a name that is not UTF-8" 4 "files 2
 atomic 0
 only-regular 1 first old.csv
 not-regular 0
 refused 0
-failed 1 first $bare
+failed 1 first $bare_shown
 " ./second check --summary "$bare" old.csv
 expect "an object of a name that is not UTF-8" 4 "$(printf '{"name":"\357\277\275.csv","status":4,"trouble":"is not UTF-8"}')
 " ./second check --format json "$bare"
 asked "a list whose name is not UTF-8" 4 "" --files-from "$bare"
-expect_said "the name and the reason" "snapjudge: $bare: is not UTF-8"
+expect_said "the name and the reason" "snapjudge: $bare_shown: is not UTF-8"
 asked "a folder whose name is not UTF-8" 4 "old.csv
 " -r "$bare" old.csv
-expect_said "the name and the reason" "snapjudge: $bare: is not UTF-8"
+expect_said "the name and the reason" "snapjudge: $bare_shown: is not UTF-8"
 rm "$bare"
 
 broken=$(printf 'a\nb\\c.csv')
@@ -80,6 +102,13 @@ asked "a list whose last name has no zero byte" 2 "a b.csv
 old.csv
 " --files-from list -0
 rm "$broken"
+# escapes that would clear a terminal, a delete and a tab, and a letter that is two bytes
+loud=$(printf 'a\033[2J\177\t\303\251.csv')
+cp old.csv "$loud"
+expect "a name with control bytes" 4 "$(report_of new-old-inversion 'a\\x1b[2J\\x7f\\x09é.csv: ' | sed '$d')
+" ./second check "$loud" "$loud.none"
+expect_said "the name and the reason" 'snapjudge: a\x1b[2J\x7f\x09é.csv.none: no such file'
+rm "$loud"
 printf 'old.csv\0' >list
 asked "a list of zero bytes without the option" 4 "" --files-from list
 
@@ -100,7 +129,7 @@ asked "an empty list behind a word" 1 "old.csv
 asked "no such list" 4 "" --files-from none old.csv
 expect_said "the list and the reason" "snapjudge: none: no such file"
 asked "a folder as a list" 4 "" --files-from many old.csv
-expect_said "the list and the reason" "snapjudge: many: is a directory"
+expect_said "the list and the reason" "snapjudge: many: is a directory; check -r judges the files below it"
 asked "a list without an end" 4 "" --files-from /dev/zero old.csv
 expect_said "the list and the reason" "snapjudge: /dev/zero: is longer than 268435456 bytes"
 expect "a list from no input" 4 "" sh -c './second check --files-from - old.csv <&-'
@@ -194,33 +223,105 @@ pipes/old.csv: monotone no
 pipes/old.csv: atomic no
 " timeout 60 ./second check --quiet -r pipes
 rm -r pipes
+# under a name that is not UTF-8 a note can't be lost, and a recording or a folder can
 bare=$(printf 'runs/a/\377')
+for note in "$bare" "$bare.txt" "${bare}csv"; do
+  cp old.csv "$note"
+done
+ln -s ../b.csv "$bare.link"
+ln -s .. "$bare.above"
+mkfifo "$bare.pipe"
+if counts_links "notes whose names are not UTF-8"; then
+  asked "notes whose names are not UTF-8" 1 "runs/a/b.csv
+" -r runs/a
+  expect_said "nothing" ""
+  summed='files 1
+atomic 0
+only-regular 1 first runs/a/b.csv
+not-regular 0
+refused 0
+failed 0
+'
+  expect "sums of a folder with such notes" 1 "$summed" ./second check --summary -r runs/a
+  by_cluster "sums by snapjudge.cluster of a folder with such notes" 1 "$summed" runs/a && expect_said "nothing" ""
+  expect "a folder with such notes, followed" 1 "window 1 events 6 only-regular
+" sh -c './second check --follow --idle 1 runs/a >answer; code=$?; sed -n "1s/ from.*//p" answer; exit $code'
+fi
+rm "$bare"*
 cp old.csv "$bare.csv"
-mkdir "$bare"
+mkdir "$bare.d" "$bare.d.csv"
+cp old.csv "$bare.d/in.csv"
 asked "names in a folder that are not UTF-8" 4 "runs/a/b.csv
 " -r runs/a
-expect_said "the names and the reason" "snapjudge: $bare: is not UTF-8
-snapjudge: $bare.csv: is not UTF-8"
-rm -r "$bare" "$bare.csv"
+told='snapjudge: runs/a/\xff.csv: is not UTF-8
+snapjudge: runs/a/\xff.d: is not UTF-8
+snapjudge: runs/a/\xff.d.csv: is not UTF-8'
+expect_said "the names and the reason" "$told"
+summed='files 4
+atomic 0
+only-regular 1 first runs/a/b.csv
+not-regular 0
+refused 0
+failed 3 first runs/a/\xff.csv
+'
+expect "sums of a folder with names that are not UTF-8" 4 "$summed" ./second check --summary -r runs/a
+expect_said "the names and the reason" "$told"
+by_cluster "sums by snapjudge.cluster of a folder with names that are not UTF-8" 4 "$summed" runs/a &&
+  expect_said "the names and the reason" "$told"
+rm -r "$bare"*
 if has python3; then
   expect "the names below a folder, as snapjudge.cluster takes them" 0 "$below" env PYTHONPATH="$top/ffi/python" python3 -c '
 import sys
 from snapjudge.cluster import names_below
-sys.stdout.buffer.write(b"".join(name + b"\n" for name in names_below(b"runs", [])))'
+sys.stdout.buffer.write(b"".join(name + b"\n" for name in names_below(b"runs")))'
 fi
 if can_be_refused "a folder that can't be read"; then
   chmod 0 runs/deep/er
   asked "a folder that can't be read" 4 "$(printf '%s' "$below" | grep -v still)
 " -r runs
-  expect_said "the folder and the reason" "snapjudge: runs/deep/er: can't be opened"
+  expect_said "the folder and the reason" "snapjudge: runs/deep/er: permission denied"
   chmod 755 runs/deep/er
 fi
 if can_be_refused "a file that can't be read"; then
   cp old.csv locked.csv
   chmod 0 locked.csv
   expect "a file that can't be read" 4 "$named_inversion" ./second check locked.csv old.csv
-  expect_said "the file and the reason" "snapjudge: locked.csv: can't be opened"
+  expect_said "the file and the reason" "snapjudge: locked.csv: permission denied"
   rm -f locked.csv
+fi
+
+# why a file can't be opened
+ln -s loop.csv loop.csv
+asked "a link to itself" 4 "old.csv
+" loop.csv old.csv
+expect_said "the file and the reason" "snapjudge: loop.csv: too many links"
+rm loop.csv
+long=$(printf '%0300d' 0)
+asked "a long name" 4 "old.csv
+" $long old.csv
+expect_said "the file and the reason" "snapjudge: $long: the name is too long"
+if has python3; then
+  python3 -c 'import socket; socket.socket(socket.AF_UNIX).bind("socket.csv")'
+  asked "a socket" 4 "old.csv
+" socket.csv old.csv
+  expect_said "the file and the reason" "snapjudge: socket.csv: is a socket, or its device is missing"
+  rm socket.csv
+fi
+# a process whose limit falls to the files that it has open, once it has read a name of its list
+if has python3; then
+  expect "a process that may open no more files" 4 "snapjudge: old.csv: too many open files
+" python3 -B -c '
+import fcntl, resource, struct, subprocess, sys, termios, time
+pipe = subprocess.PIPE
+ran = subprocess.Popen([sys.argv[1], "check", "--files-from", "-"], stdin=pipe, stdout=pipe, stderr=pipe)
+ran.stdin.write(b"old.csv")
+ran.stdin.flush()
+while struct.unpack("i", fcntl.ioctl(ran.stdin, termios.FIONREAD, bytes(4)))[0]:
+    time.sleep(0.01)
+resource.prlimit(ran.pid, resource.RLIMIT_NOFILE, (3, 3))
+out, said = ran.communicate()
+sys.stdout.buffer.write(out + said)
+sys.exit(ran.returncode)' "$top/built/snapjudge"
 fi
 
 # many files, and a text that grows while it is read

@@ -15,7 +15,7 @@ refused 1 first sums/4.csv
 failed 2 first sums/5.csv
 " ./second check --summary --workers "$workers" sums/1.csv sums/2.csv sums/3.csv sums/4.csv sums/5.csv sums/6.csv sums/7.csv sums/8.csv
   expect_said "why two have no status" "snapjudge: sums/5.csv: no such file
-snapjudge: sums/8.csv: is a directory"
+snapjudge: sums/8.csv: is a directory; check -r judges the files below it"
   expect "the sums of more files than a round has, by $workers workers" 2 "files 601
 atomic 600 first sums/7.csv
 only-regular 0

@@ -101,12 +101,12 @@ done
 expect "reasons in the order of the names" 4 "$named_inversion" ./second check --workers 4 no.csv none.csv old.csv "$room" nil.csv
 expect_said "each name and its reason" "snapjudge: no.csv: no such file
 snapjudge: none.csv: no such file
-snapjudge: $room: is a directory
+snapjudge: $room: is a directory; check -r judges the files below it
 snapjudge: nil.csv: no such file"
 expect "a file that is not there" 4 "" ./second check none.csv
 expect_said "its name and the reason" "snapjudge: none.csv: no such file"
 expect "a folder" 4 "" ./second check "$room"
-expect_said "its name and the reason" "snapjudge: $room: is a directory"
+expect_said "its name and the reason" "snapjudge: $room: is a directory; check -r judges the files below it"
 expect "a file among others that is not there" 4 "$named_inversion" ./second check none.csv old.csv
 ! command -v bash >/dev/null ||
   expect "two files, by another shell" 2 "$named_inversion$named_stale" bash "$top/snapjudge" check old.csv "a b.csv"
@@ -132,7 +132,7 @@ rm pipe
 expect "a file without an end" 3 "/dev/zero: refused record 0: toolong
 $named_inversion" ./second check /dev/zero old.csv
 expect "a folder among files" 4 "$named_inversion" ./second check "$room" old.csv
-expect_said "its name and the reason" "snapjudge: $room: is a directory"
+expect_said "its name and the reason" "snapjudge: $room: is a directory; check -r judges the files below it"
 expect "a file below a file" 4 "" ./second check old.csv/none.csv
 expect_said "its name and the reason" "snapjudge: old.csv/none.csv: no such file"
 for command in check shrink explain draw; do

@@ -78,15 +78,28 @@ class OneMachine(Recordings):
             wanted = b"files 4\natomic 2 first ./b.csv/y.csv\nonly-regular 1 first ./a\\n\\\\.csv\n"
             wanted += b"not-regular 1 first ./d.csv\nrefused 0\nfailed 0\n"
             self.assertEqual(self.ran(".", cwd=room), (2, wanted, b""))
-            below = [os.path.relpath(path, os.fsencode(room)) for path in cluster.names_below(os.fsencode(room), [])]
+            below = [os.path.relpath(path, os.fsencode(room)) for path in cluster.names_below(os.fsencode(room))]
             self.assertEqual(below, [b"a\n\\.csv", b"b.csv/y.csv", b"b/x.csv", b"d.csv"])
             self.assertEqual(self.ran("d.csv", "b/x.csv", "b/x.csv", cwd=room)[1].splitlines()[:2], [b"files 3", b"atomic 2 first b/x.csv"])
 
+    def test_under_a_name_that_is_not_utf8_only_a_note_is_passed_over(self):
+        with tempfile.TemporaryDirectory() as room:
+            for name in (b"run.csv", b"\xff.txt", b"\xff.csv", b"\xff/in.csv"):
+                path = os.path.join(os.fsencode(room), name)
+                os.makedirs(os.path.dirname(path), exist_ok=True)
+                shutil.copyfile(os.path.join(EXAMPLES, "atomic-run.csv"), path)
+            status, out, said = self.ran(".", cwd=room)
+        lines = out.splitlines()
+        self.assertEqual((status, lines[:2], lines[-1]), (4, [b"files 3", b"atomic 1 first ./run.csv"], b"failed 2 first ./\\xff"))
+        self.assertEqual(said, b"snapjudge: ./\\xff: is not UTF-8\nsnapjudge: ./\\xff.csv: is not UTF-8\n")
+
+    def test_a_name_is_shown_without_bytes_that_control_a_terminal(self):
+        for name, wanted in ((b"a\x1b[2J\t\x7f", b"a\\x1b[2J\\x09\\x7f"), (b"\xc3\xa9\n\r\\", b"\xc3\xa9\\n\\r\\\\"), (b"caf\xe9 \xc3\xa9", b"caf\\xe9 \\xc3\\xa9")):
+            self.assertEqual(cluster.shown(name), wanted)
+
     def test_a_folder_that_cannot_be_read_has_failed(self):
-        lost = []
         with mock.patch("os.scandir", side_effect=PermissionError(13, "no", "runs")):
-            self.assertEqual(cluster.names_below(b"runs", lost), [])
-        self.assertEqual(lost, [b"runs"])
+            self.assertEqual(cluster.names_below(b"runs"), [b"runs"])
 
     def test_names_end_with_a_zero_byte_where_that_is_asked_for(self):
         names = [b"a\nb.csv", b"-x.csv", b"\xff.csv"]
@@ -95,7 +108,9 @@ class OneMachine(Recordings):
         with open(os.path.join(self.room, "list"), "wb") as file:
             file.write(b"\0".join(names))
         found = self.ran("-0", "--files-from", "list")
-        self.assertEqual((found[0], found[1].splitlines()[:2]), (0, [b"files 3", b"atomic 3 first a\\nb.csv"]))
+        lines = found[1].splitlines()
+        self.assertEqual((found[0], lines[:2], lines[-1]), (4, [b"files 3", b"atomic 2 first a\\nb.csv"], b"failed 1 first \\xff.csv"))
+        self.assertEqual(found[2], b"snapjudge: \\xff.csv: is not UTF-8\n")
         for name in names:
             os.remove(os.path.join(os.fsencode(self.room), name))
 
@@ -108,9 +123,9 @@ class OneMachine(Recordings):
             self.assertEqual(bags.judge_file(self.paths[0], bags.Limits()), (4, "out of memory"))
         with mock.patch("snapjudge.bags.read_text", side_effect=OSError):
             self.assertEqual(bags.judge_file(self.paths[0], bags.Limits()), (4, "read failed"))
-        self.assertEqual(bags.judge_file(self.room, bags.Limits()), (4, "is a directory"))
+        self.assertEqual(bags.judge_file(self.room, bags.Limits()), (4, "is a directory; check -r judges the files below it"))
         self.assertEqual(bags.judge_file("a\0b", bags.Limits()), (4, "can't be opened"))
-        self.assertEqual(bags.judge_file("a" * 300, bags.Limits()), (4, "can't be opened"))
+        self.assertEqual(bags.judge_file("a" * 300, bags.Limits()), (4, "the name is too long"))
 
     def test_a_long_recording_is_judged_where_its_events_are_allowed(self):
         updates = 32_769
@@ -130,7 +145,7 @@ class OneMachine(Recordings):
                                     (["--events", "0", "."], 5, b"--events: '0' is no whole number from 1 to 1048576"),
                                     (["--events", "1048577", "."], 5, b"--events: '1048577' is no whole number"), (["--bag", "x", "."], 5, b"--bag: 'x' is no"),
                                     (["--views", "1" * 5000, "."], 5, b"--views"),
-                                    (["--files-from", "none"], 4, b"none: no such file"), (["--files-from", "."], 4, b".: is a directory"), (["--files-from", "-"], 4, b"there are no recordings")):
+                                    (["--files-from", "none"], 4, b"none: no such file"), (["--files-from", "."], 4, b".: is a directory; check -r judges the files below it"), (["--files-from", "-"], 4, b"there are no recordings")):
             found = self.ran(*words)
             self.assertEqual((found[0], b"files" in found[1].splitlines()[:1]), (status, False))
             self.assertIn(told, found[2])

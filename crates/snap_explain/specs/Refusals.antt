@@ -8,6 +8,7 @@ use Rattle.snap_format.specs.Records.{record_at}
 use Rattle.snap_text.specs.Fields.{Fields}
 use Rattle.snap_format.specs.Rows.{rows_of}
 use Rattle.snap_format.specs.Texts.{bytes_within}
+use Rattle.snap_names.specs.Shown.{shown}
 use Rattle.snap_report.specs.Lines.{line_text}
 use Rattle.snap_report.specs.Refusals.{refusal_line}
 
@@ -45,9 +46,9 @@ limit_of limit faults.TooMany = decimal limit ++ event_words limit
 limit_of limit faults.TooLong = decimal (bytes_within limit) ++ byte_words limit
 limit_of limit _ = []
 
--- a field in quotes, behind a space: its bytes as they stand
+-- a field in quotes, behind a space, with the escapes of a name
 abbrev pub quoted : List ℕ → List ℕ
-quoted field = codes " \"" ++ field ++ codes "\""
+quoted field = codes " \"" ++ shown field ++ codes "\""
 
 -- record R has the fields "A" "B" .., behind two spaces, where the text has a record of that number
 abbrev pub record_text : ℕ → Option Fields → List ℕ

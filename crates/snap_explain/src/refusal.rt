@@ -8,6 +8,7 @@ ghost use Rattle.snap_explain.specs.Refusals.{IsRefusalExplanation, byte_words a
 
 use snap_core::{EVENT_CAP, Limit};
 use snap_csv::{bytes_within, record_of};
+use snap_names::put_shown;
 use snap_report::{put_number, refusal_text};
 use snap_text::TextFault;
 use std::alloc::{AllocError, Global};
@@ -94,13 +95,13 @@ fn put_limit(out: &mut Vec<u8>, fault: TextFault, limit: Limit) -> Result<(), Al
     }
 }
 
-// Adds the fields of a record, each in quotes behind a space.
+// Adds the fields of a record, each in quotes behind a space, with the escapes of a name.
 fn put_fields(out: &mut Vec<u8>, fields: &[Vec<u8>]) -> Result<(), AllocError>
     ensures { OnOk result (out.new.items ≡ out.old.items ++ flat_map quoted (map (λ f. f.items) fields.now)) }
 {
     for field in fields {
         out.extend_from_slice(b" \"")?;
-        out.extend_from_slice(field)?;
+        put_shown(out, field)?;
         out.extend_from_slice(b"\"")?;
     }
     Ok(())
@@ -120,7 +121,7 @@ fn put_record(out: &mut Vec<u8>, text: &[u8], place: u32) -> Result<(), AllocErr
 }
 
 /// Why a text is no history of at most so many events, by its first fault and the place of that: the line of its report, the rule that is broken, in a
-/// sentence, and the fields of the record at that place, each as it stands in the text, in quotes behind a space. In place of
+/// sentence, and the fields of the record at that place, each in quotes behind a space, and shown as a name is. In place of
 /// the fields a line says that no record has that number, as for the text as a whole, which is place 0.
 pub fn explain_refusal(
     alloc: Global,

@@ -1,3 +1,4 @@
 mod Pages
 pub mod Summing
+mod Troubles
 pub mod Written

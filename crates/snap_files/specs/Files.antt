@@ -18,7 +18,7 @@ use Rattle.snap_files.specs.declared.format.FileOptions.{FileOptions}
 use Rattle.snap_files.specs.declared.format.Format.{Format}
 use Rattle.snap_files.specs.declared.format.Format.TheVariants.{Plain, Json}
 use Rattle.snap_names.specs.declared.opener.Trouble.{Trouble}
-use Rattle.snap_names.specs.declared.opener.Trouble.TheVariants.{Unread, Memory}
+use Rattle.snap_names.specs.declared.opener.Trouble.TheVariants.{Memory}
 
 -- what became of a name: its status, none where its history has fewer views than are asked for, or why it has none
 abbrev pub Answer : Type 0
@@ -28,13 +28,14 @@ Answer = Result (Option Status) Trouble
 abbrev pub IsNamedReport : CheckOptions → List ℕ → List ℕ → Option Status → List ℕ → Type 0
 IsNamedReport options name text status out = (report : List ℕ) × IsReportWith options text status report × (out ≡ named_lines name report)
 
--- what a name may be opened as: a text, of which the bytes are known or not, or a trouble
+-- what a name may be opened as: a text, of which the bytes are known or not, or a trouble. An opener gives a text the trouble of a
+-- failed read only for a reader of it whose count of failures rose
 abbrev pub Opens : Type 1
 Opens = List ℕ → Result (Option (List ℕ)) Trouble → Type 0
 
--- why a name has no status: it was not opened, or it was, and reading or memory failed
+-- why a name has no status: its opener says so, as where it can't be opened or a read failed, or memory ran out behind its opening
 abbrev pub IsTroubled : Opens → List ℕ → Trouble → Type 0
-IsTroubled opens name trouble = opens name (Err trouble) ⊎ ((known : Option (List ℕ)) × opens name (Ok known) × ((trouble ≡ Unread) ⊎ (trouble ≡ Memory)))
+IsTroubled opens name trouble = opens name (Err trouble) ⊎ ((known : Option (List ℕ)) × opens name (Ok known) × (trouble ≡ Memory))
 
 -- the object of a text has a status in each case
 abbrev pub IsObject : CheckOptions → List ℕ → List ℕ → Option Status → List ℕ → Type 0

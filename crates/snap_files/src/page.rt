@@ -1,11 +1,12 @@
 //! What is answered, written and said of one name.
-ghost use Rattle.std.specs.Prelude.{◌≡◌, ◌++◌, ◌⊎◌, IfOk, IfSome, MatchResult, Ok, Err, string_bytes};
+ghost use Rattle.std.specs.Prelude.{◌≡◌, ◌<◌, ◌++◌, IfOk, IfSome, MatchResult, Ok, Err, string_bytes};
+ghost use Rattle.snap_core.specs.Counting.{failures_in, inner_of};
+ghost use Rattle.snap_check.specs.declared.fault.RunFault.TheVariants as faults;
 ghost use Rattle.snap_json.specs.Objects.{trouble_json};
 ghost use Rattle.snap_json.specs.Values.{IsLineOf};
 ghost use Rattle.snap_files.specs.Files.{IsNamedReport, IsObject, IsPage, IsTextPage, IsTroublePage, answer_code, object_name, refusal_line_text, told_text};
-ghost use Rattle.snap_files.specs.inside.Files.{trouble_by};
+ghost use Rattle.snap_files.specs.inside.Files.{BlamesReader, IsTroubleBy};
 ghost use Rattle.snap_names.specs.Said.{trouble_text};
-ghost use Rattle.snap_names.specs.declared.opener.Trouble.TheVariants as troubles;
 
 use crate::format::{FileOptions, Format};
 use snap_check::{CheckOptions, RunFault, check_run_with};
@@ -33,62 +34,58 @@ pub(crate) fn code_of(answer: &Answer) -> u8
     }
 }
 
-// Why a text that was opened has no status.
-fn trouble_of(fault: RunFault) -> Trouble
-    ensures fault { result ≡ trouble_by fault }
-    ensures met { (result ≡ troubles.Unread) ⊎ (result ≡ troubles.Memory) }
+// Why a text that was opened has no status, by the fault of its check.
+fn trouble_of<O: Opener>(
+    opener: &O,
+    name: &[u8],
+    reader: &Counted<O::Text>,
+    fault: RunFault,
+) -> Trouble
+    requires { fault ≡ faults.Read → 0 < failures_in reader.now }
+    ensures { IsTroubleBy (O.opens opener.now) name.now fault result }
 {
     match fault {
-        RunFault::Read => Trouble::Unread,
+        RunFault::Read => opener.unread(name, reader),
         // the report is written into memory
         RunFault::Write | RunFault::Memory => Trouble::Memory,
     }
 }
 
-// The status and the report of a text, each line with the name before it.
-fn named_report<Rt: Threads + Sync, R: Read + Drop, G: Gate>(
+// The status and the report of the text that a reader has, each line with the name before it.
+fn named_report<Rt: Threads + Sync, R: Read, G: Gate>(
     rt: &Rt,
     alloc: Global,
     name: &[u8],
-    text: R,
+    reader: &mut Counted<R>,
     cutting: Cutting,
     gate: &G,
     options: CheckOptions,
 ) -> Result<(Option<Status>, Vec<u8>), RunFault>
-    ensures { IfOk result (λ page. IfSome (R.remaining text) (λ bytes. IsNamedReport options name.now bytes page.0 page.1.items)) }
+    ensures page { IfOk result (λ page. IfSome (R.remaining (inner_of reader.old)) (λ bytes. IsNamedReport options name.now bytes page.0 page.1.items)) }
+    ensures blame { BlamesReader (failures_in reader.old) (failures_in reader.new) result }
 {
-    let mut reader = Counted::new(text);
     let mut writer = Counted::new(Vec::new(alloc));
-    let status = check_run_with(rt, alloc, &mut reader, &mut writer, cutting, gate, options)?;
+    let status = check_run_with(rt, alloc, reader, &mut writer, cutting, gate, options)?;
     let report = writer.into_inner();
     let lines = name_lines(alloc, name, &report)?;
     Ok((status, lines))
 }
 
-// The status and the object of a text with a name.
-fn object<Rt: Threads + Sync, R: Read + Drop, G: Gate>(
+// The status and the object of the text that a reader has, with a name.
+fn object<Rt: Threads + Sync, R: Read, G: Gate>(
     rt: &Rt,
     alloc: Global,
     name: &str,
-    text: R,
+    reader: &mut Counted<R>,
     cutting: Cutting,
     gate: &G,
     options: CheckOptions,
 ) -> Result<(Option<Status>, Vec<u8>), RunFault>
-    ensures { IfOk result (λ page. IfSome (R.remaining text) (λ bytes. IsObject options name.now bytes page.0 page.1.items)) }
+    ensures page { IfOk result (λ page. IfSome (R.remaining (inner_of reader.old)) (λ bytes. IsObject options name.now bytes page.0 page.1.items)) }
+    ensures blame { BlamesReader (failures_in reader.old) (failures_in reader.new) result }
 {
-    let mut reader = Counted::new(text);
     let mut writer = Counted::new(Vec::new(alloc));
-    let status = tell_run(
-        rt,
-        alloc,
-        name,
-        &mut reader,
-        &mut writer,
-        cutting,
-        gate,
-        options,
-    )?;
+    let status = tell_run(rt, alloc, name, reader, &mut writer, cutting, gate, options)?;
     Ok((Some(status), writer.into_inner()))
 }
 
@@ -100,36 +97,38 @@ fn object_name(alloc: Global, name: &[u8]) -> Result<String, AllocError>
 }
 
 // The same of a text whose name need not be Unicode.
-fn shown_object<Rt: Threads + Sync, R: Read + Drop, G: Gate>(
+fn shown_object<Rt: Threads + Sync, R: Read, G: Gate>(
     rt: &Rt,
     alloc: Global,
     name: &[u8],
-    text: R,
+    reader: &mut Counted<R>,
     cutting: Cutting,
     gate: &G,
     options: CheckOptions,
 ) -> Result<(Option<Status>, Vec<u8>), RunFault>
-    ensures { IfOk result (λ page. IfSome (R.remaining text) (λ bytes. IsObject options (object_name name.now) bytes page.0 page.1.items)) }
+    ensures page { IfOk result (λ page. IfSome (R.remaining (inner_of reader.old)) (λ bytes. IsObject options (object_name name.now) bytes page.0 page.1.items)) }
+    ensures blame { BlamesReader (failures_in reader.old) (failures_in reader.new) result }
 {
     let shown = object_name(alloc, name)?;
-    object(rt, alloc, &shown, text, cutting, gate, options)
+    object(rt, alloc, &shown, reader, cutting, gate, options)
 }
 
-// The status of a text and what is written of it, in the format that is asked for.
-fn text_page<Rt: Threads + Sync, R: Read + Drop, G: Gate>(
+// The status of the text that a reader has and what is written of it, in the format that is asked for.
+fn text_page<Rt: Threads + Sync, R: Read, G: Gate>(
     rt: &Rt,
     alloc: Global,
     name: &[u8],
-    text: R,
+    reader: &mut Counted<R>,
     cutting: Cutting,
     gate: &G,
     options: FileOptions,
 ) -> Result<(Option<Status>, Vec<u8>), RunFault>
-    ensures { IfOk result (λ page. IfSome (R.remaining text) (λ bytes. IsTextPage options.format options.check name.now bytes page.0 page.1.items)) }
+    ensures page { IfOk result (λ page. IfSome (R.remaining (inner_of reader.old)) (λ bytes. IsTextPage options.format options.check name.now bytes page.0 page.1.items)) }
+    ensures blame { BlamesReader (failures_in reader.old) (failures_in reader.new) result }
 {
     match options.format {
-        Format::Plain => named_report(rt, alloc, name, text, cutting, gate, options.check),
-        Format::Json => shown_object(rt, alloc, name, text, cutting, gate, options.check),
+        Format::Plain => named_report(rt, alloc, name, reader, cutting, gate, options.check),
+        Format::Json => shown_object(rt, alloc, name, reader, cutting, gate, options.check),
     }
 }
 
@@ -169,10 +168,13 @@ pub(crate) fn check_name<Rt: Threads + Sync, O: Opener, G: Gate>(
     ensures { IsPage (O.opens opener.now) options name.now result.0 result.1.items }
 {
     let met = match opener.open(name) {
-        Ok(text) => match text_page(rt, alloc, name, text, cutting, gate, options) {
-            Ok((status, out)) => return (Ok(status), out),
-            Err(fault) => trouble_of(fault),
-        },
+        Ok(text) => {
+            let mut reader = Counted::new(text);
+            match text_page(rt, alloc, name, &mut reader, cutting, gate, options) {
+                Ok((status, out)) => return (Ok(status), out),
+                Err(fault) => trouble_of(opener, name, &reader, fault),
+            }
+        }
         Err(trouble) => trouble,
     };
     let (trouble, out) = trouble_page(alloc, name, met, options.format);

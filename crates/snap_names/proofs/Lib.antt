@@ -1,2 +1,3 @@
 pub mod ListFacts
+mod TextFacts
 pub mod WalkFacts

@@ -2,7 +2,7 @@
 use Rattle.std.specs.Prelude.{◌==◌, ◌++◌, ℕ, Bool, true, if◌then◌else◌, List, [], ◌∷◌, codes}
 use Rattle.snap_names.specs.Shown.{shown}
 use Rattle.snap_names.specs.declared.opener.Trouble.{Trouble}
-use Rattle.snap_names.specs.declared.opener.Trouble.TheVariants.{Missing, Folder, NotUnicode, Unopened, Unread, Memory}
+use Rattle.snap_names.specs.declared.opener.Trouble.TheVariants.{Missing, Folder, NotUnicode, Denied, TooManyOpen, LinkLoop, LongName, NoDevice, Unopened, Unread, Memory}
 
 -- a text with a front before each of its lines: before its first byte, where a line begins there, and before each byte that stands
 -- behind a line feed
@@ -21,8 +21,13 @@ reason_line_text name reason = codes "snapjudge: " ++ shown name ++ codes ": " +
 -- a trouble in words
 abbrev pub trouble_text : Trouble → List ℕ
 trouble_text Missing = codes "no such file"
-trouble_text Folder = codes "is a directory"
+trouble_text Folder = codes "is a directory; check -r judges the files below it"
 trouble_text NotUnicode = codes "is not UTF-8"
+trouble_text Denied = codes "permission denied"
+trouble_text TooManyOpen = codes "too many open files"
+trouble_text LinkLoop = codes "too many links"
+trouble_text LongName = codes "the name is too long"
+trouble_text NoDevice = codes "is a socket, or its device is missing"
 trouble_text Unopened = codes "can't be opened"
 trouble_text Unread = codes "read failed"
 trouble_text Memory = codes "out of memory"

@@ -11,7 +11,7 @@ pub enum Kind {
     Folder,
     /// A link to a folder.
     Link,
-    /// A file.
+    /// A file. Under a name that is not UTF-8, anything but a folder.
     File,
     /// Anything else, as a pipe, a socket or a device.
     Other,

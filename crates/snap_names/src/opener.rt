@@ -1,6 +1,8 @@
 //! What opens a text by its name, why that may fail, and what says how long a text is.
-ghost use Rattle.std.specs.Prelude.{ℕ, List, Option, Result, Ok, Err, MatchResult};
+ghost use Rattle.std.specs.Prelude.{◌<◌, ℕ, List, Option, Result, Ok, Err, MatchResult};
+ghost use Rattle.snap_core.specs.Counting.{failures_in};
 
+use snap_core::Counted;
 use std::io::Read;
 
 /// Why the text of a name can't be had.
@@ -12,6 +14,16 @@ pub enum Trouble {
     Folder,
     /// The name is not UTF-8, as the names of the system's files have to be here.
     NotUnicode,
+    /// The user may not read it, or may not enter a folder above it.
+    Denied,
+    /// The process has as many open files as it may have.
+    TooManyOpen,
+    /// Links lead to links, and to no end.
+    LinkLoop,
+    /// The name, or a part of it, has more bytes than the system takes.
+    LongName,
+    /// It is a socket, or belongs to a device that is missing.
+    NoDevice,
     /// It can't be opened, for another reason.
     Unopened,
     /// A read failed.
@@ -27,12 +39,18 @@ pub trait Opener: Sync {
     /// The text, as a reader.
     type Text: Read + Drop + Send + Sync;
 
-    /// What a name may be opened as: a text, of which the bytes are known or not, or a trouble.
+    /// What a name may be opened as: a text, of which the bytes are known or not, or a trouble. A text of which a read failed
+    /// has its trouble here too.
     ghost opens: { Self → List ℕ → Result (Option (List ℕ)) Trouble → Type 0 };
 
     /// Opens the text of a name.
     fn open(&self, name: &[u8]) -> Result<Self::Text, Trouble>
         ensures { MatchResult result (λ text. opens self.now name.now (Ok (Self.Text.remaining text))) (λ trouble. opens self.now name.now (Err trouble)) };
+
+    /// The trouble of a text that was opened by this name and of which a read failed, as the count of its reader shows.
+    fn unread(&self, name: &[u8], text: &Counted<Self::Text>) -> Trouble
+        requires { 0 < failures_in text.now }
+        ensures { opens self.now name.now (Err result) };
 }
 
 /// What says how long the texts of names are now.

@@ -51,8 +51,13 @@ pub fn trouble_words(trouble: Trouble) -> &'static str
 {
     match trouble {
         Trouble::Missing => "no such file",
-        Trouble::Folder => "is a directory",
+        Trouble::Folder => "is a directory; check -r judges the files below it",
         Trouble::NotUnicode => "is not UTF-8",
+        Trouble::Denied => "permission denied",
+        Trouble::TooManyOpen => "too many open files",
+        Trouble::LinkLoop => "too many links",
+        Trouble::LongName => "the name is too long",
+        Trouble::NoDevice => "is a socket, or its device is missing",
         Trouble::Unopened => "can't be opened",
         Trouble::Unread => "read failed",
         Trouble::Memory => "out of memory",

@@ -8,6 +8,7 @@ use crate::walk::path_in;
 use std::alloc::{AllocError, Global};
 use std::fs::Metadata;
 use std::io::{BufReader, ErrorKind};
+use std::os::unix::fs::MetadataExt;
 use std::rt::Files;
 use std::{fs, str};
 
@@ -26,6 +27,13 @@ fn kind_of(metadata: &Metadata) -> Kind {
     }
 }
 
+impl Entry {
+    // Whether the name is not UTF-8.
+    fn is_bare(&self) -> bool {
+        str::from_utf8(&self.name).is_err()
+    }
+}
+
 impl<R: Files> SystemFolders<'_, R> {
     // What stands at a path, behind a link what it leads to. A file that is gone in the meantime is one still.
     fn kind_at(&self, path: &str) -> Kind {
@@ -39,6 +47,34 @@ impl<R: Files> SystemFolders<'_, R> {
             Ok(metadata) => kind_of(&metadata),
             Err(error) if error.kind() == ErrorKind::NotFound => Kind::File,
             Err(_) => Kind::Unknown,
+        }
+    }
+
+    // Whether there are so many folders in a folder and no other. It has two links, and one from each of them, where the file system
+    // counts them. Where that has one link alone, nothing is known.
+    fn has_so_many(&self, folder: &[u8], folders: usize) -> bool {
+        let Ok(path) = str::from_utf8(folder) else {
+            return false;
+        };
+        match fs::metadata(self.files, path) {
+            Ok(metadata) => metadata.nlink() == (folders as u64).saturating_add(2),
+            Err(_) => false,
+        }
+    }
+
+    // Says of the entries whose names are not UTF-8 that they are no folders, where all folders are known. The system can't be asked
+    // for what stands under such a name.
+    fn tell_bare(&self, folder: &[u8], entries: &mut Vec<Entry>) {
+        if !entries.iter().any(Entry::is_bare) {
+            return;
+        }
+        let folders = entries.iter().filter(|entry| entry.kind == Kind::Folder);
+        if self.has_so_many(folder, folders.count()) {
+            for entry in entries {
+                if entry.is_bare() {
+                    entry.kind = Kind::File;
+                }
+            }
         }
     }
 
@@ -86,6 +122,7 @@ impl<R: Files> Folders for SystemFolders<'_, R> {
             };
             entries.push(Entry { name, kind })?;
         }
+        self.tell_bare(folder, &mut entries);
         Ok(Some(entries))
     }
 }

@@ -2,6 +2,7 @@
 ghost use Rattle.std.specs.Prelude.{⊤};
 
 use crate::opener::{Lengths, Opener, Trouble};
+use snap_core::Counted;
 use std::fs::{self, OpenFile};
 use std::io::{ErrorKind, Read};
 use std::rt::{Files, Stdin};
@@ -34,13 +35,30 @@ pub struct System<'a, R> {
     pub input: Stdin,
 }
 
-// Why a file is not opened.
+// The numbers of errors that have no kind: there is no room for one more open file; there is no such device, as a socket has none.
+const EMFILE: i32 = 24;
+
+const ENXIO: i32 = 6;
+
+// Why a file is not opened, by the number of an error of no kind.
+fn trouble_numbered(number: Option<i32>) -> Trouble {
+    match number {
+        Some(EMFILE) => Trouble::TooManyOpen,
+        Some(ENXIO) => Trouble::NoDevice,
+        _ => Trouble::Unopened,
+    }
+}
+
+// The same by the error.
 fn trouble_of(error: &io::Error) -> Trouble {
     match error.kind() {
         ErrorKind::NotFound | ErrorKind::NotADirectory => Trouble::Missing,
         ErrorKind::IsADirectory => Trouble::Folder,
+        ErrorKind::PermissionDenied => Trouble::Denied,
+        ErrorKind::FilesystemLoop => Trouble::LinkLoop,
+        ErrorKind::InvalidFilename => Trouble::LongName,
         ErrorKind::OutOfMemory => Trouble::Memory,
-        _ => Trouble::Unopened,
+        _ => trouble_numbered(error.raw_os_error()),
     }
 }
 
@@ -67,6 +85,10 @@ where
             Ok(metadata) if metadata.is_dir() => Err(Trouble::Folder),
             _ => Ok(SystemText::File(file)),
         }
+    }
+
+    fn unread(&self, _name: &[u8], _text: &Counted<SystemText<R::File>>) -> Trouble {
+        Trouble::Unread
     }
 }
 

@@ -75,7 +75,13 @@ const REFUSED: &[(&str, &str)] = &[
         "event,process,op,data\nbegin,0,\"a \"\"scan\"\", or\nso\",\n",
         "refused record 2: op\n\
         the field op is update or view\n\
-        \x20 record 2 has the fields \"begin\" \"0\" \"a \"scan\", or\nso\" \"\"\n",
+        \x20 record 2 has the fields \"begin\" \"0\" \"a \"scan\", or\\nso\" \"\"\n",
+    ),
+    (
+        "event,process,op,data\nbegin,0,\x1b[2J,\n",
+        "refused record 2: op\n\
+        the field op is update or view\n\
+        \x20 record 2 has the fields \"begin\" \"0\" \"\\x1b[2J\" \"\"\n",
     ),
     (
         "at,event,process,op,data\n2,end,1,view,\n1,begin,0,view,\n",

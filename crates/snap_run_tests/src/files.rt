@@ -52,6 +52,10 @@ impl Opener for Shelf {
             _ => Err(Trouble::Missing),
         }
     }
+
+    fn unread(&self, _name: &[u8], _text: &Counted<Drip<'static>>) -> Trouble {
+        Trouble::Unread
+    }
 }
 
 fn names_of(alloc: Global, list: &[&[u8]]) -> Result<Vec<Vec<u8>>, AllocError> {
@@ -120,7 +124,7 @@ const CHECKS: &[(&[&[u8]], u32, u8, &str, &str)] = &[
         "inversion: regular yes\ninversion: monotone no\ninversion: atomic no\n\
          busy: refused record 3: busy\n",
         "snapjudge: none: no such file\nsnapjudge: locked: can't be opened\n\
-         snapjudge: broken: read failed\nsnapjudge: folder: is a directory\n",
+         snapjudge: broken: read failed\nsnapjudge: folder: is a directory; check -r judges the files below it\n",
     ),
     (
         &[b"in\nver\\sion"],
@@ -171,7 +175,7 @@ const OBJECTS: &str = "{\"name\":\"none\",\"status\":4,\"trouble\":\"no such fil
     {\"name\":\"stale\",\"status\":3,\"too_few_views\":{\"views\":1,\"least\":2}}\n\
     {\"name\":\"locked\",\"status\":4,\"trouble\":\"can't be opened\"}\n\
     {\"name\":\"broken\",\"status\":4,\"trouble\":\"read failed\"}\n\
-    {\"name\":\"folder\",\"status\":4,\"trouble\":\"is a directory\"}\n\
+    {\"name\":\"folder\",\"status\":4,\"trouble\":\"is a directory; check -r judges the files below it\"}\n\
     {\"name\":\"in\\nver\\\\sion\",\"status\":1,\"events\":6,\"calls\":3,\"pending\":0,\"views\":2,\
     \"regular\":true,\"monotone\":false,\"atomic\":false,\"integrity\":null,\"proximity\":null,\
     \"read\":{\"count\":1,\
@@ -193,7 +197,7 @@ fn each_name_has_its_object(rt: HostRuntime) -> Result<(), Fail> {
         b"in\nver\\sion",
     ];
     let said = "snapjudge: none: no such file\nsnapjudge: locked: can't be opened\n\
-         snapjudge: broken: read failed\nsnapjudge: folder: is a directory\n";
+         snapjudge: broken: read failed\nsnapjudge: folder: is a directory; check -r judges the files below it\n";
     let (written, said) = (OBJECTS.as_bytes(), said.as_bytes());
     expect_checked(&rt, alloc, list, (Format::Json, 2), 4, written, said)
 }
@@ -203,7 +207,7 @@ fn each_name_has_its_object(rt: HostRuntime) -> Result<(), Fail> {
 fn a_name_need_not_be_unicode(rt: HostRuntime) -> Result<(), Fail> {
     let alloc = rt.alloc();
     let list: &[&[u8]] = &[b"lo\xffcked", b"st\xffale", b"st\xe2\x82ale"];
-    let said = b"snapjudge: lo\xffcked: can't be opened\nsnapjudge: st\xe2\x82ale: no such file\n";
+    let said = b"snapjudge: lo\\xffcked: can't be opened\nsnapjudge: st\xe2\x82ale: no such file\n";
     let report = b"st\xffale: regular no\nst\xffale: monotone yes\nst\xffale: atomic no\n";
     expect_checked(&rt, alloc, list, (Format::Plain, 0), 4, report, said)?;
     let objects = "{\"name\":\"lo\u{fffd}cked\",\"status\":4,\"trouble\":\"can't be opened\"}\n\

@@ -66,6 +66,10 @@ impl Opener for Binder {
             None => Err(Trouble::Unopened),
         }
     }
+
+    fn unread(&self, _name: &[u8], _text: &Counted<Drip<'static>>) -> Trouble {
+        Trouble::Unread
+    }
 }
 
 impl Lengths for Binder {

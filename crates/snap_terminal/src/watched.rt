@@ -1,5 +1,6 @@
 //! What opens the files, and what answers go to, with a line of progress between.
 use crate::progress::Progress;
+use snap_core::Counted;
 use snap_names::{Opener, Trouble};
 use std::io;
 use std::io::Write;
@@ -24,6 +25,10 @@ impl<O: Opener, R: Clock + Sync> Opener for Watched<'_, O, R> {
             progress.next();
         }
         self.opener.open(name)
+    }
+
+    fn unread(&self, name: &[u8], text: &Counted<O::Text>) -> Trouble {
+        self.opener.unread(name, text)
     }
 }
 

@@ -14,7 +14,18 @@ PIECE = 256 * 1024
 REFUSED, FAILED = STATUSES.index("refused"), 4
 
 # Why a file can't be opened, in the words of the program.
-UNOPENED = {errno.ENOENT: "no such file", errno.ENOTDIR: "no such file", errno.EISDIR: "is a directory", errno.ENOMEM: "out of memory"}
+UNOPENED = {
+    errno.ENOENT: "no such file",
+    errno.ENOTDIR: "no such file",
+    errno.EISDIR: "is a directory; check -r judges the files below it",
+    errno.EACCES: "permission denied",
+    errno.EPERM: "permission denied",
+    errno.EMFILE: "too many open files",
+    errno.ELOOP: "too many links",
+    errno.ENAMETOOLONG: "the name is too long",
+    errno.ENXIO: "is a socket, or its device is missing",
+    errno.ENOMEM: "out of memory",
+}
 
 
 class Limits(typing.NamedTuple):

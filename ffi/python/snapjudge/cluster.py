@@ -21,6 +21,8 @@ import traceback
 from snapjudge import MOST_EVENTS
 from snapjudge.bags import FAILED, UNOPENED, USUAL, Limits, judge_bag
 
+# What is shown for these bytes of a name.
+ESCAPES = {ord("\n"): b"\\n", ord("\r"): b"\\r", ord("\\"): b"\\\\"}
 # The lines of the sums, by the exit status.
 KINDS = ("atomic", "only-regular", "not-regular", "refused", "failed")
 # The exit status where the words of the command line are not taken, help among them.
@@ -211,9 +213,20 @@ def again(places, deaths, tries):
     return [(places[at : at + 1], 0) for at in range(len(places))] if len(places) > 1 else []
 
 
+def is_utf8(name):
+    """Whether a name is UTF-8, as the program has to have it."""
+    try:
+        name.decode("utf-8")
+    except UnicodeDecodeError:
+        return False
+    return True
+
+
 def shown(name):
-    """A name as the program shows it, in one line."""
-    return name.replace(b"\\", b"\\\\").replace(b"\n", b"\\n").replace(b"\r", b"\\r")
+    """A name as the program shows it: in one line, and no byte of it controls a terminal."""
+    greatest = 255 if is_utf8(name) else 126
+    is_plain = [32 <= byte <= greatest and byte != 127 for byte in range(256)]
+    return b"".join(ESCAPES.get(byte, b"%c" % byte if is_plain[byte] else b"\\x%02x" % byte) for byte in name)
 
 
 def sums(names, answers):
@@ -231,12 +244,22 @@ def is_other(path):
     return not os.path.isfile(path) and os.path.exists(path)
 
 
-def names_below(folder, lost):
-    """The recordings below a folder, in the order of their names. A folder that can't be read is added to the lost ones."""
+def is_taken(path, is_folder):
+    """Whether an entry of a folder counts as a recording. Under a name that is not UTF-8 nothing is opened, so all that could be lost does."""
+    is_named = path.endswith(b".csv")
+    if is_utf8(path):
+        return is_named and not is_folder and not is_other(path)
+    return is_named or (is_folder and not os.path.islink(path))
+
+
+def names_below(folder):
+    """The recordings below a folder, in the order of their names. A folder that can't be listed stands among them itself."""
     found = []
-    for place, _, files in os.walk(folder, onerror=lambda error: lost.append(os.fsencode(error.filename))):
-        found += [os.path.join(place, file) for file in files if file.endswith(b".csv")]
-    return sorted(name for name in found if not is_other(name))
+    for place, folders, files in os.walk(folder, onerror=lambda error: found.append(os.fsencode(error.filename))):
+        entries = [(os.path.join(place, name), True) for name in folders] + [(os.path.join(place, name), False) for name in files]
+        found += [path for path, is_folder in entries if is_taken(path, is_folder)]
+        folders[:] = filter(is_utf8, folders)
+    return sorted(found)
 
 
 def names_in(path, end):
@@ -341,21 +364,22 @@ def write(data):
 
 def run(words):
     """Judges all recordings that the words name, writes the sums and says the reasons. Answers the greatest exit status."""
-    lost, names = [], []
+    names = []
     for path in map(os.fsencode, words.paths):
-        names += names_below(path, lost) if os.path.isdir(path) else [path]
+        names += names_below(path) if is_utf8(path) and os.path.isdir(path) else [path]
     names += names_in(words.files_from, b"\0" if words.null else b"\n") if words.files_from else []
-    if not names and not lost:
+    if not names:
         raise Unable("there are no recordings")
     engine = Cluster(words.scheduler) if words.scheduler else Processes(words.workers or len(os.sched_getaffinity(0)))
-    progress = Progress(len(names), not words.no_progress and sys.stderr is not None and sys.stderr.isatty())
+    progress = Progress(sum(map(is_utf8, names)), not words.no_progress and sys.stderr is not None and sys.stderr.isatty())
     try:
         here = os.getcwdb()
-        answers = judge_all(engine, [os.path.join(here, name) for name in names], Limits(words.views, words.events), words.bag, progress.tell)
+        paths = [os.path.join(here, name) for name in names if is_utf8(name)]
+        judged = iter(judge_all(engine, paths, Limits(words.views, words.events), words.bag, progress.tell))
+        answers = [next(judged) if is_utf8(name) else (FAILED, "is not UTF-8") for name in names]
     finally:
         progress.end()
         engine.close()
-    names, answers = names + lost, answers + [(FAILED, "can't be opened")] * len(lost)
     for name, (code, reason) in zip(names, answers):
         if reason:
             say((b"snapjudge: " if code == FAILED else b"") + shown(name) + b": " + reason.encode() + b"\n")

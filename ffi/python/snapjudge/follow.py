@@ -16,7 +16,7 @@ import traceback
 
 from snapjudge import MOST_EVENTS, STATUSES, report
 from snapjudge.bags import BYTES_AN_EVENT, FAILED, PIECE, REFUSED, UNOPENED, USUAL
-from snapjudge.cluster import INTERRUPTED, KINDS, Unable, Words, limit, names_below, natural, positive, say, shown, write
+from snapjudge.cluster import INTERRUPTED, KINDS, Unable, Words, is_utf8, limit, names_below, natural, positive, say, shown, write
 from snapjudge.windows import HEADER, PLAIN, RECORD, STAMPED, Cutter, Reader, Refusal, Waiting, require, window_of
 
 # Of how many events a window is at least, if not said.
@@ -50,6 +50,8 @@ class File:
 
     def __init__(self, path):
         self.path = path
+        if not is_utf8(path):
+            raise Trouble("is not UTF-8", path)
         try:
             if path == b"-" and sys.stdin is None:
                 # it is closed, and another file may have its number by now
@@ -97,7 +99,7 @@ class Files:
     """The files of a recording, one after the other: one alone, or all *.csv below a folder, in the order of their names."""
 
     def __init__(self, path):
-        self.folder = path if os.path.isdir(path) else None
+        self.folder = path if is_utf8(path) and os.path.isdir(path) else None
         self._lengths, self._next = {}, collections.deque(() if self.folder else [path])
 
     def following(self):
@@ -107,10 +109,11 @@ class Files:
         return self._next[0] if self._next else None
 
     def _list(self):
-        lost = []
-        shown = names_below(self.folder, lost)
+        shown = names_below(self.folder)
         # what comes while a folder is listed may be shown without what came before it, so the names up to the last are listed again
-        names = [name for name in names_below(self.folder, lost) if name <= shown[-1]] if shown else []
+        names = [name for name in names_below(self.folder) if name <= shown[-1]] if shown else []
+        # a folder that can't be listed stands among the names itself
+        lost = [name for name in names if name == self.folder or not name.endswith(b".csv")]
         if lost:
             raise Trouble("can't be opened", lost[0])
         last = max(self._lengths, default=b"")

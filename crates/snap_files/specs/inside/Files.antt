@@ -1,20 +1,26 @@
 -- The pages of a round, as they are made and written.
-use Rattle.std.specs.Prelude.{◌≡◌, ℕ, List, [], ◌∷◌, Option}
+use Rattle.std.specs.Prelude.{◌≡◌, ℕ, List, [], ◌∷◌, Option, Result, Err, IfErr}
 use Rattle.std.specs.Global.{Vec}
 use Rattle.std.specs.List.{AllZip}
 use Rattle.std.specs.Io.KnownBytes.{Appends}
+use Rattle.snap_core.specs.Counting.{Rose}
 use Rattle.snap_check.specs.declared.fault.RunFault.{RunFault}
 use Rattle.snap_check.specs.declared.fault.RunFault.TheVariants as faults
 use Rattle.snap_files.specs.declared.format.FileOptions.{FileOptions}
 use Rattle.snap_names.specs.declared.opener.Trouble.{Trouble}
-use Rattle.snap_names.specs.declared.opener.Trouble.TheVariants.{Unread, Memory}
+use Rattle.snap_names.specs.declared.opener.Trouble.TheVariants.{Memory}
 use Rattle.snap_files.specs.Files.{Answer, Opens, IsPage, Told, Page, written, said, greatest_code}
 
--- why a text that was opened has no status, by the fault of its check; what fails there as a write is in memory
-abbrev pub trouble_by : RunFault → Trouble
-trouble_by faults.Read = Unread
-trouble_by faults.Write = Memory
-trouble_by faults.Memory = Memory
+-- a run blames its reader only where the count of its failures rose
+abbrev pub BlamesReader : {A : Type 0} → ℕ → ℕ → Result A RunFault → Type 0
+BlamesReader old new result = IfErr result (λ fault. fault ≡ faults.Read → Rose old new)
+
+-- why a text that was opened has no status, by the fault of its check: of a failed read the opener says it, and what fails there as a
+-- write is in memory
+abbrev pub IsTroubleBy : Opens → List ℕ → RunFault → Trouble → Type 0
+IsTroubleBy opens name faults.Read trouble = opens name (Err trouble)
+IsTroubleBy opens name faults.Write trouble = trouble ≡ Memory
+IsTroubleBy opens name faults.Memory trouble = trouble ≡ Memory
 
 -- what is answered and written of each of some names, in the order of the names
 abbrev pub AreAnswered : Opens → FileOptions → List (Vec ℕ) → List (Answer × Vec ℕ) → Type 0

@@ -5,8 +5,8 @@ use Rattle.snap_tell.specs.Telling.{IsTold}
 use Rattle.snap_files.proofs.Written.{into_memory}
 use Rattle.snap_files.proofs.page.object.Goals as goal
 
-pub returns : goal.returns
-returns g c =
+pub returns-clause-page : goal.returns-clause-page
+returns-clause-page g c =
     into_memory (λ (text : List ℕ) (status : Status) (out : List ℕ). IsTold c.args.options.limit.events c.args.name.now c.args.options.views text status out)
-    (g.R.Read.remaining c.args.text) (g.R.Read.remaining (inner_of c.new-reader.result)) c.in_ok-status.status (inner_of c.new-writer.result) (inner_of c.tell_run.new.writer) c.into_inner.result
-    (ap g.R.Read.remaining c.new-reader.ensures.inner) (ap vec_items c.new-writer.ensures.inner ∙ c.new.ensures.items) c.into_inner.ensures c.in_ok-status.ensures.wrote
+    (g.R.Read.remaining (inner_of c.args.reader.now)) c.in_ok-status.status (inner_of c.new-writer.result) (inner_of c.tell_run.new.writer) c.into_inner.result
+    (ap vec_items c.new-writer.ensures.inner ∙ c.new.ensures.items) c.into_inner.ensures c.in_ok-status.ensures.wrote
