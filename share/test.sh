@@ -137,7 +137,7 @@ expect "a file below a file" 4 "" ./second check old.csv/none.csv
 expect_said "its name and the reason" "snapjudge: old.csv/none.csv: no such file"
 for command in check shrink explain draw; do
   expect "$command of a name that is not UTF-8" 4 "" ./second $command "$(printf '\377.csv')"
-  expect_said "the name and the reason" "$(printf 'snapjudge: \377.csv: is not UTF-8')"
+  expect_said "the name and the reason" 'snapjudge: \xff.csv: is not UTF-8'
 done
 for words in "check --views" record ""; do
   expect "a word that is not UTF-8 where no name stands: $words" 5 "" ./second $words "$(printf '\377')"
