@@ -20,6 +20,7 @@
 #include <errno.h>
 #include <fcntl.h>
 #include <limits.h>
+#include <poll.h>
 #include <signal.h>
 #include <unistd.h>
 
@@ -162,16 +163,18 @@ enum { SNAPSOFAR_SIGNALS = sizeof snapsofar_signals / sizeof *snapsofar_signals,
 
 /* What is kept; one for all files of a program. */
 typedef struct {
-    _Atomic bool is_taken;
+    _Atomic bool is_taken, is_dying;
     _Atomic(snaprecord *) recorder;
     char path[PATH_MAX];
     struct sigaction before[SNAPSOFAR_SIGNALS];
 } snapsofar_kept;
 __attribute__((weak)) snapsofar_kept snapsofar_of_process;
 
-/* Writes the file once, and lets the signal do what it did before. */
+/* Writes the file once, and lets the signal do what it did before. A second thread that dies waits, or the process would end before
+ * the file is whole. */
 static inline void snapsofar_die(int signal) {
     int error = errno;
+    while (atomic_exchange(&snapsofar_of_process.is_dying, true)) poll(NULL, 0, 1);
     snaprecord *recorder = atomic_exchange(&snapsofar_of_process.recorder, NULL);
     if (recorder) {
         int file = open(snapsofar_of_process.path, O_WRONLY | O_CREAT | O_TRUNC | O_CLOEXEC, 0666);
@@ -185,6 +188,7 @@ static inline void snapsofar_die(int signal) {
     }
     for (int i = 0; i < SNAPSOFAR_SIGNALS; i++)
         if (snapsofar_signals[i] == signal) sigaction(signal, &snapsofar_of_process.before[i], NULL);
+    atomic_store(&snapsofar_of_process.is_dying, false);
     raise(signal); /* it comes at the end of this handler */
     errno = error;
 }
@@ -197,6 +201,7 @@ static inline bool snapsofar_keep(snaprecord *recorder, const char *path) {
     if (strlen(path) >= sizeof kept->path || atomic_exchange(&kept->is_taken, true)) return false;
     strcpy(kept->path, path);
     sigemptyset(&action.sa_mask);
+    for (int i = 0; i < SNAPSOFAR_SIGNALS; i++) sigaddset(&action.sa_mask, snapsofar_signals[i]);
     for (int i = 0; i < SNAPSOFAR_SIGNALS; i++) sigaction(snapsofar_signals[i], &action, &kept->before[i]);
     atomic_store(&kept->recorder, recorder);
     return true;

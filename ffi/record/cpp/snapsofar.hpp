@@ -22,6 +22,7 @@
 #include <csignal>
 #include <cstring>
 #include <fcntl.h>
+#include <poll.h>
 #include <unistd.h>
 
 namespace snaprecord {
@@ -180,6 +181,7 @@ class Kept {
         struct sigaction action = {};
         action.sa_handler = die;
         action.sa_flags = SA_ONSTACK;
+        for (int other : signals) ::sigaddset(&action.sa_mask, other);
         for (std::size_t i = 0; i < signals.size(); i++) ::sigaction(signals[i], &action, &before[i]);
         kept = recorder;
     }
@@ -194,9 +196,11 @@ class Kept {
     }
 
   private:
-    // Writes the file once, and lets the signal do what it did before.
+    // Writes the file once, and lets the signal do what it did before. A second thread that dies waits, or the process would end
+    // before the file is whole.
     static void die(int signal) {
         const int error = errno;
+        while (is_dying.exchange(true)) ::poll(nullptr, 0, 1);
         const Recorder *own = kept.exchange(nullptr);
         if (own && write_so_far(*own, file)) {
             Out told(STDERR_FILENO);
@@ -207,12 +211,13 @@ class Kept {
         }
         for (std::size_t i = 0; i < signals.size(); i++)
             if (signals[i] == signal) ::sigaction(signal, &before[i], nullptr);
+        is_dying = false;
         ::raise(signal); // it comes at the end of this handler
         errno = error;
     }
 
     static constexpr std::array<int, 6> signals{SIGSEGV, SIGBUS, SIGFPE, SIGILL, SIGABRT, SIGTERM};
-    static inline std::atomic<bool> is_taken{false};
+    static inline std::atomic<bool> is_taken{false}, is_dying{false};
     static inline std::atomic<const Recorder *> kept{nullptr};
     static inline char file[PATH_MAX];
     static inline struct sigaction before[signals.size()];
