@@ -202,13 +202,14 @@ fn each_name_has_its_object(rt: HostRuntime) -> Result<(), Fail> {
     expect_checked(&rt, alloc, list, (Format::Json, 2), 4, written, said)
 }
 
-// In a report a name stands as its bytes are; in an object U+FFFD stands for what is not UTF-8.
+// In a report the bytes above 127 of a name that is not UTF-8 are escaped; in an object U+FFFD stands for them.
 #[test]
 fn a_name_need_not_be_unicode(rt: HostRuntime) -> Result<(), Fail> {
     let alloc = rt.alloc();
     let list: &[&[u8]] = &[b"lo\xffcked", b"st\xffale", b"st\xe2\x82ale"];
-    let said = b"snapjudge: lo\\xffcked: can't be opened\nsnapjudge: st\xe2\x82ale: no such file\n";
-    let report = b"st\xffale: regular no\nst\xffale: monotone yes\nst\xffale: atomic no\n";
+    let said =
+        b"snapjudge: lo\\xffcked: can't be opened\nsnapjudge: st\\xe2\\x82ale: no such file\n";
+    let report = b"st\\xffale: regular no\nst\\xffale: monotone yes\nst\\xffale: atomic no\n";
     expect_checked(&rt, alloc, list, (Format::Plain, 0), 4, report, said)?;
     let objects = "{\"name\":\"lo\u{fffd}cked\",\"status\":4,\"trouble\":\"can't be opened\"}\n\
          {\"name\":\"st\u{fffd}ale\",\"status\":3,\"too_few_views\":{\"views\":1,\"least\":2}}\n\
