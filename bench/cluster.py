@@ -3,7 +3,7 @@
 
 usage: cluster.py [FILES]      (build first: ffi/build.sh and ./snapjudge; Debian's Python has Dask by python3-distributed)
 
-It writes FILES recordings of 10 events into a folder, 100,000 if not said: of 100 files one is regular only, and of 250 one is not
+It writes FILES recordings of 10 events into a folder, 100,000 by default: of 100 files one is regular only, and of 250 one is not
 regular. The program counts them by `check --summary --files-from`, with 1, 2 and 4 workers, as many as the module has processes. All
 sums must be those of the lines that the program writes of each file, which are not timed. Last there are three workers at a scheduler,
 one of which is killed when half of the files are judged. Each run is made once, with the files in memory. The load is that of the last

@@ -3,11 +3,11 @@
 
 usage: compare.py --against PROGRAM [--program PROGRAM] [--texts N] [--seed S] [--jobs J]
 
-A build is a program, which is run once for each text, or the shared library of ffi/build.sh (a name that ends in .so), which
-is called in this process and is much faster. The texts come from the examples and from histories of generate.py, in both forms
-of text: without stamps, and with stamps, the records then shuffled. Text i is the same for the same seed, whatever the number
-of jobs. Each has up to three small changes: bytes, numbers, records, ends of lines, quotes; one in sixteen has none.
-The status is 1 where some text got two answers; the first ten of these are kept in the folder that is named.
+A build is a program or a library. A program is run once for each text. A name that ends in .so is the shared library of
+ffi/build.sh: it is called in this process, which is much faster. The texts come from the examples and from histories of
+generate.py, in both forms of text: without stamps, and with stamps, the records then shuffled. Text i is the same for the same
+seed, whatever the number of jobs. Each has up to three small changes: bytes, numbers, records, ends of lines, quotes; one in
+sixteen has none. The status is 1 if some text got two answers; the first ten of these are kept in the folder that is named.
 """
 import argparse
 import collections

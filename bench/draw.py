@@ -3,7 +3,7 @@
 
 usage: draw.py [--events N] [--repeats N] [PROGRAM]
 
-Histories have 65,536 events where nothing else is said. Times are the least of some runs (5, if not said), by the clock and of
+Histories have 65,536 events by default. Times are the least of some runs (5 by default), of wall time and of
 processor time. The bytes are those of the page.
 """
 import argparse
@@ -42,7 +42,7 @@ def main():
     parser.add_argument("--repeats", type=int, default=5)
     parser.add_argument("program", nargs="?", default=SNAPJUDGE)
     asked = parser.parse_args()
-    print("| shape | status | by the clock, ms | processor time, ms | bytes of the page |\n|---|---|---|---|---|")
+    print("| shape | status | wall time, ms | processor time, ms | bytes of the page |\n|---|---|---|---|---|")
     with tempfile.TemporaryDirectory() as room:
         for name in SHAPES:
             print(row(os.path.abspath(asked.program), name, asked.events, asked.repeats, room), flush=True)

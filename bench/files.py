@@ -5,7 +5,7 @@ usage: files.py [REPEATS [PROGRAM ..]]
 
 Each program judges 10,000 files of 10 events, 1,000 files of 1,000 events, and one file of 65,536 events, by 1, 2 and 4 workers. So
 does the library in one process: one thread reads the files and judges them one after another. Its start is not counted. The runs are
-made in turn, 5 times where nothing else is said. The table has the least and the median of the seconds by the clock, and the peak
+made in turn, 5 times by default. The table has the least and the median of the seconds of wall time, and the peak
 memory of a program in millions of bytes. All reports of a set must be the same byte for byte. The load is that of the last minute.
 """
 import hashlib
@@ -43,7 +43,7 @@ def write_set(room, files, events):
 
 
 def measure(program, workers, names, report):
-    """The seconds by the clock, the peak memory, and a sum of the report of one run."""
+    """The seconds of wall time, the peak memory, and a sum of the report of one run."""
     begun = time.perf_counter()
     status, _, peak = run([program, "check", "--workers", str(workers), *names], os.devnull, report)
     taken = time.perf_counter() - begun
@@ -54,7 +54,7 @@ def measure(program, workers, names, report):
 
 
 def by_library(names):
-    """The seconds by the clock, and a sum of what the library wrote in the form of a program's report."""
+    """The seconds of wall time, and a sum of what the library wrote in the form of a program's report."""
     room, found = bytearray(ROOM), []
     begun = time.perf_counter()
     for name in names:
@@ -67,7 +67,7 @@ def by_library(names):
 
 
 def measure_library(names):
-    """The same as of a program, but for the memory. A process of its own has it, so that this one stays small."""
+    """The same as of a program, except for the memory. A process of its own has it, so that this one stays small."""
     with multiprocessing.Pool(1) as pool:
         taken, found = pool.apply(by_library, (names,))
     return taken, 0, found

@@ -1,9 +1,9 @@
 #!/usr/bin/env python3
-"""Times first builds, each in a fresh clone of what is committed here: by the clock, in processor time, and the load before it.
+"""Times first builds, each in a fresh clone of what is committed here: wall time, processor time, and the load before it.
 
-usage: first_build.py [RUNS [PROCESSORS]]        (one run on all processors where nothing else is said)
+usage: first_build.py [RUNS [PROCESSORS]]        (one run on all processors by default)
 
-The last run's seconds and memory by crate go to share/proof-times.txt, by which a build tells how long it will still take.
+The last run's seconds and memory by crate go to share/proof-times.txt, by which a build estimates how long it will still take.
 """
 import os
 import resource
@@ -25,7 +25,7 @@ def main(words):
     runs = int(words[0]) if words else 1
     processors = sorted(os.sched_getaffinity(0))[: int(words[1]) if len(words) > 1 else None]
     os.sched_setaffinity(0, processors)
-    print("| processors | load before | by the clock, minutes | processor time, minutes |\n|---|---|---|---|")
+    print("| processors | load before | wall time, minutes | processor time, minutes |\n|---|---|---|---|")
     for _ in range(runs):
         with tempfile.TemporaryDirectory() as room:
             tree = f"{room}/tree"

@@ -3,10 +3,10 @@
 
 usage: follow.py [--events N] [--repeats N] [PROGRAM]
 
-The recording has 1,000,000 events, where nothing else is said, with a quiet moment behind each call. Its lines end in LF or in CR LF,
+The recording has 1,000,000 events by default, with a quiet moment after each call. Its lines end in LF or in CR LF,
 and no field is quoted, or the last one of each record, or all fields. A last text has the header and as many empty lines.
 
-Times are processor time, user and system, in milliseconds. The runs are made in turn, 5 times where nothing else is said, and the
+Times are processor time, user and system, in milliseconds. The runs are made in turn, 5 times by default, and the
 least of each counts. The ratio is the time of following to that of following the lines that end in LF without quotes. All ways of one
 recording must have the same lines of windows byte for byte.
 """

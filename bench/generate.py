@@ -75,7 +75,7 @@ def step(state, p, board):
 
 
 def crossed(events, components, shown_by):
-    """Updates that stay open while views begin and end; `shown_by` tells of the i-th of n views which of them it shows."""
+    """Updates that stay open while views begin and end; `shown_by` says which of them the i-th of n views shows."""
     rows = [f"begin,{k},update,{k}:1:{3 + k}" for k in range(components)]
     views = (events - 2 * components) // 2
     for i in range(views):

@@ -1,7 +1,7 @@
 """Histories of every shape that a user or an attacker can bring, each the same in each run.
 
 A shape is a function with a name and a line that says what it is. It takes a number of events, a source of random numbers and,
-where it stands for several shapes, what tells them apart. It gives the rows of a history, or a whole text. Rows with stamps are
+if it stands for several shapes, what tells them apart. It gives the rows of a history, or a whole text. Rows with stamps are
 pairs of stamp and row.
 """
 import random
@@ -9,7 +9,7 @@ import re
 
 from generate import any_numbers, atomic, crossed, entries, overlapping, stale, toggling, update, writes
 
-# how many events a history may have, if not said
+# how many events a history may have by default
 MOST_EVENTS = 65536
 GREATEST = 2**32 - 1
 HEADER, STAMPED = "event,process,op,data", "at,event,process,op,data"
@@ -51,7 +51,7 @@ def texts_of(name, events):
 
 
 def bytes_of(events):
-    """How many bytes a text may have that may have so many events."""
+    """How many bytes a text with this limit of events may have."""
     return events * 1024
 
 
@@ -69,7 +69,7 @@ def about(name):
 
 @shape("none overlaps, width {}", WIDTHS)
 def one_by_one(events, _draw, components, processes=8):
-    """Calls of which none overlaps another: the components are updated in turn, and after each update comes a view."""
+    """Calls that do not overlap: the components are updated in turn, and after each update comes a view."""
     board, rows = [0] * components, []
     for i in range(events // 4):
         k = i % components
@@ -122,13 +122,13 @@ def late_writes(events, draw, components):
 
 @shape("any numbers, width {}", WIDTHS)
 def any_shown(events, draw, components):
-    """Calls of which none overlaps another, and views that show any numbers up to the next: all kinds of faults."""
+    """Calls that do not overlap, and views that show any numbers up to the next: all kinds of faults."""
     return any_numbers(events, components, draw)
 
 
 @shape("none overlaps, {} {}", [[1, "process"], [1000, "processes"]])
 def by_processes(events, draw, processes, _word):
-    """Calls of so many processes, of which none overlaps another."""
+    """Calls of this many processes, of which none overlaps another."""
     return one_by_one(events, draw, 8, processes)
 
 
@@ -161,7 +161,7 @@ def empty(events, draw):
 
 @shape("views alone")
 def views_alone(events, _draw):
-    """Views of a board that has no update."""
+    """Views of a board without updates."""
     return views_of(events, "")
 
 
@@ -209,7 +209,7 @@ def crossed_part(events, draw, part):
 
 
 def with_views(rows, place, change):
-    """The same rows, where each chosen view shows what `change` makes of the component, number and value of its entries."""
+    """The same rows, in which each chosen view shows what `change` makes of the component, number and value of its entries."""
     ends = [i for i, row in enumerate(rows) if re.match(r"end,\d+,view,", row)]
     rows = rows[:]
     for count, at in enumerate(ends):
@@ -228,7 +228,7 @@ def wrong_values(events, draw, place):
 
 @shape("updates shown early, {}", FAULTY)
 def early(events, draw, place):
-    """Views that show the update behind the last of each component: proximity, and integrity at the last."""
+    """Views that show the update after the last of each component: proximity, and integrity at the last."""
     return with_views(one_by_one(events, draw, 8), place, lambda k, number, value: (k, number + 1, value + 3))
 
 
@@ -305,7 +305,7 @@ def greatest_number(events, draw, place):
 
 @shape("numbers drawn, none overlaps, width {}", [[1], [8], [64]])
 def drawn_one_by_one(events, draw, components):
-    """Calls of which none overlaps another, and every number of every view drawn from all that there are."""
+    """Calls that do not overlap, and every number of every view drawn from all that there are."""
     return with_views(one_by_one(events, draw, components), "every view", lambda k, _, value: (k, draw.randrange(1, 2**32), value))
 
 
@@ -332,7 +332,7 @@ def few_far(events, draw, few, components):
 
 @shape("stamps {}", [["in order"], ["reversed"], ["at random"]])
 def stamps(events, draw, order):
-    """A text with stamps, whose lines stand in this order."""
+    """A text with stamps, whose lines are in this order."""
     rows = list(enumerate(atomic(events, 8, draw)))
     if order == "at random":
         draw.shuffle(rows)
@@ -359,7 +359,7 @@ def empty_lines(events, draw):
 
 @shape("refused at the {} record", [["first"], ["last"]])
 def refused(events, draw, place):
-    """A record that is none of a history, before or behind the others."""
+    """A record that is not one of a history, before or after the others."""
     rows = atomic(events - 1, 8, draw)
     return ["begin,0,nothing,", *rows] if place == "first" else [*rows, "begin,0,nothing,"]
 

@@ -4,7 +4,7 @@
 usage: instructions.py [--program PROGRAM] [--functions N] [KIND ..]
 
 Each history is made by generate.py from the number 1; with KINDs only those are counted. The counts do not depend on what else the
-machine does. A part has the instructions in its functions and in all that these call, in millions. A part whose functions were
+machine does. A part has the instructions in its functions and in everything that these call, in millions. A part whose functions were
 drawn into their callers counts with these. With --functions the N functions that take most are printed too.
 """
 import argparse
@@ -51,7 +51,7 @@ def costs_in(out):
 
 
 def part(costs, patterns):
-    """The cost of the functions of a part; of a recursive function, whose calls of itself stand apart, its outermost alone."""
+    """The cost of the functions of a part; of a recursive function, whose calls of itself are listed apart, its outermost alone."""
     total = 0
     for pattern in patterns:
         by_name = {}

@@ -1,9 +1,9 @@
 #!/usr/bin/env python3
 """What a proof takes at least: processor seconds of a crate with one function that only adds, and of one with twenty.
 
-usage: least.py [RUNS]        (one run where nothing else is said; each crate's least time is told)
+usage: least.py [RUNS]        (one run by default; each crate's least time is printed)
 
-The first tells what each crate takes before its own functions, and the difference what each function takes that does next to nothing.
+The first is what a crate takes before its own functions. The difference is what a function takes that does next to nothing.
 """
 import os
 import resource
@@ -32,7 +32,7 @@ pub fn add_NUMBER(n: u32) -> u32
 
 
 def seconds_of(top, functions):
-    """The processor seconds in which a crate with so many functions is proved from nothing, in one job."""
+    """The processor seconds in which a crate with this many functions is proved from nothing, in one job."""
     folder = f"{top}/crates/adds_{functions}"
     os.makedirs(f"{folder}/src", exist_ok=True)
     shutil.rmtree(f"{folder}/out", ignore_errors=True)

@@ -1,66 +1,140 @@
 #!/usr/bin/env python3
-"""Prints how many calls of recorded runs overlapped a call of another worker, as a table: of each of RUNS runs of
-`record --workers WORKERS --rounds ROUNDS`, its calls, those that overlapped, and their share. Then come the overlapping pairs
-of two updates, of an update and a view, and of two views; whether `check` says that the history is atomic; and the component
-of the first read fault. The last line is the mean share.
+"""Prints what recorded runs have in them, as a table: a row for each number of workers and each program. Each program records RUNS runs by
+`record --workers WORKERS --rounds ROUNDS`, in turn with the others.
 
-usage: overlaps.py [RUNS [WORKERS [ROUNDS [PROGRAM]]]]; 20 runs of 2 workers in 2,048 rounds where nothing else is said
+usage: overlaps.py [RUNS [ROUNDS [PROGRAM ..]]]; by default 20 runs in 512 rounds by built/snapjudge
 
-Two calls overlap where one begins while the other has not ended.
+Two calls overlap if one begins while the other has not ended. Of all calls the table has the share that overlaps a call of another
+worker, in the mean and in the least run. Of the stores it has those with a begin inside, or with a whole call. Of the faults it has the
+share of each component: in write faults the component of the later update, in read faults that of which the first view shows more. Write
+faults are all counted, and read faults of views that begin within eight of each other. Then come the runs that `check` calls atomic, and
+the medians of the wall time and the processor time of a run in milliseconds.
 """
+import collections
 import os
+import resource
+import statistics
 import subprocess
 import sys
+import time
 
 HERE = os.path.dirname(os.path.abspath(__file__))
+WORKERS = (2, 3, 4, 8)
+# Views that begin so close to each other are compared.
+NEAR = 8
 
 
-def record(program, workers, rounds):
-    """The text of one run."""
-    words = [program, "record", "--workers", str(workers), "--rounds", str(rounds)]
-    return subprocess.run(words, check=True, capture_output=True).stdout
+class Call:
+    """A call: its worker, the places of its events, and what a view shows of each component or what a store stores."""
+
+    def __init__(self, worker, is_view, begun, entry):
+        self.worker, self.is_view, self.begun, self.entry = worker, is_view, begun, entry
+        self.ended, self.has_begin, self.has_call, self.overlaps, self.shown = None, False, False, False, {}
 
 
-def verdict(program, text):
-    """Whether the report on a text says that its history is atomic, and at which component it names the first read fault."""
-    report = subprocess.run([program, "check"], input=text, capture_output=True).stdout.decode()
-    reads = [line.split()[-1] for line in report.splitlines() if line.startswith("read ")]
-    return "yes" if "\natomic yes\n" in report else "no", reads[0] if reads else ""
+def entries(data):
+    """What is shown: of each component its number."""
+    return {int(k): int(n) for k, n, _ in (entry.split(":") for entry in data.split())}
 
 
-def overlaps(text):
-    """How many calls a text has, how many of them overlap a call of another process, and how many pairs of two updates, of an
-    update and a view, and of two views overlap."""
-    calls, found, pairs = 0, 0, [0, 0, 0]
-    # of each process with an open call, whether that call was found to overlap, and whether it is a view
-    pending = {}
-    for line in text.splitlines()[1:]:
-        event, process, op = line.split(b",", 3)[:3]
-        if event == b"begin":
-            calls += 1
-            is_view = op == b"view"
+def calls_of(text):
+    """The calls of a text in the order of their begins, with what they have inside."""
+    calls, pending = [], {}
+    for place, line in enumerate(text.splitlines()[1:]):
+        event, worker, op, data = line.split(",", 3)
+        if event == "begin":
+            call = Call(worker, op == "view", place, entries(data))
             for other in pending.values():
-                other[0] = True
-                pairs[other[1] + is_view] += 1
-            pending[process] = [len(pending) > 0, is_view]
+                other.has_begin = other.overlaps = call.overlaps = True
+            calls.append(call)
+            pending[worker] = call
         else:
-            found += pending.pop(process)[0]
-    return calls, found, pairs
+            call = pending.pop(worker)
+            call.ended, call.shown = place, entries(data)
+            for other in pending.values():
+                other.has_call = other.has_call or other.begun < call.begun
+    return calls
+
+
+def write_faults(views, updates, components):
+    """How many write faults there are by the component of the later update."""
+    found = collections.Counter()
+    for view in views:
+        # of the updates that the view misses first, the one that ended first
+        missed = min((updates[j, view.shown.get(j, 0) + 1].ended for j in components if (j, view.shown.get(j, 0) + 1) in updates), default=None)
+        for k, n in view.shown.items():
+            if missed is not None and missed < updates[k, n].begun:
+                nexts = (updates.get((j, view.shown.get(j, 0) + 1)) for j in components)
+                found[k] += sum(it is not None and it.ended < updates[k, n].begun for it in nexts)
+    return found
+
+
+def read_faults(views, components):
+    """How many read faults views have that begin close to each other, by the components of which the first shows more."""
+    found = collections.Counter()
+    for at, one in enumerate(views):
+        for other in views[at + 1 : at + 1 + NEAR]:
+            for r, s in ((one, other), (other, one)):
+                more = [k for k in components if r.shown.get(k, 0) > s.shown.get(k, 0)]
+                if more and (r.ended < s.begun or any(r.shown.get(k, 0) < s.shown.get(k, 0) for k in components)):
+                    found.update(more)
+    return found
+
+
+def used_by_children():
+    """The processor time of all programs that have ended, in seconds."""
+    used = resource.getrusage(resource.RUSAGE_CHILDREN)
+    return used.ru_utime + used.ru_stime
+
+
+class Row:
+    """What the runs of one program and one number of workers have."""
+
+    def __init__(self):
+        self.shares, self.begins, self.inside, self.atomic = [], [], [], 0
+        self.writes, self.reads = collections.Counter(), collections.Counter()
+        self.walls, self.times = [], []
+
+    def add(self, program, workers, rounds):
+        """Records one run and looks at it."""
+        begun, used = time.monotonic(), used_by_children()
+        words = [program, "record", "--workers", str(workers), "--rounds", str(rounds)]
+        text = subprocess.run(words, check=True, capture_output=True, text=True).stdout
+        self.walls.append(1000 * (time.monotonic() - begun))
+        self.times.append(1000 * (used_by_children() - used))
+        calls = calls_of(text)
+        views, stores = [call for call in calls if call.is_view], [call for call in calls if not call.is_view]
+        updates = {(k, n): call for call in stores for k, n in call.entry.items()}
+        self.shares.append(100 * sum(call.overlaps for call in calls) / len(calls))
+        self.begins.append(100 * sum(call.has_begin for call in stores) / len(stores))
+        self.inside.append(100 * sum(call.has_call for call in stores) / len(stores))
+        self.writes += write_faults(views, updates, range(workers))
+        self.reads += read_faults(views, range(workers))
+        judged = subprocess.run([program, "check", "--quiet"], input=text, stdout=subprocess.DEVNULL, text=True)
+        self.atomic += judged.returncode == 0
+
+    def cells(self, workers):
+        """The cells of the row."""
+        spread = [" / ".join(f"{100 * of[k] / of.total():.0f}" for k in range(workers)) if of else "none" for of in (self.reads, self.writes)]
+        means = [statistics.mean(of) for of in (self.shares, self.begins, self.inside)]
+        shares = [f"{means[0]:.1f}", f"{min(self.shares):.1f}", f"{means[1]:.1f}", f"{means[2]:.1f}"]
+        times = [f"{statistics.median(of):.1f}" for of in (self.walls, self.times)]
+        return [*shares, *spread, f"{self.atomic}", *times]
 
 
 def main():
-    runs, workers, rounds = [int(word) for word in sys.argv[1:4]] + [20, 2, 2048][len(sys.argv[1:4]):]
-    program = os.path.realpath(sys.argv[4] if len(sys.argv) > 4 else os.path.join(HERE, "..", "built", "snapjudge"))
-    print("| run | calls | overlapping | share | two updates | update and view | two views | atomic | first read fault at |")
-    print("|---|---|---|---|---|---|---|---|---|")
-    shares = []
-    for run in range(1, runs + 1):
-        text = record(program, workers, rounds)
-        calls, found, pairs = overlaps(text)
-        shares.append(found / calls)
-        kinds = " | ".join(f"{count:,}" for count in pairs)
-        print(f"| {run} | {calls:,} | {found:,} | {100 * found / calls:.1f} % | {kinds} | {' | '.join(verdict(program, text))} |", flush=True)
-    print(f"| mean | | | {100 * sum(shares) / runs:.1f} % | | | | | |")
+    runs, rounds = [int(word) for word in sys.argv[1:3]] + [20, 512][len(sys.argv[1:3]) :]
+    programs = [os.path.realpath(word) for word in sys.argv[3:] or [os.path.join(HERE, "..", "built", "snapjudge")]]
+    print("| workers | program | overlap, % | least | stores with a begin inside, % | with a call inside, % "
+          "| read faults by component, % | write faults by component, % | atomic runs | wall ms | processor ms |")
+    print("|---|---|---|---|---|---|---|---|---|---|---|")
+    for workers in WORKERS:
+        rows = [Row() for _ in programs]
+        for _ in range(runs):
+            for row, program in zip(rows, programs):
+                row.add(program, workers, rounds)
+        for row, name in zip(rows, sys.argv[3:] or ["built/snapjudge"]):
+            print(f"| {workers} | `{name}` | {' | '.join(row.cells(workers))} |", flush=True)
 
 
 main()

@@ -1,14 +1,14 @@
 #!/usr/bin/env python3
-"""Prints where the time of `snapjudge check` goes, by the clock: the text, the tally, the order and the report.
+"""Prints where the time of `snapjudge check` goes, in wall time: the text, the tally, the order and the report.
 
 usage: parts.py [--against PROGRAM] [--runs N] [KIND ..]
 
 Each history is made by generate.py from the number 1. With `--views 32768`, more views than it has, a check ends when its text
-is read and its calls are indexed; with `--quiet` it ends after the tally, but for three lines. So the tally is what `--quiet`
-takes beyond `--views`, the order and the report are what the whole takes beyond `--quiet`, and all beside the tally is the whole
-without it. It is told for one worker, and the tally for two besides.
+is read and its calls are indexed. With `--quiet` it ends after the tally, except for three lines. So the tally is what `--quiet`
+takes beyond `--views`. The order and the report are what the whole takes beyond `--quiet`. The rest is the whole without the
+tally. It is printed for one worker, and the tally for two as well.
 
-Each time is the least of N runs (40, if not said), taken in turn, in milliseconds from the start of the process to its end. What
+Each time is the least of N runs (40 by default), taken in turn, in milliseconds from the start of the process to its end. What
 is written is thrown away. With --against another judge of the same text runs in turn with the others.
 """
 import argparse

@@ -1,10 +1,10 @@
 #!/usr/bin/env python3
 """Seconds of the proofs by crate, by function and by part of a proof, from the times of the files that the prover wrote.
 
-usage: proofs.py [MOST]        (after a first `./build --keep`; MOST functions are told, 30 where it is not said)
+usage: proofs.py [MOST]        (after a first `./build --keep`; MOST functions are printed, 30 by default)
 
 The prover writes a file for each part of a proof as soon as it has checked it. The span between two files that come one after the
-other is counted to the later. Where a crate was proved by several jobs, what they did at the same time is so counted once.
+other is counted to the later. If a crate was proved by several jobs, what they did at the same time is so counted once.
 """
 import collections
 import os
@@ -12,7 +12,7 @@ import re
 import sys
 
 TOP = os.path.dirname(os.path.dirname(os.path.abspath(__file__)))
-# A longer span is no proof: the check was run again later.
+# A longer span is not a proof: the check was run again later.
 PAUSE = 120
 # The parts of a proof, each with what the names of its files have; the first that fits counts.
 PARTS = [
@@ -22,7 +22,7 @@ PARTS = [
     ("definitions and contracts", re.compile("-specs")),
     ("lemmas", re.compile("")),
 ]
-# The last words of a file's name that tell the part of a function's proof and not the function.
+# The last words of a file's name that name the part of a function's proof and not the function.
 PART = re.compile(r"[A-Z]\w*$|decls$|\w*-\w*$")
 
 

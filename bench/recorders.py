@@ -1,9 +1,9 @@
 #!/usr/bin/env python3
 """Prints how many runs of right and of wrong objects the drivers of the recorders catch, by their options, and what recording costs.
 
-usage: recorders.py [RUNS [PROGRAM [OBJECT ..]]]; 200 runs where no number is given, and the costs alone where it is 0. Where objects
-of recorders/objects.c are named, it prints their rows alone. Where `batches` is named, it prints how long runs of Java take by how many
-of them one start of the program judges; of three times in turn the least.
+usage: recorders.py [RUNS [PROGRAM [OBJECT ..]]]; 200 runs if no number is given, and the costs alone if it is 0. If objects of
+recorders/objects.c are named, it prints their rows alone. If `batches` is named, it prints how long runs of Java take, by how many
+of them one start of the program judges. Each time is the least of three, taken in turn.
 
 The objects are those of recorders/objects.c, and those of ffi/record in each language. A language whose compiler is missing is left out.
 """
@@ -67,7 +67,7 @@ def output(command, folder):
 
 
 def drive(command, name, options, runs, folder):
-    """How many of so many runs were atomic, and how many milliseconds one took."""
+    """How many of these runs were atomic, and how many milliseconds one took."""
     begun = time.monotonic()
     # few short runs may have no overlap, which here is a count like any other
     words = [*command, name, *options.split(), "--runs", str(runs), "--views", "0"]
@@ -79,13 +79,13 @@ def drive(command, name, options, runs, folder):
 
 
 def print_caught(said, command, name, options, runs, folder):
-    """A row of the table: of so many runs those that were caught, and how long one took."""
+    """A row of the table: of these runs those that were caught, and how long one took."""
     atomic, milliseconds = drive(command, name, options, runs, folder)
     print(f"| {said} | {f'`{options}`' if options else ''} | {runs - atomic} of {runs} | {milliseconds:.1f} |", flush=True)
 
 
 def java_of(most, folder):
-    """The command of the boards in Java, whose driver judges at most so many runs by one start of the program."""
+    """The command of the boards in Java, whose driver judges at most this many runs by one start of the program."""
     room = os.path.join(folder, f"java-{most}")
     shutil.copytree(f"{RECORD}/java", room)
     with open(f"{room}/SnapDriver.java", "r+", encoding="ascii") as file:

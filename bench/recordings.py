@@ -15,7 +15,7 @@ PROGRAM = os.environ.get("SNAPJUDGE", os.path.join(TOP, "built", "snapjudge"))
 PYTHON = os.path.join(TOP, "ffi", "python")
 # What a worker and a scheduler find; a machine that is this one answers soon, or is dead.
 SETTINGS = {"PYTHONPATH": PYTHON, "DASK_DISTRIBUTED__COMM__TIMEOUTS__CONNECT": "5s"}
-# The recordings that are not atomic: each kind by an example, every so many of them, from this one on.
+# The recordings that are not atomic: each kind by an example, at this distance, from this one on.
 OTHERS = (("new-old-inversion", 100, 37), ("stale-view", 250, 101), ("skipped-number", 1000, 702))
 # The exit status that belongs to the three verdicts.
 STATUS = {b"regular yes, monotone yes, atomic yes": 0, b"regular yes, monotone yes, atomic no": 1, b"regular yes, monotone no, atomic no": 1,
@@ -25,7 +25,7 @@ START = 60
 
 
 def write_recordings(room, count, missing=None):
-    """Writes so many recordings into a folder, but for a missing one, and returns the names of all."""
+    """Writes this many recordings into a folder, except for a missing one, and returns the names of all."""
     atomic = texts_of("atomic, width 2", 10)[0]
     names = [b"%06d.csv" % number for number in range(count)]
     for number, name in enumerate(names):
@@ -57,7 +57,7 @@ def program_answers(room, names):
 
 
 def program_sums(room, names, workers):
-    """The sums that the program writes of several files, which it has from a list, by so many threads."""
+    """The sums that the program writes of several files, which it has from a list, by this many threads."""
     command = [PROGRAM, "check", "--summary", "--no-progress", "--workers", str(workers), "-0", "--files-from", "-"]
     ran = subprocess.run(command, cwd=room, input=b"\0".join(names), stdout=subprocess.PIPE, stderr=subprocess.DEVNULL, check=False)
     return ran.stdout

@@ -4,16 +4,15 @@
 usage: run.py [--against PROGRAM] [--repeats N] [--median] [--workers W] [--pieces P] [--events N] [--most COMPONENTS] [KIND ..]
        run.py --growth [--against PROGRAM] [--repeats N] [--median] [--pieces P] [KIND ..]
 
-Each history is made by generate.py from the number 1. With one worker, with W (2, if not said) and, where another judge of the same
-text and report is given, by that one, it is judged in turn, N times (7, if not said), and the least time of each counts, or with
---median the one in the middle. The reports are compared byte for byte. PROGRAM is called as `PROGRAM check`, with the history on its
-standard input; words that stand behind it in one argument are put behind `check`. With --pieces the views are cut into so many
-pieces. With --events each kind and number of components is judged once, with so many events, and with --most only histories of at
-most so many components. With --growth each kind is judged with 65,536, 262,144 and 1,048,576 events by 1, 2 and 4 workers, beside an
-earlier program where --against names one: it is given the same options. All run in an environment in which the C library takes memory in large pages, as docs/MANY.md tells how to
-ask for them.
+Each history is made by generate.py from the number 1. It is judged with one worker and with W (2 by default). If another judge of the
+same text and report is given, it judges too. They take turns, N times (7 by default). The least time of each counts, or with --median
+the one in the middle. The reports are compared byte for byte. PROGRAM is called as `PROGRAM check`, with the history on its standard
+input; words that follow it in one argument come after `check`. With --pieces the views are cut into P pieces. With --events each kind
+and number of components is judged once, with N events, and with --most only histories of at most COMPONENTS components. With --growth
+each kind is judged with 65,536, 262,144 and 1,048,576 events by 1, 2 and 4 workers. An earlier program that --against names gets the
+same options. All run in the environment of this script, in which a user can ask for large pages of memory, as docs/MANY.md says.
 
-The first row is of a process that does nothing.
+The first row is for a process that does nothing.
 """
 import argparse
 import filecmp
@@ -27,8 +26,6 @@ import time
 
 HERE = os.path.dirname(os.path.abspath(__file__))
 SNAPJUDGE = os.environ.get("SNAPJUDGE", os.path.join(HERE, "..", "built", "snapjudge"))
-# memory in large pages
-ENVIRONMENT = {**os.environ, "GLIBC_TUNABLES": "glibc.malloc.hugetlb=1:glibc.malloc.top_pad=67108864"}
 CASES = [
     ("atomic", 1024, 8), ("atomic", 4096, 8), ("atomic", 16384, 8), ("atomic", 65536, 8), ("atomic", 16384, 256), ("atomic", 65536, 256),
     ("pending", 16384, 8), ("pending", 65536, 8), ("pending", 16384, 256), ("pending", 65536, 256),
@@ -46,18 +43,18 @@ WORKERS = (1, 2, 4)
 
 
 def run(words, history, report):
-    """The status, the milliseconds by the clock and of user time, and the peak memory in MB of one run. What it says on standard
+    """The status, the milliseconds of wall time and of user time, and the peak memory in MB of one run. What it says on standard
     error is thrown away."""
     files = [(os.POSIX_SPAWN_OPEN, 0, history, os.O_RDONLY, 0), (os.POSIX_SPAWN_OPEN, 1, report, os.O_WRONLY | os.O_CREAT | os.O_TRUNC, 0o600),
              (os.POSIX_SPAWN_OPEN, 2, os.devnull, os.O_WRONLY, 0)]
     begun = time.perf_counter()
-    child = os.posix_spawn(words[0], words, ENVIRONMENT, file_actions=files)
+    child = os.posix_spawn(words[0], words, os.environ, file_actions=files)
     _, status, used = os.wait4(child, 0)
     return os.waitstatus_to_exitcode(status), (time.perf_counter() - begun) * 1000, used.ru_utime * 1000, used.ru_maxrss / 1024
 
 
 def measure(programs, history, room, repeats, chosen):
-    """Of each program the status, the milliseconds by the clock and of user time that are chosen of all runs, the peak memory, and
+    """Of each program the status, the milliseconds of wall time and of user time that are chosen of all runs, the peak memory, and
     whether its report is that of the first."""
     reports = [os.path.join(room, f"report{i}") for i in range(len(programs))]
     runs = [[] for _ in programs]
@@ -112,8 +109,8 @@ def main():
     words.add_argument("--repeats", type=int, default=7)
     words.add_argument("--median", action="store_true", help="take the median of the times in place of the least")
     words.add_argument("--workers", default="2")
-    words.add_argument("--pieces", metavar="P", help="cut the views into so many pieces")
-    words.add_argument("--events", metavar="N", help="judge each kind and number of components with so many events")
+    words.add_argument("--pieces", metavar="P", help="cut the views into P pieces")
+    words.add_argument("--events", metavar="N", help="judge each kind and number of components with N events")
     words.add_argument("--most", type=int, default=256, metavar="COMPONENTS", help="judge none with more components")
     words.add_argument("--growth", action="store_true", help="judge long histories by 1, 2 and 4 workers")
     words.add_argument("kinds", nargs="*", metavar="KIND")

@@ -1,13 +1,13 @@
 #!/usr/bin/env python3
-"""Prints how the scans of recorded runs went, as a table: of each of RUNS runs of `record --scan --stamped --rounds ROUNDS`, the
+"""Prints how the scans of recorded runs went, as a table over RUNS runs of `record --scan --stamped --rounds ROUNDS`. It has the
 share of scans that were interfered with, the mean tries of the others, and what `check` says of the history.
 
 usage: scans.py [RUNS [ROUNDS]]
 
 Each of two workers stores ROUNDS times and scans as often, with at most 64 tries. A scan that was interfered with leaves no
-record, so their number is that of the calls that the text lacks. The stamps that it lacks below its last are the 66 that such a
-scan draws, its begin, its tries and its end, and one for each try of the scans that answered. Those that a scan draws behind the
-last record are not seen, so the mean may be too low by a little where a run ends with a scan that was interfered with.
+record, so their number is that of the calls that the text lacks. The text lacks stamps below its last one. Such a scan draws 66
+of them: its begin, its tries and its end. The others are one for each try of the scans that answered. Stamps that a scan draws
+after the last record are not seen. So the mean may be a little too low if a run ends with a scan that was interfered with.
 """
 import os
 import subprocess
@@ -32,7 +32,7 @@ def judge(text):
 
 
 def measure(text, planned):
-    """How many of so many planned scans were interfered with, and the mean tries of the others."""
+    """How many of these planned scans were interfered with, and the mean tries of the others."""
     stamps = [int(line.split(b",", 1)[0]) for line in text.splitlines()[1:]]
     interfered = 2 * planned - len(stamps) // 2
     tries = stamps[-1] + 1 - len(stamps) - STAMPS_OF_INTERFERED * interfered

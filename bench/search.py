@@ -4,7 +4,7 @@
 usage: search.py [--repeats N] [--seconds S] [--megabytes M] [--events N ..] [PROGRAM]
 
 The searches are in search/search.cpp, which says what they are; they need `c++`. Each history goes to the program and to both searches
-in turn, N times (5 where nothing else is said), and the median of the processor times counts. It includes the start of the program and
+in turn, N times (5 by default), and the median of the processor times counts. It includes the start of the program and
 the reading of the text. A search that takes more than S seconds (60) or M megabytes (4096) gives up: it then ends without an answer,
 and is not tried with more events of this kind. What it answers is compared with the verdict `atomic`.
 

@@ -5,20 +5,19 @@ usage: shapes.py [--against PROGRAM [--stamped]] [--repeats N] [--sizes N,N,..] 
        shapes.py --list
        shapes.py --write SHAPE EVENTS
 
-PROGRAM is called as `PROGRAM check`, with the history on its standard input; words that stand behind the other judge in one
-argument, as in `--against "judge --monotone"`, are put behind `check`. The shapes are those of histories.py; where words are
-given, those whose names have one of them. The other judge is given the same history without stamps, in order, or with --stamped
-the same text. Where a size is greater than 65,536, the program is called with `--events`; tell the other judge the same by a word
-of its own.
+PROGRAM is called as `PROGRAM check`, with the history on its standard input. Words that follow the other judge in one argument,
+as in `--against "judge --monotone"`, come after `check`. The shapes are those of histories.py; if words are given, those whose
+names have one of them. The other judge is given the same history without stamps, in order, or with --stamped the same text. If
+a size is greater than 65,536, the program is called with `--events`; tell the other judge the same by a word of its own.
 
-Times are processor time, user and system, of all threads, or with --clock the time by the clock. The judges are called in turn, N times
-(5, if not said) or until they have taken four seconds, and the least time of each counts. With --piped `cat` hands them the history,
-so that neither can ask for the size of a file. In the row of a shape stand for each size the milliseconds of the
-program, those of the other judge, and the ratio. Then come, at the greatest size, the text in millions of bytes, the
-milliseconds a million bytes, the peak memory in millions of bytes, of which some 15 are the measuring program's own, and that a
-million bytes. The growth is the ratio of the times by byte at the greatest two sizes, each less the time of an empty text: more
-than 1.2 says that a shape grows faster than its text times the logarithm of it. The last column says whether the reports are
-the same byte for byte.
+Times are processor time, user and system, of all threads, or with --clock wall time. The judges are called in turn, N times (5 by
+default) or until they have taken four seconds, and the least time of each counts. With --piped `cat` hands them the history, so
+that neither can ask for the size of a file. The row of a shape has for each size the milliseconds of the program, those of the
+other judge, and the ratio. Then come figures at the greatest size: the text in millions of bytes, the milliseconds a million
+bytes, the peak memory in millions of bytes, and that a million bytes. Some 15 million bytes of the memory are the measuring
+program's own. The growth is the ratio of the times by byte at the greatest two sizes, each less the time of an empty text: more
+than 1.2 says that a shape grows faster than its text times the logarithm of it. The last column says whether the reports are the
+same byte for byte.
 """
 import argparse
 import filecmp
@@ -30,25 +29,24 @@ import tempfile
 import time
 
 from histories import MOST_EVENTS, SHAPES, about, bytes_of, texts_of
-from run import ENVIRONMENT
 
 SIZES = (4096, 16384, 65536)
-# after so many milliseconds a history is not judged again
+# after this many milliseconds a history is not judged again
 ENOUGH = 4000
 
 
 def run(words, history, report, by_clock=False, piped=False):
-    """The status, the milliseconds of processor time or by the clock, and the peak memory in bytes of one run. It reads the history as
+    """The status, the milliseconds of processor time or of wall time, and the peak memory in bytes of one run. It reads the history as
     a file, or piped from `cat`, whose time does not count."""
     files = [(os.POSIX_SPAWN_OPEN, 0, history, os.O_RDONLY, 0), (os.POSIX_SPAWN_OPEN, 1, report, os.O_WRONLY | os.O_CREAT | os.O_TRUNC, 0o600),
              (os.POSIX_SPAWN_OPEN, 2, os.devnull, os.O_WRONLY, 0)]
     if piped:
         text, end = os.pipe()
-        cat = os.posix_spawnp("cat", ["cat", history], ENVIRONMENT, file_actions=[(os.POSIX_SPAWN_DUP2, end, 1)])
+        cat = os.posix_spawnp("cat", ["cat", history], os.environ, file_actions=[(os.POSIX_SPAWN_DUP2, end, 1)])
         os.close(end)
         files[0] = (os.POSIX_SPAWN_DUP2, text, 0)
     begun = time.perf_counter()
-    child = os.posix_spawn(words[0], words, ENVIRONMENT, file_actions=files)
+    child = os.posix_spawn(words[0], words, os.environ, file_actions=files)
     if piped:
         os.close(text)
     _, status, used = os.wait4(child, 0)
@@ -59,7 +57,7 @@ def run(words, history, report, by_clock=False, piped=False):
 
 
 def measure(programs, histories, room, asked):
-    """Of each program the least milliseconds and the most memory, and what is to be said of the reports."""
+    """The least milliseconds and the most memory of each program, and what the last column says of the reports."""
     reports = [os.path.join(room, f"report{i}") for i in range(len(programs))]
     runs = [[] for _ in programs]
     while len(runs[0]) < asked.repeats and sum(ms for done in runs for _, ms, _ in done) < ENOUGH:
@@ -122,12 +120,12 @@ def print_table(asked):
 def main():
     words = argparse.ArgumentParser(description="what `snapjudge check` costs by shape and size")
     words.add_argument("program", metavar="PROGRAM", nargs="?")
-    words.add_argument("--against", metavar="PROGRAM", help="another judge of the same text and report, and what is to stand behind `check`")
+    words.add_argument("--against", metavar="PROGRAM", help="another judge of the same text and report, and words after `check`")
     words.add_argument("--stamped", action="store_true", help="the other judge reads stamps too, and is given them")
     words.add_argument("--repeats", type=int, default=5)
     words.add_argument("--sizes", type=lambda text: [int(size) for size in text.split(",")], default=SIZES)
     words.add_argument("--workers", default="2")
-    words.add_argument("--clock", action="store_true", help="measure the time by the clock in place of processor time")
+    words.add_argument("--clock", action="store_true", help="measure wall time in place of processor time")
     words.add_argument("--piped", action="store_true", help="hand the history over by a pipe in place of a file")
     words.add_argument("--list", action="store_true", help="print the shapes alone")
     words.add_argument("--write", nargs=2, metavar=("SHAPE", "EVENTS"), help="write the text of a shape alone")

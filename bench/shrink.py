@@ -1,11 +1,11 @@
 #!/usr/bin/env python3
-"""Cuts generated histories down to witnesses, COUNT of each kind of first fault, and prints as a table how many events they have
+"""Cuts generated histories down to witnesses, COUNT of each kind of first fault. Prints as a table how many events they have
 before and after. Each witness is judged, and must have a fault of the same kind and the status of the history.
 
 usage: shrink.py [COUNT [EVENTS]]
 
-A history has up to EVENTS events of 4 components. Those of the kinds integrity and proximity are atomic but for one entry of one
-view; those of the kind read have updates that stay open while views show any of them; those of the kind write have updates and
+A history has up to EVENTS events of 4 components. Those of the kinds integrity and proximity are atomic except for one entry of one
+view. Those of the kind read have updates that stay open while views show any of them. Those of the kind write have updates, and
 one view that is open all the while. What comes out with another kind of first fault is left out.
 """
 import os
@@ -76,7 +76,7 @@ def text_of(rows):
 
 
 def measure(kind, count, most):
-    """How many events each of so many histories of a kind has, and its witness."""
+    """How many events each of this many histories of a kind has, and its witness."""
     sizes, seed = [], 0
     while len(sizes) < count:
         seed += 1

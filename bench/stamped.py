@@ -1,6 +1,7 @@
 #!/usr/bin/env python3
-"""Compares the time of `snapjudge check` on texts with stamps, whose records stand in reverse order, with that on the same
-history's text without stamps, and prints the table: the least milliseconds of several runs by the clock, in turn.
+"""Compares the time of `snapjudge check` on a text with stamps with that on the same history's text without them. The
+records with stamps are in reverse order. Prints a table of the least milliseconds of several runs, of wall time and in
+turn.
 
 usage: stamped.py [RUNS]
 """

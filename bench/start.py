@@ -1,13 +1,14 @@
 #!/usr/bin/env python3
-"""Prints what the start of `snapjudge check` costs, on a history of 10 events, beside an empty C program; and the same by a shell that
-starts the program, and by the launcher of this checkout. What the launcher takes more is the test whether the sources have changed.
+"""Prints what the start of `snapjudge check` costs, on a history of 10 events, beside an empty C program. Then it prints what the
+start costs by a shell, and by the launcher of this checkout. What the launcher takes more is the test whether the sources have
+changed.
 
 usage: start.py [RUNS [PROGRAM]]
 
-All are run in turn, 400 times where nothing else is said. Of the milliseconds by the clock and of processor time the table has
-the least and the median. Lines behind it tell how long a second thread of a C program takes to begin while the first goes on, as
-workers of a check do, and how long the first one takes to start it: where the system chooses its processor, where another one is
-named for it, and with the priority of real time where that is allowed. The last line has the load before it.
+All are run in turn, 400 times by default. Of the milliseconds of wall time and of processor time the table has the least and
+the median. Lines after it say how long a second thread of a C program takes to begin while the first goes on, as in a check.
+They also say how long the first one takes to start it: when the system chooses its processor, when another one is named for
+it, and with the priority of real time if that is allowed. The last line has the load before it.
 """
 import contextlib
 import os
@@ -92,14 +93,14 @@ def main():
             if subprocess.run(real_time, stdout=subprocess.DEVNULL, stderr=subprocess.DEVNULL).returncode == 0:
                 ways[", with the priority of real time"] = real_time
         begins = {way: [subprocess.run(words, stdout=subprocess.PIPE, check=True).stdout.split() for _ in range(RUNS)] for way, words in ways.items()}
-    print("| program | by the clock, ms | median | processor time, ms | median |\n|---|---|---|---|---|")
+    print("| program | wall time, ms | median | processor time, ms | median |\n|---|---|---|---|---|")
     for name, runs in taken.items():
         cells = [f"{of(times):.2f}" for times in zip(*runs) for of in (min, statistics.median)]
         print(f"| {name} | {' | '.join(cells)} |")
     for way, runs in begins.items():
-        for what, took in zip((f"a second thread{way} begins", "the first one goes on"), zip(*(map(float, it) for it in runs))):
-            print(f"{what} after {min(took):.2f} ms at best, {statistics.median(took):.2f} by the median, {statistics.mean(took):.2f} on average")
-    print("load", *(f"{it:.1f}" for it in load))
+        for what, took in zip((f"A second thread{way} begins", "The first one goes on"), zip(*(map(float, it) for it in runs))):
+            print(f"{what} after {min(took):.2f} ms at best, {statistics.median(took):.2f} by the median, {statistics.mean(took):.2f} on average.")
+    print(f"The load before it was {load[0]:.1f}.")
 
 
 main()

@@ -1,7 +1,7 @@
 #!/usr/bin/env python3
-"""Prints after how many runs the drivers find what is wrong with objects, where threads run freely and where they take turns.
+"""Prints after how many runs the drivers find what is wrong with objects, when threads run freely and when they take turns.
 
-usage: turns.py [SEEDS [RUNS [PROGRAM]]]: so many seeds of each row, 10, and at most so many runs of each seed, 100
+usage: turns.py [SEEDS [RUNS [PROGRAM]]]: the seeds of each row, 10 by default, and the most runs of each seed, 100
 
 The objects are those of recorders/objects.c, all wrong. A cell has the median of the runs until one was not atomic, over all seeds, and
 how many seeds found one. With a median over RUNS fewer than half of the seeds did.

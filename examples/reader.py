@@ -1,4 +1,7 @@
-"""The texts of judge.py, as docs/FORMAT.md tells: it reads histories, and names the first fault of a text that is none. It is not proved."""
+"""Reads histories for judge.py, as docs/FORMAT.md says, and names the first fault of a text that is not a history. It is not proved.
+
+judge.py imports it, and `python3 judge.py FILE` runs both. It is not a program by itself.
+"""
 import csv, io, sys
 PLAIN, STAMPED = ["event", "process", "op", "data"], ["at", "event", "process", "op", "data"]
 

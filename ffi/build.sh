@@ -1,6 +1,6 @@
 #!/usr/bin/env bash
 # Proves and builds the judge as libsnapjudge.a and libsnapjudge.so, in the folder that is named or in ffi/build. One object
-# is made of the library and of the kit's few lines over malloc, and of its names only its three calls are seen.
+# is made of the library and of the kit's few lines over malloc, and of its names only the calls of the header are seen.
 # usage: build.sh [--built BEGUN] [FOLDER]; with --built it takes the libraries that a gate has proved since the file BEGUN
 unset CDPATH
 set -eu
@@ -38,7 +38,8 @@ cd "$work"
 ar x "$top/crates/snap_c/out/libsnap_c.a"
 ar x "$kit/c/liblibc_c.a"
 ld -r -o judge.o ./*.o
-objcopy --keep-global-symbol=snapjudge_check --keep-global-symbol=snapjudge_check_limit --keep-global-symbol=snapjudge_version judge.o
+sed -n 's/^uint32_t \(snapjudge_[a-z_]*\)(.*/\1/p' "$top/ffi/c/snapjudge.h" >calls
+objcopy --keep-global-symbols=calls judge.o
 # both are built before one takes its place, so that a full disk leaves what there was
 ar rcsD libsnapjudge.a judge.o
 cc -shared -Wl,-soname,libsnapjudge.so -Wl,-z,noexecstack -o libsnapjudge.so judge.o

@@ -1,12 +1,20 @@
 #!/usr/bin/env python3
 """Generated and damaged texts through the library, and some of them through the program too: the same bytes for the same text.
 
-usage: differential.py [TEXTS [OF_THEM_BY_THE_PROGRAM [SEED]]]        (1000000, 10000 and 1, where they are not given)
+usage: differential.py [TEXTS [OF_THEM_BY_THE_PROGRAM [SEED [DRIVER ..]]]]        (1000000, 10000 and 1, if they are not given)
 
 Build first: ffi/build.sh and ./snapjudge. Each text is judged twice, with ample room and with just enough; the status has to be
-the one that the report says, and the bytes the same. Every so many texts the program judges one too. A quarter of the texts are
-histories as they are generated, the others are damaged in one to eight places.
+the one that the report says, and the bytes the same. Each other call of the library has to answer with the same status, and the counts
+with that of a history. From time to time the program judges a text too, by the command of each call. A quarter of the texts are histories as they are generated, the others
+are damaged in one to eight places.
+
+The first texts are those of examples/, each by the program too. A driver answers each text by the wrapper of its language, as the
+library does. It reads the length of a text and the words of a command on a line, and then the text. It writes the status and the length
+of the answer on a line, and then the answer. The word `values` asks for the values of a text, written as its object, and below it the
+order of the report, or why it is not a history.
 """
+import glob
+import itertools
 import os
 import random
 import subprocess
@@ -18,6 +26,20 @@ import snapjudge  # noqa: E402
 
 PROGRAM = os.path.join(HERE, "..", "built", "snapjudge")
 HEADER = "event,process,op,data"
+# The calls of the library beside the check, each with its option or the name of the text, and the words for the program.
+CALLS = (
+    ("explain", 0, ["explain"]),
+    ("explain", 1, ["explain", "--draw"]),
+    ("json", b"-", ["check", "--format", "json"]),
+    ("shrink", 0, ["shrink"]),
+    ("shrink", 1, ["shrink", "--draw"]),
+    ("draw", 0, ["draw"]),
+    ("draw", 1, ["draw", "--svg"]),
+    ("draw", 2, ["draw", "--text"]),
+    ("stats", 0, ["stats"]),
+    ("stats", 1, ["stats", "--format", "json"]),
+)
+ROOM = bytearray(1 << 20)
 
 
 def history(draw):
@@ -93,6 +115,32 @@ def texts_of(draw):
             yield damaged(text, draw)
 
 
+def examples():
+    """The texts of the examples."""
+    for name in sorted(glob.glob(os.path.join(HERE, "..", "examples", "*.csv"))):
+        with open(name, "rb") as file:
+            yield file.read()
+
+
+class Driver:
+    """A program that answers by the wrapper of its language."""
+
+    def __init__(self, path):
+        self.path = path
+        self.child = subprocess.Popen([path], stdin=subprocess.PIPE, stdout=subprocess.PIPE)
+
+    def answer(self, text, words):
+        """The status and the answer of a command."""
+        self.child.stdin.write(b"%d %s\n%s" % (len(text), words.encode(), text))
+        self.child.stdin.flush()
+        status, length = map(int, self.child.stdout.readline().split())
+        return snapjudge.STATUSES[status], self.child.stdout.read(length)
+
+    def end(self):
+        self.child.stdin.close()
+        return self.child.wait()
+
+
 def said(report):
     """The status that a report says."""
     if report.startswith("refused record "):
@@ -101,32 +149,81 @@ def said(report):
         report.split("\n")[1].removeprefix("regular ") + report.split("\n")[3].removeprefix("atomic ")]
 
 
-def by_program(text):
-    child = subprocess.run([PROGRAM, "check"], input=text, capture_output=True)
-    return snapjudge.STATUSES[child.returncode], child.stdout.decode("ascii")
+def by_program(text, *words):
+    """The status and the answer of the program by a command."""
+    child = subprocess.run([PROGRAM, *(words or ["check"])], input=text, capture_output=True)
+    return snapjudge.STATUSES[child.returncode], child.stdout
+
+
+def by_library(text, call, option):
+    """The status and the answer of the library by a call."""
+    words = (option, len(option)) if isinstance(option, bytes) else (option,)
+    status, length = snapjudge.answer_into(call, text, words, ROOM)
+    return status, bytes(ROOM[:length])
+
+
+def differing(text, status, is_asked):
+    """The words of each command whose call answers with another status, or, where the program is asked, otherwise than it."""
+    for call, option, words in CALLS:
+        answer = by_library(text, call, option)
+        # a history is counted without a verdict, and the status is 0
+        wanted = "atomic" if call == "stats" and status != "refused" else status
+        if answer[0] != wanted or is_asked and answer != by_program(text, *words):
+            yield " ".join(words)
+
+
+def values(text, status, report):
+    """The status of a text and its values, as a driver writes them."""
+    below = b""
+    if status == "refused":
+        below = by_library(text, "explain", 0)[1]
+    elif status == "atomic":
+        below = "".join(report.splitlines(True)[5:]).encode()
+    return status, by_library(text, "json", b"-")[1] + below
+
+
+def differing_drivers(text, status, report, drivers):
+    """The name of each driver that answers otherwise than the library, with the words of the command."""
+    if not drivers:
+        return
+    wanted = {" ".join(words): by_library(text, call, option) for call, option, words in CALLS}
+    wanted |= {"check": (status, report.encode()), "values": values(text, status, report)}
+    for driver in drivers:
+        for words, answer in wanted.items():
+            if driver.answer(text, words) != answer:
+                yield f"{words} of {driver.path}"
+
+
+def wrong_answers(text, is_asked, drivers):
+    """The status of a text, and the words of each command whose call is wrong."""
+    status, report = snapjudge.report(text)
+    room = bytearray(len(report))
+    again = snapjudge.report_into(text, room)
+    same = again == (status, len(report)) and room.decode("ascii") == report and said(report) == status
+    wrong = [] if same and not (is_asked and by_program(text) != (status, report.encode())) else ["check"]
+    wrong += differing_drivers(text, status, report, drivers)
+    return status, wrong + list(differing(text, status, is_asked))
 
 
 def main():
-    words = [int(word) for word in sys.argv[1:]] + [1_000_000, 10_000, 1][len(sys.argv) - 1:]
+    words = [int(word) for word in sys.argv[1:4]] + [1_000_000, 10_000, 1][len(sys.argv) - 1:]
     texts, programs, seed = words
+    drivers, first = [Driver(path) for path in sys.argv[4:]], list(examples())
     every, asked, differences, seen = (max(1, texts // max(1, programs)) - 1) | 1, 0, 0, dict.fromkeys(snapjudge.STATUSES, 0)
-    for i, text in zip(range(texts), texts_of(random.Random(seed))):
-        status, report = snapjudge.report(text)
-        room = bytearray(len(report))
-        again = snapjudge.report_into(text, room)
-        same = again == (status, len(report)) and room.decode("ascii") == report and said(report) == status
-        if i % every == 0 and asked < programs:
-            asked += 1
-            same = same and by_program(text) == (status, report)
+    for i, text in zip(range(texts), itertools.chain(first, texts_of(random.Random(seed)))):
+        is_asked = asked < programs and (i < len(first) or i % every == 0)
+        asked += is_asked
+        status, wrong = wrong_answers(text, is_asked, drivers)
         seen[status] += 1
-        if not same:
+        if wrong:
             differences += 1
-            print(f"text {i} differs: {text!r}", flush=True)
+            print(f"text {i} differs by {', '.join(wrong)}: {text!r}", flush=True)
         if (i + 1) % 50_000 == 0:
             print(f"{i + 1} texts, {asked} of them by the program, {differences} differences", flush=True)
     counts = ", ".join(f"{status} {count}" for status, count in seen.items())
     print(f"{texts} texts ({counts}) through the library, {asked} of them through the program: {differences} differences")
-    return differences != 0
+    ends = [driver.end() for driver in drivers]
+    return differences != 0 or any(ends)
 
 
 if __name__ == "__main__":

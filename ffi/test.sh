@@ -1,58 +1,19 @@
 #!/usr/bin/env bash
-# Builds the library and tries it from C, C++, Rust and Python on the examples, with little room, with refused memory and from
-# eight threads on small stacks. The last line is 'N passed, M failed', with ', K skipped' behind it where a tool is missing; a line
+# Builds the library and tries it from C, C++, Rust, Go and Python on the examples, with little room, with refused memory and from
+# eight threads on small stacks. The last line is 'N passed, M failed', with ', K skipped' after it where a tool is missing; a line
 # before it names the language.
 # usage: test.sh [--built BEGUN], as build.sh
 unset CDPATH
 set -u
 cd "$(dirname "${BASH_SOURCE[0]}")" || exit 1
 build=$PWD/build
-passed=0
-failed=0
-skipped=0
-log=$(mktemp)
-trap 'rm -f "$log"' EXIT
-
-# try NAME COMMAND ..: one test, which passes where the command ends with 0
-try() {
-  local name=$1
-  shift
-  if "$@" >"$log" 2>&1; then
-    echo "ffi: $name: passed"
-    passed=$((passed + 1))
-  else
-    tail -n 20 "$log"
-    echo "ffi: $name: FAILED"
-    failed=$((failed + 1))
-  fi
-}
-
-# skip WHAT TOOL: counts what was not tried
-skip() {
-  echo "skipped: $1, $2 is not here"
-  skipped=$((skipped + 1))
-}
-
-# has PROGRAM LANGUAGE: whether there is such a program; else the language is skipped
-has() {
-  command -v "$1" >/dev/null && return 0
-  skip "$2" "$1"
-  return 1
-}
+part=ffi
+. ../share/lib.sh
 
 has_pip() {
   python3 -m pip --version >/dev/null 2>&1 && return 0
-  skip "Python by pip" pip
+  skip "Python by pip" "pip is not here"
   return 1
-}
-
-# Says at the end what was passed, failed and skipped.
-end() {
-  local more=
-  [ "$skipped" = 0 ] || more=", $skipped skipped"
-  echo "$passed passed, $failed failed$more"
-  [ "$failed" = 0 ]
-  exit
 }
 
 # compiled COMPILER FLAGS: the tests in C or C++, with the static and the shared library
@@ -67,14 +28,73 @@ compiled() {
     "$build/test_memory"
 }
 
-# only the three calls are seen
-two_names() {
-  [ "$(nm --defined-only -g --format=just-symbols "$build/libsnapjudge.a" | grep -v ':$' | sort | xargs)" = "snapjudge_check snapjudge_check_limit snapjudge_version" ] &&
-    [ "$(nm -D --defined-only --format=just-symbols "$build/libsnapjudge.so" | grep '^snapjudge' | sort | xargs)" = "snapjudge_check snapjudge_check_limit snapjudge_version" ]
+# only the calls are seen
+names() {
+  local calls="snapjudge_check snapjudge_check_limit snapjudge_draw snapjudge_explain snapjudge_json snapjudge_shrink snapjudge_stats snapjudge_version"
+  [ "$(nm --defined-only -g --format=just-symbols "$build/libsnapjudge.a" | grep -v ':$' | sort | xargs)" = "$calls" ] &&
+    [ "$(nm -D --defined-only --format=just-symbols "$build/libsnapjudge.so" | grep '^snapjudge' | sort | xargs)" = "$calls" ]
 }
 
+# What the program answers to each question on each example, in the folder that is named: its status and what it writes.
+by_program() {
+  local example question words status
+  rm -rf "$1" && mkdir -p "$1" || return 1
+  for example in ../examples/*.csv; do
+    for question in "check" "explain" "explain --draw" "check --format json" "shrink" "shrink --draw" "draw" "draw --svg" "draw --text" "stats" "stats --format json"; do
+      read -ra words <<<"$question"
+      case $question in
+        check*json)
+          question=json
+          words+=("$example")
+          ;;
+        *json) question=stats--json ;;
+      esac
+      ../built/snapjudge "${words[@]}" <"$example" >"$1/answer" 2>/dev/null
+      status=$?
+      { printf %s $status && cat "$1/answer"; } >"$1/$(basename "$example").${question// /}"
+    done
+  done
+}
+
+# answers COMPILER FLAGS: each call on each example, with the static library, beside the program
+answers() {
+  $1 $2 -Ic -O2 -Wall -Wextra -pedantic -o "$build/test_answers" c/test_answers.c -x none "$build/libsnapjudge.a" -pthread &&
+    "$build/test_answers" "$build/answers" ../examples/*.csv
+}
+
+# the values of the C++ header, with the static library, and its driver
+values() {
+  local flags="-std=c++17 -Ic -Icpp -O2 -Wall -Wextra -pedantic"
+  c++ $flags -o "$build/test_cpp" cpp/test_cpp.cpp "$build/libsnapjudge.a" && "$build/test_cpp" &&
+    c++ $flags -o "$build/driver_cpp" cpp/answers.cpp "$build/libsnapjudge.a"
+}
+
+# generated and damaged texts through each call and each command, and through the drivers that are built
+damaged() {
+  local drivers=()
+  for driver in "$build"/driver_*; do
+    [ -x "$driver" ] && drivers+=("$driver")
+  done
+  SNAPJUDGE_LIBRARY=$build/libsnapjudge.so python3 -B differential.py 2000 100 1 "${drivers[@]}"
+}
+
+# the crate, its examples, and its driver
 rust() {
-  (cd rust/snapjudge && SNAPJUDGE_LIB=$build CARGO_TARGET_DIR=$build/target cargo test --offline -q)
+  (cd rust/snapjudge && SNAPJUDGE_LIB=$build CARGO_TARGET_DIR=$build/target cargo test --offline -q) &&
+    cp "$build/target/debug/examples/answers" "$build/driver_rust"
+}
+
+# the package, its examples, and its driver; Go does not see that the library has changed
+go_package() {
+  local -x GOCACHE=$build/target/go-build GOPROXY=off
+  (cd go && go vet ./... && [ -z "$(gofmt -l .)" ] && go test -count=1 ./... &&
+    go build -buildvcs=false -o "$build/driver_go" ./internal/answers)
+}
+
+# the package alone, as `go get` copies it
+go_outside() {
+  local -x GOCACHE=$build/target/go-build GOPROXY=off CGO_CFLAGS=-I$PWD/c CGO_LDFLAGS=-L$build
+  cp -r go "$room/go" && (cd "$room/go" && go build -o "$room/outside" ./internal/answers) && "$room/outside" </dev/null
 }
 
 python() {
@@ -88,6 +108,11 @@ dask() {
     "$python" -c 'import distributed' 2>/dev/null && echo "$python" && return 0
   done
   return 1
+}
+
+# the lesson that is a notebook, by a kernel too where one is installed
+lesson() {
+  (cd python && SNAPJUDGE_LIBRARY=$build/libsnapjudge.so python3 -B -m unittest -q test_lesson)
 }
 
 # many recordings, by this Python
@@ -121,29 +146,41 @@ for name in sys.argv[2:]:
 }
 
 for tool in cc ar ld objcopy nm; do
-  has $tool "all languages" || end
+  has $tool "all languages" || end_tests
 done
 try "build" ./build.sh "$@" "$build"
+# a driver of before has another library
+rm -f "$build"/driver_*
 if [ "$failed" = 0 ]; then
-  try "two names" two_names
+  try "names" names
   try "C" compiled cc -std=c11
-  has c++ "C++" && try "C++" compiled c++ "-std=c++17 -x c++"
+  if [ -x ../built/snapjudge ]; then
+    try "what the program answers" by_program "$build/answers"
+    try "each call in C" answers cc -std=c11
+    has c++ "each call in C++" && try "each call in C++" answers c++ "-std=c++17 -x c++"
+  else
+    skip "each call beside the program" built/snapjudge
+  fi
+  has c++ "C++" && try "C++" compiled c++ "-std=c++17 -x c++" && try "values in C++" values
   has cargo "Rust" && try "Rust" rust
+  has go "Go" && try "Go" go_package && try "Go outside of a clone" go_outside
+  [ ! -x ../built/snapjudge ] || { has python3 "damaged texts" && try "damaged texts in each language" damaged; }
   if has python3 "Python"; then
     try "Python" python
     try "windows in Python" windows
+    try "the lesson that is a notebook" lesson
     if [ -x ../built/snapjudge ]; then
       try "windows by the program" program_windows "$(realpath ../built/snapjudge)"
     else
-      skip "windows by the program" built/snapjudge
+      skip "windows by the program" "built/snapjudge is not here"
     fi
     has_pip && try "Python by pip" installed
     if with_dask=$(dask); then
       try "many recordings in Python" many "$with_dask"
     else
       try "many recordings in Python" many python3
-      skip "many recordings by a Dask scheduler" python3-distributed
+      skip "many recordings by a Dask scheduler" "python3-distributed is not here"
     fi
   fi
 fi
-end
+end_tests

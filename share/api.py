@@ -3,10 +3,10 @@
 
 usage: api.py [--write]
 
-A block of the page with the mark `rust api=CRATE` has types and calls of a crate. A type is one line, with its fields or variants
-where these are public. A call is three: the first sentence of what is said of it, its name and type, and the names of the clauses of
-its contract, with the file in which it stands. With --write each is written anew from the sources. To add one, write its name on a
-line of its own, as `View::number`, `read_history` or `enum Event`. Each call has a caller in the tests, and none has a caller besides.
+A block of the page with the mark `rust api=CRATE` has types and calls of a crate. A type is one line, with its fields or variants if
+these are public. A call is three: the first sentence of its comment, its name and type, and the names of the clauses of its contract.
+They come with the file that it is in. With --write each is written anew from the sources. To add one, write its name on a line of its
+own, as `View::number`, `read_history` or `enum Event`. Each call has a caller in the tests, and none has a caller besides.
 """
 import pathlib
 import re
@@ -35,14 +35,14 @@ def sources(crate):
 
 
 def joined(lines):
-    """Lines as one, without the comma behind the last of several arguments, fields or variants."""
+    """Lines as one, without the comma after the last of several arguments, fields or variants."""
     text = re.sub(r"\s+", " ", " ".join(line.strip() for line in lines)).strip()
     text = re.sub(r",? ([)>])", r"\1", re.sub(r"([(<]) ", r"\1", re.sub(r",\s*([)\]>])", r"\1", text)))
     return re.sub(r", }", " }", text).replace("- >", "->")
 
 
 def type_line(kind, name, lines, at):
-    """A type in one line: its public fields or its variants, or its name alone where its fields are its own."""
+    """A type in one line: its public fields or its variants, or its name alone if its fields are its own."""
     head = lines[at].removeprefix("pub ")
     if head.endswith(";") or kind == "trait":
         return f"{kind} {name}"
@@ -86,7 +86,7 @@ def call_lines(shown, lines, at, path):
 
 
 def entry(crate, name):
-    """The lines of a type or a call of a crate, or none where it has no such item."""
+    """The lines of a type or a call of a crate, or none if it has no such item."""
     kind, _, called = name.partition(" ")
     owner, _, call = name.rpartition("::")
     for path, text in sources(crate):
@@ -103,7 +103,7 @@ def entry(crate, name):
 
 
 def names_in(block):
-    """The items of a block: of a line that is no comment its name, and its kind before it where it is a type."""
+    """The items of a block: of a line that is not a comment its name, and its kind before it if it is a type."""
     for line in block.splitlines():
         if line.startswith(KINDS):
             yield " ".join(re.split(r"[ <{;]", line)[:2])

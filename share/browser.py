@@ -47,7 +47,7 @@ class Browser:
         return json.loads(one)
 
     def order(self, method, wait_for=None, **words):
-        """What it answers to an order; where an event is named, it has come too."""
+        """What it answers to an order; if an event is named, it has come too."""
         end, self.number, answer = time.monotonic() + self.longest, self.number + 1, None
         session = {"sessionId": self.session} if self.session else {}
         os.write(self.orders, json.dumps({"id": self.number, "method": method, "params": words, **session}).encode() + b"\0")
@@ -60,7 +60,7 @@ class Browser:
         return answer["result"]
 
     def first_page(self):
-        """What its first page is called, which comes soon after its start."""
+        """The name of its first page, which is there soon after its start."""
         end = time.monotonic() + self.longest
         while time.monotonic() < end:
             for it in self.order("Target.getTargets")["targetInfos"]:
@@ -78,7 +78,7 @@ class Browser:
         self.order("Emulation.setFocusEmulationEnabled", enabled=True)
 
     def shown(self, page, width, tall, scheme, answer):
-        """An answer on a page of a size, where people like the scheme `light` or `dark`; or nothing."""
+        """An answer on a page of this size, for people who prefer the scheme `light` or `dark`; or nothing."""
         if self.is_lost:
             return None
         try:
@@ -94,7 +94,7 @@ class Browser:
             return None
 
     def ask(self, page, width, scheme, script):
-        """The value of a script on a page that is so wide."""
+        """The value of a script on a page of this width."""
         return self.shown(page, width, TALL, scheme, lambda: self.order("Runtime.evaluate", expression=script, returnByValue=True)["result"].get("value"))
 
     def shot(self, page, width, tall, scheme):

@@ -3,7 +3,7 @@
 
 usage: compare-json.py PROGRAM FILE..
 
-Says each difference on a line; the status is 1 where there is one.
+Says each difference on a line; the status is 1 if there is one.
 """
 import json
 import re
@@ -45,7 +45,7 @@ def call_of(line):
 
 
 def calls_by_kind(explanation):
-    """The calls behind each sentence of an explanation."""
+    """The calls after each sentence of an explanation."""
     calls = {}
     for line in explanation.splitlines():
         kind, colon, _ = line.partition(":")

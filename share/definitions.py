@@ -1,10 +1,13 @@
 #!/usr/bin/env python3
-"""Shows on the page on the proof the clauses of the two theorems and the definitions that they stand on, from the sources.
+"""Shows on the page on the proof the clauses of the two theorems and the definitions that they depend on, from the sources.
 
 usage: definitions.py            prints them
-       definitions.py --write    puts them into docs/PROOF.md, in place of those that stand there
+       definitions.py --write    puts them into docs/PROOF.md, in place of those that are there
+       definitions.py --words    prints how many words each part has, and when a reader who begins at the top comes to it
 
 A definition is shown with the comment above it. Of a function the name, the answer and the clauses that are named here are shown.
+The table before them says at which minute each part begins. Each word counts, in tables and in code too, and each sign that is
+read as a word. What is not read counts nothing: where a link leads, and marks such as braces, colons and a lone =.
 """
 import pathlib
 import re
@@ -14,16 +17,24 @@ TOP = pathlib.Path(__file__).resolve().parent.parent
 PAGE = TOP / "docs/PROOF.md"
 IN_PAGE = re.compile(r"(?<=^<!-- from here on share/definitions\.py writes -->\n).*?(?=^<!-- to here -->$)", re.MULTILINE | re.DOTALL)
 
+# How fast a page is read in silence, in words a minute, and how many minutes it may take up to the end of the last part below.
+PACE, MINUTES = 200, 10
+# The signs that are read as words.
+SIGNS = set("× ⊎ ↔ ≡ ≢ → λ ∷ ⊤ < ≤ ++".split())
+# The part of the page that the table names last, and where it is there.
+LAST = "What is trusted"
+LAST_IN_PAGE = re.compile(rf"^## {LAST}\n.*?(?=^## )", re.MULTILINE | re.DOTALL)
+
 # What is shown, in reading order: a title, a sentence or two, and the places and names of functions with their clauses and of definitions.
 SHOWN = [
     (
         "The two clauses",
-        "The first theorem is a clause of `check_run`, and the second is three clauses of `Board::close`.",
+        "A check that answers with a status has written the report of its text. `check_run` is the plain case of [the call that the program makes](#the-theorem). A closed board has a regular and monotone history, and its stores and scans alone have an atomic one.",
         [("crates/snap_check/src/check.rt", "check_run", ["wrote"]), ("crates/snap_board/src/board.rt", "close", ["regular", "monotone", "atomic"])],
     ),
     (
         "1. What a check wrote",
-        "The three arguments of `Wrote` are the bytes that the reader had, and what the writer held before and after. If a status comes back, `WroteWhole` holds of the report of these bytes.",
+        "`known` is what the reader had, if that is known. `old` and `new` are what the writer held before and after. With a status, the whole report went out, and nothing else.",
         [("crates/snap_check/specs/Runs.antt", "WroteWhole"), ("crates/snap_check/specs/Runs.antt", "WroteBy"), ("crates/snap_check/specs/Runs.antt", "Wrote")],
     ),
     (
@@ -38,7 +49,7 @@ SHOWN = [
     ),
     (
         "4. Histories and calls",
-        "`calls_of` makes a call of each begin, in their order. A view shows `shown_number r k` of component k, which is 0 where it lists none.",
+        "`calls_of` makes a call of each begin, in their order. An entry has a component, a number and a value. A view shows `shown_number r k` of component k: 0 where it has no entry.",
         [("crates/snap_core/specs/Events.antt", it) for it in ("TakeTurns", "IsWellFormed", "IsSingleWriter", "IsNumbered", "IsHistory")]
         + [("crates/snap_core/specs/Calls.antt", it) for it in ("Operation", "Call", "is_before", "precedes")],
     ),
@@ -90,16 +101,57 @@ def clauses(file, name, wanted):
     return lines
 
 
+def words(text):
+    """How many words of a page are read."""
+    read = re.sub(r"<!--.*?-->|^```\w*|(?<=\])\([^()]*\)", "", text, flags=re.MULTILINE)
+    return sum(re.search(r"\w", it) is not None or it in SIGNS for it in read.split())
+
+
+def part(title, sentences, places):
+    """A part of the page: its title, its sentences, and the clauses and definitions at these places."""
+    lines = [f"### {title}", "", sentences, ""]
+    for file in dict.fromkeys(place[0] for place in places):
+        code = [clauses(*place) if len(place) == 3 else definition(*place) for place in places if place[0] == file]
+        mark = "rust" if file.endswith(".rt") else "antt"
+        lines += [f"[{file}](../{file}):", "", f"```{mark}", *"\n\n".join("\n".join(it) for it in code).split("\n"), "```", ""]
+    return "\n".join(lines)
+
+
+def table(rows):
+    """The table of the parts: of each its words, and when a reader comes to it, to ten seconds."""
+    lines = ["| Begins at | Part | Words |", "|---|---|---|"]
+    for title, begin, count in rows:
+        seconds = begin * 6 // PACE * 10
+        anchor = re.sub(r"[^\w -]", "", title.lower()).replace(" ", "-")
+        lines.append(f"| {seconds // 60}:{seconds % 60:02} | [{title}](#{anchor}) | {count} |")
+    return "\n".join([*lines, "", ""])
+
+
+def rows(page, parts):
+    """Each part with its place among the words that are read, and its own words."""
+    front = page.partition("<!-- from here on")[0]
+    last = LAST_IN_PAGE.search(page)
+    found = [(title, 0, words(text)) for title, text in [*parts.items(), (LAST, last.group() if last else "")]]
+    at = words(front) + words(table(found))
+    for place, (title, _, count) in enumerate(found):
+        found[place] = (title, at, count)
+        at += count
+    return found
+
+
+def page_rows():
+    return rows(PAGE.read_text(encoding="utf-8"), {title: part(title, *rest) for title, *rest in SHOWN})
+
+
+def minutes(found):
+    """How long a reader takes to the end of the last part."""
+    _, begin, count = found[-1]
+    return (begin + count) / PACE
+
+
 def shown():
     """What the page shows."""
-    parts = []
-    for title, words, places in SHOWN:
-        parts += [f"### {title}", "", words, ""]
-        for file in dict.fromkeys(place[0] for place in places):
-            code = [clauses(*place) if len(place) == 3 else definition(*place) for place in places if place[0] == file]
-            mark = "rust" if file.endswith(".rt") else "antt"
-            parts += [f"[{file}](../{file}):", "", f"```{mark}", *"\n\n".join("\n".join(it) for it in code).split("\n"), "```", ""]
-    return "\n".join(parts)
+    return table(page_rows()) + "\n".join(part(*it) for it in SHOWN)
 
 
 def in_page():
@@ -108,10 +160,14 @@ def in_page():
     return found and found.group()
 
 
-def main(words):
-    if words == ["--write"]:
+def main(asked):
+    if asked == ["--write"]:
         PAGE.write_text(IN_PAGE.sub(lambda _: shown(), PAGE.read_text(encoding="utf-8"), count=1), encoding="utf-8")
-    elif words:
+    elif asked == ["--words"]:
+        found = page_rows()
+        print(table(found), end="")
+        print(f"{sum(found[-1][1:])} words, {minutes(found):.1f} minutes at {PACE} words a minute")
+    elif asked:
         sys.exit(__doc__)
     else:
         print(shown(), end="")

@@ -1,7 +1,7 @@
 """Pictures by lines of characters, as test-draw.py reads them."""
 import re
 
-# So many characters stand before the first column, and no line of a lane has more than so many.
+# How many characters come before the first column, and how many a line of a lane has at most.
 LEFT, WIDEST = 8, 120
 BAR = re.compile(r"([\[(])([^\])>]*)([\])>])")
 BEGINS = {"[": "update", "(": "view"}
@@ -9,7 +9,7 @@ ENDS = {"]": "update", ")": "view", ">": None}
 
 
 class Bar:
-    """A bar: its process, its kind, its ends in characters from the first column, and what stands in it and below it."""
+    """A bar: its process, its kind, its ends in characters from the first column, and what is in it and below it."""
 
     def __init__(self, process, found, below):
         self.process, self.kind, self.end_sign = process, BEGINS[found.group(1)], found.group(3)
@@ -20,7 +20,7 @@ class Bar:
 
 
 class LinePicture:
-    """The parts of such a picture; `text` begins with its lanes, behind what may stand above them."""
+    """The parts of such a picture; `text` begins with its lanes, after what may come above them."""
 
     def __init__(self, text):
         lines = text.split("\n")
@@ -59,7 +59,7 @@ def try_bar(count, where, bar, call, marks, place, columns, step):
 
 
 def try_lines(count, name, text, calls, faults, order, said):
-    """Each call has its bar, from its begin to its end, with its marks; what is wrong is said, and what is cut is said in full."""
+    """Each call has its bar, from its begin to its end, with its marks. What is wrong is said, and what is cut is said in full."""
     picture = LinePicture(text)
     records = sorted(record for call in calls.values() for record in (call.begin, call.end) if record)
     columns = {record: column for column, record in enumerate(records)}

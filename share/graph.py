@@ -1,42 +1,23 @@
 #!/usr/bin/env python3
-"""Draws the crates that the program and the library stand on, from crates.txt, as a Mermaid graph.
+"""Draws the crates that the program and the library depend on, from crates.txt, as a Mermaid graph.
 
 usage: graph.py            prints the graph
-       graph.py --write    puts it into docs/ARCHITECTURE.md, in place of the one that stands there
+       graph.py --write    puts it into docs/ARCHITECTURE.md, in place of the one that is there
 
-An arrow goes from a crate to each that it stands on directly. One that leads where a longer way leads too is left out.
+An arrow goes from a crate to each that it depends on directly. One that leads where a longer way leads too is left out.
 """
-import pathlib
 import re
 import sys
 
-TOP = pathlib.Path(__file__).resolve().parent.parent
+from crates import TOP, below_each, reached
+
 PAGE = TOP / "docs/ARCHITECTURE.md"
 ENDS = ("snapjudge", "snap_c")
 IN_PAGE = re.compile(r"(?<=^```mermaid\n).*?(?=^```$)", re.MULTILINE | re.DOTALL)
 
 
-def below_each(text):
-    """The crates of a list of crates, each with those that it stands on. The libraries of the kit are left out."""
-    lines = (line.partition("#")[0].partition(":") for line in text.splitlines())
-    below = {head.split()[0]: names.split() for head, colon, names in lines if colon}
-    return {crate: [it for it in names if it in below] for crate, names in below.items()}
-
-
-def reached(below, crates):
-    """These crates and all that they stand on."""
-    found = set()
-    left = list(crates)
-    while left:
-        crate = left.pop()
-        if crate not in found:
-            found.add(crate)
-            left += below[crate]
-    return found
-
-
 def arrows(below):
-    """The pairs of a crate and one that it stands on and reaches by no longer way."""
+    """The pairs of a crate and one that it depends on and reaches by no longer way."""
     for crate, names in below.items():
         for name in names:
             others = reached(below, [it for it in names if it != name])
@@ -44,8 +25,8 @@ def arrows(below):
                 yield crate, name
 
 
-def graph(text):
-    below = below_each(text)
+def graph():
+    below = below_each()
     shown = reached(below, ENDS)
     lines = ["graph TD"]
     lines += [f"    {upper} --> {lower}" for upper, lower in arrows({it: names for it, names in below.items() if it in shown})]
@@ -61,7 +42,7 @@ def in_page(page):
 
 
 def main(words):
-    drawn = graph((TOP / "crates.txt").read_text(encoding="utf-8"))
+    drawn = graph()
     if words == ["--write"]:
         PAGE.write_text(IN_PAGE.sub(lambda _: drawn, PAGE.read_text(encoding="utf-8"), count=1), encoding="utf-8")
     elif words:

@@ -1,5 +1,5 @@
 # Runs a command that may take long, and hears a signal meanwhile, also one to this shell alone: the command is ended then, and so
-# is what it has started, since it does the same. Its status is that of the command, or 130 where a signal was heard.
+# is what it has started, since it does the same. Its status is that of the command, or 130 if a signal was heard.
 heed() {
   heard=
   heeded=

@@ -5,7 +5,7 @@ usage: inside.py
 
 No file of specs/ beside that folder may import from it. Nor may a clause name what is imported from it where callers read the clause:
 that of a function, a method or a trait that the root of a library hands on, and the value of a type as contracts see it. It prints
-each such place, and ends with status 1 where there is one.
+each such place, and ends with status 1 if there is one.
 """
 import pathlib
 import re

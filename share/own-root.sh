@@ -15,7 +15,7 @@ add_tools() {
 add_libraries() {
   local root=$1 file
   shift
-  for file in $(ldd "$@" 2>/dev/null | awk '$2 == "=>" && $3 ~ "^/" { print $3 } $1 ~ "^/" && NF == 2 { print $1 }' | sort -u); do
+  for file in $(ldd "$@" 2>/dev/null | awk '$1 ~ "^/" && NF > 1 { print $1; next } $2 == "=>" && $3 ~ "^/" { print $3 }' | sort -u); do
     mkdir -p "$root${file%/*}" && cp -L "$file" "$root$file" || return
   done
 }

@@ -1,24 +1,27 @@
-"""Packs snapjudge for machines without Rattle: an archive, a Debian package and a Python wheel, and a file of their checksums.
+"""Packs snapjudge for machines without Rattle: an archive, a Debian package, a Python wheel and a container image, and a file of their
+checksums.
 
-usage: package.py PREFIX LIBRARY PROVED SUM DATE DIST
+usage: package.py PREFIX LIBRARY PROVED SUM DIST
 
-PREFIX has what is installed, LIBRARY is the folder of libsnapjudge.a and libsnapjudge.so, PROVED says which program it is and who
-proved it, SUM is that of the program's sources, and DATE, in seconds since 1970, becomes the time of each file. The names are sorted, and owners and modes are the same everywhere: what is
-packed depends on nothing but these words and the files themselves.
+PREFIX has what is installed, and LIBRARY is the folder of libsnapjudge.a and libsnapjudge.so. PROVED says which program it is and who
+proved it. SUM is that of the program's sources. Each file has the time at which the version was released. The names are sorted, and
+owners and modes are the same everywhere: what is packed depends on nothing but these words and the files themselves. The image has the
+C library of this machine too.
 """
-import gzip
+import datetime
 import hashlib
-import io
 import os
 import pathlib
 import re
 import sys
-import tarfile
 import tempfile
 
 TOP = pathlib.Path(__file__).resolve().parent.parent
 sys.path.insert(0, str(TOP / "ffi/python"))
 import snapjudge_backend  # noqa: E402
+from image import image_of, labels_of  # noqa: E402
+from sums import bytes_of  # noqa: E402
+from tars import gzip_of, tar_of  # noqa: E402
 
 NAME = "snapjudge"
 VERSION = (TOP / "VERSION").read_text().strip()
@@ -45,8 +48,18 @@ Description: judge of recorded histories of a single-writer board
 """
 
 
+def cited(field):
+    """A field of CITATION.cff that is one word."""
+    return re.search(rf"^{field}: (\S+)$", (TOP / "CITATION.cff").read_text(), re.MULTILINE).group(1)
+
+
+def released():
+    """When this version was released, in seconds since 1970."""
+    return int(datetime.datetime.fromisoformat(f"{cited('date-released')}T00:00:00+00:00").timestamp())
+
+
 def glibc_of(*files):
-    """The earliest version of the C library that has all that these files call of it."""
+    """The earliest version of the C library that has everything that these files call of it."""
     found = [int(it) for file in files for it in re.findall(rb"\0GLIBC_2\.(\d+)", file)]
     return f"2.{max(found)}"
 
@@ -64,7 +77,7 @@ def linked(page):
 
 def documents():
     """The pages of the top and of docs/, the examples, and the files to which these pages lead."""
-    pages = [*TOP.glob("*.md"), *TOP.glob("docs/*.md"), TOP / "examples/README.md"]
+    pages = [*TOP.glob("*.md"), *TOP.glob("docs/**/*.md"), TOP / "examples/README.md"]
     named = {file for page in pages for file in linked(page)}
     return {*pages, *named, TOP / "LICENSE", *filter(pathlib.Path.is_file, TOP.glob("examples/*"))}
 
@@ -77,7 +90,7 @@ def tree_of(prefix, library, proved):
     for it in filter(is_recorder, (TOP / "ffi/record").rglob("*")):
         tree[f"share/snapjudge/record/{it.relative_to(TOP / 'ffi/record')}"] = it.read_bytes()
     for it in documents():
-        tree[f"{DOCUMENTS}/{it.relative_to(TOP)}"] = it.read_bytes()
+        tree[f"{DOCUMENTS}/{it.relative_to(TOP)}"] = bytes_of(it)
     tree[f"{DOCUMENTS}/PROVED"] = proved.encode()
     return tree
 
@@ -95,21 +108,9 @@ def is_executable(name):
     return name.endswith(".sh") or "bin" in name.split("/")
 
 
-def tar_of(tree, front, date):
-    """The archive of a tree, with each folder before what is in it. Each name has the front before it."""
-    folders = {str(above) for name in tree for above in pathlib.PurePosixPath(name).parents} - {"."}
-    packed = io.BytesIO()
-    with gzip.GzipFile("", "wb", 9, packed, mtime=0) as whole, tarfile.open(fileobj=whole, mode="w", format=tarfile.USTAR_FORMAT) as archive:
-        for name in sorted({*folders, *tree}):
-            member = tarfile.TarInfo(f"{front}{name}")
-            member.mtime = date
-            if name in folders:
-                member.type, member.mode = tarfile.DIRTYPE, 0o755
-                archive.addfile(member)
-            else:
-                member.size, member.mode = len(tree[name]), 0o755 if is_executable(name) else 0o644
-                archive.addfile(member, io.BytesIO(tree[name]))
-    return packed.getvalue()
+def archive_of(tree, front, date):
+    """The compressed archive of a tree. Each name has the front before it."""
+    return gzip_of(tar_of(tree, front, date, is_executable))
 
 
 def deb_of(tree, glibc, date):
@@ -121,8 +122,8 @@ def deb_of(tree, glibc, date):
     control = CONTROL.format(version=VERSION, maintainer=holder, kilobytes=kilobytes, glibc=glibc).encode()
     members = {
         "debian-binary": b"2.0\n",
-        "control.tar.gz": tar_of({"control": control}, "./", date),
-        "data.tar.gz": tar_of({f"usr/{name}": data for name, data in tree.items()}, "./", date),
+        "control.tar.gz": archive_of({"control": control}, "./", date),
+        "data.tar.gz": archive_of({f"usr/{name}": data for name, data in tree.items()}, "./", date),
     }
     packed = b"!<arch>\n"
     for name, data in members.items():
@@ -130,28 +131,30 @@ def deb_of(tree, glibc, date):
     return packed
 
 
-def wheel_of(library, date):
+def wheel_of(library, program, glibc, date):
     """The name and the bytes of the wheel, which pip takes wherever the C library is not older than what it calls."""
-    platform = f"manylinux_{glibc_of(library.read_bytes()).replace('.', '_')}_x86_64"
+    platform = f"manylinux_{glibc.replace('.', '_')}_x86_64"
     with tempfile.TemporaryDirectory() as room:
-        name = snapjudge_backend.write_wheel(room, str(library), platform, date)
+        name = snapjudge_backend.write_wheel(room, library, program, platform, date)
         return name, pathlib.Path(room, name).read_bytes()
 
 
 def main(words):
     prefix, library = map(pathlib.Path, words[:2])
-    proved, total, date, dist = *words[2:4], int(words[4]), pathlib.Path(words[5])
+    proved, total, date, dist = *words[2:4], released(), pathlib.Path(words[4])
     if snapjudge_backend.VERSION != VERSION:
         sys.exit(f"snapjudge: there is no package: ffi/python is of version {snapjudge_backend.VERSION}, and the program of {VERSION}")
     glibc = glibc_of((prefix / "bin/snapjudge").read_bytes(), (library / "libsnapjudge.so").read_bytes())
     tree = tree_of(prefix, library, f"{proved}\nsources {total}\nglibc {glibc} or later\n")
-    name, wheel = wheel_of(library / "libsnapjudge.so", date)
+    name, wheel = wheel_of(library / "libsnapjudge.so", prefix / "bin/snapjudge", glibc, date)
     tree[f"share/snapjudge/{name}"] = wheel
     folder = f"{NAME}-{VERSION}-x86_64"
+    labels = labels_of(NAME, VERSION, cited("license"), proved, total)
     made = {
-        f"{folder}.tar.gz": tar_of({f"{folder}/{place}": data for place, data in with_sums(tree).items()}, "", date),
+        f"{folder}.tar.gz": archive_of({f"{folder}/{place}": data for place, data in with_sums(tree).items()}, "", date),
         f"{NAME}_{VERSION}_amd64.deb": deb_of(tree, glibc, date),
         name: wheel,
+        f"{NAME}-{VERSION}-image.tar": image_of(prefix / "bin/snapjudge", NAME, VERSION, labels, date),
     }
     made["SHA256SUMS"] = sums_of(made)
     dist.mkdir(parents=True, exist_ok=True)

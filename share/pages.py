@@ -1,13 +1,13 @@
-"""The pages of this tree: their blocks, links, paths and sentences."""
+"""The pages and the notebooks of this tree: their blocks, links, paths and sentences."""
+import json
 import os
 import pathlib
 import re
 import shutil
 
-import graph
+from crates import TOP
 
-TOP = graph.TOP
-# What is no page and goes into no copy.
+# What is not a page and goes into no copy.
 BUILT = {".git", "out", "target", "dist", "__pycache__"}
 
 FENCE = re.compile(r"^( *)```(.*)$")
@@ -46,12 +46,20 @@ class Block:
         return found
 
 
+def text_of(name):
+    """The text of a page, or of the cells of text of a notebook."""
+    text = (TOP / name).read_text(encoding="utf-8")
+    if not name.endswith(".ipynb"):
+        return text
+    return "\n\n".join("".join(cell["source"]) for cell in json.loads(text)["cells"] if cell["cell_type"] == "markdown")
+
+
 class Page:
     """A page: its blocks, and the text beside them."""
 
     def __init__(self, name, text=None):
         self.name, self.blocks, self.prose = name, [], []
-        lines = ((TOP / name).read_text(encoding="utf-8") if text is None else text).splitlines()
+        lines = (text_of(name) if text is None else text).splitlines()
         self.length = len(lines)
         inside = None
         for line, text in enumerate(lines, 1):
@@ -114,12 +122,13 @@ def split(paragraph):
 
 
 def all_pages():
+    """The names of all pages and notebooks."""
     found = []
     for folder, folders, names in os.walk(TOP):
         at = pathlib.Path(folder).relative_to(TOP)
-        # no part of a crate has a page, and what is built is no page
+        # no part of a crate has a page, and what is built is not a page
         folders[:] = sorted(it for it in folders if it not in BUILT and not (at / it).as_posix() in ("ffi/build", "built"))
         if at.parts[:1] == ("crates",) and len(at.parts) == 2:
             folders[:] = []
-        found += [(at / name).as_posix() for name in sorted(names) if name.endswith(".md")]
+        found += [(at / name).as_posix() for name in sorted(names) if name.endswith((".md", ".ipynb"))]
     return sorted(found)

@@ -6,7 +6,7 @@ import xml.etree.ElementTree as tree
 SVG = "{http://www.w3.org/2000/svg}"
 # A picture in a page is no wider: on a telephone its letters would be too small.
 WIDEST = 600
-# A character of a label is at most so wide, and a line of text so high above its foot and so deep below it.
+# How wide a character of a label is at most, and how far a line of text reaches above its foot and below it.
 WIDE, HIGH, DEEP = 7, 10, 2
 
 
@@ -107,7 +107,7 @@ class Picture:
         return set(self.by[name].get("class", "").split())
 
     def part(self, name, tag, kind=None):
-        """The first element of a tag, and of a class where one is named, in the element of an id; or none."""
+        """The first element of a tag, and of a class if one is named, in the element of an id; or none."""
         inside = self.by[name].iter(SVG + tag) if name in self.by else ()
         return next((it for it in inside if kind is None or kind in it.get("class", "").split()), None)
 
@@ -127,7 +127,7 @@ class Picture:
                 yield it.text, text_box(it, is_middle)
 
 
-# The lines of a folded sentence stand so far apart, and so much stays free behind the lanes and behind the labels.
+# How far apart the lines of a folded sentence are, and how much stays free after the lanes and after the labels.
 LINE, BEHIND_LANES, BEHIND_LABELS = 14, 12, 6
 MARK = re.compile(r'(<g class="mark".*?</title>)<text x="(\d+)" y="(\d+)">(.*?)</text>')
 SIZE = re.compile(r'viewBox="0 0 \d+ (\d+)" width="\d+" height="\d+"')

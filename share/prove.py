@@ -1,18 +1,18 @@
-"""Proves a program or a static library and all that it stands on, each crate once those below it are proved, and builds it.
+"""Proves a program or a static library and everything that it depends on, each crate once those below it are proved, and builds it.
 
 usage: prove.py [--keep] [--built BEGUN] [--times FILE] [--beside OTHER] CRATE [FLAG ..]
                 (FLAGs are those of `rattle build` for CRATE itself; with --beside another one is proved and built in the same run)
 
-As many crates are proved side by side as there are processors, where memory allows, and first those with the longest chain of others
-above them. A check of a crate over many libraries loads them in each of its jobs, so a crate has one job. The lowest crates and the
-last one have more while processors are idle. What is proved and unchanged is not proved again: beside each library lies a note with
-a sum over all that it is made of. The libraries have no proofs in them, as in the gate, so that the crates above load them fast. With
---keep they have, and each check keeps its work, as `rt check` and `rt lib` want both. With --built, libraries that are newer than the
-file BEGUN are taken, as a gate leaves them.
+As many crates are proved side by side as there are processors, if memory allows. Those with the longest chain of others above them come
+first. A check of a crate over many libraries loads them in each of its jobs, so a crate has one job. The lowest crates and the last one
+have more while processors are idle. What is proved and unchanged is not proved again: beside each library lies a note with a sum over
+everything that it is made of. The libraries have no proofs in them, as in the gate, so that the crates above load them fast. With --keep
+they have, and each check keeps its work, as `rt check` and `rt lib` want both. With --built, libraries that are newer than the file BEGUN
+are taken, as a gate leaves them.
 
-It tells on standard error how far it is, and about how long it will still take: by the seconds in share/proof-times.txt, and by how
-long the crates took here that are proved. --times writes such a file, which also tells when each check began and ended, in seconds
-after the first, and its jobs. The first crate that fails ends all others, with what its check said on standard output and status 1.
+It says on standard error how far it is, and about how long it will still take: by the seconds in share/proof-times.txt, and by what
+the crates use here. --times writes such a file, which also says when each check began and ended, in seconds after the first, and its
+jobs. The first crate that fails ends all others, with what its check said on standard output and status 1.
 """
 import contextlib
 import functools
@@ -28,18 +28,18 @@ import time
 import schedule
 
 TOP = os.path.dirname(os.path.dirname(os.path.abspath(__file__)))
-KIT = os.path.dirname(os.path.dirname(os.path.realpath(shutil.which("rt") or sys.exit("there is no rt on the path"))))
+KIT = os.path.dirname(os.path.dirname(os.path.realpath(shutil.which("rt") or sys.exit("snapjudge: there is no rt on the path; README.md says what a machine needs"))))
 sys.path.insert(0, f"{KIT}/bin")
 import rtlib  # noqa: E402
 
-# How many lines are told of what a failed check said: first those that name what was wrong. Those that only count, or say what is
+# How many lines of a failed check are printed: first those that name what was wrong. Those that only count, or say what is
 # proved, are left out.
 TOLD = 20
 WRONG = re.compile(r"\berror\b|not proved")
 LEFT_OUT = re.compile(r"statements |crate |rattle build: |.*: proved\b")
-# How long standard error is silent at most, in seconds, where it is no terminal.
+# How long standard error is silent at most, in seconds, if it is not a terminal.
 SILENCE = 60
-# Where all proofs take more seconds, a first line says so.
+# If all proofs take more seconds, a first line says so.
 LONG = 120
 
 
@@ -50,15 +50,20 @@ def clock(seconds):
 
 @functools.cache
 def sum_of(crate):
-    """A sum over all that a crate is proved from: its files, those of the libraries below it, its line of crates.txt and the kit."""
+    """A sum over everything that a crate is proved from: its files, those of the libraries below it, its line of crates.txt and the kit."""
     parts = [rtlib.text_of(f"{KIT}/WHAT"), crate.said, [sum_of(it) for it in crate.deps]]
     for file in rtlib.files_of(crate.folder):
         parts.append((os.path.relpath(file, crate.folder), rtlib.sum_of(file)))
     return hashlib.sha256(repr(parts).encode()).hexdigest()
 
 
+def has_proofs(crate):
+    """Whether a library has its proofs in it, as --keep leaves it."""
+    return crate.makes_rlib() and os.path.exists(f"{crate.folder}/out/rlib/stamp")
+
+
 class Built:
-    """What is built of a crate, and the note beside it that tells from what it was built."""
+    """What is built of a crate, and the note beside it that says from what it was built."""
 
     def __init__(self, crate, flags=()):
         self.crate, self.flags = crate, list(flags)
@@ -72,18 +77,18 @@ class Built:
         return repr((sum_of(self.crate), self.flags, below))
 
     def is_fresh(self, keep, begun):
-        """Whether it is built of what lies there now; with `begun` also where a library and all below it are newer than that."""
+        """Whether it is built of what lies there now; with `begun` also if a library and all below it are newer than that."""
         if not all(os.path.exists(it) for it in [self.file, *(below.rlib for below in self.crate.below())]):
             return False
         if self.crate.makes_rlib() and begun is not None and all(os.stat(it.rlib).st_mtime_ns > begun for it in [self.crate, *self.crate.below()]):
             self.write_note()
             return True
-        if self.crate.makes_rlib() and rtlib.text_of(f"{self.crate.folder}/out/rlib/stamp") is not None:
+        if has_proofs(self.crate):
             return self.crate.is_built()
         return not keep and rtlib.text_of(self.note) == self.text()
 
     def forget(self):
-        """Removes it before it is built anew, so that nothing is left by halves."""
+        """Removes it before it is built anew, so that nothing half done is left."""
         if self.crate.makes_rlib():
             shutil.rmtree(os.path.dirname(self.file), ignore_errors=True)
         else:
@@ -105,9 +110,15 @@ def link(program):
 
 
 def told(said):
-    """The lines that are told of what a failed check said, first those that name what was wrong."""
+    """The lines of a failed check that are printed, first those that name what was wrong."""
     lines = [line for line in said.splitlines() if line and not LEFT_OUT.match(line)]
     return sorted(lines, key=lambda line: not WRONG.search(line))[:TOLD]
+
+
+def used_by(process):
+    """The processor seconds that a process has used so far, with those of what it started and waited for."""
+    times = rtlib.text_of(f"/proc/{process}/stat").rpartition(")")[2].split()[11:15]
+    return sum(map(int, times)) / os.sysconf("SC_CLK_TCK")
 
 
 class Check:
@@ -130,12 +141,16 @@ class Check:
         how = {"cwd": crate.folder, "stdin": subprocess.DEVNULL, "stdout": self.log, "stderr": subprocess.STDOUT}
         self.run = subprocess.Popen([*rtlib.guarded(), *words], **how)
 
-    def running(self):
-        return schedule.Running(self.crate, self.jobs, self.megabytes, time.monotonic() - self.begun)
+    def so_far(self):
+        return schedule.Running(self.crate, self.jobs, self.megabytes, time.monotonic() - self.begun, used_by(self.run.pid))
+
+    def whole(self):
+        return schedule.Running(self.crate, self.jobs, self.megabytes, self.ended - self.begun, self.seconds)
 
     def end(self, status, used):
         """Takes in how the run ended, and returns why it failed, or None."""
         self.run.returncode = os.waitstatus_to_exitcode(status)
+        self.ended = time.monotonic()
         self.seconds = used.ru_utime + used.ru_stime
         self.most = used.ru_maxrss // 1024
         with self.log:
@@ -196,7 +211,8 @@ def prove(crates, keep, flags, times):
     lanes = rtlib.cores()
     room = 0.85 * rtlib.number_in("/proc/meminfo", r"MemAvailable:\s+(\d+)") / 1024
     waiting, checks, measured = schedule.order(crates, times), [], {}
-    pace = schedule.Pace(times, lanes, os.getloadavg()[0])
+    loads_proofs = keep or any(has_proofs(below) for it in crates for below in it.below())
+    pace = schedule.Pace(times, lanes, os.getloadavg()[0], loads_proofs)
     progress = Progress(len(crates))
     progress.announce(schedule.left(waiting, [], lanes, room, pace), lanes, any(it.name == "snapjudge" for it in crates))
     try:
@@ -208,7 +224,7 @@ def prove(crates, keep, flags, times):
                 checks.append(Check(crate, jobs, keep, flags.get(crate, []), megabytes))
                 is_news = True
             if progress.is_due(is_news):
-                running = [it.running() for it in checks]
+                running = [it.so_far() for it in checks]
                 progress.say(running, schedule.left(waiting, running, lanes, room, pace))
             check, why = next_end(checks)
             if check is None:
@@ -218,9 +234,8 @@ def prove(crates, keep, flags, times):
                 progress.close()
                 return None, why
             progress.done += 1
-            ended = time.monotonic()
-            pace.ended(check.crate, check.jobs, ended - check.begun)
-            when = (round(check.begun - progress.begun), round(ended - progress.begun), check.jobs)
+            pace.ended(check.whole())
+            when = (round(check.begun - progress.begun), round(check.ended - progress.begun), check.jobs)
             measured[check.crate.name] = (round(check.seconds), check.most, *when)
     except KeyboardInterrupt:
         progress.close()
@@ -230,7 +245,7 @@ def prove(crates, keep, flags, times):
 
 
 def next_end(running):
-    """The next check that ends within a second, and why it failed; none where none does."""
+    """The next check that ends within a second, and why it failed; none if none does."""
     for _ in range(10):
         for it in running:
             process, status, used = os.wait4(it.run.pid, os.WNOHANG)
@@ -284,5 +299,13 @@ def main(words):
     return 0
 
 
+def run(words):
+    """The status of a run. Before the first check a signal ends it without a word: what started it says why."""
+    try:
+        return main(words)
+    except KeyboardInterrupt:
+        return 1
+
+
 if __name__ == "__main__":
-    sys.exit(main(sys.argv[1:]))
+    sys.exit(run(sys.argv[1:]))

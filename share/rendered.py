@@ -11,7 +11,7 @@ import zlib
 
 from pictures import SVG, Picture, bar_box, number, text_box
 
-# Two programs may differ by so much in one of the three parts of a colour, from 0 to 255: of an even part, and of one that is no wider
+# Two programs may differ by this much in one of the three parts of a colour, from 0 to 255: of an even part, and of one that is no wider
 # than its edges.
 EVEN, THIN = 8, 80
 MAKE = "import cairosvg, sys; sys.stdout.buffer.write(cairosvg.svg2png(bytestring=sys.stdin.buffer.read()))"
@@ -84,7 +84,7 @@ def programs():
 
 
 def drawn_by(words, text):
-    """The pixels of a picture by a program, or nothing where it can't draw it."""
+    """The pixels of a picture by a program, or nothing if it can't draw it."""
     ran = subprocess.run(words, input=text.encode(), capture_output=True, check=False)
     return Pixels(ran.stdout) if ran.returncode == 0 else None
 

@@ -9,15 +9,16 @@ _snapjudge() {
     --format) mapfile -t COMPREPLY < <(compgen -W 'plain json' -- "$word"); return ;;
   esac
   case ${COMP_WORDS[1]} in
-    check | shrink | explain | draw)
+    check | shrink | explain | draw | stats)
       words=--help
       [[ ${COMP_WORDS[1]} != check ]] || words='--pieces --workers --files-from --null --recursive --quiet -q --views --events --format --summary --follow --window --idle --no-progress --color --help'
       [[ ${COMP_WORDS[1]} != draw ]] || words='--svg --text --events --help'
+      [[ ${COMP_WORDS[1]} != stats ]] || words='--format --events --help'
       [[ ${COMP_WORDS[1]} != @(shrink|explain) ]] || words='--draw --events --help'
       [[ $word == -* ]] || { mapfile -t COMPREPLY < <(compgen -f -- "$word"); return; }
       ;;
     record) words='--workers --rounds --events --scan --judge --stamped --help' ;;
-    *) words='check shrink explain draw record --help --version -V' ;;
+    *) words='check shrink explain draw stats record --help --version -V' ;;
   esac
   mapfile -t COMPREPLY < <(compgen -W "$words" -- "$word")
 }

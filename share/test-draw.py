@@ -1,10 +1,10 @@
 #!/usr/bin/env python3
-"""Tries `snapjudge draw` on each history of examples/. The last line is 'N passed, M failed', with ', K skipped' behind it.
+"""Tries `snapjudge draw` on each history of examples/. The last line is 'N passed, M failed', with ', K skipped' after it.
 
-usage: test-draw.py [--write] [PROGRAM]      the program is ./snapjudge where none is named
+usage: test-draw.py [--write] [PROGRAM]      the program is ./snapjudge by default
 
 What a picture must show is worked out here from the history's text and from the report that is kept beside it. The picture is
-read as XML, and its numbers are compared. Where chromium is here, the page is opened in it at two widths, light and dark. Where
+read as XML, and its numbers are compared. If chromium is here, the page is opened in it at two widths, light and dark. If
 rsvg-convert or the module cairosvg is here too, they must give the parts of each picture the colours that chromium gives them. Pictures
 are kept in docs/pictures as pages can show them: folded, and of a run that is too wide for a page its witness too. They must be what
 the program draws today; with --write they are written. First the tests are tried themselves: each must find what is wrong with a
@@ -64,7 +64,7 @@ class Count:
 
 
 def picture_of(count, name, text):
-    """The picture that a text is; or none, where it is no XML."""
+    """The picture that a text is; or none, if it is not XML."""
     try:
         return Picture(text)
     except tree.ParseError as wrong:
@@ -135,7 +135,7 @@ def try_faults(count, name, picture, faults, said):
 
 
 def try_order(count, name, picture, order):
-    """Each call of the printed order takes effect in its bar, one behind the other, and the line leads through these points."""
+    """Each call of the printed order takes effect in its bar, one after the other, and the line leads through these points."""
     count.same(picture.ids("place-"), {str(place) for place in range(1, len(order) + 1)}, f"{name}: places")
     if not order or len(picture.ids("place-")) != len(order):
         return
@@ -240,12 +240,13 @@ def try_witness(count, program, browser, path, is_written):
 
 
 def try_example(count, program, browser, path, is_written):
-    """All that is tried on a history; the names of its pictures are returned."""
+    """Everything that is tried on a history; the names of its pictures are returned."""
     name, history, report = path.stem, path.read_text(), path.with_suffix(".report").read_text()
     status, picture_text = draw(program, path, "--svg")
     count.same(status, subprocess.run([program, "check", path], capture_output=True, check=False).returncode, f"{name}: status")
     if report.startswith("refused"):
-        count.same(picture_text, report, f"{name}: what is written of no history")
+        explanation = subprocess.run([program, "explain", path], capture_output=True, text=True, check=False).stdout
+        count.same(picture_text, explanation, f"{name}: what is written of a text that is not a history")
         return []
     page_status, page = draw(program, path)
     count.same(page_status, status, f"{name}: status of the page")
@@ -283,7 +284,7 @@ def try_text(count, program, path, status):
 
 
 def try_picture(count, name, text, history, report, said):
-    """All that is said of a picture of a history."""
+    """Everything that is said of a picture of a history."""
     calls = calls_of(history)
     faults, order = faults_of(report, calls)
     picture = picture_of(count, name, text)

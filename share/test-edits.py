@@ -1,5 +1,5 @@
 #!/usr/bin/env python3
-"""Tries that each wrong body can be applied, those of must-fail/ and those of sweep/must-catch: each old text stands once in its file,
+"""Tries that each wrong body can be applied, those of must-fail/ and those of sweep/must-catch: each old text occurs once in its file,
 after the changes before it, and the new one differs. It proves nothing, and takes a second. The last line is 'N passed, M failed'.
 
 usage: test-edits.py
@@ -13,7 +13,7 @@ import must_catch  # noqa: E402
 
 
 def hindrance(folder, changes, read):
-    """What hinders the changes in a folder, or nothing where they can be made."""
+    """What hinders the changes in a folder, or nothing if they can be made."""
     texts = {}
     for file, old, new in changes:
         if not file or not old:

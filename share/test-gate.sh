@@ -10,6 +10,7 @@ failed=0
 
 mkdir -p "$room"/{bin,tree/{share,ffi/record,sweep,examples/systems}}
 cp "$top/test" "$room/tree"
+cp "$top/share/crates.py" "$room/tree/share"
 echo "regular yes" >"$room/tree/examples/one.report"
 touch "$room/tree/examples/one.csv"
 # what has changed since a gate passed is what a file says
@@ -19,7 +20,7 @@ echo "snap_core:" >"$room/tree/crates.txt"
 mkdir -p "$room/tree/crates/snap_core/src" "$room/tree/crates/snap_core/must-fail" "$room/tree/crates/snapjudge/out"
 touch "$room/tree/crates/snapjudge/out/snapjudge"
 
-# A part that does what the file of its name says, or passes where there is none.
+# A part that does what the file of its name says, or passes if there is none.
 stub() {
   cat >"$room/tree/$2" <<STUB
 #!/usr/bin/env bash
@@ -145,7 +146,7 @@ if grep -q "^recorders: must-fail" "$room/out"; then
 else
   passed=$((passed + 1))
 fi
-# each part's own processor time is told, also where it runs beside others
+# each part's own processor time is printed, even if it runs beside others
 for part in launcher recorders; do
   echo works >"$room/$part"
 done
@@ -201,10 +202,15 @@ rm "$room/rt"
 echo fails >"$room/pages"
 expect "a page is wrong" 1 "11 passed, 2 failed" "crates was not reached: a part that takes seconds has failed"
 rm "$room/pages"
+mv "$room/tree/crates.txt" "$room"
+expect "the crates can't be read" 1 "12 passed, 1 failed" "crates was not reached: crates.txt can't be read"
+mv "$room/crates.txt" "$room/tree"
 rm "$room/tree/built/passed"
 expect "no gate has passed" 1 "no gate has passed here yet.*"
 words=(--slow)
-expect "a word that the gate does not know" 5 "usage: test.*"
+expect "a word that the gate does not know" 5 "  --quick .*" "usage: test [--help | --anew | --quick]"
+words=(--help)
+expect "the help of the gate" 0 "  --quick .*" "usage: test [--help | --anew | --quick]"
 mkdir "$room/few"
 for tool in bash dirname mktemp touch rm; do
   ln -s "$(command -v "$tool")" "$room/few/$tool"
@@ -219,7 +225,7 @@ else
   cat "$room/out"
 fi
 
-# A check that fails tells the goals first, and nothing that is proved.
+# A check that fails names the goals first, and nothing that is proved.
 if python3 -B - "$top/share" >"$room/out" 2>&1 <<'PY'
 import sys
 

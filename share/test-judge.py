@@ -1,7 +1,7 @@
 #!/usr/bin/env python3
 """Compares examples/judge.py with the program, byte by byte, on random texts. The last line is 'N passed, M failed'.
 
-usage: test-judge.py [PROGRAM]      the program is ./snapjudge where none is named
+usage: test-judge.py [PROGRAM]      the program is ./snapjudge by default
 
 The texts are runs of a simulated board with overlapping and pending calls. In some a view takes effect at one moment, in others it reads
 one component after another, and some views are changed. Some texts have stamps, in any order, and some are damaged. All come from
@@ -21,7 +21,7 @@ FOLDER = TOP / "examples"
 # The module that judge.py imports comes first.
 SOURCES = {name: (FOLDER / f"{name}.py").read_text(encoding="utf-8") for name in ("reader", "judge")}
 SEED, TEXTS, FILES = 20, 4000, 250
-# Each of these lines begins so many reports at least, or the texts say too little.
+# At least this many reports have a line that begins so, or the texts say too little.
 LEAST = 10
 LINES = ("regular no", "monotone no", "atomic yes", "atomic no", "integrity", "proximity", "read", "write", "refused")
 FAULTS = ("header", "fields", "at", "event", "process", "op", "data", "repeated", "busy", "idle", "otherop", "writer", "number")
@@ -92,7 +92,7 @@ class Board:
 
 
 def changed_views(chance, rows):
-    """The same events, where some views show something else."""
+    """The same events, in which some views show something else."""
     rows = [list(row) for row in rows]
     ends = [row for row in rows if row[0] == "end" and row[2] == "view"]
     for row in chance.sample(ends, min(len(ends), chance.randint(1, 2))):
@@ -193,7 +193,7 @@ def module_of(name, text):
 
 
 def judge_of(old="", new=""):
-    """What judge.py says of a text: its status and its report. Where a text is named, it is changed first."""
+    """What judge.py says of a text: its status and its report. If a text is named, it is changed first."""
     reader, judge = (module_of(name, SOURCES[name].replace(old, new) if old else SOURCES[name]) for name in SOURCES)
 
     def judged(text):

@@ -11,8 +11,7 @@ asked() {
 # Whether this user can be refused a file.
 can_be_refused() {
   [ "$(id -u)" = 0 ] || return 0
-  echo "skipped: root reads each file and folder ($1)"
-  skipped=$((skipped + 1))
+  skip "$1" "since root reads each file and folder"
   return 1
 }
 
@@ -20,16 +19,15 @@ can_be_refused() {
 counts_links() {
   mkdir -p links/inner
   [ -z "$(find links -prune -links 3)" ] || return 0
-  echo "skipped: the file system counts no folders ($1)"
-  skipped=$((skipped + 1))
+  skip "$1" "the file system counts no folders"
   return 1
 }
 
-# The sums of snapjudge.cluster, where there is Python and the library.
+# The sums of snapjudge.cluster, if there is Python and the library.
 by_cluster() {
-  if ! has python3 || [ ! -e "$top/ffi/build/libsnapjudge.so" ]; then
-    echo "skipped: python3 and ffi/build/libsnapjudge.so ($1)"
-    skipped=$((skipped + 1))
+  has python3 "$1" || return
+  if [ ! -e "$top/ffi/build/libsnapjudge.so" ]; then
+    skip "$1" "ffi/build/libsnapjudge.so is not here"
     return 1
   fi
   about=$1 status=$2 wanted=$3
@@ -124,7 +122,7 @@ expect_said "the list and the reason" "snapjudge: list: name 1 is empty"
 : >list
 asked "an empty list" 4 "" --files-from list
 expect_said "the reason" "snapjudge: there are no recordings"
-asked "an empty list behind a word" 1 "old.csv
+asked "an empty list after a word" 1 "old.csv
 " --files-from list old.csv
 asked "no such list" 4 "" --files-from none old.csv
 expect_said "the list and the reason" "snapjudge: none: no such file"
@@ -183,7 +181,7 @@ runs/with blank/a b.csv
 for word in -r --recursive; do
   asked "a folder, by $word" 2 "$below" $word runs
 done
-asked "a folder with a slash behind it" 2 "$below" -r runs/
+asked "a folder with a slash after it" 2 "$below" -r runs/
 expect "the folder that one is in" 2 "$(printf '%s' "$below" | sed 's/^runs/./')
 " sh -c 'cd runs && ../second check --quiet -r . >../answer; code=$?; sed -n "s/: atomic .*//p" ../answer; exit $code'
 asked "a link to a folder that is named" 2 "$(for number in 1 2 3 4 5 6 7 8 9; do echo runs/linked/$number.csv; done)
@@ -200,7 +198,7 @@ asked "a file in the place of a folder" 1 "old.csv
 " -r old.csv
 asked "an empty folder" 4 "" -r runs/empty
 expect_said "the reason" "snapjudge: there are no recordings"
-asked "an empty folder behind a word" 1 "old.csv
+asked "an empty folder after a word" 1 "old.csv
 " -r runs/empty old.csv
 asked "no such folder" 4 "old.csv
 " -r none old.csv
@@ -269,7 +267,7 @@ expect_said "the names and the reason" "$told"
 by_cluster "sums by snapjudge.cluster of a folder with names that are not UTF-8" 4 "$summed" runs/a &&
   expect_said "the names and the reason" "$told"
 rm -r "$bare"*
-if has python3; then
+if has python3 "names as snapjudge.cluster takes them"; then
   expect "the names below a folder, as snapjudge.cluster takes them" 0 "$below" env PYTHONPATH="$top/ffi/python" python3 -c '
 import sys
 from snapjudge.cluster import names_below
@@ -300,7 +298,7 @@ long=$(printf '%0300d' 0)
 asked "a long name" 4 "old.csv
 " $long old.csv
 expect_said "the file and the reason" "snapjudge: $long: the name is too long"
-if has python3; then
+if has python3 "a socket"; then
   python3 -c 'import socket; socket.socket(socket.AF_UNIX).bind("socket.csv")'
   asked "a socket" 4 "old.csv
 " socket.csv old.csv
@@ -308,7 +306,7 @@ if has python3; then
   rm socket.csv
 fi
 # a process whose limit falls to the files that it has open, once it has read a name of its list
-if has python3; then
+if has python3 "a process that may open no more files"; then
   expect "a process that may open no more files" 4 "snapjudge: old.csv: too many open files
 " python3 -B -c '
 import fcntl, resource, struct, subprocess, sys, termios, time

@@ -1,7 +1,8 @@
 #!/usr/bin/env bash
-# Makes the packages twice, which must give the same bytes, and tries each on a clean prefix without rt on the path: its checksums,
-# the program and the examples, a caller in C, the recorders, the Python module, and that nothing is left once it is removed. The last
-# line is 'N passed, M failed', with ', K skipped' behind it where a tool is missing; a line before it names what was not tried.
+# Makes the packages twice, and the program and the library too, which must give the same bytes. Tries each package on a clean prefix
+# without rt on the path: its checksums, the program and the examples, a caller in C, the recorders, the Python module, and that nothing
+# is left once it is removed. The image is tried without a container, in a root that has its files alone. The last line is 'N passed,
+# M failed', with ', K skipped' after it if something could not be tried; a line before it names that.
 # usage: test-package.sh [--dist DIST] [WORD ..]    the words are those of package; with --dist the packages in DIST are tried
 set -u
 unset CDPATH
@@ -18,40 +19,11 @@ for word; do
 done
 cd "$(dirname "${BASH_SOURCE[0]}")/.." || exit 1
 top=$PWD
-room=$(mktemp -d) || exit 1
-trap 'rm -rf "$room"' EXIT
-passed=0
-failed=0
-skipped=0
+part=package
+. share/lib.sh
 version=$(cat VERSION)
 folder=snapjudge-$version-x86_64
 documents=share/doc/snapjudge
-
-# try NAME COMMAND ..: one test, which passes where the command ends with 0
-try() {
-  local name=$1
-  shift
-  if "$@" >"$room/log" 2>&1; then
-    passed=$((passed + 1))
-  else
-    tail -n 20 "$room/log"
-    echo "package: $name: FAILED"
-    failed=$((failed + 1))
-  fi
-}
-
-# skip WHAT TOOL: counts what was not tried
-skip() {
-  echo "skipped: $1, $2 is not here"
-  skipped=$((skipped + 1))
-}
-
-# has TOOL WHAT: whether there is such a tool; else what it would try is skipped
-has() {
-  command -v "$1" >/dev/null && return 0
-  skip "$2" "$1"
-  return 1
-}
 
 # A machine with these tools alone, with the home that is named, and nothing of where this runs.
 mkdir "$room/tools"
@@ -60,16 +32,6 @@ for tool in cut gzip mkdir rm sh sha256sum tar xargs; do
 done
 bare() {
   env -i HOME="$1" PATH="$room/tools" "${@:2}"
-}
-
-# The second making has another folder, zone, mask of modes and order of what Python keeps in sets.
-make() {
-  (cd "$1" && umask "$2" && env TZ="$3" PYTHONHASHSEED="$4" LC_ALL="$5" "$top/package" "${words[@]}" made)
-}
-
-# Whether two folders have the same files of the same bytes; the first has some.
-same() {
-  [ -n "$(ls "$1")" ] && diff -r "$1" "$2"
 }
 
 # Whether the checksums of a prefix are those of its files, and every file has one.
@@ -88,7 +50,7 @@ has_all() {
   [ "$found" -gt 0 ]
 }
 
-# What ./install puts under a prefix, but for the program.
+# What ./install puts under a prefix, except for the program.
 has_installed() {
   ./install "$room/installed" &&
     (cd "$room/installed" && find . -type f ! -path ./bin/snapjudge -printf '%P\n') >"$room/list" && has_all "$room/installed" "$1"
@@ -99,15 +61,17 @@ has_recorders() {
     has_all ffi/record "$1/share/snapjudge/record"
 }
 
+# The pages and the examples, as they are here. The page with the sums of the packages has none of them there.
 has_documents() {
-  ls ./*.md LICENSE docs/*.md docs/pictures/* examples/*.* >"$room/list" && has_all . "$1/$documents"
+  ls ./*.md LICENSE docs/*.md docs/*/*.md docs/pictures/* examples/*.* | grep -vx docs/INSTALL.md >"$room/list" && has_all . "$1/$documents" &&
+    awk '/^```$/ { inside = 0 } !inside; /^```text sums$/ { inside = 1 }' docs/INSTALL.md | cmp - "$1/$documents/docs/INSTALL.md"
 }
 
 # Whether each link of the pages under a prefix leads to what is there too.
 links_lead() (
   found=0
   cd "$1/$documents" || exit
-  for page in *.md docs/*.md examples/README.md; do
+  for page in *.md docs/*.md docs/*/*.md examples/README.md; do
     while IFS= read -r target; do
       [ -e "${page%"${page##*/}"}$target" ] || { echo "$page: $target leads nowhere" && exit 1; }
       found=$((found + 1))
@@ -133,7 +97,7 @@ status_of() {
   esac
 }
 
-# judges PREFIX [SETTING]: whether the program judges each example, also where the C library hides what a later processor has
+# judges PREFIX [SETTING]: whether the program judges each example, even if the C library hides what a later processor has
 judges() {
   local history report status
   for history in "$top"/examples/*.csv; do
@@ -144,8 +108,8 @@ judges() {
   done
 }
 
-# Builds with the flags that pkg-config tells, runs with the shared library of the prefix, and does not start without it; then
-# with the static one.
+# Builds with the flags that pkg-config gives, runs with the shared library of the prefix, and does not start without it. Then
+# it does so with the static one.
 calls_from_c() {
   local flags libraries
   flags=$(PKG_CONFIG_LIBDIR=$1/lib/pkgconfig pkg-config --cflags snapjudge) || return
@@ -177,24 +141,102 @@ records_in_python() {
 
 has_pip() {
   python3 -m pip --version >/dev/null 2>&1 && return 0
-  skip "the wheel" pip
+  skip "the wheel" "pip is not here"
   return 1
 }
 
-# Installs the wheel, and judges each example by its module.
+# Installs the wheel where nothing else of these sources is, and judges each example by its module and by its program.
 judges_in_python() {
-  rm -rf "$room/module"
-  python3 -m pip install -q --no-index --disable-pip-version-check --root-user-action=ignore --target "$room/module" "$1" &&
-    (cd "$room" && env -u SNAPJUDGE_LIBRARY PYTHONPATH="$room/module" python3 -B -c '
+  local history status bin=$room/venv/bin
+  python3 -m venv --system-site-packages --without-pip "$room/venv" &&
+    "$bin/python" -m pip install -q --no-index --disable-pip-version-check --root-user-action=ignore "$1" &&
+    (cd "$room" && env -u SNAPJUDGE_LIBRARY "$bin/python" -B -c '
 import snapjudge, sys
 assert snapjudge.__file__.startswith(sys.argv[1]), snapjudge.__file__
-for name in sys.argv[2:]:
+assert snapjudge.__version__ == sys.argv[2], snapjudge.__version__
+for name in sys.argv[3:]:
     with open(name, "rb") as text, open(name[:-4] + ".report") as wanted:
         assert snapjudge.report(text.read())[1] == wanted.read(), name
-' "$room/module" "$top"/examples/*.csv)
+' "$room/venv" "$version" "$top"/examples/*.csv) || return
+  for history in "$top"/examples/*.csv; do
+    "$bin/snapjudge" check "$history" >"$room/out"
+    status=$?
+    cmp "$room/out" "${history%.csv}.report" && [ "$status" = "$(status_of "${history%.csv}.report")" ] || return
+  done
 }
 
-# What docs/INSTALL.md tells to do: the lines behind `$` of a block of a section, which a machine without rt runs in DIST.
+# What else the wheel has: the recorder and its driver, whose runs its program judges, and two commands.
+records_in_python_by_wheel() {
+  local bin=$room/venv/bin
+  (cd "$room" && PATH="$bin:$PATH" env -u SNAPJUDGE_PROGRAM -u SNAPJUDGE_LIBRARY "$bin/python" -B -W error -c '
+import threading
+from snapjudge import driver, recorder
+
+class Locked:
+    def __init__(self, components):
+        self.lock, self.values = threading.Lock(), [0] * components
+    def update(self, thread, component, value):
+        driver.pause()
+        with self.lock:
+            self.values[component] = value
+    def view(self, thread):
+        with self.lock:
+            driver.pause()
+            return list(self.values)
+
+assert recorder.Recorder(1, 1, 1).text() == "at,event,process,op,data\n"
+driver.main({"locked": Locked})
+' --runs 3 --views 1 && "$bin/snapjudge-merge-logs" "$top"/ffi/record/logs/*.log >merged.csv && cmp merged.csv "$top/ffi/record/logs/merged.csv" &&
+    echo '{:type :invoke, :f :write, :value [:x 3], :process 0, :index 0}
+{:type :ok, :f :write, :value [:x 3], :process 0, :index 1}
+{:type :invoke, :f :read, :value [:x nil], :process 1, :index 2}
+{:type :ok, :f :read, :value [:x nil], :process 1, :index 3}' >old.edn && "$bin/snapjudge-from-jepsen" --into jepsen old.edn &&
+    "$bin/snapjudge" check --quiet jepsen/old.csv >old.report
+  [ $? = 2 ])
+}
+
+# A python that has pytest.
+with_pytest() {
+  local python
+  for python in python3 /usr/bin/python3; do
+    "$python" -c 'import pytest' 2>/dev/null && echo "$python" && return 0
+  done
+  return 1
+}
+
+# judges_tests PYTHON: a right recording passes and a wrong history fails, with its sentences, a witness, and a page in the folder that is named
+judges_tests() {
+  rm -rf "$room/tested"
+  python3 -m pip install -q --no-index --disable-pip-version-check --root-user-action=ignore --target "$room/tested" "$wheel" || return
+  (cd "$room/tested" && cat >test_boards.py <<'PYTHON'
+from snapjudge.testing import assert_atomic
+
+def test_right(recording):
+    recorder = recording(1, 1, 2)
+    log = recorder.logs[0]
+    log.begin_update(0, 7)
+    log.end_update()
+    log.begin_view()
+    log.end_view_values([7])
+
+def test_old(recording):
+    recorder = recording(1, 1, 2)
+    log = recorder.logs[0]
+    log.begin_update(0, 7)
+    log.end_update()
+    log.begin_view()
+    log.end_view_values([0])
+
+def test_stale():
+    assert_atomic(open(EXAMPLE), views=2)
+PYTHON
+  sed -i "s,EXAMPLE,'$top/examples/stale-view.csv'," test_boards.py
+  env -u SNAPJUDGE_LIBRARY PYTHONPATH=. "$1" -B -m pytest -q --snapjudge-out caught test_boards.py >said
+  [ $? = 1 ] && grep -q '^2 passed, 1 error\|1 failed, 2 passed, 1 error' said && grep -q 'proximity: view 2 shows 0:0, though update 0:1 had ended' said &&
+    grep -q 'begin,0,update,0:1:7' said && [ -s caught/test_old.csv ] && grep -q '<svg' caught/test_old.html)
+}
+
+# What docs/INSTALL.md says to do: the lines after `$` of a block of a section, which a machine without rt runs in DIST.
 write_script() {
   awk -v section="$1" -v block="$2" '
     /^##? / && !inside { here = $0 == "# " section || $0 == "## " section }
@@ -207,7 +249,7 @@ runs_as_told() {
   write_script "$1" "$2" && (cd "$dist" && bare "$room/home" sh -eu "$room/script")
 }
 
-# Whether a folder has no file, nor a link, but for those of the dpkg of that root.
+# Whether a folder has no file, nor a link, except for those of the dpkg of that root.
 is_empty() {
   [ -d "$1" ] && [ -z "$(find "$1" -path "$1/var/lib/dpkg" -prune -o ! -type d -print)" ]
 }
@@ -228,12 +270,13 @@ removes() {
   [ -x "$room/root/usr/bin/snapjudge" ] && PATH=$PATH:/usr/sbin:/sbin dpkg --root="$room/root" -r snapjudge && is_empty "$room/root"
 }
 
-# The two packages have the same files, of the same bytes, but for the folder of what completes in zsh.
+# The two packages have the same files, of the same bytes, except for the folder of what completes in zsh.
 same_files() {
   diff <(sort "$1/$documents/SHA256SUMS") <(sed 's,/zsh/vendor-completions/,/zsh/site-functions/,' "$2/$documents/SHA256SUMS" | sort)
 }
 
 . share/own-root.sh
+. share/same-bytes.sh
 
 # What a machine has that has nothing: the C library, and the tools of bare.
 has_own_root() {
@@ -242,18 +285,23 @@ has_own_root() {
     add_tools "$own_root" env cut gzip mkdir rm sh sha256sum tar xargs && can_change_root "$own_root"
 }
 
-# judges_there PROGRAM: whether a program judges each example in that root
-judges_there() {
+# judges_by COMMAND ..: whether a command judges each example, which it reads on standard input
+judges_by() {
   local history report status
   for history in "$top"/examples/*.csv; do
     report=${history%.csv}.report
-    in_root "$own_root" "$1" check <"$history" >"$room/out"
+    "$@" <"$history" >"$room/out"
     status=$?
     cmp "$room/out" "$report" && [ "$status" = "$(status_of "$report")" ] || return 1
   done
 }
 
-# Does in that root what docs/INSTALL.md tells, and tries the program, which finds its examples there.
+# judges_there PROGRAM: whether a program judges each example in that root
+judges_there() {
+  judges_by in_root "$own_root" "$1" check
+}
+
+# Does in that root what docs/INSTALL.md says, and tries the program, which finds its examples there.
 installs_archive_there() {
   cp "$archive" "$dist/SHA256SUMS" "$own_root/home" && write_script "Install without Rattle" 1 && cp "$room/script" "$own_root/home/first" &&
     write_script "The archive" 1 && cp "$room/script" "$own_root/home/second" &&
@@ -281,25 +329,60 @@ for name in names:
 '
 }
 
-# Packs once more what the archive has, by a copy of the scripts in a folder of another name, for which the files are new. What
-# was packed is proved already, and so nothing is proved twice.
-packed_elsewhere() {
-  local copy="$room/an other tree" parts=$room/parts
-  mkdir -p "$copy" "$parts" "$room/alone/share" &&
-    tar cf - --exclude=.git --exclude=out --exclude=./built --exclude=./ffi/build --exclude=target --exclude=__pycache__ . | tar xmf - -C "$copy" &&
-    tar xmf "$archive" -C "$parts" --strip-components=1 &&
-    cp -r "$parts/bin" "$parts/lib" "$parts/include" "$room/alone" &&
-    cp -r "$parts/share/man" "$parts/share/bash-completion" "$parts/share/zsh" "$parts/share/fish" "$room/alone/share" &&
-    (cd / && umask 077 && TZ=America/Lima PYTHONHASHSEED=3 python3 -B "$copy/share/package.py" "$room/alone" "$parts/lib" \
-      "$(head -n 1 "$parts/$documents/PROVED")" "$(sed -n 's/^sources //p' "$parts/$documents/PROVED")" \
-      "$(tar tvf "$archive" --full-time --utc | awk 'NR == 1 { print $4, $5 }' | date -u -f - +%s)" "$room/elsewhere") &&
-    same "$room/elsewhere" "$dist"
+# The image has the program of the archive, what that loads here, and an empty folder; and nothing else.
+has_what_it_needs() {
+  mkdir -p "$room/needed/usr/bin" "$room/needed/work" && cp "$prefix/bin/snapjudge" "$room/needed/usr/bin" &&
+    add_libraries "$room/needed" "$prefix/bin/snapjudge" && diff -r "$room/needed" "$room/image" && [ -z "$(find "$room/image" -mindepth 1 ! -perm 755)" ]
+}
+
+# The labels of the image, by skopeo, which copies it as Docker and as Podman read it.
+is_copied() {
+  local form
+  for form in "docker-archive:$image" "docker-archive:$image:snapjudge:$version" "oci-archive:$image:$version" "oci-archive:$image:latest"; do
+    rm -rf "$room/copied" &&
+      skopeo --insecure-policy copy -q "$form" "dir:$room/copied" && [ "$(skopeo --insecure-policy inspect --format "$1" "dir:$room/copied")" = "$2" ] || return
+  done
+}
+
+# in_image WORD ..: runs the program of the image on these words, in a root that has the image alone
+in_image() {
+  env -i PATH="$PATH" "${changes_root[@]}" "$room/image" /usr/bin/snapjudge "$@"
+}
+
+# docker COMMAND ..: knows whether the file is there that is loaded, and runs the image in its own root; it takes no account of options
+docker() {
+  case $1 in
+    load) [ -s "$3" ] ;;
+    run)
+      while [ $# -gt 0 ] && [ "$1" != snapjudge ]; do shift; done
+      in_image "${@:2}"
+      ;;
+    *) return 1 ;;
+  esac
+}
+
+# Loads and runs as docs/INSTALL.md tells.
+runs_image_as_told() {
+  mkdir "$room/told" && cp "$image" "$room/told" && cp examples/stale-view.csv "$room/told/run.csv" && write_script "The image" 1 || return
+  (cd "$room/told" && . "$room/script") >"$room/out"
+  [ $? = 2 ] && cmp "$room/out" examples/stale-view.report
+}
+
+# A caller's file is below the folder that the image has for it.
+judges_in_its_folder() {
+  cp "$top/examples/atomic-run.csv" "$room/image/work" && in_image check work/atomic-run.csv | cmp - "$top/examples/atomic-run.report"
 }
 
 # refuses STATUS REASON WORD ..: package ends with this status, says why, and leaves nothing
 refuses() {
   ./package "${@:3}" "$room/none" 2>"$room/err"
   [ $? = "$1" ] && grep -qF -- "$2" "$room/err" && ! [ -e "$room/none" ]
+}
+
+# shows_help: the usage goes to standard output, and nothing is made
+shows_help() {
+  ./package --help >"$room/help" 2>"$room/err" && [ ! -s "$room/err" ] && ! [ -e "$room/none" ] &&
+    [ "$(head -n 1 "$room/help")" = "usage: package [--help] [--sums] [--program FILE] [--library FOLDER] [DIST]" ]
 }
 
 # try_prefix NAME PREFIX: what was installed there
@@ -323,6 +406,7 @@ printf '#!/bin/sh\necho snapjudge 9\n' >"$room/other"
 chmod +x "$room/other"
 try "a program of another version" refuses 1 "its program is snapjudge 9, and VERSION has $version" "${words[@]}" --program "$room/other"
 try "a word that is none" refuses 5 "usage: package" "${words[@]}" --words
+try "its help" shows_help
 try "two folders" refuses 5 "usage: package" "${words[@]}" "$room/else"
 
 mkdir "$room/first" "$room/second"
@@ -335,13 +419,15 @@ try "the same bytes" same "$room/second/made" "$dist"
 archive=$dist/$folder.tar.gz
 deb=$dist/snapjudge_${version}_amd64.deb
 wheel=$(echo "$dist/snapjudge-$version"-py3-none-manylinux_*_x86_64.whl)
+image=$dist/snapjudge-$version-image.tar
 
 mkdir "$room/home"
 prefix=$room/home/.local
 try "checksums of the packages" runs_as_told "Install without Rattle" 1
-try "each package has its checksum" diff <(cut -c 67- "$dist/SHA256SUMS") <(cd "$dist" && ls -- *.deb *.tar.gz *.whl | sort)
+try "each package has its checksum" diff <(cut -c 67- "$dist/SHA256SUMS") <(cd "$dist" && ls -- *.deb *.tar *.tar.gz *.whl | sort)
 try "archive: installed as docs/INSTALL.md tells" runs_as_told "The archive" 1
 try_prefix archive "$prefix"
+try "archive: the day of the release" has_its_day
 try "archive: what ./install installs" has_installed "$prefix"
 try "archive: recorders" has_recorders "$prefix"
 try "archive: documents" has_documents "$prefix"
@@ -350,7 +436,15 @@ has cc "C" && has pkg-config "C" && try "archive: C" calls_from_c "$prefix"
 has cc "the recorder in C" && try "archive: the recorder in C" records_in_c "$prefix"
 try "archive: the recorder in Python" records_in_python "$prefix"
 try "archive: the wheel" cmp "$wheel" "$prefix/share/snapjudge/${wheel##*/}"
-has_pip && try "the wheel" judges_in_python "$wheel"
+if has_pip; then
+  try "the wheel" judges_in_python "$wheel"
+  try "the wheel: the recorder, its driver and the commands" records_in_python_by_wheel
+  if python=$(with_pytest); then
+    try "the wheel: tests by pytest" judges_tests "$python"
+  else
+    skip "the wheel: tests by pytest" "pytest is not here"
+  fi
+fi
 
 if has dpkg-deb "the Debian package"; then
   try "Debian: its fields" is_debian "$deb"
@@ -358,25 +452,37 @@ if has dpkg-deb "the Debian package"; then
   try_prefix Debian "$room/unpacked/usr"
   try "Debian: the files of the archive" same_files "$prefix" "$room/unpacked/usr"
 fi
-if has dpkg "dpkg -i" && { [ "$(id -u)" = 0 ] || { skip "dpkg -i" "the right of root"; false; }; }; then
+if has dpkg "dpkg -i" && { [ "$(id -u)" = 0 ] || { skip "dpkg -i" "which takes root"; false; }; }; then
   try "dpkg -i" installs "$deb"
   try "dpkg -i: the examples" judges "$room/root/usr"
   try "dpkg -r" removes
 fi
 
+mkdir "$room/image"
+try "image: its form" share/test-image.py "$image" "$version" "$(sed -n 's/^date-released: //p' CITATION.cff)" "$prefix/$documents/PROVED" "$room/image"
+try "image: what the program needs, and no more" has_what_it_needs
+if has skopeo "the image by skopeo"; then
+  try "image: by skopeo" is_copied '{{.Architecture}} {{.Os}} {{index .Labels "org.opencontainers.image.version"}}' "amd64 linux $version"
+fi
+
 try "the same bytes, in another folder" packed_elsewhere
+try "sums that are kept, and compared" keeps_sums
+try_kept_sums
+try "the same program, compiled in another folder" same_program
+try "the same library, compiled in another folder" same_library
 if has_own_root; then
   try "archive: in a root of its own" installs_archive_there
   has dpkg-deb "the Debian package in a root of its own" && try "Debian: in a root of its own" installs_deb_there
   has_pip && try "the wheel in a root of its own" judges_in_python_there
+  try "image: its version, in a root of its own" eval '[ "$(in_image --version)" = "snapjudge $version" ]'
+  try "image: the examples, in a root of its own" judges_by in_image check -
+  try "image: a file, in a root of its own" judges_in_its_folder
+  try "image: as docs/INSTALL.md tells" runs_image_as_told
 else
-  skip "each package in a root of its own" "the right to change it"
+  skip "each package in a root of its own" "which this user may not change here"
 fi
 
 try "archive: removed as docs/INSTALL.md tells" runs_as_told "The archive" 2
 try "archive: nothing is left" is_empty "$prefix"
 
-more=
-[ "$skipped" = 0 ] || more=", $skipped skipped"
-echo "$passed passed, $failed failed$more"
-[ "$failed" = 0 ]
+end_tests

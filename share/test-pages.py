@@ -1,17 +1,17 @@
 #!/usr/bin/env python3
-"""Tries the pages: their dialogues, links, pictures, paths and sizes. The last line is 'N passed, M failed', with ', K skipped' behind it.
+"""Tries the pages: their dialogues, links, pictures, paths and sizes. The last line is 'N passed, M failed', with ', K skipped' after it.
 
-usage: test-pages.py [--text | --commands] [PAGE ..]      all pages where none is named
+usage: test-pages.py [--text | --commands] [PAGE ..]      all pages by default
 
 With --text it runs no command, takes a second, and needs no program; with --commands it tries the dialogues alone.
 
 A dialogue is a block with the mark `console`: a line `$ COMMAND`, and below it what that command writes. All dialogues run
 one after the other in one scratch copy of the tree, each by a shell of its own at the top. A block with `file=NAME` in its mark is
-written there when its turn comes. Behind `console` may stand:
+written there when its turn comes. After `console` may come:
 
   any           what the commands write differs from run to run, and is not compared; their status is below 4
   skip          the commands are not run: they take long, change the machine, or want a tree that is built otherwise
-  needs=A,B     the commands run where these tools and files are there
+  needs=A,B     the commands run if these tools and files are there
 
 What is not run is named, and counted as skipped. A sentence of more than 25 words fails. First the tests are tried themselves: each
 must find what is wrong with a small page.
@@ -27,18 +27,19 @@ import sys
 import tempfile
 
 import api
+import crates
 import definitions
 import graph
 import inside
 import pictures
 from pages import BUILT, Block, Page, all_pages
 
-TOP = graph.TOP
+TOP = crates.TOP
 # How many lines the first page and that of a crate may have, and how many commands the first page: a screen.
 README_LINES, CRATE_LINES, README_COMMANDS = 110, 40, 24
-# A sentence has no more words; and outside of tables none of so many words stands twice.
+# The most words of a sentence, and the least of one that may not occur twice outside of tables.
 WORDS, SAME_WORDS = 25, 4
-# So many words at least say what a picture shows.
+# The least number of words that say what a picture shows.
 PICTURE_WORDS = 10
 # A file of code whose clauses cite what only proofs need: two for callers, and two others.
 CITING = """ghost use Rattle.snap_grid.specs.inside.Kept.{IsKept,
@@ -63,9 +64,24 @@ pub fn unseen() -> u32
     ensures { IsKept result }
 {}
 """
+# A page of which 20 words are read.
+READ = """One [two three](four.md) `five`.
+
+| six | 7 |
+|---|---|
+
+<!-- no word -->
+```antt
+-- eight
+nine : {a : B} → (c × d)
+nine = λ x. x ++ x
+```
+"""
 # The pages whose commands are not run here, and the script that tries what they show.
-ELSEWHERE = {"docs/OWN-OBJECT.md": "ffi/record/test.sh", "docs/RECORDING.md": "ffi/record/test.sh", "docs/INSTALL.md": "share/test-package.sh"}
-# The files that repeat the number of VERSION, each with how it stands there.
+LANGUAGES = ("c", "cpp", "go", "java", "python", "rust")
+OF_RECORDERS = ["docs/OWN-OBJECT.md", "docs/RECORDING.md", *(f"docs/own-object/{it}.md" for it in LANGUAGES)]
+ELSEWHERE = {**dict.fromkeys(OF_RECORDERS, "ffi/record/test.sh"), "docs/INSTALL.md": "share/test-package.sh"}
+# The files that repeat the number of VERSION, each with its form there.
 VERSIONED = {
     "CHANGELOG.md": "\n## {}\n",
     "docs/FORMAT.md": "version {},",
@@ -76,10 +92,21 @@ VERSIONED = {
     "ffi/rust/snapjudge/Cargo.toml": '\nversion = "{}"\n',
     "share/snapjudge.1": '"snapjudge {}"',
 }
+# The files that repeat the version of the library's calls, that of crates/snap_c/src/version.rt, each with its form there.
+LIBRARY_VERSIONED = {
+    "ffi/c/snapjudge.h": "#define SNAPJUDGE_VERSION {}\n",
+    "ffi/python/snapjudge/library.py": "\nVERSION = {}\n",
+    "ffi/rust/snapjudge/src/library.rs": "const VERSION: u32 = {};\n",
+    "ffi/record/c/snapverdict.h": "version() != {})",
+    "ffi/record/cpp/snapverdict.hpp": "version() == {})",
+    "ffi/record/go/library.go": "version() == {} ",
+    "ffi/record/python/snapdrive.py": "snapjudge_version() == {} ",
+    "ffi/record/rust/snapverdict.rs": "(version() == {})",
+}
 MARK = "=== the next command of a page ==="
-# How long a dialogue may take, in seconds.
-LONGEST = 300
-# The least status that is no verdict, and the least that a shell or a signal gives.
+# How long a dialogue may take, in seconds: one compiles the program, on a machine that may be busy.
+LONGEST = 600
+# The least status that is not a verdict, and the least that a shell or a signal gives.
 NO_VERDICT, NOT_RUN = 4, 126
 
 # Small pages, each with what is wrong with it.
@@ -148,7 +175,7 @@ def try_links(count, page, pages):
 
 
 def try_pictures(count, page):
-    """Each picture that a page shows can be read where the page is narrow, and words say what is to be seen."""
+    """Each picture that a page shows can be read on a narrow page, and words say what is to be seen."""
     for line, text in page.prose:
         for words, target in PICTURE.findall(text):
             file = TOP / os.path.dirname(page.name) / target
@@ -174,17 +201,22 @@ def try_form(count, page):
 
 
 def try_graph(count):
-    """The page on the architecture shows the graph of crates.txt, and each crate has its page."""
-    text = (TOP / "crates.txt").read_text(encoding="utf-8")
+    """The page on the architecture shows the graph of crates.txt. Each crate has its page, and names no other crates than its line there."""
     shown = graph.in_page(graph.PAGE.read_text(encoding="utf-8"))
-    count.expect(shown == graph.graph(text), "docs/ARCHITECTURE.md shows another graph than crates.txt: run share/graph.py --write")
-    for crate in graph.below_each(text):
+    count.expect(shown == graph.graph(), "docs/ARCHITECTURE.md shows another graph than crates.txt: run share/graph.py --write")
+    for crate, (_, libraries) in crates.read().items():
         count.expect((TOP / f"crates/{crate}/README.md").exists(), f"crates/{crate} has no README.md")
+        past = {"libc", "os"}.intersection(libraries)
+        count.expect(not past, f"crates.txt lists {' and '.join(sorted(past))} for {crate}: these reach past the handles, and rt ci refuses them")
+    for file, crate in crates.unnamed():
+        count.expect(False, f"{file} names {crate}, and the line of its crate in crates.txt does not")
 
 
 def try_definitions(count):
     """The page on the proof shows the very definitions of the theorems."""
     count.expect(definitions.in_page() == definitions.shown(), "docs/PROOF.md shows other definitions than the sources: run share/definitions.py --write")
+    taken = definitions.minutes(definitions.page_rows())
+    count.expect(taken <= definitions.MINUTES, f"docs/PROOF.md takes {taken:.1f} minutes up to what is trusted, and may take {definitions.MINUTES}")
 
 
 def try_inside(count):
@@ -202,14 +234,15 @@ def try_api(count):
 
 
 def try_version(count):
-    version = (TOP / "VERSION").read_text(encoding="utf-8").strip()
-    for name, form in VERSIONED.items():
-        is_there = form.format(version) in (TOP / name).read_text(encoding="utf-8")
-        count.expect(is_there, f"{name} does not name version {version}")
+    library = re.search(r"VERSION: u32 = (\d+);", (TOP / "crates/snap_c/src/version.rt").read_text(encoding="utf-8"))[1]
+    for version, forms in (((TOP / "VERSION").read_text(encoding="utf-8").strip(), VERSIONED), (library, LIBRARY_VERSIONED)):
+        for name, form in forms.items():
+            is_there = form.format(version) in (TOP / name).read_text(encoding="utf-8")
+            count.expect(is_there, f"{name} does not name version {version}")
 
 
 def try_sentences(count, pages):
-    """No sentence is too long, and outside of tables none stands twice in the top page and in docs/."""
+    """No sentence is too long, and outside of tables none occurs twice in the top page and in docs/."""
     known = {}
     for page in pages:
         for line, sentence in page.sentences():
@@ -228,14 +261,14 @@ def try_sentences(count, pages):
 def is_program_fresh():
     """Whether the program is built of what the sources are now. A launcher that finds it is not would build it."""
     with contextlib.suppress(FileNotFoundError):
-        noted = (TOP / "built/sources.sh").read_text(encoding="utf-8").split("\n", 1)[0]
+        noted = (TOP / "built/sources").read_text(encoding="utf-8")
         ran = subprocess.run([TOP / "share/sources.sh", "sum"], cwd=TOP, capture_output=True, text=True, check=False)
-        return ran.returncode == 0 and ran.stdout.strip() in noted and (TOP / "built/snapjudge").exists()
+        return ran.returncode == 0 and ran.stdout == noted and (TOP / "built/snapjudge").exists()
     return False
 
 
 def run(block, room):
-    """What each command of a dialogue writes, on both outputs, and its status; or none where the dialogue takes too long."""
+    """What each command of a dialogue writes, on both outputs, and its status; or none if the dialogue takes too long."""
     script = "".join(f"{command}\nprintf '%s %s\\n' '{MARK}' \"$?\"\n" for _, command, _ in block.commands())
     # what cargo and rustup keep stays where it is
     places = {"CARGO_HOME": os.path.expanduser("~/.cargo"), "RUSTUP_HOME": os.path.expanduser("~/.rustup")}
@@ -245,7 +278,7 @@ def run(block, room):
         ran = subprocess.run(["sh", "-c", script], timeout=LONGEST, check=False, **how)
     except subprocess.TimeoutExpired:
         return None
-    # a command may write no last line end, and then the mark stands behind its text
+    # a command may write no last line end, and then the mark comes after its text
     parts = re.split(rf"{MARK} (\d+)\n", ran.stdout.decode(errors="replace"))
     return list(zip(parts[::2], map(int, parts[1::2])))
 
@@ -296,6 +329,11 @@ def try_tests(count):
             for block in filter(lambda it: it.is_dialogue, page.blocks):
                 try_dialogue(found, block, room)
         count.expect(found.failed == 1, f"a page with {what} has {found.failed} failures")
+    # where a link leads, marks and comments are no words
+    count.expect(definitions.words(READ) == 20, f"definitions.py counts {definitions.words(READ)} words")
+    found = definitions.rows(f"{READ}<!-- from here on -->\n## What is trusted\n\n{'word ' * 1700}\n\n## Next\n", {"Part": "word " * 270})
+    count.expect([it[2] for it in found] == [270, 1703] and found[0][1] == 32, f"definitions.py finds {found}")
+    count.expect(definitions.minutes(found) > definitions.MINUTES, "definitions.py lets a page of 2,003 words pass")
     count.expect(list(inside.cited_in(CITING, {"look"})) == [(4, "IsKept"), (15, "IsKept")], "inside.py overlooks a clause for callers")
     count.expect(list(inside.imported_in(CITING)) == [(1, "IsKept, Other")], "inside.py overlooks an import")
 

@@ -1,5 +1,5 @@
 """Tries what `check` shows on a terminal: `test-screen.py PROGRAM EXAMPLES`. It runs the program with its output on a terminal of its
-own, and in pipes. Each difference is a line, and none is status 0."""
+own, and in pipes. Each difference is a line; the status is 0 if there is none."""
 import os
 import pty
 import subprocess
@@ -84,7 +84,7 @@ with tempfile.TemporaryDirectory() as folder:
     reason = b"snapjudge: %s/none.csv: no such file\n" % folder.encode()
     expect("a line of progress", b" of 401 files, " in shown, True)
     expect("the reason behind the cleared line", shown.endswith(CLEAR + reason) or (CLEAR + reason) in shown, True)
-    # what is left on the line at the end: what stands behind the last line feed and the last clearing
+    # what is left on the line at the end: what comes after the last line feed and the last clearing
     expect("the line is cleared at the end", shown.rsplit(b"\n", 1)[1].rsplit(CLEAR, 1)[-1], b"")
     expect("no progress where it is not wanted", on_terminal(["--no-progress", "--summary", *many], ["stderr"])[0], b"")
     expect("none in a pipe", on_terminal(["--summary", *many], [])[2], b"")

@@ -1,5 +1,5 @@
 # What a signal to one process alone ends: that of the launcher, of an installation and of ./package. share/test.sh reads this file:
-# its tree of one crate stands there, with a prover that waits while there is a file answer.wait.
+# its tree of one crate is there, with a prover that waits while there is a file answer.wait.
 
 # Whether the prover has ended. It is gone once a process that started none of this has waited for it.
 has_ended() {

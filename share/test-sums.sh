@@ -72,7 +72,7 @@ expect_said "the reason" "error: the argument '--summary' cannot be used with '-
 
 # The same sums as those of the module that judges by many processes.
 if [ -f "$top/ffi/build/libsnapjudge.so" ]; then
-  if has python3; then
+  if has python3 "the sums of the module"; then
     ./second check --summary sums/[1-7].csv sums/5.csv "sums/a
 b\\c.csv" >ours 2>ours.err
     ours=$?
@@ -84,6 +84,5 @@ b\\c.csv"
     expect_said "its reasons" "$said"
   fi
 else
-  echo "skipped: the sums of the module, since ffi/build/libsnapjudge.so is not here"
-  skipped=$((skipped + 1))
+  skip "the sums of the module" "ffi/build/libsnapjudge.so is not here"
 fi

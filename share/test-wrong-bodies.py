@@ -1,8 +1,8 @@
 #!/usr/bin/env python3
 """Tries how wrong bodies are tried, over a small crate: each is refused in its own function, and what is right is let through. What an
-earlier run on this machine came to is tried again only where something has changed.
+earlier run on this machine came to is tried again only if something has changed.
 
-The last line is 'N passed, M failed', with ', K skipped' behind it where the toolchain tries them in its own way, or keeps nothing.
+The last line is 'N passed, M failed', with ', K skipped' after it if the toolchain tries them in its own way, or keeps nothing.
 """
 import contextlib
 import io
@@ -102,7 +102,7 @@ EDITS = {
     "lib.same.no-such-text": (BAD, "lib", "    place - STEP", "    seat"),
     "lib.same.no-such-type": (BAD, "lib", "same(seat: u8)", "same(seat: u9)"),
 }
-# Edits that are tried in one run, those of them that the toolchain has to try alone, and how many of them each check before that has.
+# Edits that are tried in one run, those of them that the toolchain must try alone, and how many of them each check before that has.
 RUNS = [
     (["lib.next.no-step", "lib.next.two-steps", "lib.next.longer-step", "lib.same.right", "steps.two_on.one-step", "steps.far.too-far", "steps.far.much-too-far"],
      ["lib.same.right"], [5, 1, 1]),
@@ -174,7 +174,7 @@ def misjudged(names, alone, together):
 
 
 def misled():
-    """What is wrong where a proof does not serve for another name: then nothing is known of a second wrong body, and it is tried alone."""
+    """What is wrong if a proof does not serve for another name: then nothing is known of a second wrong body, and it is tried alone."""
     spoilt = lambda crate, one, to: {it: text.replace("Goals", "Nothing") for it, text in proofs_of(crate, one, to).items()}
     with replaced(wrong_bodies.Crate, "proofs_of", spoilt) as proofs_of:
         return misjudged(["lib.next.no-step", "lib.next.two-steps"], ["lib.next.two-steps"], [2])
@@ -224,7 +224,7 @@ def tasks_of(parts, tried):
 
 
 def ended(parts, reached, wanted, told):
-    """What is wrong with a gate over these parts, one after the other: which of them it reaches, what it has of each, and what it tells."""
+    """What is wrong with a gate over these parts, one after the other: which it reaches, what it has of each, and what it prints."""
     tried, said = [], io.StringIO()
     with contextlib.redirect_stdout(said), mock.patch.dict(os.environ, RT_JOBS="1"):
         given = wrong_bodies.until_broken(rt.in_lanes)(tasks_of(parts, tried))

@@ -1,13 +1,15 @@
 """Tells what has changed since a gate passed here.
 
 usage: touched.py sums            a sum for each crate and for each other folder that the gate tries
-       touched.py since RECORD    the crates and folders whose sum is not the one in RECORD, and the crates that stand on them,
+       touched.py since RECORD    the crates and folders whose sum is not the one in RECORD, and the crates that depend on them,
                                   the lowest first
 """
 import glob
 import hashlib
 import os
 import sys
+
+import crates
 
 TOP = os.path.dirname(os.path.dirname(os.path.abspath(__file__)))
 # The pages that are not in docs/, and what repeats the version. No crate is proved again for its page.
@@ -18,7 +20,7 @@ FOLDERS = {
     "examples": [],
     "share": ["examples", "build", "install", "package", "snapjudge", "test", "try", "docs/FORMAT.md", "docs/INSTALL.md"],
     "docs": ["crates.txt", "examples", *PAGES],
-    "ffi": ["bench/generate.py", "bench/histories.py", "bench/recordings.py", "docs/OWN-OBJECT.md", "docs/RECORDING.md"],
+    "ffi": ["bench/generate.py", "bench/histories.py", "bench/recordings.py", "docs/OWN-OBJECT.md", "docs/own-object", "docs/RECORDING.md"],
     "sweep": [],
 }
 
@@ -26,19 +28,8 @@ FOLDERS = {
 BUILT = {"out", "build", "target", "__pycache__"}
 
 
-def crates():
-    """Each crate of crates.txt with its line and with those that it stands on, the lowest first."""
-    found = {}
-    with open(f"{TOP}/crates.txt", encoding="utf-8") as lines:
-        for line in lines:
-            head, colon, below = line.partition("#")[0].partition(":")
-            if colon:
-                found[head.split()[0]] = (line, below.split())
-    return found
-
-
 def files_in(path):
-    """The files below a path, but for those that builds leave."""
+    """The files below a path, except for those that builds leave."""
     top = os.path.join(TOP, path)
     if not os.path.isdir(top):
         return [path]
@@ -59,7 +50,7 @@ def sum_of(paths, more=""):
 
 
 def sums():
-    found = {name: sum_of([f"crates/{name}"], line) for name, (line, _) in crates().items()}
+    found = {name: sum_of([f"crates/{name}"], crate.line) for name, crate in crates.read().items()}
     found.update({name: sum_of([name, *more]) for name, more in FOLDERS.items()})
     return found
 
@@ -75,8 +66,8 @@ def main(words):
     with open(words[1], encoding="utf-8") as record:
         were = dict(line.split() for line in record)
     touched = []
-    for name, (_, below) in crates().items():
-        if now[name] != were.get(name) or any(it in touched for it in below):
+    for name, crate in crates.read().items():
+        if now[name] != were.get(name) or any(it in touched for it in crate.libraries):
             touched.append(name)
     touched += [it for it in FOLDERS if now[it] != were.get(it)]
     print("\n".join(touched))

@@ -7,9 +7,9 @@ usage: wrong_bodies.py ci [--anew]    the toolchain's gate, `rt ci`, with the wr
 
 The toolchain proves a crate once more for its wrong bodies, and then checks it once for each. Most of a check goes into loading what
 the crate depends on. So here a check has many wrong bodies, and proves only their functions and what these call. A second wrong body
-of a function stands behind it, as a function with another name and with the same contract and proof. So does the right one, which must
+of a function comes after it, as a function with another name and with the same contract and proof. So does the right one, which must
 be proved: otherwise nothing is known of the second. A wrong body is refused if the check names a goal of its function that is not
-proved. One function more is as it was, and must be proved: otherwise the check shows nothing. What is not refused so, or stands in no
+proved. One function more is as it was, and must be proved: otherwise the check shows nothing. What is not refused so, or is in no
 function, is tried as the toolchain tries it, and that decides. A toolchain with other calls than this file knows tries all in its own
 way.
 """
@@ -70,7 +70,7 @@ KEEPING = {
     "stamp_of": "crate seen",
 }
 FORGETTING = {"must_fail_all": "crate edits flags"}
-# What the toolchain's own way of trying a wrong body answers first where it is refused.
+# What the toolchain's own way of trying a wrong body answers first if it is refused.
 REFUSED = getattr(rt, "REFUSED", True)
 # How a toolchain that keeps nothing tries the wrong bodies of a crate.
 must_fail_all = getattr(rt, "must_fail_all", None)
@@ -123,7 +123,7 @@ def module_of(file):
 
 
 def functions_in(file, lines, modules):
-    """The functions of a file, with their attributes. Methods of a type have its path, wherever they stand."""
+    """The functions of a file, with their attributes. Methods of a type have its path, wherever they are."""
     path, is_of_trait, found, begin = module_of(file), False, [], 0
     for at, line in enumerate(lines):
         if opened := BLOCK.match(line):
@@ -143,7 +143,7 @@ def functions_in(file, lines, modules):
 @dataclass(frozen=True)
 class Wrong:
     """A wrong body: its edit, the texts of the files with it, the function that it makes wrong, and that function's lines with it. No
-    lines, where it changes more than that function."""
+    lines, if it changes more than that function."""
 
     edit: str
     texts: dict
@@ -190,7 +190,7 @@ class Crate:
         self.functions.sort(key=lambda it: it.last - it.first)
 
     def wrong_of(self, edit):
-        """The wrong body of an edit; none where its function is not found."""
+        """The wrong body of an edit; none if its function is not found."""
         texts, _ = rt.read_edit(edit, self.crate.folder)
         named = os.path.basename(edit).split(".")[1]
         for file, text in (texts or {}).items():
@@ -253,7 +253,7 @@ class Crate:
         return found
 
     def checked(self, texts, flags, kept):
-        """What a check says of the crate with these texts, of which some may stand in new folders."""
+        """What a check says of the crate with these texts, of which some may be in new folders."""
         with tempfile.TemporaryDirectory(prefix="wrong-bodies-") as room:
             for part in rt.rtlib.PARTS:
                 if os.path.isdir(f"{self.crate.folder}/{part}"):
@@ -275,7 +275,7 @@ class Crate:
         return None
 
     def refused(self, wrongs, flags, kept):
-        """Checks some wrong bodies together. For each that is refused it tells why, by its edit."""
+        """Checks some wrong bodies together. For each that is refused it says why, by its edit."""
         control = self.control(wrongs)
         if not control:
             return {}
@@ -325,8 +325,8 @@ def checks_of(wrongs):
 
 
 def try_alone(crate, edits, flags):
-    """Tries each wrong body in a check of its own, as the toolchain does: over what a check of the crate as it stands has proved, and
-    from nothing where that does not settle it."""
+    """Tries each wrong body in a check of its own, as the toolchain does: over what a check of the crate as it is has proved, and
+    from nothing if that does not settle it."""
     if not KEEPS:
         return must_fail_all(crate, edits, flags)
     tried = []
@@ -389,7 +389,7 @@ def add_edits(tasks, crate, edits, first, waits, is_well, kept, start=None, in_c
 
 
 def until_broken(in_lanes):
-    """As a toolchain that keeps nothing runs tasks, but all proofs come before wrong bodies, where they can, and once a crate or its tests are
+    """As a toolchain that keeps nothing runs tasks, but all proofs come before wrong bodies, if they can, and once a crate or its tests are
     not proved, it begins no other task. It says what it did not reach."""
 
     def run(tasks):

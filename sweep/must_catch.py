@@ -1,13 +1,13 @@
 #!/usr/bin/env python3
-"""Tries what the tests have to catch, since no contract says it.
+"""Tries what the tests must catch, since no contract says it.
 
 usage: must_catch.py [NAME ..]       where each NAME is must-catch/NAME.edit; without one it tries all
 
 An edit has a line 'tests: CRATE', lines 'catches: TEST', and then, as the edits of must-fail, lines 'file: PATH', from the top of
 the repository, and pairs of lines 'old: TEXT' and 'new: TEXT', each old text once in its file. It is applied to a copy of the
-crates, whose tests are built without a proof and run. Each of the named tests has to be there, and to fail. An edit with a line
-'by hand: REASON' is tried to its end where it is named, and else for two minutes: if that is too short, it is skipped. The last
-line is 'N passed, M failed', with ', K skipped' behind it.
+crates, whose tests are built without a proof and run. Each of the named tests must be there, and must fail. An edit with a line
+'by hand: REASON' is tried to its end if it is named, and else for two minutes: if that is too short, it is skipped. The last
+line is 'N passed, M failed', with ', K skipped' after it.
 """
 import os
 import re
@@ -20,12 +20,12 @@ import tempfile
 HERE = os.path.dirname(os.path.abspath(__file__))
 TOP = os.path.dirname(HERE)
 
-# for how many seconds an edit by hand is tried where it is not named
+# for how many seconds an edit by hand is tried if it is not named
 BY_HAND = 120
 
 
 def parsed(lines):
-    """The crate of the tests, the tests that have to fail, file, old and new text of each change, and why it is tried by hand."""
+    """The crate of the tests, the tests that must fail, file, old and new text of each change, and why it is tried by hand."""
     crate, tests, changes, reason, file, old = None, [], [], None, None, None
     for line in lines:
         word, _, text = line.rstrip("\n").partition(":")
@@ -54,7 +54,7 @@ def copied(folder):
 
 
 def applied(folder, changes):
-    """What hinders the changes in the copy, or nothing where they were made."""
+    """What hinders the changes in the copy, or nothing if they were made."""
     for file, old, new in changes:
         path = os.path.join(folder, file)
         with open(path, encoding="utf-8") as source:
@@ -80,7 +80,7 @@ def is_test(folder, crate, test):
 
 
 def said_by_tests(where, seconds):
-    """What the tests of a crate say, or nothing where they take longer than so many seconds."""
+    """What the tests of a crate say, or nothing if they take longer than this many seconds."""
     command = ["rt", "try", "--test"]
     tests = subprocess.Popen(command, cwd=where, stdout=subprocess.PIPE, stderr=subprocess.STDOUT, text=True, start_new_session=True)
     try:
@@ -92,7 +92,7 @@ def said_by_tests(where, seconds):
 
 
 def fault(name, is_named):
-    """Why an edit is not caught, or nothing where it is; and why it was not tried, or nothing where it was."""
+    """Why an edit is not caught, or nothing if it is; and why it was not tried, or nothing if it was."""
     with open(os.path.join(HERE, "must-catch", name + ".edit"), encoding="utf-8") as edit:
         crate, tests, changes, reason = parsed(edit)
     with tempfile.TemporaryDirectory() as folder:

@@ -1,4 +1,4 @@
-/* Loaded before the C library (LD_PRELOAD), it refuses a program what the struct in the file SWEEP asks for, and counts there
+/* Loaded before the C library (LD_PRELOAD), it refuses a program what the struct in the file SWEEP asks for. It counts there
  * what the program asks of the system: memory, threads, and reads and writes of the descriptors 0 and 1. */
 #define _GNU_SOURCE
 #include <dlfcn.h>
@@ -15,7 +15,7 @@
 /* Numbers count from 1, and 0 refuses nothing; sweep.py has the same fields. */
 struct sweep {
     uint64_t allocation;      /* the allocation that is refused .. */
-    uint64_t all_after;       /* .. and, where this is not 0, all that come after it */
+    uint64_t all_after;       /* .. and, if this is not 0, all that come after it */
     uint64_t thread;          /* the start of a thread that is refused, or UINT64_MAX for all of them */
     uint64_t read, write;     /* the read and the write that fail .. */
     uint64_t error;           /* .. with this error */

@@ -2,7 +2,7 @@
 # Records runs of three and more workers, and judges each. With scans every run is atomic. Without them every run is regular, and
 # some run is not atomic: it is looked for until it comes, since on a machine with few processors many runs may be atomic by chance.
 # The last line is 'N passed, M failed'.
-# usage: scans.sh [PROGRAM]; it is built/snapjudge where it is not named
+# usage: scans.sh [PROGRAM]; it is built/snapjudge by default
 set -u
 here=$(cd "$(dirname "${BASH_SOURCE[0]}")" && pwd)
 program=$(realpath -m "${1:-$here/../built/snapjudge}")
@@ -27,7 +27,7 @@ run() {
   esac
 }
 
-# Whether each run of so many workers that scan is atomic.
+# Whether each run of this many workers that scan is atomic.
 scans() {
   for count in $(seq "$runs"); do
     run "$1" --scan
@@ -35,7 +35,7 @@ scans() {
   done
 }
 
-# Whether some run of so many workers that do not scan is regular and not atomic, and each one before it is atomic.
+# Whether some run of this many workers that do not scan is regular and not atomic, and each one before it is atomic.
 races() {
   for count in $(seq "$most"); do
     run "$1"

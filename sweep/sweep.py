@@ -3,11 +3,10 @@
 
 usage: sweep.py SHIM PROGRAM [CALLS]        where SHIM is built from refuse.c and CALLS from the crate snap_sweep
 
-Each run has to end with its whole answer, or say what failed and have written nothing, or a front of its text where it was a
-write that failed. CALLS makes each public call that takes memory and says of each how it ended. Texts that are cut or damaged
-are judged by the library in one process, where ffi/build has it, and some of them by the program. The tests run side by side,
-one for each processor. The last line is 'N passed, M failed', and ', K skipped' behind it where CALLS or the library is missing, which a line
-before it names.
+Each run must end with its whole answer, or say what failed and have written nothing. If a write failed, it may have written a front of
+its text. CALLS makes each public call that takes memory and says of each how it ended. Texts that are cut or damaged are judged by the
+library in one process, if ffi/build has it, and some of them by the program. The tests run side by side, one for each processor. The last
+line is 'N passed, M failed', and ', K skipped' after it if CALLS or the library is missing. A line before it names what is missing.
 """
 import concurrent.futures
 import ctypes
@@ -31,7 +30,7 @@ LIMIT = 60
 ALL = 2**64 - 1
 # the verdicts of a report, in the order of their lines
 VERDICTS = ("regular", "monotone", "atomic")
-# green and red, behind which the terminal's own colour follows
+# green and red, after which the terminal's own colour follows
 COLORS = {b"yes": b"\x1b[32m", b"no": b"\x1b[31m"}
 HEADER, STAMPED = b"event,process,op,data\n", b"at,event,process,op,data\n"
 # what a program says that was refused memory, or whose device failed
@@ -86,7 +85,7 @@ def is_out_of_memory(run):
 
 
 class Case:
-    """A command, the text that it reads, what its whole answer is, and what it may answer where it was refused memory."""
+    """A command, the text that it reads, what its whole answer is, and what it may answer if it was refused memory."""
 
     def __init__(self, name, words, text, is_whole, report=None, is_refused=is_out_of_memory):
         self.name, self.command, self.text = name, [PROGRAM] + words, text
@@ -116,7 +115,7 @@ def quiet(name, text, report):
 
 
 def painted(report):
-    """A report with its verdicts in colours, alone or behind names. A colour ends before the line does."""
+    """A report with its verdicts in colours, alone or after names. A colour ends before the line does."""
     lines = []
     for line in report.splitlines():
         verdict, _, answer = line.split(b": ")[-1].partition(b" ")
@@ -139,21 +138,21 @@ def shrink(name, text, report):
 
 
 def explain(name, text, report):
-    """An explanation, as the program gives it where nothing fails."""
+    """An explanation, as the program gives it if nothing fails."""
     run = subprocess.run([PROGRAM, "explain"], input=text, capture_output=True, timeout=LIMIT)
     whole = status_of(report), run.stdout, b""
     return Case(f"explain {name}", ["explain"], text, lambda run: run == whole, run.stdout)
 
 
 def draw(name, text, report):
-    """A picture on a page, as the program draws it where nothing fails."""
+    """A picture on a page, as the program draws it if nothing fails."""
     run = subprocess.run([PROGRAM, "draw"], input=text, capture_output=True, timeout=LIMIT)
     whole = status_of(report), run.stdout, b""
     return Case(f"draw {name}", ["draw"], text, lambda run: run == whole, run.stdout)
 
 
 def picture(words, name, text, report):
-    """A picture by lines, or as SVG, as the program gives it where nothing fails."""
+    """A picture by lines, or as SVG, as the program gives it if nothing fails."""
     run = subprocess.run([PROGRAM, *words], input=text, capture_output=True, timeout=LIMIT)
     whole = status_of(report), run.stdout, b""
     return Case(" ".join([*words, name]), words, text, lambda run: run == whole, run.stdout)
@@ -173,12 +172,12 @@ def sums_of(files):
 
 
 def reports_of(files):
-    """The reports of some files, each line behind its file's name. Of a file that failed there is none."""
+    """The reports of some files, each line after its file's name. Of a file that failed there is none."""
     return b"".join(name + b": " + line for name, report, status in files if status < 4 for line in report.splitlines(keepends=True))
 
 
 def answers(files, told):
-    """What a run over files may answer, where each of them may fail for want of memory; first the whole answer. `told` makes
+    """What a run over files may answer, if each of them may fail for want of memory; first the whole answer. `told` makes
     standard output of names, reports and statuses."""
     for lost in itertools.product((False, True), repeat=len(files)):
         ended = [(name, report, 4 if is_lost else status_of(report)) for (name, report), is_lost in zip(files, lost)]
@@ -195,7 +194,7 @@ def several(words, files, told, sources=()):
 
 
 def object_of(name, text, report):
-    """The object of a history of a file's name, as the program writes it where nothing fails. It has the status of its report.
+    """The object of a history of a file's name, as the program writes it if nothing fails. It has the status of its report.
     A run that is refused memory writes an object that says so, or none."""
     run = subprocess.run([PROGRAM, "check", "--format", "json"], input=text, capture_output=True, timeout=LIMIT)
     found = json.loads(run.stdout)
@@ -225,7 +224,7 @@ def files_of(folder, given):
 
 
 def is_history(text, is_stamped, has_scans):
-    """Whether these are the calls of two workers in so many rounds, each once and ended. A scan may have no record."""
+    """Whether these are the calls of two workers in this many rounds, each once and ended. A scan may have no record."""
     header = STAMPED if is_stamped else HEADER
     if not text.startswith(header) or not text.endswith(b"\n"):
         return False
@@ -285,7 +284,7 @@ class Tests:
         self.shim, self.tests = None, []
 
     def add(self, name, faults):
-        """One test, which passes where there is no fault. It runs while its faults are asked for."""
+        """One test, which passes if there is no fault. It runs while its faults are asked for."""
         self.tests.append((name, faults))
 
     def start(self, shim, folder):
@@ -293,7 +292,7 @@ class Tests:
         self.shim = Shim(shim, folder)
 
     def run_one(self, number):
-        """Runs one test. Its lines tell its first faults, and the numbers what it counted."""
+        """Runs one test. Its lines name its first faults, and the numbers are what it counted."""
         for count in self.COUNTS:
             setattr(self, count, 0)
         try:
@@ -370,7 +369,7 @@ class Tests:
                 yield f"read {number}: {run}"
 
     def failed_writes(self, case, longest, error):
-        """Each write failed in turn, where the error is 0 by taking no byte: it is said, and what went out before it is a front."""
+        """Each write failed in turn, or, if the error is 0, made to take no byte: it is said, and what went out before it is a front."""
         for number in range(1, 10**6):
             status, out, said = run = self.shim.run(case.command, case.text, write=number, error=error, longest=longest)
             if self.shim.page.writes < number:
@@ -383,7 +382,7 @@ class Tests:
                 yield f"write {number}: {run}"
 
     def short_transfers(self, case):
-        """Reads and writes of at most so many bytes."""
+        """Reads and writes of at most this many bytes."""
         for longest in range(1, 17):
             run = self.shim.run(case.command, case.text, longest=longest)
             if not case.is_whole(run):
@@ -425,7 +424,7 @@ def judge_by_program(text):
 
 
 def judge_by_library():
-    """A function that judges in this process, or None where the library is not built."""
+    """A function that judges in this process, or None if the library is not built."""
     if not os.path.exists(LIBRARY):
         return None
     library = ctypes.CDLL(LIBRARY)
@@ -488,7 +487,7 @@ def long_texts():
 
 
 def updates_alone(count):
-    """So many updates, with few allocations. Two workers read and judge the text of 6,000, which has 3 pieces. That of 5,000 has one
+    """This many updates, with few allocations. Two workers read and judge the text of 6,000, which has 3 pieces. That of 5,000 has one
     worker."""
     turns = [b"begin,0,update,0:%d:0\nend,0,update,\n" % i for i in range(1, count + 1)]
     order = [(i, b"p0 update 0:%d:0" % i) for i in range(1, count + 1)]

@@ -1,8 +1,8 @@
 #!/usr/bin/env bash
-# Refuses the program memory, threads and devices in turn, and gives it awkward texts; and refuses each public call that takes
-# memory the same, where the crate snap_sweep is built. The last line is 'N passed, M failed', with ', K skipped' behind it where
+# Refuses the program memory, threads and devices in turn, and gives it awkward texts. Refuses each public call that takes
+# memory the same, if the crate snap_sweep is built. The last line is 'N passed, M failed', with ', K skipped' after it if
 # something is missing, which a line before it names.
-# usage: test.sh [PROGRAM], the program itself and not its launcher; it is built/snapjudge where it is not named
+# usage: test.sh [PROGRAM], the program itself and not its launcher; it is built/snapjudge by default
 unset CDPATH
 set -u
 here=$(cd "$(dirname "${BASH_SOURCE[0]}")" && pwd)

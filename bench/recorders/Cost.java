@@ -2,7 +2,7 @@ import java.util.Arrays;
 import java.util.concurrent.CyclicBarrier;
 
 /**
- * Prints the nanoseconds that recording one call, its begin and its end, takes with so many threads: the quartiles of
+ * Prints the nanoseconds that recording one call, its begin and its end, takes with this many threads: the quartiles of
  * some rounds. usage: Cost THREADS
  */
 public final class Cost {

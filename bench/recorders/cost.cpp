@@ -1,4 +1,4 @@
-// Prints the nanoseconds that recording one call, its begin and its end, takes with so many threads: the quartiles of some
+// Prints the nanoseconds that recording one call, its begin and its end, takes with this many threads: the quartiles of some
 // rounds. usage: cost THREADS
 #include "../../ffi/record/cpp/snaprecord.hpp"
 #include <chrono>

@@ -1,4 +1,4 @@
-//! Prints the nanoseconds that recording one call, its begin and its end, takes with so many threads: the
+//! Prints the nanoseconds that recording one call, its begin and its end, takes with this many threads: the
 //! quartiles of some rounds. usage: cost THREADS
 #[path = "../../ffi/record/rust/snaprecord.rs"]
 mod snaprecord;

@@ -3,7 +3,7 @@
  * `bare` is one collect, in which nothing lets other threads run; `naive` is one collect with pauses. `published` is the snapshot of
  * Afek, Attiya, Dolev, Gafni, Merritt and Shavit (1993): an update embeds a view, and a view that has seen a component move twice takes
  * the one that is embedded there. `first-move` takes it when the component has moved once. `old-view` embeds the last view that its
- * thread took, in place of a new one. `late-version` raises a version behind each write, and a view collects until the version stayed
+ * thread took, in place of a new one. `late-version` raises a version after each write, and a view collects until the version stayed
  * the same: two views can disagree on two writes whose versions are still to be raised. `late-version-bare` does so without a pause in
  * its updates. `one-shot` writes each component once, and a view of it takes the second of two collects, equal or not. */
 #include "../../ffi/record/c/snapdrive.h"

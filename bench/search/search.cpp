@@ -4,9 +4,9 @@
 // usage: search wing-gong|just-in-time SECONDS MEGABYTES < HISTORY
 //
 // `wing-gong` is the search of Wing and Gong (1993) with the memory of Lowe (2017), as Porcupine and Knossos have it: it takes a call
-// that may come next, and goes back where none may. It remembers which sets of calls it has tried. The board is undone in place.
+// that may come next, and goes back if none may. It remembers which sets of calls it has tried. The board is undone in place.
 // `just-in-time` is Lowe's other algorithm, which Knossos has too: it goes through the events, and holds all boards that there can be,
-// each with the open calls that have taken effect in it. A call takes effect only where an end needs one.
+// each with the open calls that have taken effect in it. A call takes effect only if an end needs one.
 #include <algorithm>
 #include <csignal>
 #include <cstdint>
@@ -206,7 +206,7 @@ class WingGong {
 
 // ---- just in time
 
-// A board, and behind it the open calls that have taken effect, rising. All are numbers, so that they are compared and kept as one list.
+// A board, and after it the open calls that have taken effect, rising. All are numbers, so that they are compared and kept as one list.
 using Configuration = std::vector<std::uint32_t>;
 
 class JustInTime {

@@ -1,6 +1,7 @@
-"""Runs each harness that can run here, and puts its table and a witness into docs/FINDINGS.md. usage: all.py PROGRAM FOLDER [RUNS]
+"""Runs harnesses, and puts their tables and a witness of each into docs/FINDINGS.md. usage: all.py PROGRAM FOLDER [RUNS [NAME ..]]
 
-FOLDER keeps the first caught run of each way. Where a harness lacks a program that is said, and its part of the page stays.
+Without names it runs all. FOLDER keeps the first caught run of each way. If a harness lacks what it needs, it says so, and its part
+of the page stays.
 """
 import subprocess
 import sys
@@ -8,7 +9,7 @@ import sys
 from harness import HERE, SKIPPED
 
 PAGE = HERE.parents[1] / "docs/FINDINGS.md"
-HARNESSES = ["postgres", "redis", "sqlite", "files", "copies", "published"]
+HARNESSES = ["postgres", "redis", "etcd", "sqlite", "files", "copies", "published"]
 
 
 def replaced(page, name, text):
@@ -28,8 +29,8 @@ def with_one_witness(text):
 
 def main():
     written, skipped = {}, 0
-    for name in HARNESSES:
-        command = [sys.executable, "-B", str(HERE / f"{name}.py"), *sys.argv[1:]]
+    for name in sys.argv[4:] or HARNESSES:
+        command = [sys.executable, "-B", str(HERE / f"{name}.py"), *sys.argv[1:4]]
         done = subprocess.run(command, stdout=subprocess.PIPE, text=True, check=False)
         print(f"{name}.py: {done.stdout}", flush=True)
         if done.returncode == SKIPPED:

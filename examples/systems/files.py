@@ -1,6 +1,6 @@
 """A file system: each worker renames a file of its own, and a view lists the folder. usage: files.py PROGRAM FOLDER [RUNS]
 
-A file's name tells its value: worker 2 renames 2-0 to 2-3000000, that to 2-3000001, and so on.
+A file's name has its value: worker 2 renames 2-0 to 2-3000000, that to 2-3000001, and so on.
 """
 import contextlib
 import os

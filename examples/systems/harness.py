@@ -1,7 +1,7 @@
 """What the harnesses of this folder share: workers that use a system, the verdicts of their runs, and a server for the while.
 
 A harness is called with PROGRAM FOLDER [RUNS]: the judge, where the first caught run of each way is kept, and how many runs each
-way has, 20 where no number is given. Where a program is missing that it needs it says so, and ends with 77.
+way has, 20 if no number is given. If a program is missing that it needs it says so, and ends with 77.
 """
 import concurrent.futures
 import contextlib
@@ -25,7 +25,7 @@ sys.path.insert(0, str(RECORDERS / "python"))
 from snaprecord import Recorder
 
 WORKERS, CALLS = 4, 200  # how many calls each worker makes
-RUNS = 20  # how many runs each way has, where nothing else is asked for
+RUNS = 20  # how many runs each way has by default
 VERDICTS = ["atomic", "only regular", "neither"]  # by the status of the judge
 SKIPPED = 77
 
@@ -37,7 +37,7 @@ class Board:
         """Stands between two reads of a view: a test lets others run here."""
 
     def close(self):
-        """Ends a connection, where there is one."""
+        """Ends a connection, if there is one."""
 
 
 def update(board, log, component, value):
@@ -113,7 +113,7 @@ def tabulate(version, ways, history):
 
 
 class Companion:
-    """A program beside this one, which answers each line with lines, and puts an empty one behind them."""
+    """A program beside this one, which answers each line with lines, and puts an empty one after them."""
 
     def __init__(self, command):
         pipe = subprocess.PIPE
@@ -169,7 +169,7 @@ def scratch(user=None):
 def server(command, connect, user=None):
     """Runs a server until the block ends, however it ends, once `connect` has found it there."""
     signal.signal(signal.SIGTERM, lambda number, _: sys.exit(128 + number))
-    # the system interrupts the server where this program is killed
+    # the system interrupts the server if this program is killed
     command, none = as_user(user, [need("setpriv"), "--pdeathsig", "INT", *command]), subprocess.DEVNULL
     running = subprocess.Popen(command, stdin=none, stdout=none, stderr=none, start_new_session=True)
     try:

@@ -1,47 +1,18 @@
 #!/usr/bin/env bash
-# Tries the harnesses that need no server: the right ways to read are atomic in each run, and the wrong ones are caught where others
-# are let in between two reads. The last line is 'N passed, M failed', with ', K skipped' behind it where something is missing; a
-# line before it names that.
-# usage: test.sh [PROGRAM], where PROGRAM judges; it may stand in SNAPJUDGE_PROGRAM too
+# Tries the harnesses that need no server: the right ways to read are atomic in each run, and the wrong ones are caught if others
+# are let in between two reads. If etcd is there, its cluster is tried too. The last line is 'N passed, M failed', with ', K skipped'
+# after it if something is missing; a line before it names that.
+# usage: test.sh [PROGRAM], where PROGRAM judges; SNAPJUDGE_PROGRAM may name it too
 unset CDPATH
 set -u
 here=$(cd "$(dirname "${BASH_SOURCE[0]}")" && pwd)
 program=$(realpath -m "${1:-${SNAPJUDGE_PROGRAM:-$here/../../built/snapjudge}}")
-passed=0
-failed=0
-skipped=0
-work=$(mktemp -d)
-trap 'rm -rf "$work"' EXIT
+part=systems
+. "$here/../../share/lib.sh"
+work=$room
 cd "$work" || exit 1
 
-# try NAME COMMAND ..: one test, which passes where the command ends with 0
-try() {
-  local name=$1
-  shift
-  if "$@" >log 2>&1; then
-    echo "systems: $name: passed"
-    passed=$((passed + 1))
-  else
-    tail -n 20 log
-    echo "systems: $name: failed"
-    failed=$((failed + 1))
-  fi
-}
-
-# skip WHAT REASON: counts what was not tried
-skip() {
-  echo "skipped: $1, $2"
-  skipped=$((skipped + 1))
-}
-
-# has PROGRAM WHAT: whether there is such a program; else what needs it is skipped
-has() {
-  command -v "$1" >/dev/null && return 0
-  skip "$2" "$1 is not here"
-  return 1
-}
-
-# rows HARNESS RUNS ROW ..: so many runs of each way; the table has each of these rows
+# rows HARNESS RUNS ROW ..: this many runs of each way; the table has each of these rows
 rows() {
   local harness=$1 runs=$2 row
   shift 2
@@ -59,7 +30,7 @@ forced() {
   python3 -B -W error "$here/forced.py" "$program" "$system" >lines && diff expected lines
 }
 
-# witnessed WAY FILE: the first caught run of a way lies in the file, and below the last table stands its witness
+# witnessed WAY FILE: the first caught run of a way is in the file, and its witness is below the last table
 witnessed() {
   sed "1,/^Witness: $1/d" table | sed '1,/^```$/d; /^```$/,$d' >witness
   [ -s witness ] && "$program" shrink <"$2" | diff witness -
@@ -82,7 +53,7 @@ folder = pathlib.Path(sys.argv[1])
 names = re.findall(r'"(\w+)"', re.search(r"HARNESSES = \[(.*)\]", (folder / "all.py").read_text()).group(1))
 lines = {name: len((folder / name).read_text().splitlines()) for name in [f"{name}.py" for name in names] + ["Copies.java"]}
 print(lines)
-sys.exit(len(names) != 6 or max(lines.values()) > 60)
+sys.exit(len(names) != 7 or max(lines.values()) > 60)
 PYTHON
 }
 
@@ -101,7 +72,7 @@ wait_until() {
   return 1
 }
 
-# served SIGNAL: a server ends with its harness, which this signal ends; the folder goes too, where the harness can do anything
+# served SIGNAL: a server ends with its harness, which this signal ends; the folder goes too, if the harness can do anything
 served() {
   local harness
   rm -f serves ready
@@ -174,6 +145,22 @@ try_java() {
     "ConcurrentHashMap, iterated: $fault"
 }
 
+# A node that is cut off from the others misses everything that they write, so a read of its own state is old.
+try_etcd() {
+  local expected=("serializable range, a node cut off | 0 | 0 | 1") failure
+  for failure in "no failure" "a node killed" "a node stopped" "a node cut off"; do
+    expected+=("linearizable range, $failure | 1 | 0 | 0")
+  done
+  try "etcd: a node that fails" rows etcd 1 "${expected[@]}"
+}
+
+# is_root WHAT: whether this is root, who may make network namespaces; else what needs them is skipped
+is_root() {
+  [ "$(id -u)" = 0 ] && return 0
+  skip "$1" "network namespaces need root"
+  return 1
+}
+
 # Seeds choose the steps of these runs, so each run has its verdict everywhere.
 try_published() {
   local early="borrows at the first move; calls" old="embeds an old scan; calls"
@@ -187,6 +174,7 @@ if [ -x "$program" ]; then
   try_sqlite
   has findmnt files && try_files
   has javac Java && has java Java && has_records && try_java
+  has etcd etcd && has ip etcd && has setpriv etcd && is_root etcd && try_etcd
   try "a missing server" missing redis redis-server
   try "lines of the harnesses" short
   if has setpriv "ends of servers"; then
@@ -194,11 +182,7 @@ if [ -x "$program" ]; then
     try "the server of a harness that is killed" served KILL
   fi
 else
-  echo "systems: there is no program $program"
-  failed=$((failed + 1))
+  fail_test "there is no program $program"
 fi
 
-more=
-[ "$skipped" = 0 ] || more=", $skipped skipped"
-echo "$passed passed, $failed failed$more"
-[ "$failed" = 0 ]
+end_tests

@@ -1,7 +1,7 @@
 /* The judge of recorded histories of a single-writer board, for C and C++.
  *
- * What snapjudge_check answers and writes is proved: the contract stands on the export, in crates/snap_c/src/lib.rt. This
- * header is not proved.
+ * What each call answers and writes is proved: the contract is that of the export, in crates/snap_c/src/lib.rt. This header is
+ * not proved.
  *
  * Build and link: ffi/build.sh, then  cc harness.c -Iffi/c ffi/build/libsnapjudge.a  (or -Lffi/build -lsnapjudge for the
  * shared library). Of the C library it needs malloc, realloc, free, memcpy, memmove and memset. x86-64 of level v2, Linux. */
@@ -11,6 +11,7 @@
 #include <stddef.h>
 #include <stdint.h>
 #include <stdlib.h>
+#include <string.h>
 
 #ifdef __cplusplus
 extern "C" {
@@ -23,55 +24,144 @@ enum {
     SNAPJUDGE_ATOMIC = 0,    /* the history is atomic */
     SNAPJUDGE_REGULAR = 1,   /* it is regular, and not atomic */
     SNAPJUDGE_IRREGULAR = 2, /* it is not regular */
-    SNAPJUDGE_REFUSED = 3,   /* the text is no history */
-    SNAPJUDGE_NO_MEMORY = 4, /* memory ran out: nothing was written, *report_length is 0 */
-    SNAPJUDGE_NO_ROOM = 5,   /* the report does not fit: nothing was written, *report_length is how many bytes it has */
-    SNAPJUDGE_NO_LIMIT = 6   /* there is no such limit of events: nothing was written, *report_length is 0 */
+    SNAPJUDGE_REFUSED = 3,   /* the text is not a history */
+    SNAPJUDGE_NO_MEMORY = 4, /* memory ran out: nothing was written, *length is 0 */
+    SNAPJUDGE_NO_ROOM = 5,   /* the answer does not fit: nothing was written, *length is how many bytes it has */
+    SNAPJUDGE_NO_LIMIT = 6,  /* no such limit of events exists: nothing was written, *length is 0 */
+    SNAPJUDGE_NO_OPTION = 7  /* an option is out of its range: nothing was written, *length is 0 */
 };
 
-/* Judges the text_length bytes at text. From 0 to 3 the report stands at the front of the room bytes at report, and
- * *report_length is its length; no 0 byte follows it, and the rest of the room is unchanged. The report and the status are
- * those of `snapjudge check`.
+/* How many events a history may have by default. */
+enum { SNAPJUDGE_EVENTS = 65536 };
+
+/* The forms of a picture. */
+enum {
+    SNAPJUDGE_PAGE = 0, /* a page for a browser */
+    SNAPJUDGE_SVG = 1,  /* SVG alone */
+    SNAPJUDGE_LINES = 2 /* characters */
+};
+
+/* Judges the text_length bytes at text. If the answer is from 0 to 3, the report is at the front of the room bytes at
+ * report, and *report_length is its length. No 0 byte follows it, and the rest of the room is unchanged. The report and
+ * the status are those of `snapjudge check`.
  *
- * What the caller owes, and nothing checks:
- *   - text, report and report_length are not null, also where text_length or room is 0;
- *   - the three places lie apart from one another;
- *   - all room bytes at report were written once before (calloc or memset does);
- *   - during the call nobody writes text, and nobody reads or writes report and *report_length;
+ * What the caller owes in each call below, and nothing checks:
+ *   - no pointer is null, even if text_length, name_length or room is 0;
+ *   - the places of a call lie apart from one another, but text and name may overlap;
+ *   - all room bytes were written once before (calloc or memset does);
+ *   - during the call nobody writes text or name, and nobody reads or writes the room and the length;
  *   - malloc, realloc and free are those of one allocator, as of the C library;
  *   - the call is not made from a signal handler, nor in the forked child of a process with threads;
  *   - the calling thread has 128 KiB of stack.
  * The library keeps nothing from call to call: any number of threads may call at once. */
 uint32_t snapjudge_check(const uint8_t *text, size_t text_length, uint8_t *report, size_t room, size_t *report_length);
 
-/* The same as snapjudge_check, where a history may have so many events, from 1 to 1,048,576, in place of 65,536. Its text may have
- * 1,024 bytes for each of them. The answer is SNAPJUDGE_NO_LIMIT where events is not in that range. */
+/* Judges as snapjudge_check does, but a history may have this many events, from 1 to 1,048,576, in place of 65,536. Its text may
+ * have 1,024 bytes for each of them. The answer is SNAPJUDGE_NO_LIMIT if events is not in that range. */
 uint32_t snapjudge_check_limit(const uint8_t *text, size_t text_length, uint32_t events, uint8_t *report, size_t room, size_t *report_length);
+
+/* Each of the next five answers as snapjudge_check_limit does, and writes what a command of the program writes in place of the
+ * report. The status is the same too. */
+
+/* `snapjudge explain`, or `snapjudge explain --draw` if drawn is 1: why the history is not atomic, an order if it is, or why the
+ * text is not a history. The answer is SNAPJUDGE_NO_OPTION if drawn is neither 0 nor 1. */
+uint32_t snapjudge_explain(const uint8_t *text, size_t text_length, uint32_t events, uint32_t drawn, uint8_t *out, size_t room, size_t *length);
+
+/* `snapjudge check --format json` of a file with this name: an object on a line. In the name U+FFFD stands for what is not UTF-8. */
+uint32_t snapjudge_json(const uint8_t *text, size_t text_length, uint32_t events, const uint8_t *name, size_t name_length, uint8_t *out,
+                        size_t room, size_t *length);
+
+/* `snapjudge shrink`, or `snapjudge shrink --draw` if drawn is 1: a witness of the first fault, or its picture. The answer is
+ * SNAPJUDGE_NO_OPTION if drawn is neither 0 nor 1. */
+uint32_t snapjudge_shrink(const uint8_t *text, size_t text_length, uint32_t events, uint32_t drawn, uint8_t *out, size_t room, size_t *length);
+
+/* `snapjudge draw`, `snapjudge draw --svg` or `snapjudge draw --text`, by the form. The answer is SNAPJUDGE_NO_OPTION if form is not
+ * one of the forms above. */
+uint32_t snapjudge_draw(const uint8_t *text, size_t text_length, uint32_t events, uint32_t form, uint8_t *out, size_t room, size_t *length);
+
+/* `snapjudge stats`, or `snapjudge stats --format json` where object is 1: what the history has shown. It judges nothing, so the answer is
+ * 0 for each history. It is SNAPJUDGE_NO_OPTION where object is neither 0 nor 1. */
+uint32_t snapjudge_stats(const uint8_t *text, size_t text_length, uint32_t events, uint32_t object, uint8_t *out, size_t room, size_t *length);
 
 /* The version of the library. */
 uint32_t snapjudge_version(void);
 
-/* The same as snapjudge_check with room from calloc: *report is a text that ends with a 0 byte, and the caller frees it. It
- * is null where the answer is SNAPJUDGE_NO_MEMORY. SNAPJUDGE_NO_ROOM is never answered. */
-static inline uint32_t snapjudge_check_new(const char *text, size_t text_length, char **report, size_t *report_length) {
-    size_t room = text_length + text_length / 4 + 256;
-    *report = NULL;
-    *report_length = 0;
+/* What is asked of a text: by which call, with which option, and the JSON object with which name. It serves the calls below. */
+enum snapjudge_command { SNAPJUDGE_CHECK, SNAPJUDGE_EXPLAIN, SNAPJUDGE_JSON, SNAPJUDGE_SHRINK, SNAPJUDGE_DRAW, SNAPJUDGE_STATS };
+
+struct snapjudge_question {
+    enum snapjudge_command command;
+    uint32_t events, option;
+    const char *name;
+};
+
+static inline uint32_t snapjudge_ask(const struct snapjudge_question *asked, const uint8_t *text, size_t text_length, uint8_t *out, size_t room,
+                                     size_t *length) {
+    const uint32_t events = asked->events, option = asked->option;
+    switch (asked->command) {
+    case SNAPJUDGE_EXPLAIN: return snapjudge_explain(text, text_length, events, option, out, room, length);
+    case SNAPJUDGE_JSON:
+        return snapjudge_json(text, text_length, events, (const uint8_t *)asked->name, strlen(asked->name), out, room, length);
+    case SNAPJUDGE_SHRINK: return snapjudge_shrink(text, text_length, events, option, out, room, length);
+    case SNAPJUDGE_DRAW: return snapjudge_draw(text, text_length, events, option, out, room, length);
+    case SNAPJUDGE_STATS: return snapjudge_stats(text, text_length, events, option, out, room, length);
+    default: return snapjudge_check_limit(text, text_length, events, out, room, length);
+    }
+}
+
+static inline uint32_t snapjudge_ask_new(const struct snapjudge_question *asked, const char *text, size_t text_length, char **out,
+                                         size_t *length) {
+    size_t room = text_length + text_length / 4 + (asked->command == SNAPJUDGE_CHECK ? 256 : 16384);
+    *out = NULL;
+    *length = 0;
     for (;;) {
-        size_t length = 0;
+        size_t needed = 0;
         uint32_t answer;
         uint8_t *bytes = (uint8_t *)calloc(room + 1, 1);
         if (bytes == NULL) return SNAPJUDGE_NO_MEMORY;
-        answer = snapjudge_check((const uint8_t *)text, text_length, bytes, room, &length);
+        answer = snapjudge_ask(asked, (const uint8_t *)text, text_length, bytes, room, &needed);
         if (answer < SNAPJUDGE_NO_MEMORY) {
-            *report = (char *)bytes;
-            *report_length = length;
+            *out = (char *)bytes;
+            *length = needed;
             return answer;
         }
         free(bytes);
         if (answer != SNAPJUDGE_NO_ROOM) return answer;
-        room = length;
+        room = needed;
     }
+}
+
+/* The calls below do as those above, with room from calloc: *out is a text that ends with a 0 byte, and the caller frees it. It is null
+ * if the answer is above SNAPJUDGE_REFUSED. SNAPJUDGE_NO_ROOM is never answered. */
+
+static inline uint32_t snapjudge_check_new(const char *text, size_t text_length, char **report, size_t *report_length) {
+    const struct snapjudge_question asked = {SNAPJUDGE_CHECK, SNAPJUDGE_EVENTS, 0, ""};
+    return snapjudge_ask_new(&asked, text, text_length, report, report_length);
+}
+
+static inline uint32_t snapjudge_explain_new(const char *text, size_t text_length, uint32_t events, uint32_t drawn, char **out, size_t *length) {
+    const struct snapjudge_question asked = {SNAPJUDGE_EXPLAIN, events, drawn, ""};
+    return snapjudge_ask_new(&asked, text, text_length, out, length);
+}
+
+static inline uint32_t snapjudge_json_new(const char *text, size_t text_length, uint32_t events, const char *name, char **out, size_t *length) {
+    const struct snapjudge_question asked = {SNAPJUDGE_JSON, events, 0, name};
+    return snapjudge_ask_new(&asked, text, text_length, out, length);
+}
+
+static inline uint32_t snapjudge_shrink_new(const char *text, size_t text_length, uint32_t events, uint32_t drawn, char **out, size_t *length) {
+    const struct snapjudge_question asked = {SNAPJUDGE_SHRINK, events, drawn, ""};
+    return snapjudge_ask_new(&asked, text, text_length, out, length);
+}
+
+static inline uint32_t snapjudge_draw_new(const char *text, size_t text_length, uint32_t events, uint32_t form, char **out, size_t *length) {
+    const struct snapjudge_question asked = {SNAPJUDGE_DRAW, events, form, ""};
+    return snapjudge_ask_new(&asked, text, text_length, out, length);
+}
+
+static inline uint32_t snapjudge_stats_new(const char *text, size_t text_length, uint32_t events, uint32_t object, char **out, size_t *length) {
+    const struct snapjudge_question asked = {SNAPJUDGE_STATS, events, object, ""};
+    return snapjudge_ask_new(&asked, text, text_length, out, length);
 }
 
 #ifdef __cplusplus

@@ -42,7 +42,7 @@ static int is_untouched(const uint8_t *from, const uint8_t *to) {
     return 1;
 }
 
-/* Whether a call with so much room answers as it is to, and tells the length of the report. */
+/* Whether a call with this much room answers as it must, and gives the length of the report. */
 static int fits(const struct example *e, size_t room) {
     uint8_t bytes[ROOM];
     size_t length = 77;
@@ -55,7 +55,7 @@ static int fits(const struct example *e, size_t room) {
     return memcmp(bytes, e->report, length) == 0 && is_untouched(bytes + length, bytes + ROOM);
 }
 
-/* Whether the call that takes its own room answers as it is to. */
+/* Whether the call that takes its own room answers as it must. */
 static int is_judged(const struct example *e) {
     char *report;
     size_t length;

@@ -1,8 +1,7 @@
-/* Refuses each allocation of a judgement in turn: the answer is 4, nothing is written and no block is lost. Linked with
+/* Refuses each allocation of each answer in turn: it is 4, nothing is written and no block is lost. Linked with
  * -Wl,--wrap=malloc,--wrap=realloc,--wrap=free; C or C++. */
-#include "snapjudge.h"
+#include "test_questions.h"
 #include <stdio.h>
-#include <string.h>
 
 #ifdef __cplusplus
 extern "C" {
@@ -52,17 +51,23 @@ static const char *const TEXTS[] = {
 
 static const uint32_t STATUSES[] = {SNAPJUDGE_ATOMIC, SNAPJUDGE_REGULAR, SNAPJUDGE_REFUSED};
 
-/* Whether a judgement answers as it is to after so many allocations; *is_whole where none was refused. */
-static int is_right(int which, long allocations, int *is_whole) {
-    uint8_t room[1024];
+/* The status of a text by a question: a history is counted without a verdict. */
+static uint32_t status_of(int which, const struct snapjudge_question *asked) {
+    const int is_counted = asked->command == SNAPJUDGE_STATS && STATUSES[which] != SNAPJUDGE_REFUSED;
+    return is_counted ? 0 : STATUSES[which];
+}
+
+/* Whether a question is answered as it must be after this many allocations; *is_whole if none was refused. */
+static int is_right(int which, const struct snapjudge_question *asked, long allocations, int *is_whole) {
+    static uint8_t room[1 << 16];
     size_t length = 99, i;
     uint32_t answer;
     memset(room, 0xEE, sizeof room);
     held = 0;
     granted = allocations;
-    answer = snapjudge_check((const uint8_t *)TEXTS[which], strlen(TEXTS[which]), room, sizeof room, &length);
+    answer = snapjudge_ask(asked, (const uint8_t *)TEXTS[which], strlen(TEXTS[which]), room, sizeof room, &length);
     granted = -1;
-    *is_whole = answer == STATUSES[which];
+    *is_whole = answer == status_of(which, asked);
     if (held != 0) return 0;
     if (*is_whole) return 1;
     for (i = 0; i < sizeof room; i++)
@@ -70,18 +75,22 @@ static int is_right(int which, long allocations, int *is_whole) {
     return answer == SNAPJUDGE_NO_MEMORY && length == 0;
 }
 
-int main(void) {
-    int which, failures = 0;
-    for (which = 0; which < 3; which++) {
-        long allocations = 0;
-        int is_whole = 0;
-        for (; !is_whole && allocations < 100000; allocations++) {
-            if (is_right(which, allocations, &is_whole)) continue;
-            fprintf(stderr, "text %d, allocation %ld: not as it is to be\n", which, allocations);
-            failures++;
-        }
-        printf("text %d: %ld allocations, each refused in turn\n", which, allocations - 1);
-        failures += !is_whole || allocations < 2;
+/* Refuses each allocation of the answer to a question in turn; how often it was not as it must be. */
+static int failures_of(int which, int question) {
+    long allocations = 0;
+    int is_whole = 0, failures = 0;
+    for (; !is_whole && allocations < 100000; allocations++) {
+        if (is_right(which, &ASKED[question], allocations, &is_whole)) continue;
+        fprintf(stderr, "text %d, %s, allocation %ld: not as it is to be\n", which, NAMES[question], allocations);
+        failures++;
     }
+    printf("text %d, %s: %ld allocations, each refused in turn\n", which, NAMES[question], allocations - 1);
+    return failures + (!is_whole || allocations < 2);
+}
+
+int main(void) {
+    int which, question, failures = 0;
+    for (which = 0; which < 3; which++)
+        for (question = 0; question < QUESTIONS; question++) failures += failures_of(which, question);
     return failures != 0;
 }

@@ -199,7 +199,7 @@ class OneMachine(Recordings):
 
 
 class Deadly:
-    """Workers that die of some files, and that tell which bags they had."""
+    """Workers that die of some files, and that note which bags they had."""
 
     workers, room, tries, deaths = 2, 2, 2, (concurrent.futures.BrokenExecutor,)
 

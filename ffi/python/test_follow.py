@@ -33,7 +33,7 @@ PATIENCE = 60
 
 # Two updates and two views of which none overlaps another.
 CALM = ["begin,0,update,0:1:7", "end,0,update,", "begin,1,view,", "end,1,view,0:1:7"]
-# What comes behind them: a view of what was left, and one of a later update, which overlaps it.
+# What comes after them: a view of what was left, and one of a later update, which overlaps it.
 LATER = ["begin,1,view,", "begin,0,update,0:2:8", "end,1,view,0:2:8", "end,0,update,", "begin,2,view,", "end,2,view,0:2:8"]
 
 
@@ -223,7 +223,7 @@ class Differential(unittest.TestCase):
             views = [place for place, row in enumerate(rows) if row.startswith("end") and " 7:" in row and " 7:1:" not in row]
             at = draw.choice(views)
             component, count, value = map(int, rows[at].rpartition(" ")[2].split(":"))
-            # the update before the one that it has to show
+            # the update before the one that it must show
             rows[at] = f"{rows[at].rpartition(' ')[0]} {component}:{count - 1}:{value - 3}"
             self.assertEqual(judged(text_of(rows)), 2)
             found = windows_of(rows, 1000)
@@ -429,7 +429,7 @@ failed 0
             self.add("run.csv", "ew,0:1:7\n" + text_of(LATER, ""))
             self.expect_line(it, "window 1 events 4 atomic from 2 to 5")
             self.expect_line(it, "window 2 events 4 atomic from 6 to 9")
-            # what is behind the last cut is judged at the end
+            # what is after the last cut is judged at the end
             self.assertEqual(self.ended(it), (0, "window 3 events 2 atomic from 10 to 11\nwindows 3 events 10 views 3\natomic 3 first 1\n"
                                                  "only-regular 0\nnot-regular 0\nrefused 0\nfailed 0\n", ""))
 

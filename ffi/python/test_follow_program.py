@@ -34,7 +34,7 @@ def by_program(text, *words):
 
 
 def by_module(path, *words):
-    """The same of the module, whose option for the least length of a window has another name."""
+    """The exit status and the lines of the module, whose option for the least length of a window has another name."""
     lines = []
     with mock.patch("snapjudge.follow.write", lines.append), redirect_stderr(io.StringIO()), mock.patch("snapjudge.follow.say"):
         asked = follow.words_of(["--once", *words, path])
@@ -127,7 +127,7 @@ class Beside(unittest.TestCase):
                 self.assertEqual(by_check(text), (3, f"refused record 6: {word}"), row)
                 status, lines = by_program(text, "--window", "4")
                 self.assertEqual((status, lines.splitlines()[1]), (3, f"window 2 refused record 6: {word}"), row)
-        # text behind a quoted part belongs to the field, and a field may be left open
+        # text after a quoted part belongs to the field, and a field may be left open
         for row in ('"be"gin,2,"view",""', 'begin,"2","view","', "\ufeffbegin,2,view,", '\ufeffbegin,2,"view",'):
             status, lines = by_program(text_of(CALM + [row]), "--window", "4")
             self.assertEqual((status, lines.splitlines()[1]), (0, "window 2 events 1 atomic from 6 to 6"), row)

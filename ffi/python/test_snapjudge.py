@@ -1,6 +1,10 @@
 """The examples of the project by their reports, little room, refused memory, and threads on small stacks."""
 import glob
+import html
+import json
 import os
+import pathlib
+import re
 import resource
 import subprocess
 import sys
@@ -31,7 +35,8 @@ def status_of(report):
 
 
 def faults_of(records):
-    return snapjudge.check(HEADER + records).faults
+    """Each fault without its calls."""
+    return [(fault.kind, fault.count, fault.view, fault.more) for fault in snapjudge.check(HEADER + records).faults]
 
 
 class Judge(unittest.TestCase):
@@ -42,6 +47,7 @@ class Judge(unittest.TestCase):
             with self.assertRaises(snapjudge.Refused) as refused:
                 snapjudge.check(text)
             self.assertEqual(f"refused record {refused.exception.record}: {refused.exception.word}\n", wanted)
+            self.assertEqual(str(refused.exception), snapjudge.explain(text))
             return
         judged = snapjudge.check(text)
         self.assertEqual((judged.status, judged.report), (status, wanted))
@@ -97,7 +103,7 @@ class Judge(unittest.TestCase):
             for judge in (snapjudge.check, snapjudge.report):
                 with self.assertRaises(TypeError) as refused:
                     judge(history)
-                self.assertEqual(str(refused.exception), f"a history is text or bytes, and no {name}")
+                self.assertEqual(str(refused.exception), f"a history is a text, bytes, a path or an open file, and no {name}")
 
     def test_the_caller_chooses_the_limit_of_events(self):
         view = HEADER + "begin,0,view,\nend,0,view,\n"
@@ -122,16 +128,68 @@ class Judge(unittest.TestCase):
         self.assertEqual((judged.counts, judged.order), (snapjudge.Counts(4, 2, 0, 1), steps))
 
     def test_each_kind_of_fault_is_taken_apart(self):
-        integrity = snapjudge.Fault("integrity", 1, 3, {"entry": snapjudge.Entry(0, 1, 9)})
-        old = snapjudge.Fault("proximity", 1, 2, {"component": 0, "number": 0, "side": "old"})
-        read = snapjudge.Fault("read", 1, 2, {"other": 3, "component": 0})
-        write = snapjudge.Fault("write", 1, 1, {"misses": (0, 1), "shows": (1, 1)})
+        integrity = ("integrity", 1, 3, {"entry": snapjudge.Entry(0, 1, 9)})
+        old = ("proximity", 1, 2, {"component": 0, "number": 0, "side": "old"})
+        read = ("read", 1, 2, {"other": 3, "component": 0})
+        write = ("write", 1, 1, {"misses": (0, 1), "shows": (1, 1)})
         self.assertEqual(faults_of("begin,0,update,0:1:7\nend,0,update,\nbegin,1,view,\nend,1,view,\n"
-                                   "begin,2,view,\nend,2,view,0:1:9\n"), (integrity, old))
+                                   "begin,2,view,\nend,2,view,0:1:9\n"), [integrity, old])
         self.assertEqual(faults_of("begin,0,update,0:1:7\nbegin,1,view,\nend,1,view,0:1:7\nbegin,2,view,\n"
-                                   "end,2,view,\nend,0,update,\n"), (read,))
+                                   "end,2,view,\nend,0,update,\n"), [read])
         self.assertEqual(faults_of("begin,2,view,\nbegin,0,update,0:1:7\nend,0,update,\nbegin,1,update,1:1:8\n"
-                                   "end,1,update,\nend,2,view,1:1:8\n"), (write,))
+                                   "end,1,update,\nend,2,view,1:1:8\n"), [write])
+
+    def test_a_fault_has_its_calls_with_their_records(self):
+        judged = snapjudge.check(HEADER + "begin,2,view,\nbegin,0,update,0:1:7\nend,0,update,\nbegin,1,update,1:1:8\n"
+                                          "end,1,update,\nend,2,view,1:1:8\n")
+        missed = snapjudge.Call(2, 0, "update", 3, 4, (snapjudge.Entry(0, 1, 7),))
+        shown = snapjudge.Call(3, 1, "update", 5, 6, (snapjudge.Entry(1, 1, 8),))
+        view = snapjudge.Call(1, 2, "view", 2, 7, (snapjudge.Entry(1, 1, 8),))
+        self.assertEqual(judged.faults[0].calls, {"view": view, "misses": missed, "shows": shown})
+        self.assertEqual(json.loads(json.dumps(judged.to_dict()))["faults"][0]["calls"]["misses"]["begin"], 3)
+
+    def test_a_history_may_be_a_file(self):
+        for name, text, wanted in examples():
+            self.assertEqual(snapjudge.report(pathlib.Path(name)), (status_of(wanted), wanted))
+            with open(name, "rb") as file:
+                self.assertEqual(snapjudge.report(file), (status_of(wanted), wanted))
+            with open(name, newline="") as file:
+                self.assertEqual(snapjudge.report(file), (status_of(wanted), wanted))
+
+    def test_a_notebook_shows_the_picture(self):
+        judged = snapjudge.check(HEADER + "begin,0,view,\nend,0,view,\n")
+        self.assertEqual(judged._repr_svg_(), snapjudge.draw(judged.text, "svg"))
+        frame = re.fullmatch('<iframe srcdoc="([^"]*)" style="[^"]*"></iframe>', judged._repr_html_())
+        self.assertEqual(html.unescape(frame[1]), snapjudge.draw(judged.text))
+        with self.assertRaises(ValueError):
+            snapjudge.draw(judged.text, "png")
+
+    def test_what_a_run_has_shown(self):
+        counts = snapjudge.stats(HEADER + "begin,0,update,0:1:7\nbegin,1,view,\nend,1,view,0:1:7\nbegin,2,view,\nend,2,view,\nend,0,update,\n")
+        self.assertEqual((counts.calls, counts.views, counts.overlap_update, counts.overlap_view, counts.most_open, counts.longest), (3, 2, 2, 0, 2, 6))
+        self.assertTrue(counts.shows_concurrency)
+        self.assertEqual(counts.by_component, (snapjudge.ComponentStats(component=0, writer=0, updates=1, views=1),))
+        self.assertEqual(counts.to_dict()["by_component"], [{"component": 0, "writer": 0, "updates": 1, "views": 1}])
+        self.assertFalse(snapjudge.stats(HEADER).shows_concurrency)
+        with self.assertRaises(snapjudge.Refused):
+            snapjudge.stats(HEADER + "begin,0,read,\n")
+        with self.assertRaises(snapjudge.NoLimit):
+            snapjudge.stats(HEADER, events=0)
+
+    def test_each_question_has_the_answer_of_the_program(self):
+        program = os.environ.get("SNAPJUDGE_PROGRAM")
+        if not program:
+            self.skipTest("SNAPJUDGE_PROGRAM names no program")
+        asked = {("explain",): snapjudge.explain, ("explain", "--draw"): lambda text: snapjudge.explain(text, drawn=True),
+                 ("shrink",): snapjudge.shrink, ("shrink", "--draw"): lambda text: snapjudge.shrink(text, drawn=True),
+                 ("draw",): snapjudge.draw, ("draw", "--svg"): lambda text: snapjudge.draw(text, "svg"),
+                 ("draw", "--text"): lambda text: snapjudge.draw(text, "text"),
+                 ("stats",): lambda text: snapjudge.answer("stats", text, 0)[1],
+                 ("stats", "--format", "json"): lambda text: snapjudge.answer("stats", text, 1)[1]}
+        for name, text, _ in examples():
+            for words, ask in asked.items():
+                done = subprocess.run([program, *words], input=text, capture_output=True, check=False)
+                self.assertEqual(ask(text), done.stdout.decode(), (name, words))
 
 
 def refuse():

@@ -1,4 +1,4 @@
-"""Writes the calls that a driver of the recorders has to choose for a seed, as `own --choices` does, worked out independently.
+"""Writes the calls that a driver of the recorders must choose for a seed, as `own --choices` does, worked out independently.
 
 usage: choices.py THREADS COMPONENTS CALLS RUNS SEED choice|turn
 

@@ -1,4 +1,4 @@
-"""Runs the commands of a guide, those behind `$` in its blocks, in a folder, and compares what each block prints with what stands there.
+"""Runs the commands of a guide, those after `$` in its blocks, in a folder, and compares what each block prints with what is there.
 usage: commands.py GUIDE FOLDER"""
 import pathlib
 import re

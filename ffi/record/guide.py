@@ -1,5 +1,6 @@
-"""Runs the first five minutes of a guide, in Python, and compares what is printed with what stands there: each line of `double`
-but for its views, those of `naive` but for numbers, and of an explanation the verdict. usage: guide.py GUIDE RECORDERS PROGRAM FOLDER"""
+"""Runs the first five minutes of a guide, in Python, and compares what is printed with what is there: each line of `double`
+except for its views, those of `naive` except for numbers, and of an explanation the verdict.
+usage: guide.py GUIDE RECORDERS PROGRAM FOLDER"""
 import os
 import pathlib
 import re
@@ -8,7 +9,7 @@ import subprocess
 import sys
 
 START = ["./install", "cp -r ffi/record /tmp/own", "cd /tmp/own/python"]
-# A slow machine says how far it is more than once; only the last of these lines is to be there.
+# A slow machine says how far it is more than once; only the last of these lines must be there.
 PROGRESS = re.compile(r"run (\d+) of (?!\1:)")
 # How many views overlap an update varies.
 OVERLAP = re.compile(r"\d+ of \d+ views")

@@ -1,5 +1,5 @@
-"""Tells each listing of a guide that does not stand, line for line, in a file of its language. usage: listings.py GUIDE FOLDER
-[LANGUAGE ..], where there has to be one of each of these languages, or of all. Where none is named, each listing has at most 15 lines
+"""Names each listing of a guide that is not, line for line, in a file of its language. usage: listings.py GUIDE FOLDER
+[LANGUAGE ..]. There must be a listing in each of these languages, or in all. If none is named, each listing has at most 15 lines
 beside imports and lone brackets."""
 import pathlib
 import re

@@ -1,49 +1,21 @@
 #!/usr/bin/env bash
-# Tries the recorders and their drivers: the text of a worked run, the calls that a seed chooses, the answer to each misuse, and
-# runs of a double collect, which must all be atomic, and of a naive collect, of which one must be caught. The last line is
-# 'N passed, M failed', with ', K skipped' behind it where a tool is missing; a line before it names the language.
-# usage: test.sh [PROGRAM], where PROGRAM judges; it may stand in SNAPJUDGE_PROGRAM too
+# Tries the recorders and their drivers: the text of a worked run, the calls that a seed chooses, and the answer to each misuse.
+# All runs of a double collect must be atomic, and one run of a naive collect must be caught. The last line is 'N passed, M
+# failed', with ', K skipped' after it if a tool is missing; a line before it names the language.
+# usage: test.sh [PROGRAM], where PROGRAM judges; SNAPJUDGE_PROGRAM may name it too
 unset CDPATH
 set -u
 here=$(cd "$(dirname "${BASH_SOURCE[0]}")" && pwd)
 program=$(realpath -m "${1:-${SNAPJUDGE_PROGRAM:-$here/../../built/snapjudge}}")
 library=$(realpath -m "$here/../build/libsnapjudge.so")
-passed=0
-failed=0
-skipped=0
-work=$(mktemp -d)
-trap 'rm -rf "$work"' EXIT
+part=record
+. "$here/../../share/lib.sh"
+work=$room
 guide=$here/../../docs/OWN-OBJECT.md
+pages=$here/../../docs/own-object
 cd "$work" || exit 1
 
-# try NAME COMMAND ..: one test, which passes where the command ends with 0
-try() {
-  local name=$1
-  shift
-  if "$@" >log 2>&1; then
-    echo "record: $name: passed"
-    passed=$((passed + 1))
-  else
-    tail -n 20 log
-    echo "record: $name: failed"
-    failed=$((failed + 1))
-  fi
-}
-
-# skip WHAT TOOL: counts what was not tried
-skip() {
-  echo "skipped: $1, $2 is not here"
-  skipped=$((skipped + 1))
-}
-
-# has PROGRAM LANGUAGE: whether there is such a program; else the language is skipped
-has() {
-  command -v "$1" >/dev/null && return 0
-  skip "$2" "$1"
-  return 1
-}
-
-# ended STATUS COMMAND ..: the command ends so. What it writes is kept in the file said, and what it tells on standard error in told.
+# ended STATUS COMMAND ..: the command ends with this status. The files `said` and `told` keep its standard output and standard error.
 ended() {
   local status=$1 found
   shift
@@ -53,12 +25,12 @@ ended() {
   [ "$found" = "$status" ]
 }
 
-# ends STATUS OUTPUT COMMAND ..: the command ends so, and writes that
+# ends STATUS OUTPUT COMMAND ..: the command ends with this status, and writes this output
 ends() {
   ended "$1" "${@:3}" && [ "$(cat said)" = "$2" ]
 }
 
-# What a driver writes behind the counts of verdicts.
+# What a driver writes after the counts of verdicts.
 overlaps='; [0-9]+ of [0-9]+ views overlapped an update, in [0-9]+ of [0-9]+ runs$'
 
 # counts STATUS NAME ATOMIC ONLY-REGULAR NOT-REGULAR COMMAND ..: the driver ends so, and writes one line, with these counts of verdicts
@@ -66,17 +38,18 @@ counts() {
   ended "$1" "${@:6}" && [[ $(cat said) =~ ^"$2: atomic $3, only-regular $4, not-regular $5"$overlaps ]]
 }
 
-# unseen START OPTION ..: the driver of `faulty` ends with status 3, writes no verdict, and the last line that it tells begins so
+# unseen START OPTION ..: the driver of `faulty` ends with status 3, writes no verdict, and its last line on standard error
+# begins with START
 unseen() {
   ends 3 "" "${faulty[@]}" "${@:2}" && [[ $(tail -n 1 told) == "$1"* ]]
 }
 
-# misused START OPTION ..: the same with status 4
+# misused START OPTION ..: the driver of `faulty` ends with status 4 instead
 misused() {
   ends 4 "" "${faulty[@]}" "${@:2}" && [[ $(tail -n 1 told) == "$1"* ]]
 }
 
-# unwritten OUTPUT [OPTION ..]: the same of a standard output that can't be written, a redirection
+# unwritten OUTPUT [OPTION ..]: the driver's standard output, a redirection, can't be written
 unwritten() {
   local faulty=(sh -c "\"\$@\" $1" sh "${faulty[@]}")
   shift
@@ -95,13 +68,13 @@ chosen() {
   done
 }
 
-# atomic [OPTION ..]: each run of the double collect is atomic, and the last line tells so
+# atomic [OPTION ..]: each run of the double collect is atomic, and the last line says so
 atomic() {
   counts 0 double 20 0 0 "${own[@]}" double --runs 20 "$@" && [ "$(tail -n 1 told)" = "double: run 20 of 20: $(sed 's/^double: //' said)" ]
 }
 
-# One run of the naive collect is caught, and is kept. More than half of all runs are caught where threads run in the middle of a
-# view; were it one of 40, all 1,000 would be missed once in 10^11 times.
+# One run of the naive collect is caught, and is kept. More than half of all runs are caught if threads run in the middle of a
+# view. Were it one of 40, all 1,000 would be missed once in 10^11 times.
 caught() {
   rm -f naive-*
   timeout 900 "${own[@]}" naive --runs 1000 --stop 1 "$@" >said 2>told
@@ -155,7 +128,7 @@ at,event,process,op,data
 5,end,0,view,
 TEXT
 
-# a run of more events than the judge takes where it is not asked for them; the words are a setting
+# a run of more events than the judge takes if it is not asked for them; the words are a setting
 long_run() {
   rm -f stale-*
   counts 2 stale 0 0 1 env "$@" "${faulty[@]}" stale --threads 2 --components 2 --calls 16385 --runs 1 --events 65540 &&
@@ -169,18 +142,18 @@ stale() {
     grep -qxF 'stale: run 1 is not atomic: see ./stale-caught.csv and the files beside it' told && cmp stale-caught.csv small-run.csv
 }
 
-# without_witness [OPTION ..]: a run is kept also where its witness can't be written, and then the driver names that
+# without_witness [OPTION ..]: a run is kept even if its witness can't be written, and then the driver names that
 without_witness() {
   misused "stale: files: " "${small_run[@]}" "$@" && cmp stale-caught.csv small-run.csv
 }
 
-# a program that judges, and fails as on a full disk where it shrinks
+# a program that judges, and fails as on a full disk when it shrinks
 shrinks_not() {
   rm -f stale-*
   without_witness --program ./shrinks-not && ! grep -q 'see ./stale-caught.csv and the files beside it' told
 }
 
-# a folder with a file in it stands where the witness is to be
+# a folder with a file in it is where the witness is to be
 no_room_for_witness() {
   rm -f stale-*
   mkdir -p stale-witness.csv/full
@@ -190,7 +163,7 @@ no_room_for_witness() {
   return $status
 }
 
-# beside the history stand its witness and its explanation
+# beside the history are its witness and its explanation
 explained() {
   stale "$@" && cmp stale-witness.csv - <<'TEXT' && cmp stale-explained.txt - <<'WORDS'
 event,process,op,data
@@ -207,7 +180,7 @@ WORDS
 }
 
 # Of the updates of one thread the first had no effect, the second is done, and of the third it is not known: the first is left out,
-# the third has no end, and the thread makes no call behind it. The dropped update has the stamp 0, which is no event's.
+# the third has no end, and the thread makes no call after it. The dropped update has the stamp 0, which is no event's.
 fails() {
   rm -f fails-*
   counts 2 fails 0 0 1 "${faulty[@]}" fails --threads 1 --components 1 --calls 9 --order turn --runs 1 &&
@@ -239,26 +212,28 @@ library_alone() {
   stale SNAPJUDGE_LIBRARY="$library" SNAPJUDGE_PROGRAM=./none && [ ! -e stale-witness.csv ] && [ ! -e stale-explained.txt ]
 }
 
-# Programs that stand for the judge: one ends with 0 whatever it is given, and one dies where it judges; another one is beside a
-# library, as it is installed, and only shrinks and explains.
+# Programs that stand for the judge: one ends with 0 whatever it is given, one loses the status in a pipe, and one dies when it judges a
+# run. Another one is beside a library, as it is installed, and only shrinks and explains.
 mkdir -p wrong prefix/bin prefix/lib
 printf '#!/bin/sh\nexit 0\n' >wrong/snapjudge
 # shellcheck disable=SC2016
-printf '#!/bin/sh\n[ "$1" = --version ] || kill -9 $$\nexec "%s" "$@"\n' "$program" >dies
+printf '#!/bin/sh\n"%s" "$@" | cat\n' "$program" >loses
+# shellcheck disable=SC2016
+printf '#!/bin/sh\n[ "$1" != check ] || { read -r head && [ "$head" = event,process,op,data ] && exit 2; kill -9 $$; }\nexec "%s" "$@"\n' "$program" >dies
 # shellcheck disable=SC2016
 printf '#!/bin/sh\n[ "$1" != check ] || kill -9 $$\nexec "%s" "$@"\n' "$program" >prefix/bin/snapjudge
 # shellcheck disable=SC2016
 printf '#!/bin/sh\n[ "$1" != shrink ] || exit 4\nexec "%s" "$@"\n' "$program" >shrinks-not
-chmod +x wrong/snapjudge dies shrinks-not prefix/bin/snapjudge
+chmod +x wrong/snapjudge loses dies shrinks-not prefix/bin/snapjudge
 [ ! -e "$library" ] || cp "$library" prefix/lib
 
-# wrong_on_path: what is called snapjudge on the path is no judge
+# wrong_on_path: what is called snapjudge on the path is not a judge
 wrong_on_path() {
   local faulty=(env -u SNAPJUDGE_PROGRAM PATH="$work/wrong:$PATH" "${faulty[@]}")
   misused "slow: no judge: " slow
 }
 
-# helps: the list of options goes to standard output, with all that the guide has and the objects
+# helps: the list of options goes to standard output, with everything that the guide has and the objects
 helps() {
   local word
   for word in --help -h; do
@@ -287,12 +262,12 @@ by_library() {
     SNAPJUDGE_LIBRARY=$library try "$language: a folder that is not there, before a run is caught" \
       misused "gives-up: files: " gives-up --out ./none
   else
-    skip "$language by the library" "$library"
+    skip "$language by the library" "$library is not here"
   fi
   SNAPJUDGE_LIBRARY=./none try "$language: a library that is not there" misused "stale: no judge: "
 }
 
-# drivers LANGUAGE: the tests of a driver, over the commands `own` and `faulty`. Where no library is named, the program judges.
+# drivers LANGUAGE: the tests of a driver, over the commands `own` and `faulty`. If no library is named, the program judges.
 drivers() {
   language=$1
   local -x SNAPJUDGE_LIBRARY='' SNAPJUDGE_PROGRAM=$program
@@ -337,6 +312,8 @@ drivers() {
   try "$language: a program that is not there" misused "stale: no judge: there is no program ./none" stale --program ./none
   try "$language: a program that judges nothing" misused "slow: no judge: " slow --program ./wrong/snapjudge
   try "$language: the same on the path" wrong_on_path
+  try "$language: a program whose status is lost" misused "slow: no judge: of a history that is not regular the judge tells status 0, and not 2" \
+    slow --program ./loses
   try "$language: a program that dies" misused "stale: no verdict: " stale --program ./dies
   try "$language: a folder that is not there" misused "stale: files: " stale --out ./none
   try "$language: a file in place of the folder" misused "stale: files: " stale --out ./dies
@@ -360,13 +337,13 @@ throws() {
   esac
 }
 
-# few_threads KILOBYTES: in so much memory of addresses 64 threads with wide stacks can't be started
+# few_threads KILOBYTES: with this limit of address space 64 threads with wide stacks can't be started
 few_threads() {
   local -x SNAPJUDGE_LIBRARY='' SNAPJUDGE_PROGRAM=$program RUST_MIN_STACK=8388608
   (ulimit -v "$1" && misused "stale: memory: thread " stale --threads 64)
 }
 
-# worked COMMAND ..: the tests of misuse pass, and the texts of both worked runs are as they are to be
+# worked COMMAND ..: the tests of misuse pass, and the texts of both worked runs are as they must be
 worked() {
   rm -f worked.csv failed.csv
   timeout 900 "$@" worked.csv failed.csv && cmp worked.csv "$here/worked.csv" && cmp failed.csv "$here/failed.csv"
@@ -429,7 +406,7 @@ c_naive() {
   [ $status = 1 ]
 }
 
-# the commands of the page print what stands below them
+# the commands of the page print what is below them
 commands() {
   mkdir -p page/ffi
   ln -sfn "$here" page/ffi/record
@@ -459,27 +436,27 @@ try_processes() {
 
 # ---- the recorders of each language
 
-# each listing of the guide stands in the file of its language
+# each listing of the pages is in a file of its language
 listings() {
-  python3 -B "$here/listings.py" "$guide" "$here"
+  cat "$pages"/*.md >pages.md && python3 -B "$here/listings.py" pages.md "$here"
 }
 
-# The command of the guide that begins so ends with 1 in a copy of the recorders, and tells a run that was caught. It makes 20 runs, of
-# which most are caught, and on one core some. It is called once, or up to 50 times until one is.
+# first_verdict LANGUAGE: the command of its page ends with 1 in a copy of the recorders, and says that a run was caught. It makes 20 runs,
+# of which most are caught, and on one core some. It is called once, or up to 50 times until one is.
 first_verdict() {
   local command i status=0
   local -x SNAPJUDGE_PROGRAM=$program
-  command=$(sed -n "s|^\$ \($1.*\)|\1|p" "$guide")
+  command=$(sed -n 's|^\$ cd /tmp/own/|cd |p' "$pages/$1.md")
   [ -e guided ] || cp -r "$here" guided
   for ((i = 0; i < 50 && status == 0; i++)); do
-    (cd guided/python && timeout 900 sh -c "$command" >"$work/said")
+    (cd guided && timeout 900 sh -c "$command" >"$work/said")
     status=$?
   done
   cat said
   [ $status = 1 ] && [[ $(tail -n 1 said) =~ ^"naive: atomic "[0-9]+", only-regular "[1-9][0-9]*", not-regular 0"$overlaps ]]
 }
 
-# sanitized COMPILER FLAG FOLDER ENDING: no race is found between threads that call both boards, nor where updates fail
+# sanitized COMPILER FLAG FOLDER ENDING: no race is found between threads that call both boards, nor when updates fail
 sanitized() {
   local name object
   local -x SNAPJUDGE_PROGRAM=$program
@@ -572,7 +549,7 @@ copied_go() {
   printf '\trecorder, _ := snaprecord.New[uint32](1, 1, 1)\n\tkept := recorder.Log(0)\n\tlog := %s\n\tlog.BeginView()\n}\n' "$1"
 }
 
-# go vet tells of a copy, if it is not of what a call answers; that one the recorder refuses
+# go vet warns of a copy, if it is not of what a call answers; that one the recorder refuses
 no_copy_in_go() {
   rm -rf copied
   cp -r "$here/go" copied
@@ -597,7 +574,7 @@ full() {
 sanitizes() {
   echo 'int main(void) { return 0; }' >empty.c
   "$1" -fsanitize=thread -o empty empty.c 2>/dev/null && ./empty && return 0
-  skip "$2 without races" "ThreadSanitizer of $1"
+  skip "$2 without races" "ThreadSanitizer of $1 is not here"
   return 1
 }
 
@@ -640,7 +617,7 @@ try_c() {
   crashes C
   try "C: threads that can't be started" few_threads 150000
   try "C: threads that wait for others, and take turns" counts 0 waits 5 0 0 ./faulty_c waits --schedule pct --runs 5 --calls 20 --program "$program"
-  try "C: the command of the guide" first_verdict "cd ../c &&"
+  try "C: the command of its page" first_verdict c
   try "C: logs that get full" full
   try "C: builds a caller" cc -std=gnu11 "${flags[@]}" -o caller "$here/c/caller.c" -pthread
   SNAPJUDGE_LIBRARY='' SNAPJUDGE_PROGRAM=$program try "C: a caller with an alarm, and two objects at once" ./caller
@@ -661,7 +638,7 @@ try_cpp() {
   crashes C++
   throws C++
   try "C++: threads that can't be started" few_threads 150000
-  try "C++: the command of the guide" first_verdict "cd ../cpp &&"
+  try "C++: the command of its page" first_verdict cpp
   try "C++: no copies of logs" no_copy_in_cpp
   if sanitizes c++ C++; then
     try "C++: without races" sanitized c++ -std=c++17 cpp cpp
@@ -679,12 +656,12 @@ try_rust() {
   by_library
   throws Rust
   try "Rust: threads that can't be started" few_threads 150000
-  try "Rust: the command of the guide" first_verdict "cd ../rust &&"
+  try "Rust: the command of its page" first_verdict rust
   try "Rust: no copies of logs" no_copy_in_rust
   if ordered_rust "$here/rust" 2>/dev/null; then
     try_order Rust rust snaprecord.rs Ordering::AcqRel Ordering::Relaxed
   else
-    skip "Rust: the order of calls" "a nightly rustc with ThreadSanitizer"
+    skip "Rust: the order of calls" "a nightly rustc with ThreadSanitizer is not here"
   fi
 }
 
@@ -695,15 +672,15 @@ few_java_threads() {
   if (ulimit -v 4000000 && "${faulty[@]}" stale --choices) >/dev/null 2>&1; then
     try "Java: threads that can't be started" few_threads 4000000
   else
-    skip "Java: threads that can't be started" "a Java that starts in 4 GB of addresses"
+    skip "Java: threads that can't be started" "a Java that starts in 4 GB of addresses is not here"
   fi
 }
 
-# judging WORDS: the program ./judges, which judges, and calls these before each check
+# judging WORDS: the program ./judges, which judges, and calls these before each check of runs, whose texts have stamps
 judging() {
   rm -f numbered-* starts checked seen
   # shellcheck disable=SC2016
-  printf '#!/bin/sh\n[ "$1" != check ] || { %s; }\nexec "%s" "$@"\n' "$1" "$program" >judges
+  printf '#!/bin/sh\n[ "$1" != check ] || head -qc 6 run-* 2>/dev/null | grep -q "^event," || { %s; }\nexec "%s" "$@"\n' "$1" "$program" >judges
   chmod +x judges
 }
 
@@ -712,35 +689,35 @@ nothing_left() {
   [ -z "$(find . -maxdepth 1 -name 'run-*')" ]
 }
 
-# runs of two calls, which ./judges judges, in batches where they are not slow
+# runs of two calls, which ./judges judges, in batches if they are not slow
 batched=(--threads 1 --components 1 --calls 2 --order turn --views 0 --program ./judges)
 
-# fourth_is_kept: of the runs of `numbered` the fourth was told and kept, and its view shows a 4
+# fourth_is_kept: of the runs of `numbered` the fourth was reported and kept, and its view shows a 4
 fourth_is_kept() {
   grep -qxF "numbered: run 4 is not atomic: see ./numbered-caught.csv and the files beside it" told &&
     [ "$(tail -n 1 numbered-caught.csv)" = "3,end,0,view,0:1:4" ] && "$program" explain <numbered-caught.csv | cmp - numbered-explained.txt &&
     nothing_left
 }
 
-# batch WORDS NEITHER OPTION ..: runs of which so many are caught, while the program calls these words
+# batch WORDS NEITHER OPTION ..: runs of which this many are caught, while the program calls these words
 batch() {
   judging "$1"
   counts 2 numbered 3 0 "$2" "${faulty[@]}" numbered "${batched[@]}" "${@:3}" && fourth_is_kept
 }
 
-# batch_fails WORDS START OPTION ..: the fourth run is kept, and then the driver ends with a line that begins so
+# batch_fails WORDS START OPTION ..: the fourth run is kept, and then the driver ends with a line that begins with START
 batch_fails() {
   judging "$1"
   misused "$2" numbered "${batched[@]}" "${@:3}" && fourth_is_kept
 }
 
-# judge_fails WORDS START: the program fails behind the first run
+# judge_fails WORDS START: the program fails after the first run
 judge_fails() {
   judging "$1"
   misused "$2" numbered "${batched[@]}" --runs 8 && nothing_left
 }
 
-# The first run is judged alone, and then batches double up to 64, so 300 runs need ten of them. Where one has fewer runs, half a
+# The first run is judged alone, and then batches double up to 64, so 300 runs need ten of them. If one has fewer runs, half a
 # second has passed. While the program reads files, there are no others.
 # shellcheck disable=SC2016
 few_starts() {
@@ -775,14 +752,14 @@ ended_in_batch() {
   ends 143 "" "${faulty[@]}" numbered "${batched[@]}" --runs 8 && [ -s seen ] && nothing_left
 }
 
-# Where a batch is not judged at once, its runs are judged one by one.
+# If a batch is not judged at once, its runs are judged one by one.
 # shellcheck disable=SC2016
 java_batches() {
   local died="numbered: died: a call of thread 0 threw " alone='[ $# = 2 ] ||' seen="grep -q ':5$' run-*"
   try "Java: the first of a batch is kept" batch : 2 --runs 5
   try "Java: a batch with the last run that counts" batch : 1 --runs 5 --stop 1
-  try "Java: a fault behind the last run that counts" batch : 1 --runs 8 --stop 1
-  try "Java: a fault behind runs that are not judged" batch_fails : "$died" --runs 8
+  try "Java: a fault after the last run that counts" batch : 1 --runs 8 --stop 1
+  try "Java: a fault after runs that are not judged" batch_fails : "$died" --runs 8
   try "Java: no verdict on a run of a batch" batch_fails "! $seen || exit 4" "numbered: no verdict: the judge ends with status 4" --runs 5
   try "Java: a program that knows no batches" batch "$alone exit 0" 2 --runs 5
   try "Java: a program that leaves out a run" batch "$alone { \"$program\" \"\$@\" >all; found=\$?; sed 1,3d all; exit \$found; }" 2 --runs 5
@@ -796,14 +773,14 @@ java_batches() {
   try "Java: ended in a batch" ended_in_batch
 }
 
-# the listing of the guide and its main are a program
+# the listing of the page and its main are a program
 guide_in_java() {
   mkdir -p guide_java
   {
     echo "import java.util.concurrent.atomic.AtomicLongArray;"
     echo "public final class Guide {"
-    sed -n '/^```java$/,/^```$/ { /^```/d; p }' "$guide"
-    sed -n 's/^In Java, with `\(public static void main.*\)`:$/\1/p' "$guide"
+    sed -n '/^```java$/,/^```$/ { /^```/d; p }' "$pages/java.md"
+    sed -n 's/^Start it by `\(public static void main.*\)`\.$/\1/p' "$pages/java.md"
     echo "}"
   } >guide_java/Guide.java
   javac -Xlint:all -Werror -d guide_java -cp java guide_java/Guide.java && grep -q "SnapDriver.main" guide_java/Guide.java &&
@@ -818,8 +795,8 @@ try_java() {
   throws Java
   java_batches
   few_java_threads
-  try "Java: the command of the guide" first_verdict "cd ../java &&"
-  try "Java: the listing of the guide" guide_in_java
+  try "Java: the command of its page" first_verdict java
+  try "Java: the listing of its page" guide_in_java
 }
 
 try_python() {
@@ -829,8 +806,8 @@ try_python() {
   by_library
   throws Python
   try "Python: threads that can't be started" few_threads 250000
-  try "Python: the command of the guide" first_verdict "python3 own.py naive"
-  try "listings of the guide" listings
+  try "Python: the command of its page" first_verdict python
+  try "listings of the pages" listings
 }
 
 # Go finds a module by the folder that it is called in
@@ -882,21 +859,21 @@ try_go() {
     try "Go: the example of Porcupine, ${kind[0]}" stored "${kind[@]}"
   done
   has python3 "Go: the listing of Porcupine" && try "Go: the listing of Porcupine" python3 -B "$here/listings.py" "$here/../../docs/PORCUPINE.md" "$here" go
-  try "Go: the command of the guide" first_verdict "cd ../go &&"
+  try "Go: the command of its page" first_verdict go
   try "Go: no copies of logs" no_copy_in_go
   if ordered_go "$here/go" 2>/dev/null; then
     try "Go: calls are in order" in_order go
     # a bare reading of a clock orders nothing
     try "Go: a wrong clock is seen" wrong_clock go snaprecord.go 's/log.recorder.clock.Add(1) - 1/uint64(time.Now().UnixNano())/; s/^import ($/&"time"/'
   else
-    skip "Go: the order of calls" "the race detector of Go"
+    skip "Go: the order of calls" "the race detector of Go is not here"
   fi
 }
 
 if [ -x "$program" ]; then
   try "worked run" judged
   try "a list of calls, and a word" lists_no_file
-  has python3 "the first five minutes" && try "the first five minutes of the guide" python3 -B "$here/guide.py" "$here/../../docs/OWN-OBJECT.md" "$here" "$program" guide
+  has python3 "the first five minutes" && try "the first five minutes of the guide" python3 -B "$here/guide.py" "$guide" "$here" "$program" guide
   has cc C && try_c
   has c++ C++ && try_cpp
   has rustc Rust && try_rust
@@ -905,11 +882,7 @@ if [ -x "$program" ]; then
   has python3 Python && try_python
   has python3 "processes and failed updates" && try_processes
 else
-  echo "record: there is no program $program"
-  failed=$((failed + 1))
+  fail_test "there is no program $program"
 fi
 
-more=
-[ "$skipped" = 0 ] || more=", $skipped skipped"
-echo "$passed passed, $failed failed$more"
-[ "$failed" = 0 ]
+end_tests

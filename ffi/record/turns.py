@@ -2,7 +2,7 @@
 
 usage: turns.py PROGRAM THREADS COMPONENTS CALLS RUNS SEED DEPTH
 
-A thread is a generator that stops at each point of the drivers: before a call, behind its begin, before its end, and behind each read of
+A thread is a generator that stops at each point of the drivers: before a call, after its begin, before its end, and after each read of
 a view. docs/OWN-OBJECT.md says how the turns are chosen. The generator of numbers is that of choices.py.
 """
 import itertools

@@ -1,4 +1,4 @@
-// Prints the nanoseconds that recording one call, its begin and its end, takes with so many goroutines: the quartiles of some rounds.
+// Prints the nanoseconds that recording one call, its begin and its end, takes with this many goroutines: the quartiles of some rounds.
 // usage: cost THREADS
 package main
 

@@ -8,12 +8,12 @@ use Rattle.snap_account.specs.declared.account.Doing.{Doing}
 use Rattle.snap_account.specs.declared.account.Doing.TheVariants.{Idle, Begun, Written, Viewing, Scanning}
 use Rattle.snap_account.specs.declared.account.Scan.{Scan}
 
--- x stands in the list
+-- x is in the list
 abbrev pub Mem : {A : Type 0} → A → List A → Type 0
 Mem x [] = ⊥
 Mem x (y ∷ ys) = (y ≡ x) ⊎ Mem x ys
 
--- a store that is written: `over` where it is answered, and `ended` is 0 where it is not
+-- a store that is written: `over` if it is answered, and `ended` is 0 if it is not
 pub record Write : Type 0 where
   pub number : ℕ
   pub value : ℕ
@@ -94,7 +94,8 @@ view_records_of a = view_records_in a.calls ++ open_view_records a.doing
 abbrev pub stamps_of : Account → List ℕ
 stamps_of a = stamps_in a.calls ++ open_stamps a.doing
 
--- a scan with a middle tick, answered (`over`) or open: its last middle tick, what the collect before it read, and what was read since
+-- A scan with a middle tick, answered (`over`) or open. It has its last middle tick, what the collect before that tick read, and
+-- what it read since.
 pub record Mark : Type 0 where
   pub begun : ℕ
   pub middle : ℕ
@@ -126,7 +127,7 @@ open_marks (Scanning s) = mark s.begun s.middle 0 false s.before s.since ∷ []
 abbrev pub marks_of : Account → List Mark
 marks_of a = marks_in a.calls ++ open_marks a.doing
 
--- the stamps of answered calls, and the last middle ticks of those that are scans with a record
+-- the stamps of answered calls, and the last middle ticks of the scans with a record among them
 abbrev pub all_stamps_in : List Answered → List ℕ
 all_stamps_in rs = stamps_in rs ++ map (λ (m : Mark). m.middle) (marks_in rs)
 
@@ -134,7 +135,6 @@ all_stamps_in rs = stamps_in rs ++ map (λ (m : Mark). m.middle) (marks_in rs)
 abbrev pub middles_of : Account → List ℕ
 middles_of a = map (λ (m : Mark). m.middle) (marks_of a)
 
--- all stamps of an account
 abbrev pub all_stamps : Account → List ℕ
 all_stamps a = stamps_of a ++ middles_of a
 
@@ -144,7 +144,7 @@ op_entry p (Viewed xs) = p
 op_entry p (Scanned t xs) = p
 op_entry p (Interfered n xs ys) = p
 
--- the entry of the last store among the records, p where there is none
+-- the entry of the last store among the records, or p if there is none
 abbrev pub latest : ℕ × ℕ → List Answered → ℕ × ℕ
 latest p [] = p
 latest p (r ∷ rs) = latest (op_entry p r.op) rs
@@ -156,11 +156,11 @@ open_entry p (Written b n v) = (n, v)
 open_entry p (Viewing b xs) = p
 open_entry p (Scanning s) = p
 
--- what the desk's word has: number and value of the last store that was written, (0, 0) where there is none
+-- what the desk's word has: number and value of the last store that was written, or (0, 0) if there is none
 abbrev pub in_word : Account → ℕ × ℕ
 in_word a = open_entry (latest (0, 0) a.calls) a.doing
 
--- the steps of a call, kinds 1 to 6 and 9 to 11. A step that does not fit the open call changes nothing
+-- The steps of a call, kinds 1 to 6 and 9 to 11. A step that does not fit the open call changes nothing.
 abbrev pub begun_store : ℕ → Account → Account
 begun_store t a = record { desk = a.desk; calls = a.calls; doing = Begun t; ticks = a.ticks + 1 }
 
@@ -177,7 +177,7 @@ write_open p (Scanning s) = Scanning s
 abbrev pub wrote : ℕ × ℕ → Account → Account
 wrote p a = record { desk = a.desk; calls = a.calls; doing = write_open p a.doing; ticks = a.ticks }
 
--- the scan, which has read these since its last middle tick
+-- the scan, after it has read these since its last middle tick
 abbrev pub reading : Scan → List (ℕ × ℕ) → Scan
 reading s xs = record { begun = s.begun; first = s.first; middles = s.middles; middle = s.middle; before = s.before; since = xs }
 

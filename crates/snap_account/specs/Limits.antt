@@ -2,11 +2,11 @@
 use Rattle.std.specs.Prelude.{ℕ, ◌≤◌}
 use Rattle.snap_account.specs.declared.limit.TheConstants.{TICK_CAP, TICK_LIMIT}
 
--- where no limit is chosen
+-- the limit if none is chosen
 abbrev pub tick_limit : ℕ
 tick_limit = TICK_LIMIT
 
--- by the greatest limit
+-- the greatest limit
 abbrev pub tick_cap : ℕ
 tick_cap = TICK_CAP
 

@@ -1,4 +1,4 @@
--- What holds of scans between any two steps.
+-- What is true of scans between any two steps.
 use Rattle.std.specs.Prelude.{◌≡◌, ℕ, ◌+◌, ◌<◌, ◌≤◌, true, List, length, ⊤}
 use mathlib.Core.Option.{some}
 use lib.ListN.{get_elem?}
@@ -21,17 +21,17 @@ pub record Spans (m : Mark) (k : ℕ) (c : Account) : Type 0 where
   pub later : (p q : ℕ × ℕ) → get_elem? m.before k ≡ some p → get_elem? m.since k ≡ some q → p.0 ≤ q.0
   pub fresh : (q : ℕ × ℕ) → get_elem? m.since k ≡ some q → (w : Write) → Mem w (writes_of c) → w.over ≡ true → w.ended < m.middle → w.number ≤ q.0
 
--- where the middle tick of r is before that of s, s has read since then nothing older than r had read before
+-- if the middle tick of r is before that of s, s has since read nothing older than r had read before
 abbrev pub InTurn : Mark → Mark → Type 0
 InTurn r s = r.middle < s.middle → (k : ℕ) (p q : ℕ × ℕ) → get_elem? r.before k ≡ some p → get_elem? s.since k ≡ some q → p.0 ≤ q.0
 
--- a scan by itself, on a board of n desks: its middle tick stands between its begin and its end, and the collect before it is whole
+-- A scan by itself, on a board of n desks. Its middle tick is between its begin and its end, and the collect before it is whole.
 pub record Inside (n : ℕ) (m : Mark) : Type 0 where
   pub begins : m.begun < m.middle
   pub ends : m.over ≡ true → m.middle < m.ended
   pub whole : length m.before ≡ n
 
--- the numbers of a collect added up
+-- the sum of the numbers of a collect
 abbrev pub sum : List (ℕ × ℕ) → ℕ
 sum xs = total (λ p. p.0) xs
 

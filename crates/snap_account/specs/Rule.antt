@@ -1,4 +1,4 @@
--- What holds of the board between any two steps.
+-- What is true of the board between any two steps.
 use Rattle.std.specs.Prelude.{◌≡◌, ℕ, ◌+◌, ◌*◌, ◌<◌, ◌≤◌, ◌==◌, zero, suc, true, List, [], ◌∷◌, length, map}
 use mathlib.Core.Option.{some}
 use lib.ListN.{get_elem?}
@@ -21,7 +21,7 @@ abbrev pub Numbered : ℕ → List Write → Type 0
 Numbered n [] = Unit {0}
 Numbered n (w ∷ ws) = (w.number ≡ n) × Numbered (suc n) ws
 
--- what holds of the account of desk k by itself, on a board of n desks
+-- what is true of the account of desk k by itself, on a board of n desks
 pub record Own (n k : ℕ) (a : Account) : Type 0 where
   pub desk : a.desk ≡ k
   pub rising : Rising (stamps_of a)
@@ -43,19 +43,19 @@ pub record Sees (v : ViewRecord) (p : ℕ × ℕ) (c : Account) : Type 0 where
   -- it was stored, and the store began before the view ended
   pub real : 0 < p.0 → (w : Write) × Mem w (writes_of c) × (w.number ≡ p.0) × (w.value ≡ p.1) × (v.over ≡ true → w.begun < v.ended)
 
--- where r ended before s began, s shows nothing older
+-- if r ended before s began, s shows nothing older
 abbrev pub After : ViewRecord → ViewRecord → Type 0
 After r s = r.over ≡ true → r.ended < s.begun → (k : ℕ) (p q : ℕ × ℕ) → get_elem? r.shown k ≡ some p → get_elem? s.shown k ≡ some q → p.0 ≤ q.0
 
 abbrev pub clock : List Account → ℕ
 clock b = total (λ a. a.ticks) b
 
--- each tick below the clock is a begin, a middle tick or an end of exactly one call, and each desk drew its own in their order
+-- Each tick below the clock is a begin, a middle tick or an end of exactly one call. Each desk drew its own ticks in their order.
 pub record Ticked (b : List Account) : Type 0 where
   pub once : (x : ℕ) → total (λ a. times x (drawn a)) b ≡ once_below x (clock b)
   pub rising : (k : ℕ) (a : Account) → get_elem? b k ≡ some a → Rising (drawn a)
 
--- what holds of all accounts together, desk by desk
+-- what is true of all accounts together, desk by desk
 pub record Core (n : ℕ) (b : List Account) : Type 0 where
   pub size : length b ≡ n
   pub own : (k : ℕ) (a : Account) → get_elem? b k ≡ some a → Own n k a
@@ -82,7 +82,7 @@ pub record Held (n : ℕ) (views : List (List Account)) (b : List Account) : Typ
   pub fits : (seat : ℕ) (v : List Account) → get_elem? views seat ≡ some v → (a : Account) → Mem a v → get_elem? b a.desk ≡ some a
   pub once : (d : ℕ) → total (of_desk d) views ≡ once_below d n
 
--- the rule of a board of n desks that may draw so many ticks each: the accounts that the seats hold, and the words that go with them
+-- The rule of a board of n desks that draw at most `most` ticks each. It ties the accounts of all seats to the words.
 pub record Boarded (n most : ℕ) (s : State (Unit {0}) (List Account)) : Type 0 where
   pub accounts : List Account
   pub words : s.words ≡ words_of accounts

@@ -1,4 +1,4 @@
--- What a seat's view says of one desk.
+-- What a seat's view says about one desk.
 use Rattle.std.specs.Prelude.{◌≡◌, ℕ, ◌≤◌, Bool, true, false, List, [], ◌∷◌, map}
 use mathlib.Core.Option.{some}
 use lib.ListN.{get_elem?}
@@ -40,7 +40,7 @@ abbrev pub doing_of : List Account → Doing
 doing_of [] = Idle
 doing_of (a ∷ v) = a.doing
 
--- the open collect, which has read xs
+-- the open collect, after it has read xs
 abbrev pub showing : List (ℕ × ℕ) → Doing → Doing
 showing xs Idle = Idle
 showing xs (Begun b) = Begun b
@@ -48,15 +48,14 @@ showing xs (Written b n v) = Written b n v
 showing xs (Viewing b ys) = Viewing b xs
 showing xs (Scanning s) = Scanning (reading s xs)
 
--- the seat of one desk, in whose open collect xs were read
+-- the seat of one desk, after its open collect has read xs
 abbrev pub has_read : Seated → List (ℕ × ℕ) → Seated
 has_read me xs = (record { desk = desk_of me.0; calls = answered_of me.0; doing = showing xs (doing_of me.0); ticks = ticks_of me.0 } ∷ [], [])
 
--- the seat of one desk
 abbrev pub one_desk : Seated → Seated
 one_desk me = (record { desk = desk_of me.0; calls = answered_of me.0; doing = doing_of me.0; ticks = ticks_of me.0 } ∷ [], [])
 
--- what words stand for
+-- what words encode
 abbrev pub pairs : List ℕ → List (ℕ × ℕ)
 pairs ws = map entry_of ws
 
@@ -72,7 +71,7 @@ is_idle (Written b n v) = false
 is_idle (Viewing b xs) = false
 is_idle (Scanning s) = false
 
--- what is known of an account while its desk is in
+-- what is known about an account while its desk is in
 pub record Brief : Type 0 where
   pub desk : ℕ
   pub ticks : ℕ

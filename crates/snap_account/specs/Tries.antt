@@ -11,7 +11,7 @@ use Rattle.snap_account.specs.Seats.{IsUpToDate, desk_of, answered_of, begun_of,
 abbrev pub IsRead : ℕ → ℕ → List Answered → List (ℕ × ℕ) → Type 0
 IsRead n d rs xs = (length xs ≡ n) × IsUpToDate d rs xs
 
--- a scan whose last collect read xs, which are not what the collect before it read
+-- a scan whose last collect read xs, while the collect before it read something else
 abbrev pub IsTrying : ℕ → ℕ → List Answered → List (ℕ × ℕ) → Doing → Type 0
 IsTrying n d rs xs Idle = ⊥
 IsTrying n d rs xs (Begun b) = ⊥
@@ -35,7 +35,7 @@ middles_made (Written b m v) = []
 middles_made (Viewing b ys) = []
 middles_made (Scanning s) = s.middles
 
--- how many they are
+-- the number of middle ticks of the open call
 abbrev pub made_in : Doing → ℕ
 made_in o = length (middles_made o)
 
@@ -50,11 +50,11 @@ middle_in (Written b m v) = 0
 middle_in (Viewing b ys) = 0
 middle_in (Scanning s) = s.middle
 
--- words that stand for what the desk of a seat has read of all n components
+-- words that encode what the desk of a seat has read of all n components
 abbrev pub HasReadAll : ℕ → Seated → List ℕ → Type 0
 HasReadAll n me words = IsRead n (desk_of me.0) (answered_of me.0) (pairs words)
 
--- the desk of a seat now has a scan whose last collect read these words, which are not what the collect before it read
+-- the desk of a seat now has a scan whose last collect read these words, while the collect before it read something else
 abbrev pub StillTries : ℕ → Seated → List ℕ → Seated → Type 0
 StillTries n me words now = IsTrying n (desk_of me.0) (answered_of me.0) (pairs words) (doing_of now.0)
 
@@ -62,6 +62,6 @@ StillTries n me words now = IsTrying n (desk_of me.0) (answered_of me.0) (pairs 
 abbrev pub AgreesOn : List ℕ → Seated → Type 0
 AgreesOn words now = HasAgreed (pairs words) (doing_of now.0)
 
--- the desk of a seat, its answered calls and the begin of its open call
+-- the desk of a seat, its answered calls and the begin of its open call are the same
 abbrev pub IsSameCall : Seated → Seated → Type 0
 IsSameCall old new = (desk_of new.0 ≡ desk_of old.0) × (answered_of new.0 ≡ answered_of old.0) × (begun_of new.0 ≡ begun_of old.0)

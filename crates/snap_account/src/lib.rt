@@ -1,5 +1,5 @@
-//! What the desks of a board did, as accounts, and the rule of the board's words: which steps there are, and what each does to
-//! an account.
+//! What the desks of a board did, as accounts, and the rule of the board's words. The rule has kinds of steps, and says what each
+//! does to an account.
 #![tactic(auto)]
 
 mod account;

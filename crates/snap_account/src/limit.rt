@@ -1,11 +1,11 @@
-//! How many ticks a desk may draw.
+//! The number of ticks that a desk may draw.
 ghost use Rattle.std.specs.Prelude.{◌≡◌, IsSome, IfSome, ◌↔◌};
 ghost use Rattle.snap_account.specs.Limits.{IsTickLimit, tick_limit};
 
-/// How many ticks a desk may draw where no limit is chosen.
+/// How many ticks a desk may draw if no limit is chosen.
 pub const TICK_LIMIT: u32 = 1_048_576;
 
-/// How many ticks a desk may draw by the greatest limit.
+/// The greatest limit that may be chosen.
 pub const TICK_CAP: u32 = 16 * TICK_LIMIT;
 
 /// A limit of the ticks that a desk may draw, 1 to `TICK_CAP`.
@@ -16,7 +16,7 @@ pub struct TickLimit {
 }
 
 impl TickLimit {
-    /// The limit of so many ticks; none where that is not 1 to `TICK_CAP`.
+    /// The limit of `ticks` ticks, or `None` if that is not 1 to `TICK_CAP`.
     pub fn new(ticks: u32) -> Option<TickLimit>
         ensures limit { IfSome result (λ limit. limit.ticks ≡ ticks) }
         ensures given { IsSome result ↔ IsTickLimit ticks }
@@ -27,14 +27,14 @@ impl TickLimit {
         Some(TickLimit { ticks })
     }
 
-    /// The limit where none is chosen, `TICK_LIMIT`.
+    /// The limit if none is chosen, `TICK_LIMIT`.
     pub fn usual() -> TickLimit
         ensures { result.ticks ≡ tick_limit }
     {
         TickLimit { ticks: TICK_LIMIT }
     }
 
-    /// How many ticks a desk may draw.
+    /// How many ticks a desk may draw, 1 to `TICK_CAP`.
     pub fn ticks(self) -> u32
         ensures ticks { result ≡ self.ticks }
         ensures fits { IsTickLimit result }

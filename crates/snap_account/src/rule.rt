@@ -1,4 +1,4 @@
-//! The rule of the board's table, and the kinds of step on its words.
+//! The rule of the board's table, and the kinds of steps on its words.
 use crate::account::Accounts;
 use crate::limit::TickLimit;
 use atomic_table::{Join, Play, Split, TableRule};
@@ -10,7 +10,7 @@ pub struct Size {
     pub limit: TickLimit,
 }
 
-/// What holds between any two steps on the board's words.
+/// What is true between any two steps on the board's words.
 pub struct BoardRule;
 
 impl TableRule<(), Accounts, Size> for BoardRule {
@@ -84,7 +84,7 @@ impl Play<(), Accounts> for GiveUp {
     ghost then = { GivesUp };
 }
 
-/// A load of the clock by a seat of several desks, which tells that no two of its accounts are of one desk.
+/// A load of the clock by a seat of several desks. It shows that its accounts are of different desks.
 pub struct LookOver;
 
 impl Play<(), Accounts> for LookOver {

@@ -13,11 +13,9 @@ use Rattle.snap_board.specs.declared.record.RecordedOp.TheVariants as Kind
 use Rattle.snap_account.specs.Seats.{idle}
 use Rattle.snap_board.specs.Boards.{BoardView, DeskView, GatheredView}
 
--- a desk of the board
 abbrev pub IsDeskOf : BoardView → DeskView → Type 0
 IsDeskOf b d = (d.board ≡ b.board) × (d.desk < b.desks)
 
--- the desks of the board that are in
 abbrev pub IsGatheredOf : BoardView → GatheredView → Type 0
 IsGatheredOf b g = (g.board ≡ b.board) × (g.desks ≡ b.desks)
 
@@ -25,7 +23,7 @@ IsGatheredOf b g = (g.board ≡ b.board) × (g.desks ≡ b.desks)
 abbrev pub account : DeskView → Account
 account d = idle d.desk d.calls d.ticks
 
--- the entry of component k with a number and a value, nothing for number 0
+-- the entry of component k with a number and a value, or nothing for number 0
 abbrev pub shown_entry : ℕ → ℕ × ℕ → List Entry
 shown_entry k p = cond (nat_lt 0 p.0) (record { component = k; number = p.0; value = p.1 } ∷ []) []
 
@@ -46,7 +44,6 @@ abbrev pub records_at : ℕ → List Answered → List Record
 records_at d [] = []
 records_at d (r ∷ rs) = op_records d r.begun r.ended r.op ++ records_at d rs
 
--- the records of an account
 abbrev pub records_in : Account → List Record
 records_in a = records_at a.desk a.calls
 
@@ -54,7 +51,7 @@ records_in a = records_at a.desk a.calls
 abbrev pub records : DeskView → List Record
 records d = records_at d.desk d.calls
 
--- the tries of the scans without a record, in their order
+-- the tries of the scans without a record, in order
 abbrev pub op_lost : Answer → List ℕ
 op_lost (Stored n v) = []
 op_lost (Viewed xs) = []
@@ -68,7 +65,7 @@ lost_in (r ∷ rs) = op_lost r.op ++ lost_in rs
 abbrev pub lost : DeskView → List ℕ
 lost d = lost_in d.calls
 
--- how many collects have a record
+-- the number of collects among the records
 abbrev pub op_collects : Answer → ℕ
 op_collects (Stored n v) = 0
 op_collects (Viewed xs) = 1
@@ -81,7 +78,7 @@ collects_in rs = total (λ r. op_collects r.op) rs
 abbrev pub collects : DeskView → ℕ
 collects d = collects_in d.calls
 
--- how many ticks a desk has drawn
+-- the number of ticks that a desk has drawn
 abbrev pub ticks : DeskView → ℕ
 ticks d = d.ticks
 
@@ -97,7 +94,7 @@ abbrev pub entry_after : RecordedOp → Option Entry → Option Entry
 entry_after (Kind.Stored e) last = Some e
 entry_after (Kind.Viewed es) last = last
 
--- the entry of the last store among the records, or what stood before them
+-- the entry of the last store among the records, or `last` if there is none
 abbrev pub last_stored : Option Entry → List Record → Option Entry
 last_stored last [] = last
 last_stored last (r ∷ rs) = last_stored (entry_after r.op last) rs
@@ -106,11 +103,11 @@ abbrev pub entries_shown : RecordedOp → List Entry
 entries_shown (Kind.Stored e) = []
 entries_shown (Kind.Viewed es) = es
 
--- what a view's record shows, nothing for a store's
+-- what a view's record shows, or nothing for a store's
 abbrev pub shown_by : Record → List Entry
 shown_by r = entries_shown r.op
 
--- the number that a record shows of component k, 0 where it shows none
+-- the number that a record shows of component k, or 0 if it shows none
 abbrev pub number_shown : Record → ℕ → ℕ
 number_shown r k = number_in (entry_of k (shown_by r))
 
@@ -118,6 +115,6 @@ number_shown r k = number_in (entry_of k (shown_by r))
 abbrev pub IsNoOlder : List Record → Record → Type 0
 IsNoOlder earlier r = (q : Record) → Contains earlier q → (k : ℕ) → number_shown q k ≤ number_shown r k
 
--- of the component of desk d the record shows the desk's last store, nothing where there was none
+-- of the component of desk d the record shows the desk's last store, or nothing if there was none
 abbrev pub ShowsOwnLast : ℕ → List Record → Record → Type 0
 ShowsOwnLast d earlier r = entry_of d (shown_by r) ≡ last_stored None earlier

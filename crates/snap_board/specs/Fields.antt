@@ -1,4 +1,4 @@
--- What contracts see of a board, of its desks, and of a board that was closed.
+-- What contracts see of a board, of its desks, and of a closed board.
 use Rattle.snap_account.specs.Seats.{answered_of}
 use Rattle.snap_board.specs.Boards.{BoardView, DeskView, GatheredView, ClosedView}
 use Rattle.snap_board.specs.declared.board.Board.TheInside as board

@@ -30,11 +30,10 @@ abbrev pub Stamped : List (ℕ × Event) → Type 0
 Stamped [] = Unit {0}
 Stamped (x ∷ xs) = ((y : ℕ × Event) → Mem y xs → x.0 < y.0) × Stamped xs
 
--- no two events have one stamp
+-- no two events have the same stamp
 abbrev pub AreApart : List (ℕ × Event) → Type 0
 AreApart es = (x : ℕ) → times x (map (λ (e : ℕ × Event). e.0) es) ≤ 1
 
--- the records of all accounts
 abbrev pub all_records : List Account → List Record
 all_records [] = []
 all_records (a ∷ hand) = records_in a ++ all_records hand
@@ -45,14 +44,13 @@ pub record Merged (rs : List Record) (es : List (ℕ × Event)) : Type 0 where
   pub all : (x : ℕ × Event) → Mem x (stamped_events rs) → Mem x es
   pub only : (x : ℕ × Event) → Mem x es → Mem x (stamped_events rs)
 
--- the stamps of events
 abbrev pub event_stamps : List (ℕ × Event) → List ℕ
 event_stamps es = map (λ (x : ℕ × Event). x.0) es
 
 abbrev pub events_in : List (ℕ × Event) → List Event
 events_in es = map (λ (x : ℕ × Event). x.1) es
 
--- in its place by its stamp
+-- the list with x put in its place by its stamp
 abbrev pub put : ℕ × Event → List (ℕ × Event) → List (ℕ × Event)
 put x [] = x ∷ []
 put x (y ∷ ys) = cond (nat_lt x.0 y.0) (x ∷ y ∷ ys) (y ∷ put x ys)
@@ -65,7 +63,7 @@ in_order (x ∷ xs) = put x (in_order xs)
 abbrev pub history_of : List Record → List Event
 history_of rs = events_in (in_order (stamped_events rs))
 
--- the records of a hand as a history
+-- the records of all accounts as a history
 abbrev pub board_history : List Account → List Event
 board_history hand = history_of (all_records hand)
 

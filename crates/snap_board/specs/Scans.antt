@@ -1,4 +1,4 @@
--- The stores and scans of a hand, collects left out.
+-- The stores and scans of all accounts, without their collects.
 use Rattle.std.specs.Prelude.{List, [], ◌∷◌, ◌++◌, map}
 use Rattle.snap_core.specs.declared.event.Event.{Event}
 use Rattle.snap_account.specs.declared.account.Account.{Account}
@@ -21,6 +21,6 @@ kept (r ∷ rs) = op_kept r.op r ++ kept rs
 abbrev pub without_collects : Account → Account
 without_collects a = record { desk = a.desk; calls = kept a.calls; doing = a.doing; ticks = a.ticks }
 
--- the events of the stores and scans of a hand, in the order of their stamps
+-- the events of the stores and scans of all accounts, in the order of their stamps
 abbrev pub scan_history : List Account → List Event
 scan_history hand = board_history (map without_collects hand)

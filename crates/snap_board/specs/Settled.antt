@@ -1,4 +1,4 @@
--- What is known of the records of all desks once the board is closed.
+-- What is known about the records of all desks after the board is closed.
 use Rattle.std.specs.Prelude.{◌≡◌, ℕ, ◌<◌, ◌≤◌, zero, suc, List, [], ◌∷◌, length, map, Option, None, cond, nat_lt, ◌==◌, slice_index_or}
 use mathlib.Core.Option.{some}
 use lib.ListN.{get_elem?}
@@ -21,7 +21,8 @@ abbrev pub falling : ℕ → List ℕ
 falling zero = []
 falling (suc n) = n ∷ falling n
 
--- one component of one view, against the stores of the component's desk: no later store ended before the view began, and what is shown was stored by a call that began before the view ended
+-- One component of one view, against the stores of the component's desk. No later store ended before the view began. What the view
+-- shows was stored by a call that began before the view ended.
 pub record Shows (r : ViewRecord) (p : ℕ × ℕ) (c : Account) : Type 0 where
   pub fresh : (w : Write) → Mem w (writes_in c.calls) → p.0 < w.number → r.begun ≤ w.ended
   pub real : 0 < p.0 → (w : Write) × Mem w (writes_in c.calls) × (w.number ≡ p.0) × (w.value ≡ p.1) × (w.begun < r.ended)
@@ -39,12 +40,14 @@ pub record Settled (n : ℕ) (hand : List Account) : Type 0 where
   pub monotone : (a c : Account) → Mem a hand → Mem c hand → (r s : ViewRecord) → Mem r (view_records_in a.calls) → Mem s (view_records_in c.calls) → r.ended < s.begun
       → (k : ℕ) (p q : ℕ × ℕ) → get_elem? r.shown k ≡ some p → get_elem? s.shown k ≡ some q → p.0 ≤ q.0
 
--- each tick of a closed board, from 0 up to its clock, is a begin, a middle tick or an end of exactly one call, and each desk drew its own in their order
+-- Each tick of a closed board, from 0 up to its clock, is a begin, a middle tick or an end of exactly one call. Each desk drew its
+-- own ticks in their order.
 pub record TicksSettled (hand : List Account) : Type 0 where
   pub once : (x : ℕ) → total (λ (a : Account). times x (drawn_in a.calls)) hand ≡ once_below x (clock hand)
   pub rising : (a : Account) → Mem a hand → Rising (drawn_in a.calls)
 
--- one component of one scan, against the stores of the component's desk: what it shows was stored before its middle tick, and so was nothing later
+-- One component of one scan, against the stores of the component's desk. What it shows was stored before its middle tick, and no
+-- later store had ended by then.
 pub record ShowsAt (m : Mark) (p : ℕ × ℕ) (c : Account) : Type 0 where
   pub began : (w : Write) → Mem w (writes_in c.calls) → w.number ≡ p.0 → w.begun < m.middle
   pub fresh : (w : Write) → Mem w (writes_in c.calls) → w.ended < m.middle → w.number ≤ p.0
@@ -58,11 +61,11 @@ pub record ScansSettled (hand : List Account) : Type 0 where
   -- each unequal collect of a scan without a record added at least one to the numbers
   pub climbed : (a : Account) → Mem a hand → (r : Answered) → Mem r a.calls → HasClimbed r.op
 
--- 1 where the store neither ended before the call began nor began after it ended
+-- 1 if the store overlaps the call: it neither ended before the call began nor began after it ended
 abbrev pub beside : Answered → Write → ℕ
 beside r w = cond (nat_lt w.ended r.begun) 0 (cond (nat_lt r.ended w.begun) 0 1)
 
--- how many stores of other desks did neither
+-- the number of stores of other desks that overlap the call
 abbrev pub stores_beside : List Account → Account → Answered → ℕ
 stores_beside hand a r = total (λ (c : Account). cond (c.desk == a.desk) 0 (total (beside r) (writes_in c.calls))) hand
 
@@ -72,7 +75,7 @@ op_tries (Viewed xs) = 0
 op_tries (Scanned t xs) = 0
 op_tries (Interfered n xs ys) = n
 
--- a scan without a record had as many stores of other desks beside it as it has tries
+-- at least as many stores of other desks overlap a scan without a record as it has tries
 abbrev pub WereInterfered : List Account → Type 0
 WereInterfered hand = (a : Account) → Mem a hand → (r : Answered) → Mem r a.calls → op_tries r.op ≤ stores_beside hand a r
 
@@ -80,7 +83,7 @@ WereInterfered hand = (a : Account) → Mem a hand → (r : Answered) → Mem r 
 abbrev pub AreUpTo : ℕ → List Account → Type 0
 AreUpTo d hand = (a : Account) → Mem a hand → a.desk ≤ d
 
--- the last stored entry of component k, nothing where the board had no such desk
+-- the last stored entry of component k, or nothing if the board had no such desk
 abbrev pub entry_in : ClosedView → ℕ → Option Entry
 entry_in c k = cond (nat_lt k c.desks) (slice_index_or c.last k None) None
 

@@ -1,4 +1,4 @@
-//! Boards, the desks that are in and out, and what a closed board has left.
+//! Boards, the desks that are in and out, and what a closed board leaves.
 ghost use Rattle.std.specs.Prelude.{◌≡◌, ◌+◌, ◌*◌, ◌<◌, ◌≤◌, ◌↔◌, [], ◌∷◌, IfOk, IfErr, OnOk, OnErr, IsOk, IfNone, IfSome, length};
 ghost use Rattle.snap_core.specs.Events.{IsHistory};
 ghost use Rattle.snap_core.specs.Calls.{calls_of};
@@ -25,16 +25,16 @@ use std::alloc::{AllocError, Global};
 use std::marker::Model;
 use std::thread;
 
-/// How many desks a board has at most.
+/// The greatest number of desks of a board.
 pub const DESK_LIMIT: usize = 8;
 
-// How many words a board has at most: the clock, and one for each desk.
+// The greatest number of words of a board: the clock, and one for each desk.
 const WORD_LIMIT: usize = DESK_LIMIT + 1;
 
-// A tick times this has upper bits that show no pattern which the ticks of a desk's calls have.
+// A tick times this has upper bits without the patterns of the ticks of a desk's calls.
 const SCATTER: u64 = 0x9E37_79B9_7F4A_7C15;
 
-// One of so many places, by a tick.
+// One of `places` places, drawn by a tick.
 fn drawn(tick: u64, places: u64) -> u64
     requires { 0 < places }
 {
@@ -46,7 +46,7 @@ fn drawn(tick: u64, places: u64) -> u64
 pub struct Board {
     pub(crate) table: Table<(), Accounts, Size, BoardRule, Global>,
     pub(crate) desks: u8,
-    // how many ticks each desk may draw
+    // the number of ticks that each desk may draw
     pub(crate) limit: TickLimit,
     // whether desks give up their turn within calls
     pauses: bool,
@@ -79,7 +79,7 @@ impl Board {
         Board::with_ticks(alloc, desks, TickLimit::usual())
     }
 
-    /// A board as `open` gives it, whose desks may draw so many ticks each.
+    /// A board as `open` gives it, whose desks may draw `limit` ticks each.
     pub fn with_ticks(
         alloc: Global,
         desks: u8,
@@ -113,9 +113,9 @@ impl Board {
         ))
     }
 
-    /// The same board with pauses: a desk gives up its turn before one load of each collect, and between the begin and the
-    /// write of some stores, so that the calls of several threads overlap. Which ones is drawn by the ticks. It answers as
-    /// a board without them may.
+    /// The same board with pauses. A desk gives up its turn before one load of each collect, and between the begin and the write of
+    /// some stores. So the calls of several threads overlap. The ticks draw which load and which stores. Each answer is one that a
+    /// board without pauses may give.
     pub fn with_pauses(mut self) -> Board
         ensures { result ≡ self }
     {
@@ -123,7 +123,7 @@ impl Board {
         self
     }
 
-    // Gives up the turn, where the board has pauses and the tick draws this one of so many places.
+    // Gives up the turn, if the board has pauses and the tick draws this one of `places` places.
     pub(crate) fn pause_at(&self, place: u8, places: u8, tick: u64)
         requires { 0 < places }
     {
@@ -132,8 +132,8 @@ impl Board {
         }
     }
 
-    /// Hands out the highest desk that is in, with its account as it stands, or nothing where none is in. After a
-    /// refusal the gathered desks are unchanged.
+    /// Hands out the highest desk that is in, with its account as it is, or nothing if none is in. After a refusal the gathered
+    /// desks are unchanged.
     pub fn take(&self, _alloc: Global, gathered: &mut Gathered) -> Result<Option<Desk>, AllocError>
         requires { IsGatheredOf self.now gathered.old }
         ensures gathered { IsGatheredOf self.now gathered.new }
@@ -156,7 +156,7 @@ impl Board {
         Ok(Some(Desk { seat, desk, kept }))
     }
 
-    /// Puts a desk in, beside those that are in. None of those is the same desk: a load of the clock tells so.
+    /// Puts a desk in, with those that are in. None of those is the same desk: a load of the clock shows it.
     pub fn give_back(&self, gathered: Gathered, desk: Desk) -> Gathered
         requires gathered { IsGatheredOf self.now gathered }
         requires desk { IsDeskOf self.now desk }
@@ -180,11 +180,12 @@ impl Board {
         }
     }
 
-    /// Ends the board where all its desks are in. The begins and ends of all records, in the order of their stamps, are
-    /// then a regular and monotone history with no call pending, and those of the stores and scans alone are an atomic
-    /// one. Each scan that was interfered with had at least as many stores of other desks beside it as it had tries. Each
-    /// tick of the board's clock, from 0 on, is a begin, a middle tick or an end of exactly one call, and no desk drew more
-    /// than it may. Where a desk is out both come back unchanged.
+    /// Closes the board if all its desks are in. The begins and ends of all records, in the order of their stamps, are then a
+    /// regular and monotone history without pending calls. Those of the stores and scans alone are an atomic history. Each
+    /// interfered scan overlapped at least as many stores of other desks as it had tries. Each tick of the board's clock, from 0
+    /// on, is a begin, a middle tick or an end of exactly one call. No desk drew more ticks than it may.
+    ///
+    /// If a desk is out, the board and the desks come back unchanged.
     pub fn close(self, gathered: Gathered) -> Result<Closed, (Board, Gathered)>
         requires { IsGatheredOf self gathered }
         ensures exact { IsOk result ↔ (length (accounts gathered) ≡ self.desks) }
@@ -247,7 +248,7 @@ impl Desk {
         u16::from(self.desk)
     }
 
-    // The record of a call of the desk, which store, collect and scan answer.
+    // The record of a call of the desk. `store`, `collect` and `scan` answer with it.
     pub(crate) fn answer(&self, begun: u64, ended: u64, op: RecordedOp) -> Record
         ensures { result ≡ record { process = self.now.desk; begun = begun; ended = ended; op = op } }
     {
@@ -260,7 +261,7 @@ impl Desk {
     }
 }
 
-/// The desks that are in.
+/// The desks of a board that are in. `take` hands one of them out, and `give_back` puts one in.
 #[derive(Drop)]
 pub struct Gathered {
     seat: Seat<(), Accounts>,
@@ -282,7 +283,7 @@ impl Model for Gathered {
 }
 
 impl Gathered {
-    /// How many desks are in.
+    /// The number of desks that are in.
     pub fn held(&self) -> u8
         ensures { result ≡ length (accounts self.now) }
     {
@@ -296,7 +297,7 @@ impl Gathered {
     }
 }
 
-/// What is left of a board when it was closed: the last store of each desk.
+/// What is left of a closed board: the last store of each desk.
 #[derive(Clone, Copy, Debug)]
 pub struct Closed {
     desks: u8,
@@ -326,7 +327,7 @@ impl Closed {
         self.desks
     }
 
-    /// The last stored entry of component k, nothing where there is none.
+    /// The last stored entry of component k, or nothing if there is none.
     pub fn entry(&self, k: u8) -> Option<Entry>
         ensures { result ≡ entry_in self.now k }
     {

@@ -17,10 +17,10 @@ use snap_account::{Accounts, BeginStore, BeginView, EndCall, ReadWord, WriteWord
 use snap_core::{Entry, View};
 use std::alloc::Global;
 
-/// A component's word is the number times this, and the value.
+/// The word of a component is its number times this, plus its value.
 const NUMBER_UNIT: u64 = 4_294_967_296;
 
-// One of so many stores has a pause, where the board has pauses.
+// One of this many stores has a pause, if the board has pauses.
 const STORES_A_PAUSE: u8 = 8;
 
 // Lists the components whose words have a number.
@@ -58,8 +58,8 @@ pub(crate) fn view_of(words: &Vec<u64>, mut entries: Vec<Entry>) -> View
 }
 
 impl Board {
-    // Whether a desk with so many ticks may draw those of a call with so many tries: a begin, a middle tick for each try,
-    // and an end.
+    // Whether a desk that drew `ticks` ticks may draw those of a call with `tries` tries. A call draws a begin, a middle tick for
+    // each try, and an end.
     pub(crate) fn has_room(&self, ticks: u32, tries: u32) -> bool
         ensures room { IsTrue result ↔ (ticks + tries + 2 ≤ self.now.limit) }
         ensures small { IsTrue result → (ticks + tries + 2 ≤ tick_cap) }
@@ -67,8 +67,8 @@ impl Board {
         u64::from(ticks) + u64::from(tries) + 2 <= u64::from(self.limit.ticks())
     }
 
-    /// Writes a value to the desk's component, in three steps: a begin tick, the store of the component's word, and an
-    /// end tick. It returns however other threads run. After a refusal no step was made and the desk is unchanged.
+    /// Writes a value to the desk's component, in three steps: a begin tick, the store of the component's word, and an end tick. It
+    /// returns however other threads run. After a refusal, no step was made and the desk is unchanged.
     pub fn store(&self, desk: &mut Desk, value: u32) -> Result<Record, StoreRefusal>
         requires { IsDeskOf self.now desk.old }
         ensures desk { IsDeskOf self.now desk.new × (desk.new.desk ≡ desk.old.desk) }
@@ -108,7 +108,7 @@ impl Board {
         Ok(desk.answer(begun, ended, RecordedOp::Stored(entry)))
     }
 
-    // Loads the word of each component, from 0 on, with a pause before one of the loads, which the tick before them draws.
+    // Loads the word of each component, from 0 on, with a pause before one of the loads. The tick before the loads draws which.
     pub(crate) fn load_words(&self, seat: &mut Seat<(), Accounts>, words: &mut Vec<u64>, tick: u64)
         requires seat { seat.old.table_id ≡ self.now.board }
         requires ready { (seat.old.me ≡ has_read seat.old.me []) × HasRead (doing_of seat.old.me.0) [] }
@@ -126,8 +126,8 @@ impl Board {
         }
     }
 
-    /// Reads each component, from 0 on, between a begin tick and an end tick. It returns however other threads run. Memory is taken
-    /// before the first step. After a refusal no step was made and the desk is unchanged.
+    /// Reads each component, from 0 on, between a begin tick and an end tick. It returns however other threads run. It takes memory
+    /// before its first step. After a refusal, no step was made and the desk is unchanged.
     pub fn collect(&self, alloc: Global, desk: &mut Desk) -> Result<Record, CollectRefusal>
         requires { IsDeskOf self.now desk.old }
         ensures desk { IsDeskOf self.now desk.new × (desk.new.desk ≡ desk.old.desk) }

@@ -1,5 +1,5 @@
 //! Why a board was not opened, and why a call has no record.
-/// Why no board was opened, in the order in which the reasons are tested.
+/// Why a board was not opened, in the order in which the reasons are tested.
 #[derive(Clone, Copy, PartialEq, Eq, Debug)]
 pub enum OpenRefusal {
     /// The number of desks is not 1 to `DESK_LIMIT`.
@@ -11,14 +11,14 @@ pub enum OpenRefusal {
 /// Why a store was refused.
 #[derive(Clone, Copy, PartialEq, Eq, Debug)]
 pub enum StoreRefusal {
-    /// The desk has drawn so many ticks that the call could bring it past its limit.
+    /// The desk has drawn so many ticks that the call could exceed its limit.
     Spent,
 }
 
 /// Why a collect was refused, in the order in which the reasons are tested.
 #[derive(Clone, Copy, PartialEq, Eq, Debug)]
 pub enum CollectRefusal {
-    /// The desk has drawn so many ticks that the call could bring it past its limit.
+    /// The desk has drawn so many ticks that the call could exceed its limit.
     Spent,
     /// Memory ran out.
     Memory,
@@ -27,10 +27,10 @@ pub enum CollectRefusal {
 /// Why a scan has no record, in the order in which the reasons are tested.
 #[derive(Clone, Copy, PartialEq, Eq, Debug)]
 pub enum ScanRefusal {
-    /// The desk has drawn so many ticks that the call could bring it past its limit.
+    /// The desk has drawn so many ticks that the call could exceed its limit.
     Spent,
     /// Memory ran out.
     Memory,
-    /// No two collects, one after the other, were equal within the tries.
+    /// No two collects in a row were equal within the tries.
     Interfered,
 }

@@ -1,4 +1,4 @@
-//! Scans: collects that are tried again until two in a row read the same.
+//! Scans: collects that are repeated until two in a row read the same.
 ghost use Rattle.std.specs.Prelude.{◌≡◌, ◌≢◌, ◌↔◌, ◌+◌, ◌<◌, ◌≤◌, [], ◌∷◌, ◌++◌, length, vec_capacity, IfOk, IfErr, OnOk, OnErr, IsTrue, MatchOption, true, false};
 ghost use Rattle.snap_board.specs.Refusals.{IsNotScanned, IsLeft, IsNotInterfered};
 ghost use Rattle.snap_board.specs.LastCall.{HasCalled, IsRecordedScan};
@@ -22,7 +22,7 @@ fn are_equal(before: &Vec<u64>, since: &Vec<u64>) -> bool
 }
 
 impl Board {
-    // Makes a middle tick, and a collect after it. Tells whether that read what the collect before it did.
+    // Makes a middle tick, and then a collect. Answers whether it read the same as the collect before it.
     fn try_once(
         &self,
         seat: &mut Seat<(), Accounts>,
@@ -48,8 +48,8 @@ impl Board {
         are_equal(before, since)
     }
 
-    // Tries until two collects read the same, and then answers how many middle ticks were made. Answers nothing where
-    // none did within the tries.
+    // Tries until two collects in a row read the same, and then answers the number of middle ticks. Answers nothing if no two did
+    // within the tries.
     fn try_until(
         &self,
         seat: &mut Seat<(), Accounts>,
@@ -78,10 +78,10 @@ impl Board {
         None
     }
 
-    /// Reads each component again and again, with a middle tick between two readings, until two in a row read the same,
-    /// and answers what they read. It makes at most `tries` middle ticks, and returns however other threads run. Memory is taken before
-    /// the first step. After `Spent` and `Memory` no step was made and the desk is unchanged. After `Interfered` there is
-    /// no record, and ticks were drawn.
+    /// Reads each component again and again, with a middle tick between two readings, until two in a row read the same. Answers what they
+    /// read. It makes at most `tries` middle ticks, and returns however other threads run. It takes memory before its first step.
+    ///
+    /// After `Spent` and `Memory`, no step was made and the desk is unchanged. After `Interfered` there is no record, but ticks were drawn.
     pub fn scan(&self, alloc: Global, desk: &mut Desk, tries: u32) -> Result<Record, ScanRefusal>
         requires desk { IsDeskOf self.now desk.old }
         requires tries { 0 < tries }

@@ -7,7 +7,7 @@ use crate::board::DESK_LIMIT;
 use crate::desk_state::DeskState;
 use snap_core::Entry;
 
-/// What is kept of each desk below `desks` that has done nothing.
+/// What is kept of each desk below `desks` before its first call.
 pub(crate) fn fresh(desks: u8) -> [Option<DeskState>; DESK_LIMIT]
     requires { desks ≤ desk_limit }
     ensures { Fresh desks result × (length result ≡ desk_limit) }
@@ -23,7 +23,7 @@ pub(crate) fn fresh(desks: u8) -> [Option<DeskState>; DESK_LIMIT]
     slots
 }
 
-/// The highest desk that is in.
+/// The highest desk that is in, or nothing if none is.
 pub(crate) fn highest(desks: u8, slots: &[Option<DeskState>; DESK_LIMIT]) -> Option<u8>
     requires { desks ≤ desk_limit }
     ensures { MatchOption result (NoneFrom 0 desks slots.now) (λ d. (d < desks) × ((k : DeskState) × (slice_index_or slots.now d None ≡ Some k)) × NoneFrom (d + 1) desks slots.now) }
@@ -68,7 +68,6 @@ pub(crate) fn last_stores(
     last
 }
 
-/// Whether all desks are in.
 pub(crate) fn all_in(desks: u8, slots: &[Option<DeskState>; DESK_LIMIT]) -> bool
     requires { desks ≤ desk_limit }
     ensures { IsTrue result ↔ AllIn desks slots.now }

@@ -1,4 +1,4 @@
-//! Stores, collects and the closing of a board, each call with what it must answer.
+//! Stores, collects and the closing of a board, each call with its wanted answer.
 ghost use Rattle.snap_board.specs.Desks.{IsDeskOf, IsGatheredOf};
 ghost use Rattle.std.specs.Prelude.{◌≡◌, IfOk};
 
@@ -23,7 +23,7 @@ fn taken(alloc: Global, board: &Board, gathered: &mut Gathered) -> Result<Desk, 
     Ok(board.take(alloc, gathered)?.ok_or("no desk is in")?)
 }
 
-// A fresh board of so many desks, what it gathers, and its highest desk.
+// A new board of `desks` desks, its gathered desks, and its highest desk.
 fn opened(alloc: Global, desks: u8) -> Result<(Board, Gathered, Desk), Fail>
     ensures gathered { IfOk result (λ r. IsGatheredOf r.0 r.1) }
     ensures desk { IfOk result (λ r. IsDeskOf r.0 r.2) }
@@ -33,7 +33,7 @@ fn opened(alloc: Global, desks: u8) -> Result<(Board, Gathered, Desk), Fail>
     Ok((board, gathered, desk))
 }
 
-// A fresh board of one desk that may draw so many ticks, what it gathers, and its desk.
+// A new board of one desk that may draw `ticks` ticks, its gathered desks, and its desk.
 fn opened_with(alloc: Global, ticks: u32) -> Result<(Board, Gathered, Desk), Fail>
     ensures gathered { IfOk result (λ r. IsGatheredOf r.0 r.1) }
     ensures desk { IfOk result (λ r. IsDeskOf r.0 r.2) }
@@ -44,7 +44,7 @@ fn opened_with(alloc: Global, ticks: u32) -> Result<(Board, Gathered, Desk), Fai
     Ok((board, gathered, desk))
 }
 
-// A board that is not closed, since a desk is out.
+// A board that does not close, since a desk is out.
 fn still_open(board: Board, gathered: Gathered) -> Result<(Board, Gathered), Fail>
     requires { IsGatheredOf board gathered }
     ensures { IfOk result (λ r. (r.0 ≡ board) × (r.1 ≡ gathered)) }
@@ -55,7 +55,7 @@ fn still_open(board: Board, gathered: Gathered) -> Result<(Board, Gathered), Fai
     }
 }
 
-// What is left of a board that is closed.
+// What is left of a closed board.
 fn closed(board: Board, gathered: Gathered) -> Result<Closed, Fail>
     requires { IsGatheredOf board gathered }
 {
@@ -65,7 +65,7 @@ fn closed(board: Board, gathered: Gathered) -> Result<Closed, Fail>
     }
 }
 
-// The same, once this desk came back.
+// What is left of a board that is closed after this desk came back.
 fn closed_with(board: Board, gathered: Gathered, desk: Desk) -> Result<Closed, Fail>
     requires gathered { IsGatheredOf board gathered }
     requires desk { IsDeskOf board desk }
@@ -74,7 +74,6 @@ fn closed_with(board: Board, gathered: Gathered, desk: Desk) -> Result<Closed, F
     closed(board, gathered)
 }
 
-// Stores a value.
 fn store(rt: &impl Abort, board: &Board, desk: &mut Desk, value: u32)
     requires { IsDeskOf board.now desk.old }
     ensures { IsDeskOf board.now desk.new }
@@ -90,7 +89,7 @@ fn is_store(record: &Record, want: Entry) -> bool {
     }
 }
 
-/// Whether the record is of a view that shows just this entry.
+/// Whether the record is of a view that shows only this entry.
 fn is_view(record: &Record, want: Entry) -> bool {
     match &record.op {
         RecordedOp::Stored(_) => false,
@@ -117,7 +116,7 @@ fn store_nine(rt: &impl Abort, board: &Board, desk: &mut Desk) -> Result<(), Fai
     Ok(())
 }
 
-// The desk collects, and sees that 9 alone.
+// The desk collects, and sees only that 9.
 fn collect_nine(rt: &impl Abort, alloc: Global, board: &Board, desk: &mut Desk) -> Result<(), Fail>
     requires { IsDeskOf board.now desk.old }
     ensures { IsDeskOf board.now desk.new }
@@ -196,7 +195,7 @@ fn boards_have_one_to_eight_desks(rt: HostRuntime) -> Result<(), Fail> {
     Ok(())
 }
 
-// Stores 0 so often, as the first calls of a desk.
+// Stores 0 `stores` times, as the first calls of a desk.
 fn spend(rt: &impl Abort, board: &Board, desk: &mut Desk, stores: u32) -> Result<(), Fail>
     requires { IsDeskOf board.now desk.old }
     ensures { IsDeskOf board.now desk.new }
@@ -208,7 +207,7 @@ fn spend(rt: &impl Abort, board: &Board, desk: &mut Desk, stores: u32) -> Result
     Ok(())
 }
 
-// A desk with no tick left neither stores nor collects.
+// A desk without ticks left neither stores nor collects.
 fn expect_spent(rt: &impl Abort, alloc: Global, board: &Board, desk: &mut Desk)
     requires { IsDeskOf board.now desk.old }
     ensures { IsDeskOf board.now desk.new }

@@ -23,12 +23,12 @@ impl Gate for Count {
     }
 }
 
-/// A list of so many stores of 0.
+/// A list of `steps` stores of 0.
 fn stores(alloc: Global, steps: usize) -> Result<Vec<Step>, Fail> {
     Ok(vec![in alloc; Step::Store(0); steps]?)
 }
 
-/// Two lists of so many stores.
+/// Two lists, of `first` and of `second` stores.
 fn two_lists(alloc: Global, first: usize, second: usize) -> Result<Vec<Vec<Step>>, Fail> {
     let mut lists = Vec::new(alloc);
     lists.push(stores(alloc, first)?)?;
@@ -36,7 +36,7 @@ fn two_lists(alloc: Global, first: usize, second: usize) -> Result<Vec<Vec<Step>
     Ok(lists)
 }
 
-/// So many lists of one store.
+/// `count` lists of one store each.
 fn lists(alloc: Global, count: u32) -> Result<Vec<Vec<Step>>, Fail> {
     let mut lists = Vec::new(alloc);
     for _ in 0..count {
@@ -52,7 +52,7 @@ fn an_open_gate_holds_nobody_up() {
     }
 }
 
-/// Why lists are no plan, or nothing where they are one.
+/// Why lists are not a plan, or nothing if they are one.
 fn refusal(lists: Vec<Vec<Step>>) -> Option<PlanRefusal> {
     Plan::new(lists).err()
 }
@@ -85,7 +85,7 @@ fn plans_have_steps_within_the_limit(rt: HostRuntime) -> Result<(), Fail> {
     Ok(())
 }
 
-/// Why lists are no plan by the greatest limit, or nothing where they are one.
+/// Why lists are not a plan by the greatest limit, or nothing if they are one.
 fn greatest_refusal(lists: Vec<Vec<Step>>) -> Option<PlanRefusal> {
     Plan::with_limit(lists, Limit::greatest()).err()
 }
@@ -100,7 +100,7 @@ fn plans_have_more_steps_by_the_greatest_limit(rt: HostRuntime) -> Result<(), Fa
     Ok(())
 }
 
-// The workers and rounds of plans, and why each is none.
+// The numbers of workers and rounds of plans, and why each is refused.
 const ROUNDS: &[(u32, u32, Option<PlanRefusal>)] = &[
     (2, 2048, None),
     (2, 0, Some(PlanRefusal::TooLong)),
@@ -158,7 +158,7 @@ fn shows(recording: &Recording, of: u16) -> (bool, bool) {
     both
 }
 
-// How many events begin an update of this entry, by the process of its component.
+// The number of events that begin an update of this entry, by the process of its component.
 fn begins_of(recording: &Recording, want: Entry) -> usize {
     let events = recording.history.events().iter();
     events
@@ -171,7 +171,7 @@ fn begins_of(recording: &Recording, want: Entry) -> usize {
         .count()
 }
 
-/// Whether there is such an update.
+/// Whether some event begins an update of this entry, by the process of its component.
 fn begins(recording: &Recording, want: Entry) -> bool {
     begins_of(recording, want) > 0
 }
@@ -221,7 +221,7 @@ fn store_numbers(alloc: Global, workers: u32) -> Result<Plan, Fail> {
     Ok(Plan::new(scripts)?)
 }
 
-/// Whether a view ends here that shows of each component below 8 its first store, of its own number.
+/// Whether this event ends a view that shows, of each component below 8, its first store, of its own number.
 fn shows_eight_numbers(event: &Event) -> bool {
     match event {
         Event::EndView { process: _, view } => {
@@ -232,7 +232,7 @@ fn shows_eight_numbers(event: &Event) -> bool {
     }
 }
 
-// How many such views there are.
+// The number of such views.
 fn views_of_eight(recording: &Recording) -> usize {
     let events = recording.history.events().iter();
     events.filter(|event| shows_eight_numbers(event)).count()
@@ -250,7 +250,7 @@ fn eight_workers_meet_behind_their_stores(rt: HostRuntime) -> Result<(), Fail> {
     Ok(())
 }
 
-// Whether the stamps are the numbers from 0 on.
+// Whether the stamps are 0, 1, 2 and so on.
 fn are_in_turn(stamps: &[u64]) -> bool {
     stamps
         .iter()
@@ -269,7 +269,7 @@ fn two_workers_in_64_rounds_have_512_events(rt: HostRuntime) -> Result<(), Fail>
     Ok(())
 }
 
-// A recording has the 16,384 updates of two components, and no more.
+// A recording has the 16,384 updates of two components, and no others.
 fn expect_updates(rt: &impl Abort, recording: &Recording) {
     for component in 0..2 {
         assert_eq!(rt; begins_of(recording, entry(component, 1, 0)), 1);

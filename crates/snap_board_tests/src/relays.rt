@@ -56,7 +56,7 @@ fn has_stored(record: &Record, want: Entry) -> bool {
     }
 }
 
-/// Whether the record is of a collect or a scan that shows just these entries.
+/// Whether the record is of a collect or a scan that shows exactly these entries.
 fn has_viewed(record: &Record, want: &[Entry]) -> bool {
     match &record.op {
         RecordedOp::Stored(_) => false,
@@ -64,7 +64,6 @@ fn has_viewed(record: &Record, want: &[Entry]) -> bool {
     }
 }
 
-// A board, and its two desks.
 fn two_desks(alloc: Global) -> Result<(Board, Desk, Desk), Fail>
     ensures zero { IfOk result (λ r. IsDeskOf r.0 r.1 × (r.1.desk ≡ 0)) }
     ensures one { IfOk result (λ r. IsDeskOf r.0 r.2 × (r.2.desk ≡ 1)) }
@@ -79,7 +78,7 @@ fn two_desks(alloc: Global) -> Result<(Board, Desk, Desk), Fail>
     }
 }
 
-// The records that two desks of a board make, in turn: desk 1 stores 9, desk 0 collects and stores 7, desk 1 scans.
+// The records that two desks of a board make, one after the other. Desk 1 stores 9, desk 0 collects and stores 7, desk 1 scans.
 fn made_in_turn(
     alloc: Global,
     board: &Board,
@@ -97,7 +96,7 @@ fn made_in_turn(
     Ok((first, second, third, fourth))
 }
 
-// The same on a board of their own.
+// The records that two desks of a new board make, one after the other.
 fn made_alone(alloc: Global) -> Result<(Record, Record, Record, Record), Fail>
     ensures { IfOk result (λ r. (r.0.process ≡ 1) × (r.1.process ≡ 0) × (r.2.process ≡ 0) × (r.3.process ≡ 1)) }
 {
@@ -115,7 +114,7 @@ fn send<R: Wait + Abort>(rt: &R, alloc: Global, relay: &Relay, sender: &mut Send
     assert!(rt; relay.send(rt, alloc, sender, call).is_ok());
 }
 
-// The records that two desks make in turn are sent.
+// Sends the records that two desks make, one after the other.
 fn send_in_turn<R: Wait + Abort>(
     rt: &R,
     alloc: Global,
@@ -175,7 +174,7 @@ fn expect_stored<R: Wait + Abort>(
     Ok(())
 }
 
-// The next record has this process and these stamps, and is of a collect or a scan that shows just these entries.
+// The next record has this process and these stamps, and is of a collect or a scan that shows exactly these entries.
 fn expect_viewed<R: Wait + Abort>(
     rt: &R,
     relay: &Relay,
@@ -191,7 +190,7 @@ fn expect_viewed<R: Wait + Abort>(
     Ok(())
 }
 
-// The records that two desks make in turn come. Stamp 7 is the scan's middle tick.
+// The records that two desks make one after the other come in this order. Stamp 7 is the scan's middle tick.
 fn expect_in_turn<R: Wait + Abort>(rt: &R, relay: &Relay, taker: &mut Taker) -> Result<(), Fail>
     requires { IsTakerOf relay.now taker.old }
     ensures { IsTakerOf relay.now taker.new }
@@ -221,7 +220,7 @@ fn expect_end<R: Wait + Abort>(
     Ok(())
 }
 
-// A relay that does not end.
+// The relay and its ends, which come back because the relay does not end.
 fn unfinished<R: Wait>(
     rt: &R,
     relay: Relay,

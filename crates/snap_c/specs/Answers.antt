@@ -1,47 +1,59 @@
 -- What a call from C answers and leaves in its caller's memory.
-use Rattle.std.specs.Prelude.{◌≡◌, ◌<◌, ◌≤◌, ◌++◌, ◌⊎◌, ℕ, List, length, drop}
+use Rattle.std.specs.Prelude.{◌≡◌, ◌<◌, ◌≤◌, ◌++◌, ◌⊎◌, ℕ, List, length, drop, Option, Some, None}
 use Rattle.snap_core.specs.Limits.{IsLimit}
 use Rattle.snap_verdict.specs.declared.status.Status.{Status}
 use Rattle.snap_verdict.specs.Statuses.{code_of}
 use Rattle.snap_verdict.specs.Reports.{IsReport}
+use Rattle.snap_c.specs.declared.question.Question.{Question}
+use Rattle.snap_c.specs.Questions.{IsAnswerTo}
 
--- where a history may have so many events: the whole report stands at the front of the room, and behind it what stood there
-pub record IsFilled (limit : ℕ) (text : List ℕ) (old : List ℕ) (new : List ℕ) (needed : ℕ) (code : ℕ) : Type 0 where
+-- the whole answer is at the front of the room, and after it is what was there before
+pub record IsFilled (Is : Status → List ℕ → Type 0) (old new : List ℕ) (needed code : ℕ) : Type 0 where
   pub status : Status
   pub out : List ℕ
-  pub report : IsReport limit text status out
+  pub is : Is status out
   pub answers : code ≡ code_of status
   pub needs : needed ≡ length out
   pub fits : length out ≤ length old
   pub writes : new ≡ out ++ drop (length out) old
 
--- the report does not fit: nothing was written but its length
-pub record IsShort (limit : ℕ) (text : List ℕ) (old : List ℕ) (new : List ℕ) (needed : ℕ) (code : ℕ) : Type 0 where
+-- the answer does not fit: nothing was written but its length
+pub record IsShort (Is : Status → List ℕ → Type 0) (old new : List ℕ) (needed code : ℕ) : Type 0 where
   pub status : Status
   pub out : List ℕ
-  pub report : IsReport limit text status out
+  pub is : Is status out
   pub answers : code ≡ 5
   pub needs : needed ≡ length out
   pub too_long : length old < length out
   pub writes : new ≡ old
 
--- memory ran out: nothing was written
-pub record IsOutOfMemory (old : List ℕ) (new : List ℕ) (needed : ℕ) (code : ℕ) : Type 0 where
-  pub answers : code ≡ 4
+-- nothing was written, for the reason that a code names
+pub record IsUnwritten (reason : ℕ) (old new : List ℕ) (needed code : ℕ) : Type 0 where
+  pub answers : code ≡ reason
   pub needs : needed ≡ 0
   pub writes : new ≡ old
 
+-- the answer, or that it does not fit, or that memory ran out
+abbrev pub IsAnswered : (Status → List ℕ → Type 0) → List ℕ → List ℕ → ℕ → ℕ → Type 0
+IsAnswered Is old new needed code = IsFilled Is old new needed code ⊎ (IsShort Is old new needed code ⊎ IsUnwritten 4 old new needed code)
+
+-- the answer to a text if there is such a limit of events, and if there is none
+abbrev pub IsWithin : ℕ → (List ℕ → List ℕ → ℕ → ℕ → Type 0) → List ℕ → List ℕ → ℕ → ℕ → Type 0
+IsWithin events Is old new needed code = (IsLimit events × Is old new needed code) ⊎ ((IsLimit events → ⊥) × IsUnwritten 6 old new needed code)
+
+-- the report of a text
 abbrev pub IsChecked : ℕ → List ℕ → List ℕ → List ℕ → ℕ → ℕ → Type 0
-IsChecked limit text old new needed code =
-    IsFilled limit text old new needed code ⊎ (IsShort limit text old new needed code ⊎ IsOutOfMemory old new needed code)
+IsChecked limit text = IsAnswered (IsReport limit text)
 
--- no such limit may be chosen: nothing was written
-pub record HasNoLimit (old : List ℕ) (new : List ℕ) (needed : ℕ) (code : ℕ) : Type 0 where
-  pub answers : code ≡ 6
-  pub needs : needed ≡ 0
-  pub writes : new ≡ old
-
--- what is answered for so many events
+-- the report of a text, if there is such a limit of events
 abbrev pub IsCheckedFor : ℕ → List ℕ → List ℕ → List ℕ → ℕ → ℕ → Type 0
-IsCheckedFor events text old new needed code =
-    (IsLimit events × IsChecked events text old new needed code) ⊎ ((IsLimit events → ⊥) × HasNoLimit old new needed code)
+IsCheckedFor events text = IsWithin events (IsChecked events text)
+
+-- the answer to a question, or that there is no such question
+abbrev pub IsAnsweredTo : ℕ → Option Question → List ℕ → List ℕ → List ℕ → ℕ → ℕ → Type 0
+IsAnsweredTo limit (Some question) text old new needed code = IsAnswered (IsAnswerTo question limit text) old new needed code
+IsAnsweredTo limit None text old new needed code = IsUnwritten 7 old new needed code
+
+-- the answer to a question, if there is such a limit of events and such a question
+abbrev pub IsAnsweredFor : ℕ → Option Question → List ℕ → List ℕ → List ℕ → ℕ → ℕ → Type 0
+IsAnsweredFor events question text = IsWithin events (IsAnsweredTo events question text)

@@ -1,45 +1,52 @@
-//! The judge for callers in C.
+//! The program's answers to a text for callers in C.
 #![tactic(auto)]
 
-ghost use Rattle.std.specs.Prelude.{◌≡◌};
+ghost use Rattle.std.specs.Prelude.{◌≡◌, Some, slice_get};
 ghost use Rattle.snap_core.specs.Limits.{event_limit};
-ghost use Rattle.snap_c.specs.Answers.{IsChecked, IsCheckedFor};
+ghost use Rattle.snap_c.specs.Answers.{IsAnswered, IsAnsweredFor, IsChecked, IsCheckedFor};
+ghost use Rattle.snap_c.specs.Questions.{IsAnswerTo, counts, explanations, pictures, witnesses};
+ghost use Rattle.snap_c.specs.declared.question.Question.TheVariants.{Object};
 ghost use Rattle.snap_c.specs.declared.version.TheConstants.{VERSION as version};
 
+mod question;
 mod version;
 
+use question::{Question, answer_to, chosen};
 use snap_core::Limit;
-use snap_verdict::judge_text;
 use std::alloc::Global;
 use version::VERSION;
 
-/// What is answered where memory ran out.
+/// The answer if memory ran out.
 const NO_MEMORY: u32 = 4;
 
-/// What is answered where the room is too small.
+/// The answer if the room is too small.
 const NO_ROOM: u32 = 5;
 
-/// What is answered where there is no such limit of events.
+/// The answer if there is no such limit of events.
 const NO_LIMIT: u32 = 6;
 
-// Judges a text whose history may have so many events.
-fn check_text(
+/// The answer if an option is out of its range.
+const NO_OPTION: u32 = 7;
+
+// Answers a question on a text whose history may have as many events as the limit says.
+fn answer(
     alloc: Global,
+    question: Question<'_>,
     text: &[u8],
     limit: Limit,
-    report: &mut [u8],
+    out: &mut [u8],
     length: &mut usize,
 ) -> u32
-    ensures { IsChecked limit.events text.now report.old report.new length.new result }
+    ensures { IsAnswered (IsAnswerTo question.entry limit.events text.now) out.old out.new length.new result }
 {
-    match judge_text(alloc, text, limit) {
-        Ok((status, out)) => {
-            let needed = out.len();
+    match answer_to(alloc, question, text, limit) {
+        Ok((status, answer)) => {
+            let needed = answer.len();
             *length = needed;
-            if needed > report.len() {
+            if needed > out.len() {
                 return NO_ROOM;
             }
-            report[..needed].copy_from_slice(&out);
+            out[..needed].copy_from_slice(&answer);
             u32::from(status.code())
         }
         Err(_) => {
@@ -49,10 +56,31 @@ fn check_text(
     }
 }
 
-/// Judges a text. The answer is 0 where it is an atomic history, 1 where it is one that is regular and not atomic, 2 where it
-/// is one that is neither, and 3 where it is no history; then the report stands at the front of `report`, `length` bytes
-/// long, and the rest of `report` is unchanged. It is 5 where the report does not fit into `report`: `length` is then how many
-/// bytes it has. It is 4 where memory ran out, and `length` is then 0. After 4 and 5 nothing was written into `report`.
+// Answers a question on a text, if there is such a limit of events and such a question.
+fn answer_within(
+    alloc: Global,
+    question: Option<Question<'_>>,
+    text: &[u8],
+    events: u32,
+    out: &mut [u8],
+    length: &mut usize,
+) -> u32
+    ensures { IsAnsweredFor events question.entry text.now out.old out.new length.new result }
+{
+    *length = 0;
+    let Some(limit) = Limit::new(events) else {
+        return NO_LIMIT;
+    };
+    match question {
+        Some(question) => answer(alloc, question, text, limit, out, length),
+        None => NO_OPTION,
+    }
+}
+
+/// Judges a text. The answer is 0 if the text is an atomic history, and 1 if it is a regular history that is not atomic. It is 2 if the
+/// text is a history that is neither, and 3 if it is not a history. After 0 to 3 the report is at the front of `report`, `length`
+/// bytes long, and the rest of `report` is unchanged. The answer is 5 if the report does not fit into `report`: `length` is then the
+/// number of its bytes. It is 4 if memory ran out, and `length` is then 0. After 4 and 5 nothing was written into `report`.
 #[unsafe(no_mangle)]
 pub extern "C" fn snapjudge_check(
     alloc: Global,
@@ -62,11 +90,12 @@ pub extern "C" fn snapjudge_check(
 ) -> u32
     ensures { IsChecked event_limit text.now report.old report.new length.new result }
 {
-    check_text(alloc, text, Limit::usual(), report, length)
+    let usual = Limit::usual();
+    answer(alloc, Question::Report, text, usual, report, length)
 }
 
-/// Judges a text as `snapjudge_check` does, where a history may have `events` events in place of 65,536, and its text 1,024 times
-/// as many bytes. The answer is 6 where `events` is not 1 to 1,048,576; then nothing was written into `report`, and `length` is 0.
+/// Judges a text as `snapjudge_check` does, but a history may have `events` events in place of 65,536, and its text 1,024 times as
+/// many bytes. The answer is 6 if `events` is not 1 to 1,048,576. Then nothing was written into `report`, and `length` is 0.
 #[unsafe(no_mangle)]
 pub extern "C" fn snapjudge_check_limit(
     alloc: Global,
@@ -77,16 +106,96 @@ pub extern "C" fn snapjudge_check_limit(
 ) -> u32
     ensures { IsCheckedFor events text.now report.old report.new length.new result }
 {
-    match Limit::new(events) {
-        Some(limit) => check_text(alloc, text, limit, report, length),
-        None => {
-            *length = 0;
-            NO_LIMIT
-        }
-    }
+    answer_within(alloc, Some(Question::Report), text, events, report, length)
 }
 
-/// The version of the library, to be compared with that of the header or the wrapper.
+/// Explains a text as `snapjudge explain` does, or as `snapjudge explain --draw` if `drawn` is 1. Everything else is as in
+/// `snapjudge_check_limit`. The answer is 7 if `drawn` is neither 0 nor 1. Then nothing was written into `out`, and `length` is 0.
+#[unsafe(no_mangle)]
+pub extern "C" fn snapjudge_explain(
+    alloc: Global,
+    text: &[u8],
+    events: u32,
+    drawn: u32,
+    out: &mut [u8],
+    length: &mut usize,
+) -> u32
+    ensures { IsAnsweredFor events (slice_get explanations drawn) text.now out.old out.new length.new result }
+{
+    let asked = chosen(&[Question::Explanation, Question::ExplanationDrawn], drawn);
+    answer_within(alloc, asked, text, events, out, length)
+}
+
+/// Writes the JSON object that `snapjudge check --format json` writes of a file with this text and this name. Everything else is as
+/// in `snapjudge_check_limit`.
+#[unsafe(no_mangle)]
+pub extern "C" fn snapjudge_json(
+    alloc: Global,
+    text: &[u8],
+    events: u32,
+    name: &[u8],
+    out: &mut [u8],
+    length: &mut usize,
+) -> u32
+    ensures { IsAnsweredFor events (Some (Object name.entry)) text.now out.old out.new length.new result }
+{
+    let asked = Some(Question::Object(name));
+    answer_within(alloc, asked, text, events, out, length)
+}
+
+/// Cuts a history down to a witness as `snapjudge shrink` does, or draws the witness as `snapjudge shrink --draw` does if `drawn` is
+/// 1. Everything else is as in `snapjudge_explain`.
+#[unsafe(no_mangle)]
+pub extern "C" fn snapjudge_shrink(
+    alloc: Global,
+    text: &[u8],
+    events: u32,
+    drawn: u32,
+    out: &mut [u8],
+    length: &mut usize,
+) -> u32
+    ensures { IsAnsweredFor events (slice_get witnesses drawn) text.now out.old out.new length.new result }
+{
+    let asked = chosen(&[Question::Witness, Question::WitnessDrawn], drawn);
+    answer_within(alloc, asked, text, events, out, length)
+}
+
+/// Draws a history as `snapjudge draw` does. It draws a page if `form` is 0, SVG if it is 1, and characters if it is 2. Everything
+/// else is as in `snapjudge_explain`.
+#[unsafe(no_mangle)]
+pub extern "C" fn snapjudge_draw(
+    alloc: Global,
+    text: &[u8],
+    events: u32,
+    form: u32,
+    out: &mut [u8],
+    length: &mut usize,
+) -> u32
+    ensures { IsAnsweredFor events (slice_get pictures form) text.now out.old out.new length.new result }
+{
+    let asked = chosen(&[Question::Page, Question::Svg, Question::Lines], form);
+    answer_within(alloc, asked, text, events, out, length)
+}
+
+/// Counts what a history has shown, as `snapjudge stats` does: as lines if `form` is 0. If it is 1, as the object that
+/// `snapjudge stats --format json` writes of standard input. The answer is 0 if the text is a history, which is counted and not
+/// judged. Everything else is as in `snapjudge_explain`.
+#[unsafe(no_mangle)]
+pub extern "C" fn snapjudge_stats(
+    alloc: Global,
+    text: &[u8],
+    events: u32,
+    form: u32,
+    out: &mut [u8],
+    length: &mut usize,
+) -> u32
+    ensures { IsAnsweredFor events (slice_get counts form) text.now out.old out.new length.new result }
+{
+    let asked = chosen(&[Question::Counts, Question::CountsObject], form);
+    answer_within(alloc, asked, text, events, out, length)
+}
+
+/// The version of the library. A caller compares it with that of the header or the wrapper.
 #[unsafe(no_mangle)]
 pub extern "C" fn snapjudge_version() -> u32
     ensures { result ≡ version }

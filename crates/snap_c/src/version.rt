@@ -1,3 +1,3 @@
 //! The version of the library.
-/// The version of the calls and of what they answer: it rises where either changes.
+/// The version of the calls and of what they answer: it rises when either changes.
 pub(crate) const VERSION: u32 = 1;

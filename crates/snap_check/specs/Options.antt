@@ -1,4 +1,4 @@
--- What a check writes of which more is asked.
+-- What a check with options writes.
 use Rattle.std.specs.Prelude.{◌≡◌, ◌<◌, ◌≤◌, ◌⊎◌, ℕ, Bool, true, false, List, [], length, Option, Some, None}
 use Rattle.snap_core.specs.declared.event.Event.{Event}
 use Rattle.snap_core.specs.Calls.{calls_of, views_of}
@@ -8,23 +8,23 @@ use Rattle.snap_verdict.specs.Reports.{IsRefused}
 use Rattle.snap_verdict.specs.Verdicts.{IsBriefVerdict, IsVerdict}
 use Rattle.snap_check.specs.declared.options.CheckOptions.{CheckOptions}
 
--- the status of a history and its report, or quiet, of the report the lines of the verdicts alone
+-- the status of a history and its report; if quiet, only the lines of the report's verdicts
 abbrev pub IsWritten : Bool → List Event → Status → List ℕ → Type 0
 IsWritten false events status out = IsVerdict events status out
 IsWritten true events status out = IsBriefVerdict events status out
 
--- no status exactly where the history has fewer completed views than are asked for; nothing is then written
+-- No status if and only if the history has fewer completed views than are asked for. Then nothing is written.
 abbrev pub IsVerdictWith : CheckOptions → List Event → Option Status → List ℕ → Type 0
 IsVerdictWith options events (Some status) out = (options.views ≤ length (views_of (calls_of events))) × IsWritten options.quiet events status out
 IsVerdictWith options events None out = (length (views_of (calls_of events)) < options.views) × (out ≡ [])
 
--- a text without a fault is a history, of at most as many events as the limit has
+-- a text without a fault is a history of at most `options.limit.events` events
 pub record IsJudgedWith (options : CheckOptions) (text : List ℕ) (answer : Option Status) (out : List ℕ) : Type 0 where
   pub events : List Event
   pub history : IsText options.limit.events text events
   pub verdict : IsVerdictWith options events answer out
 
--- a text with a fault is refused as without options, but by the limit of events that is chosen
+-- a text with a fault is refused as without options, but by the chosen limit of events
 abbrev pub IsRefusedWith : CheckOptions → List ℕ → Option Status → List ℕ → Type 0
 IsRefusedWith options text (Some status) out = IsRefused options.limit.events text status out
 IsRefusedWith options text None out = ⊥

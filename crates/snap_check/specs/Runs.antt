@@ -14,17 +14,17 @@ use Rattle.snap_verdict.specs.declared.status.Status.{Status}
 use Rattle.snap_verdict.specs.declared.status.Status.TheVariants.{Refused}
 use Rattle.snap_verdict.specs.Reports.{IsRefused, IsReport}
 
--- what a writer holds before and after a run, by what may go out with an answer
+-- What a writer holds before and after a run, by the texts that may go out with an answer.
 
 -- the whole of it went out, and nothing else
 abbrev pub WroteWhole : {A : Type 0} → (A → List ℕ → Type 0) → Option (List ℕ) → Option (List ℕ) → A → Type 0
 WroteWhole Is old new answer = (out : List ℕ) × Is answer out × Appends old new out
 
--- a front of it went out, perhaps all of it
+-- a front of it went out, or all of it
 abbrev pub WroteFront : {A : Type 0} → (A → List ℕ → Type 0) → Option (List ℕ) → Option (List ℕ) → Type 0
 WroteFront {A = A} Is old new = (answer : A) × (out : List ℕ) × Is answer out × SendsFront old new out
 
--- the same where the text is known that the reader had, by what may go out for a text with an answer
+-- What a writer holds before and after a run, if the reader's text is known. `Is` says what may go out for that text with an answer.
 
 abbrev pub FailedBy : {A : Type 0} → (List ℕ → A → List ℕ → Type 0) → Option (List ℕ) → Option (List ℕ) → Option (List ℕ) → RunFault → Type 0
 FailedBy Is known old new faults.Read = Keeps old new
@@ -35,7 +35,7 @@ abbrev pub WroteBy : {A : Type 0} → (List ℕ → A → List ℕ → Type 0) �
 WroteBy Is known old new (Ok answer) = IfSome known (λ text. WroteWhole (Is text) old new answer)
 WroteBy Is known old new (Err fault) = FailedBy Is known old new fault
 
--- the same of a check, by the report of the text
+-- what a writer holds before and after a check, by the report of the text
 abbrev pub Wrote : Option (List ℕ) → Option (List ℕ) → Option (List ℕ) → Result Status RunFault → Type 0
 Wrote = WroteBy (IsReport event_limit)
 
@@ -50,7 +50,7 @@ abbrev pub RunCounts : {A : Type 0} → ℕ → ℕ → ℕ → ℕ → Result A
 RunCounts reader_old reader_new writer_old writer_new (Ok answer) = (reader_new ≡ reader_old) × (writer_new ≡ writer_old)
 RunCounts reader_old reader_new writer_old writer_new (Err fault) = FaultCounts reader_old reader_new writer_old writer_new fault
 
--- the same before anything is written: the answer and what is to go out, or the fault
+-- What a run has before it writes anything: the answer and the text that is to go out, or the fault.
 
 abbrev pub JudgesBy : {A : Type 0} → (List ℕ → A → List ℕ → Type 0) → Option (List ℕ) → Result (A × Vec ℕ) RunFault → Type 0
 JudgesBy Is known (Ok answer) = IfSome known (λ text. Is text answer.0 answer.1.items)
@@ -68,7 +68,7 @@ abbrev pub JudgeCounts : {A : Type 0} → ℕ → ℕ → Result A RunFault → 
 JudgeCounts old new (Ok answer) = new ≡ old
 JudgeCounts old new (Err fault) = JudgeFaultCounts old new fault
 
--- what a text is, where a history may have so many events: a history, or none, with the line of its first fault
+-- what a text is, by a limit of events: a history, or else the line of its first fault
 abbrev pub Reads : ℕ → List ℕ → Reading → Type 0
 Reads limit text (History h) = IsText limit text h.events
 Reads limit text (Refusal line) = IsRefused limit text Refused line.items

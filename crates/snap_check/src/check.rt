@@ -9,6 +9,7 @@ ghost use Rattle.snap_check.specs.Options.{IsReportWith, IsVerdictWith, IsWritte
 ghost use Rattle.snap_check.specs.Runs.{JudgeCounts, JudgesBy, RunCounts, Wrote, WroteBy};
 
 use crate::fault::RunFault;
+use crate::judging::Workers;
 use crate::options::CheckOptions;
 use crate::reading::{Reading, read_in};
 use crate::workers::cutting_for;
@@ -23,8 +24,8 @@ use std::alloc::{AllocError, Global};
 use std::io::{Read, Write};
 use std::thread::Threads;
 
-// The status of a history and its report, or quiet, of the report the lines of the verdicts alone; by its index, the tally of its
-// completed views, and these as a chain where no two of them are a read fault.
+// The status of a history and its report; if quiet, only the lines of the verdicts. The history comes as its index, with the tally
+// of its completed views. The views come as a chain if no two of them are a read fault.
 fn written_of<Rt: Threads + Sync>(
     rt: &Rt,
     alloc: Global,
@@ -47,8 +48,8 @@ fn written_of<Rt: Threads + Sync>(
     }
 }
 
-/// The status of a history, and what is written of its report, which takes the memory of a vector. No status is answered where the
-/// history has fewer completed views than are asked for; then nothing is to be written.
+/// The status of a history, and what is written of its report, in the memory of a vector. The answer has no status if the history
+/// has fewer completed views than are asked for. Then nothing is to be written.
 pub fn verdict<Rt: Threads + Sync, G: Gate>(
     rt: &Rt,
     alloc: Global,
@@ -79,7 +80,7 @@ pub fn verdict<Rt: Threads + Sync, G: Gate>(
     Ok((Some(status), text))
 }
 
-// The status of the text that a reader has, and what is written of its report.
+// The status of a reader's text, and what is written of its report.
 fn judge<Rt: Threads + Sync, R: Read, G: Gate>(
     rt: &Rt,
     alloc: Global,
@@ -92,9 +93,14 @@ fn judge<Rt: Threads + Sync, R: Read, G: Gate>(
     ensures counts { JudgeCounts (failures_in reader.old) (failures_in reader.new) result }
     ensures given { options.views ≡ 0 → IfOk result (λ answer. IsSome answer.0) }
 {
-    // the text is not needed once it is read, and its memory serves for the report
+    // the text is not needed after it is read, and its memory serves for the report
     let mut room = Vec::new(alloc);
-    match read_in(rt, alloc, reader, &mut room, options.limit, cutting)? {
+    let workers = Workers {
+        rt,
+        cutting,
+        alone_below: options.alone_below,
+    };
+    match read_in(&workers, alloc, reader, &mut room, options.limit)? {
         Reading::History(history) => {
             let cutting = cutting_for(room.len(), options.alone_below, cutting);
             Ok(verdict(rt, alloc, &history, room, cutting, gate, options)?)
@@ -103,13 +109,14 @@ fn judge<Rt: Threads + Sync, R: Read, G: Gate>(
     }
 }
 
-/// A check as `check_run` makes it, of which more is asked. `None` is answered where the text is a history and has fewer
-/// completed views than are asked for; then nothing is written. Otherwise the status is that of `check_run`. Quiet, it writes
-/// of a history's report the lines of the three verdicts alone; the line of a text that is no history stays as it is. The limit
-/// of events takes the place of the usual one, and 1,024 bytes for each of them that of the usual limit of bytes. A text of fewer
-/// bytes than `alone_below` has one worker, and any other the cutting as it is.
+/// A check as `check_run` makes it, with options. It answers `None` if the text is a history with fewer completed views than are
+/// asked for; then it writes nothing. Otherwise the status is that of `check_run`.
 ///
-/// Of the devices, memory and waiting the same is true as in `check_run`.
+/// If quiet, it writes only the lines of the three verdicts of a history's report. The line of a text that is not a history stays
+/// as it is. The limit of events replaces the usual one, and 1,024 bytes for each event replace the usual limit of bytes. A text of
+/// fewer bytes than `alone_below` has one worker and one piece. Any other text has the cutting as it is.
+///
+/// What `check_run` promises about devices, memory and waiting is true here too.
 pub fn check_run_with<Rt: Threads + Sync, R: Read, W: Write, G: Gate>(
     rt: &Rt,
     alloc: Global,
@@ -130,13 +137,12 @@ pub fn check_run_with<Rt: Threads + Sync, R: Read, W: Write, G: Gate>(
     }
 }
 
-/// Reads a history and writes its report, or the line of its first fault. Where it answers a status, what went out is the
-/// report of the text that the reader had, and the status is that report's, whatever the cutting and the gate are.
+/// Reads a history and writes its report, or the line of its first fault. If it answers with a status, what went out is the report
+/// of the text that the reader had. The status is that report's, whatever the cutting and the gate are.
 ///
-/// Nothing is written until the whole report is built: after `Read` or `Memory` nothing went out, after `Write` a front of
-/// the report, perhaps all of it. The first error of a device ends the run, and `Read` and `Write` come only where the count
-/// of that device rose, or stood at its last value. The writer is flushed once at the end. The run returns where the reader and
-/// the writer do, and the gate.
+/// Nothing is written until the whole report is built. After `Read` or `Memory` nothing went out, and after `Write` a front of the
+/// report, or all of it. The first error of a device ends the run. `Read` and `Write` come only if the count of that device rose,
+/// or was at its last value. The writer is flushed once at the end. The run returns if the reader, the writer and the gate return.
 pub fn check_run<Rt: Threads + Sync, R: Read, W: Write, G: Gate>(
     rt: &Rt,
     alloc: Global,
@@ -151,7 +157,7 @@ pub fn check_run<Rt: Threads + Sync, R: Read, W: Write, G: Gate>(
     let options = CheckOptions::plain();
     match check_run_with(rt, alloc, reader, writer, cutting, gate, options) {
         Ok(Some(status)) => Ok(status),
-        // no number of views is too small
+        // no number of views is less than 0
         Ok(None) => unreachable!(),
         Err(fault) => Err(fault),
     }

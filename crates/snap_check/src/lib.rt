@@ -3,12 +3,14 @@
 
 mod check;
 mod fault;
+mod judging;
 mod options;
 mod reading;
 mod workers;
 
 pub use check::{check_run, check_run_with, verdict};
 pub use fault::RunFault;
+pub use judging::{Alone, Judging, Workers, workers_of};
 pub use options::CheckOptions;
 pub use reading::{Reading, read_in};
 pub use snap_verdict::Status;

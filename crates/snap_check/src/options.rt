@@ -1,25 +1,25 @@
-//! What a check is asked for besides.
+//! The options of a check.
 ghost use Rattle.std.specs.Prelude.{◌≡◌, false};
 ghost use Rattle.snap_core.specs.Limits.{event_limit};
 
 use snap_core::Limit;
 
-/// What a check is asked for besides.
+/// What a check is asked for besides the report of a history.
 #[derive(Clone, Copy, Debug, PartialEq, Eq)]
 pub struct CheckOptions {
-    /// Of a history's report only the lines of the verdicts are written.
+    /// Whether only the lines of the verdicts of a history's report are written.
     pub quiet: bool,
-    /// How many completed views a history must have.
+    /// The least number of completed views of a history.
     pub views: u32,
-    /// How many events a history may have, and with them how many bytes its text.
+    /// The limit of a history's events, and with it that of the bytes of its text.
     pub limit: Limit,
-    /// A text of fewer bytes is judged by one worker, whatever the cutting says. 0 leaves each text its workers.
+    /// One worker judges a text of fewer bytes in one piece, whatever the cutting is. 0 leaves each text its cutting.
     pub alone_below: usize,
 }
 
 impl CheckOptions {
-    /// The options that ask for nothing: the whole report, of a history of any number of views, within the usual limit, by the
-    /// cutting as it is.
+    /// The options that ask for nothing. A check then writes the whole report, of a history with any number of views, within the
+    /// usual limit, by its own cutting.
     pub fn plain() -> CheckOptions
         ensures quiet { result.quiet ≡ false }
         ensures views { result.views ≡ 0 }

@@ -7,18 +7,18 @@ use std::alloc::AllocError;
 /// Why the words of a command line have no exit status of their own.
 #[derive(Drop)]
 pub enum Failure {
-    /// They name no job.
+    /// They ask for no job.
     Words(JobFault),
-    /// A file was not opened, which is said already.
+    /// A file was not opened, which has been said already.
     Unopened,
-    /// Nobody reads the answer any more, as where `head` has seen enough. There is nothing to say of that.
+    /// Nobody reads the answer any more, as after `head` has seen enough. There is nothing to say about that.
     Unheard,
     /// The run of the job ended with a fault.
     Run(RunFault),
 }
 
 impl Failure {
-    /// Why a run with this fault has no exit status. The outlet is that to which it wrote.
+    /// Why a run with this fault has no exit status. It wrote to the outlet.
     pub fn of_run<W>(fault: RunFault, outlet: &Outlet<W>) -> Failure {
         match fault {
             RunFault::Write if outlet.is_closed() => Failure::Unheard,

@@ -1,10 +1,10 @@
-//! What opens the files that are named.
+//! The opener of the files that are named.
 use crate::failure::Failure;
 use snap_core::Counted;
 use snap_names::{Opener, System, SystemText, Trouble, trouble_line};
 use std::fs::File;
 
-/// What opens the files.
+/// The opener of the files of the system.
 pub fn system(rt: &HostRuntime) -> System<'_, HostRuntime> {
     System {
         files: rt,
@@ -12,7 +12,7 @@ pub fn system(rt: &HostRuntime) -> System<'_, HostRuntime> {
     }
 }
 
-/// The text of a file, or of standard input where it is absent. Why it can't be opened is said.
+/// The text of a file, or of standard input if it is absent. It says why it can't be opened.
 pub fn open_only(rt: &HostRuntime, file: &Option<Vec<u8>>) -> Result<SystemText<File>, Failure> {
     match file {
         Some(name) => open_named(rt, name),
@@ -28,7 +28,7 @@ pub(crate) fn say_trouble(rt: &HostRuntime, name: &[u8], trouble: Trouble) {
     }
 }
 
-/// The text of a name. Why it can't be opened is said.
+/// The text of a name. It says why it can't be opened.
 pub(crate) fn open_named(rt: &HostRuntime, name: &[u8]) -> Result<SystemText<File>, Failure> {
     match system(rt).open(name) {
         Ok(text) => Ok(text),

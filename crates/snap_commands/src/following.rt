@@ -15,7 +15,7 @@ use snap_words::Windows;
 use std::io::Read;
 use std::sync::Wait;
 
-// The same fault, as that of any run. That there is no text is said.
+// The failure of a run that follows, as that of any run. It says if there is no text.
 fn failure_of<W>(host: &HostRuntime, fault: FollowFault, outlet: &Outlet<W>) -> Failure {
     let fault = match fault {
         FollowFault::NoText => return say_none(host),
@@ -26,7 +26,7 @@ fn failure_of<W>(host: &HostRuntime, fault: FollowFault, outlet: &Outlet<W>) -> 
     Failure::of_run(fault, outlet)
 }
 
-// Says at which name a recording could not be followed further, and why.
+// Says which name could not be followed further, and why.
 fn say_lost(host: &HostRuntime, lost: &Lost) {
     match lost.reason {
         Reason::Unopened(trouble) => say_trouble(host, &lost.name, trouble),
@@ -42,7 +42,8 @@ fn is_input(name: &[u8]) -> bool {
     name == b"-".as_slice()
 }
 
-// How long a recording is followed: standard input to its end, and any other until nothing has come for so many seconds.
+// How long a recording is followed. Standard input is followed to its end, and any other until nothing has come for `windows.idle`
+// seconds, or for ever if that is 0.
 fn until_of(name: &[u8], windows: Windows) -> Until {
     if is_input(name) {
         Until::End
@@ -53,7 +54,7 @@ fn until_of(name: &[u8], windows: Windows) -> Until {
     }
 }
 
-// Says how a recording ended, beside its exit status.
+// The exit status of a recording that was followed. It says on standard error how it ended.
 fn code_of(host: &HostRuntime, followed: Followed, windows: Windows) -> u8 {
     if let Some(lost) = &followed.lost {
         say_lost(host, lost);
@@ -67,7 +68,6 @@ fn code_of(host: &HostRuntime, followed: Followed, windows: Windows) -> u8 {
     }
 }
 
-// Follows texts, which have this name.
 fn follow_texts<Rt: Wait, T: Texts>(
     rt: &Rt,
     host: &HostRuntime,
@@ -120,8 +120,8 @@ fn follow_folder<Rt: Wait>(
     follow_texts(rt, host, &mut texts, folder, limit, windows)
 }
 
-/// Follows a file, all files below a folder, or standard input where the name is absent. A window has as many events as the limit says.
-/// What is left out of the end of the recording is said.
+/// Follows a file, all files below a folder, or standard input if the name is absent. A window has at most as many events as the
+/// limit says. It says if it leaves out the end of the recording.
 pub fn follow<Rt: Wait>(
     rt: &Rt,
     host: &HostRuntime,

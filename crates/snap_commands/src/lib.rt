@@ -1,5 +1,5 @@
-//! What each command of the program does with the system, but for the check of files: it opens texts, lists names, says troubles, and
-//! starts a run.
+//! What each command of the program does with the system, except the check of files. It opens texts, lists names, says troubles,
+//! and starts a run.
 #![tactic(auto)]
 
 mod failure;
@@ -15,5 +15,5 @@ pub use files::{open_only, system};
 pub use following::follow;
 pub use names::names_of;
 pub use refusal::too_few_views;
-pub use runs::{draw, explain, record, shrink};
+pub use runs::{draw, explain, record, shrink, stats};
 pub use shown::{in_colors, progress_of};

@@ -5,7 +5,7 @@ use snap_core::Counted;
 use snap_names::{NamesFault, SystemFolders, names_below, read_names, reason_line};
 use snap_words::{Input, names_input_twice};
 
-/// Says a reason of a name.
+/// Says a reason about a name.
 pub(crate) fn say(rt: &HostRuntime, name: &[u8], reason: &str) {
     let mut errors = Counted::new(rt.stderr());
     if let Ok(line) = reason_line(rt.alloc(), name, reason) {
@@ -49,7 +49,7 @@ fn add_folder(rt: &HostRuntime, names: &mut Vec<Vec<u8>>, folder: &[u8]) -> Resu
     }
 }
 
-// Adds the names in the list of an input. That standard input is named twice is said.
+// Adds the names in the list of an input. It says if standard input is named twice.
 fn add_listed(
     rt: &HostRuntime,
     names: &mut Vec<Vec<u8>>,
@@ -67,7 +67,7 @@ fn add_listed(
     Ok(())
 }
 
-/// The names among the words, then those in the list, then those below the folder. Where there is none at all, that is said.
+/// The names among the words, then those in the list, then those below the folder. It says if there is none at all.
 pub fn names_of(rt: &HostRuntime, input: Input) -> Result<Vec<Vec<u8>>, Failure> {
     let Input {
         files: mut names,

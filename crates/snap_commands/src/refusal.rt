@@ -1,7 +1,7 @@
-//! What is said of a history with too few views.
+//! What is said about a history with too few views.
 use snap_check::Status;
 
-/// The status of a history with too few views, which is said.
+/// Says that a history has too few views, and gives its status.
 pub fn too_few_views(host: &HostRuntime, views: u32) -> Status {
     let _ = eprintln!(host; "refused: fewer than {} views", views);
     Status::Refused

@@ -1,19 +1,22 @@
-//! The runs of the commands that take one text or none. Each is a part from a reader to a writer, and a start of that on the system.
-ghost use Rattle.std.specs.Prelude.{◌≡◌, Ok, true, false, IsErr, MatchResult};
+//! The runs of the commands that take one text or none. Each is a part from a reader to a writer, and a start of that part on the system.
+ghost use Rattle.std.specs.Prelude.{◌≡◌, None, Ok, Some, true, false, IsErr, MatchResult};
 ghost use Rattle.snap_check.specs.Runs.{WroteBy};
 ghost use Rattle.snap_core.specs.Counting.{inner_of};
 ghost use Rattle.snap_record.specs.Plans.{AreRounds, AreWorkers, rounds_scripts};
 ghost use Rattle.snap_runs.specs.Explaining.{IsExplained};
 ghost use Rattle.snap_runs.specs.Recordings.{IsRecorded, IsStampedRecording, WroteAs};
 ghost use Rattle.snap_runs.specs.Shrinking.{IsShrunk};
+ghost use Rattle.snap_runs.specs.Stats.{IsCounted};
 ghost use Rattle.snap_verdict.specs.Statuses.{code_of};
 
 use crate::failure::Failure;
 use crate::files::open_only;
 use snap_check::{RunFault, Status};
 use snap_core::{Counted, Limit};
-use snap_picture::{Explained, Lines, Page, Svg, draw_explained_run, draw_run, draw_witness_run};
-use snap_runs::{explain_run, record_rounds, record_rounds_stamped, shrink_run};
+use snap_runs::{
+    Explained, Lines, Page, Svg, draw_run, draw_witness_run, explain_run, record_rounds,
+    record_rounds_stamped, shrink_run, stats_run,
+};
 use snap_terminal::Outlet;
 use snap_words::Form;
 use std::alloc::Global;
@@ -21,7 +24,7 @@ use std::io::{Read, Write};
 use std::sync::Wait;
 use std::thread::Threads;
 
-// The exit status of a run that has ended, or why it has none.
+// The exit status of a run that ended, or why it has none.
 fn code_of<W>(ended: Result<Status, RunFault>, outlet: &Outlet<W>) -> Result<u8, Failure>
     ensures code { MatchResult ended (λ status. result ≡ Ok (code_of status)) (λ _. IsErr result) }
 {
@@ -31,7 +34,7 @@ fn code_of<W>(ended: Result<Status, RunFault>, outlet: &Outlet<W>) -> Result<u8,
     }
 }
 
-// Cuts the history that a reader has down to a witness, or draws that.
+// Cuts a reader's history down to a witness, or draws the witness.
 fn shrink_from<Rt: Threads + Sync, R: Read, W: Write>(
     rt: &Rt,
     alloc: Global,
@@ -49,7 +52,7 @@ fn shrink_from<Rt: Threads + Sync, R: Read, W: Write>(
     }
 }
 
-/// Cuts the history in the only text down to a witness, or draws that. It gives the exit status.
+/// Cuts the history in the only text down to a witness, or draws the witness. It gives the exit status.
 pub fn shrink<Rt: Threads + Sync>(
     rt: &Rt,
     host: &HostRuntime,
@@ -63,7 +66,7 @@ pub fn shrink<Rt: Threads + Sync>(
     code_of(ended, &writer.into_inner())
 }
 
-// Explains the history that a reader has, with a picture or without.
+// Explains a reader's history, with a picture or without.
 fn explain_from<Rt: Threads + Sync, R: Read, W: Write>(
     rt: &Rt,
     alloc: Global,
@@ -75,7 +78,7 @@ fn explain_from<Rt: Threads + Sync, R: Read, W: Write>(
     ensures text { drawn ≡ false → WroteBy (IsExplained limit.events) (R.remaining (inner_of reader.old)) (W.contents (inner_of writer.old)) (W.contents (inner_of writer.new)) result }
 {
     if drawn {
-        draw_explained_run(rt, alloc, &Explained, reader, writer, limit)
+        draw_run(rt, alloc, &Explained, reader, writer, limit)
     } else {
         explain_run(rt, alloc, reader, writer, limit)
     }
@@ -114,7 +117,51 @@ pub fn draw<Rt: Threads + Sync>(
     code_of(ended, &writer.into_inner())
 }
 
-// Records a run of so many workers and rounds, and writes its report, or its history with stamps or without.
+// Counts what a reader's history has shown, as an object with a name or as lines.
+fn stats_from<Rt: Threads + Sync, R: Read, W: Write>(
+    rt: &Rt,
+    alloc: Global,
+    name: &str,
+    reader: &mut Counted<R>,
+    writer: &mut Counted<W>,
+    json: bool,
+    limit: Limit,
+) -> Result<Status, RunFault>
+    ensures lines { json ≡ false → WroteBy (IsCounted None limit.events) (R.remaining (inner_of reader.old)) (W.contents (inner_of writer.old)) (W.contents (inner_of writer.new)) result }
+    ensures object { json ≡ true → WroteBy (IsCounted (Some name.now) limit.events) (R.remaining (inner_of reader.old)) (W.contents (inner_of writer.old)) (W.contents (inner_of writer.new)) result }
+{
+    if json {
+        stats_run(rt, alloc, Some(name), reader, writer, limit)
+    } else {
+        stats_run(rt, alloc, None, reader, writer, limit)
+    }
+}
+
+// The name of the only text, as an object has it. One that is not UTF-8 opens no file.
+fn name_of(file: &Option<Vec<u8>>) -> &str {
+    match file {
+        Some(name) => str::from_utf8(name).unwrap_or("-"),
+        None => "-",
+    }
+}
+
+/// Counts what the history in the only text has shown, as an object or as lines. It gives the exit status.
+pub fn stats<Rt: Threads + Sync>(
+    rt: &Rt,
+    host: &HostRuntime,
+    file: &Option<Vec<u8>>,
+    json: bool,
+    limit: Limit,
+) -> Result<u8, Failure> {
+    let mut reader = Counted::new(open_only(host, file)?);
+    let mut writer = Counted::new(Outlet::new(host.stdout()));
+    let alloc = host.alloc();
+    let name = name_of(file);
+    let ended = stats_from(rt, alloc, name, &mut reader, &mut writer, json, limit);
+    code_of(ended, &writer.into_inner())
+}
+
+// Records a run of `workers` workers and `rounds` rounds. Writes its report, or its history with stamps or without.
 fn record_to<Rt: Threads + Wait + Sync, W: Write>(
     rt: &Rt,
     alloc: Global,
@@ -136,8 +183,8 @@ fn record_to<Rt: Threads + Wait + Sync, W: Write>(
     }
 }
 
-/// Records a run of so many workers and rounds, with scans or without, and writes its report, or its history with stamps or without. It
-/// gives the exit status.
+/// Records a run of `workers` workers and `rounds` rounds, with scans or without. Writes its report, or its history with stamps or
+/// without. It gives the exit status.
 pub fn record<Rt: Threads + Wait + Sync>(
     rt: &Rt,
     host: &HostRuntime,

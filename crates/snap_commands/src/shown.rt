@@ -1,4 +1,4 @@
-//! Whether the answers of a check have colours, and whether a line shows how far it is.
+//! Whether the answers of a check have colours, and whether a line shows the progress.
 use snap_terminal::Progress;
 use snap_words::{Color, Options};
 use std::env;
@@ -24,7 +24,7 @@ pub fn in_colors(host: &HostRuntime, asked: Options) -> bool {
     }
 }
 
-/// The line of progress over so many files, if there is to be one.
+/// The line of progress over this many files, if there is to be one.
 pub fn progress_of(
     host: &HostRuntime,
     files: usize,

@@ -10,28 +10,28 @@ use Rattle.snap_theory.specs.Faults.{HasNoFault}
 use Rattle.snap_conditions.specs.Tally.{tally_of, no_fault, merged, SumsFit, CountsNoLocalFault, CountsNoFault}
 use Rattle.snap_views.specs.Seen.{views_between}
 
--- the tally of no view has no fault, and that of two ranges of views of which the second follows the first is both merged
+-- the tally of no view has no fault; the tally of two ranges of views, one after the other, is the merge of their tallies
 pub record TalliesJoin (calls : List Call) : Type 0 where
   pub nothing : tally_of calls [] ≡ no_fault
   pub both : (rs ss : List Call) → tally_of calls (rs ++ ss) ≡ merged (tally_of calls rs) (tally_of calls ss)
   pub adjoining : (from middle to : ℕ) → from ≤ middle → middle ≤ to → tally_of calls (views_between calls from to) ≡ merged (tally_of calls (views_between calls from middle)) (tally_of calls (views_between calls middle to))
   pub whole : views_between calls 0 (length (views_of calls)) ≡ views_of calls
 
--- the counts of two adjoining ranges fit together
+-- the sum of the counts of two adjoining ranges fits the type of a count
 abbrev pub TalliesFit : Type 0
 TalliesFit =
     (events : List Event) → IsBoundedHistory events → (from middle to : ℕ) → from ≤ middle → middle ≤ to → to ≤ length (views_of (calls_of events)) →
     SumsFit (tally_of (calls_of events) (views_between (calls_of events) from middle)) (tally_of (calls_of events) (views_between (calls_of events) middle to))
 
--- regular exactly where the tally of all completed views counts no fault of one view alone
+-- regular exactly when the tally of all completed views counts no fault of one view alone
 abbrev pub RegularByTally : Type 0
 RegularByTally = (events : List Event) → IsHistory events → HasByteComponents events → CountsNoLocalFault (tally_of (calls_of events) (views_of (calls_of events))) ↔ IsRegular (calls_of events)
 
--- monotone exactly where it counts no stale view
+-- monotone exactly when the tally of all completed views counts no stale view
 abbrev pub MonotoneByTally : Type 0
 MonotoneByTally = (calls : List Call) → ((tally_of calls (views_of calls)).stale ≡ 0) ↔ IsMonotone calls
 
--- the four conditions hold exactly where it counts no fault
+-- the four conditions hold exactly when the tally of all completed views counts no fault
 abbrev pub ConditionsByTally : Type 0
 ConditionsByTally = (events : List Event) → IsHistory events → HasByteComponents events → CountsNoFault (tally_of (calls_of events) (views_of (calls_of events))) ↔ MeetsConditions (calls_of events)
 

@@ -1,4 +1,4 @@
--- What contracts see of a part: how many faults of a kind there are, and the first of them.
+-- What contracts see of a part: the number of faults of a kind, and the first of them.
 use Rattle.std.specs.Prelude.{ℕ, Option}
 
 pub record PartValue (F : Type 0) : Type 0 where

@@ -8,6 +8,6 @@ use Rattle.snap_views.specs.Rows.{row_number, sum_below}
 unfoldable pub first_less : (ℕ → ℕ) → (ℕ → ℕ) → Option ℕ
 first_less f g = find (λ k. nat_lt (f k) (g k)) components
 
--- the sums of the number of each component and of those below it
+-- for each component, the sum of its number and of the numbers of the components below it
 abbrev pub AreSums : List ℕ → List ℕ → Type 0
 AreSums numbers sums = (k : ℕ) → k < component_count → get_or sums k 0 ≡ sum_below (row_number numbers) (k + 1)

@@ -1,6 +1,6 @@
--- The tally of a range of completed views: of each kind the number of faults whose first view is in the range, and the least
--- of them by that view, then by component, other view, or both components; and the number of pairs of a view in the range and
--- one that it precedes and that shows less of some component.
+-- The tally of a range of completed views. For each kind it has the number of faults whose first view is in the range, and the
+-- least of them. Faults are ordered by that view, then by component, other view, or both components. The tally also has the
+-- number of stale pairs: a view in the range precedes the other view, which shows less of some component.
 use Rattle.std.specs.Prelude.{ℕ, suc, ◌+◌, ◌<◌, ◌^◌, ◌≡◌, List, unwrap_or, if◌then◌else◌}
 use Rattle.snap_core.specs.declared.entry.Entry.{Entry}
 use Rattle.snap_core.specs.Entries.{value_in}
@@ -14,7 +14,7 @@ use Rattle.snap_conditions.specs.declared.tally.Tally.{Tally}
 use Rattle.snap_theory.specs.Faults.{integrity_faults, proximity_faults, read_faults, write_faults, stale_count, old_fault, least_exceeding}
 use Rattle.snap_conditions.specs.Parts.{no_part, part_of, merged_part}
 
--- what a view shows of a component, number and value 0 where it shows nothing
+-- what a view shows of a component; number and value are 0 if it shows nothing
 abbrev pub shown_entry : Call → ℕ → Entry
 shown_entry r k = record { component = k; number = shown_number r k; value = value_in (shown r k) }
 
@@ -53,11 +53,11 @@ tally_of calls rs =
 abbrev pub no_fault : Tally
 no_fault = record { integrity = no_part; proximity = no_part; read = no_part; write = no_part; stale = 0 }
 
--- a tally with no read fault counted, and no stale view
+-- a tally without its read faults and stale views
 abbrev pub without_read : Tally → Tally
 without_read t = record t { read = no_part; stale = 0 }
 
--- part by part
+-- two tallies, merged part by part
 abbrev pub merged : Tally → Tally → Tally
 merged a b =
     record {
@@ -68,7 +68,7 @@ merged a b =
       stale = a.stale + b.stale;
     }
 
--- the counts of both fit together in the type of a count
+-- the sum of both counts of each kind fits the type of a count
 pub record SumsFit (a b : Tally) : Type 0 where
   pub integrity : a.integrity.count + b.integrity.count < 2 ^ 64
   pub proximity : a.proximity.count + b.proximity.count < 2 ^ 64

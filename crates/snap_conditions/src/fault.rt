@@ -10,7 +10,7 @@ pub struct IntegrityFault {
     pub entry: Entry,
 }
 
-/// On which side of what it shows a view stands.
+/// Whether a view shows something too old or too early.
 #[derive(Clone, Copy, PartialEq, Eq, Debug)]
 pub enum Side {
     /// The update after the one that is shown ended before the view began.
@@ -25,7 +25,7 @@ pub struct ProximityFault {
     /// The call number of the view, from 0.
     pub view: u32,
     pub component: u8,
-    /// The number that the view shows of the component, 0 where it shows none.
+    /// The number that the view shows of the component, 0 if it shows none.
     pub number: u32,
     pub side: Side,
 }
@@ -41,7 +41,7 @@ pub struct ReadFault {
     pub component: u8,
 }
 
-/// A view shows an update, and not an update that ended before that one began.
+/// A view shows an update, but not another update that precedes it.
 #[derive(Clone, Copy, PartialEq, Eq, Debug)]
 pub struct WriteFault {
     /// The call number of the view, from 0.

@@ -1,10 +1,10 @@
-//! How many faults of one kind there are, and the first of them.
+//! The number of faults of one kind, and the first of them.
 ghost use Rattle.std.specs.Prelude.{◌≡◌, ◌+◌, ◌<◌, ◌^◌, ◌↔◌, Some, IsTrue, IsSome};
 ghost use Rattle.snap_conditions.specs.Parts.{no_part, noted, merged_part};
 
 use std::marker::Model;
 
-/// How many faults of one kind there are, and the first of them. There is a first exactly where the count is not 0.
+/// The number of faults of one kind, and the first of them. There is a first exactly when the count is not 0.
 #[derive(Clone, Copy, PartialEq, Eq, Debug)]
 pub struct Part<F> {
     count: u64,
@@ -35,7 +35,7 @@ impl<F> Part<F> {
         }
     }
 
-    /// So many faults, of which this is the first.
+    /// `count` faults, of which `first` is the first. The count is not 0.
     pub fn of(count: u64, first: F) -> Part<F>
         requires { 0 < count }
         ensures { result ≡ record { count = count; first = Some first } }
@@ -46,7 +46,7 @@ impl<F> Part<F> {
         }
     }
 
-    /// How many faults there are.
+    /// The number of faults.
     pub fn count(&self) -> u64
         ensures count { result ≡ self.now.count }
         ensures first { IsSome self.now.first ↔ (0 < self.now.count) }
@@ -56,7 +56,7 @@ impl<F> Part<F> {
 }
 
 impl<F: Copy> Part<F> {
-    /// The first fault, there exactly where the count is not 0.
+    /// The first fault; there is one exactly when the count is not 0.
     pub fn first(&self) -> Option<F>
         ensures first { result ≡ self.now.first }
         ensures counted { IsSome result ↔ (0 < self.now.count) }
@@ -64,7 +64,7 @@ impl<F: Copy> Part<F> {
         self.first
     }
 
-    // The part with one more fault behind the others, where one was found.
+    // The part with one more fault after the others, if one was found.
     pub(crate) fn note(self, found: Option<F>) -> Part<F>
         requires { self.count + 1 < 2 ^ 64 }
         ensures { result ≡ noted self found }
@@ -78,7 +78,7 @@ impl<F: Copy> Part<F> {
         }
     }
 
-    // The part with so many faults behind its own, of which it has some.
+    // The part with `count` more faults after its own. It has at least one.
     pub(crate) fn with_more(self, count: u64) -> Part<F>
         requires some { 0 < self.count }
         requires fits { self.count + count < 2 ^ 64 }
@@ -90,7 +90,7 @@ impl<F: Copy> Part<F> {
         }
     }
 
-    // The faults of both, the second's behind the first's.
+    // The faults of both, with those of `second` after its own.
     pub(crate) fn merge(self, second: Part<F>) -> Part<F>
         requires { self.count + second.count < 2 ^ 64 }
         ensures { result ≡ merged_part self second }

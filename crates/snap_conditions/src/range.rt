@@ -17,7 +17,7 @@ use crate::write::write_part;
 use snap_index::Index;
 use snap_views::view_at;
 
-// Adds the faults of the view at a place but for its read faults and stale views.
+// Adds the faults of the view at a place, except for its read faults and stale views.
 #[tactic(auto, unfolding(crate::specs::Tally::tally_of))]
 fn add_without_read<'i>(
     tally: &mut Tally,
@@ -58,14 +58,14 @@ fn add_view<'i>(tally: &mut Tally, index: &'i Index<'_>, place: u32, updates: &m
     tally.stale += stale_beside(index, place, &read);
 }
 
-/// The faults whose first view is one of the completed views from `from` to `to - 1`, counted from 0 in the order of call
-/// numbers, each against all views and all updates of the history. It takes no memory.
+/// The faults whose first view is one of the completed views from `from` to `to - 1`. Views are counted from 0 in the order of
+/// call numbers. Each is tested against all views and all updates of the history. It takes no memory.
 pub fn tally_range(index: &Index<'_>, from: u32, to: u32) -> Tally
     requires order { from ≤ to }
     requires views { to ≤ length (views_of (calls_of index.now)) }
     ensures { result ≡ tally_of (calls_of index.now) (take (to - from) (drop from (views_of (calls_of index.now)))) }
 {
-    // what is known of the history that the index is of
+    // this call shows what is known of the index's history
     let _events = index.event_count();
     let mut updates = ShownAndNext::new(index);
     let mut tally = Tally::none();
@@ -75,14 +75,14 @@ pub fn tally_range(index: &Index<'_>, from: u32, to: u32) -> Tally
     tally
 }
 
-/// The tally of the completed views from `from` to `to - 1` as `tally_range` gives it, but without read faults and stale views:
-/// for a history that has none, or where they are counted elsewhere. It takes no memory.
+/// The tally of the completed views from `from` to `to - 1`, as `tally_range` gives it, but without read faults and stale views.
+/// It serves if a history has none, or if they are counted elsewhere. It takes no memory.
 pub fn tally_without_read(index: &Index<'_>, from: u32, to: u32) -> Tally
     requires order { from ≤ to }
     requires views { to ≤ length (views_of (calls_of index.now)) }
     ensures { result ≡ without_read (tally_of (calls_of index.now) (take (to - from) (drop from (views_of (calls_of index.now))))) }
 {
-    // what is known of the history that the index is of
+    // this call shows what is known of the index's history
     let _events = index.event_count();
     let mut updates = ShownAndNext::new(index);
     let mut tally = Tally::none();

@@ -27,7 +27,7 @@ fn is_read_fault(view: &SeenView<'_>, row: &Row, other: &SeenView<'_>) -> bool
     excess.first && (excess.second || is_before(view.call.ended, other.call.begun))
 }
 
-// The read fault of a view, which has this row, and another: of the least component of which the first shows more.
+// The read fault of a view, which has this row, and another. Its component is the least of which the first view shows more.
 fn fault_of(view: &SeenView<'_>, row: &Row, other: &SeenView<'_>) -> ReadFault
     requires row { AreNumbersOf view.now.entries.now row.now }
     requires other { AreEntries other.now.entries.now }
@@ -40,8 +40,8 @@ fn fault_of(view: &SeenView<'_>, row: &Row, other: &SeenView<'_>) -> ReadFault
     }
 }
 
-// The part with the read fault of a view, which has this row, and another behind the others. The component is looked for
-// only where the fault is the first.
+// The part with the read fault of a view, which has this row, and another after the others. Only the first fault of all needs a
+// search for its component.
 fn note_fault(
     part: Part<ReadFault>,
     view: &SeenView<'_>,
@@ -78,7 +78,7 @@ pub(crate) fn read_part(index: &Index<'_>, place: u32) -> Part<ReadFault>
     part
 }
 
-/// The completed views at two places as a read fault, of which the first view shows more of some component.
+/// The read fault of the completed views at two places. The first view must show more of some component than the other.
 pub fn read_fault_of(index: &Index<'_>, place: u32, other: u32) -> ReadFault
     requires { AreViewPlaces (calls_of index.now) (place, other) }
     ensures { result ≡ reported_read (views_at (calls_of index.now) (place, other)) }

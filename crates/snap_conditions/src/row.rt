@@ -7,7 +7,7 @@ ghost use Rattle.snap_conditions.specs.Rows.{first_less};
 use snap_core::{COMPONENT_COUNT, Entry};
 use std::marker::Model;
 
-// The number that entries show of each component, 0 where they list none.
+// The number that entries show of each component, 0 if they list none.
 pub(crate) fn numbers_of(entries: &[Entry]) -> [u32; COMPONENT_COUNT]
     requires { AreEntries entries.now }
     ensures { AreNumbersOf entries.now result }
@@ -26,11 +26,11 @@ pub(crate) struct Excess {
     pub(crate) second: bool,
 }
 
-// The number that a view shows of each component, kept so that other views are soon compared with it.
+// The number that a view shows of each component, kept so that comparing other views with it is fast.
 #[derive(Drop)]
 pub(crate) struct Row {
     numbers: [u32; COMPONENT_COUNT],
-    // the sum of the numbers of each component and of those below it
+    // for each component, the sum of its number and of the numbers of the components below it
     sums: [u64; COMPONENT_COUNT],
 }
 
@@ -61,8 +61,8 @@ impl Row {
         Row { numbers, sums }
     }
 
-    // Compares the view with another by that one's entries, and stops where each shows more of some component. A view does
-    // so exactly where its numbers have a greater sum than the lesser numbers of the two.
+    // Compares the view with another by that one's entries, and stops as soon as each shows more of some component. A view shows more
+    // exactly when the sum of its numbers is greater than the sum of the smaller numbers of the two.
     pub(crate) fn compare(&self, other: &[Entry]) -> Excess
         requires { AreEntries other.now }
         ensures first { IsTrue result.first ↔ IsLessSomewhere (number_among other.now) (row_number self.now) }
@@ -87,7 +87,7 @@ impl Row {
         }
     }
 
-    // The least component of which the view shows more than another with these entries.
+    // The least component of which the view shows more than a view with these entries.
     pub(crate) fn first_excess(&self, other: &[Entry]) -> Option<u8>
         requires { AreEntries other.now }
         ensures { result ≡ first_less (number_among other.now) (row_number self.now) }

@@ -18,38 +18,38 @@ use snap_core::{COMPONENT_COUNT, Entry, are_same};
 use snap_index::Index;
 use snap_views::SeenView;
 
-// A place behind all events.
+// A place after all events.
 pub(crate) const NEVER: u32 = u32::MAX;
 
-// A value that is no update's.
+// A number that no update writes.
 const NO_VALUE: u64 = u32::MAX as u64 + 1;
 
-// How many entries are compared with those of the view before at a time.
+// The number of entries that are compared with those of the last view at a time.
 const PIECE: usize = 8;
 
-// Where the updates stand between which a view is by what it shows, component by component.
+// The updates around a view, component by component: the one that it shows and the next one.
 #[derive(Drop)]
 pub(crate) struct ShownAndNext<'i> {
     // no component from here on has an update
     pub(crate) limit: usize,
-    // the entries of the view that was looked at last, none before the first
+    // the entries of the last view; none before the first
     pub(crate) entries: &'i [Entry],
-    // the number that they show of each component below the limit
+    // the number that the entries show of each component below the limit
     pub(crate) numbers: [u32; COMPONENT_COUNT],
-    // the value of the update of that number, `NO_VALUE` where there is none
+    // the value of the update of that number, `NO_VALUE` if there is none
     pub(crate) values: [u64; COMPONENT_COUNT],
-    // where the update of that number begins, 0 where there is none
+    // the place at which the update of that number begins, 0 if there is none
     pub(crate) begins: [u32; COMPONENT_COUNT],
-    // where the update after it ends, `NEVER` where there is none or it is pending
+    // the place at which the next update ends, `NEVER` if there is none or it is pending
     pub(crate) ends: [u32; COMPONENT_COUNT],
-    // no begin is later, and no end is earlier
+    // no begin is later than this, and no end is earlier than `earliest`
     pub(crate) latest: u32,
     pub(crate) earliest: u32,
-    // each of the entries is the number and the value of an update, where this is true
+    // if true, each of the entries is the number and the value of an update
     pub(crate) written: bool,
 }
 
-// How entries stand to those of the view before.
+// How entries compare with those of the last view.
 #[derive(Clone, Copy)]
 enum Along {
     // the same entries
@@ -60,7 +60,7 @@ enum Along {
     Otherwise,
 }
 
-// A value, or `NO_VALUE`.
+// A value, or `NO_VALUE` if there is none.
 fn value_or_none(value: Option<u32>) -> u64
     ensures { result ≡ spec_value_or_none value }
 {
@@ -70,7 +70,7 @@ fn value_or_none(value: Option<u32>) -> u64
     }
 }
 
-// The latest of some places, 0 where there are none.
+// The latest of some places, 0 if there are none.
 fn latest_of(places: &[u32]) -> u32
     ensures { (k : ℕ) → k < length places.now → get_or places.now k 0 ≤ result }
 {
@@ -81,7 +81,7 @@ fn latest_of(places: &[u32]) -> u32
     latest
 }
 
-// The earliest of some places, `NEVER` where there are none.
+// The earliest of some places, `NEVER` if there are none.
 fn earliest_of(places: &[u32]) -> u32
     ensures places { (k : ℕ) → k < length places.now → result ≤ get_or places.now k 0 }
     ensures never { result ≤ 4294967295 }
@@ -100,8 +100,8 @@ fn component_limit(index: &Index<'_>) -> usize
     index.update_limit()
 }
 
-// Takes the number that a view shows of component k, 0 where it lists none, from the entries that are left, those from
-// component k on.
+// Takes the number of component k, 0 if a view lists none, from the entries that are left. These are the entries of component k
+// and of greater ones.
 fn take_number(left: &mut &[Entry], k: usize) -> u32
     ensures number { (all : List SpecEntry) → AreFrom k all left.old.now → result ≡ number_among all k }
     ensures left { (all : List SpecEntry) → AreFrom k all left.old.now → AreFrom (k + 1) all left.new.now }
@@ -117,7 +117,7 @@ fn take_number(left: &mut &[Entry], k: usize) -> u32
 }
 
 impl<'i> ShownAndNext<'i> {
-    // The updates of a view that shows nothing. One serves for many views, which mostly show what the view before them showed.
+    // The updates around a view that shows nothing. One value serves for many views, since most show what the view before them showed.
     pub(crate) fn new(index: &Index<'_>) -> ShownAndNext<'i>
         requires { IsBoundedHistory index.now }
         ensures { IsOfEntries (calls_of index.now) result }
@@ -141,7 +141,7 @@ impl<'i> ShownAndNext<'i> {
         }
     }
 
-    // Whether an entry is the number and the value of an update, where the update of its number was looked up.
+    // Whether an entry is the number and the value of an update. The update of its number must be looked up already.
     pub(crate) fn is_written(&self, entry: Entry) -> bool
         ensures { (es : List Event) → IsBoundedHistory es → EntryFits entry → IsValueOf (calls_of es) self.now entry
             → result ≡ spec_is_written (update_of (calls_of es) entry.component entry.number) entry }
@@ -149,7 +149,7 @@ impl<'i> ShownAndNext<'i> {
         self.values[usize::from(entry.component)] == u64::from(entry.value)
     }
 
-    // Whether each entry is the number and the value of an update, where the updates of their numbers were looked up.
+    // Whether each entry is the number and the value of an update. The updates of their numbers must be looked up already.
     fn are_written(&self, entries: &[Entry]) -> bool
         ensures { (es : List Event) → IsBoundedHistory es → All EntryFits entries.now → All (IsValueOf (calls_of es) self.now) entries.now
             → IsTrue result → All (IsWritten (calls_of es)) entries.now }
@@ -157,7 +157,7 @@ impl<'i> ShownAndNext<'i> {
         entries.iter().all(|entry| self.is_written(*entry))
     }
 
-    // Looks up the updates around a number of component k, if it is another than the number of the view before.
+    // Looks up the updates around a number of component k, if it differs from the number of the last view.
     fn look_at(&mut self, index: &Index<'_>, k: usize, number: u32)
         requires kept { IsBoundedHistory index.now }
         requires component { k < component_count }
@@ -177,9 +177,9 @@ impl<'i> ShownAndNext<'i> {
         self.ends[k] = end_of_next(index, k as u8, number).unwrap_or(NEVER);
     }
 
-    // Looks up the updates around the entries that differ from those of the view before, where both list the same components
-    // at the same places, and answers how the entries stand to those. Where they list others, some are looked up. Only the
-    // entries that differ are tested: the others were tested with the view before.
+    // Looks up the updates around the entries that differ from those of the last view, and answers how the entries compare. If both
+    // do not list the same components at the same places, only some are looked up. It tests only the entries that differ, since
+    // the others were tested with the last view.
     fn look_along(&mut self, index: &Index<'_>, entries: &[Entry]) -> Along
         requires before { IsOfEntries (calls_of index.now) self.old }
         requires kept { IsBoundedHistory index.now }
@@ -215,8 +215,8 @@ impl<'i> ShownAndNext<'i> {
         along
     }
 
-    // Looks up the updates around entries, only around those that differ where the view before lists the same components, and
-    // answers whether the entries are others than those of the view before.
+    // Looks up the updates around entries. If the last view lists the same components, only the entries that differ are looked up.
+    // It answers whether the entries differ from those of the last view.
     fn look_at_entries(&mut self, index: &Index<'_>, entries: &[Entry]) -> bool
         requires before { IsOfEntries (calls_of index.now) self.old }
         requires kept { IsBoundedHistory index.now }
@@ -233,7 +233,7 @@ impl<'i> ShownAndNext<'i> {
             Along::Changed => return true,
             Along::Otherwise => {}
         }
-        // other entries are all tested anew
+        // entries of other components are all tested again
         self.written = false;
         let mut left = entries;
         for k in 0..self.limit {
@@ -242,7 +242,7 @@ impl<'i> ShownAndNext<'i> {
         true
     }
 
-    // Looks up the updates around a view where it shows another number than the view before.
+    // Looks up the updates around a view, for the components whose number differs from that of the last view.
     pub(crate) fn look(&mut self, index: &Index<'_>, view: &SeenView<'i>)
         requires before { IsOfEntries (calls_of index.now) self.old }
         requires kept { IsBoundedHistory index.now }

@@ -26,7 +26,7 @@ fn is_stale(view: &SeenView<'_>, row: &Row, other: &SeenView<'_>) -> bool
     is_before(view.call.ended, other.call.begun) && row.compare(other.entries).first
 }
 
-// How many views are stale to the one at a place.
+// The number of views that are stale to the one at a place.
 fn stale_count(index: &Index<'_>, place: u32) -> u64
     requires place { place < length (views_of (calls_of index.now)) }
     requires kept { IsBoundedHistory index.now }
@@ -42,7 +42,7 @@ fn stale_count(index: &Index<'_>, place: u32) -> u64
     count
 }
 
-// The same, by the read faults of the view at a place: where it has none, no view is stale to it.
+// The number of stale views, if the read faults of the view at a place are known: without one, no view is stale to it.
 pub(crate) fn stale_beside(index: &Index<'_>, place: u32, read: &Part<ReadFault>) -> u64
     requires place { place < length (views_of (calls_of index.now)) }
     requires kept { IsBoundedHistory index.now }

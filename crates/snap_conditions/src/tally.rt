@@ -1,12 +1,12 @@
-//! Tallies: how two are merged, and the verdicts by one.
+//! Tallies: the merge of two, and the verdicts by one.
 ghost use Rattle.std.specs.Prelude.{◌≡◌, ◌↔◌, IsTrue};
 ghost use Rattle.snap_conditions.specs.Tally.{no_fault, merged, SumsFit, CountsNoLocalFault, CountsNoFault};
 
 use crate::fault::{IntegrityFault, ProximityFault, ReadFault, WriteFault};
 use crate::part::Part;
 
-/// The faults of a range of views, kind by kind, and the number of pairs of a view in the range and a view that it precedes and
-/// that shows less of some component.
+/// The faults of a range of views, kind by kind. `stale` is the number of pairs of a view in the range and a view that it precedes
+/// and that shows less of some component.
 #[derive(Clone, Copy, PartialEq, Eq, Debug)]
 pub struct Tally {
     pub integrity: Part<IntegrityFault>,
@@ -31,8 +31,8 @@ impl Tally {
     }
 }
 
-/// The faults of both. Counts are added; a first fault is the first tally's, or the second's where the first has none.
-/// Of two ranges of views of which the second follows the first it is the tally of both.
+/// The faults of both. Counts are added. A first fault is that of the first tally, or that of the second if the first has none.
+/// For two ranges of views, one after the other, it is the tally of both.
 pub fn merge(first: Tally, second: Tally) -> Tally
     requires { SumsFit first second }
     ensures { result ≡ merged first second }
@@ -46,22 +46,22 @@ pub fn merge(first: Tally, second: Tally) -> Tally
     }
 }
 
-/// Whether there is no integrity and no proximity fault: of the tally of all completed views, exactly where the history is
-/// regular.
+/// Whether there is no integrity and no proximity fault. For the tally of all completed views, it is true exactly when the
+/// history is regular.
 pub fn is_regular(tally: &Tally) -> bool
     ensures { IsTrue result ↔ CountsNoLocalFault tally.now }
 {
     tally.integrity.count() == 0 && tally.proximity.count() == 0
 }
 
-/// Whether no view goes back: of the tally of all completed views, exactly where the history is monotone.
+/// Whether no view goes back. For the tally of all completed views, it is true exactly when the history is monotone.
 pub fn is_monotone(tally: &Tally) -> bool
     ensures { IsTrue result ↔ (tally.now.stale ≡ 0) }
 {
     tally.stale == 0
 }
 
-/// Whether there is no fault: of the tally of all completed views, exactly where the four conditions hold.
+/// Whether there is no fault. For the tally of all completed views, it is true exactly when the four conditions hold.
 pub fn is_atomic(tally: &Tally) -> bool
     ensures { IsTrue result ↔ CountsNoFault tally.now }
 {

@@ -1,4 +1,4 @@
-//! Where updates begin and end, and what they write.
+//! The places at which updates begin and end, and what they write.
 ghost use Rattle.std.specs.Prelude.{◌≡◌, suc};
 ghost use Rattle.snap_core.specs.Events.{IsBoundedHistory};
 ghost use Rattle.snap_core.specs.Calls.{calls_of, is_before as spec_is_before};
@@ -7,7 +7,7 @@ ghost use Rattle.snap_theory.specs.Updates.{update_of};
 
 use snap_index::Index;
 
-// Whether an end stands before a place.
+// Whether an end comes before a place.
 pub(crate) fn is_before(ended: Option<u32>, place: u32) -> bool
     ensures { result ≡ spec_is_before ended place }
 {
@@ -25,7 +25,7 @@ pub(crate) fn value_of_update(index: &Index<'_>, k: u8, n: u32) -> Option<u32>
     Some(write.value)
 }
 
-// Where update n of component k began, if there is one.
+// The place at which update n of component k began, if there is one.
 pub(crate) fn begin_of_update(index: &Index<'_>, k: u8, n: u32) -> Option<u32>
     ensures { result ≡ begin_of (update_of (calls_of index.now) k n) }
 {
@@ -33,7 +33,7 @@ pub(crate) fn begin_of_update(index: &Index<'_>, k: u8, n: u32) -> Option<u32>
     Some(write.begun)
 }
 
-// Where update n of component k ended, if there is one and it did.
+// The place at which update n of component k ended, if there is one and it ended.
 pub(crate) fn end_of_update(index: &Index<'_>, k: u8, n: u32) -> Option<u32>
     ensures { result ≡ end_of (update_of (calls_of index.now) k n) }
 {
@@ -41,7 +41,7 @@ pub(crate) fn end_of_update(index: &Index<'_>, k: u8, n: u32) -> Option<u32>
     write.ended
 }
 
-// Where the update after number n of component k ended, if there is one and it did.
+// The place at which the update after number n of component k ended, if there is one and it ended.
 pub(crate) fn end_of_next(index: &Index<'_>, k: u8, n: u32) -> Option<u32>
     requires { IsBoundedHistory index.now }
     ensures { result ≡ end_of (update_of (calls_of index.now) k (suc n)) }

@@ -22,10 +22,10 @@ use snap_core::{COMPONENT_COUNT, Entry};
 use snap_index::Index;
 use snap_views::SeenView;
 
-// From so many begins on a search among them in their order takes less than to compare each.
+// From this number of begins on, a search in their order takes less time than to compare each.
 const MANY: usize = 128;
 
-// Where the updates that entries show begin, entry by entry: at place 0, where there is none, nothing begins behind an end.
+// The begins of the updates that entries show, entry by entry. Without an update the place is 0, which is not after any end.
 fn begins_of(updates: &ShownAndNext<'_>, entries: &[Entry]) -> [u32; COMPONENT_COUNT]
     requires { length entries.now ≤ component_count }
     ensures size { length result ≡ component_count }
@@ -38,7 +38,7 @@ fn begins_of(updates: &ShownAndNext<'_>, entries: &[Entry]) -> [u32; COMPONENT_C
     begins
 }
 
-// How many of some begins stand behind an end, in whatever order they are.
+// The number of begins that come after an end. The begins may be in any order.
 fn count_each(begins: &[u32], ended: u32) -> u64
     requires { length begins.now ≤ component_count }
     ensures { result ≡ count_by (λ b. nat_lt ended b) begins.now }
@@ -50,7 +50,7 @@ fn count_each(begins: &[u32], ended: u32) -> u64
     u64::from(count)
 }
 
-// How many of some begins stand behind an end, where they are in their order.
+// The number of begins that come after an end. The begins are in order.
 fn count_ordered(begins: &[u32], ended: u32) -> u64
     requires { IsNonDecreasing begins.now }
     ensures { result ≡ count_by (λ b. nat_lt ended b) begins.now }
@@ -59,7 +59,7 @@ fn count_ordered(begins: &[u32], ended: u32) -> u64
     (begins.len() - behind) as u64
 }
 
-// How many of some begins stand behind an end. Where they are many, they are in their order.
+// The number of begins that come after an end. If there are `MANY`, they are in order.
 fn count_behind(begins: &[u32], ended: u32) -> u64
     requires few { length begins.now ≤ component_count }
     requires order { MANY ≤ length begins.now → IsNonDecreasing begins.now }
@@ -71,7 +71,7 @@ fn count_behind(begins: &[u32], ended: u32) -> u64
     count_ordered(begins, ended)
 }
 
-// The first of some begins that stands behind an end.
+// The index of the first begin that comes after an end; the number of begins if there is none.
 fn first_behind(begins: &[u32], ended: u32) -> usize
     ensures { result ≡ position_or_len (λ b. nat_lt ended b) begins.now }
 {
@@ -89,11 +89,12 @@ struct Missed {
     component: u8,
     // the number of the update before it, which the view shows
     number: u32,
-    // where it ended
+    // the place at which it ended
     ended: u32,
 }
 
-// The write faults, so many, of the view at a place that misses an update. The updates that it shows begin at `begins`.
+// The write faults, `count` of them, of the view at a place for one update that it misses. The updates that it shows begin at
+// `begins`.
 fn missed_part(
     index: &Index<'_>,
     place: u32,
@@ -127,7 +128,7 @@ fn missed_part(
     Part::of(count, fault)
 }
 
-// A part with the write faults of one more update that the view at a place misses. Only the first of all is looked for.
+// A part with the write faults for one more update that the view at a place misses. Only the first fault of all is searched for.
 fn with_missed(
     part: Part<WriteFault>,
     index: &Index<'_>,
@@ -154,8 +155,8 @@ fn with_missed(
     missed_part(index, place, view, begins, missed, count)
 }
 
-// The write faults of the view at a place. The updates that it shows begin at `begins`.
-// They are counted among `counted`, the same begins, which are in their order where they are many.
+// The write faults of the view at a place. The updates that it shows begin at `begins`. The faults are counted among `counted`,
+// the same begins; if there are `MANY`, these are in order.
 fn missed_parts(
     index: &Index<'_>,
     place: u32,

@@ -9,7 +9,7 @@ pub data Operation : Type 0 where
   Updates : (entry : Entry) → Operation
   Views : (answer : Option (List Entry)) → Operation
 
--- a call has its number in the order of begins, and the places of its begin and its end
+-- a call: its number in the order of begins, and the places of its begin and its end
 pub record Call : Type 0 where
   pub number : ℕ
   pub process : ℕ
@@ -17,7 +17,7 @@ pub record Call : Type 0 where
   pub begun : ℕ
   pub ended : Option ℕ
 
--- the place of the next event of process p, where the list begins at a place
+-- the place of the next event of process p, in a list whose first event is at `place`
 abbrev pub next_place : ℕ → ℕ → List Event → Option ℕ
 next_place p place [] = None
 next_place p place (e ∷ es) = if process_of e == p then Some place else next_place p (suc place) es
@@ -26,12 +26,12 @@ abbrev pub answer_at : Event → Option (List Entry)
 answer_at (EndView p entries) = Some entries
 answer_at _ = None
 
--- what the next event of process p answers to its view
+-- the answer of the next event of process p, if that ends a view
 abbrev pub next_answer : ℕ → List Event → Option (List Entry)
 next_answer p [] = None
 next_answer p (e ∷ es) = if process_of e == p then answer_at e else next_answer p es
 
--- the calls begun in a list that begins at a place, from a number on
+-- the calls begun in a list whose first event is at `place`, numbered from `number` on
 abbrev pub calls_from : ℕ → ℕ → List Event → List Call
 calls_from number place [] = []
 calls_from number place (BeginUpdate p e ∷ es) =
@@ -71,7 +71,7 @@ entries_of (Views None) = []
 unfoldable pub shown : Call → ℕ → Option Entry
 shown r k = entry_of k (entries_of r.operation)
 
--- r(k): the number that a view shows of component k, 0 where it shows none
+-- r(k): the number that a view shows of component k, 0 if it shows none
 unfoldable pub shown_number : Call → ℕ → ℕ
 shown_number r k = number_in (shown r k)
 
@@ -87,10 +87,9 @@ is_update_numbered k n c = writes_number c.operation k n
 unfoldable pub views_of : List Call → List Call
 views_of calls = filter is_view calls
 
--- stands where a number is no call's
+-- what `call_numbered` gives if no call has the number
 abbrev pub nobody : Call
 nobody = record { number = 0; process = 0; operation = Views None; begun = 0; ended = None }
 
--- the call of a number
 abbrev pub call_numbered : List Call → ℕ → Call
 call_numbered calls n = get_or calls n nobody

@@ -6,7 +6,7 @@ use Rattle.snap_core.specs.declared.entry.TheConstants.{COMPONENT_COUNT}
 use Rattle.snap_core.specs.declared.view.ViewRefusal.{ViewRefusal}
 use Rattle.snap_core.specs.declared.view.ViewRefusal.TheVariants.{NotRising, ZeroNumber}
 
--- each component is above the one before it
+-- each component is greater than the one before it
 abbrev pub rises : List Entry → Bool
 rises [] = true
 rises (d ∷ []) = true
@@ -19,11 +19,10 @@ has_zero es = list_any (λ e. e.number == 0) es
 abbrev pub view_refusal : List Entry → Option ViewRefusal
 view_refusal es = if not (rises es) then Some NotRising else if has_zero es then Some ZeroNumber else None
 
--- how many components there are
 abbrev pub component_count : ℕ
 component_count = COMPONENT_COUNT
 
--- a component is a byte
+-- a component fits a byte
 abbrev pub HasByteComponent : Entry → Type 0
 HasByteComponent e = e.component < component_count
 

@@ -23,7 +23,7 @@ Ends (BeginUpdate p e) (EndUpdate q) = ⊤
 Ends (BeginView p) (EndView q es) = ⊤
 Ends _ _ = ⊥
 
--- begin, end, begin and so on, starting with a begin, each end of the kind of the begin before it
+-- begin, end, begin and so on, starting with a begin; each end is of the kind of the begin before it
 abbrev pub TakeTurns : List Event → Type 0
 TakeTurns [] = ⊤
 TakeTurns (b ∷ []) = IsBegin b
@@ -32,7 +32,7 @@ TakeTurns (b ∷ e ∷ rest) = Ends b e × TakeTurns rest
 abbrev pub events_of : ℕ → List Event → List Event
 events_of p es = filter (λ e. process_of e == p) es
 
--- each process by itself begins and ends calls in turn
+-- each process by itself alternates begins and ends of calls
 abbrev pub IsWellFormed : List Event → Type 0
 IsWellFormed es = (p : ℕ) → TakeTurns (events_of p es)
 
@@ -73,7 +73,7 @@ EventFits (BeginView p) = p < 65536
 EventFits (EndUpdate p) = p < 65536
 EventFits (EndView p es) = (p < 65536) × AreEntries es
 
--- how many events a `History` has at most
+-- the greatest number of events of a `History`
 abbrev pub event_cap : ℕ
 event_cap = EVENT_CAP
 

@@ -3,6 +3,6 @@ use Rattle.std.specs.Prelude.{List, [], ◌∷◌, ◌++◌, ◌↔◌}
 use Rattle.snap_core.specs.Events.{Event, IsHistory}
 use Rattle.snap_core.specs.Refusals.{IsAccepted}
 
--- a list and one event more is a history exactly where the list is one and no refusal applies
+-- a list and one event more is a history exactly when the list is one and no refusal applies
 abbrev pub HistoryGrows : Type 0
 HistoryGrows = (events : List Event) (e : Event) → (IsHistory events × IsAccepted events e) ↔ IsHistory (events ++ e ∷ [])

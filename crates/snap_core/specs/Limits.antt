@@ -1,9 +1,9 @@
--- How many events a history may have, by the choice of a caller.
+-- The greatest number of events of a history, as a caller chooses it.
 use Rattle.std.specs.Prelude.{ℕ, ◌≤◌}
 use Rattle.snap_core.specs.declared.limit.TheConstants.{EVENT_LIMIT}
 use Rattle.snap_core.specs.Events.{event_cap}
 
--- how many events a history may have where no limit is chosen
+-- the greatest number of events of a history if no limit is chosen
 abbrev pub event_limit : ℕ
 event_limit = EVENT_LIMIT
 

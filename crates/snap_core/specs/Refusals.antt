@@ -1,4 +1,4 @@
--- When an event is refused behind a history, by counts over the whole list before it.
+-- When an event is refused after a list of events, by counts over the whole list.
 use Rattle.std.specs.Prelude.{ℕ, suc, ◌%◌, Bool, true, false, not, ◌&&◌, List, [], ◌∷◌, ◌≡◌, ◌==◌, count_by, Option, Some, None, if◌then◌else◌, nat_le, length}
 use Rattle.std.specs.List.{list_any}
 use Rattle.snap_core.specs.declared.history.EventRefusal.{EventRefusal}
@@ -11,11 +11,11 @@ is_begin (BeginView p) = true
 is_begin (EndUpdate p) = false
 is_begin (EndView p es) = false
 
--- a process has a call open where the count of its events is odd
+-- a process has a call open if the count of its events is odd
 abbrev pub has_open : ℕ → List Event → Bool
 has_open p es = count_by (λ e. process_of e == p) es % 2 == 1
 
--- the last event of a process, or what stood before the list
+-- the last event of a process, or what was there before the list
 abbrev pub last_event : ℕ → Option Event → List Event → Option Event
 last_event p last [] = last
 last_event p last (e ∷ es) = last_event p (if process_of e == p then Some e else last) es
@@ -33,7 +33,7 @@ ends_last (Some b) e = is_end_of b e
 abbrev pub is_busy : List Event → Event → Bool
 is_busy es e = is_begin e && has_open (process_of e) es
 
--- an end of a process without one
+-- an end of a process without an open call
 abbrev pub is_idle : List Event → Event → Bool
 is_idle es e = not (is_begin e) && not (has_open (process_of e) es)
 
@@ -64,7 +64,7 @@ pub record IsAccepted (es : List Event) (e : Event) : Type 0 where
   pub writer : has_other_writer es e ≡ false
   pub number : has_other_number es e ≡ false
 
--- the first refusal that applies where a history has at most `limit` events, want of memory aside
+-- the first refusal that applies to a history of at most `limit` events, lack of memory aside
 unfoldable pub refusal_of : ℕ → List Event → Event → Option EventRefusal
 refusal_of limit es e =
     if nat_le limit (length es) then Some TooMany

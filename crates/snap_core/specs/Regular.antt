@@ -13,13 +13,13 @@ pub record IsUpdateOf (calls : List Call) (c : Call) (e : Entry) : Type 0 where
   pub there : Contains calls c
   pub writes : c.operation ≡ Updates e
 
--- a stands before the end of r
+-- a begins before r ends
 pub record IsBegunBeforeEnd (a r : Call) : Type 0 where
   pub place : ℕ
   pub ends : r.ended ≡ Some place
   pub before : a.begun < place
 
--- each completed view gives each component a value neither older than its last update ended before the view nor begun after it
+-- each completed view shows of each component a value neither older than its last update that precedes the view, nor begun after it
 pub record IsRegular (calls : List Call) : Type 0 where
   pub not_old : (r c : Call) (e : Entry) → IsViewOf calls r → IsUpdateOf calls c e → shown_number r e.component < e.number → precedes c r ≡ false
   pub not_early : (r : Call) (k : ℕ) (e : Entry) → IsViewOf calls r → shown r k ≡ Some e → (c : Call) × IsUpdateOf calls c e × IsBegunBeforeEnd c r

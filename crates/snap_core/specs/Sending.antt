@@ -1,4 +1,4 @@
--- What goes out where a text is sent, and what that does to the count of failures.
+-- What goes out when a text is sent, and what that does to the count of failures.
 use Rattle.std.specs.Prelude.{◌≡◌, ◌≤◌, ℕ, List, length, take, Option, Result, Ok, Err}
 use Rattle.std.specs.Io.KnownBytes.{Appends}
 use Rattle.snap_core.specs.Counting.{Rose}

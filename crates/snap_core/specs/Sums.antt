@@ -9,10 +9,10 @@ total f (x ∷ xs) = f x + total f xs
 abbrev pub one_if : Bool → ℕ
 one_if b = cond b 1 0
 
--- how often x stands in the list
+-- how often x is in the list
 abbrev pub times : ℕ → List ℕ → ℕ
 times x xs = total (λ y. one_if (y == x)) xs
 
--- 1 where x is below n, and else 0
+-- 1 if x is below n, and else 0
 abbrev pub once_below : ℕ → ℕ → ℕ
 once_below x n = one_if (nat_lt x n)

@@ -8,7 +8,7 @@ ghost use Rattle.snap_core.specs.Sending.{CountsSend, Sends};
 use std::io;
 use std::io::{ErrorKind, Read, Write};
 
-/// A reader or writer with the count of its failures, which stops at `u64::MAX`.
+/// A reader or writer with the count of its failures. The count stops at `u64::MAX`.
 #[derive(Drop)]
 pub struct Counted<T> {
     inner: T,
@@ -16,7 +16,7 @@ pub struct Counted<T> {
 }
 
 impl<T> Counted<T> {
-    /// The reader or writer, with no failure.
+    /// A reader or writer with a count of 0.
     pub fn new(inner: T) -> Counted<T>
         ensures inner { inner_of result ≡ inner }
         ensures failures { failures_in result ≡ 0 }
@@ -24,14 +24,14 @@ impl<T> Counted<T> {
         Counted { inner, failures: 0 }
     }
 
-    /// How many calls failed.
+    /// The number of calls that failed, at most `u64::MAX`.
     pub fn failures(&self) -> u64
         ensures { result ≡ failures_in self.now }
     {
         self.failures
     }
 
-    /// The reader or writer.
+    /// The reader or writer, without its count.
     pub fn into_inner(self) -> T
         ensures { result ≡ inner_of self }
     {
@@ -48,7 +48,7 @@ impl<T> Counted<T> {
 }
 
 impl<R: Read> Counted<R> {
-    /// One read. An error is counted.
+    /// One read into `buf`: the number of bytes read. An error is counted.
     pub fn read(&mut self, buf: &mut [u8]) -> io::Result<usize>
         ensures bound { ReadsAtMost result buf.new }
         ensures bytes { ReadConsumes (R.remaining (inner_of self.old)) (R.remaining (inner_of self.new)) result buf.new }
@@ -63,7 +63,7 @@ impl<R: Read> Counted<R> {
 }
 
 impl<W: Write> Counted<W> {
-    /// One write. An error is counted, and so is a write of some bytes that takes none.
+    /// One write: the number of bytes taken. An error is counted, and so is a write of some bytes that takes none.
     pub fn write(&mut self, buf: &[u8]) -> io::Result<usize>
         ensures bound { WritesAtMost result buf.now }
         ensures bytes { WriteAppends (W.contents (inner_of self.old)) (W.contents (inner_of self.new)) result buf.now }

@@ -2,7 +2,7 @@
 ghost use Rattle.std.specs.Prelude.{◌≡◌, ◌↔◌, IsTrue, length};
 ghost use Rattle.snap_core.specs.Entries.{EntryFits};
 
-/// How many components there are: each is a byte.
+/// The number of components: each is a byte.
 pub const COMPONENT_COUNT: usize = 256;
 
 /// What an update writes and a view shows: a component, the number of its update, and the value.
@@ -26,7 +26,7 @@ fn is_same(a: &Entry, b: &Entry) -> bool
     (a.component == b.component) & (a.number == b.number) & (a.value == b.value)
 }
 
-// Whether as many entries are the same, without a branch for each.
+// Whether two lists of equal length have the same entries, without a branch for each.
 #[inline(always)]
 fn are_all_same(a: &[Entry], b: &[Entry]) -> bool
     requires { length a.now ≡ length b.now }
@@ -39,7 +39,7 @@ fn are_all_same(a: &[Entry], b: &[Entry]) -> bool
     same
 }
 
-// How many entries are compared without a branch between.
+// The number of entries that are compared without a branch between.
 const PIECE: usize = 8;
 
 /// Whether two lists of entries are the same, entry by entry.

@@ -48,7 +48,7 @@ impl Event {
         }
     }
 
-    /// What the types of its fields keep. It does nothing.
+    /// A fact for proofs: each field is in the range of its type. The call does nothing.
     pub fn fits(&self)
         ensures { EventFits self.now }
     {
@@ -64,7 +64,6 @@ impl Event {
         }
     }
 
-    // What the event begins.
     pub(crate) fn begun(&self) -> Option<Begun>
         ensures { result ≡ begun_by self.now }
     {

@@ -11,13 +11,13 @@ use crate::tables::Tables;
 use std::alloc::Global;
 use std::marker::Model;
 
-/// How many events a history has at most, whatever limit a caller chooses.
+/// The greatest number of events of a history, whatever limit a caller chooses.
 pub const EVENT_CAP: usize = 1_048_576;
 
 /// Why an event is refused, in the order in which the reasons are tested.
 #[derive(Clone, Copy, PartialEq, Eq, Debug)]
 pub enum EventRefusal {
-    /// The history has as many events as it may have.
+    /// The history has as many events as its limit.
     TooMany,
     /// A begin, and the process has an open call.
     Busy,
@@ -33,8 +33,8 @@ pub enum EventRefusal {
     Memory,
 }
 
-/// A list of events in which each process begins and ends calls in turn, each component has one writer, and the updates
-/// of a component are numbered 1, 2, 3 by their begins. It has at most as many events as its limit.
+/// A list of events in which each process alternates begins and ends of calls. Each component has one writer, and its updates are
+/// numbered 1, 2, 3 by their begins. The list has at most as many events as its limit.
 #[derive(Drop)]
 pub struct History {
     events: Vec<Event>,
@@ -64,7 +64,7 @@ impl History {
         History::with_limit(alloc, Limit::usual())
     }
 
-    /// The history without events, which may have as many as the limit. It takes no memory.
+    /// The history without events, with this limit. It takes no memory.
     pub fn with_limit(alloc: Global, limit: Limit) -> History
         ensures events { result.events ≡ [] }
         ensures limit { result.limit ≡ limit.events }
@@ -76,7 +76,7 @@ impl History {
         }
     }
 
-    /// How many events it has, at most its limit.
+    /// The number of its events, at most its limit.
     pub fn len(&self) -> usize
         ensures len { result ≡ length self.now.events }
         ensures limit { result ≤ self.now.limit }
@@ -93,14 +93,14 @@ impl History {
         self.events.len() >= self.limit.events()
     }
 
-    /// The event at a place, counted from 0; none past the end.
+    /// The event at a place, counted from 0; none if `i` is at or past the end.
     pub fn event(&self, i: usize) -> Option<&Event>
         ensures { option_copied result ≡ slice_get self.now.events i }
     {
         self.events.get(i)
     }
 
-    /// The events in order.
+    /// The events in their order.
     pub fn events(&self) -> &[Event]
         ensures events { result.now ≡ self.now.events }
         ensures history { IsBoundedHistory self.now.events }
@@ -108,8 +108,8 @@ impl History {
         &self.events
     }
 
-    /// Appends an event, in constant time but for the growth of its tables. A refused event comes back with the first
-    /// refusal that applies, and the history is then unchanged.
+    /// Appends an event, in constant time except for the growth of its tables. A refused event comes back with the first
+    /// refusal that applies, and the history is unchanged.
     #[inline(always)]
     pub fn push(&mut self, event: Event) -> Result<(), (Event, EventRefusal)>
         ensures ok { OnOk result (self.new.events ≡ self.old.events ++ event ∷ []) }
@@ -135,7 +135,7 @@ impl History {
         Ok(())
     }
 
-    /// The first refusal that applies to an event, want of memory aside: none where it may be appended.
+    /// The first refusal that applies to an event, lack of memory aside; none if the event may be appended.
     pub fn refusal(&self, event: &Event) -> Option<EventRefusal>
         ensures { result ≡ refusal_of self.now.limit self.now.events event.now }
     {

@@ -1,7 +1,7 @@
 //! The law by which a history grows.
 ghost use Rattle.snap_core.specs.Laws.{HistoryGrows};
 
-/// How a history grows by one event: exactly where the event meets no refusal.
+/// A list and one more event is a history exactly when the list is one and no refusal applies to the event.
 pub fn histories_grow()
     ensures { HistoryGrows }
 {}

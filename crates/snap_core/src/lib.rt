@@ -1,4 +1,4 @@
-//! Events, views and histories of a single-writer board, and what it means that a history is regular or atomic.
+//! Events, views and histories of a single-writer board, and what it means that a history is regular, monotone or atomic.
 #![tactic(auto)]
 
 mod counted;

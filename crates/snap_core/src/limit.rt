@@ -1,14 +1,14 @@
-//! How many events a history may have, by the choice of a caller.
+//! The greatest number of events of a history, as a caller chooses it.
 ghost use Rattle.std.specs.Prelude.{◌≡◌, IsSome, IfSome, ◌↔◌};
 ghost use Rattle.snap_core.specs.Events.{event_cap};
 ghost use Rattle.snap_core.specs.Limits.{IsLimit, event_limit};
 
 use crate::history::EVENT_CAP;
 
-/// How many events a history may have where no limit is chosen.
+/// The limit of events if none is chosen.
 pub const EVENT_LIMIT: usize = 65_536;
 
-/// A limit of events, 1 to `EVENT_CAP`.
+/// A limit of the events of a history, 1 to `EVENT_CAP`.
 #[derive(Clone, Copy, PartialEq, Eq, Debug)]
 pub struct Limit {
     events: u32,
@@ -16,7 +16,7 @@ pub struct Limit {
 }
 
 impl Limit {
-    /// The limit of this many events; none where that is not 1 to `EVENT_CAP`.
+    /// The limit of this many events; none if that is not 1 to `EVENT_CAP`.
     pub fn new(events: u32) -> Option<Limit>
         ensures limit { IfSome result (λ limit. limit.events ≡ events) }
         ensures given { IsSome result ↔ IsLimit events }
@@ -27,7 +27,7 @@ impl Limit {
         Some(Limit { events })
     }
 
-    /// The limit where none is chosen.
+    /// The limit if none is chosen, `EVENT_LIMIT` events.
     pub fn usual() -> Limit
         ensures { result.events ≡ event_limit }
     {
@@ -36,7 +36,7 @@ impl Limit {
         }
     }
 
-    /// The greatest limit.
+    /// The greatest limit, `EVENT_CAP` events.
     pub fn greatest() -> Limit
         ensures { result.events ≡ event_cap }
     {
@@ -45,7 +45,7 @@ impl Limit {
         }
     }
 
-    /// How many events a history may have.
+    /// The number of events that a history with this limit may have.
     pub fn events(self) -> usize
         ensures events { result ≡ self.events }
         ensures fits { IsLimit result }

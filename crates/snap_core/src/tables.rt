@@ -7,29 +7,29 @@ ghost use Rattle.snap_core.specs.inside.Tables.{ends_begun, HasRoom, call_in, Is
 use crate::event::{Begun, Event};
 use std::alloc::{AllocError, Global};
 
-/// The process that writes a component, and how many of its updates have begun.
+/// The process that writes a component, and the number of its updates that have begun.
 #[derive(Clone, Copy)]
 pub(crate) struct Writer {
     pub(crate) process: u16,
     pub(crate) count: u32,
 }
 
-/// What a history keeps of its events, so that it need not look back at them: the open call of each process and the writer
-/// of each component, none past the end of a table.
+/// What a history keeps of its events, so that it need not look back at them. It keeps the open call of each process, and the
+/// writer of each component. A place past the end of a table has none.
 #[derive(Drop)]
 pub(crate) struct Tables {
     calls: Vec<Option<Begun>>,
     writers: Vec<Option<Writer>>,
 }
 
-// What a table has at a place, none past its end.
+// What a table has at a place; none past its end.
 fn look_up<T: Copy>(table: &[Option<T>], place: usize) -> Option<T>
     ensures { result ≡ slice_index_or table.now place None }
 {
     table.get(place).copied().flatten()
 }
 
-// Makes a table as long as a place needs. It says the same at every place.
+// Makes a table long enough for a place. What it has at every place is unchanged.
 fn make_room<T: Drop>(table: &mut Vec<Option<T>>, place: usize) -> Result<(), AllocError>
     ensures same { (i : ℕ) → slice_index_or table.new.items i None ≡ slice_index_or table.old.items i None }
     ensures room { OnOk result (place < vec_len table.new) }
@@ -68,14 +68,12 @@ impl Tables {
         }
     }
 
-    // The open call of a process.
     pub(crate) fn open_call(&self, process: u16) -> Option<Begun>
         ensures { result ≡ call_in self.now process }
     {
         look_up(&self.calls, process as usize)
     }
 
-    // The writer of a component.
     pub(crate) fn writer(&self, component: u8) -> Option<Writer>
         ensures { result ≡ writer_in self.now component }
     {
@@ -131,7 +129,7 @@ impl Tables {
         }
     }
 
-    // Makes room for a call. The tables say the same.
+    // Makes room for a call. What the tables say is unchanged.
     pub(crate) fn make_room(&mut self, process: u16, begun: Option<Begun>) -> Result<(), AllocError>
         ensures calls { (p : ℕ) → call_in self.new p ≡ call_in self.old p }
         ensures writers { (k : ℕ) → writer_in self.new k ≡ writer_in self.old k }
@@ -144,7 +142,7 @@ impl Tables {
         Ok(())
     }
 
-    // Notes an event of a process: what it begins, or that it ends the open call.
+    // Notes an event of a process: either what it begins, or that it ends the open call.
     pub(crate) fn note(&mut self, process: u16, begun: Option<Begun>)
         requires { HasRoom self.old process begun }
         ensures calls { (p : ℕ) → call_in self.new p ≡ (if process == p then begun else call_in self.old p) }

@@ -1,4 +1,4 @@
-//! Views, and why entries are none.
+//! Views, and why entries are refused as a view.
 ghost use Rattle.std.specs.Prelude.{◌≡◌, ◌<◌, All, IfOk, IfErr, OnOk};
 ghost use Rattle.snap_core.specs.Entries.{EntryFits, view_refusal, entry_of, number_in, value_in, AreEntries};
 ghost use Rattle.snap_core.specs.Shown.{shown_in};
@@ -8,10 +8,10 @@ use std::alloc::AllocError;
 use std::marker::Model;
 use std::sync::Arc;
 
-/// Why entries are no view, in the order in which the reasons are tested.
+/// Why entries are not a view, in the order in which the reasons are tested.
 #[derive(Clone, Copy, PartialEq, Eq, Debug)]
 pub enum ViewRefusal {
-    /// Some component is not above the one before it.
+    /// Some component is not greater than the one before it.
     NotRising,
     /// The components rise, and some number is 0.
     ZeroNumber,
@@ -25,7 +25,6 @@ enum Shown {
 }
 
 impl Shown {
-    // The entries.
     fn entries(&self) -> &[Entry]
         ensures { result.now ≡ shown_in self.now }
     {
@@ -63,7 +62,7 @@ fn entries_fit(entries: &[Entry])
     }
 }
 
-// Why entries are no view: the first refusal that applies. Most entries are a view, so that each is looked at without a branch.
+// The first refusal that applies to entries. Most entries are a view, so the loop looks at each without a branch.
 fn refusal_of(entries: &[Entry]) -> Option<ViewRefusal>
     ensures { result ≡ view_refusal entries.now }
 {
@@ -85,7 +84,7 @@ fn refusal_of(entries: &[Entry]) -> Option<ViewRefusal>
     }
 }
 
-// The entry of a component. Mostly entries list each component up to their last.
+// The entry of a component. Most lists have an entry of each component up to their last, so its place is tried first.
 fn find_entry(entries: &[Entry], k: u8) -> Option<Entry>
     requires { AreEntries entries.now }
     ensures { result ≡ entry_of k entries.now }
@@ -102,7 +101,7 @@ fn find_entry(entries: &[Entry], k: u8) -> Option<Entry>
 }
 
 impl View {
-    /// The view that shows these entries, or the first refusal that applies; the entries are then dropped.
+    /// The view that shows these entries, or the first refusal that applies. Refused entries are dropped.
     pub fn from_entries(entries: Vec<Entry>) -> Result<View, ViewRefusal>
         ensures ok { IfOk result (λ view. view ≡ entries.items) }
         ensures accepted { OnOk result (view_refusal entries.items ≡ None) }
@@ -117,7 +116,7 @@ impl View {
         })
     }
 
-    /// A view that shows the same. Others can share its entries.
+    /// A view that shows the same, and whose entries other views can share. It fails only for lack of memory.
     pub fn shared(self) -> Result<View, AllocError>
         ensures { IfOk result (λ view. view ≡ self) }
     {
@@ -128,7 +127,7 @@ impl View {
         Ok(View { shown })
     }
 
-    /// Another view that shows the same. Of a view whose entries others can share, they are not copied.
+    /// Another view that shows the same. It copies the entries, unless the view can share them. It fails only for lack of memory.
     pub fn again(&self) -> Result<View, AllocError>
         ensures { IfOk result (λ view. view ≡ self.now) }
     {
@@ -139,7 +138,7 @@ impl View {
         Ok(View { shown })
     }
 
-    /// The number shown for a component, 0 where it is not listed.
+    /// The number shown for a component, 0 if the view does not list it.
     pub fn number(&self, k: u8) -> u32
         ensures { result ≡ number_in (entry_of k self.now) }
     {
@@ -149,7 +148,7 @@ impl View {
         }
     }
 
-    /// The value shown for a component, 0 where it is not listed.
+    /// The value shown for a component, 0 if the view does not list it.
     pub fn value(&self, k: u8) -> u32
         ensures { result ≡ value_in (entry_of k self.now) }
     {
@@ -159,7 +158,7 @@ impl View {
         }
     }
 
-    /// The entries, rising by component.
+    /// The entries, strictly rising by component.
     pub fn entries(&self) -> &[Entry]
         ensures entries { result.now ≡ self.now }
         ensures view { AreEntries self.now }

@@ -8,7 +8,7 @@ use Rattle.snap_format.specs.declared.refusal.ReadRefusal.TheVariants as refusal
 use Rattle.snap_format.specs.Texts.{IsText, HasFault}
 use Rattle.snap_format.specs.Records.{HaveRecords}
 
--- what an answer says of a text, whose history may have so many events
+-- what a refusal says of a text whose history may have `limit` events
 abbrev pub RefusesText : ℕ → List ℕ → ReadRefusal → Type 0
 RefusesText limit text (refusals.Text place f) = HasFault limit text place f
 RefusesText limit text refusals.Device = Unit {0}
@@ -18,12 +18,12 @@ abbrev pub AnswersText : ℕ → List ℕ → Result LimitedEvents ReadRefusal �
 AnswersText limit text (Ok h) = IsText limit text h.events
 AnswersText limit text (Err e) = RefusesText limit text e
 
--- the same, with the number of each event's record
+-- what an answer says of a text, with the number of each event's record
 abbrev pub AnswersRecords : ℕ → List ℕ → Result (LimitedEvents × Vec ℕ) ReadRefusal → Type 0
 AnswersRecords limit text (Ok x) = HaveRecords limit text x.0.events x.1.items
 AnswersRecords limit text (Err e) = RefusesText limit text e
 
--- what a room holds then: the text, but where it was too long, or a device or memory failed
+-- what a room has after a refusal: the text, unless it was too long, or a device or memory failed
 abbrev pub RefusalLeaves : List ℕ → List ℕ → ReadRefusal → Type 0
 RefusalLeaves text room (refusals.Text place f) = 0 < place → room ≡ text
 RefusalLeaves text room refusals.Device = ⊤
@@ -33,7 +33,7 @@ abbrev pub Leaves : {A : Type 0} → List ℕ → List ℕ → Result A ReadRefu
 Leaves text room (Ok x) = room ≡ text
 Leaves text room (Err e) = RefusalLeaves text room e
 
--- the same of a text in memory, where no device fails
+-- what a refusal says of a text in memory, for which no device fails
 abbrev pub RefusesWhole : ℕ → List ℕ → ReadRefusal → Type 0
 RefusesWhole limit text (refusals.Text place f) = HasFault limit text place f
 RefusesWhole limit text refusals.Device = ⊥
@@ -43,7 +43,7 @@ abbrev pub AnswersWhole : ℕ → List ℕ → Result LimitedEvents ReadRefusal 
 AnswersWhole limit text (Ok h) = IsText limit text h.events
 AnswersWhole limit text (Err e) = RefusesWhole limit text e
 
--- the count before and after: it rose exactly where the device failed, or stands at its last value
+-- the count before and after a refusal: it rose, or is at its last value, if the device failed; else it is unchanged
 abbrev pub RefusalCounts : ℕ → ℕ → ReadRefusal → Type 0
 RefusalCounts old new (refusals.Text place f) = new ≡ old
 RefusalCounts old new refusals.Device = Rose old new

@@ -8,7 +8,7 @@ use Rattle.snap_format.specs.Layout.{is_header_row}
 use Rattle.snap_text.specs.declared.fault.TextFault.TheVariants as faults
 use Rattle.snap_text.specs.Fields.{Fields, row_event}
 
--- records begin with one, and whether no other is behind it
+-- the first of some records, and whether it is the only one
 abbrev pub HasFirst : List Fields → Fields → Bool → Type 0
 HasFirst rows first only = (later : List Fields) × (rows ≡ first ∷ later) × (IsTrue only ↔ (later ≡ []))
 
@@ -18,7 +18,7 @@ AnswersHeader rows (Ok None) = rows ≡ []
 AnswersHeader rows (Ok (Some is)) = (first : Fields) × (later : List Fields) × (rows ≡ first ∷ later) × (IsTrue is ↔ ((is_header_row first ≡ true) × (later ≡ [])))
 AnswersHeader rows (Err e) = ⊤
 
--- no record, or the event that the only one spells, or the fault: more records than one count as a wrong number of fields
+-- no record, the event that the only record spells, or the fault; more than one record count as a wrong number of fields
 abbrev pub AnswersLine : ℕ → List Fields → Result (Option Event) ReadRefusal → Type 0
 AnswersLine place rows (Ok None) = rows ≡ []
 AnswersLine place rows (Ok (Some x)) = (row : Fields) × (rows ≡ row ∷ []) × (row_event row ≡ Ok x)

@@ -1,4 +1,4 @@
--- What goes out where a history is written, and what a writer over memory holds before that.
+-- What goes out when a history is written, and what a writer over memory holds before that.
 use Rattle.std.specs.Prelude.{◌≡◌, ◌++◌, ℕ, false, List, Option, Result, Ok, Err}
 use Rattle.std.specs.Global.{Vec}
 use Rattle.std.specs.Io.KnownBytes.{Appends, Keeps}
@@ -9,7 +9,7 @@ use Rattle.snap_core.specs.Sending.{SendsFront}
 use Rattle.snap_csv.specs.declared.refusal.WriteRefusal.{WriteRefusal}
 use Rattle.snap_csv.specs.declared.refusal.WriteRefusal.TheVariants as refusals
 
--- a writer stands between two records, and has this text
+-- a writer is between two records, and has this text
 pub record Holds (w : Writer (Vec ℕ)) (text : List ℕ) : Type 0 where
   pub fields : fields_written w ≡ 0
   pub clean : has_written w ≡ false
@@ -25,7 +25,7 @@ abbrev pub Writes : {A : Type 0} → Option (List ℕ) → Option (List ℕ) →
 Writes old new text (Ok u) = Appends old new text
 Writes old new text (Err e) = Refuses old new text e
 
--- the count before and after: it rose exactly where the device failed, or stands at its last value
+-- the count before and after: it rose, or is at its last value, if the device failed; else it is unchanged
 abbrev pub RefusalRose : ℕ → ℕ → WriteRefusal → Type 0
 RefusalRose old new refusals.Device = Rose old new
 RefusalRose old new refusals.Memory = new ≡ old

@@ -1,3 +1,3 @@
--- What only the proofs of this crate need: no clause that a caller reads cites it.
+-- Definitions for the proofs of this crate alone: no clause that a caller reads cites them.
 pub mod Intake
 pub mod Rows

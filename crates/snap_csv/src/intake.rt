@@ -16,10 +16,13 @@ use snap_text::TextFault;
 use std::alloc::{AllocError, Global};
 use std::io::{self, Read};
 
-// For how many bytes a text makes room at a time.
+// The number of bytes for which a text makes room at first. All of it is cleared, so it is little: most texts are short.
+const FIRST_PIECE: usize = 4_096;
+
+// The number of bytes for which a text makes room at a time after that.
 const PIECE: usize = 65_536;
 
-// Makes room for a piece, where a text has no room left behind the bytes that are filled.
+// Makes room for a piece, if a text has no room left after the bytes that are filled.
 fn make_room(text: &mut Vec<u8>, filled: usize) -> Result<(), AllocError>
     requires within { filled ≤ bytes_within event_cap }
     requires has { filled ≤ length text.old.items }
@@ -27,12 +30,13 @@ fn make_room(text: &mut Vec<u8>, filled: usize) -> Result<(), AllocError>
     ensures room { OnOk result (filled < length text.new.items) }
 {
     if filled == text.len() {
-        text.resize(filled + PIECE, 0)?;
+        let piece = if filled == 0 { FIRST_PIECE } else { PIECE };
+        text.resize(filled + piece, 0)?;
     }
     Ok(())
 }
 
-// Reads once into the room behind the bytes that are filled.
+// Reads once into the room after the bytes that are filled.
 fn read_behind<R: Read>(
     reader: &mut Counted<R>,
     text: &mut Vec<u8>,
@@ -48,8 +52,8 @@ fn read_behind<R: Read>(
     reader.read(&mut text[filled..])
 }
 
-// Fills a text with all that a reader has left, where that is within the limit, and tells whether it is plain. Each piece is
-// searched for quotes and carriage returns when it was just read, so that the text is not gone through again for these.
+// Fills a text with everything that a reader has left, if that is within the limit, and says whether it is plain. Each piece is
+// searched for quotes and carriage returns just after it was read, so that no second pass goes over the text.
 fn fill<R: Read>(
     reader: &mut Counted<R>,
     text: &mut Vec<u8>,
@@ -84,8 +88,8 @@ fn fill<R: Read>(
     Ok(plain)
 }
 
-/// Takes all that a reader has left into a room, where that is within the limit, and tells whether it is plain. What the room
-/// had is then lost.
+/// Takes everything that a reader has left into a room, if that is within the limit, and says whether it is plain. What the
+/// room had is lost then.
 pub(crate) fn take_in<R: Read>(
     alloc: Global,
     reader: &mut Counted<R>,

@@ -1,4 +1,4 @@
-//! The record of one line, where a text is read line by line.
+//! The record of one line, for a text that is read line by line.
 ghost use Rattle.std.specs.Prelude.{◌≡◌, [], IfOk, List, MatchOption};
 ghost use Rattle.csv.specs.Records.{fields_of};
 ghost use Rattle.snap_csv.specs.OneLine.{AnswersHeader, AnswersLine, HasFirst};
@@ -16,14 +16,14 @@ use snap_rows::event_of_record;
 use snap_text::{Known, TextFault};
 use std::alloc::{AllocError, Global};
 
-// Reads the first record of a line, and tells whether it is the only one: none where the line has no record.
+// Reads the first record of a line, and says whether it is the only one; none if the line has no record.
 fn only_row(alloc: Global, line: &[u8], row: &mut ByteRecord) -> Result<Option<bool>, AllocError>
     ensures { IfOk result (λ found. MatchOption found (rows_of line.now ≡ []) (HasFirst (rows_of line.now) (fields_of row.new))) }
 {
     only_row_left(alloc, &mut reader_of(alloc, line), row)
 }
 
-// The same of the records that a reader has left.
+// Reads the first record that a reader has left, and says whether it is the only one; none if there is no record.
 fn only_row_left(
     alloc: Global,
     reader: &mut Reader<&[u8]>,
@@ -38,7 +38,7 @@ fn only_row_left(
     Ok(Some(!more))
 }
 
-/// Whether a line is the header of a text without stamps: none where the line has no record.
+/// Whether a line is the header of a text without stamps, and nothing else; none if the line has no record.
 pub fn is_header_line(alloc: Global, line: &[u8]) -> Result<Option<bool>, AllocError>
     ensures { AnswersHeader (rows_of line.now) result }
 {
@@ -49,8 +49,8 @@ pub fn is_header_line(alloc: Global, line: &[u8]) -> Result<Option<bool>, AllocE
     }
 }
 
-/// The event that the record of a line spells, or the fault of the line, at the place that is given: none where the line has no
-/// record. What is known of earlier views makes it faster, and changes no answer.
+/// The event that the record of a line spells, or the fault of the line at the given place; none if the line has no record.
+/// `known` has what is known of earlier views. It makes the reading faster, and changes no answer.
 pub fn read_line(
     alloc: Global,
     known: &mut Known,

@@ -46,9 +46,8 @@ fn take_row(
     take_fields(alloc, known, history, place, fields)
 }
 
-/// The history of a text, or its first fault; and the numbers of its events' records where these have stamps. Records
-/// without stamps stand one after the other, and their numbers are not kept. A text that is known to be plain may be cut at
-/// its marks.
+/// The history of a text, or its first fault; and the numbers of its events' records if these have stamps. Records without
+/// stamps follow one another, and their numbers are not kept. A text that is known to be plain may be cut at its marks.
 pub(crate) fn numbered_history(
     alloc: Global,
     text: &[u8],
@@ -65,7 +64,7 @@ pub(crate) fn numbered_history(
     }
 }
 
-// The same, where the workers of a cutting share the reading of a plain text.
+// The answer of `numbered_history`. The workers of a cutting share the reading of a plain text.
 fn numbered_shared<Rt: Threads + Sync>(
     rt: &Rt,
     alloc: Global,
@@ -83,7 +82,7 @@ fn numbered_shared<Rt: Threads + Sync>(
     history_of_lines_shared(rt, alloc, lines_of(text), limit, cutting)
 }
 
-// The same of any text, by `csv`.
+// The answer of `numbered_history` for any text, by `csv`.
 fn rows_history(
     alloc: Global,
     text: &[u8],
@@ -100,7 +99,7 @@ fn rows_history(
     )
 }
 
-// The same of the records that a reader has left.
+// The answer of `numbered_history` for the records that a reader has left.
 fn history_by_rows(
     alloc: Global,
     known: &mut Known,
@@ -171,7 +170,7 @@ fn history_of(alloc: Global, text: &[u8], plain: bool, limit: Limit) -> Result<H
     Ok(history)
 }
 
-// The same, where the workers of a cutting share the reading of a plain text.
+// The history of a text, or its first fault. The workers of a cutting share the reading of a plain text.
 fn history_shared<Rt: Threads + Sync>(
     rt: &Rt,
     alloc: Global,
@@ -187,12 +186,13 @@ fn history_shared<Rt: Threads + Sync>(
     Ok(history)
 }
 
-/// Reads a history: the whole text first, at most 67,108,864 bytes, and then its records in order. The answer is the
-/// history of the text exactly where the text has no fault, else the first fault with the place of its record, counted
-/// from 1, or place 0 for a text that is too long. The history has the usual limit of events. `Device` is the answer at the
-/// first read that fails, of whatever kind: it is not tried again, and the reader's count of failures rose, or stands at
-/// `u64::MAX`. `Memory` is answered where memory ran out. With every answer but `Device` the count is as before. After an error
-/// a part of the text is taken from the reader.
+/// Reads a history: first the whole text, at most 67,108,864 bytes, and then its records in order. If the text has no fault, the
+/// answer is its history, with the usual limit of events. Else it is the first fault with the place of its record. Places count
+/// from 1, and a text that is too long has its fault at place 0.
+///
+/// `Device` is the answer at the first read that fails, of whatever kind: it is not tried again. The reader's count of failures
+/// then rose, or is at `u64::MAX`. `Memory` is the answer if memory ran out. With every answer but `Device` the count is
+/// unchanged. After an error a part of the text is taken from the reader.
 pub fn read_history<R: Read>(alloc: Global, reader: &mut Counted<R>) -> Result<History, ReadRefusal>
     ensures text { IfSome (R.remaining (inner_of reader.old)) (λ text. AnswersText event_limit text result) }
     ensures limit { IfOk result (λ history. history.limit ≡ event_limit) }
@@ -204,9 +204,9 @@ pub fn read_history<R: Read>(alloc: Global, reader: &mut Counted<R>) -> Result<H
     history_of(alloc, &room, plain, limit)
 }
 
-/// Reads as `read_history`, where the history may have as many events as the limit says, and the text 1,024 times as many bytes.
-/// The history has this limit. Workers of a cutting read pieces of a long text side by side; one with stamps, quotes or carriage
-/// returns is read by the calling thread alone. The text is left in a vector, also where it was refused at a record, so that the
+/// Reads as `read_history`, for a history of at most as many events as the limit, and a text of at most 1,024 bytes for each.
+/// The history has this limit. Workers of a cutting read pieces of a long text side by side. The calling thread alone reads a
+/// text with stamps, quotes or carriage returns. The text is left in a vector, even if it was refused at a record, so that the
 /// vector's memory can serve for something else. What the vector had is lost.
 pub fn read_history_with<Rt: Threads + Sync, R: Read>(
     rt: &Rt,
@@ -226,7 +226,7 @@ pub fn read_history_with<Rt: Threads + Sync, R: Read>(
 }
 
 /// Reads the history of a text in memory: the text is not copied, and no device can fail. The history may have as many events as
-/// the limit says, and the text 1,024 times as many bytes.
+/// the limit, and the text 1,024 bytes for each.
 pub fn read_text(alloc: Global, text: &[u8], limit: Limit) -> Result<History, ReadRefusal>
     ensures text { AnswersWhole limit.events text.now result }
     ensures limit { IfOk result (λ history. history.limit ≡ limit.events) }

@@ -21,7 +21,7 @@ use snap_format::ReadRefusal;
 use std::alloc::{AllocError, Global};
 use std::io::Read;
 
-// The numbers of so many records one after the other under the header.
+// The numbers of `count` records, one after the other under the header.
 fn in_turn(alloc: Global, count: usize) -> Result<Vec<u32>, AllocError>
     requires { count ≤ event_cap }
     ensures { IfOk result (λ numbers. numbers.items ≡ range_with_len 2 count) }
@@ -29,7 +29,7 @@ fn in_turn(alloc: Global, count: usize) -> Result<Vec<u32>, AllocError>
     (2..count as u32 + 2).collect(alloc)
 }
 
-// The numbers of the records of so many events: those that were kept, or one after the other.
+// The numbers of the records of `count` events: those that were kept, or one after the other under the header.
 fn numbers_in(alloc: Global, count: usize, kept: Option<Vec<u32>>) -> Result<Vec<u32>, AllocError>
     requires { count ≤ event_cap }
     ensures { IfOk result (λ numbers. numbers.items ≡ numbers_kept count kept) }
@@ -56,9 +56,9 @@ fn listed_history(
     Ok((history, records))
 }
 
-/// Reads a history as `read_history_with`, on the calling thread alone, and gives with it the number of each event's record, counted
-/// from 1: the header is record 1. The vector then has the text, also where the text was refused at a record, which `record_of` can
-/// look up. The history may have as many events as the limit says, and the text 1,024 times as many bytes.
+/// Reads a history as `read_history_with`, on the calling thread alone, and gives with it the number of each event's record. The
+/// numbers count from 1: the header is record 1. The vector then has the text, even if it was refused at a record, and
+/// `record_of` can look it up. The history may have as many events as the limit, and the text 1,024 bytes for each.
 pub fn read_records<R: Read>(
     alloc: Global,
     reader: &mut Counted<R>,
@@ -75,7 +75,7 @@ pub fn read_records<R: Read>(
     listed_history(alloc, room, plain, limit)
 }
 
-// The fields of a record.
+// A copy of the fields of a record.
 fn fields_in(alloc: Global, row: &ByteRecord) -> Result<Vec<Vec<u8>>, AllocError>
     ensures { IfOk result (λ fields. map (λ f. f.items) fields.items ≡ fields_of row.now) }
 {
@@ -86,7 +86,7 @@ fn fields_in(alloc: Global, row: &ByteRecord) -> Result<Vec<Vec<u8>>, AllocError
     Ok(fields)
 }
 
-/// The fields of a record of a text, counted from 1, without the quotes around them: none where the text has no such record.
+/// The fields of a record of a text, counted from 1, without the quotes around them; none if the text has no such record.
 pub fn record_of(alloc: Global, text: &[u8], place: u32) -> Result<Option<Vec<Vec<u8>>>, AllocError>
     ensures { IfOk result (λ found. option_map (λ fields. map (λ f. f.items) fields.items) found ≡ record_at (rows_of text.now) place) }
 {
@@ -101,7 +101,7 @@ pub fn record_of(alloc: Global, text: &[u8], place: u32) -> Result<Option<Vec<Ve
     )
 }
 
-// The fields of the record behind so many of those that a reader has left.
+// The fields of the record after the first `before` of those that a reader has left.
 fn record_behind(
     alloc: Global,
     reader: &mut Reader<&[u8]>,

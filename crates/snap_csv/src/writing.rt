@@ -101,10 +101,10 @@ fn text_of(alloc: Global, history: &History) -> Result<Vec<u8>, AllocError>
     Ok(text)
 }
 
-/// Writes a history: the header, and then the record of each event, each ended by one newline. The whole text is built
-/// before its first byte goes out, and the writer is flushed once at the end. After `Memory` nothing was written; after
-/// `Device` a front of the text went out, perhaps all of it, and the writer's count of failures rose, or stands at
-/// `u64::MAX`. Otherwise the count is as before.
+/// Writes a history: the header, and then the record of each event, each ended by one newline. The whole text is built before
+/// its first byte goes out, and the writer is flushed once at the end. After `Memory` nothing was written. After `Device` a front
+/// of the text went out, perhaps all of it, and the writer's count of failures rose, or is at `u64::MAX`. Otherwise the count is
+/// unchanged.
 pub fn write_history<W: Write>(
     alloc: Global,
     writer: &mut Counted<W>,
@@ -174,8 +174,8 @@ fn stamped_text_of(alloc: Global, history: &History, at: &[u64]) -> Result<Vec<u
     Ok(text)
 }
 
-/// Writes a history with a stamp for each event, as `write_history` does without: the header has the field `at` before
-/// the others, and each record the stamp of its event. Records stand in the order of the events.
+/// Writes a history with a stamp for each event, as `write_history` does without stamps. The header has the field `at` before
+/// the others, and each record the stamp of its event. Records are in the order of the events.
 pub fn write_history_stamped<W: Write>(
     alloc: Global,
     writer: &mut Counted<W>,

@@ -2,3 +2,5 @@ pub mod Calls
 pub mod Marks
 pub mod Window
 pub mod Timelines
+pub mod Ends
+pub mod inside

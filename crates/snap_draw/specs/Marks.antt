@@ -14,12 +14,12 @@ use Rattle.snap_draw.specs.declared.marks.Kind.{Kind}
 use Rattle.snap_draw.specs.declared.marks.Kind.TheVariants.{Integrity, Proximity, Read, Write}
 use Rattle.snap_draw.specs.declared.marks.Mark.{Mark}
 
--- a call, where there is one
+-- a call, if there is one
 abbrev pub mark_at : Kind → Option ℕ → List Mark
 mark_at kind None = []
 mark_at kind (Some c) = record { kind = kind; call = c } ∷ []
 
--- update n of component k, where there is one
+-- update n of component k, if there is one
 abbrev pub update_mark : Kind → List Call → ℕ → ℕ → List Mark
 update_mark kind calls k n = mark_at kind (option_map number_of (update_of calls k n))
 
@@ -41,7 +41,7 @@ write_marks calls f =
     mark_at Write (Some f.view) ++ update_mark Write calls f.missed_component f.missed_number
     ++ update_mark Write calls f.shown_component f.shown_number
 
--- of the first fault of each kind that a tally has
+-- the calls of the first fault of each kind that a tally has
 unfoldable pub marks_of : List Call → Tally → List Mark
 marks_of calls t =
     option_map_or (integrity_marks calls) t.integrity.first []

@@ -26,7 +26,7 @@ lanes_of calls = lanes_below 65536 calls
 abbrev pub places_of : List Drawn → List ℕ
 places_of calls = map (λ (d : Drawn). d.call.begun) calls ++ filter_map (λ (d : Drawn). d.call.ended) calls
 
--- the column of the event at a place: how many events that are drawn stand before it
+-- the column of the event at a place: the number of drawn events before it
 abbrev pub column_of : List ℕ → ℕ → ℕ
 column_of places place = count_by (λ other. nat_lt other place) places
 
@@ -35,7 +35,7 @@ abbrev pub end_column : List ℕ → Option ℕ → Option ℕ
 end_column places None = None
 end_column places (Some place) = Some (column_of places place)
 
--- the lane of a process: how many lanes stand before it
+-- the lane of a process: the number of lanes before it
 abbrev pub lane_of : List ℕ → ℕ → ℕ
 lane_of lanes process = count_by (λ lane. nat_lt lane process) lanes
 
@@ -53,15 +53,15 @@ bar_of lanes places order d =
       place = place_of order d.number;
     }
 
--- of each call that is drawn the bar
+-- the bar of each call that is drawn
 abbrev pub bars_of : List ℕ → List Drawn → List Bar
 bars_of order calls = map (bar_of (lanes_of calls) (places_of calls) order) calls
 
--- the calls of a history that are drawn where a window has a limit
+-- the calls of a history that are drawn, in a window that has a limit
 abbrev pub calls_drawn : ℕ → List Call → Tally → List Drawn
 calls_drawn limit calls t = window_of limit (marks_of calls t) (map drawn_call calls)
 
--- the shapes of the calls that are drawn, with an order and with marks: a lane for each process, a bar for each call and no
+-- the shapes of the calls that are drawn, with an order and with marks. They have a lane for each process, a bar for each call and no
 -- other, and a column for each event
 pub record AreShapes (order : List ℕ) (marks : List Mark) (calls : List Drawn) (shapes : Shapes) : Type 0 where
   pub lanes : shapes.lanes.items ≡ lanes_of calls

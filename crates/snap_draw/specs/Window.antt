@@ -24,15 +24,15 @@ marked_calls marks calls = filter (λ (d : Drawn). is_marked marks d.number) cal
 abbrev pub overlaps_one : List Drawn → Drawn → Bool
 overlaps_one calls d = list_any (λ m. overlap m d) calls
 
--- a call overlaps one of some calls, or there are none
+-- a call overlaps one of the marked calls, or none is marked
 abbrev pub is_near : List Drawn → Drawn → Bool
 is_near marked d = (length marked == 0) || overlaps_one marked d
 
--- the same of a call that is not marked
+-- a call is near the marked ones, and is not marked
 abbrev pub is_beside : List Mark → List Drawn → Drawn → Bool
 is_beside marks marked d = not (is_marked marks d.number) && is_near marked d
 
--- the first other calls that overlap a marked one, or the first of all where none is marked: with the marked ones up to a limit
+-- the first other calls that overlap a marked one, or the first of all if none is marked. With the marked ones they go up to a limit
 abbrev pub near_calls : ℕ → List Mark → List Drawn → List Drawn
 near_calls limit marks calls = take (limit - length (marked_calls marks calls)) (filter (is_beside marks (marked_calls marks calls)) calls)
 
@@ -40,7 +40,7 @@ near_calls limit marks calls = take (limit - length (marked_calls marks calls)) 
 abbrev pub marked_or_among : List Mark → List Drawn → List Drawn → List Drawn
 marked_or_among marks near calls = filter (λ (d : Drawn). is_marked marks d.number || is_among near d.number) calls
 
--- all calls of a history that has no more than a limit, else those that are marked and the first that overlap one of these
+-- all calls of a history that has no more than a limit. Otherwise those that are marked, and the first that overlap one of these
 unfoldable pub window_of : ℕ → List Mark → List Drawn → List Drawn
 window_of limit marks calls =
     if nat_le (length calls) limit then calls

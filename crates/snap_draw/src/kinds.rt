@@ -2,8 +2,7 @@
 use crate::marks::{Kind, Mark};
 use std::alloc::AllocError;
 
-/// The word of a kind of fault.
-pub fn word_of(kind: Kind) -> &'static [u8] {
+pub(crate) fn word_of(kind: Kind) -> &'static [u8] {
     match kind {
         Kind::Integrity => b"integrity",
         Kind::Proximity => b"proximity",
@@ -12,18 +11,17 @@ pub fn word_of(kind: Kind) -> &'static [u8] {
     }
 }
 
-/// All kinds.
-pub const KINDS: [Kind; 4] = [Kind::Integrity, Kind::Proximity, Kind::Read, Kind::Write];
+pub(crate) const KINDS: [Kind; 4] = [Kind::Integrity, Kind::Proximity, Kind::Read, Kind::Write];
 
 /// Whether a call is one of the first fault of a kind.
-pub fn has_kind(marks: &[Mark], number: u32, kind: Kind) -> bool {
+pub(crate) fn has_kind(marks: &[Mark], number: u32, kind: Kind) -> bool {
     marks
         .iter()
         .any(|mark| mark.kind == kind && mark.call == number)
 }
 
-/// Adds the kinds whose first fault has a call, each behind a text.
-pub fn put_kinds(
+/// Adds the kinds whose first fault has a call, each after a text.
+pub(crate) fn put_kinds(
     out: &mut Vec<u8>,
     marks: &[Mark],
     number: u32,

@@ -1,18 +1,21 @@
-//! What is drawn of a history as a timeline, and what is said of it.
+//! A history as a timeline, and the picture of that: SVG, a page around it, or lines of characters.
 #![tactic(auto)]
 
 mod drawn;
 mod kinds;
+mod layout;
+mod lines;
 mod marks;
 mod picture;
 mod shapes;
+mod svg;
 mod window;
 mod words;
 
 pub use drawn::Drawn;
-pub use kinds::{KINDS, has_kind, put_kinds, word_of};
+pub use lines::{explained_lines, text_lines};
 pub use marks::{Kind, Mark};
-pub use picture::{Picture, front_of, is_sentence, verdict_of};
+pub use picture::Picture;
 pub use shapes::{Bar, Shapes, shapes_of};
+pub use svg::{page_of, svg_of};
 pub use window::{LINE_CALLS, PAGE_CALLS};
-pub use words::{label_of, place_at, put_cut, put_title, record_at};

@@ -5,6 +5,7 @@ ghost use Rattle.snap_core.specs.Calls.{calls_of, views_of};
 ghost use Rattle.snap_core.specs.Events.{event_cap};
 ghost use Rattle.snap_conditions.specs.Tally.{tally_of};
 ghost use Rattle.snap_draw.specs.Marks.{integrity_marks, mark_at, marks_of, proximity_marks, read_marks, write_marks};
+ghost use Rattle.snap_draw.specs.Window.{is_marked as spec_is_marked};
 
 use snap_conditions::{IntegrityFault, ProximityFault, ReadFault, Tally, WriteFault};
 use snap_index::Index;
@@ -27,7 +28,14 @@ pub struct Mark {
     pub call: u32,
 }
 
-// Marks a call, where there is one.
+/// Whether a call is one of a first fault.
+pub(crate) fn is_marked(marks: &[Mark], number: u32) -> bool
+    ensures { result ≡ spec_is_marked marks.now number }
+{
+    marks.iter().any(|mark| mark.call == number)
+}
+
+// Marks a call, if there is one.
 fn push_mark(marks: &mut Vec<Mark>, kind: Kind, call: Option<u32>) -> Result<(), AllocError>
     ensures { OnOk result (marks.new.items ≡ marks.old.items ++ mark_at kind call) }
 {

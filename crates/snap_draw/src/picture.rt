@@ -1,9 +1,9 @@
-//! What a picture is of.
+//! What a picture shows.
 use crate::shapes::Shapes;
 use snap_index::Index;
 
-/// What a picture is of: the shapes of a history, its index, the records of its events, the numbers of the printed order,
-/// none where it is not atomic, and its explanation.
+/// What a picture shows: the shapes of a history, its index, the records of its events, the numbers of its printed order, and the
+/// explanation. There are no numbers if the history is not atomic.
 #[derive(Clone, Copy)]
 pub struct Picture<'a, 'h> {
     pub shapes: &'a Shapes,
@@ -13,17 +13,17 @@ pub struct Picture<'a, 'h> {
     pub said: &'a [u8],
 }
 
-/// Whether a line of an explanation is the verdict or a sentence on a fault, and no line of a call.
-pub fn is_sentence(line: &[u8]) -> bool {
+/// Whether a line of an explanation is the verdict or a sentence on a fault, and not the line of a call.
+pub(crate) fn is_sentence(line: &[u8]) -> bool {
     !line.is_empty() && !line.starts_with(b"  ")
 }
 
 /// A line up to its first colon.
-pub fn front_of(line: &[u8]) -> &[u8] {
+pub(crate) fn front_of(line: &[u8]) -> &[u8] {
     line.split(|byte| *byte == b':').next().unwrap_or(line)
 }
 
 /// The line of the verdict.
-pub fn verdict_of(said: &[u8]) -> &[u8] {
+pub(crate) fn verdict_of(said: &[u8]) -> &[u8] {
     said.split(|byte| *byte == b'\n').next().unwrap_or(said)
 }

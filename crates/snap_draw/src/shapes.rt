@@ -26,8 +26,8 @@ pub struct Bar {
     pub place: Option<usize>,
 }
 
-/// What is drawn of a history: the processes, a lane each, the bars of the calls, how many columns they need, and the calls of
-/// the first fault of each kind.
+/// What is drawn of a history: the processes, a lane each, the bars of the calls, and the number of columns that they need. The calls
+/// of the first fault of each kind are marked.
 #[derive(Drop)]
 pub struct Shapes {
     pub lanes: Vec<u32>,
@@ -144,8 +144,8 @@ fn shapes_with(
     })
 }
 
-/// The shapes of a history, by its index, the tally of all its completed views, and the numbers of the printed order, none
-/// where it is not atomic. Of a history of more calls than a limit a window of as many is drawn.
+/// The shapes of a history, by its index, the tally of all its completed views, and the numbers of the printed order. There are no
+/// numbers if the history is not atomic. Of a history with more calls than the limit, a window of that many is drawn.
 pub fn shapes_of(
     alloc: Global,
     index: &Index<'_>,

@@ -1,22 +1,16 @@
 //! Which calls of a history are drawn.
 ghost use Rattle.std.specs.Prelude.{◌≡◌, IfOk};
-ghost use Rattle.snap_draw.specs.Window.{ends_before as spec_ends_before, is_among as spec_is_among, is_beside as spec_is_beside, is_marked as spec_is_marked, is_near as spec_is_near, marked_calls as spec_marked_calls, marked_or_among as spec_marked_or_among, near_calls as spec_near_calls, overlap as spec_overlap, overlaps_one as spec_overlaps_one, window_of};
+ghost use Rattle.snap_draw.specs.Window.{ends_before as spec_ends_before, is_among as spec_is_among, is_beside as spec_is_beside, is_near as spec_is_near, marked_calls as spec_marked_calls, marked_or_among as spec_marked_or_among, near_calls as spec_near_calls, overlap as spec_overlap, overlaps_one as spec_overlaps_one, window_of};
 
 use crate::drawn::Drawn;
-use crate::marks::Mark;
+use crate::marks::{Mark, is_marked};
 use std::alloc::{AllocError, Global};
 
-/// So many calls are drawn at most on a page or as SVG.
+/// The greatest number of calls that are drawn on a page or as SVG.
 pub const PAGE_CALLS: usize = 60;
 
-/// So many calls are drawn at most by lines of characters.
+/// The greatest number of calls that are drawn by lines of characters.
 pub const LINE_CALLS: usize = 12;
-
-pub(crate) fn is_marked(marks: &[Mark], number: u32) -> bool
-    ensures { result ≡ spec_is_marked marks.now number }
-{
-    marks.iter().any(|mark| mark.call == number)
-}
 
 fn is_among(calls: &[Drawn], number: u32) -> bool
     ensures { result ≡ spec_is_among calls.now number }
@@ -53,7 +47,7 @@ fn is_near(marked: &[Drawn], drawn: &Drawn) -> bool
     marked.is_empty() || overlaps_one(marked, drawn)
 }
 
-// Whether a call is near the marked ones, and is none of them.
+// Whether a call is near the marked ones, and is not one of them.
 fn is_beside(marks: &[Mark], marked: &[Drawn], drawn: &Drawn) -> bool
     ensures { result ≡ spec_is_beside marks.now marked.now drawn.now }
 {
@@ -103,8 +97,8 @@ fn marked_or_among(
         .collect(alloc)
 }
 
-/// The calls that are drawn, of all calls of a history: all where they are no more than a limit. Else those that are marked, and
-/// of the others the first that overlap one of these, up to that limit. Where none is marked, the first calls.
+/// The calls that are drawn, of all calls of a history: all if they are not more than the limit. Otherwise those that are marked, and
+/// of the others the first that overlap one of these, up to the limit. If none is marked, the first calls.
 #[tactic(auto, unfolding(crate::specs::Window::window_of))]
 pub(crate) fn window(
     alloc: Global,

@@ -5,12 +5,12 @@ use snap_report::{put_call, put_entry, put_number};
 use std::alloc::{AllocError, Global};
 
 /// The record of the event at a place.
-pub fn record_at(records: &[u32], place: u32) -> u64 {
+pub(crate) fn record_at(records: &[u32], place: u32) -> u64 {
     u64::from(records.get(place as usize).copied().unwrap_or(0))
 }
 
 /// The place of the event of a column.
-pub fn place_at(bars: &[Bar], column: usize) -> Option<u32> {
+pub(crate) fn place_at(bars: &[Bar], column: usize) -> Option<u32> {
     for bar in bars {
         if bar.begin == column {
             return Some(bar.drawn.call.begun);
@@ -36,7 +36,7 @@ fn put_operation(out: &mut Vec<u8>, index: &Index<'_>, bar: &Bar) -> Result<(), 
     Ok(())
 }
 
-// Adds the records of a call, and that it is pending where it is.
+// Adds the records of a call, and that it is pending if it is.
 fn put_records(out: &mut Vec<u8>, records: &[u32], call: &Call) -> Result<(), AllocError> {
     let begun = record_at(records, call.begun);
     match call.ended {
@@ -52,8 +52,8 @@ fn put_records(out: &mut Vec<u8>, records: &[u32], call: &Call) -> Result<(), Al
     }
 }
 
-/// Adds what an explanation says of a call, too.
-pub fn put_title(
+/// Adds a call in full, as an explanation does.
+pub(crate) fn put_title(
     out: &mut Vec<u8>,
     index: &Index<'_>,
     records: &[u32],
@@ -65,8 +65,8 @@ pub fn put_title(
     put_operation(out, index, bar)
 }
 
-/// Adds text, cut where it is longer than the room of so many characters.
-pub fn put_cut(out: &mut Vec<u8>, text: &[u8], room: usize) -> Result<(), AllocError> {
+/// Adds text, cut if it has more characters than the room.
+pub(crate) fn put_cut(out: &mut Vec<u8>, text: &[u8], room: usize) -> Result<(), AllocError> {
     if text.len() <= room {
         return out.extend_from_slice(text);
     }
@@ -76,7 +76,7 @@ pub fn put_cut(out: &mut Vec<u8>, text: &[u8], room: usize) -> Result<(), AllocE
 }
 
 /// The short name of a call: its number, and what it does.
-pub fn label_of(alloc: Global, index: &Index<'_>, bar: &Bar) -> Result<Vec<u8>, AllocError> {
+pub(crate) fn label_of(alloc: Global, index: &Index<'_>, bar: &Bar) -> Result<Vec<u8>, AllocError> {
     let mut label = Vec::new(alloc);
     put_call(&mut label, b"", bar.drawn.number)?;
     label.extend_from_slice(b" ")?;

@@ -1,2 +1,4 @@
 pub mod Pieces
 pub mod Explanations
+pub mod MistakeFacts
+pub mod RecordFacts

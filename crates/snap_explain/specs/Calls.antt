@@ -18,7 +18,7 @@ abbrev pub operation_text : Operation → List ℕ
 operation_text (Updates entry) = codes "update " ++ entry_word entry
 operation_text (Views answer) = codes "view" ++ flat_map (λ e. codes " " ++ entry_word e) (entries_of (Views answer))
 
--- call A of process P, records B and E: .., behind two spaces
+-- call A of process P, records B and E: .., after two spaces
 unfoldable pub call_text : List ℕ → Call → List ℕ
 call_text records c =
     codes "  call " ++ call_word c.number ++ codes " of process " ++ decimal c.process ++ codes ", " ++ records_words records c.begun c.ended

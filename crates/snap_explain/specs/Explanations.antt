@@ -16,8 +16,8 @@ order_text records order = codes "atomic: in this order each view shows the late
 abbrev pub verdict_text : Bool → List ℕ
 verdict_text regular = if regular then codes "regular, and not atomic\n" else codes "not regular\n"
 
--- the order of an atomic history, and otherwise the verdict and the first fault of each kind, by its calls, the records of its
--- events, and the tally of all its completed views
+-- the order of an atomic history, and otherwise the verdict and the first fault of each kind. It is made from the calls, the records
+-- of the events, and the tally of all completed views
 unfoldable pub explanation : List ℕ → List Call → Tally → List ℕ
 explanation records calls t = if has_no_fault t then order_text records (printed_order calls) else verdict_text (has_no_local_fault t) ++ faults_text records calls t
 

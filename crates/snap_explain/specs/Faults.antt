@@ -19,11 +19,11 @@ use Rattle.snap_explain.specs.Calls.{call_text}
 abbrev pub numbered_text : List ℕ → List Call → ℕ → List ℕ
 numbered_text records calls n = call_text records (call_numbered calls n)
 
--- the line of update n of component k, where there is one
+-- the line of update n of component k, if there is one
 abbrev pub update_text : List ℕ → List Call → ℕ → ℕ → List ℕ
 update_text records calls k n = option_map_or (call_text records) (update_of calls k n) []
 
--- a view shows an entry that no update wrote; the other call is the update of that number, where there is one
+-- a view shows an entry that no update wrote; the other call is the update of that number, if there is one
 abbrev pub integrity_text : List ℕ → List Call → IntegrityFault → List ℕ
 integrity_text records calls f =
     codes "integrity: view " ++ call_word f.view ++ codes " shows " ++ entry_word f.entry ++ codes ", which no update wrote\n"
@@ -63,7 +63,7 @@ write_text records calls f =
     write_sentence f ++ numbered_text records calls f.view ++ update_text records calls f.missed_component f.missed_number
     ++ update_text records calls f.shown_component f.shown_number
 
--- of each kind the first fault, where there is one
+-- the first fault of each kind, if there is one
 abbrev pub faults_text : List ℕ → List Call → Tally → List ℕ
 faults_text records calls t =
     option_map_or (integrity_text records calls) t.integrity.first []

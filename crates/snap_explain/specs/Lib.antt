@@ -1,4 +1,6 @@
 pub mod Calls
+pub mod Mistakes
 pub mod Faults
 pub mod Explanations
 pub mod Refusals
+pub mod inside

@@ -32,7 +32,7 @@ fn put_records(out: &mut Vec<u8>, records: &[u32], call: &Call) -> Result<(), Al
     }
 }
 
-// Adds entries, each behind a space.
+// Adds entries, each after a space.
 fn put_entries(out: &mut Vec<u8>, entries: &[Entry]) -> Result<(), AllocError>
     ensures { OnOk result (out.new.items ≡ out.old.items ++ flat_map (λ entry. codes " " ++ entry_word entry) entries.now) }
 {
@@ -42,7 +42,7 @@ fn put_entries(out: &mut Vec<u8>, entries: &[Entry]) -> Result<(), AllocError>
     Ok(())
 }
 
-// Adds what a call shows, nothing where it is no completed view.
+// Adds what a call shows: nothing if it is not a completed view.
 fn put_shown(out: &mut Vec<u8>, index: &Index<'_>, number: u32) -> Result<(), AllocError>
     requires { number < length (calls_of index.now) }
     ensures { OnOk result (out.new.items ≡ out.old.items
@@ -99,7 +99,7 @@ pub(crate) fn put_call_line(
     out.extend_from_slice(b"\n")
 }
 
-/// Adds the line of an update, where there is one of that component and number.
+/// Adds the line of an update, if there is one of that component and number.
 pub(crate) fn put_update_line(
     out: &mut Vec<u8>,
     index: &Index<'_>,

@@ -44,12 +44,12 @@ fn put_calls(
     Ok(())
 }
 
-/// The explanation of a history: an order of its calls where it is atomic, and otherwise of each kind of fault that it has the
-/// first, as a sentence; behind it the calls concerned, a line each, with the call's number, its process, the records of its
-/// begin and its end, and what it wrote or showed.
+/// The explanation of a history: an order of its calls if it is atomic, and otherwise a sentence for the first fault of each kind.
+/// After a sentence are the calls concerned, a line each. A line has the call's number, its process, the records of its begin and its
+/// end, and what it wrote or showed.
 ///
-/// It is made from the tally of all its completed views, from the number of the record of each event, and from the numbers of
-/// the printed order, which is given exactly where the tally has no fault.
+/// It is made from the tally of all completed views, the number of the record of each event, and the numbers of the printed order.
+/// That order is given exactly if the tally has no fault.
 pub fn explain(
     alloc: Global,
     index: &Index<'_>,

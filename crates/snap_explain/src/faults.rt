@@ -14,7 +14,7 @@ use snap_report::{put_call, put_entry, put_number, put_update};
 use snap_witness::{least_exceeding, side_number, view_numbered};
 use std::alloc::AllocError;
 
-// A fault that is explained, where its views are completed views of the history.
+// A fault that is explained, if its views are completed views of the history.
 trait Explained: Copy {
     ghost text: { List ℕ → List Call → Self → List ℕ };
 
@@ -41,7 +41,7 @@ impl Explained for IntegrityFault {
     }
 }
 
-// Adds on which side of its view the update is that a proximity fault is of.
+// Adds on which side of its view the update of a proximity fault is.
 fn put_side(out: &mut Vec<u8>, fault: &ProximityFault, update: u32) -> Result<(), AllocError>
     requires { update ≡ spec_side_number fault.now.side fault.now.number }
     ensures { OnOk result (out.new.items ≡ out.old.items ++ side_text fault.now.component fault.now.number fault.now.side) }
@@ -147,7 +147,7 @@ impl Explained for WriteFault {
     }
 }
 
-// Adds what is said of the first fault of a kind, where there is one.
+// Adds what is said of the first fault of a kind, if there is one.
 fn put_first<F: Explained>(
     out: &mut Vec<u8>,
     index: &Index<'_>,

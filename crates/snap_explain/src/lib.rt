@@ -1,10 +1,11 @@
 //! Why a history is not atomic, or an order that shows that it is: sentences, with each call concerned and its records. Or why a
-//! text is no history.
+//! text is not a history.
 #![tactic(auto)]
 
 mod call;
 mod explanation;
 mod faults;
+mod mistake;
 mod refusal;
 
 pub use explanation::explain;

@@ -1,11 +1,10 @@
-//! Why a text is no history.
-ghost use Rattle.std.specs.Prelude.{◌≡◌, ◌++◌, IfOk, OnOk, decimal, map, nat_lt};
+//! Why a text is not a history.
+ghost use Rattle.std.specs.Prelude.{◌≡◌, ◌++◌, IfOk, OnOk, decimal, map, nat_lt, option_map};
 ghost use Rattle.std.specs.List.{flat_map};
 ghost use Rattle.snap_core.specs.Events.{event_cap};
-ghost use Rattle.snap_format.specs.Records.{record_at};
-ghost use Rattle.snap_format.specs.Rows.{rows_of};
-ghost use Rattle.snap_explain.specs.Refusals.{IsRefusalExplanation, byte_words as spec_byte_words, event_words as spec_event_words, limit_of, quoted, record_text, rule_of as spec_rule_of};
+ghost use Rattle.snap_explain.specs.Refusals.{IsRefusalExplanation, byte_words as spec_byte_words, event_words as spec_event_words, limit_of, mistake_text, quoted, record_text, fault_told, told_of, rule_of as spec_rule_of};
 
+use crate::mistake::{Mistake, record_mistake};
 use snap_core::{EVENT_CAP, Limit};
 use snap_csv::{bytes_within, record_of};
 use snap_names::put_shown;
@@ -13,7 +12,7 @@ use snap_report::{put_number, refusal_text};
 use snap_text::TextFault;
 use std::alloc::{AllocError, Global};
 
-// The rule that a fault breaks, with a newline; where that is a limit, the words before its number.
+// The rule that a fault breaks, with a newline. If that is a limit, the words before its number.
 fn rule_of(fault: TextFault) -> &'static str
     ensures { result.now ≡ spec_rule_of fault }
 {
@@ -29,7 +28,9 @@ fn rule_of(fault: TextFault) -> &'static str
         }
         TextFault::BadOp => "the field op is update or view\n",
         TextFault::BadData => {
-            "the field data is an entry at the begin of an update, entries of rising components with one space between two, or none, at the end of a view, and empty otherwise; \
+            "the begin of an update has one entry in the field data\n\
+            the end of a view has entries with rising components and one space between two, or none\n\
+            any other record has an empty field data\n\
             an entry is COMPONENT:NUMBER:VALUE, from 0:1:0 to 255:4294967295:4294967295, without signs or leading zeros\n"
         }
         TextFault::Busy => "a process begins a call only after its last one has ended\n",
@@ -47,12 +48,106 @@ fn rule_of(fault: TextFault) -> &'static str
     }
 }
 
-// Adds a number, and the words behind it.
-fn put_most(out: &mut Vec<u8>, number: usize, words: &[u8]) -> Result<(), AllocError>
-    ensures { OnOk result (out.new.items ≡ out.old.items ++ (decimal number ++ words.now)) }
+// Adds a number between the words before and after it.
+fn put_count(
+    out: &mut Vec<u8>,
+    before: &[u8],
+    number: usize,
+    after: &[u8],
+) -> Result<(), AllocError>
+    ensures { OnOk result (out.new.items ≡ out.old.items ++ (before.now ++ decimal number ++ after.now)) }
 {
-    put_number(out, b"", number as u64)?;
-    out.extend_from_slice(words)
+    put_number(out, before, number as u64)?;
+    out.extend_from_slice(after)
+}
+
+// Adds what is wrong with a field data.
+fn put_mistake(out: &mut Vec<u8>, mistake: Mistake) -> Result<(), AllocError>
+    ensures { OnOk result (out.new.items ≡ out.old.items ++ mistake_text mistake) }
+{
+    match mistake {
+        Mistake::BeginOfView => out.extend_from_slice(
+            b"the begin of a view has an empty field data, and this one is not empty\n",
+        ),
+        Mistake::EndOfUpdate => out.extend_from_slice(
+            b"the end of an update has an empty field data, and this one is not empty\n",
+        ),
+        Mistake::NoEntry => out.extend_from_slice(
+            b"the begin of an update has one entry in the field data, and this one has none\n",
+        ),
+        Mistake::Spaces { entry } => put_count(
+            out,
+            b"entry ",
+            entry,
+            b" is empty: one space stands between two entries, and none before the first or after the last\n",
+        ),
+        Mistake::Parts { entry, parts } => {
+            put_number(out, b"entry ", entry as u64)?;
+            put_count(
+                out,
+                b" has not the 3 parts of COMPONENT:NUMBER:VALUE, but ",
+                parts,
+                b"\n",
+            )
+        }
+        Mistake::Component { entry } => put_count(
+            out,
+            b"the component of entry ",
+            entry,
+            b" is not a number from 0 to 255 without a sign or leading zeros\n",
+        ),
+        Mistake::Number { entry } => put_count(
+            out,
+            b"the number of entry ",
+            entry,
+            b" is not a number from 1 to 4294967295 without a sign or leading zeros\n",
+        ),
+        Mistake::Value { entry } => put_count(
+            out,
+            b"the value of entry ",
+            entry,
+            b" is not a number from 0 to 4294967295 without a sign or leading zeros\n",
+        ),
+        Mistake::Several { entries } => put_count(
+            out,
+            b"the begin of an update has one entry in the field data, and this one has ",
+            entries,
+            b"\n",
+        ),
+        Mistake::Fall { entry } => put_count(
+            out,
+            b"the component of entry ",
+            entry,
+            b" is not below that of the next entry\n",
+        ),
+    }
+}
+
+// Adds the first mistake in the field data of a record, if there is a record.
+fn put_told(out: &mut Vec<u8>, found: Option<&[Vec<u8>]>) -> Result<(), AllocError>
+    ensures { OnOk result (out.new.items ≡ out.old.items ++ told_of (option_map (λ fields. map (λ f. f.items) fields.now) found.entry)) }
+{
+    let Some(fields) = found else {
+        return Ok(());
+    };
+    match record_mistake(fields) {
+        Some(mistake) => put_mistake(out, mistake),
+        None => Ok(()),
+    }
+}
+
+// Adds the first mistake in the field data of a record if that field is its fault, and otherwise nothing.
+fn put_fault(
+    out: &mut Vec<u8>,
+    fault: TextFault,
+    found: Option<&[Vec<u8>]>,
+) -> Result<(), AllocError>
+    ensures { OnOk result (out.new.items ≡ out.old.items ++ fault_told fault (option_map (λ fields. map (λ f. f.items) fields.now) found.entry)) }
+{
+    match fault {
+        TextFault::BadData => put_told(out, found),
+        _ => Ok(()),
+    }
 }
 
 // Whether a greater limit may be chosen.
@@ -62,7 +157,7 @@ fn has_more(limit: Limit) -> bool
     limit.events() < EVENT_CAP
 }
 
-// The words behind the number of events that a history may have: where there may be more, also by which option.
+// The words after the number of events that a history may have: if there may be more, also by which option.
 fn event_words(limit: Limit) -> &'static str
     ensures { result.now ≡ spec_event_words limit.events }
 {
@@ -73,7 +168,7 @@ fn event_words(limit: Limit) -> &'static str
     }
 }
 
-// The words behind the number of bytes that a text may have: where there may be more, also by which option.
+// The words after the number of bytes that a text may have: if there may be more, also by which option.
 fn byte_words(limit: Limit) -> &'static str
     ensures { result.now ≡ spec_byte_words limit.events }
 {
@@ -84,18 +179,23 @@ fn byte_words(limit: Limit) -> &'static str
     }
 }
 
-// Adds the number of the limit that a fault breaks, and the words behind it; nothing where the rule is no limit.
+// Adds the number of the limit that a fault breaks, and the words after it. Adds nothing if the rule is not a limit.
 fn put_limit(out: &mut Vec<u8>, fault: TextFault, limit: Limit) -> Result<(), AllocError>
     ensures { OnOk result (out.new.items ≡ out.old.items ++ limit_of limit.events fault) }
 {
     match fault {
-        TextFault::TooMany => put_most(out, limit.events(), event_words(limit).as_bytes()),
-        TextFault::TooLong => put_most(out, bytes_within(limit), byte_words(limit).as_bytes()),
+        TextFault::TooMany => put_count(out, b"", limit.events(), event_words(limit).as_bytes()),
+        TextFault::TooLong => put_count(
+            out,
+            b"",
+            bytes_within(limit),
+            byte_words(limit).as_bytes(),
+        ),
         _ => Ok(()),
     }
 }
 
-// Adds the fields of a record, each in quotes behind a space, with the escapes of a name.
+// Adds the fields of a record, each in quotes after a space, with the escapes of a name.
 fn put_fields(out: &mut Vec<u8>, fields: &[Vec<u8>]) -> Result<(), AllocError>
     ensures { OnOk result (out.new.items ≡ out.old.items ++ flat_map quoted (map (λ f. f.items) fields.now)) }
 {
@@ -107,22 +207,23 @@ fn put_fields(out: &mut Vec<u8>, fields: &[Vec<u8>]) -> Result<(), AllocError>
     Ok(())
 }
 
-// Adds the record of a number as it stands in a text, or that there is none.
-fn put_record(out: &mut Vec<u8>, text: &[u8], place: u32) -> Result<(), AllocError>
-    ensures { OnOk result (out.new.items ≡ out.old.items ++ record_text place (record_at (rows_of text.now) place)) }
+// Adds the fields of the record of a number, or that there is none.
+fn put_record(out: &mut Vec<u8>, place: u32, found: Option<&[Vec<u8>]>) -> Result<(), AllocError>
+    ensures { OnOk result (out.new.items ≡ out.old.items ++ record_text place (option_map (λ fields. map (λ f. f.items) fields.now) found.entry)) }
 {
-    let Some(fields) = record_of(*out.allocator(), text, place)? else {
+    let Some(fields) = found else {
         return out.extend_from_slice(b"  no record of the text has that number\n");
     };
     put_number(out, b"  record ", u64::from(place))?;
     out.extend_from_slice(b" has the fields")?;
-    put_fields(out, &fields)?;
+    put_fields(out, fields)?;
     out.extend_from_slice(b"\n")
 }
 
-/// Why a text is no history of at most so many events, by its first fault and the place of that: the line of its report, the rule that is broken, in a
-/// sentence, and the fields of the record at that place, each in quotes behind a space, and shown as a name is. In place of
-/// the fields a line says that no record has that number, as for the text as a whole, which is place 0.
+/// Why a text is not a history within a limit of events, by its first fault and the place of that. The explanation has the line of the
+/// report, the rule that is broken, in sentences, and the fields of the record at that place. Each field is in quotes after a space,
+/// and shown as a name is. Before the rule of a field data is the first mistake in that field. If no record has that number, a line
+/// says so in place of the fields. So it is for the text as a whole, which is place 0. The error is want of memory.
 pub fn explain_refusal(
     alloc: Global,
     text: &[u8],
@@ -132,9 +233,11 @@ pub fn explain_refusal(
 ) -> Result<Vec<u8>, AllocError>
     ensures { IfOk result (λ explained. IsRefusalExplanation limit.events text.now place fault explained.items) }
 {
+    let record = record_of(alloc, text, place)?;
     let mut out = refusal_text(alloc, place, fault)?;
+    put_fault(&mut out, fault, record.as_deref())?;
     out.extend_from_slice(rule_of(fault).as_bytes())?;
     put_limit(&mut out, fault, limit)?;
-    put_record(&mut out, text, place)?;
+    put_record(&mut out, place, record.as_deref())?;
     Ok(out)
 }

@@ -11,7 +11,7 @@ use Rattle.snap_verdict.specs.declared.status.Status.{Status}
 use Rattle.snap_verdict.specs.Statuses.{code_of}
 use Rattle.snap_json.specs.Objects.{trouble_json}
 use Rattle.snap_json.specs.Values.{IsLineOf}
-use Rattle.snap_tell.specs.Telling.{IsTold}
+use Rattle.snap_runs.specs.Telling.{IsTold}
 use Rattle.snap_names.specs.Said.{named_lines, trouble_line_text, trouble_text}
 use Rattle.snap_names.specs.Shown.{shown}
 use Rattle.snap_files.specs.declared.format.FileOptions.{FileOptions}
@@ -20,7 +20,7 @@ use Rattle.snap_files.specs.declared.format.Format.TheVariants.{Plain, Json}
 use Rattle.snap_names.specs.declared.opener.Trouble.{Trouble}
 use Rattle.snap_names.specs.declared.opener.Trouble.TheVariants.{Memory}
 
--- what became of a name: its status, none where its history has fewer views than are asked for, or why it has none
+-- what became of a name: its status, or `None` if its history has fewer views than are asked for, or else its trouble
 abbrev pub Answer : Type 0
 Answer = Result (Option Status) Trouble
 
@@ -28,12 +28,12 @@ Answer = Result (Option Status) Trouble
 abbrev pub IsNamedReport : CheckOptions → List ℕ → List ℕ → Option Status → List ℕ → Type 0
 IsNamedReport options name text status out = (report : List ℕ) × IsReportWith options text status report × (out ≡ named_lines name report)
 
--- what a name may be opened as: a text, of which the bytes are known or not, or a trouble. An opener gives a text the trouble of a
--- failed read only for a reader of it whose count of failures rose
+-- What a name may be opened as: a text, whose bytes are known or not, or a trouble. An opener gives a text the trouble of a failed
+-- read only for a reader whose count of failures rose.
 abbrev pub Opens : Type 1
 Opens = List ℕ → Result (Option (List ℕ)) Trouble → Type 0
 
--- why a name has no status: its opener says so, as where it can't be opened or a read failed, or memory ran out behind its opening
+-- Why a name has no status. Its opener says so, as when it can't be opened or a read failed; or memory ran out after it was opened.
 abbrev pub IsTroubled : Opens → List ℕ → Trouble → Type 0
 IsTroubled opens name trouble = opens name (Err trouble) ⊎ ((known : Option (List ℕ)) × opens name (Ok known) × (trouble ≡ Memory))
 
@@ -42,11 +42,11 @@ abbrev pub IsObject : CheckOptions → List ℕ → List ℕ → Option Status �
 IsObject options name text (Some status) out = IsTold options.limit.events name options.views text status out
 IsObject options name text None out = ⊥
 
--- a name in an object, which is Unicode: U+FFFD stands for each sequence of bytes that is not UTF-8
+-- A name in an object, which is Unicode. U+FFFD replaces each sequence of bytes that is not UTF-8.
 abbrev pub object_name : List ℕ → List ℕ
 object_name name = utf8_lossy name
 
--- what is answered and written of a text that was opened: its named report, or its object alone
+-- what is answered and written for an opened text: its named report, or its object alone
 abbrev pub IsTextPage : Format → CheckOptions → List ℕ → List ℕ → Option Status → List ℕ → Type 0
 IsTextPage Plain options name text status out = IsNamedReport options name text status out
 IsTextPage Json options name text status out = IsObject options (object_name name) text status out
@@ -57,29 +57,29 @@ answer_code (Ok (Some status)) = code_of status
 answer_code (Ok None) = 3
 answer_code (Err trouble) = 4
 
--- of a name that met a trouble nothing is written, or its object; where memory did not suffice for that, memory is the trouble
+-- For a name that met a trouble nothing is written, or its object. If memory does not suffice for the object, memory is the trouble.
 abbrev pub IsTroublePage : Format → List ℕ → Trouble → Trouble → List ℕ → Type 0
 IsTroublePage Plain name met trouble out = (trouble ≡ met) × (out ≡ [])
 IsTroublePage Json name met trouble out =
     ((trouble ≡ met) × IsLineOf (trouble_json (object_name name) (answer_code (Err met)) (trouble_text met)) out) ⊎ ((trouble ≡ Memory) × (out ≡ []))
 
--- what is answered and written of a name
+-- what is answered and written for a name
 abbrev pub IsPage : Opens → FileOptions → List ℕ → Answer → List ℕ → Type 0
 IsPage opens options name (Ok status) out =
     (known : Option (List ℕ)) × opens name (Ok known) × IfSome known (λ text. IsTextPage options.format options.check name text status out)
 IsPage opens options name (Err trouble) out = (met : Trouble) × IsTroubled opens name met × IsTroublePage options.format name met trouble out
 
--- what is said of a name whose history has fewer views than are asked for
+-- what is said about a name whose history has fewer views than are asked for
 abbrev pub refusal_line_text : CheckOptions → List ℕ → List ℕ
 refusal_line_text options name = shown name ++ codes ": refused: fewer than " ++ decimal options.views ++ codes " views\n"
 
--- what is said of a name on the error output
+-- what is said about a name on the error output
 abbrev pub told_text : FileOptions → List ℕ → Answer → List ℕ
 told_text options name (Ok (Some status)) = []
 told_text options name (Ok None) = refusal_line_text options.check name
 told_text options name (Err trouble) = trouble_line_text name trouble
 
--- a text went out whole, or the count of failures rose, or stands at its last value
+-- a text went out whole, or the count of failures rose, or is at its last value
 abbrev pub Told : Option (List ℕ) → Option (List ℕ) → ℕ → ℕ → List ℕ → Type 0
 Told old new failures_old failures_new text =
     (Appends old new text × (failures_new ≡ failures_old)) ⊎ (failures_old < failures_new) ⊎ (2 ^ 64 - 1 ≤ failures_new)
@@ -94,19 +94,18 @@ pub record Page : Type 0 where
 abbrev pub ArePages : Opens → FileOptions → List (Vec ℕ) → List Page → Type 0
 ArePages opens options names pages = AllZip (λ name page. (page.name ≡ name.items) × IsPage opens options page.name page.answer page.out) names pages
 
--- what is written of some pages, and said of them
+-- what is written for some pages, and said about them
 abbrev pub written : List Page → List ℕ
 written pages = flat_map (λ page. page.out) pages
 
 abbrev pub said : FileOptions → List Page → List ℕ
 said options pages = flat_map (λ page. told_text options page.name page.answer) pages
 
--- the greatest exit status of some pages
 abbrev pub greatest_code : List Page → ℕ
 greatest_code [] = 0
 greatest_code (page ∷ pages) = max (answer_code page.answer) (greatest_code pages)
 
--- the names were all checked: the greatest status, what was written, and what was said
+-- all names were checked: the greatest status, what was written, and what was said
 pub record ChecksAll (opens : Opens) (options : FileOptions) (names : List (Vec ℕ)) (old new : Option (List ℕ)) (told_old told_new : Option (List ℕ)) (failures_old failures_new : ℕ) (code : ℕ) : Type 0 where
   pub pages : List Page
   pub each : ArePages opens options names pages
@@ -114,7 +113,7 @@ pub record ChecksAll (opens : Opens) (options : FileOptions) (names : List (Vec 
   pub wrote : Appends old new (written pages)
   pub told : Told told_old told_new failures_old failures_new (said options pages)
 
--- of some of the names, the first ones, a front went out of what is written of them
+-- for some of the first names, a front went out of what is written for them
 pub record ChecksSome (opens : Opens) (options : FileOptions) (names : List (Vec ℕ)) (old new : Option (List ℕ)) : Type 0 where
   pub count : ℕ
   pub within : count ≤ length names

@@ -1,4 +1,4 @@
--- How many files have each status, and which is the first of them.
+-- The number of files with each status, and the first of them.
 use Rattle.std.specs.Prelude.{◌≡◌, ◌==◌, ◌++◌, ◌⊎◌, ℕ, Bool, true, List, [], length, map, Option, Some, None, codes, count_by, decimal, find}
 use Rattle.std.specs.Global.{Vec}
 use Rattle.std.specs.Io.KnownBytes.{Appends}
@@ -25,26 +25,26 @@ judged_of pages = map (λ page. with_code page.name (answer_code page.answer)) p
 abbrev pub has_code : ℕ → Judged → Bool
 has_code code file = file.code == code
 
--- what is shown of the first file of a kind
+-- what is shown about the first file of a kind
 abbrev pub first_text : Option Judged → List ℕ
 first_text None = []
 first_text (Some file) = codes " first " ++ shown file.name
 
--- the line of a kind: its word, how many files have its status, and the first of them
+-- the line of a kind: its word, the number of files with its status, and the first of them
 abbrev pub kind_text : List ℕ → ℕ → List Judged → List ℕ
 kind_text word code files = word ++ decimal (count_by (has_code code) files) ++ first_text (find (has_code code) files) ++ codes "\n"
 
--- the sums: how many files there are, and the lines of the kinds
+-- the sums: the number of files, and the lines of the kinds
 abbrev pub sums_text : List Judged → List ℕ
 sums_text files =
     codes "files " ++ decimal (length files) ++ codes "\n" ++ kind_text (codes "atomic ") 0 files ++ kind_text (codes "only-regular ") 1 files
     ++ kind_text (codes "not-regular ") 2 files ++ kind_text (codes "refused ") 3 files ++ kind_text (codes "failed ") 4 files
 
--- what is asked of each text of which only the status is counted
+-- what is asked of each text if only its status is counted
 abbrev pub counting : Limit → ℕ → FileOptions
 counting limit views = record { format = Plain; check = record { quiet = true; views = views; limit = limit; alone_below = SHARED_FROM } }
 
--- the names were all judged: the greatest status, the sums that were written, and what was said
+-- all names were judged: the greatest status, the sums that were written, and what was said
 pub record SumsAll (opens : Opens) (limit : Limit) (views : ℕ) (names : List (Vec ℕ)) (old new : Option (List ℕ)) (told_old told_new : Option (List ℕ)) (failures_old failures_new : ℕ) (code : ℕ) : Type 0 where
   pub pages : List Page
   pub each : ArePages opens (counting limit views) names pages
@@ -52,7 +52,7 @@ pub record SumsAll (opens : Opens) (limit : Limit) (views : ℕ) (names : List (
   pub wrote : Appends old new (sums_text (judged_of pages))
   pub told : Told told_old told_new failures_old failures_new (said (counting limit views) pages)
 
--- a front of the sums went out, once all names were judged
+-- a front of the sums went out, after all names were judged
 pub record SumsCut (opens : Opens) (limit : Limit) (views : ℕ) (names : List (Vec ℕ)) (old new : Option (List ℕ)) : Type 0 where
   pub pages : List Page
   pub each : ArePages opens (counting limit views) names pages

@@ -1,4 +1,4 @@
-//! The check of several texts of which each report or object is written.
+//! The check of several texts that writes each report or object.
 ghost use Rattle.std.specs.Prelude.{◌≡◌, IfOk, IfErr, length};
 ghost use Rattle.snap_core.specs.Counting.{failures_in, inner_of};
 ghost use Rattle.snap_core.specs.Sending.{SendsFront};
@@ -17,7 +17,7 @@ use std::alloc::Global;
 use std::io::Write;
 use std::thread::Threads;
 
-// Writes what there is of the names of a round, and says why some have no status. It answers their greatest exit status.
+// Writes what there is for the names of a round, and says why some have no status. Answers their greatest exit status.
 fn write_round<W: Write, E: Write>(
     alloc: Global,
     names: &[Vec<u8>],
@@ -46,16 +46,17 @@ fn write_round<W: Write, E: Write>(
     Ok(greatest)
 }
 
-/// Checks the texts of some names, each as `check_run_with` does: as many at once as the cutting has workers, each by one of them,
-/// and a long text alone by all of them. It writes their reports in the order of the names, each line with the name before it, and
-/// answers the greatest exit status. A name of which there is no status, since
-/// its text can't be opened or read or memory did not suffice for it, has the exit status 4. The reason goes to the error output,
-/// and the other names are checked all the same. A failure of the error output is counted, and ends nothing.
+/// Checks the texts of some names, each as `check_run_with` does. It checks as many texts at once as the cutting has workers, each
+/// by one of them. All of them check a text that is long and alone. It writes the reports in the order of the names, each line with
+/// the name before it. It answers the greatest exit status.
 ///
-/// Where objects are asked for, each name has one in place of its report, as `tell_run` writes it, also where it has no status.
-/// Where memory does not suffice for the object of a name without a status, that is its reason, and nothing is written of it.
+/// A name has the exit status 4 if its text can't be opened or read, or memory did not suffice for it. The reason goes to the error
+/// output, and the other names are still checked. A failure of the error output is counted, and does not end the check.
 ///
-/// A report that can't be written ends the check with `Write`; a reason for which memory does not suffice, with `Memory`.
+/// If objects are asked for, each name has one in place of its report, as `tell_run` writes it, also without a status. If memory
+/// does not suffice for the object of a name without a status, lack of memory is its reason. Then nothing is written for it.
+///
+/// A report that can't be written ends the check with `Write`. A reason for which memory does not suffice ends it with `Memory`.
 pub fn check_all<Rt: Threads + Sync, O: Opener, W: Write, E: Write, G: Gate>(
     rt: &Rt,
     alloc: Global,

@@ -1,31 +1,31 @@
-//! What a check of several texts is asked for.
+//! The options of a check of several texts.
 ghost use Rattle.std.specs.Prelude.{◌≡◌, MatchBool};
 ghost use Rattle.snap_check.specs.declared.workers.TheConstants.{SHARED_FROM};
 
 use snap_check::{CheckOptions, SHARED_FROM};
 use snap_core::Limit;
 
-/// In which form the answer on a text is written.
+/// The form in which the answer for a text is written.
 #[derive(Clone, Copy)]
 pub enum Format {
     /// As a report, each line with the name before it.
     Plain,
-    /// As a JSON object on a line, in which the name stands.
+    /// As a JSON object on a line, which has the name.
     Json,
 }
 
-/// What a check of several texts is asked for.
+/// The options of a check of several texts.
 #[derive(Clone, Copy)]
 pub struct FileOptions {
     /// The form of the answers.
     pub format: Format,
-    /// What the check of each text is asked for besides. An object is always whole, so that `quiet` changes only reports.
+    /// The options of the check of each text. An object is always whole, so `quiet` changes only reports.
     pub check: CheckOptions,
 }
 
 impl FileOptions {
     /// The options of a check that answers with objects if `json` is set, and else with reports. A report is short if `quiet` is
-    /// set. A history needs so many completed views, and may have as many events as the limit says. A text of fewer than
+    /// set. A history needs `views` completed views, and may have as many events as the limit says. A text of fewer than
     /// `SHARED_FROM` bytes has one worker.
     pub fn new(json: bool, quiet: bool, views: u32, limit: Limit) -> FileOptions
         ensures format { MatchBool json (result.format ≡ Format.Json) (result.format ≡ Format.Plain) }

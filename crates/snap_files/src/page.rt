@@ -1,4 +1,4 @@
-//! What is answered, written and said of one name.
+//! What is answered, written and said for one name.
 ghost use Rattle.std.specs.Prelude.{◌≡◌, ◌<◌, ◌++◌, IfOk, IfSome, MatchResult, Ok, Err, string_bytes};
 ghost use Rattle.snap_core.specs.Counting.{failures_in, inner_of};
 ghost use Rattle.snap_check.specs.declared.fault.RunFault.TheVariants as faults;
@@ -13,14 +13,14 @@ use snap_check::{CheckOptions, RunFault, check_run_with};
 use snap_core::{Counted, Gate};
 use snap_names::{Opener, Trouble, name_lines, put_shown, trouble_line, trouble_words};
 use snap_report::put_number;
-use snap_tell::tell_run;
+use snap_runs::tell_run;
 use snap_threads::Cutting;
 use snap_verdict::Status;
 use std::alloc::{AllocError, Global};
 use std::io::Read;
 use std::thread::Threads;
 
-/// The status of a name, none where its history has fewer completed views than are asked for, or why it has none.
+/// The status of a name, or `None` if its history has fewer completed views than are asked for, or else its trouble.
 pub(crate) type Answer = Result<Option<Status>, Trouble>;
 
 /// The exit status of a name.
@@ -34,7 +34,7 @@ pub(crate) fn code_of(answer: &Answer) -> u8
     }
 }
 
-// Why a text that was opened has no status, by the fault of its check.
+// Why an opened text has no status, by the fault of its check.
 fn trouble_of<O: Opener>(
     opener: &O,
     name: &[u8],
@@ -51,7 +51,7 @@ fn trouble_of<O: Opener>(
     }
 }
 
-// The status and the report of the text that a reader has, each line with the name before it.
+// The status and the report of a reader's text, each line with the name before it.
 fn named_report<Rt: Threads + Sync, R: Read, G: Gate>(
     rt: &Rt,
     alloc: Global,
@@ -71,49 +71,47 @@ fn named_report<Rt: Threads + Sync, R: Read, G: Gate>(
     Ok((status, lines))
 }
 
-// The status and the object of the text that a reader has, with a name.
-fn object<Rt: Threads + Sync, R: Read, G: Gate>(
+// The status and the object of a reader's text, with a name.
+fn object<Rt: Threads + Sync, R: Read>(
     rt: &Rt,
     alloc: Global,
     name: &str,
     reader: &mut Counted<R>,
     cutting: Cutting,
-    gate: &G,
     options: CheckOptions,
 ) -> Result<(Option<Status>, Vec<u8>), RunFault>
     ensures page { IfOk result (λ page. IfSome (R.remaining (inner_of reader.old)) (λ bytes. IsObject options name.now bytes page.0 page.1.items)) }
     ensures blame { BlamesReader (failures_in reader.old) (failures_in reader.new) result }
 {
     let mut writer = Counted::new(Vec::new(alloc));
-    let status = tell_run(rt, alloc, name, reader, &mut writer, cutting, gate, options)?;
+    let status = tell_run(rt, alloc, name, reader, &mut writer, cutting, options)?;
     Ok((Some(status), writer.into_inner()))
 }
 
-// A name as it stands in an object.
+// A name as an object has it, in Unicode.
 fn object_name(alloc: Global, name: &[u8]) -> Result<String, AllocError>
     ensures { IfOk result (λ text. string_bytes text ≡ object_name name.now) }
 {
     String::from_utf8_lossy(alloc, name)
 }
 
-// The same of a text whose name need not be Unicode.
-fn shown_object<Rt: Threads + Sync, R: Read, G: Gate>(
+// The status and the object of a reader's text, with a name that need not be Unicode.
+fn shown_object<Rt: Threads + Sync, R: Read>(
     rt: &Rt,
     alloc: Global,
     name: &[u8],
     reader: &mut Counted<R>,
     cutting: Cutting,
-    gate: &G,
     options: CheckOptions,
 ) -> Result<(Option<Status>, Vec<u8>), RunFault>
     ensures page { IfOk result (λ page. IfSome (R.remaining (inner_of reader.old)) (λ bytes. IsObject options (object_name name.now) bytes page.0 page.1.items)) }
     ensures blame { BlamesReader (failures_in reader.old) (failures_in reader.new) result }
 {
     let shown = object_name(alloc, name)?;
-    object(rt, alloc, &shown, reader, cutting, gate, options)
+    object(rt, alloc, &shown, reader, cutting, options)
 }
 
-// The status of the text that a reader has and what is written of it, in the format that is asked for.
+// The status of a reader's text and what is written for it, in the format that is asked for.
 fn text_page<Rt: Threads + Sync, R: Read, G: Gate>(
     rt: &Rt,
     alloc: Global,
@@ -128,7 +126,7 @@ fn text_page<Rt: Threads + Sync, R: Read, G: Gate>(
 {
     match options.format {
         Format::Plain => named_report(rt, alloc, name, reader, cutting, gate, options.check),
-        Format::Json => shown_object(rt, alloc, name, reader, cutting, gate, options.check),
+        Format::Json => shown_object(rt, alloc, name, reader, cutting, options.check),
     }
 }
 
@@ -140,7 +138,7 @@ fn trouble_object(alloc: Global, name: &[u8], met: Trouble) -> Result<Vec<u8>, A
     snap_json::trouble_line(alloc, &shown, code_of(&Err(met)), trouble_words(met))
 }
 
-// The trouble of a name that met one, and what is written of it.
+// The trouble of a name that met one, and what is written for it.
 fn trouble_page(alloc: Global, name: &[u8], met: Trouble, format: Format) -> (Trouble, Vec<u8>)
     ensures { IsTroublePage format name.now met result.0 result.1.items }
 {
@@ -155,7 +153,7 @@ fn trouble_page(alloc: Global, name: &[u8], met: Trouble, format: Format) -> (Tr
     }
 }
 
-/// What is answered of a name, and what is written of it.
+/// What is answered for a name, and what is written for it.
 pub(crate) fn check_name<Rt: Threads + Sync, O: Opener, G: Gate>(
     rt: &Rt,
     alloc: Global,
@@ -181,7 +179,7 @@ pub(crate) fn check_name<Rt: Threads + Sync, O: Opener, G: Gate>(
     (Err(trouble), out)
 }
 
-// What is said of a name whose history has fewer completed views than are asked for.
+// What is said about a name whose history has fewer completed views than are asked for.
 fn refusal_line(alloc: Global, name: &[u8], options: CheckOptions) -> Result<Vec<u8>, AllocError>
     ensures { IfOk result (λ line. line.items ≡ refusal_line_text options name.now) }
 {
@@ -196,7 +194,7 @@ fn refusal_line(alloc: Global, name: &[u8], options: CheckOptions) -> Result<Vec
     Ok(line)
 }
 
-/// What is said of a name on the error output.
+/// What is said about a name on the error output.
 pub(crate) fn told_of(
     alloc: Global,
     name: &[u8],

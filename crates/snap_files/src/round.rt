@@ -1,4 +1,4 @@
-//! Rounds of names: the workers judge the texts of a round side by side, and memory holds the reports of one round.
+//! Rounds of names: the workers judge the texts of a round in parallel, and memory holds the reports of one round.
 ghost use Rattle.std.specs.Prelude.{◌≡◌, ◌≤◌, ◌<◌, ◌+◌, ◌-◌, ◌*◌, IfOk, length, min, take, drop};
 ghost use Rattle.snap_files.specs.inside.Files.{AreAnswered};
 
@@ -10,7 +10,7 @@ use snap_threads::Cutting;
 use std::alloc::{AllocError, Global};
 use std::thread::{Threads, map_chunks};
 
-/// How many names of a round a worker judges at most.
+/// The greatest number of names of a round for each worker.
 const SHARE_LIMIT: usize = 8;
 
 /// The names of the round that begins at a place: as many shares as there are workers, or all names that are left.
@@ -25,7 +25,7 @@ pub(crate) fn round_at(names: &[Vec<u8>], from: usize, cutting: Cutting) -> &[Ve
     &left[..left.len().min(cutting.workers() as usize * SHARE_LIMIT)]
 }
 
-// The cutting of each text of a round: a text beside others has one worker, and a text alone has all of them.
+// The cutting of each text of a round. A text among others has one worker, and a text alone has all of them.
 fn cutting_in(names: &[Vec<u8>], cutting: Cutting) -> Cutting {
     if names.len() > 1 {
         Cutting::new(cutting.pieces(), 1).unwrap_or(cutting)
@@ -34,7 +34,7 @@ fn cutting_in(names: &[Vec<u8>], cutting: Cutting) -> Cutting {
     }
 }
 
-// What is answered and written of each of some names, one after another.
+// What is answered and written for each of some names, one after another.
 fn pages_in_turn<Rt: Threads + Sync, O: Opener, G: Gate>(
     rt: &Rt,
     alloc: Global,
@@ -54,7 +54,7 @@ fn pages_in_turn<Rt: Threads + Sync, O: Opener, G: Gate>(
     Ok(pages)
 }
 
-/// What is answered and written of each name of a round. Each share of the names has a thread of its own, where one can be started.
+/// What is answered and written for each name of a round. Each share of the names has a thread of its own, if one can be started.
 pub(crate) fn pages_of<Rt: Threads + Sync, O: Opener, G: Gate>(
     rt: &Rt,
     alloc: Global,

@@ -1,4 +1,4 @@
-//! The check of several texts of which only the sums are written.
+//! The check of several texts that writes only the sums.
 ghost use Rattle.std.specs.Prelude.{◌≡◌, ◌++◌, ◌+◌, ◌<◌, ◌^◌, List, IfErr, IfOk, OnOk, length};
 ghost use Rattle.snap_core.specs.Counting.{failures_in, inner_of};
 ghost use Rattle.snap_check.specs.Runs.{RunCounts};
@@ -86,11 +86,11 @@ fn sums_of<Rt: Threads + Sync, O: Opener, E: Write, G: Gate>(
     Ok(sums)
 }
 
-/// Checks the texts of some names as `check_all` does, and writes no report: once all are judged, it writes how many files have each
+/// Checks the texts of some names as `check_all` does, and writes no report. After all are judged, it writes the number of files with each
 /// status, and the first of them in the order of the names. It answers the greatest exit status. A history with fewer than `views`
 /// completed views counts as refused, and so does one beyond the limit of events. The reasons go to the error output as at `check_all`.
 ///
-/// Memory holds what a round needs, and no report of a round that is done. Sums that can't be written end in `Write`.
+/// Memory holds what one round needs, and no report of an earlier round. Sums that can't be written end in `Write`.
 pub fn sum_all<Rt: Threads + Sync, O: Opener, W: Write, E: Write, G: Gate>(
     rt: &Rt,
     alloc: Global,

@@ -1,4 +1,4 @@
-//! How many files have each exit status, and the first of them.
+//! The number of files with each exit status, and the first of them.
 ghost use Rattle.std.specs.Prelude.{◌≡◌, ◌++◌, ◌+◌, ◌<◌, ◌^◌, ◌∷◌, [], ℕ, List, IfOk, OnOk, find, map, length, vec_items};
 ghost use Rattle.snap_files.specs.inside.Sums.{AreSums, IsFirst, IsKind, greatest_of};
 ghost use Rattle.snap_files.specs.Sums.{Judged, first_text, has_code, kind_text, sums_text, with_code};
@@ -7,7 +7,7 @@ use snap_names::put_shown;
 use snap_report::put_number;
 use std::alloc::{AllocError, Global};
 
-/// How many files have an exit status, and the place of the first of them among the names.
+/// The number of files with an exit status, and the place of the first of them among the names.
 #[derive(Clone, Copy)]
 pub(crate) struct Kind {
     code: u8,
@@ -16,7 +16,7 @@ pub(crate) struct Kind {
 }
 
 impl Kind {
-    // No file of this exit status.
+    // No file has this exit status.
     fn none_of(code: u8) -> Kind
         ensures { IsKind code [] result }
     {
@@ -54,7 +54,6 @@ fn put_first(out: &mut Vec<u8>, first: Option<usize>, names: &[Vec<u8>]) -> Resu
     put_shown(out, name)
 }
 
-// Adds the line of a kind.
 fn put_kind(out: &mut Vec<u8>, word: &[u8], kind: Kind, names: &[Vec<u8>]) -> Result<(), AllocError>
     ensures { (code : ℕ) (files : List Judged) → map (λ file. file.name) files ≡ map vec_items names.now → IsKind code files kind
         → OnOk result (out.new.items ≡ out.old.items ++ kind_text word.now code files) }
@@ -64,7 +63,7 @@ fn put_kind(out: &mut Vec<u8>, word: &[u8], kind: Kind, names: &[Vec<u8>]) -> Re
     Ok(out.push(b'\n')?)
 }
 
-/// How many files there are, the greatest of their exit statuses, and how many have each.
+/// The number of files, the greatest of their exit statuses, and the number of files with each.
 #[derive(Clone, Copy)]
 pub(crate) struct Sums {
     files: usize,

@@ -1,6 +1,13 @@
+pub mod Answering
+pub mod Cutting
+pub mod Ending
 pub mod Opening
 pub mod Unquoting
 pub mod Reading
 pub mod Refusing
+pub mod Running
+pub mod Saying
+pub mod Sending
 pub mod Statuses
+pub mod Stopping
 pub mod Taking

@@ -1,5 +1,5 @@
 -- What a recording says with one line more, or with one text more.
-use Rattle.std.proofs.Common.{◌≡◌, ◌≤◌, ℕ, true, false, List, [], ◌∷◌, ◌++◌, append_assoc, append-nil, map, flat_map, Result, Ok, Err, refl, sym, ap, ◌∙◌, subst, inl, inr}
+use Rattle.std.proofs.Common.{◌≡◌, ◌≤◌, ◌+◌, ◌-◌, ◌^◌, min, ℕ, true, false, List, [], ◌∷◌, ◌++◌, length, length-append, arith, append_assoc, append-nil, map, flat_map, Result, Ok, Err, refl, sym, ap, ◌∙◌, subst, inl, inr}
 use Rattle.std.specs.Prelude.{OnOk}
 use Rattle.std.proofs.lemmas.Bool.{false≢true}
 use Rattle.std.proofs.lemmas.List.{map-append}
@@ -11,7 +11,7 @@ use Rattle.snap_format.specs.Rows.{rows_of}
 use Rattle.snap_text.specs.Fields.{Fields, row_event}
 use Rattle.snap_windows.specs.Taken.{HasTaken}
 use Rattle.snap_follow.specs.declared.follow.Follow.{Follow}
-use Rattle.snap_follow.specs.Followed.{AllSpell, EndsText, HasRead, ReadsLine, SaysSoFar, Spells, open_after}
+use Rattle.snap_follow.specs.Followed.{AllSpell, EndsText, HasRead, IsNext, IsPlaceOf, ReadsLine, SaysSoFar, Spells, open_after}
 use Rattle.snap_follow.specs.inside.Counts.{CountsOpen}
 use Rattle.snap_follow.proofs.Opening.{open_more}
 
@@ -22,14 +22,31 @@ rows_more lines line = flat_map-append rows_of lines (line ∷ []) ∙ ap (λ z.
 abbrev pub KeepsRule : Follow → Follow → Type 0
 KeepsRule f g = (g.least ≡ f.least) × (g.judge.most ≡ f.judge.most)
 
+-- the place stays where no record comes, and otherwise goes on by one
+place_stays : (f g : Follow) (texts : List (List (List ℕ))) (lines : List (List ℕ)) (line : List ℕ) → g.place ≡ f.place → rows_of line ≡ [] → IsPlaceOf f.place texts lines → IsPlaceOf g.place texts (lines ++ line ∷ [])
+place_stays f g texts lines line same none h = record {
+  text_is = ap (λ p. p.text) same ∙ h.text_is;
+  record_is = ap (λ p. p.record) same ∙ h.record_is ∙ ap (λ z. min (length z) (2 ^ 64 - 1)) (sym (rows_more lines line ∙ ap (λ z. flat_map rows_of lines ++ z) none ∙ append-nil (flat_map rows_of lines)));
+}
+
+one_more : (a b n m : ℕ) → b ≡ min (a + 1) (2 ^ 64 - 1) → a ≡ min n (2 ^ 64 - 1) → m ≡ n + 1 → b ≡ min m (2 ^ 64 - 1)
+one_more a b n m next was more = omega (arith, next, was, more)
+
+place_next : (f g : Follow) (texts : List (List (List ℕ))) (lines : List (List ℕ)) (line : List ℕ) (row : Fields) → IsNext f.place g.place → rows_of line ≡ row ∷ [] → IsPlaceOf f.place texts lines → IsPlaceOf g.place texts (lines ++ line ∷ [])
+place_next f g texts lines line row next rows h = record {
+  text_is = next.0 ∙ h.text_is;
+  record_is = one_more f.place.record g.place.record (length (flat_map rows_of lines)) (length (flat_map rows_of (lines ++ line ∷ []))) next.1 h.record_is
+      (ap length (rows_more lines line ∙ ap (λ z. flat_map rows_of lines ++ z) rows) ∙ length-append (flat_map rows_of lines) (row ∷ []));
+}
+
 -- with no event more as many calls count as open
 same_open : (f g : Follow) (events : List Event) → g.open_calls ≡ f.open_calls → f.open_calls ≤ open_after events → g.open_calls ≤ open_after (events ++ [])
 same_open f g events same opened = rw (append-nil events, same) opened
 
 -- what was read, with another state of the same judge, one line more, and what all lines of the text then say
 with_line : (f g : Follow) (least most : ℕ) (texts : List (List (List ℕ))) (lines : List (List ℕ)) (line : List ℕ) (events more : List Event) (h : HasRead f least most texts lines events) →
-    KeepsRule f g → g.open_calls ≤ open_after (events ++ more) → HasTaken g.judge h.before (h.since ++ more) → SaysSoFar g (lines ++ line ∷ []) (h.here ++ more) → HasRead g least most texts (lines ++ line ∷ []) (events ++ more)
-with_line f g least most texts lines line events more h keeps opened taken says = record {
+    KeepsRule f g → g.open_calls ≤ open_after (events ++ more) → HasTaken g.judge h.before (h.since ++ more) → SaysSoFar g (lines ++ line ∷ []) (h.here ++ more) → IsPlaceOf g.place texts (lines ++ line ∷ []) → HasRead g least most texts (lines ++ line ∷ []) (events ++ more)
+with_line f g least most texts lines line events more h keeps opened taken says place = record {
   least_is = keeps.0 ∙ h.least_is;
   most_is = ap (λ z. z.events) keeps.1 ∙ h.most_is;
   opened = opened;
@@ -42,6 +59,7 @@ with_line f g least most texts lines line events more h keeps opened taken says 
   parts = ap (λ z. z ++ more) h.parts ∙ append_assoc h.earlier h.here more;
   texts_say = h.texts_say;
   lines_say = says;
+  place_is = place;
 }
 
 -- the same judge has taken no event more
@@ -49,8 +67,8 @@ same_judge : (f g : Follow) (before since : List Event) → g.judge ≡ f.judge 
 same_judge f g before since same taken = subst (λ z. HasTaken z before (since ++ [])) (sym same) (subst (λ z. HasTaken f.judge before z) (sym (append-nil since)) taken)
 
 -- a line without a record
-pub nothing_more : (f g : Follow) (line : List ℕ) → g.judge ≡ f.judge → g.least ≡ f.least → g.open_calls ≡ f.open_calls → g.headed ≡ f.headed → rows_of line ≡ [] → ReadsLine f g line
-nothing_more f g line same least_same calls_same headed none least most texts lines events h = ([], with_line f g least most texts lines line events [] h (least_same, ap (λ z. z.most) same) (same_open f g events calls_same h.opened) (same_judge f g h.before h.since same h.taken) (go h.lines_say))
+pub nothing_more : (f g : Follow) (line : List ℕ) → g.judge ≡ f.judge → g.least ≡ f.least → g.open_calls ≡ f.open_calls → g.headed ≡ f.headed → g.place ≡ f.place → rows_of line ≡ [] → ReadsLine f g line
+nothing_more f g line same least_same calls_same headed place_same none least most texts lines events h = ([], with_line f g least most texts lines line events [] h (least_same, ap (λ z. z.most) same) (same_open f g events calls_same h.opened) (same_judge f g h.before h.since same h.taken) (go h.lines_say) (place_stays f g texts lines line place_same none h.place_is))
   where
     rows : flat_map rows_of (lines ++ line ∷ []) ≡ flat_map rows_of lines
     rows = rows_more lines line ∙ ap (λ z. flat_map rows_of lines ++ z) none ∙ append-nil (flat_map rows_of lines)
@@ -60,8 +78,8 @@ nothing_more f g line same least_same calls_same headed none least most texts li
     go (inr q) = inr (headed ∙ q.0, record { head = q.1.head; later = q.1.later; whole = rows ∙ q.1.whole; header = q.1.header; spelled = q.1.spelled ∙ ap (map Ok) (sym (append-nil h.here)) })
 
 -- the header
-pub header_read : (f g : Follow) (line : List ℕ) (first : Fields) → f.headed ≡ false → g.headed ≡ true → g.judge ≡ f.judge → g.least ≡ f.least → g.open_calls ≡ f.open_calls → rows_of line ≡ first ∷ [] → is_header_row first ≡ true → ReadsLine f g line
-header_read f g line first old new same least_same calls_same rows header least most texts lines events h = ([], with_line f g least most texts lines line events [] h (least_same, ap (λ z. z.most) same) (same_open f g events calls_same h.opened) (same_judge f g h.before h.since same h.taken) (go h.lines_say))
+pub header_read : (f g : Follow) (line : List ℕ) (first : Fields) → f.headed ≡ false → g.headed ≡ true → g.judge ≡ f.judge → g.least ≡ f.least → g.open_calls ≡ f.open_calls → IsNext f.place g.place → rows_of line ≡ first ∷ [] → is_header_row first ≡ true → ReadsLine f g line
+header_read f g line first old new same least_same calls_same next rows header least most texts lines events h = ([], with_line f g least most texts lines line events [] h (least_same, ap (λ z. z.most) same) (same_open f g events calls_same h.opened) (same_judge f g h.before h.since same h.taken) (go h.lines_say) (place_next f g texts lines line first next rows h.place_is))
   where
     go : SaysSoFar f lines h.here → SaysSoFar g (lines ++ line ∷ []) (h.here ++ [])
     go (inl p) = inr (
@@ -82,8 +100,8 @@ read_history f h = subst IsHistory (sym h.windows) h.taken.history
 
 -- an event
 pub event_read : (f g : Follow) (line : List ℕ) (row : Fields) (x : Event) → f.headed ≡ true → g.headed ≡ f.headed → rows_of line ≡ row ∷ [] → row_event row ≡ Ok x →
-    KeepsRule f g → CountsOpen f.open_calls x g.open_calls → ((before since : List Event) → HasTaken f.judge before since → HasTaken g.judge before (since ++ x ∷ [])) → ReadsLine f g line
-event_read f g line row x old headed rows event keeps counts taken least most texts lines events h = (x ∷ [], with_line f g least most texts lines line events (x ∷ []) h keeps (open_more events x f.open_calls g.open_calls (read_history f h) h.opened counts) (taken h.before h.since h.taken) (go h.lines_say))
+    KeepsRule f g → IsNext f.place g.place → CountsOpen f.open_calls x g.open_calls → ((before since : List Event) → HasTaken f.judge before since → HasTaken g.judge before (since ++ x ∷ [])) → ReadsLine f g line
+event_read f g line row x old headed rows event keeps next counts taken least most texts lines events h = (x ∷ [], with_line f g least most texts lines line events (x ∷ []) h keeps (open_more events x f.open_calls g.open_calls (read_history f h) h.opened counts) (taken h.before h.since h.taken) (go h.lines_say) (place_next f g texts lines line row next rows h.place_is))
   where
     go : SaysSoFar f lines h.here → SaysSoFar g (lines ++ line ∷ []) (h.here ++ x ∷ [])
     go (inl p) = absurd (false≢true (sym p.0 ∙ old))
@@ -105,8 +123,8 @@ text_more (t ∷ texts) text earlier here (first, later, parts, says, all) spell
     (first, later ++ here, ap (λ z. z ++ here) parts ∙ append_assoc first later here, says, text_more texts text later here all spells)
 
 -- a text that has a header, and ends
-pub text_ended : (f g : Follow) → f.headed ≡ true → g.headed ≡ false → g.judge ≡ f.judge → g.least ≡ f.least → g.open_calls ≡ f.open_calls → EndsText f g
-text_ended f g old new same least_same calls_same least most texts lines events h = (
+pub text_ended : (f g : Follow) → f.headed ≡ true → g.headed ≡ false → g.judge ≡ f.judge → g.least ≡ f.least → g.open_calls ≡ f.open_calls → g.place.text ≡ min (f.place.text + 1) (2 ^ 64 - 1) → g.place.record ≡ 0 → EndsText f g
+text_ended f g old new same least_same calls_same next none least most texts lines events h = (
   record {
     least_is = least_same ∙ h.least_is;
     most_is = ap (λ z. z.most.events) same ∙ h.most_is;
@@ -120,6 +138,10 @@ text_ended f g old new same least_same calls_same least most texts lines events 
     parts = h.parts ∙ sym (append-nil (h.earlier ++ h.here));
     texts_say = text_more texts lines h.earlier h.here h.texts_say (go h.lines_say);
     lines_say = inl (new, refl, refl);
+    place_is = record {
+      text_is = one_more f.place.text g.place.text (length texts) (length (texts ++ lines ∷ [])) next h.place_is.text_is (length-append texts (lines ∷ []));
+      record_is = none;
+    };
   },
   refl,
 )
@@ -129,10 +151,10 @@ text_ended f g old new same least_same calls_same least most texts lines events 
     go (inr q) = q.1
 
 -- a window has ended
-pub window_ended : (f g : Follow) → g.headed ≡ f.headed → KeepsRule f g → g.open_calls ≡ f.open_calls → ((before since : List Event) → HasTaken f.judge before since → HasTaken g.judge (before ++ since) []) →
+pub window_ended : (f g : Follow) → g.headed ≡ f.headed → g.place ≡ f.place → KeepsRule f g → g.open_calls ≡ f.open_calls → ((before since : List Event) → HasTaken f.judge before since → HasTaken g.judge (before ++ since) []) →
     (least most : ℕ) (texts : List (List (List ℕ))) (lines : List (List ℕ)) (events : List Event) → HasRead f least most texts lines events →
     (n : HasRead g least most texts lines events) × (n.since ≡ [])
-window_ended f g headed keeps calls_same ends least most texts lines events h = (
+window_ended f g headed place_same keeps calls_same ends least most texts lines events h = (
   record {
     least_is = keeps.0 ∙ h.least_is;
     most_is = ap (λ z. z.events) keeps.1 ∙ h.most_is;
@@ -146,6 +168,7 @@ window_ended f g headed keeps calls_same ends least most texts lines events h = 
     parts = h.parts;
     texts_say = h.texts_say;
     lines_say = says h.lines_say;
+    place_is = subst (λ z. IsPlaceOf z texts lines) (sym place_same) h.place_is;
   },
   refl,
 )

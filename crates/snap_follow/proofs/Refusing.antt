@@ -11,7 +11,7 @@ use Rattle.snap_follow.specs.declared.follow.Ended.{Ended}
 use Rattle.snap_follow.specs.declared.follow.Ended.TheVariants.{Refused, Memory}
 use Rattle.snap_follow.specs.declared.follow.Follow.{Follow}
 use Rattle.snap_follow.specs.declared.follow.Place.{Place}
-use Rattle.snap_follow.specs.Followed.{IsLack, RefusesLine, StopsAt}
+use Rattle.snap_follow.specs.Followed.{AreEvents, IsLack, RefusesLine, StopsAt}
 use Rattle.snap_follow.specs.inside.Refusals.{IsRefusal, ended_by}
 use Rattle.snap_core.specs.declared.history.EventRefusal.{EventRefusal}
 use Rattle.snap_core.specs.declared.history.EventRefusal.TheVariants as refusals
@@ -21,7 +21,7 @@ abbrev first_or : Fields → List Fields → Fields
 first_or row [] = row
 first_or row (x ∷ xs) = x
 
-abbrev event_or : {E : Type 0} → Event → Result Event E → Event
+abbrev pub event_or : {E : Type 0} → Event → Result Event E → Event
 event_or x (Ok y) = y
 event_or x (Err e) = x
 
@@ -33,8 +33,10 @@ pub event_refused : (f : Follow) (line : List ℕ) (why : Ended) (row : Fields) 
     ((before since : List Event) → HasTaken f.judge before since → IsHistory (before ++ (since ++ x ∷ [])) → IsLack f.judge since why) → RefusesLine f line why
 event_refused f line why row x old rows event refused least most texts lines events h (inl none) = absurd (no_first row [] (sym rows ∙ none))
 event_refused f line why row x old rows event refused least most texts lines events h (inr (inl (o, head, is, header))) = absurd (false≢true (sym o ∙ old))
-event_refused f line why row x old rows event refused least most texts lines events h (inr (inr (o, other, y, is, spelled, history))) =
-    refused h.before h.since h.taken (subst IsHistory (ap (λ z. z ++ y ∷ []) h.windows ∙ append_assoc h.before h.since (y ∷ []) ∙ ap (λ z. h.before ++ (h.since ++ z ∷ [])) same) history)
+event_refused f line why row x old rows event refused least most texts lines events h (inr (inr (o, other, y, is, spelled, history))) = (
+  refused h.before h.since h.taken (subst IsHistory (ap (λ z. z ++ y ∷ []) h.windows ∙ append_assoc h.before h.since (y ∷ []) ∙ ap (λ z. h.before ++ (h.since ++ z ∷ [])) same) history),
+  inr (old, λ none. no_first row [] (sym rows ∙ none)),
+)
   where
     same : y ≡ x
     same = sym (ap (event_or y) (ap row_event (ap (first_or row) (sym rows ∙ is)) ∙ spelled)) ∙ ap (event_or y) event
@@ -52,5 +54,11 @@ lack_by judge since place refusal (inr lacking) most = subst (λ z. IsLack judge
 
 -- a line that is refused, and not for want of memory, stops the recording
 pub stops_at : (f : Follow) (line : List ℕ) (why : Ended) → IsRefusal why → RefusesLine f line why → StopsAt f line
-stops_at f line (Refused place fault) is refuses least most texts lines events h goes_on = subst (λ z. z ≤ length h.since) h.most_is (refuses least most texts lines events h goes_on).1
+stops_at f line (Refused place fault) is refuses least most texts lines events h goes_on =
+    let lack = refuses least most texts lines events h goes_on in
+    (subst (λ z. z ≤ length h.since) h.most_is lack.0.1, go lack.1)
+  where
+    go : (Refused place fault ≡ Memory) ⊎ AreEvents f (rows_of line) → AreEvents f (rows_of line)
+    go (inl memory) = absurd (subst IsRefusal memory is)
+    go (inr events) = events
 stops_at f line Memory is refuses least most texts lines events h goes_on = absurd is

@@ -17,6 +17,10 @@ pub record Ended : Type 0 where
   pub within : HasNoEnd line
   pub ends : EndsLine end
 
+-- bytes are whole lines: they end with LF, if there are any
+abbrev pub AreWholeLines : List ℕ → Type 0
+AreWholeLines bytes = (bytes ≡ []) ⊎ ((front : List ℕ) × (bytes ≡ front ++ 10 ∷ []))
+
 -- bytes are these lines, each with its end, and a rest of a line
 pub record AreLinesOf (bytes : List ℕ) (lines : List (List ℕ)) (rest : List ℕ) : Type 0 where
   pub each : List Ended

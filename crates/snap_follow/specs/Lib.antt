@@ -1,3 +1,6 @@
 pub mod Bytes
 pub mod Followed
+pub mod Recordings
+pub mod Texts
+pub mod Written
 pub mod inside

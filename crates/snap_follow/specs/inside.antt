@@ -3,4 +3,6 @@ pub mod Counts
 pub mod Courses
 pub mod Quotes
 pub mod Refusals
+pub mod Runs
 pub mod Statuses
+pub mod Stops

@@ -1,6 +1,8 @@
 //! What is answered of a recording: the lines of its windows, and their sums.
+ghost use Rattle.snap_follow.specs.Bytes.{AreWholeLines};
+
 use crate::follow::{Place, Window};
-use crate::lines::{put_failure, put_refusal, put_window};
+use crate::lines::{Lines, put_failure, put_refusal, put_window};
 use crate::sums::{Kind, Sums};
 use snap_text::TextFault;
 use std::alloc::{AllocError, Global};
@@ -9,10 +11,12 @@ use std::alloc::{AllocError, Global};
 #[derive(Drop)]
 pub(crate) struct Answers {
     sums: Sums,
-    // the names of the texts that were begun; none where the recording is one text
+    // the names of the texts that were begun; none if the recording is one text
     names: Vec<Vec<u8>>,
+    // room to make a line in
+    made: Vec<u8>,
     // the lines that are still to be written
-    lines: Vec<u8>,
+    lines: Lines,
 }
 
 impl Answers {
@@ -20,18 +24,21 @@ impl Answers {
         Answers {
             sums: Sums::new(),
             names: Vec::new(alloc),
-            lines: Vec::new(alloc),
+            made: Vec::new(alloc),
+            lines: Lines::new(alloc),
         }
     }
 
-    /// How many completed views the windows have.
+    /// The number of completed views that the windows have.
     pub(crate) fn views(&self) -> u64 {
         self.sums.views()
     }
 
     /// The lines that are still to be written.
-    pub(crate) fn lines(&self) -> &[u8] {
-        &self.lines
+    pub(crate) fn lines(&self) -> &[u8]
+        ensures { AreWholeLines result.now }
+    {
+        self.lines.bytes()
     }
 
     /// Forgets the lines, which were written.
@@ -46,28 +53,35 @@ impl Answers {
 
     /// Adds the line of a window that has ended, and counts it.
     pub(crate) fn add_window(&mut self, window: &Window) -> Result<(), AllocError> {
-        put_window(&mut self.lines, self.sums.next(), window, &self.names)?;
+        self.made.clear();
+        put_window(&mut self.made, self.sums.next(), window, &self.names)?;
+        self.lines.add(&self.made)?;
         self.sums.add_span(window.span);
         self.sums.add(Kind::of(window.verdict));
         Ok(())
     }
 
-    /// The same of a window that is refused at a record.
+    /// Adds the line of a window that is refused at a record, and counts it.
     pub(crate) fn add_refusal(&mut self, place: Place, fault: TextFault) -> Result<(), AllocError> {
-        put_refusal(&mut self.lines, self.sums.next(), place, fault, &self.names)?;
+        self.made.clear();
+        put_refusal(&mut self.made, self.sums.next(), place, fault, &self.names)?;
+        self.lines.add(&self.made)?;
         self.sums.add(Kind::Refused);
         Ok(())
     }
 
-    /// The same of a window that can't be judged.
+    /// Adds the line of a window that can't be judged, and counts it.
     pub(crate) fn add_failure(&mut self) -> Result<(), AllocError> {
-        put_failure(&mut self.lines, self.sums.next())?;
+        self.made.clear();
+        put_failure(&mut self.made, self.sums.next())?;
+        self.lines.add(&self.made)?;
         self.sums.add(Kind::Failed);
         Ok(())
     }
 
-    /// Adds the lines of the sums.
     pub(crate) fn add_sums(&mut self) -> Result<(), AllocError> {
-        self.sums.put(&mut self.lines)
+        self.made.clear();
+        self.sums.put(&mut self.made)?;
+        self.lines.add(&self.made)
     }
 }

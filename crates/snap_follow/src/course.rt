@@ -1,8 +1,8 @@
 //! The course of a recording that is followed: its bytes are cut into lines, and its windows are answered.
-ghost use Rattle.std.specs.Prelude.{◌≡◌, ◌⊎◌, ◌++◌, [], ℕ, List, false, true, IfOk, OnOk};
+ghost use Rattle.std.specs.Prelude.{◌≡◌, ◌≢◌, ◌↔◌, ◌⊎◌, ◌++◌, [], ℕ, List, false, true, IfOk, IsTrue, OnOk};
 ghost use Rattle.snap_core.specs.declared.event.Event.{Event};
 ghost use Rattle.snap_follow.specs.Followed.{HasRead, IsStatusOf, StopsAt};
-ghost use Rattle.snap_follow.specs.inside.Courses.{EndsBytes, HasFollowed, IsTooLong, StopsIn, StopsLast, TakesBytes, TakesLast, TakesLine};
+ghost use Rattle.snap_follow.specs.inside.Courses.{EndsBytes, HasFollowed, HasNoneSoFar, IsBegun, IsTooLong, StopsIn, StopsLast, TakesBytes, TakesLast, TakesLine};
 ghost use Rattle.snap_follow.specs.inside.Refusals.{IsRefusal};
 
 use crate::answers::Answers;
@@ -14,7 +14,7 @@ use snap_text::TextFault;
 use std::alloc::{AllocError, Global};
 use std::mem;
 
-/// How many bytes a record may have, which is far more than a record of a history has.
+/// The most bytes that a record may have. A record of a history has far fewer.
 pub const RECORD_LIMIT: usize = 1_048_576;
 
 /// The course of a recording so far.
@@ -39,7 +39,9 @@ impl Course {
     }
 
     /// Whether a line has begun whose end has not come.
-    pub(crate) fn has_rest(&self) -> bool {
+    pub(crate) fn has_rest(&self) -> bool
+        ensures { IsTrue result ↔ (self.now.rest.items ≢ []) }
+    {
         !self.rest.is_empty()
     }
 
@@ -54,7 +56,7 @@ impl Course {
         }
     }
 
-    // Takes a line, and ends a window where one may end there. Whether the recording is followed further.
+    // Takes a line, and ends a window if one may end there. Answers whether the recording is followed further.
     fn take_line(&mut self, alloc: Global, line: &[u8]) -> Result<bool, AllocError>
         ensures rest { self.new.rest ≡ self.old.rest }
         ensures read { IfOk result (λ goes_on. goes_on ≡ true → TakesLine self.old.follow self.new.follow line.now) }
@@ -70,7 +72,7 @@ impl Course {
         Ok(true)
     }
 
-    // Takes the rest as a line. Whether the recording is followed further.
+    // Takes the rest as a line. Answers whether the recording is followed further.
     fn take_rest(&mut self, alloc: Global) -> Result<bool, AllocError>
         ensures rest { self.new.rest.items ≡ [] }
         ensures read { IfOk result (λ goes_on. goes_on ≡ true → TakesLine self.old.follow self.new.follow self.old.rest.items) }
@@ -80,7 +82,7 @@ impl Course {
         self.take_line(alloc, &line)
     }
 
-    /// Takes the rest as a line, if there is any, since nothing comes behind it. Whether the recording is followed further.
+    /// Takes the rest as a line, if there is any, since nothing comes after it. Answers whether the recording is followed further.
     pub(crate) fn take_last(&mut self, alloc: Global) -> Result<bool, AllocError>
         ensures rest { self.new.rest.items ≡ [] }
         ensures read { IfOk result (λ goes_on. goes_on ≡ true → TakesLast self.old self.new) }
@@ -92,7 +94,7 @@ impl Course {
         self.take_rest(alloc)
     }
 
-    // Refuses the next record, where it has begun with more bytes than a record may have. Whether the recording is followed further.
+    // Refuses the next record if it has begun with more bytes than a record may have. Answers whether the recording is followed further.
     fn check_length(&mut self) -> Result<bool, AllocError>
         ensures same { (self.new.rest ≡ self.old.rest) × (self.new.follow ≡ self.old.follow) }
         ensures refused { IfOk result (λ goes_on. goes_on ≡ false → IsTooLong self.old.rest.items) }
@@ -105,7 +107,7 @@ impl Course {
         Ok(false)
     }
 
-    // Takes the line that begins with the rest and ends with these bytes. Whether the recording is followed further.
+    // Takes the line that begins with the rest and ends with these bytes. Answers whether the recording is followed further.
     fn take_joined(&mut self, alloc: Global, bytes: &[u8]) -> Result<bool, AllocError>
         ensures rest { IfOk result (λ goes_on. goes_on ≡ true → self.new.rest.items ≡ []) }
         ensures read { IfOk result (λ goes_on. goes_on ≡ true → TakesLine self.old.follow self.new.follow (self.old.rest.items ++ bytes.now)) }
@@ -118,7 +120,7 @@ impl Course {
         Ok(self.check_length()? && self.take_rest(alloc)?)
     }
 
-    /// Takes the lines of a piece. The begin of a line without an end is kept. Whether the recording is followed further.
+    /// Takes the lines of a piece. It keeps the begin of a line without an end. Answers whether the recording is followed further.
     pub(crate) fn take_piece(&mut self, alloc: Global, piece: &[u8]) -> Result<bool, AllocError>
         ensures taken { IfOk result (λ goes_on. goes_on ≡ true → TakesBytes self.old self.new piece.now) }
         ensures refused { IfOk result (λ goes_on. goes_on ≡ false → StopsIn self.old piece.now) }
@@ -134,7 +136,7 @@ impl Course {
         self.check_length()
     }
 
-    /// Goes on to the next text, since this one is whole. Whether the recording is followed further.
+    /// Goes on to the next text, since this one is whole. Answers whether the recording is followed further.
     pub(crate) fn end_text(&mut self, alloc: Global) -> Result<bool, AllocError>
         ensures ended { IfOk result (λ goes_on. goes_on ≡ true → EndsBytes self.old self.new) }
         ensures refused { IfOk result (λ goes_on. goes_on ≡ false → StopsLast self.old) }
@@ -149,8 +151,12 @@ impl Course {
         Ok(true)
     }
 
-    /// Refuses a recording without any record. Whether it is one.
-    pub(crate) fn check_begun(&mut self) -> Result<bool, AllocError> {
+    /// Refuses a recording without any record. Answers whether it has one.
+    pub(crate) fn check_begun(&mut self) -> Result<bool, AllocError>
+        ensures same { (self.new.rest ≡ self.old.rest) × (self.new.follow ≡ self.old.follow) }
+        ensures begun { IfOk result (λ goes_on. goes_on ≡ true → IsBegun self.old.follow) }
+        ensures refused { IfOk result (λ goes_on. goes_on ≡ false → HasNoneSoFar self.old.follow) }
+    {
         let last = self.follow.place();
         if last.text > 0 || last.record > 0 {
             return Ok(true);

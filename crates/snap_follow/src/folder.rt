@@ -1,20 +1,22 @@
-//! A recording whose texts stand below a folder.
+//! A recording whose texts are below a folder.
+ghost use Rattle.std.specs.Prelude.{None};
+
 use crate::texts::{Longest, Lost, Opened, Reason, Texts, TextsFault, lost_at};
 use snap_names::{Folders, Lengths, NamesFault, Opener, Trouble, names_below};
 use std::alloc::{AllocError, Global};
 
-/// The texts below a folder, in the order of the bytes of their names. New ones may come behind them.
+/// The texts below a folder, in the order of the bytes of their names. New ones may come after them.
 #[derive(Drop)]
 pub struct FolderTexts<'a, F, O> {
     folders: &'a F,
     opener: &'a O,
     folder: &'a [u8],
-    // the texts that were found, in their order, and how many of them were opened
+    // the names of the texts that were found, in their order, and the number of those that were opened
     names: Vec<Vec<u8>>,
     opened: usize,
-    // of those that were left, how many bytes were read
+    // the number of bytes that were read of each text that was left
     lengths: Vec<u64>,
-    // how long the one at hand was at most
+    // the greatest length that the text at hand has had
     longest: Longest,
 }
 
@@ -41,7 +43,7 @@ impl<'a, F, O> FolderTexts<'a, F, O> {
         Ok(self.names.push(name)?)
     }
 
-    // Leaves the text at hand, of which so many bytes were read, and goes on to the next.
+    // Leaves the text at hand, of which `read` bytes were read, and goes on to the next.
     fn leave(&mut self, read: u64) -> Result<(), AllocError> {
         if self.opened > 0 {
             self.lengths.push(read)?;
@@ -52,7 +54,7 @@ impl<'a, F, O> FolderTexts<'a, F, O> {
 }
 
 impl<F, O: Lengths> FolderTexts<'_, F, O> {
-    // Looks whether the text at hand has become shorter.
+    // Refuses the text at hand if it has become shorter.
     fn check_longest(&mut self, alloc: Global) -> Result<(), TextsFault> {
         let Some(before) = self.opened.checked_sub(1) else {
             return Ok(());
@@ -74,9 +76,9 @@ impl<F, O: Lengths> FolderTexts<'_, F, O> {
         }
     }
 
-    // Takes a name that was listed behind those before it.
+    // Takes a name that was listed after those that were found.
     fn take_name(&mut self, alloc: Global, name: Vec<u8>) -> Result<(), TextsFault> {
-        // a folder that can't be listed stands among the names itself, and so does what may be no text
+        // a folder that can't be listed is itself among the names, and so is what may not be a text
         if name.as_slice() == self.folder || !name.ends_with(b".csv") {
             return Err(lost_at(alloc, &name, Reason::Unopened(Trouble::Unopened)));
         }
@@ -118,6 +120,9 @@ impl<F: Folders, O: Lengths> FolderTexts<'_, F, O> {
 
 impl<F: Folders, O: Opener + Lengths> Texts for FolderTexts<'_, F, O> {
     type Text = O::Text;
+
+    // the files of a folder may change at any time
+    ghost left = { λ _. None };
 
     fn has_next(&self) -> bool {
         self.opened < self.names.len()

@@ -13,7 +13,7 @@ ghost use Rattle.snap_format.specs.Rows.{rows_of};
 ghost use Rattle.snap_theory.specs.Windows.{IsQuiet};
 ghost use Rattle.snap_windows.specs.Taken.{HasTaken};
 ghost use Rattle.snap_windows.specs.Verdicts.{IsVerdict};
-ghost use Rattle.snap_follow.specs.Followed.{EndsText, HasNoRecord, HasRead, IsLack, ReadsLine, RefusesLine};
+ghost use Rattle.snap_follow.specs.Followed.{EndsText, HasNoRecord, HasRead, IsLack, IsNext, ReadsLine, RefusesLine};
 
 use crate::quotes::unquote;
 use snap_core::{Entry, Event, EventRefusal, Limit};
@@ -22,7 +22,8 @@ use snap_text::{Known, TextFault};
 use snap_windows::{Verdict, WindowJudge};
 use std::alloc::{AllocError, Global};
 
-/// Where a record stands: in which text of the recording, from 0, and which of its records it is, from 1: the header is record 1.
+/// The place of a record: the number of its text in the recording, from 0, and its own number in that text, from 1. The header is
+/// record 1.
 #[derive(Clone, Copy, Debug)]
 pub struct Place {
     pub text: usize,
@@ -32,13 +33,13 @@ pub struct Place {
 /// The events of a window.
 #[derive(Clone, Copy, Debug)]
 pub struct Span {
-    /// How many events and completed views it has.
+    /// The numbers of its events and of its completed views.
     pub events: u64,
     pub views: u64,
-    /// Where its first and its last event stand.
+    /// The places of its first and of its last event.
     pub first: Place,
     pub last: Place,
-    /// An entry that was left before it, and where the first view ends that shows neither that nor a later number.
+    /// An entry that was left before it, and the place at which the first view ends that shows neither that nor a later number.
     pub missed: Option<(Entry, Place)>,
 }
 
@@ -52,7 +53,7 @@ pub struct Window {
 /// Why a recording is followed no further.
 #[derive(Clone, Copy, Debug)]
 pub enum Ended {
-    /// A record is no part of a history, or a window has no room for it.
+    /// A record is not part of a history, or a window has no room for it.
     Refused { place: Place, fault: TextFault },
     /// Memory ran out.
     Memory,
@@ -66,7 +67,7 @@ impl From<AllocError> for Ended {
     }
 }
 
-/// A recording that is followed: all that its lines have said so far.
+/// A recording that is followed: everything that its lines have said so far.
 #[derive(Drop)]
 pub struct Follow {
     pub(crate) judge: WindowJudge,
@@ -76,14 +77,14 @@ pub struct Follow {
     // whether the header of the text at hand was read, and the record that was read last
     pub(crate) headed: bool,
     place: Place,
-    // from how many events on a window ends at a moment without an open call, and how many calls are open
+    // the number of events from which on a window ends at a moment without an open call, and the number of open calls
     least: usize,
     open_calls: u64,
     // the window at hand
     span: Span,
 }
 
-// How many calls are open behind an event.
+// The number of calls that are open after an event.
 fn open_behind(before: u64, event: &Event) -> u64
     ensures { CountsOpen before event.now result }
 {
@@ -95,7 +96,7 @@ fn open_behind(before: u64, event: &Event) -> u64
 }
 
 impl Span {
-    // A window without events, behind a record.
+    // A window without events, after a record.
     fn behind(place: Place) -> Span {
         Span {
             events: 0,
@@ -106,7 +107,7 @@ impl Span {
         }
     }
 
-    // The window with an event more, which stands there and misses this.
+    // The window with one event more, which is at this place and misses this entry.
     fn with(self, event: &Event, place: Place, missed: Option<Entry>) -> Span {
         Span {
             events: self.events.saturating_add(1),
@@ -118,7 +119,7 @@ impl Span {
     }
 }
 
-// What a view of a window misses first, where an event at a place misses this.
+// What a view of a window misses first, once an event at a place misses this entry.
 fn first_missed(
     before: Option<(Entry, Place)>,
     missed: Option<Entry>,
@@ -136,8 +137,8 @@ fn ends_view(event: &Event) -> bool {
 }
 
 impl Follow {
-    /// A recording of which nothing was read. A window ends at the first moment without an open call from so many events on, and has
-    /// as many as the limit says at most.
+    /// A recording of which nothing was read. A window ends at the first moment without an open call from `least` events on. It has at
+    /// most as many events as the limit says.
     pub fn new(alloc: Global, least: u32, most: Limit) -> Follow
         ensures { HasRead result least most.events [] [] [] }
     {
@@ -154,13 +155,17 @@ impl Follow {
         }
     }
 
-    /// The record that was read last, and record 0 where the text at hand has none so far.
-    pub fn place(&self) -> Place {
+    /// The place of the record that was read last. It is record 0 if the text at hand has none so far.
+    pub fn place(&self) -> Place
+        ensures { result ≡ self.now.place }
+    {
         self.place
     }
 
-    /// Where the next record of the text at hand stands.
-    pub fn next_place(&self) -> Place {
+    /// The place of the next record of the text at hand.
+    pub fn next_place(&self) -> Place
+        ensures { IsNext self.now.place result }
+    {
         Place {
             text: self.place.text,
             record: self.place.record.saturating_add(1),
@@ -177,7 +182,7 @@ impl Follow {
         }
     }
 
-    // The same where the judge has refused the event of that record.
+    // The refusal of the record that was read last, if the judge has refused its event.
     fn refused_event(&self, refusal: EventRefusal) -> Ended
         ensures { result ≡ ended_by self.now.place refusal }
     {
@@ -193,7 +198,7 @@ impl Follow {
         self.refused(fault)
     }
 
-    // Reads the header.
+    // Takes a line before which the text has no record. If it has one, that must be the header.
     fn take_header(&mut self, alloc: Global, line: &[u8]) -> Result<(), Ended>
         requires { self.old.headed ≡ false }
         ensures read { OnOk result (ReadsLine self.old self.new line.now) }
@@ -214,6 +219,7 @@ impl Follow {
     fn take_event(&mut self, alloc: Global, event: &Event) -> Result<(), Ended>
         ensures taken { OnOk result ((before since : List Event) → HasTaken self.old.judge before since → HasTaken self.new.judge before (since ++ event.now ∷ [])) }
         ensures headed { self.new.headed ≡ self.old.headed }
+        ensures place { self.new.place ≡ self.old.place }
         ensures rule { (self.new.least ≡ self.old.least) × (self.new.judge.most ≡ self.old.judge.most) }
         ensures counted { OnOk result (CountsOpen self.old.open_calls event.now self.new.open_calls) }
         ensures refused { IfErr result (λ why. (before since : List Event) → HasTaken self.old.judge before since → IsHistory (before ++ (since ++ event.now ∷ [])) → IsLack self.old.judge since why) }
@@ -230,7 +236,7 @@ impl Follow {
     // The event of a line under the header. Quotes that no field needs are taken off first, since a reader of `csv` costs much more.
     fn read_event(&mut self, alloc: Global, line: &[u8]) -> Result<Option<Event>, ReadRefusal>
         ensures event { AnswersLine 0 (rows_of line.now) result }
-        ensures same { (self.new.judge ≡ self.old.judge) × (self.new.headed ≡ self.old.headed) × (self.new.least ≡ self.old.least) × (self.new.open_calls ≡ self.old.open_calls) }
+        ensures same { (self.new.judge ≡ self.old.judge) × (self.new.headed ≡ self.old.headed) × (self.new.least ≡ self.old.least) × (self.new.open_calls ≡ self.old.open_calls) × (self.new.place ≡ self.old.place) }
     {
         if unquote(line, &mut self.bare)? {
             return read_line(alloc, &mut self.known, &self.bare, 0);
@@ -277,7 +283,7 @@ impl Follow {
         Ok(())
     }
 
-    /// Ends the window at hand exactly where it has events enough and no call is open. The error is want of memory.
+    /// Ends the window at hand exactly if it has enough events and no call is open. The error is want of memory.
     pub fn cut(&mut self, alloc: Global) -> Result<Option<Window>, AllocError>
         ensures same { OnOk result ((least most : ℕ) (texts : List (List (List ℕ))) (lines : List (List ℕ)) (events : List Event) → HasRead self.old least most texts lines events → HasRead self.new least most texts lines events) }
         ensures window { IfOk result (λ found. IfSome found (λ window. (least most : ℕ) (texts : List (List (List ℕ))) (lines : List (List ℕ)) (events : List Event) (h : HasRead self.old least most texts lines events) → IsVerdict window.verdict h.before h.since)) }

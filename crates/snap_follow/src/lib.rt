@@ -6,6 +6,7 @@ mod course;
 mod folder;
 mod follow;
 mod lines;
+mod pieces;
 mod quotes;
 mod run;
 mod sums;

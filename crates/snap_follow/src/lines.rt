@@ -1,13 +1,66 @@
 //! The lines of windows.
+ghost use Rattle.std.specs.Prelude.{◌≡◌, ◌++◌, [], OnOk};
+ghost use Rattle.snap_follow.specs.Bytes.{AreWholeLines};
+
 use crate::follow::{Place, Window};
 use crate::sums::Kind;
 use snap_core::Entry;
 use snap_names::put_shown;
 use snap_report::{put_entry, put_number};
 use snap_text::TextFault;
-use std::alloc::AllocError;
+use std::alloc::{AllocError, Global};
+use std::marker::Model;
 
-// Adds a text, and behind it a record: its number, and the name of its text where that has one.
+/// Whole lines, each with its end.
+#[derive(Drop)]
+pub(crate) struct Lines {
+    bytes: Vec<u8>,
+}
+
+impl Model for Lines {
+    ghost use Rattle.std.specs.Prelude.{ℕ, List};
+    ghost use Rattle.snap_follow.specs.Bytes.{AreWholeLines};
+
+    ghost Value = { List ℕ };
+
+    ghost view = { λ lines. lines.bytes.items };
+
+    ghost invariant = { λ lines. AreWholeLines lines.bytes.items };
+}
+
+impl Lines {
+    pub(crate) fn new(alloc: Global) -> Lines
+        ensures { result ≡ [] }
+    {
+        Lines {
+            bytes: Vec::new(alloc),
+        }
+    }
+
+    /// The bytes of the lines.
+    pub(crate) fn bytes(&self) -> &[u8]
+        ensures same { result.now ≡ self.now }
+        ensures whole { AreWholeLines result.now }
+    {
+        &self.bytes
+    }
+
+    /// Adds lines. If memory runs out, none is added.
+    pub(crate) fn add(&mut self, lines: &[u8]) -> Result<(), AllocError>
+        requires { AreWholeLines lines.now }
+        ensures { OnOk result (self.new ≡ self.old ++ lines.now) }
+    {
+        self.bytes.extend_from_slice(lines)
+    }
+
+    pub(crate) fn clear(&mut self)
+        ensures { self.new ≡ [] }
+    {
+        self.bytes.clear();
+    }
+}
+
+// Adds a text, and after it a record: its number, and the name of its text if that has one.
 fn put_place(
     out: &mut Vec<u8>,
     text: &[u8],
@@ -39,13 +92,15 @@ fn put_missed(
     }
 }
 
-/// Adds the line of a window of this number, where the texts have these names.
+/// Adds the line of a window of this number. The texts of the recording have these names.
 pub(crate) fn put_window(
     out: &mut Vec<u8>,
     number: u64,
     window: &Window,
     names: &[Vec<u8>],
-) -> Result<(), AllocError> {
+) -> Result<(), AllocError>
+    ensures { OnOk result (AreWholeLines out.new.items) }
+{
     put_number(out, b"window ", number)?;
     put_number(out, b" events ", window.span.events)?;
     out.push(b' ')?;
@@ -63,7 +118,9 @@ pub(crate) fn put_refusal(
     place: Place,
     fault: TextFault,
     names: &[Vec<u8>],
-) -> Result<(), AllocError> {
+) -> Result<(), AllocError>
+    ensures { OnOk result (AreWholeLines out.new.items) }
+{
     put_number(out, b"window ", number)?;
     put_place(out, b" refused record ", place, names)?;
     out.extend_from_slice(b": ")?;
@@ -72,7 +129,10 @@ pub(crate) fn put_refusal(
 }
 
 /// Adds the line of a window of this number that can't be judged.
-pub(crate) fn put_failure(out: &mut Vec<u8>, number: u64) -> Result<(), AllocError> {
+pub(crate) fn put_failure(out: &mut Vec<u8>, number: u64) -> Result<(), AllocError>
+    ensures { OnOk result (AreWholeLines out.new.items) }
+{
     put_number(out, b"window ", number)?;
-    out.extend_from_slice(b" failed\n")
+    out.extend_from_slice(b" failed")?;
+    Ok(out.push(b'\n')?)
 }

@@ -8,7 +8,7 @@ ghost use Rattle.snap_follow.specs.inside.Quotes.{IsNotQuoted, IsStripped, Steps
 use memchr::memchr;
 use std::alloc::AllocError;
 
-// Where the next byte of a line stands.
+// Where the next byte of a line is.
 #[derive(Clone, Copy)]
 pub(crate) enum At {
     // At the begin of a field.
@@ -17,11 +17,11 @@ pub(crate) enum At {
     Bare,
     // Between the quotes of a field.
     Quoted,
-    // Behind them.
+    // After them.
     Closed,
 }
 
-// Where the byte behind a byte stands, and whether the byte stays when the quotes go: none where they can't.
+// Where the byte after a byte is, and whether the byte stays when the quotes go. None if they can't go.
 fn step(at: At, byte: u8) -> Option<(At, bool)>
     ensures { IfSome result (λ next. Steps at byte next.0 next.1) }
 {
@@ -53,7 +53,7 @@ fn is_not_quoted(at: At) -> bool
     !matches!(at, At::Quoted)
 }
 
-// Writes what stays of a line. Whether its quotes may go.
+// Writes what stays of a line. Answers whether its quotes may go.
 fn strip(line: &[u8], bare: &mut Vec<u8>) -> Result<bool, AllocError>
     requires { bare.old.items ≡ [] }
     ensures { IfOk result (λ goes. IsTrue goes → (at : At) × IsNotQuoted at × IsStripped line.now [] bare.new.items at) }
@@ -73,7 +73,7 @@ fn strip(line: &[u8], bare: &mut Vec<u8>) -> Result<bool, AllocError>
     Ok(is_not_quoted(at))
 }
 
-/// Writes a line into a room without the quotes of its fields, where none of them needs any. Whether it has the same records then.
+/// Writes a line without the quotes of its fields into a room, if none of them needs any. Answers whether it has the same records then.
 pub(crate) fn unquote(line: &[u8], bare: &mut Vec<u8>) -> Result<bool, AllocError>
     ensures { IfOk result (λ same. IsTrue same → rows_of bare.new.items ≡ rows_of line.now) }
 {

@@ -1,5 +1,6 @@
-//! How many windows there are, and of each kind how many and the first.
-ghost use Rattle.std.specs.Prelude.{◌≡◌};
+//! The number of windows, and for each kind their number and the first.
+ghost use Rattle.std.specs.Prelude.{◌≡◌, OnOk};
+ghost use Rattle.snap_follow.specs.Bytes.{AreWholeLines};
 ghost use Rattle.snap_follow.specs.inside.Statuses.{code_of, verdict_code};
 
 use crate::follow::Span;
@@ -68,7 +69,7 @@ pub(crate) fn status_of(whole: Verdict) -> u8
     Kind::of(whole).code()
 }
 
-// How many windows are of a kind, and the number of the first of them.
+// The count of the windows of a kind, and the number of the first of them.
 #[derive(Clone, Copy)]
 struct Count {
     windows: u64,
@@ -76,7 +77,9 @@ struct Count {
 }
 
 // Adds the line of a kind.
-fn put_count(out: &mut Vec<u8>, kind: Kind, count: Count) -> Result<(), AllocError> {
+fn put_count(out: &mut Vec<u8>, kind: Kind, count: Count) -> Result<(), AllocError>
+    ensures { OnOk result (AreWholeLines out.new.items) }
+{
     out.extend_from_slice(kind.word())?;
     put_number(out, b" ", count.windows)?;
     if count.windows > 0 {
@@ -133,7 +136,9 @@ impl Sums {
     }
 
     /// Adds the lines of the sums.
-    pub(crate) fn put(&self, out: &mut Vec<u8>) -> Result<(), AllocError> {
+    pub(crate) fn put(&self, out: &mut Vec<u8>) -> Result<(), AllocError>
+        ensures { OnOk result (AreWholeLines out.new.items) }
+    {
         put_number(out, b"windows ", self.windows)?;
         put_number(out, b" events ", self.events)?;
         put_number(out, b" views ", self.views)?;

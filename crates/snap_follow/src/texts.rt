@@ -1,9 +1,12 @@
 //! Where the texts of a recording come from.
+ghost use Rattle.std.specs.Prelude.{◌≡◌, ◌≢◌, ◌↔◌, ℕ, List, [], Option, Some, None, IsTrue, IfOk, IfSome, OnOk, MatchOption};
+ghost use Rattle.snap_follow.specs.Texts.{Comes, alone};
+
 use snap_names::{Lengths, Trouble};
 use std::alloc::{AllocError, Global};
 use std::io::Read;
 
-/// Why no text comes any more.
+/// Why no more text comes.
 #[derive(Clone, Copy, Debug)]
 pub enum Reason {
     /// The text can't be opened.
@@ -28,7 +31,7 @@ pub struct Lost {
 /// Why a recording has no next text.
 #[derive(Debug, Drop)]
 pub enum TextsFault {
-    /// For a reason, at this name.
+    /// The recording ends at this name, for this reason.
     Lost(Lost),
     /// Memory ran out.
     Memory,
@@ -45,7 +48,7 @@ impl From<AllocError> for TextsFault {
 pub struct Opened<R> {
     /// The text, as a reader.
     pub text: R,
-    /// Its name; none where a recording has only one text.
+    /// Its name. None if the recording has only one text.
     pub name: Option<Vec<u8>>,
 }
 
@@ -53,18 +56,24 @@ pub struct Opened<R> {
 pub trait Texts {
     type Text: Read + Drop;
 
-    /// Whether a text was found behind those that were opened.
-    fn has_next(&self) -> bool;
+    /// The bytes of the texts that are still to be opened, if they are known. Then no other text comes.
+    ghost left: { Self → Option (List (List ℕ)) };
+
+    /// Whether a text was found after those that were opened.
+    fn has_next(&self) -> bool
+        ensures { IfSome (left self.now) (λ texts. IsTrue result ↔ (texts ≢ [])) };
 
     /// Looks for texts that have come.
-    fn look(&mut self, alloc: Global) -> Result<(), TextsFault>;
+    fn look(&mut self, alloc: Global) -> Result<(), TextsFault>
+        ensures { OnOk result (IfSome (left self.old) (λ texts. left self.new ≡ Some texts)) };
 
-    /// Opens the next text that was found, and leaves the one before it, of which so many bytes were read. None where none was found.
+    /// Opens the next text that was found, and leaves the one before it, of which `read` bytes were read. None if none was found.
     fn open_next(
         &mut self,
         alloc: Global,
         read: u64,
-    ) -> Result<Option<Opened<Self::Text>>, TextsFault>;
+    ) -> Result<Option<Opened<Self::Text>>, TextsFault>
+        ensures { IfOk result (λ found. MatchOption found (IfSome (left self.old) (λ texts. texts ≡ [])) (λ opened. Comes (left self.old) (left self.new) (Self.Text.remaining opened.text))) };
 }
 
 // A name at which the recording ends.
@@ -75,25 +84,25 @@ pub(crate) fn lost_at(alloc: Global, name: &[u8], reason: Reason) -> TextsFault 
     }
 }
 
-/// How long the text of a name was at most.
+/// The greatest length in bytes that the text of a name has had.
 #[derive(Clone, Copy)]
 pub(crate) struct Longest {
     bytes: u64,
 }
 
 impl Longest {
-    /// As long as nothing.
+    /// The length of nothing: 0 bytes.
     pub(crate) fn nothing() -> Longest {
         Longest { bytes: 0 }
     }
 
-    /// As long as it is now. What has no length, as a pipe or a text that is not there, is as long as nothing.
+    /// The length that it has now. What has no length, as a pipe or a text that is not there, has 0 bytes.
     pub(crate) fn of<O: Lengths>(opener: &O, name: &[u8]) -> Longest {
         let bytes = opener.length(name).unwrap_or(0);
         Longest { bytes }
     }
 
-    /// Looks how long it is now. Whether it is shorter than it was. A text that is gone is not.
+    /// Reads the length that it has now. Answers whether that is less than before. A text that is gone is not shorter.
     pub(crate) fn has_shrunk<O: Lengths>(&mut self, opener: &O, name: &[u8]) -> bool {
         let Some(bytes) = opener.length(name) else {
             return false;
@@ -114,8 +123,10 @@ pub struct FileText<'a, R, O> {
 }
 
 impl<'a, R, O: Lengths> FileText<'a, R, O> {
-    /// The recording.
-    pub fn new(text: R, opener: &'a O, name: &'a [u8]) -> FileText<'a, R, O> {
+    /// The recording that is this text, of this name.
+    pub fn new(text: R, opener: &'a O, name: &'a [u8]) -> FileText<'a, R, O>
+        ensures { result.text.text ≡ Some text }
+    {
         let longest = Longest::of(opener, name);
         FileText {
             text: OneText::new(text),
@@ -128,6 +139,8 @@ impl<'a, R, O: Lengths> FileText<'a, R, O> {
 
 impl<R: Read + Drop, O: Lengths> Texts for FileText<'_, R, O> {
     type Text = R;
+
+    ghost left = { λ texts. alone R.remaining texts.text.text };
 
     fn has_next(&self) -> bool {
         self.text.has_next()
@@ -152,14 +165,18 @@ pub struct OneText<R> {
 }
 
 impl<R> OneText<R> {
-    /// The recording.
-    pub fn new(text: R) -> OneText<R> {
+    /// The recording that is this text.
+    pub fn new(text: R) -> OneText<R>
+        ensures { result.text ≡ Some text }
+    {
         OneText { text: Some(text) }
     }
 }
 
 impl<R: Read + Drop> Texts for OneText<R> {
     type Text = R;
+
+    ghost left = { λ texts. alone R.remaining texts.text };
 
     fn has_next(&self) -> bool {
         self.text.is_some()

@@ -13,11 +13,11 @@ abbrev pub event_in : Result Event TextFault → Option Event
 event_in (Ok x) = Some x
 event_in (Err f) = None
 
--- the events of records, those without an event left out
+-- the events of records, without the records that spell no event
 abbrev pub events_in : List Fields → List Event
 events_in rows = filter_map (λ r. event_in (row_event r)) rows
 
--- the fault that a refusal of a history stands for; want of memory is none
+-- the fault of a text for a refusal of a history; lack of memory is not a fault
 abbrev pub fault_of : EventRefusal → Option TextFault
 fault_of refusals.TooMany = Some faults.TooMany
 fault_of refusals.Busy = Some faults.Busy
@@ -27,20 +27,21 @@ fault_of refusals.Writer = Some faults.Writer
 fault_of refusals.Number = Some faults.Number
 fault_of refusals.Memory = None
 
--- the fault in a record's fields, or else the first refusal of its event behind the events before it, where a history may have so many events
+-- the fault in a record's fields, or else the first refusal of its event after the events before it; a history has at most `limit`
+-- events
 abbrev pub fault_with : ℕ → List Event → Result Event TextFault → Option TextFault
 fault_with limit before (Err f) = Some f
 fault_with limit before (Ok x) = option_and_then fault_of (refusal_of limit before x)
 
--- the first fault of a record under the header, with the events before it: how many fields it has, whether the history is full,
--- what the fields spell, and what the event is after those events
+-- the first fault of a record under the header, with the events before it. In this order: its number of fields, whether the history
+-- is full, what the fields spell, and what the event is after those events
 unfoldable pub row_fault : ℕ → List Event → Fields → Option TextFault
 row_fault limit before r =
     if not (length r == 4) then Some faults.Fields
     else if nat_le limit (length before) then Some faults.TooMany
     else fault_with limit before (row_event r)
 
--- the same of the record at a place among those under the header
+-- the first fault of the record at a place among those under the header
 abbrev pub fault_at : ℕ → List Fields → ℕ → Option TextFault
 fault_at limit rows i = row_fault limit (events_in (take i rows)) (slice_index_or rows i [])
 

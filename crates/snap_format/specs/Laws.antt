@@ -11,24 +11,24 @@ use Rattle.snap_format.specs.Layout.{history_text, is_header_row, is_stamped_hea
 use Rattle.snap_format.specs.Texts.{HasFault, IsText, bytes_within}
 use Rattle.snap_format.specs.Records.{HaveRecords, SpellEvents}
 
--- the text of every history of at most a quarter of so many events is within the limit of bytes for them
+-- the text of each history of at most a quarter of `limit` events is within the limit of bytes
 abbrev pub TextsAreShort : Type 0
 TextsAreShort =
     (limit : ℕ) (events : List Event) → 1 ≤ limit → IsBoundedHistory events → 4 * length events ≤ limit →
     length (history_text events) ≤ bytes_within limit
 
--- the end of a view lists at most so many entries
+-- the end of a view lists at most this many entries
 abbrev pub ListsAtMost : ℕ → Event → Type 0
 ListsAtMost n (EndView p entries) = length entries ≤ n
 ListsAtMost n _ = ⊤
 
--- so is that of every history of at most so many events whose views list at most 36 entries each
+-- the text of each history of at most `limit` events whose views list at most 36 entries each is within the limit of bytes
 abbrev pub NarrowTextsAreShort : Type 0
 NarrowTextsAreShort =
     (limit : ℕ) (events : List Event) → 1 ≤ limit → IsBoundedHistory events → length events ≤ limit → All (ListsAtMost 36) events →
     length (history_text events) ≤ bytes_within limit
 
--- the text of a history has no fault and is that of this history, where events and bytes are within the limit
+-- the text of a history has no fault and is that of this history, if events and bytes are within the limit
 abbrev pub TextsReadBack : Type 0
 TextsReadBack =
     (limit : ℕ) (events : List Event) → IsBoundedHistory events → length events ≤ limit → length (history_text events) ≤ bytes_within limit →
@@ -44,14 +44,14 @@ TextsHaveNoFault =
 abbrev pub TextsHaveOneReading : Type 0
 TextsHaveOneReading = (limit : ℕ) (text : List ℕ) (xs ys : List Event) → IsText limit text xs → IsText limit text ys → xs ≡ ys
 
--- and has at most one first fault, at one place
+-- a text has at most one first fault, at one place
 abbrev pub TextsHaveOneFault : Type 0
 TextsHaveOneFault =
     (limit : ℕ) (text : List ℕ) (place other : ℕ) (fault another : TextFault) → HasFault limit text place fault →
     HasFault limit text other another →
     (place ≡ other) × (fault ≡ another)
 
--- each text is one of a history, or it has a first fault
+-- each text is one of a history, or has a first fault
 abbrev pub TextsAreDecided : Type 0
 TextsAreDecided =
     (limit : ℕ) (text : List ℕ) → ((events : List Event) × IsText limit text events) ⊎ ((place : ℕ) × (fault : TextFault) × HasFault limit text place fault)
@@ -60,11 +60,11 @@ TextsAreDecided =
 abbrev pub TextsAreHistories : Type 0
 TextsAreHistories = (limit : ℕ) (text : List ℕ) (events : List Event) → limit ≤ event_cap → IsText limit text events → IsBoundedHistory events
 
--- no record is the header of texts without stamps and of texts with them
+-- no record is both the header of texts without stamps and that of texts with them
 abbrev pub HeadersDiffer : Type 0
 HeadersDiffer = (r : Fields) → is_header_row r ≡ true → is_stamped_header_row r ≡ true → ⊥
 
--- the text of a history with strictly rising stamps has no fault and is that of this history, where events and bytes are within the limit
+-- the text of a history with strictly rising stamps has no fault and gives back this history, if events and bytes are within the limit
 abbrev pub StampedTextsReadBack : Type 0
 StampedTextsReadBack =
     (limit : ℕ) (at : List ℕ) (events : List Event) → IsBoundedHistory events → length events ≤ limit → length at ≡ length events →

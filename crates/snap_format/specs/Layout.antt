@@ -5,7 +5,7 @@ use Rattle.std.specs.Str.{bytes_eq}
 use Rattle.snap_core.specs.declared.event.Event.{Event}
 use Rattle.snap_text.specs.Spelling.{spelled}
 
--- the first record, compared byte for byte
+-- the first record of a text, compared byte for byte
 abbrev pub header : List (List ℕ)
 header = codes "event" ∷ codes "process" ∷ codes "op" ∷ codes "data" ∷ []
 

@@ -22,7 +22,7 @@ abbrev pub with_stamped : ℕ → Result (ℕ × Event) TextFault → List Stamp
 with_stamped place (Ok x) later = record { at = x.0; place = place; event = x.1 } ∷ later
 with_stamped place (Err f) later = later
 
--- the stamped events of records, the first of which is the record of a number; those without an event are left out
+-- the stamped events of records, the first of which has this number; records that spell no event are left out
 abbrev pub stamped_from : ℕ → List Fields → List Stamped
 stamped_from place [] = []
 stamped_from place (r ∷ rows) = with_stamped place (stamped_row r) (stamped_from (place + 1) rows)
@@ -45,31 +45,31 @@ abbrev pub repeat_fault : List ℕ → Result (ℕ × Event) TextFault → Optio
 repeat_fault earlier (Err f) = Some f
 repeat_fault earlier (Ok x) = if list_any (λ s. x.0 == s) earlier then Some faults.Repeated else None
 
--- the first fault of a record by itself, behind so many records with these stamps: how many fields it has, whether the history
--- would be full, what the fields spell, and whether its stamp is new
+-- the first fault of a record by itself, after `count` records with these stamps. In this order: its number of fields, whether the
+-- history would be full, what the fields spell, and whether its stamp is new
 unfoldable pub shape_fault : ℕ → ℕ → List ℕ → Fields → Option TextFault
 shape_fault limit count earlier r =
     if not (length r == 5) then Some faults.Fields
     else if nat_le limit count then Some faults.TooMany
     else repeat_fault earlier (stamped_row r)
 
--- the same of the record at a place among those under the header
+-- the first fault by itself of the record at a place among those under the header
 abbrev pub shape_at : ℕ → List Fields → ℕ → Option TextFault
 shape_at limit rows i = shape_fault limit i (stamps_of (stamped_in (take i rows))) (slice_index_or rows i [])
 
--- stands where a place is no event's
+-- what `order_at` and `OrderFault` take if a place has no event
 abbrev pub nothing : Stamped
 nothing = record { at = 0; place = 0; event = BeginView 0 }
 
--- the fault of an event behind those with smaller stamps
+-- the fault of an event after those with smaller stamps
 abbrev pub order_at : ℕ → List Stamped → ℕ → Option TextFault
 order_at limit xs i = fault_with limit (events_of (take i xs)) (Ok (slice_index_or xs i nothing).event)
 
--- none of the first so many has a fault
+-- none of the first `count` places has a fault
 abbrev pub NoneOf : (ℕ → Option TextFault) → ℕ → Type 0
 NoneOf fault count = (i : ℕ) → i < count → fault i ≡ None
 
--- the first of so many with a fault
+-- the first fault at the first `count` places, and its place
 pub record FirstOf (fault : ℕ → Option TextFault) (count i : ℕ) (f : TextFault) : Type 0 where
   pub below : i < count
   pub here : fault i ≡ Some f
@@ -80,7 +80,7 @@ pub record InOrder (rows : List Fields) (xs : List Stamped) : Type 0 where
   pub same : IsPermutation (stamped_in rows) xs
   pub rising : IsStrictlyIncreasing (stamps_of xs)
 
--- no record has a fault by itself, and no event has one behind those with smaller stamps
+-- no record has a fault by itself, and no event has one after those with smaller stamps
 pub record StampedRead (limit : ℕ) (rows : List Fields) (events : List Event) : Type 0 where
   pub shapes : NoneOf (shape_at limit rows) (length rows)
   pub sorted : List Stamped
@@ -88,13 +88,13 @@ pub record StampedRead (limit : ℕ) (rows : List Fields) (events : List Event) 
   pub fine : NoneOf (order_at limit sorted) (length sorted)
   pub history : events ≡ events_of sorted
 
--- the least record with a fault by itself
+-- the first record with a fault by itself
 pub record ShapeFault (limit : ℕ) (rows : List Fields) (place : ℕ) (f : TextFault) : Type 0 where
   pub i : ℕ
   pub record_is : place ≡ i + 2
   pub first : FirstOf (shape_at limit rows) (length rows) i f
 
--- no record has a fault by itself; the first event by stamps with a fault, by the number of its record
+-- no record has a fault by itself; `place` is the record number of the first event, by stamps, that has a fault
 pub record OrderFault (limit : ℕ) (rows : List Fields) (place : ℕ) (f : TextFault) : Type 0 where
   pub shapes : NoneOf (shape_at limit rows) (length rows)
   pub sorted : List Stamped

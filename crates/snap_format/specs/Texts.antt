@@ -1,4 +1,4 @@
--- When a byte text is one of a history, and where else its first fault is.
+-- When a byte text is one of a history, and where all others have their first fault.
 use Rattle.std.specs.Prelude.{◌≡◌, ◌≤◌, ◌<◌, ◌+◌, ◌*◌, ◌⊎◌, ℕ, true, false, List, [], ◌∷◌, length}
 use Rattle.snap_core.specs.declared.event.Event.{Event}
 use Rattle.snap_format.specs.declared.size.TheConstants.{BYTES_EACH}
@@ -10,18 +10,18 @@ use Rattle.snap_format.specs.Layout.{is_header_row, is_stamped_header_row}
 use Rattle.snap_format.specs.Faults.{events_in, NoFault, FirstFault}
 use Rattle.snap_format.specs.Stamps.{StampedFault, StampedRead}
 
--- how many bytes a text may have where its history may have so many events
+-- the greatest number of bytes of a text whose history may have `limit` events
 abbrev pub bytes_within : ℕ → ℕ
 bytes_within limit = limit * BYTES_EACH
 
--- what records are a history of so many events at most, without stamps or with them: none where the first is neither header
+-- records that are a history of at most `limit` events, without stamps or with them; the first record must be one of the headers
 abbrev pub RowsRead : ℕ → List Fields → List Event → Type 0
 RowsRead limit [] events = ⊥
 RowsRead limit (head ∷ rows) events =
     ((is_header_row head ≡ true) × NoFault limit rows × (events ≡ events_in rows))
     ⊎ ((is_stamped_header_row head ≡ true) × StampedRead limit rows events)
 
--- where records have their first fault
+-- the place of the first fault of records, and that fault
 abbrev pub RowsFault : ℕ → List Fields → ℕ → TextFault → Type 0
 RowsFault limit [] place f = (place ≡ 1) × (f ≡ faults.Header)
 RowsFault limit (head ∷ rows) place f =
@@ -29,7 +29,7 @@ RowsFault limit (head ∷ rows) place f =
     ⊎ (((is_header_row head ≡ true) × (i : ℕ) × (place ≡ i + 2) × FirstFault limit rows i f)
     ⊎ ((is_stamped_header_row head ≡ true) × StampedFault limit rows place f))
 
--- a text without a fault, and its history of so many events at most
+-- a text without a fault, and its history of at most `limit` events
 abbrev pub IsText : ℕ → List ℕ → List Event → Type 0
 IsText limit text events = (length text ≤ bytes_within limit) × RowsRead limit (rows_of text) events
 

@@ -1,11 +1,11 @@
-//! The fault of a text that a refused event stands for.
+//! The fault of a text for a refused event.
 ghost use Rattle.std.specs.Prelude.{◌≡◌};
 ghost use Rattle.snap_format.specs.Faults.{fault_of};
 
 use snap_core::EventRefusal;
 use snap_text::TextFault;
 
-/// The fault of a text that a refused event stands for: none where memory ran out.
+/// The fault of a text for a refused event; none if memory ran out.
 pub fn fault_for(refusal: EventRefusal) -> Option<TextFault>
     ensures { result ≡ fault_of refusal }
 {

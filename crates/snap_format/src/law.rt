@@ -6,7 +6,7 @@ pub fn texts_read_back()
     ensures { TextsReadBack }
 {}
 
-/// Within no limit is a text one of a history and has a fault.
+/// Within each limit, a text that is one of a history has no fault.
 pub fn texts_have_no_fault()
     ensures { TextsHaveNoFault }
 {}
@@ -21,7 +21,7 @@ pub fn narrow_texts_are_short()
     ensures { NarrowTextsAreShort }
 {}
 
-/// Within each limit a text is one of a history, or it has a first fault.
+/// Within each limit, a text is one of a history, or it has a first fault.
 pub fn texts_are_decided()
     ensures { TextsAreDecided }
 {}
@@ -31,12 +31,12 @@ pub fn texts_are_histories()
     ensures { TextsAreHistories }
 {}
 
-/// Within a limit a text is one of at most one history.
+/// Within a limit, a text is one of at most one history.
 pub fn texts_have_one_reading()
     ensures { TextsHaveOneReading }
 {}
 
-/// Within a limit a text has at most one first fault.
+/// Within a limit, a text has at most one first fault.
 pub fn texts_have_one_fault()
     ensures { TextsHaveOneFault }
 {}
@@ -46,14 +46,14 @@ pub fn headers_differ()
     ensures { HeadersDiffer }
 {}
 
-/// The text of a history with strictly rising stamps has no fault and is that of this history, within every limit of events and
-/// its limit of bytes.
+/// The text of a history with strictly rising stamps has no fault and is that of this history. This holds within every limit of
+/// events and its limit of bytes.
 pub fn stamped_texts_read_back()
     ensures { StampedTextsReadBack }
 {}
 
-/// Where a text is one of a history with these records, there are as many of them as events, no two the same, and the record
-/// of each event's number has that event's four fields, behind a stamp where the text has stamps.
+/// If a text is one of a history with these records, it has as many of them as events, and no two are the same. The record of
+/// each event's number has that event's four fields, after a stamp if the text has stamps.
 pub fn records_spell_events()
     ensures { RecordsSpellEvents }
 {}

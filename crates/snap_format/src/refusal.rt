@@ -1,4 +1,4 @@
-//! Why a text was not read.
+//! Why no history was read.
 ghost use Rattle.std.specs.Prelude.{◌≡◌};
 ghost use Rattle.snap_format.specs.declared.refusal.ReadRefusal.TheVariants as read;
 

@@ -5,10 +5,10 @@ ghost use Rattle.snap_format.specs.Texts.{bytes_within};
 
 use snap_core::Limit;
 
-/// How many bytes a text may have for each event that its history may have.
+/// The number of bytes that a text may have for each event of the limit.
 const BYTES_EACH: usize = 1024;
 
-/// How many bytes a text may have.
+/// The greatest number of bytes of a text, 1,024 for each event of the limit.
 pub fn bytes_within(limit: Limit) -> usize
     ensures bytes { result ≡ bytes_within limit.events }
     ensures most { result ≤ bytes_within event_cap }

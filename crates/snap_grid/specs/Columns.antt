@@ -4,25 +4,25 @@ use Rattle.std.specs.List.{list_any, range_with_len, count_by}
 pub use Rattle.snap_masks.specs.Numbers.{number, IsOrderedAs, AreOrderedAs}
 use Rattle.snap_masks.specs.Limits.{row_limit}
 
--- the first number is greater than the second, or less
+-- whether the first number is greater than the second, if `more`; else whether it is less
 abbrev pub passes : Bool → ℕ → ℕ → Bool
 passes more n x = cond more (nat_lt x n) (nat_lt n x)
 
--- the first row has a greater number than the second in some column, or a lesser one
+-- whether the first row has in some column a greater number than the second, if `more`; else a smaller number
 unfoldable pub any_passes : Bool → List (List ℕ) → ℕ → ℕ → Bool
 any_passes more columns a b = list_any (λ column. passes more (number column a) (number column b)) columns
 
--- what a grid has of its rows: the columns, and where each row begins and ends
+-- what a grid has of its rows: the columns, and the places of the begin and the end of each row
 pub record GridValue : Type 0 where
   pub columns : List (List ℕ)
   pub begins : List ℕ
   pub ends : List ℕ
 
--- row a has a greater number than row b in some column, and ends before b begins or has a lesser number in some column
+-- row a has a greater number than row b in some column; and it ends before b begins, or has a smaller number in some column
 unfoldable pub clashes : GridValue → ℕ → ℕ → Bool
 clashes g a b = any_passes true g.columns a b && (nat_lt (number g.ends a) (number g.begins b) || any_passes false g.columns a b)
 
--- row a has a greater number than row b in some column, and ends before b begins
+-- row a has a greater number than row b in some column, and it ends before b begins
 unfoldable pub drops : GridValue → ℕ → ℕ → Bool
 drops g a b = any_passes true g.columns a b && nat_lt (number g.ends a) (number g.begins b)
 
@@ -35,11 +35,11 @@ pub record HaveSameRows (columns : List (List ℕ)) (begins ends : List ℕ) : T
 abbrev pub rows_of : GridValue → List ℕ
 rows_of g = range_with_len 0 (length g.begins)
 
--- how many rows a row clashes with
+-- the number of rows that a row clashes with
 unfoldable pub clash_count : GridValue → ℕ → ℕ
 clash_count g a = count_by (clashes g a) (rows_of g)
 
--- how many rows a row drops to
+-- the number of rows that a row drops to
 unfoldable pub drop_count : GridValue → ℕ → ℕ
 drop_count g a = count_by (drops g a) (rows_of g)
 

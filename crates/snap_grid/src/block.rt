@@ -9,10 +9,10 @@ ghost use Rattle.snap_masks.specs.Limits.{row_limit};
 use snap_masks::{Bounds, Column, Facing, Mask, Masks, WIDTH, mask_of_all};
 use std::alloc::{AllocError, Global};
 
-// After so many columns it is tested whether those that are left can still tell something.
+// The number of columns after which the code tests whether the others can still change the result.
 const COLUMNS_A_TEST: usize = 8;
 
-// Whether each of our numbers is greater than each of theirs, or less.
+// Whether each of our numbers is greater than each of theirs, if `more`; else whether each is less.
 fn all_pass(more: bool, ours: Bounds, theirs: Bounds) -> bool
     ensures { result ≡ cond more (nat_lt theirs.greatest ours.least) (nat_lt ours.greatest theirs.least) }
 {
@@ -23,7 +23,7 @@ fn all_pass(more: bool, ours: Bounds, theirs: Bounds) -> bool
     }
 }
 
-// Whether some of our numbers may be greater than one of theirs, or less.
+// Whether some of our numbers may be greater than one of theirs, if `more`; else whether some may be less.
 fn some_pass(more: bool, ours: Bounds, theirs: Bounds) -> bool
     ensures { result ≡ cond more (nat_lt theirs.least ours.greatest) (nat_lt ours.least theirs.greatest) }
 {
@@ -34,7 +34,8 @@ fn some_pass(more: bool, ours: Bounds, theirs: Bounds) -> bool
     }
 }
 
-// Whether bounds leave open what is still asked: whether some of our numbers are greater than one of theirs, or less.
+// Whether bounds leave something open. It is still unknown whether some of our numbers are greater, unless `more`, and whether
+// some are less, unless `less`.
 fn is_open(more: bool, less: bool, ours: Bounds, theirs: Bounds) -> bool
     ensures more { result ≡ false → more ≡ false → nat_lt theirs.least ours.greatest ≡ false }
     ensures less { result ≡ false → less ≡ false → nat_lt ours.least theirs.greatest ≡ false }
@@ -42,7 +43,7 @@ fn is_open(more: bool, less: bool, ours: Bounds, theirs: Bounds) -> bool
     !more && some_pass(true, ours, theirs) || !less && some_pass(false, ours, theirs)
 }
 
-// Which of our rows have a greater number than another row in some column, and which a lesser one.
+// The mask of our rows that have a greater number than another row in some column. And the mask of those with a smaller one.
 #[derive(Drop)]
 pub(crate) struct Passing {
     pub(crate) more: Mask,
@@ -56,7 +57,7 @@ pub(crate) struct Against<'b, 'g> {
     near: Vec<Facing<'b, 'g>>,
     far: Vec<Facing<'b, 'g>>,
     all: &'b Mask,
-    // whether bounds tell that each of our rows has a greater number than each of theirs in some column, or a lesser one
+    // whether bounds show that each of our rows has a greater number than each of theirs in some column, and whether a smaller one
     more: bool,
     less: bool,
     ours: usize,
@@ -69,7 +70,7 @@ pub(crate) struct Against<'b, 'g> {
 }
 
 impl<'b, 'g> Against<'b, 'g> {
-    // All of our rows, or none.
+    // The mask of all our rows, or of none.
     #[inline]
     fn all_if(&self, all: bool) -> Mask
         ensures { result ≡ mask_below (λ a. all) self.now.ours }
@@ -77,7 +78,7 @@ impl<'b, 'g> Against<'b, 'g> {
         if all { self.all.copy() } else { Mask::none() }
     }
 
-    // All of our rows, both ways.
+    // All our rows pass both tests.
     #[inline]
     fn full(&self) -> Passing
         ensures { (result.more ≡ self.now.all.now) × (result.less ≡ self.now.all.now) }
@@ -88,7 +89,7 @@ impl<'b, 'g> Against<'b, 'g> {
         }
     }
 
-    // Which of our rows pass a row of theirs.
+    // The masks of our rows that pass a row of theirs.
     #[inline(always)]
     pub(crate) fn passing(&self, row: usize) -> Passing
         requires { row < self.now.theirs }
@@ -120,20 +121,45 @@ impl<'b, 'g> Against<'b, 'g> {
         self.passing_far(row, &at_most.copy(), &less.copy())
     }
 
-    // Which of our rows clash with a row of theirs, where each of ours ends before it begins, or none does.
+    // The mask of our rows that have a greater number than a row of theirs in some column.
+    #[inline(always)]
+    fn greater(&self, row: usize) -> Mask
+        requires { row < self.now.theirs }
+        ensures { result ≡ mask_below (λ a. faces true self.now.more self.now.near.items self.now.far.items a row) self.now.ours }
+    {
+        if !self.far.is_empty() {
+            return self.passing(row).more;
+        }
+        let mut at_most = self.all_if(!self.more);
+        let columns = self.near.len();
+        let mut done = 0;
+        while done < columns {
+            let end = columns.min(done + COLUMNS_A_TEST);
+            for j in done..end {
+                at_most = at_most.and(self.near[j].around(row).at_most);
+            }
+            done = end;
+            if at_most.is_none() {
+                return self.all.copy();
+            }
+        }
+        self.all.xor(&at_most)
+    }
+
+    // The mask of our rows that clash with a row of theirs. If `apart`, each of ours ends before it begins; else none does.
     #[inline]
     pub(crate) fn clashing(&self, row: usize, apart: bool) -> Mask
         requires { row < self.now.theirs }
         ensures { result ≡ mask_below (λ a. faces true self.now.more self.now.near.items self.now.far.items a row && (apart || faces false self.now.less self.now.near.items self.now.far.items a row)) self.now.ours }
     {
-        let passing = self.passing(row);
         if apart {
-            return passing.more;
+            return self.greater(row);
         }
+        let passing = self.passing(row);
         passing.more.and(&passing.less)
     }
 
-    // The same, where the columns with a table have been looked at.
+    // The answer of `passing`, after it went through the columns with a table.
     #[cold]
     #[inline(never)]
     fn passing_far(&self, row: usize, near_at_most: &Mask, near_less: &Mask) -> Passing
@@ -160,7 +186,7 @@ impl<'b, 'g> Against<'b, 'g> {
     }
 }
 
-// Up to 512 rows that stand one after the other, kept so that they are soon compared with others.
+// Up to 512 neighbouring rows, kept so that comparing them with others is fast.
 #[derive(Drop)]
 pub(crate) struct Block<'g> {
     columns: &'g [Column],
@@ -172,7 +198,7 @@ pub(crate) struct Block<'g> {
 }
 
 impl<'g> Block<'g> {
-    // The block of so many rows from one on.
+    // The block of `count` rows from `from` on.
     pub(crate) fn of(
         alloc: Global,
         columns: &'g [Column],
@@ -198,7 +224,7 @@ impl<'g> Block<'g> {
         })
     }
 
-    // Whether each of our rows passes each of theirs in some column.
+    // Whether bounds alone show that each of our rows passes each of theirs in some column.
     fn all_pass(&self, more: bool, block: usize) -> bool
         requires { (j : ℕ) → j < length self.now.columns.now → block * 512 < length (get_or self.now.columns.now j []) }
         ensures { IsTrue result → (a s : ℕ) → a < self.now.count → block * 512 ≤ s → s < block * 512 + 512 → HaveRows self.now.columns.now (s + 1) → any_passes more self.now.columns.now (self.now.from + a) s ≡ true }
@@ -211,7 +237,7 @@ impl<'g> Block<'g> {
         false
     }
 
-    // Whether the bounds alone tell that none of our rows passes one of theirs in any column.
+    // Whether bounds alone show that none of our rows passes one of theirs in any column.
     pub(crate) fn none_pass(&self, more: bool, block: usize) -> bool
         requires { (j : ℕ) → j < length self.now.columns.now → block * 512 < length (get_or self.now.columns.now j []) }
         ensures { IsTrue result → (a s : ℕ) → a < self.now.count → block * 512 ≤ s → s < block * 512 + 512 → HaveRows self.now.columns.now (s + 1) → any_passes more self.now.columns.now (self.now.from + a) s ≡ false }
@@ -224,7 +250,7 @@ impl<'g> Block<'g> {
         true
     }
 
-    // Our rows against so many rows of a block.
+    // Our rows against the first `count` rows of a block.
     pub(crate) fn against(
         &self,
         alloc: Global,

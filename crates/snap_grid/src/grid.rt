@@ -22,9 +22,9 @@ pub struct Grid {
     columns: Vec<Column>,
     begins: Column,
     ends: Vec<u32>,
-    // of each block of rows
+    // the kinds of each block of rows
     kinds: Vec<Kinds>,
-    // in a single column, where begins rise, how often each row drops
+    // how often each row drops, if there is one column and the begins rise
     drops: Option<Vec<u32>>,
 }
 
@@ -39,7 +39,7 @@ impl Model for Grid {
     ghost invariant = { λ g. IsGrid g.columns.items g.begins g.ends.items g.kinds.items g.drops };
 }
 
-/// How many clashes there are, how many drops, and the first row that has a clash.
+/// The number of clashes, the number of drops, and the first row that has a clash.
 #[derive(Clone, Copy)]
 pub struct Clashes {
     pub count: u64,
@@ -47,7 +47,7 @@ pub struct Clashes {
     pub first: Option<usize>,
 }
 
-// How many clashes there are, how many drops, and the mask of our rows that have a clash.
+// The number of clashes, the number of drops, and the mask of our rows that have a clash.
 #[derive(Drop)]
 pub(crate) struct Clashing {
     pub(crate) count: u64,
@@ -55,7 +55,7 @@ pub(crate) struct Clashing {
     pub(crate) rows: Mask,
 }
 
-// Whether a number is greater than another, or less.
+// Whether a number is greater than another, if `more`; else whether it is less.
 #[inline]
 fn passes(more: bool, number: u32, other: u32) -> bool
     ensures { result ≡ spec_passes more number other }
@@ -63,7 +63,7 @@ fn passes(more: bool, number: u32, other: u32) -> bool
     if more { other < number } else { number < other }
 }
 
-// The first row of a mask of the rows from one on.
+// The first row of a mask whose bit 0 is the row `from`.
 fn first_row(from: usize, rows: &Mask) -> Option<usize>
     requires { from ≤ row_limit }
     ensures { (n : ℕ) (p : ℕ → Bool) → rows.now ≡ mask_below (λ a. p (from + a)) n → result ≡ find p (range_with_len from n) }
@@ -73,7 +73,7 @@ fn first_row(from: usize, rows: &Mask) -> Option<usize>
 }
 
 impl Grid {
-    /// The grid of these columns and rows. The error is want of memory.
+    /// The grid of these columns and rows. The error is lack of memory.
     pub fn new(
         alloc: Global,
         columns: Vec<Column>,
@@ -101,8 +101,9 @@ impl Grid {
         })
     }
 
-    // Whether bounds alone tell that none of our rows, which end there, clashes with one of a block of rows, or drops to it: none
-    // has a greater number; or none ends before one of the block begins, and none has a lesser number or there is one column alone.
+    // Whether bounds alone show that none of our rows clashes with one of a block, or drops to it. `ends` are the ends of our rows.
+    // There are two cases. None of our rows has a greater number. Or none ends before one of the block begins, and either none has a
+    // smaller number, or there is only one column.
     fn are_apart(&self, ours: &Block<'_>, ends: &Masks<'_>, block: usize, count: usize) -> bool
         requires columns { ours.now.columns.now ≡ self.now.columns }
         requires ends { ends.now ≡ take ours.now.count (drop ours.now.from self.now.ends) }
@@ -133,7 +134,7 @@ impl Grid {
         self.kinds[block].all()
     }
 
-    // Our rows against the kinds of a block, where each of ours ends before each of theirs begins, or none before any.
+    // Our rows against the kinds of a block. If `apart`, each of ours ends before each of theirs begins; else none of ours does.
     fn kinds_clashing(
         &self,
         ours: &Block<'_>,
@@ -167,7 +168,7 @@ impl Grid {
         }
     }
 
-    // Our rows, which end there, against a block of rows.
+    // Our rows, with these ends, against a block of rows.
     fn clashing(
         &self,
         alloc: Global,
@@ -217,7 +218,7 @@ impl Grid {
         })
     }
 
-    // Some of our rows against all rows.
+    // The `count` rows from `from` on against all rows.
     fn block_clashing(
         &self,
         alloc: Global,
@@ -256,7 +257,7 @@ impl Grid {
         })
     }
 
-    // Whether a row has a greater number than another in some column, or a lesser one.
+    // Whether a row has in some column a greater number than another, if `more`; else a smaller number.
     fn passes(&self, more: bool, row: usize, other: usize) -> bool
         requires row { row < length self.now.begins }
         requires other { other < length self.now.begins }
@@ -282,13 +283,13 @@ impl Grid {
             && (self.ends[row] < self.begins.number(other) || self.passes(false, row, other))
     }
 
-    // The first of so many rows from one on that a row clashes with.
+    // The first of the `count` rows from `first` on that a row clashes with.
     fn first_clash_among(&self, row: usize, first: usize, count: usize) -> Option<usize>
         requires row { row < length self.now.begins }
         requires within { first + count ≤ length self.now.begins }
         ensures { result ≡ find (clashes self.now row) (range_with_len first count) }
     {
-        // that there are few rows
+        // the length shows that there are at most `ROW_LIMIT` rows
         let _rows = self.ends.len();
         for other in first..first + count {
             if self.is_clash(row, other) {
@@ -298,7 +299,8 @@ impl Grid {
         None
     }
 
-    /// The first row that a row clashes with. Blocks whose bounds tell that none of theirs does are passed over.
+    /// The first row that a row clashes with; none if there is none. It skips blocks whose bounds show that there is none in them. The
+    /// error is lack of memory.
     pub fn first_clash(&self, alloc: Global, row: usize) -> Result<Option<usize>, AllocError>
         requires { row < length self.now.begins }
         ensures { IfOk result (λ first. first ≡ find (clashes self.now row) (rows_of self.now)) }
@@ -320,9 +322,10 @@ impl Grid {
         Ok(None)
     }
 
-    /// The clashes and the drops of the rows from `from` to before `to` with all rows: how many there are, and the first of our
-    /// rows that has a clash. A row clashes with one that has a lesser number in some column and either begins behind the row's
-    /// end or has a greater number in some column; it drops to one that has a lesser number and begins behind its end.
+    /// The clashes and the drops of the rows from `from` to before `to` with all rows. It counts both, and gives the first row with a
+    /// clash. A row drops to one that has a smaller number in some column and begins after the row's end. It clashes with one to
+    /// which it drops. It also clashes with one that has a smaller number in some column and a greater number in another. The error
+    /// is lack of memory.
     pub fn clashes(&self, alloc: Global, from: usize, to: usize) -> Result<Clashes, AllocError>
         requires order { from ≤ to }
         requires within { to ≤ length self.now.begins }
@@ -330,7 +333,7 @@ impl Grid {
         ensures drops { IfOk result (λ c. c.drops ≡ sum_by (drop_count self.now) (range_with_len from (to - from))) }
         ensures first { IfOk result (λ c. c.first ≡ find (has_clash self.now) (range_with_len from (to - from))) }
     {
-        // that there are few rows
+        // the length shows that there are at most `ROW_LIMIT` rows
         let _rows = self.ends.len();
         if let Some(drops) = &self.drops {
             return Ok(clashes_of_one(&drops[from..to], from));

@@ -1,7 +1,7 @@
-//! Rows of a block that stand for all that are alike.
+//! Rows of a block that each represent all equal ones.
 ghost use Rattle.std.specs.Prelude.{◌<◌};
 
-// A row of a block, counted from its first, and how many of its rows have the same numbers, that row among them.
+// A row of a block, counted from its first, and the number of rows of the block with the same numbers, this row included.
 #[derive(Clone, Copy)]
 pub(crate) struct Kind {
     pub(crate) row: u16,

@@ -9,7 +9,7 @@ use snap_masks::Column;
 use std::alloc::{AllocError, Global};
 use std::marker::Model;
 
-// How many places there are for the kinds that were seen last.
+// The number of places for the kinds that were seen last.
 const PLACES: usize = 1024;
 
 // Whether two rows have the same number in each column.
@@ -26,7 +26,7 @@ fn are_alike(columns: &[Column], a: usize, b: usize) -> bool
     true
 }
 
-// A place for each of so many rows from one on, which is the same for rows with the same numbers.
+// A place for each of `count` rows from `from` on. Rows with the same numbers have the same place.
 fn places_of(
     alloc: Global,
     columns: &[Column],
@@ -57,7 +57,7 @@ fn mix(places: &mut [u32], numbers: &[u32]) {
     }
 }
 
-// Mixes the higher bits of places into their lowest ten, by which they are found. Numbers that differ in high bits alone need it.
+// Mixes the higher bits of places into their lowest ten, which find a place. Numbers that differ in high bits alone need it.
 fn fold(places: &mut [u32]) {
     for i in 0..places.len() {
         places[i] ^= (places[i] >> 10) ^ (places[i] >> 20);
@@ -80,7 +80,7 @@ impl Model for Kinds {
 }
 
 impl Kinds {
-    // The kinds of so many rows from one on. A row that is like an earlier one is found where no other has taken its place since.
+    // The kinds of `count` rows from `from` on. A row finds an earlier equal row unless another row has taken its place since.
     pub(crate) fn of(
         alloc: Global,
         columns: &[Column],
@@ -117,7 +117,6 @@ impl Kinds {
         Ok(Kinds { kinds })
     }
 
-    // All kinds.
     pub(crate) fn all(&self) -> &[Kind]
         ensures { result.now ≡ self.now }
     {

@@ -1,4 +1,4 @@
-//! The clashes of rows in a single column, where each clash is a drop.
+//! The clashes of rows in a single column, in which each clash is a drop.
 ghost use Rattle.std.specs.Prelude.{◌≡◌, ◌≤◌, ◌<◌, ◌+◌, ℕ, Bool, length, nat_lt, sum_by, find, IfOk, IfSome};
 ghost use Rattle.std.specs.List.{range_with_len};
 ghost use Rattle.snap_grid.specs.Columns.{HaveSameRows, number};
@@ -10,7 +10,7 @@ use crate::sweep::{drops_of, rises};
 use snap_masks::Column;
 use std::alloc::{AllocError, Global};
 
-// How often each row drops, where there is one column and no row begins before an earlier one.
+// How often each row drops, if there is one column and no row begins before an earlier one.
 pub(crate) fn drops_of_one(
     alloc: Global,
     columns: &[Column],
@@ -27,7 +27,7 @@ pub(crate) fn drops_of_one(
     Ok(Some(counts))
 }
 
-// The clashes of rows from one on, which drop so often.
+// The clashes of the rows from `from` on, by how often each of them drops.
 pub(crate) fn clashes_of_one(counts: &[u32], from: usize) -> Clashes
     requires few { length counts.now ≤ row_limit }
     requires within { from + length counts.now ≤ row_limit }

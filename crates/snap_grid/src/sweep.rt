@@ -20,7 +20,7 @@ pub(crate) fn rises(numbers: &[u32]) -> bool
     true
 }
 
-// The end and the number of each row, by their ends.
+// The end and the place of each row, in the order of ends.
 fn ends_in_order(alloc: Global, ends: &[u32]) -> Result<Vec<(u32, u32)>, AllocError>
     requires few { length ends.now ≤ row_limit }
     ensures { IfOk result (λ keys. AreEndsInOrder ends.now keys.items) }
@@ -37,7 +37,7 @@ fn ends_in_order(alloc: Global, ends: &[u32]) -> Result<Vec<(u32, u32)>, AllocEr
     Ok(keys)
 }
 
-// Counts the rows that begin behind an end too, of which those from one on were counted. From which row on they are counted then.
+// Counts the rows before `from` that begin after `end`; those from `from` on are counted already. It gives the first counted row.
 fn count_behind(
     nodes: &mut [u32],
     size: usize,
@@ -63,7 +63,7 @@ fn count_behind(
     first
 }
 
-// Numbers that compare as these do and are at most their count: these, where they are so small, or else their ranks.
+// Numbers that compare as the given ones and are at most their count: the given ones if they are small enough, or else their ranks.
 fn small_ranks(alloc: Global, numbers: &[u32]) -> Result<Vec<u32>, AllocError>
     requires few { length numbers.now ≤ row_limit }
     ensures order { IfOk result (λ ranks. IsOrderedAs numbers.now ranks.items) }
@@ -77,8 +77,8 @@ fn small_ranks(alloc: Global, numbers: &[u32]) -> Result<Vec<u32>, AllocError>
     Ok(ranks)
 }
 
-// Of each row how many rows have a lesser number and begin behind its end. The begins rise. The sweep goes from the last end to the
-// first: the rows that begin behind one are counted in a tree, by the ranks of their numbers.
+// For each row the number of rows that have a smaller number and begin after its end. The begins rise. The sweep goes from the last
+// end to the first. A tree counts the rows that begin after an end, by the ranks of their numbers.
 pub(crate) fn drops_of(
     alloc: Global,
     numbers: &[u32],

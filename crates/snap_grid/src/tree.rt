@@ -1,10 +1,10 @@
-//! Sums of counts in a tree: a count is raised, and the counts below a place are added up, in as many steps as their number has bits.
+//! Sums of counts in a tree. To raise a count, or to add up the counts below a place, takes as many steps as the size has bits.
 ghost use Rattle.std.specs.Prelude.{◌≡◌, ◌≤◌, ◌<◌, ◌+◌, ◌^◌, ℕ, get_or, nat_lt, length, if◌then◌else◌, IfOk};
 ghost use Rattle.snap_grid.specs.inside.Trees.{IsTree, sum_below_place};
 
 use std::alloc::{AllocError, Global};
 
-// The tree of so many counts of 0.
+// The tree of `size` counts of 0.
 pub(crate) fn empty_tree(alloc: Global, size: usize) -> Result<Vec<u32>, AllocError>
     requires some { 0 < size }
     requires few { size + size < 2 ^ 64 }
@@ -14,7 +14,7 @@ pub(crate) fn empty_tree(alloc: Global, size: usize) -> Result<Vec<u32>, AllocEr
     vec![in alloc; 0u32; size + size]
 }
 
-// Raises the count at a place of a tree of so many counts.
+// Raises the count at a place of a tree of `size` counts by 1.
 pub(crate) fn raise(nodes: &mut [u32], size: usize, place: usize)
     requires tree { IsTree size nodes.old }
     requires place { place < size }
@@ -30,7 +30,7 @@ pub(crate) fn raise(nodes: &mut [u32], size: usize, place: usize)
     }
 }
 
-// What a node has, where it is asked for; else 0.
+// What a node has if it is asked for; else 0.
 fn node_if(nodes: &[u32], node: usize, is_asked: bool) -> u32
     requires { node < length nodes.now }
     ensures { result ≡ (if is_asked then get_or nodes.now node 0 else 0) }
@@ -38,8 +38,8 @@ fn node_if(nodes: &[u32], node: usize, is_asked: bool) -> u32
     if is_asked { nodes[node] } else { 0 }
 }
 
-// The sum of the counts below a place. The nodes from `low` to before `high` have what is still to be added: the first, where its
-// number is odd, and the last, where that is even, are added here, and the others by the nodes above them.
+// The sum of the counts below a place. The nodes from `low` to before `high` are still to be added. The first is added here if its
+// number is odd, and the last if its number is even. The nodes above them have the sums of the others.
 pub(crate) fn sum_below(nodes: &[u32], size: usize, place: usize) -> u32
     requires tree { IsTree size nodes.now }
     requires place { place ≤ size }

@@ -1,4 +1,4 @@
--- A call as the index keeps it: its place in the list is its number, and what a view shows stays in the history.
+-- A call as the index keeps it. Its place in the list is its number, and the entries of a view stay in the history.
 use Rattle.std.specs.Prelude.{ℕ, Option, Some, None, List}
 use Rattle.snap_core.specs.declared.entry.Entry.{Entry}
 use Rattle.snap_core.specs.declared.event.Event.{Event}

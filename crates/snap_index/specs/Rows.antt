@@ -3,6 +3,6 @@ use Rattle.std.specs.Prelude.{List, map}
 use Rattle.std.specs.declared.alloc.Global.{Global}
 use Rattle.std.specs.declared.vec.Vec.{Vec}
 
--- what stands in each row
+-- what each row has
 abbrev pub rows : {T : Type 0} → List (Vec T Global) → List (List T)
 rows table = map (λ row. row.items) table

@@ -22,7 +22,7 @@ struct CompletedView<'h> {
     view: &'h View,
 }
 
-/// The calls of a history, with look-ups by number. A call's number counts the begins before its own.
+/// The calls of a history, with look-ups by number. A call's number is the number of begins before its own.
 #[derive(Drop)]
 pub struct Index<'h> {
     history: &'h History,
@@ -56,7 +56,7 @@ fn answered(events: &[Event], ended: Option<u32>) -> Option<&View>
 }
 
 impl<'h> Index<'h> {
-    /// The index of a history, which it borrows, by one pass over its events. The error is want of memory.
+    /// The index of a history, which it borrows, by one pass over its events. The error is lack of memory.
     pub fn build(alloc: Global, history: &'h History) -> Result<Index<'h>, AllocError>
         ensures { IfOk result (λ index. index ≡ history.now.events) }
     {
@@ -104,7 +104,7 @@ impl<'h> Index<'h> {
         self.history.events()
     }
 
-    /// How many events the history has.
+    /// The number of events of the history.
     pub fn event_count(&self) -> u32
         ensures count { result ≡ length self.now }
         ensures kept { IsBoundedHistory self.now }
@@ -112,63 +112,63 @@ impl<'h> Index<'h> {
         self.events().len() as u32
     }
 
-    /// How many calls it has.
+    /// The number of its calls.
     pub fn call_count(&self) -> u32
         ensures { result ≡ length (calls_of self.now) }
     {
         self.calls.len() as u32
     }
 
-    /// How many calls have no end, updates and views alike.
+    /// The number of calls without an end, updates and views alike.
     pub fn pending_count(&self) -> u32
         ensures { result ≡ count_by is_pending (calls_of self.now) }
     {
         self.pending
     }
 
-    /// How many completed views it has.
+    /// The number of completed views.
     pub fn view_count(&self) -> u32
         ensures { result ≡ length (views_of (calls_of self.now)) }
     {
         self.views.len() as u32
     }
 
-    /// The call of a number, if there is one.
+    /// The call of a number, counted from 0; none if there is no such call.
     pub fn call(&self, c: u32) -> Option<&Call>
         ensures { option_copied result ≡ option_map as_indexed (slice_get (calls_of self.now) c) }
     {
         self.calls.get(c as usize)
     }
 
-    /// What call `c` answered, if it is a completed view; none for an update, a pending view and a number that is no call.
+    /// What call `c` answered, if it is a completed view. None for an update, for a pending view, and if there is no such call.
     pub fn answer(&self, c: u32) -> Option<&View>
         ensures { option_copied result ≡ option_and_then answer_of (slice_get (calls_of self.now) c) }
     {
         answered(self.history.events(), self.call(c)?.ended)
     }
 
-    /// The call number of the `i`-th completed view by call number, counted from 0.
+    /// The call number of the `i`-th completed view by call number, counted from 0; none if there are fewer.
     pub fn view_call(&self, i: u32) -> Option<u32>
         ensures { result ≡ option_map number_of (slice_get (views_of (calls_of self.now)) i) }
     {
         Some(self.views.get(i as usize)?.call)
     }
 
-    /// What the `i`-th completed view by call number shows, counted from 0.
+    /// What the `i`-th completed view by call number shows, counted from 0; none if there are fewer.
     pub fn view(&self, i: u32) -> Option<&View>
         ensures { option_copied result ≡ option_map entries_shown (slice_get (views_of (calls_of self.now)) i) }
     {
         Some(self.views.get(i as usize)?.view)
     }
 
-    /// The call number of update `n` of component `k`, pending or not. Updates are numbered from 1.
+    /// The call number of update `n` of component `k`, pending or not; none if there is none. Updates are numbered from 1.
     pub fn update_call(&self, k: u8, n: u32) -> Option<u32>
         ensures { result ≡ option_map number_of (find (is_update_numbered k n) (calls_of self.now)) }
     {
         Some(self.write(k, n)?.call)
     }
 
-    /// Update `n` of component `k`, pending or not. Updates are numbered from 1.
+    /// Update `n` of component `k`, pending or not; none if there is none. Updates are numbered from 1.
     pub fn update(&self, k: u8, n: u32) -> Option<&Call>
         ensures { option_copied result ≡ option_map as_indexed (find (is_update_numbered k n) (calls_of self.now)) }
     {
@@ -176,7 +176,7 @@ impl<'h> Index<'h> {
         self.call(c)
     }
 
-    /// The value and the call number of update `n` of component `k`, pending or not, and where it begins and ends. Updates are numbered from 1.
+    /// The value, the call number, the begin and the end of update `n` of component `k`, pending or not. Updates are numbered from 1.
     pub fn write(&self, k: u8, n: u32) -> Option<&Write>
         ensures { option_copied result ≡ option_map write_of (find (is_update_numbered k n) (calls_of self.now)) }
     {
@@ -185,7 +185,7 @@ impl<'h> Index<'h> {
         updates.get(place as usize)
     }
 
-    /// The values and call numbers of the updates of component `k`, and where they begin and end. Update `n` is the `n`-th of them.
+    /// The values, call numbers, begins and ends of the updates of component `k`, in their order. Update `n` is the `n`-th.
     pub fn updates(&self, k: u8) -> &[Write]
         ensures updates { result.now ≡ map write_of (updates_of k (calls_of self.now)) }
         ensures kept { IsBoundedHistory self.now }
@@ -193,14 +193,14 @@ impl<'h> Index<'h> {
         self.updates.of(k)
     }
 
-    /// How many updates component `k` has, pending ones among them.
+    /// The number of updates of component `k`, with the pending ones.
     pub fn update_count(&self, k: u8) -> u32
         ensures { result ≡ count_by (is_update_of k) (calls_of self.now) }
     {
         self.updates(k).len() as u32
     }
 
-    /// The least number of components from which on no component has an update: 0, or the component before it has one.
+    /// One more than the last component with an update; 0 if there is no update.
     pub fn update_limit(&self) -> usize
         ensures few { result ≤ component_count }
         ensures none { (k : ℕ) → result ≤ k → k < component_count → count_by (is_update_of k) (calls_of self.now) ≡ 0 }
@@ -209,7 +209,7 @@ impl<'h> Index<'h> {
         self.updates.limit()
     }
 
-    /// Whether call `a` ended before call `b` began.
+    /// Whether call `a` precedes call `b`: it ended before that began. Both must be numbers of calls.
     pub fn precedes(&self, a: u32, b: u32) -> bool
         requires a { a < length (calls_of self.now) }
         requires b { b < length (calls_of self.now) }

@@ -19,7 +19,7 @@ fn begun_by(event: &Event) -> Option<CallOp>
     }
 }
 
-// One more than the highest process of some events, or 0.
+// One more than the greatest process of some events; 0 if there are none.
 fn process_limit(events: &[Event]) -> usize
     ensures { (i : ℕ) (e : Event) → i < length events.now → process_of (get_or events.now i e) < result }
 {
@@ -37,7 +37,7 @@ pub(crate) fn list_calls(alloc: Global, events: &[Event]) -> Result<Vec<Call>, A
 {
     // the place of each process's next event
     let mut next: Vec<Option<u32>> = vec![in alloc; None; process_limit(events)]?;
-    // most events are half of a call
+    // most calls have two events
     let mut calls = Vec::with_capacity(alloc, events.len() / 2 + 1)?;
     let mut i = events.len();
     while i > 0 {

@@ -7,7 +7,7 @@ ghost use Rattle.snap_index.specs.inside.Tables.{padded};
 use std::alloc::{AllocError, Global};
 use std::marker::Model;
 
-// What is kept of the updates of each component, in their order: a list for each component up to the last that has an update.
+// The updates of each component, in their order: a list for each component up to the last that has an update.
 #[derive(Drop)]
 pub(crate) struct UpdateTable<T> {
     by_component: Vec<Vec<T>>,
@@ -27,7 +27,7 @@ impl<T> Model for UpdateTable<T> {
     ghost invariant = { λ t. length t.by_component.items ≤ component_count };
 }
 
-// Makes a list of lists as long as component k needs.
+// Makes a table long enough for component k. What it has is unchanged.
 fn make_room<T: Drop>(table: &mut Vec<Vec<T>>, k: u8) -> Result<(), AllocError>
     requires { length table.old.items ≤ component_count }
     ensures same { padded (rows table.new.items) ≡ padded (rows table.old.items) }
@@ -41,7 +41,7 @@ fn make_room<T: Drop>(table: &mut Vec<Vec<T>>, k: u8) -> Result<(), AllocError>
     Ok(())
 }
 
-// How many lists there are up to the last that has something. A put without memory may leave empty ones behind it.
+// The number of lists up to the last that has an update. A put for which memory ran out may leave empty lists after it.
 fn filled<T: Drop>(table: &[Vec<T>]) -> usize
     ensures within { result ≤ length table.now }
     ensures none { (i : ℕ) → result ≤ i → i < length table.now → get_or (rows table.now) i [] ≡ [] }
@@ -55,7 +55,7 @@ fn filled<T: Drop>(table: &[Vec<T>]) -> usize
 }
 
 impl<T: Drop> UpdateTable<T> {
-    // No update.
+    // The table without updates.
     pub(crate) fn new(alloc: Global) -> UpdateTable<T>
         ensures { result ≡ replicate component_count [] }
     {
@@ -64,7 +64,7 @@ impl<T: Drop> UpdateTable<T> {
         }
     }
 
-    // Puts an update behind those of component k.
+    // Puts an update after those of component k.
     pub(crate) fn put(&mut self, k: u8, update: T) -> Result<(), AllocError>
         ensures { OnOk result (self.new ≡ slice_set self.old k (get_or self.old k [] ++ update ∷ [])) }
     {
@@ -73,7 +73,6 @@ impl<T: Drop> UpdateTable<T> {
         Ok(())
     }
 
-    // The updates of component k.
     pub(crate) fn of(&self, k: u8) -> &[T]
         ensures { result.now ≡ get_or self.now k [] }
     {
@@ -83,7 +82,7 @@ impl<T: Drop> UpdateTable<T> {
         }
     }
 
-    // How many components there are up to the last that has an update.
+    // One more than the last component with an update; 0 if there is no update.
     pub(crate) fn limit(&self) -> usize
         ensures few { result ≤ component_count }
         ensures none { (k : ℕ) → result ≤ k → k < component_count → get_or self.now k [] ≡ [] }

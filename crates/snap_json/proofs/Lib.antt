@@ -1,3 +1,5 @@
 pub mod Values
 pub mod Calls
 pub mod Names
+pub mod LineEnds
+pub mod Components

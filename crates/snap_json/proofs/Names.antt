@@ -1,10 +1,7 @@
 -- No two names have one line.
-use Rattle.std.proofs.Common.{◌≡◌, ◌∙◌, ℕ, List, Some, ap, sym, codes}
+use Rattle.std.proofs.Common.{◌≡◌, ◌∙◌, ℕ, List, Some, ap, sym}
 use Rattle.std.specs.Prelude.{slice_get}
-use Rattle.std.proofs.lemmas.List.{append_cancel_right}
 use Rattle.json.specs.Json.{Json}
-use Rattle.json.specs.Lex.{tokens}
-use Rattle.json.specs.Print.{print}
 use Rattle.json.specs.Token as token
 use Rattle.json.specs.Tree.{json_tokens}
 use Rattle.snap_json.specs.Laws.{HasOneName}
@@ -12,9 +9,7 @@ use Rattle.snap_json.specs.Objects.{named_object}
 use Rattle.snap_json.specs.Values.{IsLineOf}
 
 same_tokens : (a b : Json) (line : List ℕ) → IsLineOf a line → IsLineOf b line → json_tokens a ≡ json_tokens b
-same_tokens a b line x y =
-    let texts : print (json_tokens a) ≡ print (json_tokens b) = append_cancel_right _ _ (codes "\n") (sym x.writes ∙ y.writes) in
-    sym x.reads_back ∙ ap tokens texts ∙ y.reads_back
+same_tokens a b line x y = sym x.reads_back ∙ y.reads_back
 
 pub one_name : HasOneName
 one_name name other status others_status fields others line x y =

@@ -55,8 +55,8 @@ array_added old es =
     ∙ ap (λ ts. old ++ (token.begin_array ∷ ts)) (entries_then_end es)
 
 -- a line with the tokens of a value is that value's
-pub line_is : {V E : Type 0} (items : V → List ℕ) (r : Result V E) (ts : List Token) (value : Json) → ts ≡ json_tokens value → IfOk r (λ line. items line ≡ print ts ++ codes "\n") → tokens (print ts) ≡ ts →
-    IfOk r (λ line. IsLineOf value (items line))
+pub line_is : {V E : Type 0} (items : V → List ℕ) (r : Result V E) (ts : List Token) (value : Json) → ts ≡ json_tokens value → IfOk r (λ line. items line ≡ print ts ++ codes "\n") →
+    IfOk r (λ line. tokens (items line) ≡ ts) → IfOk r (λ line. IsLineOf value (items line))
 line_is items (Ok line) ts value same writes reads =
-    record { writes = subst (λ ts. items line ≡ print ts ++ codes "\n") same writes; reads_back = subst (λ ts. tokens (print ts) ≡ ts) same reads }
+    record { writes = subst (λ ts. items line ≡ print ts ++ codes "\n") same writes; reads_back = reads ∙ same }
 line_is items (Err e) ts value same writes reads = tt

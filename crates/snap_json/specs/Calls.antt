@@ -27,7 +27,7 @@ entries_in (Views answer) = entries_of (Views answer)
 abbrev pub record_json : List ℕ → ℕ → Json
 record_json records place = number_json (get_or records place 0)
 
--- the record of the end, and null of a pending call
+-- the record of the end, or null if the call is pending
 abbrev pub end_json : List ℕ → Option ℕ → Json
 end_json records None = null
 end_json records (Some place) = record_json records place

@@ -1,4 +1,4 @@
--- The first fault of a kind as JSON: how many there are, what it names, and the calls that it is of.
+-- The first fault of a kind as JSON: the number of such faults, what the first names, and its calls.
 use Rattle.std.specs.Prelude.{ℕ, List, [], ◌∷◌, codes}
 use Rattle.std.specs.Option.{option_map_or}
 use Rattle.json.specs.Json.{Json, null, string}
@@ -15,11 +15,10 @@ use Rattle.snap_witness.specs.Places.{side_number}
 use Rattle.snap_json.specs.Calls.{call_json, entry_json}
 use Rattle.snap_json.specs.Values.{Field, number_json, object_of}
 
--- the call of a number
 abbrev pub numbered_json : List ℕ → List Call → ℕ → Json
 numbered_json records calls n = call_json records (call_numbered calls n)
 
--- update n of component k, and null where there is none
+-- update n of component k, and null if there is none
 abbrev pub update_json : List ℕ → List Call → ℕ → ℕ → Json
 update_json records calls k n = option_map_or (call_json records) (update_of calls k n) null
 
@@ -32,13 +31,13 @@ named_json records calls k n =
 abbrev pub fault_json : List ℕ → List Call → ℕ → ℕ → List Field → Json
 fault_json records calls count view named = object_of ((codes "count", number_json count) ∷ (codes "view", numbered_json records calls view) ∷ named)
 
--- a view shows an entry that no update wrote; the update is the one of that number, where there is one
+-- a view shows an entry that no update wrote; the update is the one of that number, if there is one
 unfoldable pub integrity_json : List ℕ → List Call → ℕ → IntegrityFault → Json
 integrity_json records calls count f =
     fault_json records calls count f.view
     ((codes "entry", entry_json f.entry) ∷ (codes "update", update_json records calls f.entry.component f.entry.number) ∷ [])
 
--- a view shows an update that is too old or too new; the update is the one that it misses, or that it shows
+-- A view shows an update that is too old or too new. The update is the one that it misses, or the one that it shows.
 unfoldable pub proximity_json : List ℕ → List Call → ℕ → ProximityFault → Json
 proximity_json records calls count f =
     fault_json records calls count f.view
@@ -56,7 +55,7 @@ write_json records calls count f =
     fault_json records calls count f.view
     ((codes "misses", named_json records calls f.missed_component f.missed_number) ∷ (codes "shows", named_json records calls f.shown_component f.shown_number) ∷ [])
 
--- the first fault of a kind, and null where there is none
+-- the first fault of a kind, and null if there is none
 abbrev pub part_json : {F : Type 0} → (ℕ → F → Json) → PartValue F → Json
 part_json fault part = option_map_or (fault part.count) part.first null
 

@@ -2,4 +2,5 @@ pub mod Values
 pub mod Calls
 pub mod Faults
 pub mod Objects
+pub mod Stats
 pub mod Laws

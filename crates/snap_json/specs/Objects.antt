@@ -1,4 +1,4 @@
--- The object of a text: of a history, of a text that is none, of a history with too few views, or of a text that was not read.
+-- The object of a text: a history, a refused text, a history with too few views, or a text that was not read.
 use Rattle.std.specs.Prelude.{ℕ, List, [], ◌∷◌, ◌++◌, codes, count_by, length}
 use Rattle.json.specs.Json.{Json, boolean, string}
 use Rattle.snap_core.specs.declared.event.Event.{Event}
@@ -11,17 +11,16 @@ use Rattle.snap_report.specs.Reports.{has_no_fault, has_no_local_fault, has_no_s
 use Rattle.snap_json.specs.Faults.{fault_fields}
 use Rattle.snap_json.specs.Values.{Field, number_json, object_of}
 
--- the name of a text and its exit status, and what is said of it
+-- the name of a text and its exit status, and what is said about it
 abbrev pub named_object : List ℕ → ℕ → List Field → Json
 named_object name status fields = object_of ((codes "name", string name) ∷ (codes "status", number_json status) ∷ fields)
 
--- the numbers of a history
+-- the counts of a history
 abbrev pub count_fields : List Event → List Field
 count_fields events =
     (codes "events", number_json (length events)) ∷ (codes "calls", number_json (length (calls_of events)))
     ∷ (codes "pending", number_json (count_by is_pending (calls_of events))) ∷ (codes "views", number_json (length (views_of (calls_of events)))) ∷ []
 
--- the three verdicts
 abbrev pub verdict_fields : Tally → List Field
 verdict_fields t =
     (codes "regular", boolean (has_no_local_fault t)) ∷ (codes "monotone", boolean (has_no_stale_view t)) ∷ (codes "atomic", boolean (has_no_fault t)) ∷ []
@@ -31,7 +30,7 @@ abbrev pub history_json : List ℕ → ℕ → List Event → Tally → List ℕ
 history_json name status events t records =
     named_object name status (count_fields events ++ verdict_fields t ++ fault_fields records (calls_of events) t)
 
--- a text that is no history: the record at fault, and the word of its fault
+-- a text that is not a history: the record at fault, and the word of its fault
 abbrev pub refusal_json : List ℕ → ℕ → ℕ → TextFault → Json
 refusal_json name status place fault =
     named_object name status ((codes "refused", object_of ((codes "record", number_json place) ∷ (codes "fault", string (word_of fault)) ∷ [])) ∷ [])

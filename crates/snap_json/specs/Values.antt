@@ -26,7 +26,8 @@ number_json n = number (decimal n)
 abbrev pub field_tokens : List Field → List Token
 field_tokens fields = flat_map (λ (f : Field). key f.0 ∷ json_tokens f.1) fields
 
--- a value without spaces and with the escapes of RFC 8259, and a line feed; a reader finds the same tokens in it
+-- a value without spaces and with the escapes of RFC 8259, and a line feed
+-- A reader of the whole line finds the same tokens.
 pub record IsLineOf (value : Json) (line : List ℕ) : Type 0 where
   pub writes : line ≡ print (json_tokens value) ++ codes "\n"
-  pub reads_back : tokens (print (json_tokens value)) ≡ json_tokens value
+  pub reads_back : tokens line ≡ json_tokens value

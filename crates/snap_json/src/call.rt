@@ -15,7 +15,7 @@ use snap_core::Entry;
 use snap_index::{Call, CallOp, Index};
 use std::alloc::AllocError;
 
-/// Adds the object of an entry.
+/// Adds the object of an entry: its component, number and value.
 pub(crate) fn put_entry(line: &mut Line, entry: &Entry) -> Result<(), AllocError>
     ensures { OnOk result (line.new.writer.tokens ≡ line.old.writer.tokens ++ json_tokens (entry_json entry.now)) }
 {
@@ -26,7 +26,6 @@ pub(crate) fn put_entry(line: &mut Line, entry: &Entry) -> Result<(), AllocError
     line.end_object()
 }
 
-// Adds the objects of entries.
 fn put_entries(line: &mut Line, entries: &[Entry]) -> Result<(), AllocError>
     ensures { OnOk result (line.new.writer.tokens ≡ line.old.writer.tokens ++ flat_map (λ entry. json_tokens (entry_json entry)) entries.now) }
 {
@@ -36,7 +35,7 @@ fn put_entries(line: &mut Line, entries: &[Entry]) -> Result<(), AllocError>
     Ok(())
 }
 
-// Adds the entries that a call shows, none where it is no completed view.
+// Adds the entries that a completed view shows. Of other calls it adds none.
 fn put_shown(line: &mut Line, index: &Index<'_>, number: u32) -> Result<(), AllocError>
     requires { number < length (calls_of index.now) }
     ensures { OnOk result (line.new.writer.tokens ≡ line.old.writer.tokens
@@ -66,7 +65,7 @@ fn put_operation(
     }
 }
 
-// Adds the array of these entries.
+// Adds the array of the entries that the call writes or shows.
 fn put_array(line: &mut Line, index: &Index<'_>, number: u32, op: CallOp) -> Result<(), AllocError>
     requires below { number < length (calls_of index.now) }
     requires same { op ≡ indexed_op (call_numbered (calls_of index.now) number).operation }
@@ -78,7 +77,6 @@ fn put_array(line: &mut Line, index: &Index<'_>, number: u32, op: CallOp) -> Res
     line.end_array()
 }
 
-// The word of what a call does.
 fn word_of(op: CallOp) -> &'static str
     ensures { (o : Operation) → op ≡ indexed_op o → result.now ≡ op_word o }
 {
@@ -117,7 +115,7 @@ pub(crate) fn put_call(
     requires below { number < length (calls_of index.now) }
     ensures { OnOk result (line.new.writer.tokens ≡ line.old.writer.tokens ++ json_tokens (call_json records.now (call_numbered (calls_of index.now) number))) }
 {
-    // what is known of the history that the index is of
+    // what is known about the history of the index
     let _events = index.event_count();
     let Some(call) = index.call(number) else {
         unreachable!()
@@ -132,7 +130,7 @@ pub(crate) fn put_call(
     line.end_object()
 }
 
-/// Adds the object of an update, and null where there is none of that component and number.
+/// Adds the object of an update, or null if no update has that component and number.
 pub(crate) fn put_update(
     line: &mut Line,
     index: &Index<'_>,

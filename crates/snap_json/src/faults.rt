@@ -19,13 +19,13 @@ use snap_index::Index;
 use snap_witness::side_number;
 use std::alloc::AllocError;
 
-// A fault that has an object, where its views are completed views of the history.
+// A fault that has an object, if its views are completed views of the history.
 trait Told: Copy {
     ghost json: { List ℕ → List Call → ℕ → Self → Json };
 
     ghost is_named: { List Call → Self → Type 0 };
 
-    // Adds its object, which begins with how many faults of its kind there are.
+    // Adds its object, which begins with the number of faults of its kind.
     fn put(
         &self,
         line: &mut Line,
@@ -38,7 +38,7 @@ trait Told: Copy {
         ensures { OnOk result (line.new.writer.tokens ≡ line.old.writer.tokens ++ json_tokens (json records.now (calls_of index.now) count self.now)) };
 }
 
-// Begins the object of a fault, with how many faults of its kind there are and its view.
+// Begins the object of a fault, with the number of faults of its kind and its view.
 fn begin_fault(
     line: &mut Line,
     index: &Index<'_>,
@@ -84,7 +84,6 @@ impl Told for IntegrityFault {
     }
 }
 
-// The word of a side.
 fn word_of(side: Side) -> &'static str
     ensures { result.now ≡ side_word side }
 {
@@ -189,7 +188,7 @@ impl Told for WriteFault {
     }
 }
 
-// Adds the first fault of a kind, and null where there is none.
+// Adds the first fault of a kind, or null if there is none.
 fn put_part<F: Told>(
     line: &mut Line,
     index: &Index<'_>,
@@ -206,7 +205,7 @@ fn put_part<F: Told>(
     }
 }
 
-// Adds a kind, and its first fault.
+// Adds the name of a kind, and its first fault.
 fn put_kind<F: Told>(
     line: &mut Line,
     index: &Index<'_>,
@@ -223,7 +222,7 @@ fn put_kind<F: Told>(
     put_part(line, index, records, part)
 }
 
-/// Adds the first fault of each kind, each behind its kind.
+/// Adds the first fault of each kind, each after the name of its kind.
 pub(crate) fn put_faults(
     line: &mut Line,
     index: &Index<'_>,
@@ -234,7 +233,7 @@ pub(crate) fn put_faults(
     requires tally { tally.now ≡ tally_of (calls_of index.now) (views_of (calls_of index.now)) }
     ensures { OnOk result (line.new.writer.tokens ≡ line.old.writer.tokens ++ field_tokens (fault_fields records.now (calls_of index.now) tally.now)) }
 {
-    // what is known of the history that the index is of
+    // what is known about the history of the index
     let _events = index.event_count();
     put_kind(line, index, records, "integrity", &tally.integrity)?;
     put_kind(line, index, records, "proximity", &tally.proximity)?;

@@ -1,4 +1,4 @@
-//! What is said of a text as one JSON object on a line: of a history its numbers, its verdicts and the first fault of each kind.
+//! The answer for a text as one JSON object on a line. That of a history has its counts, its verdicts and the first fault of each kind.
 #![tactic(auto)]
 
 mod call;
@@ -6,6 +6,8 @@ mod faults;
 mod law;
 mod line;
 mod object;
+mod stats;
 
 pub use law::one_name;
 pub use object::{few_views_line, history_line, refusal_line, trouble_line};
+pub use stats::stats_line;

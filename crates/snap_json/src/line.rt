@@ -15,7 +15,7 @@ pub(crate) struct Line {
 }
 
 impl Line {
-    /// A line without a token.
+    /// A line without tokens.
     pub(crate) fn new(alloc: Global) -> Line
         ensures { result.writer.tokens ≡ [] }
     {
@@ -24,42 +24,37 @@ impl Line {
         }
     }
 
-    /// Begins an object.
     pub(crate) fn begin_object(&mut self) -> Result<(), AllocError>
         ensures { OnOk result (self.new.writer.tokens ≡ self.old.writer.tokens ++ token.begin_object ∷ []) }
     {
         self.writer.begin_object()
     }
 
-    /// Ends an object.
     pub(crate) fn end_object(&mut self) -> Result<(), AllocError>
         ensures { OnOk result (self.new.writer.tokens ≡ self.old.writer.tokens ++ token.end_object ∷ []) }
     {
         self.writer.end_object()
     }
 
-    /// Begins an array.
     pub(crate) fn begin_array(&mut self) -> Result<(), AllocError>
         ensures { OnOk result (self.new.writer.tokens ≡ self.old.writer.tokens ++ token.begin_array ∷ []) }
     {
         self.writer.begin_array()
     }
 
-    /// Ends an array.
     pub(crate) fn end_array(&mut self) -> Result<(), AllocError>
         ensures { OnOk result (self.new.writer.tokens ≡ self.old.writer.tokens ++ token.end_array ∷ []) }
     {
         self.writer.end_array()
     }
 
-    /// Adds a key. Its value is to follow.
+    /// Adds a key. Its value must follow.
     pub(crate) fn key(&mut self, key: &str) -> Result<(), AllocError>
         ensures { OnOk result (self.new.writer.tokens ≡ self.old.writer.tokens ++ token.key key.now ∷ []) }
     {
         self.writer.key(key)
     }
 
-    /// Adds the value null.
     pub(crate) fn null(&mut self) -> Result<(), AllocError>
         ensures { OnOk result (self.new.writer.tokens ≡ self.old.writer.tokens ++ token.null ∷ []) }
     {
@@ -93,7 +88,7 @@ impl Line {
     /// The bytes of the line, with a line feed at its end.
     pub(crate) fn finish(self) -> Result<Vec<u8>, AllocError>
         ensures text { IfOk result (λ line. line.items ≡ print self.writer.tokens ++ codes "\n") }
-        ensures reads_back { tokens (print self.writer.tokens) ≡ self.writer.tokens }
+        ensures reads_back { IfOk result (λ line. tokens line.items ≡ self.writer.tokens) }
     {
         let Line { writer, .. } = self;
         let mut line = writer.into_inner();

@@ -1,4 +1,4 @@
-//! The lines of texts.
+//! Lines of JSON for texts.
 ghost use Rattle.std.specs.Prelude.{◌≡◌, ◌++◌, [], ◌∷◌, IfOk, OnOk, codes, length};
 ghost use Rattle.json.specs.Json.{string};
 ghost use Rattle.json.specs.Token as token;
@@ -17,8 +17,8 @@ use snap_index::Index;
 use snap_text::TextFault;
 use std::alloc::{AllocError, Global};
 
-// Begins the object of a text, with its name and its exit status.
-fn begin_text(alloc: Global, name: &str, status: u8) -> Result<Line, AllocError>
+/// Begins the object of a text, with its name and its exit status.
+pub(crate) fn begin_text(alloc: Global, name: &str, status: u8) -> Result<Line, AllocError>
     ensures { IfOk result (λ line. line.writer.tokens ≡ token.begin_object ∷ field_tokens ((codes "name", string name.now) ∷ (codes "status", number_json status) ∷ [])) }
 {
     let mut line = Line::new(alloc);
@@ -28,7 +28,6 @@ fn begin_text(alloc: Global, name: &str, status: u8) -> Result<Line, AllocError>
     Ok(line)
 }
 
-// Adds the numbers of a history.
 fn put_counts(line: &mut Line, index: &Index<'_>) -> Result<(), AllocError>
     ensures { OnOk result (line.new.writer.tokens ≡ line.old.writer.tokens ++ field_tokens (count_fields index.now)) }
 {
@@ -38,7 +37,6 @@ fn put_counts(line: &mut Line, index: &Index<'_>) -> Result<(), AllocError>
     line.number("views", u64::from(index.view_count()))
 }
 
-// Adds the three verdicts.
 fn put_verdicts(line: &mut Line, tally: &Tally) -> Result<(), AllocError>
     ensures { OnOk result (line.new.writer.tokens ≡ line.old.writer.tokens ++ (token.key (codes "regular") ∷ token.boolean (has_no_local_fault tally.now) ∷ [])
         ++ (token.key (codes "monotone") ∷ token.boolean (has_no_stale_view tally.now) ∷ [])
@@ -49,10 +47,10 @@ fn put_verdicts(line: &mut Line, tally: &Tally) -> Result<(), AllocError>
     line.truth("atomic", is_atomic(tally))
 }
 
-/// The line of a history: its name and its exit status, its numbers, its verdicts, and of each kind of fault the first, with how
-/// many there are, what it names, and the calls that it is of. Of a kind without a fault it has null.
+/// The line of a history: its name, its exit status, its counts, its verdicts, and the first fault of each kind. A fault has the
+/// number of faults of its kind, what it names, and its calls. A kind without faults has null.
 ///
-/// It is made from the tally of all its completed views, and from the number of the record of each event.
+/// `tally` is that of all completed views, and `records` has the number of the record of each event.
 pub fn history_line(
     alloc: Global,
     name: &str,
@@ -73,7 +71,6 @@ pub fn history_line(
     line.finish()
 }
 
-// Adds the record at fault and the word of its fault.
 fn put_refused(line: &mut Line, place: u32, fault: TextFault) -> Result<(), AllocError>
     ensures { OnOk result (line.new.writer.tokens ≡ line.old.writer.tokens
         ++ (token.key (codes "refused") ∷ json_tokens (object_of ((codes "record", number_json place) ∷ (codes "fault", string (word_of fault)) ∷ [])))) }
@@ -85,8 +82,8 @@ fn put_refused(line: &mut Line, place: u32, fault: TextFault) -> Result<(), Allo
     line.end_object()
 }
 
-/// The line of a text that is no history: the record at fault, counted from 1 and 0 for the text as a whole, and the word of its
-/// fault.
+/// The line of a text that is not a history: the record at fault and the word of its fault. Records count from 1, and 0 is the text
+/// as a whole.
 pub fn refusal_line(
     alloc: Global,
     name: &str,
@@ -102,7 +99,7 @@ pub fn refusal_line(
     line.finish()
 }
 
-// Adds how many completed views there are, and how many are asked for.
+// Adds the number of completed views, and the number that is asked for.
 fn put_few_views(line: &mut Line, views: u32, least: u32) -> Result<(), AllocError>
     ensures { OnOk result (line.new.writer.tokens ≡ line.old.writer.tokens
         ++ (token.key (codes "too_few_views") ∷ json_tokens (object_of ((codes "views", number_json views) ∷ (codes "least", number_json least) ∷ [])))) }

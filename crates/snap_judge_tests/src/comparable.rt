@@ -1,4 +1,4 @@
-//! The tallies of histories of which any two views are comparable.
+//! The tallies of histories in which any two views are comparable.
 ghost use Rattle.snap_core.specs.Calls.{calls_of};
 ghost use Rattle.snap_views.specs.Chains.{IsViewChain};
 ghost use Rattle.snap_views.specs.Quick.{AreComparable};
@@ -18,8 +18,8 @@ use std::process::Abort;
 use std::test::Fail;
 use std::thread::Threads;
 
-// Beside open updates of three components five views follow one another, and one more, which began first, overlaps them all.
-// The first of the five shows all updates, the last shows none, and the second and the third show the same one.
+// During open updates of three components five views follow one another, and one more, which began first, overlaps them all. The
+// first of the five shows all updates, the last shows none, and the second and the third show the same one.
 const NEW_THEN_OLD_BESIDE: &[Step<'static>] = &[
     Update(0, (0, 1, 7)),
     Update(1, (1, 1, 8)),
@@ -50,7 +50,7 @@ const FIRST_FAULT: ReadFault = ReadFault {
     component: 1,
 };
 
-// Beside two open updates two views, one after the other, show both of them.
+// During two open updates two views, one after the other, show both of them.
 const SAME_TWICE: &[Step<'static>] = &[
     Update(0, (0, 1, 7)),
     Update(1, (1, 1, 8)),
@@ -62,7 +62,7 @@ const SAME_TWICE: &[Step<'static>] = &[
     Updated(1),
 ];
 
-// A tally has so many read faults, each with a stale view, this one the first, and no other fault.
+// A tally has this number of read faults, each with a stale view, and no other fault. The first read fault is this one.
 fn are_reads(tally: &Tally, count: u64, first: Option<ReadFault>) -> bool {
     tally.integrity.count() == 0
         && tally.proximity.count() == 0
@@ -101,7 +101,7 @@ fn chain_with_fault(alloc: Global, index: &Index<'_>) -> Result<ViewChain, Fail>
     }
 }
 
-// By the grid of the chain of its views an index has the same.
+// By the grid of the chain of its views an index has these read faults too.
 fn expect_by_chain(rt: &impl Abort, alloc: Global, index: &Index<'_>) -> Result<(), Fail> {
     let chain = chain_with_fault(alloc, index)?;
     assert!(rt; chain.places.as_slice() == [5, 2, 3, 0, 4, 1].as_slice());
@@ -109,7 +109,7 @@ fn expect_by_chain(rt: &impl Abort, alloc: Global, index: &Index<'_>) -> Result<
     expect_by_grid(rt, alloc, index, &grid)
 }
 
-// On one thread an index has so many read faults, this one the first, and a chain or none.
+// On one thread an index has this number of read faults, this one the first, and a chain or none.
 fn expect_alone(
     rt: &impl Abort,
     alloc: Global,
@@ -123,7 +123,7 @@ fn expect_alone(
     Ok(())
 }
 
-// By two workers an index has all faults.
+// With two workers an index has all faults.
 fn expect_by_two<R: Threads + Sync + Abort>(
     rt: &R,
     alloc: Global,
@@ -135,7 +135,7 @@ fn expect_by_two<R: Threads + Sync + Abort>(
     Ok(())
 }
 
-// The faults of `NEW_THEN_OLD_BESIDE`, each way that they are found.
+// The faults of `NEW_THEN_OLD_BESIDE`, by each way of finding them.
 fn expect_all_faults<R: Threads + Sync + Abort>(
     rt: &R,
     alloc: Global,

@@ -8,13 +8,12 @@ use std::test::Fail;
 
 mod first_clashes;
 
-/// So many rows of a number, one behind the other.
+/// A number of rows of one number, one after the other.
 type Run = (usize, u32);
 
-/// How many clashes and drops there are, and the first row that clashes.
+/// The number of clashes, the number of drops, and the first row that clashes.
 type Known = (u64, u64, Option<usize>);
 
-// The numbers of these rows.
 fn numbers_of(alloc: Global, runs: &[Run]) -> Result<Vec<u32>, AllocError> {
     let mut numbers = Vec::new(alloc);
     for &(times, number) in runs {
@@ -23,7 +22,7 @@ fn numbers_of(alloc: Global, runs: &[Run]) -> Result<Vec<u32>, AllocError> {
     Ok(numbers)
 }
 
-// Where so many rows begin and end: each ends before the next begins, or none does.
+// The places of the begins and ends of `rows` rows: each ends before the next begins, or none does.
 fn places_of(alloc: Global, rows: u32, apart: bool) -> Result<(Vec<u32>, Vec<u32>), AllocError> {
     let mut begins = Vec::new(alloc);
     let mut ends = Vec::new(alloc);
@@ -34,7 +33,7 @@ fn places_of(alloc: Global, rows: u32, apart: bool) -> Result<(Vec<u32>, Vec<u32
     Ok((begins, ends))
 }
 
-// The grid of these columns, each of so many rows. Each row ends before the next begins, or none does.
+// The grid of these columns, each of `rows` rows. Each row ends before the next begins, or none does.
 fn grid_of_columns(
     rt: &impl Abort,
     alloc: Global,
@@ -124,8 +123,8 @@ fn expect_drops(
     Ok(())
 }
 
-// Of a grid whose rows all have the number 0 in the second column, and each end before the next begins: row a clashes with
-// row b, and drops to it, exactly where a stands before b and has the greater number in the first.
+// For a grid whose rows all have the number 0 in the second column, and each end before the next begins. Row a clashes with row b,
+// and drops to it, if and only if it comes before b and has the greater first number.
 fn expect_falls(
     rt: &impl Abort,
     alloc: Global,
@@ -207,8 +206,8 @@ fn numbers_above_the_limit_are_compared_too(rt: HostRuntime) -> Result<(), Fail>
     expect_falls(&rt, rt.alloc(), &rows, 3, &known)
 }
 
-// The first three rows fall to the last (1 > 0), the far one to the four behind it, and the next three to the last (2 > 0):
-// 3 + 4 + 3.
+// The first three rows fall to the last (1 > 0), and the far one to the four after it. The next three fall to the last (2 > 0).
+// That is 3 + 4 + 3.
 #[test]
 fn one_far_number_is_greater_than_all_others_of_its_block(rt: HostRuntime) -> Result<(), Fail> {
     let rows = [(3, 1), (1, u32::MAX), (3, 2), (1, 0)];
@@ -221,8 +220,8 @@ fn one_far_number_is_greater_than_all_others_of_its_block(rt: HostRuntime) -> Re
     expect_falls(&rt, rt.alloc(), &rows, 2, &known)
 }
 
-// The first row falls to the four others, the second and the fourth to the last alone, and the third to the two behind it:
-// 4 + 1 + 1 + 2.
+// The first row falls to the four others, and the third to the two after it. The second and the fourth fall to the last alone. That
+// is 4 + 2 + 1 + 1.
 #[test]
 fn numbers_that_are_all_far_apart_are_compared_by_their_ranks(rt: HostRuntime) -> Result<(), Fail> {
     let rows = [
@@ -241,8 +240,8 @@ fn numbers_that_are_all_far_apart_are_compared_by_their_ranks(rt: HostRuntime) -
     expect_falls(&rt, rt.alloc(), &rows, 0, &known)
 }
 
-// Each of the first two rows falls to the four rows with a 9, and each of the other two with the greatest number to the last
-// row: 2 * 4 + 2 * 1. No row falls to one of the same number.
+// Each of the first two rows falls to the four rows with a 9. Each of the other two with the greatest number falls to the last row.
+// That is 2 * 4 + 2 * 1. No row falls to one of the same number.
 #[test]
 fn equal_far_numbers_have_the_same_rank(rt: HostRuntime) -> Result<(), Fail> {
     let rows = [(2, u32::MAX), (3, 9), (2, u32::MAX), (1, 9)];
@@ -255,8 +254,8 @@ fn equal_far_numbers_have_the_same_rank(rt: HostRuntime) -> Result<(), Fail> {
     expect_falls(&rt, rt.alloc(), &rows, 1, &known)
 }
 
-// The numbers 7 to 10 are near the least, and the last is not: each of the rows with 10, 9 and 8 falls to those of a lesser
-// number behind it, which are 3 + 2 + 1, and the first to the four others.
+// The numbers 7 to 10 are near the least, and the last is not. Each of the rows with 10, 9 and 8 falls to those of a lesser number
+// after it: 3 + 2 + 1. The first falls to the four others.
 #[test]
 fn numbers_near_the_least_and_far_from_it_stand_in_one_block(rt: HostRuntime) -> Result<(), Fail> {
     let rows = [(1, u32::MAX), (1, 10), (1, 9), (1, 8), (1, 7)];
@@ -264,8 +263,7 @@ fn numbers_near_the_least_and_far_from_it_stand_in_one_block(rt: HostRuntime) ->
     expect_falls(&rt, rt.alloc(), &rows, 4, &known)
 }
 
-// The one row of the second block has a number between the two of the first: the first row falls to it and to
-// the 511 rows of 0.
+// The one row of the second block has a number between the two of the first. The first row falls to it and to the 511 rows of 0.
 #[test]
 fn a_block_of_far_numbers_faces_one_of_a_single_row(rt: HostRuntime) -> Result<(), Fail> {
     let rows = [(1, u32::MAX), (511, 0), (1, 1_000_000)];
@@ -277,8 +275,8 @@ fn a_block_of_far_numbers_faces_one_of_a_single_row(rt: HostRuntime) -> Result<(
     expect_falls(&rt, rt.alloc(), &rows, 0, &known)
 }
 
-// The second block begins with a number that is greater than all of the first, to which none falls. It falls to the last row,
-// and so does the last row of the first block.
+// The second block begins with a number that is greater than all of the first, to which none falls. It falls to the last row, and
+// so does the last row of the first block.
 #[test]
 fn a_number_behind_all_ranks_of_a_block_is_less_than_none_of_them(
     rt: HostRuntime,
@@ -293,7 +291,7 @@ fn a_number_behind_all_ranks_of_a_block_is_less_than_none_of_them(
     expect_falls(&rt, rt.alloc(), &rows, 3, &known)
 }
 
-// Of the first two rows each has the greater number in one column, and the third is less than none of them in any.
+// Each of the first two rows has the greater number in one column. The third is less than none of them in any column.
 #[test]
 fn rows_that_are_crossed_in_far_numbers_clash_both_ways(rt: HostRuntime) -> Result<(), Fail> {
     let first = [(1, u32::MAX - 1), (1, 0), (1, u32::MAX)];

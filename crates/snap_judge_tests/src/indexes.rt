@@ -11,9 +11,9 @@ type Made = (u16, Option<Shown>, u32, Option<u32>);
 
 // A fact of an index.
 enum Known {
-    // How many events, calls, pending calls and completed views there are.
+    // The numbers of events, calls, pending calls and completed views.
     Counts([u32; 4]),
-    // There are so many events.
+    // This is the number of events.
     Events(usize),
     // Each of these numbers is that of such a call.
     Calls(&'static [(u32, Option<Made>)]),
@@ -23,7 +23,7 @@ enum Known {
     Views(&'static [(u32, Option<u32>, Option<&'static [Entry]>)]),
     // Each of these calls has such an answer.
     Answers(&'static [(u32, Option<&'static [Entry]>)]),
-    // Of each component these calls are the updates.
+    // For each component these calls are the updates.
     Updates(&'static [(u8, &'static [u32])]),
     // The update of each component and number is such a call.
     Numbers(&'static [(u8, u32, Option<u32>)]),
@@ -73,7 +73,7 @@ fn expect_precedence(rt: &impl Abort, index: &Index<'_>, pairs: &[(u32, u32)], p
     }
 }
 
-// What a view shows, where there is one.
+// What a view shows, if there is a view.
 fn shown(view: Option<&View>) -> Option<&[Entry]> {
     Some(view?.entries())
 }
@@ -98,7 +98,7 @@ fn expect_answers(rt: &impl Abort, index: &Index<'_>, answers: &[(u32, Option<&[
     }
 }
 
-// Whether these calls are the updates of a component, and as many as there are.
+// Whether these calls, and no others, are the updates of a component.
 fn are_updates(index: &Index<'_>, k: u8, calls: &[u32]) -> bool {
     let updates = index.updates(k);
     updates.len() == calls.len()
@@ -142,7 +142,7 @@ fn expect_known(rt: &impl Abort, index: &Index<'_>, known: &Known) {
     }
 }
 
-// All of these facts are known of the index of a history.
+// All of these facts are true of the index of a history.
 fn expect(rt: &impl Abort, alloc: Global, steps: &[Step<'_>], known: &[Known]) -> Result<(), Fail> {
     let history = history_of(alloc, steps)?;
     let index = Index::build(alloc, &history)?;
@@ -187,7 +187,7 @@ fn a_pending_update_is_found_and_there_is_none_after_it(rt: HostRuntime) -> Resu
 }
 
 const PRECEDENCE: &[Known] = &[
-    // the end of call 0 and the begin of call 1 are neighbours
+    // the end of call 0 and the begin of call 1 are next to each other
     Known::Precedence(&[(0, 1), (0, 2), (0, 3), (0, 4), (2, 4), (3, 4)], true),
     Known::Precedence(&[(1, 2), (1, 3), (1, 4), (2, 3), (3, 3)], false),
 ];

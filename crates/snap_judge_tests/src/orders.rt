@@ -38,7 +38,7 @@ fn expect_order<R: Threads + Abort + Sync>(
     expect_printed(rt, alloc, &index, order)
 }
 
-// So many empty views, and then so many updates, one after another.
+// `views` empty views, and then `updates` updates, one after another.
 fn views_then_updates(alloc: Global, views: u32, updates: u32) -> Result<Vec<Step<'static>>, Fail> {
     let mut steps = Vec::new(alloc);
     for _view in 0..views {
@@ -63,7 +63,7 @@ fn calls_of_a_long_history_are_printed_by_several_workers(rt: HostRuntime) -> Re
     expect_order(&rt, alloc, &steps, &order)
 }
 
-// Each of these lists is a legal order of an index's calls, or is none.
+// Each of these lists is a legal order of an index's calls or not, as it is marked.
 fn expect_legal(
     rt: &impl Abort,
     alloc: Global,
@@ -76,7 +76,7 @@ fn expect_legal(
     Ok(())
 }
 
-// The same of a history's calls.
+// Each of these lists is a legal order of a history's calls or not, as it is marked.
 fn expect_checked(
     rt: &impl Abort,
     alloc: Global,
@@ -116,7 +116,7 @@ fn orders_of_all_calls_are_checked_by_precedence_and_views(rt: HostRuntime) -> R
     expect_checked(&rt, rt.alloc(), ATOMIC_RUN, &orders)
 }
 
-// The digits to base 6 of a number below 1,296.
+// The `length` lowest digits to base 6 of a number, the lowest first.
 fn digits(alloc: Global, number: u32, length: usize) -> Result<Vec<u32>, Fail> {
     let mut rest = number;
     let mut digits = Vec::new(alloc);
@@ -127,7 +127,7 @@ fn digits(alloc: Global, number: u32, length: usize) -> Result<Vec<u32>, Fail> {
     Ok(digits)
 }
 
-// How many of the first lists of so many digits are legal orders.
+// How many of the first `lists` lists of `length` digits are legal orders.
 fn legal_among(alloc: Global, index: &Index<'_>, length: usize, lists: u32) -> Result<u32, Fail> {
     let mut legal = 0u32;
     for number in 0..lists {
@@ -137,10 +137,10 @@ fn legal_among(alloc: Global, index: &Index<'_>, length: usize, lists: u32) -> R
     Ok(legal)
 }
 
-// The lengths of the lists of up to four digits, and how many there are of each.
+// The lengths of the lists of up to four digits, and the number of lists of each length.
 const LENGTHS: &[(usize, u32)] = &[(0, 1), (1, 6), (2, 36), (3, 216), (4, 1296)];
 
-// How many of these lists are legal orders of an index's calls.
+// The number of these lists that are legal orders of an index's calls.
 fn legal_of(alloc: Global, index: &Index<'_>) -> Result<u32, Fail> {
     let mut legal = 0u32;
     for (length, lists) in LENGTHS {
@@ -149,7 +149,7 @@ fn legal_of(alloc: Global, index: &Index<'_>) -> Result<u32, Fail> {
     Ok(legal)
 }
 
-// The same of a history's calls.
+// The number of these lists that are legal orders of a history's calls.
 fn legal_lists(alloc: Global, steps: &[Step<'_>]) -> Result<u32, Fail> {
     let history = history_of(alloc, steps)?;
     let index = Index::build(alloc, &history)?;

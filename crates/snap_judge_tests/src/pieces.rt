@@ -1,6 +1,6 @@
 //! Tallies by several workers, and the claims of pieces.
 ghost use Rattle.std.specs.Prelude.{◌≡◌, All, IfOk};
-ghost use Rattle.snap_pairs.specs.Claiming.{IsClaimOf};
+ghost use Rattle.snap_threads.specs.Claiming.{IsClaimOf};
 
 use snap_conditions::{IntegrityFault, ProximityFault, ReadFault, Side, Tally};
 use snap_core::{Gate, OpenGate};
@@ -28,7 +28,7 @@ const FEW_FAR_NUMBERS: &[Step<'static>] = &[
     Step::Viewed(0, &[(0, 7, 1)]),
 ];
 
-// What is tallied of a history by a cutting.
+// The tally of a history by a cutting.
 fn tally_cut<R: Threads + Sync, G: Gate>(
     rt: &R,
     alloc: Global,
@@ -41,7 +41,7 @@ fn tally_cut<R: Threads + Sync, G: Gate>(
     Ok(tally(rt, alloc, &index, cutting, gate)?)
 }
 
-// What so many workers tally of a history in so many pieces.
+// The tally of a history by `workers` workers in `pieces` pieces.
 fn tally_by<R: Threads + Sync, G: Gate>(
     rt: &R,
     alloc: Global,
@@ -53,7 +53,7 @@ fn tally_by<R: Threads + Sync, G: Gate>(
     tally_cut(rt, alloc, steps, Cutting::new(pieces, workers)?, gate)
 }
 
-// The tally of a history that every cutting gives.
+// The tally of a history, which every cutting gives.
 fn tally_by_every_cutting<R: Threads + Sync>(
     rt: &R,
     alloc: Global,
@@ -82,7 +82,6 @@ fn counts(tally: &Tally) -> [u64; 4] {
     ]
 }
 
-// The faults of `CROSSED_VIEWS`.
 fn is_of_crossed_views(tally: &Tally) -> bool {
     let first = ReadFault {
         view: 2,
@@ -102,7 +101,6 @@ fn is_of_four_ways(tally: &Tally) -> bool {
     counts(tally) == [0, 0, 12, 0] && tally.read.first() == Some(first)
 }
 
-// The faults of `STALE_AND_WRONG`.
 fn is_of_stale_and_wrong(tally: &Tally) -> bool {
     let wrong = IntegrityFault {
         view: 2,
@@ -137,7 +135,7 @@ fn components_far_from_one_another_are_compared(rt: HostRuntime) -> Result<(), F
     Ok(())
 }
 
-// The faults of `FEW_FAR_NUMBERS`: the first view falls to the second, the fourth and the fifth, the third to the fourth and
+// The faults of `FEW_FAR_NUMBERS`. The first view falls to the second, the fourth and the fifth. The third falls to the fourth and
 // the fifth, and the fourth to the fifth.
 fn is_of_few_far_numbers(tally: &Tally) -> bool {
     let first = ReadFault {
@@ -155,7 +153,7 @@ fn views_of_few_far_numbers_fall_as_the_numbers_do(rt: HostRuntime) -> Result<()
     Ok(())
 }
 
-// The counter and the claims, with which it does not close.
+// The counter and the claims, with which the counter does not close.
 fn still_open(counter: Claims, claims: Vec<Claim>) -> Result<(Claims, Vec<Claim>), Fail>
     requires { All (IsClaimOf counter) claims.items }
     ensures { IfOk result (λ r. (r.0 ≡ counter) × (r.1 ≡ claims)) }
@@ -219,7 +217,7 @@ fn two_workers_get_a_piece_each_at_the_same_time(rt: HostRuntime) -> Result<(), 
     Ok(())
 }
 
-// So many views, one after another, that show the one of two open updates, and then so many that show the other.
+// `count` views, one after another, that show one of two open updates, and then `count` views that show the other.
 fn views_of_two(alloc: Global, count: u32) -> Result<Vec<Step<'static>>, AllocError> {
     let mut steps = Vec::new(alloc);
     steps.push(Step::Update(0, (0, 1, 1)))?;
@@ -235,7 +233,7 @@ fn views_of_two(alloc: Global, count: u32) -> Result<Vec<Step<'static>>, AllocEr
     Ok(steps)
 }
 
-// The faults of `views_of_two`, 300 views each: each view of the one update is a read fault with each of the other, both ways.
+// The faults of `views_of_two`, with 300 views each. Each view of one update is a read fault with each of the other, both ways.
 fn is_of_views_of_two(tally: &Tally) -> bool {
     let first = ReadFault {
         view: 2,

@@ -21,7 +21,7 @@ use std::test::Fail;
 mod histories;
 mod merged;
 
-/// What is known of a tally: of each kind the number of faults and the first, and how many views are stale.
+/// What is known about a tally: for each kind the number of faults and the first, and the number of stale views.
 #[derive(Clone, Copy, PartialEq, Eq)]
 struct Known {
     integrity: (u64, Option<IntegrityFault>),
@@ -55,7 +55,7 @@ fn one_proximity(fault: ProximityFault) -> Known {
     }
 }
 
-// So many read faults, this one the first, and no other.
+// This number of read faults, this one the first, and no other.
 fn reads(count: u64, first: ReadFault) -> Known {
     Known {
         read: (count, Some(first)),
@@ -105,7 +105,7 @@ fn expect_ranges_of_grid(
     Ok(())
 }
 
-// The same by the grid of all views of an index.
+// Each of these ranges of views has this tally by the grid of all views of an index.
 fn expect_ranges_by_grid(
     rt: &impl Abort,
     alloc: Global,
@@ -288,7 +288,7 @@ fn an_atomic_run_and_an_empty_range_have_no_fault(rt: HostRuntime) -> Result<(),
     expect(&rt, rt.alloc(), CROSSED_VIEWS, &[(1, 1, NO_FAULT)])
 }
 
-// Beside an open update 128 views, of which the one at place 63 alone shows it.
+// During an open update 128 views, of which only the one at place 63 shows it.
 fn one_newer_of_many(alloc: Global) -> Result<Vec<Step<'static>>, AllocError> {
     let mut steps = Vec::from_slice(
         alloc,

@@ -18,13 +18,12 @@ fn printed(alloc: Global, history: &History) -> Result<String, AllocError> {
     format!(in alloc; "{:?}", history.events())
 }
 
-// The events of these steps.
 fn events(alloc: Global, steps: &[Step<'_>]) -> Result<String, Fail> {
     let history = history_of(alloc, steps)?;
     Ok(printed(alloc, &history)?)
 }
 
-// The events of the witness of an index, or nothing where it has none.
+// The events of the witness of an index, or nothing if it has none.
 fn witness_of(alloc: Global, index: &Index<'_>) -> Result<String, AllocError> {
     let tally = tally_range(index, 0, index.view_count());
     match witness(alloc, index, &tally)? {
@@ -33,7 +32,7 @@ fn witness_of(alloc: Global, index: &Index<'_>) -> Result<String, AllocError> {
     }
 }
 
-// The same of these steps.
+// The events of the witness of these steps.
 fn witness_events(alloc: Global, steps: &[Step<'_>]) -> Result<String, Fail> {
     let history = history_of(alloc, steps)?;
     let index = Index::build(alloc, &history)?;
@@ -110,7 +109,7 @@ fn a_number_that_no_update_has_is_left_alone(rt: HostRuntime) -> Result<(), Fail
     expect(&rt, rt.alloc(), NEVER_WRITTEN, &alone)
 }
 
-// Behind the two rounds these steps have this witness.
+// After the two rounds these steps have this witness.
 fn expect_behind(
     rt: &impl Abort,
     alloc: Global,

@@ -1,4 +1,4 @@
--- How many rows a grid has at most, and how far the numbers of a table are apart.
+-- The greatest number of rows of a grid, and the greatest spread of the numbers of a table.
 use Rattle.std.specs.Prelude.{ℕ}
 use Rattle.snap_masks.specs.declared.column.TheConstants.{ROW_LIMIT, TABLE_LIMIT}
 

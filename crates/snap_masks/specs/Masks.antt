@@ -1,14 +1,14 @@
--- Masks of at most 512 rows: bit i is of the i-th.
+-- Masks of at most 512 rows: bit i is the bit of the i-th row.
 use Rattle.std.specs.Prelude.{ℕ, ◌<◌, ◌≡◌, ◌^◌, Bool, List, Option, Some, None, map, length}
 use Rattle.std.specs.List.{range_with_len}
 use Rattle.std.specs.Int.{bit_at}
 use Rattle.std.specs.Simd.Lanes.{mask_l, number_l, Each1}
 
--- the mask of the numbers that a test lets through
+-- the mask of the numbers that pass a test
 abbrev pub mask_by : (ℕ → Bool) → List ℕ → ℕ
 mask_by p numbers = mask_l (map p numbers)
 
--- the mask of the places below n that a test lets through
+-- the mask of the places below n that pass a test
 abbrev pub mask_below : (ℕ → Bool) → ℕ → ℕ
 mask_below p n = mask_l (map p (range_with_len 0 n))
 

@@ -1,4 +1,4 @@
--- The numbers of rows in columns: how they compare, and between which they are.
+-- The numbers of rows in columns: how they compare, and their bounds.
 use Rattle.std.specs.Prelude.{ℕ, ◌+◌, ◌*◌, ◌<◌, ◌≤◌, ◌≡◌, List, [], length, get_or, nat_lt}
 use Rattle.snap_masks.specs.declared.bounds.Bounds.{Bounds}
 
@@ -6,12 +6,12 @@ use Rattle.snap_masks.specs.declared.bounds.Bounds.{Bounds}
 abbrev pub number : List ℕ → ℕ → ℕ
 number column place = get_or column place 0
 
--- two rows compare in one column as they do in the other
+-- two rows compare in one column as in the other
 pub record IsOrderedAs (column keys : List ℕ) : Type 0 where
   pub count : length keys ≡ length column
   pub order : (a b : ℕ) → a < length column → b < length column → nat_lt (number keys a) (number keys b) ≡ nat_lt (number column a) (number column b)
 
--- for each of some columns there is one of the others in which rows compare so, and for each of those one of these
+-- for each of the keys there is a column in which rows compare as in it, and for each column one of the keys
 pub record AreOrderedAs (columns keys : List (List ℕ)) : Type 0 where
   pub each : (t : ℕ) → t < length keys → (j : ℕ) × (j < length columns) × IsOrderedAs (get_or columns j []) (get_or keys t [])
   pub all : (j : ℕ) → j < length columns → (t : ℕ) × (t < length keys) × IsOrderedAs (get_or columns j []) (get_or keys t [])

@@ -1,15 +1,15 @@
--- Ranks of numbers: how many different ones are below.
+-- Ranks of numbers: how many different numbers are below each.
 use Rattle.std.specs.Prelude.{ℕ, ◌<◌, ◌≤◌, ◌≡◌, List, length, get_or}
 use Rattle.std.specs.List.{Contains}
 use Rattle.std.specs.List.Sorted.{IsStrictlyIncreasing}
 
--- the different ones of some numbers, from the least on
+-- the different numbers among some, in rising order
 pub record AreDistinct (numbers distinct : List ℕ) : Type 0 where
   pub order : IsStrictlyIncreasing distinct
   pub few : length distinct ≤ length numbers
   pub each : (n : ℕ) → Contains numbers n → Contains distinct n
 
--- the rank of x: so many of the distinct numbers are below it, and no other
+-- the rank of x: the first `rank` distinct numbers are below x, and the others are not
 pub record IsRank (distinct : List ℕ) (x rank : ℕ) : Type 0 where
   pub within : rank ≤ length distinct
   pub before : (i : ℕ) → i < rank → get_or distinct i 0 < x

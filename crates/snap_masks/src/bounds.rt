@@ -1,7 +1,7 @@
 //! The least and the greatest of some numbers.
 ghost use Rattle.std.specs.Prelude.{◌≡◌, ◌≤◌, ◌<◌, ℕ, length, get_or};
 
-/// Bounds of some numbers.
+/// Numbers between which some numbers are, both included.
 #[derive(Clone, Copy)]
 pub struct Bounds {
     pub least: u32,

@@ -12,21 +12,21 @@ use crate::ranked::{distinct_of, ranks_of};
 use std::alloc::{AllocError, Global};
 use std::marker::Model;
 
-/// How many rows a grid has at most.
+/// The greatest number of rows of a grid.
 pub const ROW_LIMIT: usize = 1_048_576;
 
-/// How far apart the numbers of a table are at most: it has a mask of 64 bytes for each number between them.
+/// The greatest spread of the numbers of a table: it has a mask of 64 bytes for each number between them.
 pub const TABLE_LIMIT: u32 = 65_536;
 
 /// The numbers of all rows in one column.
 #[derive(Drop)]
 pub struct Column {
     numbers: Vec<u32>,
-    // of each block of rows
+    // the bounds of each block of rows
     bounds: Vec<Bounds>,
-    // up to which number masks of the column have a table
+    // the greatest spread of numbers whose masks have a table
     limit: u32,
-    // the ranks of the numbers, where they are farther apart
+    // the ranks of the numbers, if their spread is larger than that
     ranks: Vec<u32>,
 }
 
@@ -46,7 +46,7 @@ fn bounds_of(alloc: Global, numbers: &[u32]) -> Result<Vec<Bounds>, AllocError>
     Ok(bounds)
 }
 
-// The ranks of some numbers, where they are farther apart than a limit; else none.
+// The ranks of some numbers, if their spread is larger than a limit; else none.
 fn ranks_beyond(alloc: Global, numbers: &[u32], limit: u32) -> Result<Vec<u32>, AllocError>
     requires { length numbers.now ≤ row_limit }
     ensures { IfOk result (λ ranks. 0 < length ranks.items → IsOrderedAs numbers.now ranks.items) }
@@ -60,11 +60,11 @@ fn ranks_beyond(alloc: Global, numbers: &[u32], limit: u32) -> Result<Vec<u32>, 
     Ok(ranks)
 }
 
-// So many different numbers that are far apart are replaced by their ranks, whose masks have a table then.
+// At most this many different numbers with a large spread are replaced by their ranks. The masks of the ranks then have a table.
 const FEW_RANKS: u32 = 1024;
 
-/// Columns in which rows compare as they do in these. Numbers that are far apart, but few of them different, are replaced by their
-/// ranks: rows are compared sooner then. The error is want of memory.
+/// Columns in which rows compare as they do in the given ones. Numbers with a large spread, but few different ones, are replaced
+/// by their ranks, which makes comparing faster. The error is lack of memory.
 pub fn by_ranks(alloc: Global, mut columns: Vec<Column>) -> Result<Vec<Column>, AllocError>
     ensures { IfOk result (λ keys. AreOrderedAs columns.items keys.items) }
 {
@@ -87,8 +87,8 @@ impl Model for Column {
 }
 
 impl Column {
-    /// The column of some numbers. Comparing is fast where those of 512 neighbouring rows are at most the limit apart, and takes
-    /// memory by how far they are.
+    /// The column of these numbers, at most `ROW_LIMIT`. A block of 512 rows gets a table if its numbers spread at most as far as
+    /// `limit`, which is at most `TABLE_LIMIT`. Comparing is fast then. The table takes 64 bytes for each number of the spread.
     pub fn new(alloc: Global, numbers: Vec<u32>, limit: u32) -> Result<Column, AllocError>
         requires few { length numbers.items ≤ row_limit }
         requires limit { limit ≤ table_limit }
@@ -104,7 +104,7 @@ impl Column {
         })
     }
 
-    /// The column of some numbers that need no ranks, as the only one of a grid does.
+    /// The column of these numbers without ranks, for a grid of this column alone.
     pub fn alone(alloc: Global, numbers: Vec<u32>) -> Result<Column, AllocError>
         requires few { length numbers.items ≤ row_limit }
         ensures { IfOk result (λ column. column ≡ numbers.items) }
@@ -118,7 +118,7 @@ impl Column {
         })
     }
 
-    // The column of the ranks, where these are known and few of them different; else this column.
+    // The column of the ranks, if these are known and few of them are different; else this column.
     fn by_rank(self, alloc: Global) -> Result<Column, AllocError>
         ensures { IfOk result (IsOrderedAs self) }
     {
@@ -129,7 +129,7 @@ impl Column {
         Column::new(alloc, ranks, FEW_RANKS)
     }
 
-    /// Between which the numbers of a block of rows are.
+    /// Bounds of the numbers of a block of 512 rows. The block must have a row.
     pub fn bounds(&self, block: usize) -> Bounds
         requires { block * 512 < length self.now }
         ensures { (i : ℕ) → block * 512 ≤ i → i < block * 512 + 512 → i < length self.now → (result.least ≤ get_or self.now i 0) × (get_or self.now i 0 ≤ result.greatest) }
@@ -137,7 +137,7 @@ impl Column {
         self.bounds[block]
     }
 
-    /// The number of a row.
+    /// The number of a row, counted from 0.
     #[inline]
     pub fn number(&self, place: usize) -> u32
         requires { place < length self.now }
@@ -153,7 +153,7 @@ impl Column {
         &self.numbers
     }
 
-    /// The numbers of some rows.
+    /// The numbers of the rows from `from` to before `to`.
     pub fn rows(&self, from: usize, to: usize) -> &[u32]
         requires order { from ≤ to }
         requires within { to ≤ length self.now }
@@ -162,7 +162,7 @@ impl Column {
         &self.numbers[from..to]
     }
 
-    /// The ranks of some rows' numbers in the column; none where the numbers are near one another.
+    /// The ranks of the numbers of the rows from `from` to before `to`; none if the column has no ranks.
     pub fn places(&self, from: usize, to: usize) -> &[u32] {
         if from <= to && to <= self.ranks.len() {
             &self.ranks[from..to]
@@ -171,7 +171,7 @@ impl Column {
         }
     }
 
-    /// The masks of some rows.
+    /// The masks of the rows from `from` to before `to`, at most 512.
     pub fn masks<'c>(
         &'c self,
         alloc: Global,

@@ -1,4 +1,4 @@
-//! A block's numbers of one column, against those of another block.
+//! A block's numbers in one column, against those of another block.
 ghost use Rattle.std.specs.Prelude.{◌≡◌, ◌<◌, ◌+◌, length, nat_lt};
 ghost use Rattle.snap_masks.specs.Numbers.{number};
 ghost use Rattle.snap_masks.specs.Masks.{mask_by};
@@ -8,25 +8,25 @@ use crate::bounds::Bounds;
 use crate::mask::Mask;
 use crate::ranked::Ranked;
 
-/// A column whose bounds do not tell all of our rows and of a block of theirs.
+/// One column of our rows and of a block of theirs, for which bounds alone do not decide.
 #[derive(Drop)]
 pub struct Facing<'b, 'g> {
     /// Our numbers.
     pub ours: &'g [u32],
     pub(crate) bounds: Bounds,
-    /// The table of our masks; empty, where there is none.
+    /// The table of our masks; empty if there is none.
     pub under: &'b [Mask],
     // our numbers by their ranks, if there is no table
     pub(crate) ranked: &'b Option<Ranked<'g>>,
     /// Their numbers.
     pub theirs: &'g [u32],
-    // the ranks of their numbers in the column, where they are known
+    // the ranks of their numbers in the column, if they are known
     pub(crate) places: &'g [u32],
     ghost tables: { AreUnder ours.now bounds under.now },
     ghost ranked_else: { AreRankedElse ours.now under.now ranked.now },
 }
 
-/// The masks of our numbers below one of theirs, and of those that are at most that.
+/// The mask of our numbers below one of theirs, and the mask of our numbers that are at most that one.
 #[derive(Drop)]
 pub struct MasksAround<'b> {
     pub below: &'b Mask,
@@ -34,7 +34,7 @@ pub struct MasksAround<'b> {
 }
 
 impl<'b, 'g> Facing<'b, 'g> {
-    /// The masks around a number of theirs, which stand side by side in the table.
+    /// The masks around a number of theirs, which are neighbours in the table.
     #[inline]
     pub fn around(&self, row: usize) -> MasksAround<'b>
         requires tabled { 0 < length self.now.under.now }
@@ -51,7 +51,7 @@ impl<'b, 'g> Facing<'b, 'g> {
         }
     }
 
-    /// The masks around a number of theirs, where there is no table.
+    /// The masks around a number of theirs, if there is no table.
     pub fn around_far(&self, row: usize) -> MasksAround<'b>
         requires far { length self.now.under.now ≡ 0 }
         requires row { row < length self.now.theirs.now }

@@ -5,10 +5,10 @@ ghost use Rattle.snap_masks.specs.Masks.{IsFirstBit, mask_below};
 use std::marker::Model;
 use std::simd::prelude::*;
 
-/// How many rows a block has, and a mask bits for.
+/// The number of rows of a block, and of bits of a mask.
 pub const WIDTH: usize = 512;
 
-// How many lanes of 64 bits a mask has.
+// The number of lanes of 64 bits of a mask.
 const LANES: usize = 8;
 
 /// A mask of up to 512 rows.
@@ -37,7 +37,7 @@ impl Mask {
         Mask { lanes: [0; LANES] }
     }
 
-    /// The same mask.
+    /// A copy of the mask.
     #[inline]
     pub fn copy(&self) -> Mask
         ensures { result ≡ self.now }
@@ -81,7 +81,7 @@ impl Mask {
         }
     }
 
-    /// The rows of one of this mask and another, and not of both.
+    /// The rows of exactly one of this mask and another.
     #[inline]
     pub fn xor(&self, other: &Mask) -> Mask
         ensures { result ≡ bit_xor self.now other.now }
@@ -91,7 +91,7 @@ impl Mask {
         }
     }
 
-    /// How many rows it has.
+    /// The number of its rows.
     #[inline]
     pub fn count(&self) -> u32
         ensures { result ≡ count_ones self.now }
@@ -103,7 +103,7 @@ impl Mask {
         count
     }
 
-    /// The first row that it has.
+    /// The first of its rows; none if it is empty.
     pub fn first(&self) -> Option<usize>
         ensures { IsFirstBit self.now result }
     {
@@ -116,7 +116,7 @@ impl Mask {
     }
 }
 
-/// The mask of so many rows.
+/// The mask of the first `count` rows, at most 512.
 pub fn mask_of_all(count: usize) -> Mask
     requires { count ≤ 512 }
     ensures { result ≡ mask_below (λ a. true) count }

@@ -1,4 +1,4 @@
-//! The masks of a block's numbers of one column, by a table of what is below each number.
+//! The masks of a block's numbers in one column, by a table of what is below each number.
 ghost use Rattle.std.specs.Prelude.{◌≡◌, ◌≤◌, ◌<◌, ◌+◌, ◌-◌, ℕ, length, get_or, nat_lt, IfOk};
 ghost use Rattle.snap_masks.specs.Masks.{mask_by};
 ghost use Rattle.snap_masks.specs.Limits.{table_limit};
@@ -10,7 +10,7 @@ use crate::ranked::Ranked;
 use std::alloc::{AllocError, Global};
 use std::marker::Model;
 
-// So many masks of no row.
+// `count` masks of no row.
 pub(crate) fn empty_masks(alloc: Global, count: usize) -> Result<Vec<Mask>, AllocError>
     ensures count { IfOk result (λ masks. length masks.items ≡ count) }
     ensures empty { IfOk result (λ masks. (x : ℕ) → get_or masks.items x 0 ≡ 0) }
@@ -22,8 +22,8 @@ pub(crate) fn empty_masks(alloc: Global, count: usize) -> Result<Vec<Mask>, Allo
     Ok(masks)
 }
 
-// Makes a table of empty masks one of the masks of the numbers below each x, counted on from the least: at x + 1 the numbers
-// that are x are put first, and then each mask is joined to the next.
+// Fills a table of empty masks with the masks of the numbers below each x, from the least on. A row whose number is x is first
+// put at x + 1, and then each mask is joined to the next.
 pub(crate) fn fill(table: &mut [Mask], numbers: &[u32], least: u32)
     requires few { length numbers.now ≤ 512 }
     requires empty { (x : ℕ) → get_or table.old x 0 ≡ 0 }
@@ -40,15 +40,15 @@ pub(crate) fn fill(table: &mut [Mask], numbers: &[u32], least: u32)
     }
 }
 
-/// Up to 512 numbers, kept so that it is soon known which of them are greater or less than another.
+/// Up to 512 numbers, kept so that the masks of those below another number are found fast.
 #[derive(Drop)]
 pub struct Masks<'c> {
     numbers: &'c [u32],
     bounds: Bounds,
-    // behind an empty mask those of the numbers below each x from the least to two more than the greatest; nothing, where these
-    // are too far apart
+    // after an empty mask, the masks of the numbers below each x, from the least to two more than the greatest; nothing if the
+    // spread is too large
     under: Vec<Mask>,
-    // the numbers by their ranks, where there is no table
+    // the numbers by their ranks, if there is no table
     ranked: Option<Ranked<'c>>,
     // the mask of all
     all: Mask,
@@ -66,7 +66,8 @@ impl<'c> Model for Masks<'c> {
 }
 
 impl<'c> Masks<'c> {
-    /// The masks of some numbers, with a table where they are at most so far apart. Else it serves to know their ranks in a column.
+    /// The masks of at most 512 numbers, with a table if their spread is at most `limit`. `places` may have their ranks in a column,
+    /// which makes comparing without a table faster.
     pub fn of(
         alloc: Global,
         numbers: &'c [u32],
@@ -96,14 +97,14 @@ impl<'c> Masks<'c> {
         })
     }
 
-    /// Between which all numbers are.
+    /// Bounds of all the numbers.
     pub fn bounds(&self) -> Bounds
         ensures { (i : ℕ) → i < length self.now → (result.least ≤ get_or self.now i 0) × (get_or self.now i 0 ≤ result.greatest) }
     {
         self.bounds
     }
 
-    /// The masks against numbers of theirs, whose ranks in their column may be known.
+    /// The masks against other numbers. `places` may have the ranks of these in their column.
     pub fn facing<'m>(&'m self, theirs: &'c [u32], places: &'c [u32]) -> Facing<'m, 'c>
         ensures ours { result.ours.now ≡ self.now }
         ensures theirs { result.theirs.now ≡ theirs.now }
@@ -118,7 +119,7 @@ impl<'c> Masks<'c> {
         }
     }
 
-    /// The mask of the numbers below x, where it is mostly below all of them or above all.
+    /// The mask of the numbers below x. It is fastest if x is above all of them, or not above any.
     #[inline]
     pub fn before(&self, x: u32) -> Mask
         ensures { result ≡ mask_by (λ n. nat_lt n x) self.now }

@@ -1,4 +1,4 @@
-//! The masks of a block's numbers of one column, by their ranks.
+//! The masks of a block's numbers in one column, by their ranks.
 ghost use Rattle.std.specs.Prelude.{◌≡◌, ◌≤◌, ◌<◌, ◌+◌, ℕ, length, get_or, nat_lt, IfOk, IsTrue};
 ghost use Rattle.std.specs.List.Sorted.{IsStrictlyIncreasing};
 ghost use Rattle.snap_masks.specs.Masks.{mask_by};
@@ -12,7 +12,7 @@ use crate::masks::{empty_masks, fill};
 use std::alloc::{AllocError, Global};
 use std::marker::Model;
 
-/// The different ones of some numbers, from the least on.
+/// The different numbers among some, in rising order.
 pub fn distinct_of(alloc: Global, numbers: &[u32]) -> Result<Vec<u32>, AllocError>
     ensures { IfOk result (λ distinct. AreDistinct numbers.now distinct.items) }
 {
@@ -22,7 +22,7 @@ pub fn distinct_of(alloc: Global, numbers: &[u32]) -> Result<Vec<u32>, AllocErro
     Ok(distinct)
 }
 
-// How many of some distinct numbers are below x.
+// The number of distinct numbers below x.
 fn rank_of(distinct: &[u32], x: u32) -> usize
     requires { IsStrictlyIncreasing distinct.now }
     ensures { IsRank distinct.now x result }
@@ -30,7 +30,7 @@ fn rank_of(distinct: &[u32], x: u32) -> usize
     distinct.partition_point(|number| *number < x)
 }
 
-// How many of some distinct numbers are at most x, of which so many are below it.
+// The number of distinct numbers that are at most x. `rank` of them are below x.
 #[inline]
 fn rank_behind(distinct: &[u32], x: u32, rank: usize) -> usize
     requires order { IsStrictlyIncreasing distinct.now }
@@ -44,7 +44,7 @@ fn rank_behind(distinct: &[u32], x: u32, rank: usize) -> usize
     }
 }
 
-/// The rank of each number.
+/// The rank of each number among the distinct ones.
 pub fn ranks_of(alloc: Global, numbers: &[u32], distinct: &[u32]) -> Result<Vec<u32>, AllocError>
     requires few { length distinct.now ≤ row_limit }
     requires order { IsStrictlyIncreasing distinct.now }
@@ -57,7 +57,7 @@ pub fn ranks_of(alloc: Global, numbers: &[u32], distinct: &[u32]) -> Result<Vec<
     Ok(ranks)
 }
 
-// The masks of the numbers below each rank, and of all, where there are so many different ones.
+// The masks of the numbers below each rank, and of all. `count` of the numbers are different.
 fn masks_of(alloc: Global, ranks: &[u32], count: usize) -> Result<Vec<Mask>, AllocError>
     requires few { length ranks.now ≤ 512 }
     requires few_ranks { count ≤ 512 }
@@ -70,7 +70,7 @@ fn masks_of(alloc: Global, ranks: &[u32], count: usize) -> Result<Vec<Mask>, All
     Ok(masks)
 }
 
-// Whether so many of some distinct numbers are below x.
+// Whether `rank` of some distinct numbers are below x.
 #[inline]
 fn is_rank(distinct: &[u32], x: u32, rank: usize) -> bool
     requires { IsStrictlyIncreasing distinct.now }
@@ -88,7 +88,7 @@ fn is_rank(distinct: &[u32], x: u32, rank: usize) -> bool
     true
 }
 
-// How many of some distinct numbers are below x. Where that is a guess, or one more, no search is needed.
+// The number of distinct numbers below x. No search is needed if that is the guess, or one more.
 #[inline]
 fn rank_by(distinct: &[u32], x: u32, guess: usize) -> usize
     requires { IsStrictlyIncreasing distinct.now }
@@ -104,18 +104,18 @@ fn rank_by(distinct: &[u32], x: u32, guess: usize) -> usize
     rank_of(distinct, x)
 }
 
-// The ranks of a column fall into so many parts, two to the 12th, so that the guesses stay in a fast memory.
+// The number of parts of the ranks of a column, two to the 12th: the guesses of so few parts stay in fast memory.
 const PARTS: usize = 4096;
 
 const PART_BITS: u32 = 12;
 
-// By how many bits the ranks of a column, of which this is the greatest, are shifted to a part.
+// The number of bits by which the ranks of a column are shifted to a part. `greatest` is the greatest rank.
 fn shift_for(greatest: u32) -> u32 {
     (u32::BITS - greatest.leading_zeros()).saturating_sub(PART_BITS)
 }
 
-// By parts how many different ones of some numbers have a rank in a part before. Each number has its rank in the whole column and
-// the one among the different numbers, of which there are so many.
+// For each part, the number of different numbers with a rank in an earlier part. Each number has its rank in the whole column, in
+// `places`, and its rank among the `count` different numbers, in `ranks`.
 fn guesses_of(
     alloc: Global,
     places: &[u32],
@@ -141,16 +141,16 @@ fn guesses_of(
     Ok(guesses)
 }
 
-// Up to 512 numbers, kept so that it is soon known which of them are greater or less than another, however far apart they are.
+// Up to 512 numbers of any spread, kept so that the masks of those below another number are found fast.
 #[derive(Drop)]
 pub(crate) struct Ranked<'c> {
     numbers: &'c [u32],
-    // the different ones of them, from the least on
+    // the different numbers, in rising order
     distinct: Vec<u32>,
-    // by the part of a number's rank in the whole column about how many of the distinct ones are below it; each is tested before
+    // for each part of the ranks in the whole column, about how many of the distinct numbers are below; each guess is tested before
     // it is used
     guesses: Vec<u16>,
-    // by how many bits a rank in the whole column is shifted to its part
+    // the number of bits by which a rank in the whole column is shifted to its part
     shift: u32,
     // the masks of the numbers below each rank, and of all
     under: Vec<Mask>,
@@ -168,8 +168,8 @@ impl<'c> Model for Ranked<'c> {
 }
 
 impl<'c> Ranked<'c> {
-    // Some numbers by their ranks. They are soon compared with numbers whose ranks in the column are known, as `places` has those
-    // of these numbers.
+    // Some numbers by their ranks. If `places` has their ranks in the column, comparing with numbers whose ranks in it are known is
+    // fast.
     pub(crate) fn of(
         alloc: Global,
         numbers: &'c [u32],
@@ -192,7 +192,7 @@ impl<'c> Ranked<'c> {
         })
     }
 
-    // About how many of the distinct numbers are below one, by its rank in the column.
+    // About how many of the distinct numbers are below a number, by its rank in the column.
     #[inline]
     pub(crate) fn guess(&self, place: u32) -> usize {
         match self.guesses.get(place.wrapping_shr(self.shift) as usize) {
@@ -201,8 +201,8 @@ impl<'c> Ranked<'c> {
         }
     }
 
-    // The masks around x, which are soon found where a guess tells how many of the distinct numbers are below x. They stand side
-    // by side, or are one where none of the numbers is x.
+    // The masks around x. They are found fast if about `guess` distinct numbers are below x. They are neighbours, or one and the
+    // same if none of the numbers is x.
     #[inline]
     pub(crate) fn around(&self, x: u32, guess: usize) -> MasksAround<'_>
         ensures below { result.below.now ≡ mask_by (λ n. nat_lt n x) self.now }

@@ -5,7 +5,7 @@ use Rattle.snap_names.specs.declared.fault.NamesFault.{NamesFault}
 use Rattle.snap_names.specs.declared.fault.NamesFault.TheVariants.{Unread, TooLong, Empty, TooManyFolders, Memory}
 use Rattle.snap_names.specs.declared.list.TheConstants.{LIST_LIMIT}
 
--- the bytes of some names
+-- the bytes of each name
 abbrev pub byte_lists : List (Vec ℕ) → List (List ℕ)
 byte_lists names = map (λ name. name.items) names
 
@@ -14,16 +14,16 @@ pub record IsName (end : ℕ) (name : List ℕ) : Type 0 where
   pub some : name ≢ []
   pub whole : All (λ b. b ≢ end) name
 
--- some names, each with its end
+-- names in a row, each with its end
 abbrev pub ended : ℕ → List (List ℕ) → List ℕ
 ended end names = flat_map (λ name. name ++ end ∷ []) names
 
--- the names of a list, in their order: the list is the names, each with its end, which the last may lack
+-- the names of a list, in their order: each is followed by its end, which the last may lack
 pub record AreNamesOf (end : ℕ) (text : List ℕ) (names : List (List ℕ)) : Type 0 where
   pub each : All (IsName end) names
   pub spelled : (text ≡ ended end names) ⊎ (text ++ end ∷ [] ≡ ended end names)
 
--- the name of this number is empty, as the first: behind the names before it, each with its end, stands an end
+-- the first empty name is the one of this number: another end follows the names before it, each with its end
 pub record LacksName (end : ℕ) (text : List ℕ) (number : ℕ) : Type 0 where
   pub before : List (List ℕ)
   pub each : All (IsName end) before
@@ -31,7 +31,7 @@ pub record LacksName (end : ℕ) (text : List ℕ) (number : ℕ) : Type 0 where
   pub behind : List ℕ
   pub spelled : text ≡ ended end before ++ end ∷ behind
 
--- what is answered of a list that is at hand: all its names, or its first empty one, or memory ran out
+-- the answer for a list in memory: all its names, its first empty name, or that memory ran out
 abbrev pub CutsList : ℕ → List ℕ → Result (Vec (Vec ℕ)) NamesFault → Type 0
 CutsList end text (Ok names) = AreNamesOf end text (byte_lists names.items)
 CutsList end text (Err (Empty number)) = LacksName end text number
@@ -40,7 +40,7 @@ CutsList end text (Err Unread) = ⊥
 CutsList end text (Err TooLong) = ⊥
 CutsList end text (Err TooManyFolders) = ⊥
 
--- what is answered of a list that is read; one that is too long is refused
+-- the answer for a list that is read; a list that is too long is refused
 abbrev pub AnswersList : ℕ → List ℕ → Result (Vec (Vec ℕ)) NamesFault → Type 0
 AnswersList end text (Ok names) = AreNamesOf end text (byte_lists names.items)
 AnswersList end text (Err (Empty number)) = LacksName end text number

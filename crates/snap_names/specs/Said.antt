@@ -4,8 +4,8 @@ use Rattle.snap_names.specs.Shown.{shown}
 use Rattle.snap_names.specs.declared.opener.Trouble.{Trouble}
 use Rattle.snap_names.specs.declared.opener.Trouble.TheVariants.{Missing, Folder, NotUnicode, Denied, TooManyOpen, LinkLoop, LongName, NoDevice, Unopened, Unread, Memory}
 
--- a text with a front before each of its lines: before its first byte, where a line begins there, and before each byte that stands
--- behind a line feed
+-- a text with a front before each of its lines. It comes before the first byte, if a line begins there, and before each byte that
+-- follows a line feed
 abbrev pub fronted_from : Bool → List ℕ → List ℕ → List ℕ
 fronted_from begins front [] = []
 fronted_from begins front (b ∷ bs) = (if begins then front else []) ++ b ∷ fronted_from (b == 10) front bs
@@ -14,7 +14,7 @@ fronted_from begins front (b ∷ bs) = (if begins then front else []) ++ b ∷ f
 abbrev pub named_lines : List ℕ → List ℕ → List ℕ
 named_lines name text = fronted_from true (shown name ++ codes ": ") text
 
--- the line that says a reason of a name
+-- the line that gives a reason for a name
 abbrev pub reason_line_text : List ℕ → List ℕ → List ℕ
 reason_line_text name reason = codes "snapjudge: " ++ shown name ++ codes ": " ++ reason ++ codes "\n"
 
@@ -32,6 +32,6 @@ trouble_text Unopened = codes "can't be opened"
 trouble_text Unread = codes "read failed"
 trouble_text Memory = codes "out of memory"
 
--- the line that says the trouble of a name
+-- the line that gives the trouble of a name
 abbrev pub trouble_line_text : List ℕ → Trouble → List ℕ
 trouble_line_text name trouble = reason_line_text name (trouble_text trouble)

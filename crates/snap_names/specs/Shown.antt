@@ -11,7 +11,7 @@ escaped b = codes "\\x" ++ digit_char (b / 16) ∷ digit_char (b % 16) ∷ []
 abbrev pub is_plain : Bool → ℕ → Bool
 is_plain is_text b = not (is_ascii_control b) && (is_text || is_ascii b)
 
--- of a name a line feed is shown as \n, a carriage return as \r, and a backslash as two
+-- a line feed in a name is shown as \n, a carriage return as \r, and a backslash as two
 abbrev pub shown_byte : Bool → ℕ → List ℕ
 shown_byte is_text b =
     if b == 10 then codes "\\n" else if b == 13 then codes "\\r" else if b == 92 then codes "\\\\" else if is_plain is_text b then b ∷ [] else escaped b

@@ -11,13 +11,13 @@ pub enum NamesFault {
     /// The list can't be read.
     #[error("read failed")]
     Unread,
-    /// The list has more bytes than are read.
+    /// The list has more than `LIST_LIMIT` bytes.
     #[error("is longer than 268435456 bytes")]
     TooLong,
     /// The name of this number, from 1, is empty.
     #[error("name {0} is empty")]
     Empty(usize),
-    /// There are more folders below the folder than are listed.
+    /// The folder and those below it are more than `FOLDER_LIMIT`.
     #[error("has more than 1048576 folders")]
     TooManyFolders,
     #[error("out of memory")]

@@ -7,7 +7,7 @@ use memchr::memchr;
 use std::alloc::{AllocError, Global};
 use std::io::{ErrorKind, Read};
 
-/// How many bytes a list may have.
+/// The greatest number of bytes of a list.
 pub const LIST_LIMIT: usize = 268_435_456;
 
 /// Adds a copy of a name.
@@ -22,7 +22,7 @@ pub(crate) fn add_name(
     Ok(names.push(copy)?)
 }
 
-/// The names in a list, each of which ends with the byte `end`; the last may lack it. An empty name is refused.
+/// The names in a list, in their order. Each ends with the byte `end`, which the last may lack. The first empty name is refused.
 pub fn names_in(alloc: Global, text: &[u8], end: u8) -> Result<Vec<Vec<u8>>, NamesFault>
     ensures { CutsList end text.now result }
 {
@@ -41,7 +41,7 @@ pub fn names_in(alloc: Global, text: &[u8], end: u8) -> Result<Vec<Vec<u8>>, Nam
     Ok(names)
 }
 
-/// The names in the list that a reader has left, as `names_in` has them, where that is within the limit.
+/// The names in the list that a reader has left, as `names_in` has them. A list of more than `LIST_LIMIT` bytes is refused.
 pub fn read_names<R: Read + Drop>(
     alloc: Global,
     reader: R,

@@ -22,7 +22,7 @@ fn front_lines(alloc: Global, front: &[u8], text: &[u8]) -> Result<Vec<u8>, Allo
     Ok(lines)
 }
 
-/// A text with the name before each of its lines, as it is shown.
+/// A text with the name before each of its lines. The name is shown as by `put_shown`.
 pub fn name_lines(alloc: Global, name: &[u8], text: &[u8]) -> Result<Vec<u8>, AllocError>
     ensures { IfOk result (λ lines. lines.items ≡ named_lines name.now text.now) }
 {
@@ -32,7 +32,7 @@ pub fn name_lines(alloc: Global, name: &[u8], text: &[u8]) -> Result<Vec<u8>, Al
     front_lines(alloc, &front, text)
 }
 
-/// The line that says a reason of a name, which need be no text.
+/// The line that gives a reason for a name, which need not be UTF-8.
 pub fn reason_line(alloc: Global, name: &[u8], reason: &str) -> Result<Vec<u8>, AllocError>
     ensures { IfOk result (λ line. line.items ≡ reason_line_text name.now reason.now) }
 {
@@ -64,7 +64,7 @@ pub fn trouble_words(trouble: Trouble) -> &'static str
     }
 }
 
-/// The line that says the trouble of a name.
+/// The line that gives the trouble of a name.
 pub fn trouble_line(alloc: Global, name: &[u8], trouble: Trouble) -> Result<Vec<u8>, AllocError>
     ensures { IfOk result (λ line. line.items ≡ trouble_line_text name.now trouble) }
 {

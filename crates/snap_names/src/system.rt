@@ -12,13 +12,13 @@ use std::os::unix::fs::MetadataExt;
 use std::rt::Files;
 use std::{fs, str};
 
-/// What lists the folders of the system.
+/// Lists the folders of the system.
 #[derive(Drop)]
 pub struct SystemFolders<'a, R> {
     pub files: &'a R,
 }
 
-// What stands where no folder does.
+// The kind of what is not a folder.
 fn kind_of(metadata: &Metadata) -> Kind {
     if metadata.is_file() {
         Kind::File
@@ -35,7 +35,7 @@ impl Entry {
 }
 
 impl<R: Files> SystemFolders<'_, R> {
-    // What stands at a path, behind a link what it leads to. A file that is gone in the meantime is one still.
+    // What is at a path; for a link, what it leads to. A file that disappeared since its listing still counts as a file.
     fn kind_at(&self, path: &str) -> Kind {
         match fs::symlink_metadata(self.files, path) {
             Ok(metadata) if metadata.is_dir() => Kind::Folder,
@@ -50,8 +50,8 @@ impl<R: Files> SystemFolders<'_, R> {
         }
     }
 
-    // Whether there are so many folders in a folder and no other. It has two links, and one from each of them, where the file system
-    // counts them. Where that has one link alone, nothing is known.
+    // Whether a folder has exactly this many folders. If the file system counts links, a folder has two links, and one from each
+    // of its folders. If it has only one link, nothing is known.
     fn has_so_many(&self, folder: &[u8], folders: usize) -> bool {
         let Ok(path) = str::from_utf8(folder) else {
             return false;
@@ -62,8 +62,8 @@ impl<R: Files> SystemFolders<'_, R> {
         }
     }
 
-    // Says of the entries whose names are not UTF-8 that they are no folders, where all folders are known. The system can't be asked
-    // for what stands under such a name.
+    // Marks the entries whose names are not UTF-8 as files, if all folders are known. The system can't be asked what is under such
+    // a name.
     fn tell_bare(&self, folder: &[u8], entries: &mut Vec<Entry>) {
         if !entries.iter().any(Entry::is_bare) {
             return;
@@ -78,9 +78,9 @@ impl<R: Files> SystemFolders<'_, R> {
         }
     }
 
-    // The names in a folder, as the system gives them; none where it can't be listed.
+    // The names in a folder, as the system gives them; none if it can't be listed.
     fn listed(&self, alloc: Global, folder: &[u8]) -> Result<Option<Vec<Vec<u8>>>, AllocError> {
-        // the slash has the system follow a link to the folder that the words name
+        // with the slash the system follows a link to the folder that the argument names
         let slashed = path_in(alloc, folder, b"")?;
         let Ok(path) = str::from_utf8(&slashed) else {
             return Ok(None);

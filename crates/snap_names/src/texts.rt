@@ -26,7 +26,7 @@ impl<F: Read> Read for SystemText<F> {
     }
 }
 
-/// What opens files by their names; `-` is standard input.
+/// Opens files by their names; `-` is standard input.
 #[derive(Drop)]
 pub struct System<'a, R> {
     /// The files.
@@ -35,12 +35,12 @@ pub struct System<'a, R> {
     pub input: Stdin,
 }
 
-// The numbers of errors that have no kind: there is no room for one more open file; there is no such device, as a socket has none.
+// The numbers of errors without a kind: too many open files; no such device, as for a socket.
 const EMFILE: i32 = 24;
 
 const ENXIO: i32 = 6;
 
-// Why a file is not opened, by the number of an error of no kind.
+// Why a file is not opened, by the number of an error without a kind.
 fn trouble_numbered(number: Option<i32>) -> Trouble {
     match number {
         Some(EMFILE) => Trouble::TooManyOpen,
@@ -49,7 +49,7 @@ fn trouble_numbered(number: Option<i32>) -> Trouble {
     }
 }
 
-// The same by the error.
+// Why a file is not opened, by the error.
 fn trouble_of(error: &io::Error) -> Trouble {
     match error.kind() {
         ErrorKind::NotFound | ErrorKind::NotADirectory => Trouble::Missing,

@@ -8,10 +8,10 @@ use crate::folders::{Entry, Folders, Kind};
 use crate::list::add_name;
 use std::alloc::{AllocError, Global};
 
-/// How many folders are listed for one, with itself.
+/// The greatest number of folders that one walk lists, the first included.
 pub const FOLDER_LIMIT: usize = 1_048_576;
 
-/// The path of what stands in a folder under a name.
+/// The path of what a folder has under a name.
 pub(crate) fn path_in(alloc: Global, folder: &[u8], name: &[u8]) -> Result<Vec<u8>, AllocError>
     ensures { IfOk result (λ path. path.items ≡ path_in folder.now name.now) }
 {
@@ -24,7 +24,7 @@ pub(crate) fn path_in(alloc: Global, folder: &[u8], name: &[u8]) -> Result<Vec<u
 }
 
 impl Entry {
-    // Whether the name is one of a recording. What stands there is taken too where that can't be found out, so that it is not lost.
+    // Whether the name is one of a recording. An entry of unknown kind is taken too, so that nothing is lost.
     fn is_taken(&self) -> bool
         ensures { result ≡ is_taken self.now }
     {
@@ -36,7 +36,7 @@ impl Entry {
     }
 }
 
-// Adds to the waiting folders those in a folder, and to the names those of recordings.
+// Adds the folders in a folder to the waiting ones, and the recordings in it to the names.
 fn take_entries(
     alloc: Global,
     folder: &[u8],
@@ -58,7 +58,7 @@ fn take_entries(
     Ok(())
 }
 
-// The same of what a folder was listed as. One that can't be listed is added to the names itself.
+// Adds what a listing of a folder has, as `take_entries`. A folder that can't be listed is added to the names itself.
 fn take_listing(
     alloc: Global,
     folder: &[u8],
@@ -75,7 +75,7 @@ fn take_listing(
     }
 }
 
-// A copy of a name.
+// A copy of the name at a place.
 fn copy_at(alloc: Global, names: &[Vec<u8>], at: usize) -> Result<Vec<u8>, AllocError>
     requires { at < length names.now }
     ensures { IfOk result (λ copy. copy.items ≡ slice_index_or (byte_lists names.now) at []) }
@@ -83,8 +83,8 @@ fn copy_at(alloc: Global, names: &[Vec<u8>], at: usize) -> Result<Vec<u8>, Alloc
     Vec::from_slice(alloc, &names[at])
 }
 
-/// The names of the recordings below a folder, in the order of their bytes. A folder that can't be listed stands among them itself, so
-/// that a check says why. A link to a folder is not followed. Only more folders than `FOLDER_LIMIT` are refused.
+/// The names of the recordings below a folder, in the order of their bytes. A folder that can't be listed is one of the names,
+/// so that a check says why. A link to a folder is not followed. Only more than `FOLDER_LIMIT` folders are refused.
 pub fn names_below<F: Folders>(
     alloc: Global,
     folders: &F,

@@ -1,4 +1,4 @@
--- What only the proofs of this crate need: no clause that a caller reads cites it.
+-- Definitions for the proofs of this crate alone: no clause that a caller reads cites them.
 pub mod Blocks
 pub mod Chains
 pub mod Near

@@ -11,17 +11,16 @@ use crate::last_entries::LastEntries;
 use snap_index::{CallOp, Index};
 use std::alloc::{AllocError, Global};
 
-/// Whether these are the numbers, from 0, of the calls of a legal order: distinct calls, every completed call and
-/// otherwise only pending updates, in an order that keeps precedence and in which each view shows the last update of
-/// each component before it. A number that is no call or stands twice gives false. Where a list is legal, the history
-/// has no fault.
+/// Whether these are the numbers, from 0, of the calls of a legal order. A legal order has distinct calls: every completed call
+/// and otherwise only pending updates. It keeps precedence, and each view shows the last update of each component before it. The
+/// answer is false for a number without a call, and for a repeated one. If a list is legal, the history has no fault.
 ///
-/// It goes once over the list, and looks at each entry of each view once.
+/// The check goes over the list once, and looks at each entry of each view once. The error is lack of memory.
 pub fn check_order(alloc: Global, index: &Index<'_>, order: &[u32]) -> Result<bool, AllocError>
     ensures exact { IfOk result (λ yes. IsTrue yes ↔ IsLegalList (calls_of index.now) order.now) }
     ensures no_fault { IfOk result (λ yes. IsTrue yes → HasNoFault (calls_of index.now)) }
 {
-    // that the events are a history
+    // this call shows that the events are a history
     let _events = index.event_count();
     let mut seen = vec![in alloc; false; index.call_count() as usize]?;
     let mut last = LastEntries::new(alloc)?;
@@ -42,7 +41,7 @@ pub fn check_order(alloc: Global, index: &Index<'_>, order: &[u32]) -> Result<bo
     Ok(has_all_completed(index, &seen))
 }
 
-// Whether a call may stand behind calls that left these last entries and of which this is the latest begin.
+// Whether a call may come after calls that left these last entries, with `latest` as their latest begin.
 fn may_stand(index: &Index<'_>, number: u32, last: &LastEntries, latest: u32) -> bool
     requires history { IsHistory index.now }
     requires number { number < length (calls_of index.now) }

@@ -1,4 +1,4 @@
-//! The last entry of each component, where updates run one after another.
+//! The last entry of each component, as updates run one after another.
 ghost use Rattle.std.specs.Prelude.{◌≡◌, ◌↔◌, None, Some, All, IfOk, IsTrue, replicate, slice_set};
 ghost use Rattle.snap_core.specs.Entries.{component_count};
 ghost use Rattle.snap_order.specs.inside.Shown.{IsLast, ShowsLast};
@@ -7,11 +7,11 @@ use snap_core::{COMPONENT_COUNT, Entry, View};
 use std::alloc::{AllocError, Global};
 use std::marker::Model;
 
-/// The last entry of each component, where updates run one after another.
+/// The last entry of each component, as updates run one after another.
 #[derive(Drop)]
 pub(crate) struct LastEntries {
     entries: Vec<Option<Entry>>,
-    // how many components have an entry
+    // the number of components that have an entry
     written: usize,
 }
 
@@ -28,7 +28,7 @@ impl Model for LastEntries {
 }
 
 impl LastEntries {
-    // No component has an entry.
+    // Without an entry of any component.
     pub(crate) fn new(alloc: Global) -> Result<LastEntries, AllocError>
         ensures { IfOk result (λ last. last ≡ replicate component_count None) }
     {
@@ -50,7 +50,7 @@ impl LastEntries {
         self.entries[place] = Some(entry);
     }
 
-    // Whether a view shows of each component its last entry, or nothing where it has none.
+    // Whether a view shows of each component its last entry, or nothing if it has none.
     pub(crate) fn are_shown_by(&self, view: &View) -> bool
         ensures { IsTrue result ↔ ShowsLast view.now self.now }
     {

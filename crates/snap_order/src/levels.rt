@@ -20,11 +20,11 @@ use std::alloc::{AllocError, Global};
 use std::marker::Model;
 use std::thread::Threads;
 
-/// The levels of the calls of an index, in whose history no view has a fault.
+/// The levels of the calls of an index whose history has no fault.
 #[derive(Drop)]
 pub(crate) struct Levels<'i, 'h> {
     index: &'i Index<'h>,
-    // the completed views as a chain, by their places, in which each shows no less than those before it
+    // the places of the completed views in a chain, in which each view shows no less than those before it
     chain: Vec<u32>,
     // the sum of the numbers that each completed view shows, by place
     sums: Vec<u64>,
@@ -42,10 +42,10 @@ impl<'i, 'h> Model for Levels<'i, 'h> {
     ghost invariant = { λ a. IsSummedChain a.index.now a.chain.items a.sums.items };
 }
 
-// So many calls are worth a thread of their own: the levels of fewer take less time than its start.
+// The least number of calls of a thread: the levels of fewer take less time than its start.
 const CALLS_A_THREAD: u32 = 16_384;
 
-// The first number of a block, where so many calls are cut into so many blocks. It is the end of the block before it.
+// The first number of a block, if `calls` calls are cut into `blocks` blocks. It is also the end of the block before it.
 fn start_of(blocks: u32, block: u32, calls: u32) -> u32
     requires some { 0 < blocks }
     requires block { block ≤ blocks }
@@ -55,7 +55,7 @@ fn start_of(blocks: u32, block: u32, calls: u32) -> u32
     (u64::from(block) * u64::from(calls) / u64::from(blocks)) as u32
 }
 
-// The number that the completed view at a place shows of a component, 0 where it shows none.
+// The number that the completed view at a place shows of a component, 0 if it shows none.
 fn shown_at(index: &Index<'_>, place: u32, component: u8) -> u32
     ensures { result ≡ shown_number (view_in (calls_of index.now) place) component }
 {
@@ -65,7 +65,7 @@ fn shown_at(index: &Index<'_>, place: u32, component: u8) -> u32
     }
 }
 
-// The sum at a place.
+// The sum at a place, 0 if there is none.
 fn sum_at(sums: &[u64], place: u32) -> u64
     ensures { result ≡ get_or sums.now place 0 }
 {
@@ -73,13 +73,13 @@ fn sum_at(sums: &[u64], place: u32) -> u64
 }
 
 impl<'i, 'h> Levels<'i, 'h> {
-    // By the completed views as a chain.
+    // The levels by a chain of the completed views.
     pub(crate) fn of(index: &'i Index<'h>, chain: ViewChain) -> Levels<'i, 'h>
         requires fault { HasNoFault (calls_of index.now) }
         requires chain { IsViewChain (calls_of index.now) chain }
         ensures { result ≡ index.now }
     {
-        // that the events are a history
+        // this call shows that the events are a history
         let _events = index.event_count();
         Levels {
             index,
@@ -95,7 +95,7 @@ impl<'i, 'h> Levels<'i, 'h> {
         self.keys_between(alloc, 0, self.index.call_count())
     }
 
-    // The same keys, where so many workers share the calls. Each has a block of them, in a thread of its own.
+    // The keys of `keys`. At most `workers` workers share the calls: each has a block of them, in a thread of its own.
     pub(crate) fn keys_shared<R: Threads + Sync>(
         &self,
         rt: &R,
@@ -112,7 +112,7 @@ impl<'i, 'h> Levels<'i, 'h> {
         self.joined(alloc, blocks, parts)
     }
 
-    // The keys of each block, where the calls are cut into so many.
+    // The keys of each of `blocks` blocks.
     fn parts<R: Threads + Sync>(
         &self,
         rt: &R,
@@ -134,7 +134,7 @@ impl<'i, 'h> Levels<'i, 'h> {
             .collect(rt, alloc)
     }
 
-    // The keys of a block, where the calls are cut into so many.
+    // The keys of one of `blocks` blocks.
     fn keys_of_block(
         &self,
         alloc: Global,
@@ -171,18 +171,18 @@ impl<'i, 'h> Levels<'i, 'h> {
         Ok(all)
     }
 
-    // The keys of the printed calls from one number to before another, rank and number, by call number.
+    // The keys, rank and number, of the printed calls with numbers from `from` to before `to`, by call number.
     fn keys_between(&self, alloc: Global, from: u32, to: u32) -> Result<Vec<(u32, u32)>, AllocError>
         requires order { from ≤ to }
         requires calls { to ≤ length (calls_of self.now) }
         ensures { IfOk result (λ keys. keys.items ≡ keys_between (calls_of self.now) from to) }
     {
-        // that the events are a history
+        // this call shows that the events are a history
         let _events = self.index.event_count();
         let mut keys = Vec::new(alloc);
-        // how many completed views come before the call
+        // the number of completed views before the call
         let mut views = self.views_before(from);
-        // the level of the printed call before, to which that of the next is mostly close
+        // the level of the last printed call, to which that of the next is mostly close
         let mut level = 0;
         for number in from..to {
             if let Some(rank) = self.rank(number, views, level) {
@@ -196,7 +196,7 @@ impl<'i, 'h> Levels<'i, 'h> {
         Ok(keys)
     }
 
-    // How many completed views come before the call of a number.
+    // The number of completed views before the call of a number.
     fn views_before(&self, number: u32) -> u32 {
         let mut low = 0;
         let mut high = if number == 0 {
@@ -226,7 +226,7 @@ impl<'i, 'h> Levels<'i, 'h> {
         self.index.view_call(place) == Some(number)
     }
 
-    // The sum of what a completed view shows, which is known where the view is the one at a place.
+    // The sum of what a completed view shows. It is known already if the view is the one at the place.
     fn sum_of(&self, number: u32, place: u32, view: &View) -> u64
         requires number { number < length (calls_of self.now) }
         requires view { answer_of (call_numbered (calls_of self.now) number) ≡ Some view.now }
@@ -239,8 +239,8 @@ impl<'i, 'h> Levels<'i, 'h> {
         }
     }
 
-    // The rank of a printed call: twice its level, and one more for a view, which is looked for at a place. The search for the
-    // level begins near a number, and any will do.
+    // The rank of a printed call: twice its level, and one more for a view. A view may be the completed view at `place`. The search for
+    // the level begins at `near`, and any number will do.
     fn rank(&self, number: u32, place: u32, near: u32) -> Option<u32>
         requires { number < length (calls_of self.now) }
         ensures { let calls = calls_of self.now in result ≡ rank_of calls (call_numbered calls number) }
@@ -249,7 +249,7 @@ impl<'i, 'h> Levels<'i, 'h> {
         match call.op {
             CallOp::Update(entry) => {
                 let level = self.update_level(entry, near);
-                // a pending update is printed where some completed view shows its number or a later one
+                // a pending update is printed if some completed view shows its number or a later one
                 let is_printed = call.ended.is_some() || level < self.index.view_count();
                 is_printed.then_some(2 * level)
             }
@@ -261,8 +261,8 @@ impl<'i, 'h> Levels<'i, 'h> {
         }
     }
 
-    // How many completed views show an earlier number than the entry's of its component, or none. The search begins near a
-    // number, and any will do.
+    // The number of completed views that show an earlier number of the entry's component, or none. The search begins at `near`, and
+    // any number will do.
     fn update_level(&self, entry: Entry, near: u32) -> u32
         ensures level { result ≡ spec_update_level (calls_of self.now) entry }
         ensures few { result ≤ length (views_of (calls_of self.now)) }
@@ -278,7 +278,7 @@ impl<'i, 'h> Levels<'i, 'h> {
         }) as u32
     }
 
-    // How many completed views have a smaller sum than this. The search begins near a number, and any will do.
+    // The number of completed views with a smaller sum than this. The search begins at `near`, and any number will do.
     fn view_level(&self, sum: u64, near: u32) -> u32
         ensures level { result ≡ count_by (λ s. nat_lt (shown_sum s) sum) (views_of (calls_of self.now)) }
         ensures few { result ≤ length (views_of (calls_of self.now)) }

@@ -2,8 +2,8 @@
 ghost use Rattle.std.specs.Prelude.{◌≤◌, length};
 ghost use Rattle.snap_order.specs.inside.Near.{PartsAt};
 
-// How many places pass a test, where those that pass stand before those that do not. The search begins near a number: the
-// closer the answer is to it, the fewer places are looked at, and any number will do.
+// The number of places that pass a test, if those that pass come before those that do not. The search begins at `near`. The closer
+// the answer is to it, the fewer places are tested, and any number will do.
 #[inline]
 pub(crate) fn partition_near<F: Fn(&u32) -> bool>(places: &[u32], near: usize, test: F) -> usize
     requires { F.IsAlwaysCallable test }
@@ -19,8 +19,8 @@ pub(crate) fn partition_near<F: Fn(&u32) -> bool>(places: &[u32], near: usize, t
     }
 }
 
-// The same, where most places are likely to pass: it goes back from the last one in steps that double, until one passes, and
-// then halves what the last step went over.
+// The answer of `partition_near`, for places of which most are likely to pass. The search goes back from the last place in steps
+// that double, until one passes, and then halves the last step.
 #[inline]
 fn partition_from_end<F: Fn(&u32) -> bool>(places: &[u32], test: &F) -> usize
     requires { F.IsAlwaysCallable test.now }
@@ -28,9 +28,9 @@ fn partition_from_end<F: Fn(&u32) -> bool>(places: &[u32], test: &F) -> usize
     ensures parted { PartsAt F.Fn test.now places.now result }
 {
     let len = places.len();
-    // so many at the end are known not to pass
+    // the number of places at the end that are known not to pass
     let mut failing = 0;
-    // how far before the last one the next to be looked at stands
+    // the distance of the next place from the last one
     let mut back = 0;
     while back < len && !test(&places[len - 1 - back]) {
         failing = back + 1;
@@ -40,17 +40,17 @@ fn partition_from_end<F: Fn(&u32) -> bool>(places: &[u32], test: &F) -> usize
     low + places[low..len - failing].partition_point(test)
 }
 
-// The same, where few places are likely to pass: it goes on from the first one in steps that double, until one does not pass,
-// and then halves what the last step went over.
+// The answer of `partition_near`, for places of which few are likely to pass. The search goes on from the first place in steps
+// that double, until one does not pass, and then halves the last step.
 #[inline]
 fn partition_from_start<F: Fn(&u32) -> bool>(places: &[u32], test: &F) -> usize
     requires { F.IsAlwaysCallable test.now }
     ensures bound { result ≤ length places.now }
     ensures parted { PartsAt F.Fn test.now places.now result }
 {
-    // so many at the start are known to pass
+    // the number of places at the start that are known to pass
     let mut passing = 0;
-    // where the next one to be looked at stands
+    // the next place to be tested
     let mut ahead = 0;
     while ahead < places.len() && test(&places[ahead]) {
         passing = ahead + 1;

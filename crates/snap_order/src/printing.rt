@@ -14,15 +14,15 @@ use snap_views::{ViewChain, ViewOrder, view_order, view_sums};
 use std::alloc::{AllocError, Global};
 use std::thread::Threads;
 
-// So many workers share the calls of `build` at most: in a model of the map more of them took as long.
+// The greatest number of workers that share the calls of `build`: in a model of the map more of them took as long.
 const MOST_WORKERS: usize = 2;
 
-/// The printed order of a history without a fault, by call numbers from 0: all completed calls, and of the pending
-/// updates those of which some completed view shows the number or a later one. It is sorted by level; within a level
-/// updates come before views, and then calls by their numbers. It is a legal order. The error is want of memory.
+/// The printed order of a history without a fault, by call numbers from 0. It has all completed calls, and the pending updates
+/// of which some completed view shows the number or a later one. It is sorted by level; within a level updates come before
+/// views; then it is sorted by call number. It is a legal order. The error is lack of memory.
 ///
-/// The views are sorted once. Then each level is a search among them, which begins near the level of the call before. Of a
-/// history of 32,768 calls or more a second thread takes half of the calls, where there is a second processor.
+/// The views are sorted once. Then each level is a search among them, which begins near the level of the last call. In a
+/// history of 32,768 calls or more a second thread takes half of the calls, if there is a second processor.
 pub fn build<R: Threads + Sync>(
     rt: &R,
     alloc: Global,
@@ -38,8 +38,8 @@ pub fn build<R: Threads + Sync>(
     build_of_chain(rt, alloc, index, chain, workers)
 }
 
-/// The order of `build`, where the completed views are given as a chain. So many workers share the calls at most, and each of them
-/// has 16,384 or more.
+/// The order of `build`, along a given chain of the completed views. At most `workers` workers share the calls, and each of them
+/// has at least 16,384.
 pub fn build_of_chain<R: Threads + Sync>(
     rt: &R,
     alloc: Global,
@@ -57,7 +57,7 @@ pub fn build_of_chain<R: Threads + Sync>(
     ordered(alloc, index, keys)
 }
 
-/// The order of `build_of_chain` on the calling thread, for who has no runtime.
+/// The order of `build_of_chain` on the calling thread, for a caller without a runtime.
 pub fn build_alone(
     alloc: Global,
     index: &Index<'_>,
@@ -97,13 +97,12 @@ fn ordered(
         (λ order. order.items ≡ map (λ c. c.number) (printed_order (calls_of index.now))) }
     ensures legal { IfOk result (λ order. IsLegalList (calls_of index.now) order.items) }
 {
-    // that the events are a history
+    // this call shows that the events are a history
     let _events = index.event_count();
     keys.sort_unstable();
     numbers(alloc, &keys)
 }
 
-// The numbers of keys.
 fn numbers(alloc: Global, keys: &[(u32, u32)]) -> Result<Vec<u32>, AllocError>
     ensures { IfOk result (λ numbers. numbers.items ≡ map (λ k. k.1) keys.now) }
 {

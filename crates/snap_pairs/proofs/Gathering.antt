@@ -9,11 +9,11 @@ use Rattle.std.proofs.lemmas.Bool.Decides.{eqb_tells, nat_tests}
 use Rattle.snap_core.specs.Calls.{Call}
 use Rattle.snap_conditions.specs.declared.tally.Tally.{Tally}
 use Rattle.snap_core.specs.Sums.{one_if, times, total}
-use Rattle.snap_pairs.specs.Claiming.{ClaimView, CounterView, IsClaimOf, IsFinished, pieces_of}
+use Rattle.snap_threads.specs.Claiming.{ClaimView, CounterView, IsClaimOf, IsFinished, pieces_of}
 use Rattle.snap_pairs.specs.inside.Pieces.{IsPieceTally, FitSlots, IsFull, IsAnswer, AreAnswers}
 use Rattle.snap_pairs.specs.declared.worker.Answer.{Answer}
 use Rattle.snap_pairs.specs.declared.worker.Drawn.{Drawn}
-use Rattle.snap_pairs.proofs.Closing.{all_front, all_last}
+use Rattle.snap_threads.proofs.Closing.{all_front, all_last}
 
 module _ (calls : List Call) (n : ℕ) where
   pub fit_set : (p : ℕ) (t : Tally) (slots : List (Option Tally)) → FitSlots calls n slots → IsPieceTally calls n p t → FitSlots calls n (set slots p (Some t))

@@ -1,4 +1,1 @@
-pub mod Claiming
-pub mod Draws
-pub mod Counters
 pub mod inside

@@ -1,5 +1,3 @@
 -- What only the proofs of this crate need: no clause that a caller reads cites it.
-pub mod Counters
-pub mod Draws
 pub mod Pieces
 pub mod Reads

@@ -2,14 +2,13 @@
 ghost use Rattle.std.specs.Prelude.{◌≡◌, ◌<◌, ℕ, length, All, IfOk, IsTrue, vec_len};
 ghost use Rattle.snap_core.specs.Calls.{calls_of, views_of};
 ghost use Rattle.snap_conditions.specs.Tally.{tally_of};
-ghost use Rattle.snap_pairs.specs.Claiming.{IsClaimOf, IsFinished, pieces_of};
+ghost use Rattle.snap_threads.specs.Claiming.{IsClaimOf, IsFinished, pieces_of};
 ghost use Rattle.snap_pairs.specs.inside.Pieces.{AreAnswers, AreTallied, FitSlots, IsFull};
 
-use crate::claims::{Claim, Claims};
 use crate::worker::{Answer, Drawn};
 use snap_conditions::{Tally, merge};
 use snap_index::Index;
-use snap_threads::Cutting;
+use snap_threads::{Claim, Claims, Cutting};
 use std::alloc::{AllocError, Global};
 
 // Puts each tally into the slot of its piece.

@@ -14,7 +14,7 @@ pub(crate) fn start_of(cutting: Cutting, piece: u32, views: u32) -> u32
     (u64::from(piece) * u64::from(views) / u64::from(cutting.pieces())) as u32
 }
 
-// The first view, at a place or behind it, with which a block of views begins, and the end of the views where none does.
+// The first view, at a place or after it, with which a block of views begins, or the end of the views if none does.
 pub(crate) fn block_at(place: u32, views: u32) -> u32
     ensures start { result ≡ block_from place views }
     ensures inside { result ≤ views }

@@ -1,4 +1,4 @@
-//! The read faults of the pieces: none where the quick test passes, else by a grid of the views.
+//! The read faults of the pieces: none if the quick test passes, otherwise by a grid of the views.
 ghost use Rattle.std.specs.Prelude.{◌≡◌, ◌<◌, ◌≤◌, ◌+◌, ◌↔◌, [], ℕ, length, get_or, IfOk, IfSome, IsSome};
 ghost use Rattle.snap_core.specs.Calls.{calls_of, views_of};
 ghost use Rattle.snap_views.specs.Chains.{AreViewSums, IsViewChain};
@@ -22,13 +22,13 @@ use snap_views::{ViewChain, ViewOrder, view_order, view_sum, view_sums};
 use std::alloc::{AllocError, Global};
 use std::thread::Threads;
 
-// So many views are worth a thread of their own: the sums of fewer take less time than its start.
+// The least number of views for a thread of their own: the sums of fewer take less time than its start.
 const VIEWS_A_THREAD: u32 = 16_384;
 
-// The columns of so many components take less time than the start of a thread.
+// The most components whose columns take less time than the start of a thread.
 const FEW_COMPONENTS: usize = 64;
 
-// A grid of the views where they have a read fault, and else these as a chain.
+// A grid of the views if they have a read fault, otherwise the views as a chain.
 pub(crate) fn grid_or_chain<'i, 'h, R: Threads + Sync>(
     rt: &R,
     alloc: Global,
@@ -53,7 +53,7 @@ pub(crate) fn grid_or_chain<'i, 'h, R: Threads + Sync>(
 }
 
 // The tally of a piece. A grid compares whole blocks of views, and a part of one takes as long. So the read faults of a block are
-// counted with the piece in which it begins, and each block is compared once, however many pieces there are.
+// counted with the piece in which it begins. Each block is compared once, for every number of pieces.
 pub(crate) fn piece_tally(
     alloc: Global,
     index: &Index<'_>,
@@ -84,8 +84,8 @@ pub(crate) fn piece_tally(
     }
 }
 
-// The sums of the numbers that the completed views show, by call number. Few are added up on this thread. Of more, each worker of
-// the cutting has a share at most, since a list is halved while each half has a share or more.
+// The sums of the numbers that the completed views show, by call number. Few are added up on this thread. More are halved while each
+// half has a share or more, so each worker of the cutting has at most one share.
 fn shared_sums<R: Threads + Sync>(
     rt: &R,
     alloc: Global,
@@ -111,7 +111,7 @@ fn shared_sums<R: Threads + Sync>(
         .collect(rt, alloc)
 }
 
-// A column for each component that some completed view lists, made by the workers of the cutting, each its part of the components.
+// A column for each component that some completed view lists. Each worker of the cutting makes those of its part of the components.
 fn view_columns<R: Threads + Sync>(
     rt: &R,
     alloc: Global,

@@ -4,11 +4,10 @@ ghost use Rattle.snap_core.specs.Calls.{calls_of, views_of};
 ghost use Rattle.snap_views.specs.Chains.{IsViewChain};
 ghost use Rattle.snap_theory.specs.Faults.{read_faults};
 ghost use Rattle.snap_conditions.specs.Tally.{tally_of};
-ghost use Rattle.snap_pairs.specs.Claiming.{IsClaimOf};
+ghost use Rattle.snap_threads.specs.Claiming.{IsClaimOf};
 ghost use Rattle.snap_pairs.specs.inside.Pieces.{IsAnswer};
 ghost use Rattle.snap_pairs.specs.inside.Reads.{IsGridFor};
 
-use crate::claims::{Claim, Claims};
 use crate::gather::{gather, merge_slots};
 use crate::reads::grid_or_chain;
 use crate::worker::{Answer, draw_all};
@@ -16,16 +15,16 @@ use snap_conditions::Tally;
 use snap_core::Gate;
 use snap_index::Index;
 use snap_tally::ViewGrid;
-use snap_threads::{Cutting, each_job};
+use snap_threads::{Claim, Claims, Cutting, each_job};
 use snap_views::ViewChain;
 use std::alloc::{AllocError, Global};
 use std::thread::Threads;
 
-/// The tally of all completed views, whatever the cutting and the gate are, and these views as a chain exactly where no two of
-/// them are a read fault, so that an order can be built along it. The workers draw pieces of the views from one counter until
-/// all are drawn. A worker calls `gate.at` with its own number, from 0, and the count of pieces that it got before, when it has
-/// got a piece and before it works on it. There are as many pieces as the cutting has. The work of a worker that cannot be started is
-/// done on the calling thread under that worker's number. It waits for the workers, and so for the gate. The error is want of memory.
+/// The tally of all completed views, for every cutting and every gate. Exactly if no two of them are a read fault, also these views
+/// as a chain, along which an order can be built. The workers draw the pieces of the cutting from one counter until all are drawn.
+/// A worker that has drawn a piece calls `gate.at` before it works on it. The arguments are its own number, from 0, and the number of
+/// pieces that it drew before. If a worker cannot be started, the calling thread does its work under its number. The call waits
+/// for the workers, and so for the gate. The error is want of memory.
 pub fn tally_and_chain<R: Threads + Sync, G: Gate>(
     rt: &R,
     alloc: Global,
@@ -42,7 +41,7 @@ pub fn tally_and_chain<R: Threads + Sync, G: Gate>(
     Ok((tally, chain))
 }
 
-/// The tally of all completed views, whatever the cutting and the gate are, by the workers of `tally_and_chain`. It waits for the
+/// The tally of all completed views, for every cutting and every gate, by the workers of `tally_and_chain`. It waits for the
 /// workers, and so for the gate. The error is want of memory.
 pub fn tally<R: Threads + Sync, G: Gate>(
     rt: &R,
@@ -57,7 +56,7 @@ pub fn tally<R: Threads + Sync, G: Gate>(
     Ok(tally)
 }
 
-// The tally of all completed views, by a grid of them where they have a read fault.
+// The tally of all completed views, by a grid of them if they have a read fault.
 fn tally_by<R: Threads + Sync, G: Gate>(
     rt: &R,
     alloc: Global,

@@ -1,17 +1,16 @@
 //! The work of one worker.
 ghost use Rattle.std.specs.Prelude.{◌≡◌, [], IfOk};
 ghost use Rattle.snap_core.specs.Calls.{calls_of};
-ghost use Rattle.snap_pairs.specs.Claiming.{IsClaimOf};
+ghost use Rattle.snap_threads.specs.Claiming.{IsClaimOf};
 ghost use Rattle.snap_pairs.specs.inside.Pieces.{IsAnswer};
 ghost use Rattle.snap_pairs.specs.inside.Reads.{IsGridFor};
 
-use crate::claims::{Claim, Claims};
 use crate::reads::piece_tally;
 use snap_conditions::Tally;
 use snap_core::Gate;
 use snap_index::Index;
 use snap_tally::ViewGrid;
-use snap_threads::Cutting;
+use snap_threads::{Claim, Claims, Cutting};
 use std::alloc::{AllocError, Global};
 
 /// A piece that was drawn, and its tally.

@@ -1,5 +1,5 @@
 -- Lines that are read before it is their turn.
-use Rattle.std.proofs.Common.{◌≡◌, ◌≤◌, ◌+◌, ◌-◌, ◌++◌, ℕ, true, List, [], ◌∷◌, drop, length, take, Ok, Err, refl, sym, ap, subst, arith, ◌∙◌}
+use Rattle.std.proofs.Common.{◌≡◌, ◌≤◌, ◌+◌, ◌-◌, ◌++◌, ℕ, true, List, [], ◌∷◌, drop, length, take, Bool, Result, Ok, Err, refl, sym, ap, subst, arith, ◌∙◌, append_assoc, append-nil}
 use Rattle.std.proofs.lemmas.List.{length-append, take-append-drop}
 use Rattle.std.proofs.Math.Seq.{drop-append_seam}
 use Rattle.snap_core.specs.declared.event.Event.{Event}
@@ -8,8 +8,11 @@ use Rattle.snap_format.specs.declared.refusal.ReadRefusal.{ReadRefusal}
 use Rattle.snap_format.specs.Layout.{is_header_row}
 use Rattle.snap_rows.specs.Taking.{Midway, RefusesRows, TakesRow}
 use Rattle.snap_plain.specs.declared.pieces.Piece.{Piece}
-use Rattle.snap_plain.specs.Ahead.{ArePieces, IsEndOfLine}
-use Rattle.snap_plain.specs.Lines.{BeginsLine, BeginsLines, HasRows, IsRest, SpellsAll, SpellsFirst}
+use Rattle.snap_plain.specs.declared.ahead.Ahead.{Ahead}
+use Rattle.snap_plain.specs.declared.ahead.Stop.{Stop}
+use Rattle.snap_plain.specs.declared.ahead.Stop.TheVariants as stops
+use Rattle.snap_plain.specs.Ahead.{ArePieces, IsEndOfLine, SpellsNone, StopsFor}
+use Rattle.snap_plain.specs.Lines.{BeginsLine, BeginsLines, BeginsOtherwise, HasRows, IsRest, SpellsAll, SpellsFirst, spells_event}
 use Rattle.snap_plain.specs.Turns.{HasTaken}
 use Rattle.snap_plain.proofs.PlainFacts.{rest_of_rest}
 use Rattle.snap_rows.proofs.ReadFacts.{begun, more, stopped}
@@ -65,12 +68,27 @@ lines_as xs rest left text before same is = λ rows h.
     let (behind, spells) = before rows h in
     (rest_of_rest rest left text is behind, spells_as xs (HasRows left) (HasRows rest) rows same spells)
 
+-- what is left of the lines from a place on stands where as much of them is left
+left_is_drop : (lines text left : List ℕ) (from : ℕ) (xs : List Event) (rows : List Fields) → text ≡ drop from lines → BeginsLines xs left text → HasRows (drop from lines) rows → left ≡ drop (length lines - length left) lines
+left_is_drop lines text left from xs rows is begins h =
+    let (rest, spells) = begins rows (subst (λ t. HasRows t rows) (sym is) h) in
+    rest_is_drop left lines (rest_of_rest left text lines rest (subst (λ t. IsRest t lines) (sym is) (behind from lines)))
+
 -- what was read of the lines from a place on was read ahead
 pub read_ahead : (lines text left : List ℕ) (from : ℕ) (xs : List Event) → text ≡ drop from lines → BeginsLines xs left text → (rows : List Fields) → HasRows (drop from lines) rows → SpellsAll xs (HasRows (drop (length lines - length left) lines)) rows
 read_ahead lines text left from xs is begins rows h =
     let (rest, spells) = begins rows (subst (λ t. HasRows t rows) (sym is) h) in
-    let there : left ≡ drop (length lines - length left) lines = rest_is_drop left lines (rest_of_rest left text lines rest (subst (λ t. IsRest t lines) (sym is) (behind from lines))) in
-    subst (λ t. SpellsAll xs (HasRows t) rows) there spells
+    subst (λ t. SpellsAll xs (HasRows t) rows) (left_is_drop lines text left from xs rows is begins h) spells
+
+-- why the reading of them stopped tells why that of a piece did
+pub stops_as : {A B C D E F : Type 0} → (A → D) → (B → E) → (C → F) → (s : Stop) → StopsFor A B C s → StopsFor D E F s
+stops_as ends fills faulty stops.End h = ends h
+stops_as ends fills faulty stops.Full h = fills h
+stops_as ends fills faulty stops.Fault h = faulty h
+stops_as ends fills faulty stops.Memory h = h
+
+pub spells_none : (lines text left : List ℕ) (from : ℕ) (xs : List Event) → text ≡ drop from lines → BeginsLines xs left text → BeginsOtherwise spells_event left → SpellsNone lines from (length lines - length left)
+spells_none lines text left from xs is begins other rows h = subst (BeginsOtherwise spells_event) (left_is_drop lines text left from xs rows is begins h) other
 
 -- ---- in their turn
 

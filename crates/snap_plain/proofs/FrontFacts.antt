@@ -6,9 +6,9 @@ use Rattle.std.proofs.lemmas.List.Elements.{All-tail}
 use Rattle.csv.specs.Machine.{next_record}
 use Rattle.csv.specs.Reading.{default_config, is_bom, records_from, strip_bom}
 use Rattle.csv.specs.declared.parser.State.TheVariants as st
-use Rattle.snap_plain.specs.Lines.{BeginsOtherwise, BeginsWith, EndsWith, EndsWithOthers, HasRows, IsPlain}
+use Rattle.snap_plain.specs.Lines.{BeginsOtherwise, BeginsWith, EndsWith, EndsWithOthers, HasRows, IsPlain, spells_event}
 use Rattle.snap_format.specs.Layout.{is_header_row, is_stamped_header_row}
-use Rattle.snap_text.specs.Fields.{Fields}
+use Rattle.snap_text.specs.Fields.{Fields, row_event}
 use Rattle.snap_format.specs.Rows.{rows_of}
 use Rattle.snap_text.specs.declared.fault.TextFault.TheVariants as faults
 use Rattle.snap_format.specs.Texts.{RowsFault}
@@ -99,6 +99,28 @@ begins_with_others test count (c ∷ text) short line ends rows h first later is
     let (row, others, same, other) = row_of_others (c ∷ text) count rows (omega arith) (line (omega arith)) ends h in
     let head : row ≡ first = cc in
     subst (λ (r : Fields). test r ≡ false) head (short row other)
+
+-- a text without lines
+pub begins_with_none : (test : Fields → Bool) (text : List ℕ) → text ≡ [] → BeginsOtherwise test text
+begins_with_none test text none rows h first later is = let nothing = no_line rows (subst (λ t. HasRows t rows) none h) in absurd cc
+
+pub empty_text : (text : List ℕ) → length text ≡ 0 → text ≡ []
+empty_text [] h = refl
+empty_text (x ∷ xs) h = absurd (omega (arith, h))
+
+-- a record of more fields than four, or of fewer, spells no event
+pub short_spells_none : (r : Fields) → length r ≢ 4 → spells_event r ≡ false
+unfolding row_event
+short_spells_none [] h = refl
+short_spells_none (a ∷ []) h = refl
+short_spells_none (a ∷ p ∷ []) h = refl
+short_spells_none (a ∷ p ∷ o ∷ []) h = refl
+short_spells_none (a ∷ p ∷ o ∷ d ∷ []) h = absurd (h refl)
+short_spells_none (a ∷ p ∷ o ∷ d ∷ e ∷ r) h = refl
+
+-- empty lines at its front tell nothing
+pub begins_otherwise_behind : (test : Fields → Bool) (text line : List ℕ) → ((rows : List Fields) → HasRows text rows → HasRows line rows) → BeginsOtherwise test line → BeginsOtherwise test text
+begins_otherwise_behind test text line same other rows h = other rows (same rows h)
 
 pub no_header_of : (r : Fields) → length r ≢ 4 → is_header_row r ≡ false
 no_header_of [] other = refl

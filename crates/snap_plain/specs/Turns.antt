@@ -1,4 +1,4 @@
--- What becomes of a history and the lines that it takes in their turn.
+-- What becomes of a history and the lines that it takes in order.
 use Rattle.std.specs.Prelude.{◌≡◌, [], ℕ, All, List, length, Result, Ok, Err}
 use Rattle.snap_core.specs.declared.event.Event.{Event}
 use Rattle.snap_format.specs.declared.refusal.ReadRefusal.{ReadRefusal}
@@ -9,7 +9,7 @@ use Rattle.snap_plain.specs.Ahead.{IsAhead}
 use Rattle.snap_plain.specs.declared.beside.Turns.{Turns}
 use Rattle.snap_plain.specs.Lines.{HasRows, IsRest}
 
--- events that were read ahead are taken in their turn: what is left then, or the first fault
+-- events that were read ahead are taken in order: what is left then, or the first fault
 abbrev pub TakesAhead : ℕ → (List Fields → Type 0) → (List Fields → Type 0) → List Event → List Event → Result (Unit {0}) ReadRefusal → Type 0
 TakesAhead limit Left Rest old new (Ok u) = (rows : List Fields) → Midway limit rows Left old (length old) → Midway limit rows Rest new (length new)
 TakesAhead limit Left Rest old new (Err e) = (rows : List Fields) → Midway limit rows Left old (length old) → RefusesRows limit rows e
@@ -18,7 +18,7 @@ TakesAhead limit Left Rest old new (Err e) = (rows : List Fields) → Midway lim
 abbrev pub HasTaken : ℕ → List ℕ → List ℕ → List Event → List Fields → Type 0
 HasTaken limit lines rest events rows = IsRest rest lines × Midway limit rows (HasRows rest) events (length events)
 
--- it takes more of the lines, up to a later rest; or the first fault
+-- a history takes more of the lines, up to a later rest; or the first fault
 abbrev pub TakesOn : ℕ → List ℕ → List ℕ → List Event → List Event → Result (Bor (List ℕ)) ReadRefusal → Type 0
 TakesOn limit lines rest old new (Ok later) = (rows : List Fields) → HasTaken limit lines rest old rows → HasTaken limit lines later.now new rows
 TakesOn limit lines rest old new (Err e) = (rows : List Fields) → HasTaken limit lines rest old rows → RefusesRows limit rows e

@@ -1,53 +1,29 @@
-//! Histories of long texts: workers read pieces of the lines ahead, while the calling thread takes the lines in their turn.
-ghost use Rattle.std.specs.Prelude.{◌≡◌, ◌<◌, ◌∷◌, List, true, All, length};
+//! Histories of long texts: workers read pieces of the lines ahead, while the calling thread takes the lines in order.
+ghost use Rattle.std.specs.Prelude.{◌≡◌, ◌<◌, ◌≤◌, ◌∷◌, List, true, All, IfOk, OnOk, length};
 ghost use Rattle.snap_format.specs.Layout.{is_header_row};
 ghost use Rattle.snap_plain.specs.Ahead.{IsAhead, IsPieceOf};
 ghost use Rattle.snap_plain.specs.Lines.{HasLines, HasRows};
+ghost use Rattle.snap_plain.specs.Sharing.{IsDone, IsNewClaim, IsNewJob};
 ghost use Rattle.snap_plain.specs.Turns.{HasTaken, TakesOn, TakesTurns};
 ghost use Rattle.snap_rows.specs.Taking.{AnswersNumbered};
 ghost use Rattle.snap_text.specs.Fields.{Fields};
+ghost use Rattle.snap_threads.specs.Claiming.{IsClaimOf, IsFinished};
+ghost use Rattle.snap_threads.specs.declared.cutting.TheConstants.{PIECE_LIMIT};
 
 use crate::ahead::{Ahead, event_first, read_piece, take_ahead};
 use crate::lines::{Lines, history_of_lines, rest_history, take_lines};
-use crate::pieces::{Piece, next_piece, pieces_of};
-use rtrb::{Consumer, Producer, Protocol, RingBuffer};
+use crate::pieces::{Piece, pieces_of};
+use crate::rings::{AheadOf, Job, Outlet, Text, receive, send_drawn};
+use rtrb::RingBuffer;
 use snap_core::{History, Limit};
 use snap_format::ReadRefusal;
 use snap_text::Known;
-use snap_threads::{Cutting, each_job_beside};
+use snap_threads::{Claim, Claims, Cutting, each_job_beside};
 use std::alloc::{AllocError, Global};
-use std::marker::{Brand, PhantomData};
-use std::sync::atomic::{AtomicU64, Ordering};
+use std::marker::Brand;
 use std::thread::Threads;
 
-/// Some lines, which are known to proofs alone.
-pub(crate) trait Text {
-    ghost use Rattle.std.specs.Prelude.{List, ℕ};
-
-    ghost lines: { List ℕ };
-}
-
-impl Text for Brand {
-    ghost use Rattle.std.specs.Prelude.{[]};
-
-    ghost lines = { [] };
-}
-
-/// What goes through a ring was read ahead of the lines of a text.
-pub(crate) struct AheadOf<T: Text>(PhantomData<T>);
-
-impl<T: Text> Protocol<Ahead> for AheadOf<T> {
-    ghost use Rattle.snap_plain.specs.Ahead.{IsAhead};
-
-    ghost allows = { λ before ahead. IsAhead T.lines ahead };
-}
-
-// Into a ring goes what a worker has read, and out of it the calling thread takes that.
-type Inlet<T> = Producer<Ahead, Global, AheadOf<T>>;
-
-type Outlet<T> = Consumer<Ahead, Global, AheadOf<T>>;
-
-// A history that takes lines in their turn, and what of them was read ahead and was not yet taken.
+// A history that takes lines in order, the lines that it has not taken, and the parts that were read ahead and not yet taken.
 #[derive(Drop)]
 struct Turns<'t> {
     history: History,
@@ -69,19 +45,36 @@ pub fn history_of_lines_shared<R: Threads + Sync>(
     let Lines::Bare(bare) = lines else {
         return history_of_lines(alloc, lines, limit);
     };
-    let pieces = pieces_of(alloc, bare, cutting.workers() as usize)?;
+    let pieces = pieces_of(alloc, bare, cutting)?;
     if pieces.is_empty() || !begins_with_event(alloc, bare) {
         return history_of_lines(alloc, lines, limit);
     }
-    shared_history::<Brand, R>(rt, alloc, bare, &pieces, limit, cutting)
+    let shares = cutting_into(&pieces, cutting);
+    shared_history::<Brand, R>(rt, alloc, bare, &pieces, limit, shares)
 }
 
-// Whether the first line has no fault by itself. Where it has one, no thread need start.
+// Whether the first line has no fault by itself. If it has one, no thread need start.
 fn begins_with_event(alloc: Global, lines: &[u8]) -> bool {
-    event_first(alloc, &mut Known::new(alloc), lines).is_some()
+    matches!(
+        event_first(alloc, &mut Known::new(alloc), lines),
+        Ok(Some(_))
+    )
 }
 
-// The history of lines in pieces.
+// The cutting into these pieces: no more workers than there are pieces.
+fn cutting_into(pieces: &[Piece], most: Cutting) -> Cutting
+    requires some { 0 < length pieces.now }
+    requires few { length pieces.now ≤ PIECE_LIMIT }
+    ensures { result.pieces ≡ length pieces.now }
+{
+    let count = pieces.len() as u32;
+    let Ok(cutting) = Cutting::new(count, most.workers().min(count)) else {
+        unreachable!()
+    };
+    cutting
+}
+
+// The history of lines in pieces, which the workers of a cutting read.
 fn shared_history<T: Text + Send + Sync, R: Threads + Sync>(
     rt: &R,
     alloc: Global,
@@ -92,31 +85,31 @@ fn shared_history<T: Text + Send + Sync, R: Threads + Sync>(
 ) -> Result<(History, Option<Vec<u32>>), ReadRefusal>
     requires text { lines.now ≡ T.lines }
     requires pieces { All (IsPieceOf lines.now) pieces.now }
-    requires some { 0 < length pieces.now }
+    requires cutting { cutting.pieces ≡ length pieces.now }
     ensures { (head : Fields) (later : List Fields) → is_header_row head ≡ true → HasRows lines.now later → AnswersNumbered limit.events (head ∷ later) result }
 {
-    // the calling thread is a worker too, and no more of them start than there are pieces
-    let others = (cutting.workers() as usize).min(pieces.len()) - 1;
-    let (inlets, outlets) = rings::<T>(alloc, others, pieces.len())?;
-    let drawn = AtomicU64::new(0);
-    let (sent, taken) = each_job_beside(
+    let (counter, jobs, outlets, own) = start::<T>(alloc, cutting)?;
+    let shared = &counter;
+    // the calling thread is a worker too
+    let (done, taken) = each_job_beside(
         rt,
         alloc,
-        inlets,
-        &|inlet: Inlet<T>| -> bool
-            requires { (lines.now ≡ T.lines) × All (IsPieceOf lines.now) pieces.now }
-        { send_drawn(alloc, lines, pieces, &drawn, limit, inlet) },
+        jobs,
+        &|job: Job<T>| -> Job<T>
+            requires { (lines.now ≡ T.lines) × All (IsPieceOf lines.now) pieces.now × (shared.now.pieces ≡ length pieces.now) × IsNewJob shared.now job }
+            ensures { IsDone lines.entry.now limit.events pieces.entry.now shared.entry.now result }
+        { send_drawn(alloc, lines, pieces, shared, limit, job) },
         || -> Result<(Turns, Vec<Outlet<T>>), ReadRefusal>
-            requires { (lines.now ≡ T.lines) × All (IsPieceOf lines.now) pieces.now }
+            requires { (lines.now ≡ T.lines) × All (IsPieceOf lines.now) pieces.now × (shared.now.pieces ≡ length pieces.now) × IsNewClaim shared.now own }
             ensures { TakesTurns limit.events lines.entry.now result }
-        { take_turns(alloc, lines, pieces, &drawn, limit, outlets) },
+        { take_turns(alloc, lines, pieces, shared, limit, own, outlets) },
     );
-    sent?;
+    done?;
     let (turns, outlets) = taken?;
     last_history(alloc, lines, limit, turns, outlets)
 }
 
-// The history of lines, once the workers have sent all that they read of them.
+// The history of lines, once the workers have sent everything that they read of them.
 fn last_history<T: Text>(
     alloc: Global,
     lines: &[u8],
@@ -139,78 +132,53 @@ fn last_history<T: Text>(
     rest_history(alloc, rest, limit, history)
 }
 
-// So many rings, each with room for so many pieces.
-fn rings<T: Text>(
+// A job for each claim, and the outlets of their rings. Each ring has room for all pieces.
+fn jobs_for<T: Text>(
     alloc: Global,
-    count: usize,
+    counter: &Claims,
     room: usize,
-) -> Result<(Vec<Inlet<T>>, Vec<Outlet<T>>), AllocError> {
-    let mut inlets = Vec::new(alloc);
+    mut claims: Vec<Claim>,
+) -> Result<(Vec<Job<T>>, Vec<Outlet<T>>), AllocError>
+    requires room { room ≡ counter.now.pieces }
+    requires claims { All (IsNewClaim counter.now) claims.items }
+    ensures { IfOk result (λ r. All (IsNewJob counter.now) r.0.items) }
+{
+    let mut jobs = Vec::new(alloc);
     let mut outlets = Vec::new(alloc);
-    for _ in 0..count {
+    'each: while let Some(claim) = claims.pop() {
         let (inlet, outlet) = RingBuffer::with_protocol::<Global, AheadOf<T>>(alloc, room)?;
-        inlets.push(inlet)?;
+        jobs.push(Job { claim, inlet })?;
         outlets.push(outlet)?;
     }
-    Ok((inlets, outlets))
+    Ok((jobs, outlets))
 }
 
-// Reads pieces that it draws, and sends what it has read. Whether all of it went out, as it does where the ring has room.
-fn send_drawn<T: Text>(
+// A counter of pieces, the job of each worker but the calling thread, the outlets of their rings, and the claim of the calling thread.
+fn start<T: Text>(
     alloc: Global,
-    lines: &[u8],
-    pieces: &[Piece],
-    drawn: &AtomicU64,
-    limit: Limit,
-    mut inlet: Inlet<T>,
-) -> bool
-    requires text { lines.now ≡ T.lines }
-    requires pieces { All (IsPieceOf lines.now) pieces.now }
+    cutting: Cutting,
+) -> Result<(Claims, Vec<Job<T>>, Vec<Outlet<T>>, Claim), AllocError>
+    ensures counter { IfOk result (λ r. r.0.pieces ≡ cutting.pieces) }
+    ensures jobs { IfOk result (λ r. All (IsNewJob r.0) r.1.items) }
+    ensures own { IfOk result (λ r. IsNewClaim r.0 r.3) }
 {
-    'each: for _ in 0..pieces.len() {
-        let Some(piece) = next_piece(pieces, drawn, lines) else {
-            return true;
-        };
-        if inlet.push(read_piece(alloc, lines, piece, limit)).is_err() {
-            return false;
-        }
-    }
-    true
+    let (counter, mut claims) = Claims::start(alloc, cutting)?;
+    let Some(own) = claims.pop() else {
+        unreachable!()
+    };
+    let (jobs, outlets) = jobs_for::<T>(alloc, &counter, cutting.pieces() as usize, claims)?;
+    Ok((counter, jobs, outlets, own))
 }
 
-// Takes out of rings what is there.
-fn receive<T: Text>(outlets: &mut [Outlet<T>], waiting: &mut Vec<Ahead>) -> Result<(), AllocError>
-    requires { All (IsAhead T.lines) waiting.old.items }
-    ensures { All (IsAhead T.lines) waiting.new.items }
-{
-    for ring in 0..outlets.len() {
-        receive_from(&mut outlets[ring], waiting)?;
-    }
-    Ok(())
-}
-
-// Takes out of a ring what is there.
-fn receive_from<T: Text>(outlet: &mut Outlet<T>, waiting: &mut Vec<Ahead>) -> Result<(), AllocError>
-    requires { All (IsAhead T.lines) waiting.old.items }
-    ensures { All (IsAhead T.lines) waiting.new.items }
-{
-    'each: for _ in 0..outlet.capacity() {
-        let Ok(ahead) = outlet.pop() else {
-            return Ok(());
-        };
-        waiting.push(ahead)?;
-    }
-    Ok(())
-}
-
-// Takes lines in their turn until all pieces are drawn: what workers have sent of them, or what it reads itself. Where the next ones are
-// still being read, it reads a later piece ahead. The answer is the lines behind these, or the first fault.
+// Takes lines in order until all pieces are drawn: what workers have sent of them, or what it reads itself. While the next ones are
+// still being read, it reads a later piece ahead. The answer is the lines after these, or the first fault.
 fn take_drawn<'t, T: Text>(
     alloc: Global,
     lines: &'t [u8],
     pieces: &[Piece],
-    drawn: &AtomicU64,
+    counter: &Claims,
     limit: Limit,
+    claim: &mut Claim,
     known: &mut Known,
     outlets: &mut [Outlet<T>],
     waiting: &mut Vec<Ahead>,
@@ -220,17 +188,19 @@ fn take_drawn<'t, T: Text>(
     requires pieces { All (IsPieceOf lines.now) pieces.now }
     requires limit { history.old.limit ≡ limit.events }
     requires waiting { All (IsAhead lines.now) waiting.old.items }
+    requires counter { counter.now.pieces ≡ length pieces.now }
+    requires claim { IsClaimOf counter.now claim.old }
     ensures takes { TakesOn limit.events lines.now lines.now history.old.events history.new.events result }
     ensures limit { history.new.limit ≡ history.old.limit }
     ensures waiting { All (IsAhead lines.now) waiting.new.items }
+    ensures of_counter { IsClaimOf counter.now claim.new }
+    ensures finished { OnOk result (IsFinished claim.new) }
 {
     let mut behind = lines;
-    'each: for _ in 0..pieces.len() {
+    'each: while let Some(number) = counter.draw(claim) {
         receive(outlets, waiting)?;
         behind = take_ahead(lines, behind, waiting, history)?;
-        let Some(piece) = next_piece(pieces, drawn, lines) else {
-            return Ok(behind);
-        };
+        let piece = pieces[number as usize];
         if lines.len() - piece.from == behind.len() {
             let stop = lines.len() - piece.to;
             behind = take_lines(alloc, known, behind, stop, limit, history)?;
@@ -241,17 +211,28 @@ fn take_drawn<'t, T: Text>(
     Ok(behind)
 }
 
-// A history of lines that have been taken in their turn until all pieces were drawn, or the first fault. After that none is drawn.
+// Draws the pieces that are left, so that none is read.
+fn draw_rest(counter: &Claims, claim: &mut Claim)
+    requires { IsClaimOf counter.now claim.old }
+    ensures { IsFinished claim.new }
+{
+    'each: while counter.draw(claim).is_some() {}
+}
+
+// A history that has taken lines in order until all pieces were drawn, or the first fault. Either way no piece is left to draw.
 fn take_turns<'t, T: Text>(
     alloc: Global,
     lines: &'t [u8],
     pieces: &[Piece],
-    drawn: &AtomicU64,
+    counter: &Claims,
     limit: Limit,
+    mut claim: Claim,
     mut outlets: Vec<Outlet<T>>,
 ) -> Result<(Turns<'t>, Vec<Outlet<T>>), ReadRefusal>
     requires text { lines.now ≡ T.lines }
     requires pieces { All (IsPieceOf lines.now) pieces.now }
+    requires counter { counter.now.pieces ≡ length pieces.now }
+    requires claim { IsNewClaim counter.now claim }
     ensures { TakesTurns limit.events lines.now result }
 {
     let mut known = Known::new(alloc);
@@ -261,8 +242,9 @@ fn take_turns<'t, T: Text>(
         alloc,
         lines,
         pieces,
-        drawn,
+        counter,
         limit,
+        &mut claim,
         &mut known,
         &mut outlets,
         &mut waiting,
@@ -277,7 +259,7 @@ fn take_turns<'t, T: Text>(
             outlets,
         )),
         Err(refusal) => {
-            drawn.store(pieces.len() as u64, Ordering::SeqCst);
+            draw_rest(counter, &mut claim);
             Err(refusal)
         }
     }
@@ -286,6 +268,7 @@ fn take_turns<'t, T: Text>(
 #[cfg(test)]
 mod tests {
     use super::*;
+    use crate::ahead::Stop;
     use std::test::Fail;
 
     // The lines of views of process 0, each begun and ended.
@@ -297,36 +280,41 @@ mod tests {
         Ok(lines)
     }
 
-    // What a worker alone sends of some lines in pieces, and whether all of it went out.
+    // What a worker alone sends of some lines in pieces.
     fn sent_alone<T: Text>(
         alloc: Global,
         lines: &[u8],
         pieces: &[Piece],
-    ) -> Result<(bool, Vec<Ahead>), AllocError>
+        cutting: Cutting,
+    ) -> Result<Vec<Ahead>, AllocError>
         requires text { lines.now ≡ T.lines }
         requires pieces { All (IsPieceOf lines.now) pieces.now }
+        requires cutting { cutting.pieces ≡ length pieces.now }
     {
-        let drawn = AtomicU64::new(0);
-        let (mut inlets, mut outlets) = rings::<T>(alloc, 1, pieces.len())?;
+        let (counter, mut jobs, mut outlets, _own) = start::<T>(alloc, cutting)?;
         let mut received = Vec::new(alloc);
-        let Some(inlet) = inlets.pop() else {
-            return Ok((false, received));
+        let Some(job) = jobs.pop() else {
+            return Ok(received);
         };
-        let whole = send_drawn(alloc, lines, pieces, &drawn, Limit::usual(), inlet);
+        send_drawn(alloc, lines, pieces, &counter, Limit::usual(), job);
         receive(&mut outlets, &mut received)?;
-        Ok((whole, received))
+        Ok(received)
     }
 
     #[test]
     fn a_worker_alone_reads_each_piece_to_its_end(rt: HostRuntime) -> Result<(), Fail> {
         let alloc = rt.alloc();
         let lines = lines_of_views(alloc, 20_000)?;
-        let pieces = pieces_of(alloc, &lines, 2)?;
-        let (whole, received) = sent_alone::<Brand>(alloc, &lines, &pieces)?;
-        assert!(rt; whole && pieces.len() == 7 && received.len() == 7);
+        let pieces = pieces_of(alloc, &lines, Cutting::usual())?;
+        assert!(rt; pieces.len() == 7);
+        let cutting = cutting_into(&pieces, Cutting::usual());
+        let received = sent_alone::<Brand>(alloc, &lines, &pieces, cutting)?;
+        assert!(rt; received.len() == 7);
         let mut events = 0usize;
         for (ahead, piece) in received.iter().zip(&pieces) {
-            assert!(rt; ahead.from == piece.from && ahead.to == piece.to);
+            assert!(rt;
+                ahead.from == piece.from && ahead.to == piece.to && ahead.stop == Stop::End
+            );
             events = events.saturating_add(ahead.events.len());
         }
         assert_eq!(rt; events, 40_000);

@@ -1,13 +1,13 @@
-//! The fields of a line. In a plain text a field ends at a comma, so that it is cut by a search for that mark and for line ends.
+//! The fields of a line. In a plain text a field ends at a comma or a line end, so a search for these two bytes cuts it.
 ghost use Rattle.std.specs.Prelude.{◌≡◌, ◌≢◌, ◌<◌, ◌≤◌, ◌-◌, ◌⊎◌, take, drop, ◌∷◌, ◌++◌, [], List, ℕ, All, IfSome, MatchOption, get_or, length};
 ghost use Rattle.snap_plain.specs.Lines.{AreNeither, EndsField, EndsWith, EndsWithOthers, FieldGoesOn, FieldIsLast, IsInner};
 
 use std::simd::prelude::*;
 
-/// How many bytes are looked at together.
+/// The number of bytes that are compared together.
 pub(crate) const LANES: usize = 32;
 
-// How many bytes a text has before the first that is one of two marks, none where no such byte is among so many at its front.
+// The number of bytes before the first that is one of two marks. None if neither mark is among the first 32 bytes.
 #[inline(always)]
 fn before_mark(text: &[u8], one: u8, other: u8) -> Option<usize>
     requires { 32 ≤ length text.now }
@@ -23,7 +23,7 @@ fn before_mark(text: &[u8], one: u8, other: u8) -> Option<usize>
     }
 }
 
-// How many bytes the field has that a text begins with. So many at its front are inside it.
+// The size of the field that a text begins with, in bytes. The first `from` bytes are inside it.
 fn field_size_from(text: &[u8], from: usize) -> usize
     requires from { from ≤ length text.now }
     requires inner { All IsInner (take from text.now) }
@@ -39,7 +39,7 @@ fn field_size_from(text: &[u8], from: usize) -> usize
     text.len()
 }
 
-// How many bytes the field has that a text begins with.
+// The size of the field that a text begins with, in bytes.
 #[inline(always)]
 fn field_size(text: &[u8]) -> usize
     ensures within { result ≤ length text.now }
@@ -56,7 +56,7 @@ fn field_size(text: &[u8]) -> usize
     field_size_from(text, text.len() - left.len())
 }
 
-// The field that a text begins with, and what is behind it: nothing, or the mark that ends it and more.
+// The field that a text begins with, and what is after it: nothing, or the mark that ends it and more.
 #[inline(always)]
 fn field_first(text: &[u8]) -> (&[u8], &[u8])
     ensures inner { All IsInner result.0.now }
@@ -66,7 +66,7 @@ fn field_first(text: &[u8]) -> (&[u8], &[u8])
     text.split_at(field_size(text))
 }
 
-// The field that a text begins with, where a comma ends it, and what is behind the comma.
+// The field that a text begins with and what is after its comma, if a comma ends it.
 #[inline(always)]
 fn field_and_comma(text: &[u8]) -> Option<(&[u8], &[u8])>
     ensures { MatchOption result ((f : List ℕ) × (rest : List ℕ) × FieldIsLast f rest text.now) (λ x. FieldGoesOn x.0.now x.1.now text.now) }
@@ -80,7 +80,7 @@ fn field_and_comma(text: &[u8]) -> Option<(&[u8], &[u8])>
     }
 }
 
-// The field that a text begins with, where this and its comma are a word, and what is behind the comma.
+// The field that a text begins with and what is after its comma, if the text begins with `word`: a field and its comma.
 #[inline(always)]
 fn word_and_comma<'t>(text: &'t [u8], word: &[u8]) -> Option<(&'t [u8], &'t [u8])>
     requires comma { (0 < length word.now) × (get_or word.now (length word.now - 1) 0 ≡ 44) }
@@ -94,7 +94,7 @@ fn word_and_comma<'t>(text: &'t [u8], word: &[u8]) -> Option<(&'t [u8], &'t [u8]
     }
 }
 
-// As `field_and_comma`, where the field and its comma are mostly one of two words.
+// As `field_and_comma`, for a field that with its comma is mostly one of two words.
 #[inline(always)]
 fn either_and_comma<'t>(text: &'t [u8], one: &[u8], other: &[u8]) -> Option<(&'t [u8], &'t [u8])>
     requires one { (0 < length one.now) × (get_or one.now (length one.now - 1) 0 ≡ 44) × All IsInner (take (length one.now - 1) one.now) }
@@ -110,7 +110,7 @@ fn either_and_comma<'t>(text: &'t [u8], one: &[u8], other: &[u8]) -> Option<(&'t
     field_and_comma(text)
 }
 
-// How many digits a text begins with.
+// The number of digits that a text begins with.
 #[inline(always)]
 fn digits(text: &[u8]) -> usize
     ensures within { result ≤ length text.now }
@@ -123,7 +123,7 @@ fn digits(text: &[u8]) -> usize
     count
 }
 
-// As `field_and_comma`, where the field is mostly a number.
+// As `field_and_comma`, for a field that is mostly a number.
 #[inline(always)]
 fn number_and_comma(text: &[u8]) -> Option<(&[u8], &[u8])>
     ensures { MatchOption result ((f : List ℕ) × (rest : List ℕ) × FieldIsLast f rest text.now) (λ x. FieldGoesOn x.0.now x.1.now text.now) }
@@ -135,7 +135,7 @@ fn number_and_comma(text: &[u8]) -> Option<(&[u8], &[u8])>
     }
 }
 
-// The field that a text begins with, where its line ends there, and the lines behind it.
+// The field that a text begins with and the lines after it, if the field ends its line.
 #[inline(always)]
 fn last_field(text: &[u8]) -> Option<(&[u8], &[u8])>
     ensures { MatchOption result ((f : List ℕ) × (rest : List ℕ) × FieldGoesOn f rest text.now) (λ x. FieldIsLast x.0.now x.1.now text.now) }
@@ -153,7 +153,7 @@ fn last_field(text: &[u8]) -> Option<(&[u8], &[u8])>
     }
 }
 
-/// The fields that a line has left, where these are four, and the lines behind it.
+/// The fields that are left of a line, if there are four, and the lines after it.
 #[inline(always)]
 pub(crate) fn four_first(text: &[u8]) -> Option<((&[u8], &[u8], &[u8], &[u8]), &[u8])>
     ensures { MatchOption result (EndsWithOthers 4 text.now) (λ x. EndsWith (x.0.0.now ∷ x.0.1.now ∷ x.0.2.now ∷ x.0.3.now ∷ []) x.1.now text.now) }
@@ -165,7 +165,7 @@ pub(crate) fn four_first(text: &[u8]) -> Option<((&[u8], &[u8], &[u8], &[u8]), &
     Some(((event, process, op, data), rest))
 }
 
-/// The fields that a line has left, where these are five, and the lines behind it.
+/// The fields that are left of a line, if there are five, and the lines after it.
 pub(crate) fn five_first(text: &[u8]) -> Option<((&[u8], &[u8], &[u8], &[u8], &[u8]), &[u8])>
     ensures { MatchOption result (EndsWithOthers 5 text.now) (λ x. EndsWith (x.0.0.now ∷ x.0.1.now ∷ x.0.2.now ∷ x.0.3.now ∷ x.0.4.now ∷ []) x.1.now text.now) }
 {

@@ -1,4 +1,4 @@
-//! What stands before the lines of a plain text: a byte order mark, empty lines and the header.
+//! What is before the lines of a plain text: a byte order mark, empty lines and the header.
 ghost use Rattle.std.specs.Prelude.{◌≡◌, ◌≢◌, ◌<◌, ◌≤◌, List, ℕ, IsTrue, MatchOption, get_or, length};
 ghost use Rattle.csv.specs.Reading.{strip_bom};
 ghost use Rattle.snap_format.specs.Layout.{is_header_row, is_stamped_header_row};
@@ -11,7 +11,7 @@ use std::simd::prelude::*;
 
 const ORDER_MARK: &[u8] = b"\xEF\xBB\xBF";
 
-/// A text behind the byte order mark at its front, which is no part of its records.
+/// A text after the byte order mark at its front, if it has one. The mark is not part of its records.
 pub(crate) fn behind_order_mark(text: &[u8]) -> &[u8]
     ensures { result.now ≡ strip_bom text.now }
 {
@@ -22,7 +22,7 @@ pub(crate) fn behind_order_mark(text: &[u8]) -> &[u8]
     }
 }
 
-// Whether so many bytes at the front of a text are newlines.
+// Whether the first 32 bytes of a text are newlines.
 #[inline(always)]
 fn begins_blank(text: &[u8]) -> bool
     requires { 32 ≤ length text.now }
@@ -34,7 +34,7 @@ fn begins_blank(text: &[u8]) -> bool
         == 0
 }
 
-// A text behind the empty lines at its front, of which it has one at least, while more than so many bytes are left.
+// A text after the empty lines at its front, of which it has at least one. None is skipped once at most `stop` bytes are left.
 #[inline(never)]
 fn behind_blank(text: &[u8], stop: usize) -> &[u8]
     ensures same { (rows : List Fields) → HasRows text.now rows → HasRows result.now rows }
@@ -51,7 +51,7 @@ fn behind_blank(text: &[u8], stop: usize) -> &[u8]
     left
 }
 
-/// A text behind the empty lines at its front, which are no records, while more than so many bytes are left.
+/// A text after the empty lines at its front, which are not records. None is skipped once at most `stop` bytes are left.
 #[inline(always)]
 pub(crate) fn behind_newlines(text: &[u8], stop: usize) -> &[u8]
     ensures same { (rows : List Fields) → HasRows text.now rows → HasRows result.now rows }
@@ -64,7 +64,7 @@ pub(crate) fn behind_newlines(text: &[u8], stop: usize) -> &[u8]
     behind_blank(text, stop)
 }
 
-/// What stands under the header, where the text begins with it.
+/// The lines under the header without stamps, if the text begins with it.
 pub(crate) fn lines_under_header(text: &[u8]) -> Option<&[u8]>
     requires { 0 < length text.now → get_or text.now 0 0 ≢ 10 }
     ensures { MatchOption result (BeginsOtherwise is_header_row text.now) (λ lines. BeginsWith is_header_row lines.now text.now) }
@@ -77,7 +77,7 @@ pub(crate) fn lines_under_header(text: &[u8]) -> Option<&[u8]>
     }
 }
 
-/// The same of the header of texts with stamps.
+/// The lines under the header with stamps, if the text begins with it.
 pub(crate) fn lines_under_stamped_header(text: &[u8]) -> Option<&[u8]>
     requires { 0 < length text.now → get_or text.now 0 0 ≢ 10 }
     ensures { MatchOption result (BeginsOtherwise is_stamped_header_row text.now) (λ lines. BeginsWith is_stamped_header_row lines.now text.now) }

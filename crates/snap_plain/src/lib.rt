@@ -8,6 +8,7 @@ mod front;
 mod line;
 mod lines;
 mod pieces;
+mod rings;
 
 pub use beside::history_of_lines_shared;
 pub use line::plain_event;

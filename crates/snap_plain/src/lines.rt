@@ -26,7 +26,7 @@ pub fn is_plain(text: &[u8]) -> bool
     memchr2(b'"', b'\r', text).is_none()
 }
 
-/// Takes the events of lines in turn until so many bytes are left, up to the first fault. The answer is the lines behind these.
+/// Takes the events of lines in order, until at most `stop` bytes are left. The answer is the lines after these, or the first fault.
 pub(crate) fn take_lines<'t>(
     alloc: Global,
     known: &mut Known,
@@ -59,7 +59,7 @@ pub(crate) fn take_lines<'t>(
     unreachable!()
 }
 
-/// The history of some lines, by one that has those before a rest of them; or the first fault.
+/// The history of some lines, or the first fault. The given history has the events of the lines before `rest`.
 pub(crate) fn rest_history(
     alloc: Global,
     rest: &[u8],
@@ -126,7 +126,7 @@ fn stamped_lines_history(
     history_by_stamps(alloc, stamped, read, limit)
 }
 
-/// A plain text behind its header: lines without stamps, or with them, or anything where it has no header.
+/// A plain text after its header: lines without stamps, or with them, or anything if it has no header.
 #[derive(Clone, Copy)]
 pub enum Lines<'t> {
     Bare(&'t [u8]),
@@ -134,7 +134,7 @@ pub enum Lines<'t> {
     Headless,
 }
 
-/// The lines of a plain text.
+/// The lines of a plain text after its header, if it has one.
 pub fn lines_of(text: &[u8]) -> Lines<'_>
     requires { All IsPlain text.now }
     ensures { HasLines (rows_of text.now) result }
@@ -149,8 +149,8 @@ pub fn lines_of(text: &[u8]) -> Lines<'_>
     Lines::Headless
 }
 
-/// The history of the lines of a plain text, or the text's first fault; and the numbers of its events' records where these have
-/// stamps.
+/// The history of the lines of a plain text, or the text's first fault. If the records have stamps, also the number of each event's
+/// record.
 pub fn history_of_lines(
     alloc: Global,
     lines: Lines<'_>,

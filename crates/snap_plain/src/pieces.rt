@@ -1,18 +1,19 @@
-//! Pieces of some lines, and which of them is read next.
-ghost use Rattle.std.specs.Prelude.{◌≡◌, ◌≤◌, ◌⊎◌, [], All, IfOk, IfSome, length};
+//! Pieces of some lines.
+ghost use Rattle.std.specs.Prelude.{◌≡◌, ◌≤◌, ◌⊎◌, [], All, IfOk, length};
 ghost use Rattle.snap_plain.specs.Ahead.{ArePieces, IsEndOfLine, IsPieceOf};
+ghost use Rattle.snap_threads.specs.declared.cutting.TheConstants.{PIECE_LIMIT};
 
 use memchr::memchr;
+use snap_threads::Cutting;
 use std::alloc::{AllocError, Global};
-use std::sync::atomic::{AtomicU64, Ordering};
 
-// How many bytes a piece has at least. So many take longer to read than a thread takes to start.
+// The least size of a piece, in bytes. Reading that many takes longer than starting a thread.
 const PIECE_SIZE: usize = 65_536;
 
-// How many pieces of a long text there are for each worker. More would lose more of what is known of the view before.
+// The most pieces of a long text for each worker. More would lose more of what is known of the view before.
 const PIECES_EACH: usize = 8;
 
-// Of fewer pieces threads take longer to start than they save.
+// With fewer pieces, starting threads takes longer than they save.
 const LEAST_PIECES: usize = 3;
 
 /// The lines from one place to before another.
@@ -22,7 +23,7 @@ pub(crate) struct Piece {
     pub(crate) to: usize,
 }
 
-// Where the line ends that has the byte at a place.
+// The end of the line that has the byte at a place.
 fn end_of_line(text: &[u8], place: usize) -> usize
     requires { place ≤ length text.now }
     ensures after { place ≤ result }
@@ -35,17 +36,19 @@ fn end_of_line(text: &[u8], place: usize) -> usize
     }
 }
 
-/// Lines in pieces of about as many bytes, each of whole lines; or in none where one thread alone reads them sooner.
+/// Lines in pieces of about the same size, each of whole lines. No pieces if one thread alone reads the lines sooner.
 pub(crate) fn pieces_of(
     alloc: Global,
     lines: &[u8],
-    workers: usize,
+    cutting: Cutting,
 ) -> Result<Vec<Piece>, AllocError>
     ensures within { IfOk result (λ pieces. All (IsPieceOf lines.now) pieces.items) }
     ensures all { IfOk result (λ pieces. (pieces.items ≡ []) ⊎ ArePieces lines.now 0 (length lines.now) pieces.items) }
+    ensures few { IfOk result (λ pieces. length pieces.items ≤ PIECE_LIMIT) }
 {
     let mut pieces = Vec::new(alloc);
-    let count = (lines.len() / PIECE_SIZE).min(workers.saturating_mul(PIECES_EACH));
+    let workers = cutting.workers() as usize;
+    let count = (lines.len() / PIECE_SIZE).min(workers * PIECES_EACH);
     if workers == 1 || count < LEAST_PIECES {
         return Ok(pieces);
     }
@@ -57,13 +60,4 @@ pub(crate) fn pieces_of(
         from = to;
     }
     Ok(pieces)
-}
-
-/// The next piece that none has drawn yet. A thread that starts late so draws fewer.
-pub(crate) fn next_piece(pieces: &[Piece], drawn: &AtomicU64, lines: &[u8]) -> Option<Piece>
-    requires { All (IsPieceOf lines.now) pieces.now }
-    ensures { IfSome result (IsPieceOf lines.now) }
-{
-    let number = drawn.fetch_add(1, Ordering::SeqCst);
-    pieces.get(number as usize).copied()
 }

@@ -11,7 +11,7 @@ use std::alloc::Global;
 use std::process::Abort;
 use std::test::Fail;
 
-// The highest of the desks that are in, which is of this process.
+// The highest of the desks that are in, which is that of this process.
 pub(crate) fn taken(
     alloc: Global,
     board: &Board,
@@ -28,7 +28,7 @@ pub(crate) fn taken(
     }
 }
 
-// A board that is not closed, since a desk is out.
+// A board that does not close, since a desk is out.
 fn still_open(board: Board, gathered: Gathered) -> Result<(Board, Gathered), Fail>
     requires { IsGatheredOf board gathered }
     ensures { IfOk result (λ r. (r.0 ≡ board) × (r.1 ≡ gathered)) }
@@ -39,7 +39,7 @@ fn still_open(board: Board, gathered: Gathered) -> Result<(Board, Gathered), Fai
     }
 }
 
-// What is left of a board that is closed.
+// What is left of a closed board.
 fn closed(board: Board, gathered: Gathered) -> Result<Closed, Fail>
     requires { IsGatheredOf board gathered }
 {
@@ -62,7 +62,7 @@ fn is_store(record: &Record, of: Of, want: Entry) -> bool {
     }
 }
 
-/// Whether a record has this process and these stamps, and is of a view that shows just these entries.
+/// Whether a record has this process and these stamps, and is of a view that shows exactly these entries.
 pub(crate) fn is_view(record: &Record, of: Of, want: &[Entry]) -> bool {
     match &record.op {
         RecordedOp::Stored(_) => false,
@@ -82,7 +82,7 @@ pub(crate) fn store_nine(rt: &impl Abort, board: &Board, desk: &mut Desk) -> Res
     Ok(())
 }
 
-// Desk 1 collects, as the second call on its board, and sees its 9 alone.
+// Desk 1 collects, as the second call on its board, and sees only its 9.
 fn collect_nine(rt: &impl Abort, alloc: Global, board: &Board, desk: &mut Desk) -> Result<(), Fail>
     requires { IsDeskOf board.now desk.old }
     ensures { IsDeskOf board.now desk.new }
@@ -138,7 +138,7 @@ fn spend(rt: &impl Abort, board: &Board, desk: &mut Desk) -> Result<(), Fail>
     Ok(())
 }
 
-// A desk with no tick left neither stores nor collects.
+// A desk without ticks left neither stores nor collects.
 fn expect_spent(rt: &impl Abort, alloc: Global, board: &Board, desk: &mut Desk)
     requires { IsDeskOf board.now desk.old }
     ensures { IsDeskOf board.now desk.new }

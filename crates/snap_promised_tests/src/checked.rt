@@ -1,4 +1,4 @@
-//! Checks of texts from memory, and what is wanted of them.
+//! Checks of texts from memory, and their wanted answers.
 use snap_check::{Status, check_run};
 use snap_core::{Counted, Gate};
 use snap_pairs::Cutting;
@@ -39,7 +39,7 @@ pub(crate) fn expect_report<R: Threads + Sync + Abort, G: Gate>(
     Ok(())
 }
 
-/// The check of a worked text ends and reports as it is to.
+/// The check of a worked text ends and reports as it must.
 pub(crate) fn expect_worked<R: Threads + Sync + Abort, G: Gate>(
     rt: &R,
     alloc: Global,

@@ -1,13 +1,13 @@
 //! Claims, by which workers draw each piece once.
 ghost use Rattle.std.specs.Prelude.{◌≡◌, All, IfOk};
-ghost use Rattle.snap_pairs.specs.Claiming.{IsClaimOf};
+ghost use Rattle.snap_threads.specs.Claiming.{IsClaimOf};
 
 use snap_pairs::{Claim, Claims, Cutting};
 use std::alloc::Global;
 use std::process::Abort;
 use std::test::Fail;
 
-// The counter and the claims, with which it does not close.
+// The counter and the claims, with which the counter does not close.
 fn still_open(counter: Claims, claims: Vec<Claim>) -> Result<(Claims, Vec<Claim>), Fail>
     requires { All (IsClaimOf counter) claims.items }
     ensures { IfOk result (λ r. (r.0 ≡ counter) × (r.1 ≡ claims)) }
@@ -36,7 +36,7 @@ fn expect_draw(rt: &impl Abort, counter: &Claims, claim: &mut Claim, known: Opti
     assert!(rt; counter.draw(claim) == known, "not {known:?}");
 }
 
-// The first claim draws the last piece of three, and the second finds none left, and again.
+// The first claim draws the last piece of three, and the second finds none left, twice.
 fn draw_last(rt: &impl Abort, counter: &Claims, first: &mut Claim, second: &mut Claim)
     requires first { IsClaimOf counter.now first.old }
     requires second { IsClaimOf counter.now second.old }

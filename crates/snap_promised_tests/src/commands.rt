@@ -12,7 +12,7 @@ fn words(alloc: Global, line: &str) -> Result<Vec<String>, AllocError> {
     Ok(words)
 }
 
-// Lines that name no job.
+// Lines that ask for no job.
 const OTHER_LINES: &[&str] = &["snapjudge", "snapjudge judge", "snapjudge check --pieces 0"];
 
 #[test]

@@ -25,7 +25,7 @@ fn where_the_first_read_fails_nothing_is_written(rt: HostRuntime) -> Result<(), 
     Ok(())
 }
 
-// Whether the check of a text ends with this status, or fails at a write, and what then is in the cup that it writes to.
+// Whether the check of a text ends with this status, or fails at a write, and what is then in its cup.
 fn poured<R: Threads + Sync>(
     rt: &R,
     alloc: Global,
@@ -43,8 +43,8 @@ fn poured<R: Threads + Sync>(
     Ok((is_known, writer.into_inner().held))
 }
 
-// The room of a cup, the bytes that it takes a write, whether it fails when it is full; the status of a check, where it has
-// one, and what is then in the cup.
+// The room of a cup, the bytes that it takes for each write, and whether it fails when it is full. Then the status of the check, if
+// it has one, and what is in the cup.
 const CUPS: &[(usize, usize, bool, Option<Status>, &str)] = &[
     (10, 100, true, None, "events 4 c"),
     (1000, 1, true, Some(Status::Irregular), STALE_REPORT),

@@ -1,4 +1,4 @@
-//! Views and histories made of entries and events, and the texts that they are written as.
+//! Views and histories that are made from entries and events, and the texts that are written for them.
 use snap_core::{Counted, Event, EventRefusal, History, View, ViewRefusal};
 use snap_csv::{fields_of, write_history, write_history_stamped};
 use snap_testing::worked::VIEW_BESIDE_UPDATE;

@@ -21,14 +21,14 @@ fn expect<R: Threads + Sync + Abort>(
     expect_report(rt, alloc, worked, Cutting::new(8, 2)?, &OpenGate)
 }
 
-// The text with so many updates of component 0, each ended at once.
+// The text with `updates` updates of component 0, each ended at once.
 fn updates_text(alloc: Global, updates: u32) -> Result<String, AllocError> {
     let mut text = String::from_str(alloc, "event,process,op,data\n")?;
     add_updates(alloc, &mut text, 0, updates)?;
     Ok(text)
 }
 
-// The report of an atomic history with so many events, completed calls and completed views, whose order has these lines.
+// The report of an atomic history with these numbers of events, completed calls and completed views, whose order has these lines.
 fn atomic_report(
     alloc: Global,
     counts: (u32, u32, u32),
@@ -41,7 +41,7 @@ fn atomic_report(
     )
 }
 
-// A history with so many updates, each ended at once, has them in its order.
+// A history with `updates` updates, each ended at once, has them in its order.
 fn expect_updates<R: Threads + Sync + Abort>(
     rt: &R,
     alloc: Global,
@@ -68,7 +68,7 @@ fn a_history_has_at_most_65536_events(rt: HostRuntime) -> Result<(), Fail> {
     expect(&rt, rt.alloc(), &text, Status::Refused, line)
 }
 
-// What the check of so many newlines writes.
+// What the check of a number of newlines writes.
 fn checked_newlines<R: Threads + Sync>(
     rt: &R,
     alloc: Global,
@@ -92,7 +92,7 @@ fn a_text_has_at_most_67108864_bytes(rt: HostRuntime) -> Result<(), Fail> {
     Ok(())
 }
 
-// The text of so many updates, each with a view after it that shows it, and the lines of their order.
+// The text of `updates` updates, each with a view after it that shows it, and the lines of their order.
 fn seen_updates(alloc: Global, updates: u16) -> Result<(String, String), AllocError> {
     let mut text = String::from_str(alloc, "event,process,op,data\n")?;
     let mut lines = String::new(alloc);

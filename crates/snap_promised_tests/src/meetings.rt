@@ -25,7 +25,7 @@ fn expect_crossed(rt: &impl Abort, all: &Tally) {
     assert!(rt; all.read.count() == 2 && all.read.first() == Some(first) && all.stale == 0);
 }
 
-// Two workers tally two crossed views in so many pieces, at a gate.
+// Two workers tally two crossed views in `pieces` pieces, at a gate.
 fn tally_crossed<R: Threads + Sync + Abort, G: Gate>(
     rt: &R,
     alloc: Global,
@@ -113,7 +113,7 @@ fn the_text_of_a_recording_has_the_views_after_both_stores(rt: HostRuntime) -> R
     expect_lines(&rt, &text, "event,process,op,data", 9, wanted)
 }
 
-// The plan of eight workers, of which each stores its number and then takes a view.
+// The plan of eight workers, each of which stores its number and then takes a view.
 fn eight_stores(alloc: Global) -> Result<Plan, Fail> {
     let mut scripts = Vec::new(alloc);
     for worker in 0..8 {
@@ -122,13 +122,13 @@ fn eight_stores(alloc: Global) -> Result<Plan, Fail> {
     Ok(Plan::new(scripts)?)
 }
 
-// Whether a view shows of each of eight components the first store, of its number.
+// Whether a view shows, of each of eight components, the first store, of its number.
 fn shows_eight(view: &View) -> bool {
     view.entries().len() == 8
         && (0..8u8).all(|k| view.number(k) == 1 && view.value(k) == u32::from(k))
 }
 
-// How many such views there are.
+// The number of such views.
 fn views_of_eight(recording: &Recording) -> usize {
     let events = recording.history.events().iter();
     events

@@ -20,7 +20,7 @@ fn expect_built<R: Threads + Sync + Abort>(
     Ok(())
 }
 
-// The same of a history.
+// The printed order of a history is this list, which is a legal order.
 fn expect_order<R: Threads + Sync + Abort>(
     rt: &R,
     alloc: Global,
@@ -39,7 +39,7 @@ fn an_order_is_by_level_kind_and_number(rt: HostRuntime) -> Result<(), Fail> {
     expect_order(&rt, rt.alloc(), ATOMIC_RUN, &[0, 2, 1, 3, 4])
 }
 
-// Each of these lists is a legal order of an index's calls, or is none.
+// Each of these lists is a legal order of an index's calls or not, as it is marked.
 fn expect_checked(
     rt: &impl Abort,
     alloc: Global,
@@ -52,7 +52,7 @@ fn expect_checked(
     Ok(())
 }
 
-// The same of a history's calls.
+// Each of these lists is a legal order of a history's calls or not, as it is marked.
 fn expect_legal(
     rt: &impl Abort,
     alloc: Global,
@@ -82,7 +82,7 @@ fn any_list_with_each_completed_call_that_explains_the_views_is_legal(
     expect_legal(&rt, rt.alloc(), VIEW_BESIDE_UPDATE, &orders)
 }
 
-// The second call of an index is an update that has not ended, component 1 has no other, and call 0 does not precede call 2.
+// The second call of an index is the only update of component 1, and has not ended. Call 0 does not precede call 2.
 fn expect_pending(rt: &impl Abort, index: &Index<'_>) -> Result<(), Fail> {
     let update = index.update(1, 1).ok_or("no update")?;
     assert!(rt; update.ended.is_none() && index.update_call(1, 1) == Some(1));

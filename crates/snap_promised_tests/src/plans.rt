@@ -8,7 +8,7 @@ use std::sync::Wait;
 use std::test::Fail;
 use std::thread::Threads;
 
-// Lists of so many stores of 0 each.
+// Lists of stores of 0, of these lengths.
 fn stores(alloc: Global, lengths: &[usize]) -> Result<Vec<Vec<Step>>, AllocError> {
     let mut lists = Vec::new(alloc);
     for length in lengths {
@@ -19,7 +19,7 @@ fn stores(alloc: Global, lengths: &[usize]) -> Result<Vec<Vec<Step>>, AllocError
 
 const REFUSED: Option<PlanRefusal> = Some(PlanRefusal::TooLong);
 
-// The lengths of lists, and why they are no plan.
+// The lengths of lists, and why they are not a plan.
 const LENGTHS: &[(&[usize], Option<PlanRefusal>)] = &[
     (&[1], Some(PlanRefusal::Workers)),
     (&[1, 1, 1, 1, 1, 1, 1, 1, 1], Some(PlanRefusal::Workers)),
@@ -37,12 +37,12 @@ fn a_plan_has_2_to_8_lists_and_at_most_65536_events(rt: HostRuntime) -> Result<(
     Ok(())
 }
 
-// Two lists, the first of so many scans of so many tries, the second empty.
+// Two lists: the first has `steps` scans of `tries` tries, and the second is empty.
 fn scans(alloc: Global, steps: usize, tries: u32) -> Result<Vec<Vec<Step>>, AllocError> {
     Ok(vec![in alloc; vec![in alloc; Step::Scan(tries); steps]?, Vec::new(alloc)]?)
 }
 
-// So many scans of so many tries, and why they are no plan.
+// The number of scans, their tries, and why they are not a plan.
 const SCANS: &[(usize, u32, Option<PlanRefusal>)] = &[
     (1, 0, REFUSED),
     (1, 1025, REFUSED),
@@ -61,7 +61,7 @@ fn a_scan_has_1_to_1024_tries_and_a_list_at_most_1048576_ticks(
     Ok(())
 }
 
-// The workers and rounds of plans, and why each is none.
+// The numbers of workers and rounds of plans, and why each is refused.
 const ROUNDS: &[(u32, u32, Option<PlanRefusal>)] = &[
     (2, 0, REFUSED),
     (2, 2049, REFUSED),
@@ -70,7 +70,7 @@ const ROUNDS: &[(u32, u32, Option<PlanRefusal>)] = &[
     (9, 0, Some(PlanRefusal::Workers)),
 ];
 
-// How many events so many workers have in 2,048 rounds.
+// The number of events of `workers` workers in 2,048 rounds.
 fn events_of<R: Threads + Wait + Sync>(rt: &R, alloc: Global, workers: u32) -> Result<usize, Fail> {
     let plan = rounds_plan(alloc, workers, 2048, false)?;
     Ok(record_plan(rt, alloc, &plan, &OpenGate)?.history.len())
@@ -87,7 +87,7 @@ fn rounds_are_1_to_2048_of_2_to_8_workers(rt: HostRuntime) -> Result<(), Fail> {
     Ok(())
 }
 
-/// The plan of two workers, of which each stores its value and then makes another call.
+/// The plan of two workers, each of which stores its value and then makes another call.
 pub(crate) fn two_stores(alloc: Global, values: (u32, u32), then: Step) -> Result<Plan, Fail> {
     let first = [Step::Store(values.0), then].to_vec(alloc)?;
     let second = [Step::Store(values.1), then].to_vec(alloc)?;
@@ -124,7 +124,7 @@ fn expect_own(rt: &impl Abort, recording: &Recording, want: Entry) {
     assert!(rt; events.iter().any(|event| shows(event, process, want)));
 }
 
-// Two workers have made two calls each, of which the first stored 5 and 6, and the stamps are in turn.
+// Two workers have each made two calls, the first of which stored 5 or 6. The stamps are 0, 1, 2 and so on.
 fn expect_two_stores(rt: &impl Abort, recording: &Recording) {
     assert!(rt; recording.history.len() == 8 && recording.interfered == 0);
     assert!(rt; recording.stamps.as_slice() == [0, 1, 2, 3, 4, 5, 6, 7].as_slice());

@@ -24,7 +24,7 @@ pub(crate) fn recorded<R: Threads + Wait + Sync + Abort, G: Gate>(
     Ok(writer.into_inner())
 }
 
-/// A text has this first line, so many lines in all, and each of these.
+/// A text has this first line, this number of lines in all, and each of these lines.
 pub(crate) fn expect_lines(
     rt: &impl Abort,
     text: &[u8],
@@ -40,7 +40,7 @@ pub(crate) fn expect_lines(
     Ok(())
 }
 
-// Workers of one round, whether they scan, how many lines their text has, and some of these.
+// The workers of one round, whether they scan, the number of lines of their text, and some of these lines.
 const ONE_ROUND: &[(u32, bool, usize, &[&str])] = &[
     (
         2,

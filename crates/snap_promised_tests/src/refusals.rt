@@ -1,4 +1,4 @@
-//! Texts that are no histories, and the line of the first fault of each.
+//! Texts that are not histories, and the line of the first fault of each.
 use crate::checked::expect_report;
 use snap_check::Status;
 use snap_core::OpenGate;
@@ -89,7 +89,7 @@ const REFUSED: &[(&str, &str)] = &[
     ),
 ];
 
-// The same of texts with stamps.
+// Texts with stamps, and their reports.
 const STAMPED: &[(&str, &str)] = &[
     (
         "at,event,process,op,data\n5,begin,0,view,\n5,end,0,view,\n",

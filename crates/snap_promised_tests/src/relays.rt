@@ -43,7 +43,7 @@ fn send<R: Wait + Abort>(rt: &R, alloc: Global, relay: &Relay, sender: &mut Send
     assert!(rt; relay.send(rt, alloc, sender, call).is_ok());
 }
 
-// The process of the next record, where there is one.
+// The process of the next record, if there is one.
 fn next_process<R: Wait>(rt: &R, relay: &Relay, taker: &mut Taker) -> Option<u16>
     requires { IsTakerOf relay.now taker.old }
     ensures { IsTakerOf relay.now taker.new }
@@ -60,7 +60,7 @@ fn expect_next<R: Wait + Abort>(rt: &R, relay: &Relay, taker: &mut Taker, known:
     assert_eq!(rt; next_process(rt, relay, taker), known);
 }
 
-// A relay that does not end.
+// The relay and its ends, which come back because the relay does not end.
 fn unfinished<R: Wait>(
     rt: &R,
     relay: Relay,
@@ -77,7 +77,7 @@ fn unfinished<R: Wait>(
     }
 }
 
-// Two senders that stand in a vector.
+// The two senders of a vector.
 fn two_of(rt: &impl Abort, relay: &Relay, mut senders: Vec<Sender>) -> (Sender, Sender)
     requires { All (IsSenderOf relay.now) senders.items }
     ensures { IsSenderOf relay.now result.0 × IsSenderOf relay.now result.1 }

@@ -161,7 +161,7 @@ const IRREGULAR: &[Worked] = &[
     STALE_AND_WRONG,
 ];
 
-// Each worked text ends and reports as it is to, by 8 pieces and 2 workers.
+// Each worked text ends and reports as it must, by 8 pieces and 2 workers.
 fn expect_all<R: Threads + Sync + Abort>(
     rt: &R,
     alloc: Global,

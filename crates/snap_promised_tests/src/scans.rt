@@ -11,7 +11,7 @@ use std::process::Abort;
 use std::test::Fail;
 use std::thread::join;
 
-// A scan of so many tries has these stamps, and shows these entries.
+// A scan of at most `tries` tries has these stamps, and shows these entries.
 fn expect_scanned(
     rt: &impl Abort,
     alloc: Global,
@@ -42,7 +42,7 @@ fn a_scan_draws_a_tick_between_its_two_collects(rt: HostRuntime) -> Result<(), F
     expect_scanned(&rt, alloc, &board, &mut zero, 1, (0, 5, 7), &nine)
 }
 
-// A scan of so many tries is refused.
+// A scan of `tries` tries is refused.
 fn expect_spent(rt: &impl Abort, alloc: Global, board: &Board, desk: &mut Desk, tries: u32)
     requires desk { IsDeskOf board.now desk.old }
     requires tries { 0 < tries }
@@ -64,7 +64,7 @@ fn a_scan_that_could_draw_more_ticks_than_are_left_is_refused(rt: HostRuntime) -
     Ok(())
 }
 
-// Stores 1 to 1,000, and tells whether each store has a record.
+// Stores 1 to 1,000, and answers whether each store has a record.
 fn store_up(board: &Board, mut desk: Desk) -> (Desk, bool)
     requires { IsDeskOf board.now desk }
     ensures { IsDeskOf board.now result.0 }
@@ -76,7 +76,7 @@ fn store_up(board: &Board, mut desk: Desk) -> (Desk, bool)
     (desk, recorded)
 }
 
-// Scans 1,000 times with one try, and tells whether each scan has a record or was interfered with.
+// Scans 1,000 times with one try, and answers whether each scan has a record or was interfered with.
 fn scan_often(alloc: Global, board: &Board, mut desk: Desk) -> (Desk, bool)
     requires { IsDeskOf board.now desk }
     ensures { IsDeskOf board.now result.0 }
@@ -89,7 +89,7 @@ fn scan_often(alloc: Global, board: &Board, mut desk: Desk) -> (Desk, bool)
     (desk, answered)
 }
 
-// Whether a record is of a view that shows just this entry.
+// Whether a record is of a view that shows only this entry.
 fn shows_alone(record: &Record, want: Entry) -> bool {
     match &record.op {
         RecordedOp::Stored(_) => false,
@@ -97,7 +97,7 @@ fn shows_alone(record: &Record, want: Entry) -> bool {
     }
 }
 
-// A collect shows the last of the 1,000 stores alone.
+// A collect shows only the last of the 1,000 stores.
 fn collect_last(rt: &impl Abort, alloc: Global, board: &Board, desk: &mut Desk) -> Result<(), Fail>
     requires { IsDeskOf board.now desk.old }
     ensures { IsDeskOf board.now desk.new }

@@ -8,7 +8,7 @@ use std::alloc::Global;
 use std::process::Abort;
 use std::test::Fail;
 
-// What is known of the views of a history: their sums, their chain, if there is one, and whether they are in order.
+// What is known about the views of a history: their sums, their chain, if there is one, and whether they are in order.
 type Known = (&'static [u64], Option<&'static [u32]>, bool);
 
 // The views of an index have these sums.
@@ -22,7 +22,7 @@ fn expect_sums(rt: &impl Abort, index: &Index<'_>, sums: &[u64]) {
     }
 }
 
-// The same is known of the views of an index.
+// This is known about the views of an index.
 fn expect_known(
     rt: &impl Abort,
     alloc: Global,
@@ -46,7 +46,7 @@ const WORKED: &[(&[Step<'static>], Known)] = &[
     (NOTHING, (&[], Some(&[]), true)),
 ];
 
-// The same of a history.
+// This is known about the views of a history.
 fn expect(rt: &impl Abort, alloc: Global, steps: &[Step<'_>], known: Known) -> Result<(), Fail> {
     let history = history_of(alloc, steps)?;
     let index = Index::build(alloc, &history)?;
@@ -61,7 +61,7 @@ fn comparable_views_are_a_chain_by_their_sums(rt: HostRuntime) -> Result<(), Fai
     Ok(())
 }
 
-// How many write faults the tally of all views of an index has, without its read faults.
+// The number of write faults of the tally of all views of an index, without its read faults.
 fn write_faults(index: &Index<'_>) -> u64 {
     tally_without_read(index, 0, index.view_count())
         .write

@@ -24,7 +24,7 @@ const OF_SECOND: ReadFault = ReadFault {
     component: 1,
 };
 
-// How many faults of each kind a tally has, and how many pairs of views go back.
+// The number of faults of each kind of a tally, and the number of pairs of views that go back.
 fn counts(tally: &Tally) -> [u64; 5] {
     [
         tally.integrity.count(),
@@ -35,13 +35,13 @@ fn counts(tally: &Tally) -> [u64; 5] {
     ]
 }
 
-// A tally has so many read faults and no other, and this is the first.
+// A tally has this number of read faults and no others, and this is the first.
 fn expect_reads(rt: &impl Abort, tally: &Tally, count: u64, first: ReadFault) {
     assert_eq!(rt; counts(tally), [0, 0, count, 0, 0]);
     assert_eq!(rt; tally.read.first(), Some(first));
 }
 
-// Two tallies merged, which have one fault of a kind at most.
+// Two tallies, merged. Each has at most one fault of a kind.
 fn merged(rt: &impl Abort, first: &Tally, second: &Tally) -> Tally {
     assert!(rt; first.integrity.count() <= 1 && second.integrity.count() <= 1);
     assert!(rt; first.proximity.count() <= 1 && second.proximity.count() <= 1);
@@ -51,7 +51,7 @@ fn merged(rt: &impl Abort, first: &Tally, second: &Tally) -> Tally {
     merge(*first, *second)
 }
 
-// Merged, the tallies of two views have the faults of both, and the first is that of the first.
+// The merged tallies of two views have the faults of both, and the first is that of the first view.
 fn expect_merged(rt: &impl Abort, first: &Tally, second: &Tally) {
     expect_reads(rt, first, 1, OF_FIRST);
     expect_reads(rt, second, 1, OF_SECOND);
@@ -73,7 +73,7 @@ fn merged_tallies_have_the_faults_of_both_and_the_first_of_the_first(
     Ok(())
 }
 
-// The first view of an index misses an update, the second shows a value that nobody wrote, and no view has no fault.
+// The first view of an index misses an update, and the second shows a value that nobody wrote. A range without views has no fault.
 fn expect_stale_and_wrong(rt: &impl Abort, index: &Index<'_>) {
     assert!(rt; index.view_count() == 2);
     let stale = tally_range(index, 0, 1);
@@ -121,7 +121,7 @@ fn a_missed_update_is_regular_and_a_view_that_goes_back_is_not_monotone(
     Ok(())
 }
 
-// Why there is no such cutting, or nothing where there is one.
+// Why there is no such cutting, or nothing if there is one.
 fn refusal(pieces: u32, workers: u32) -> Option<CuttingRefusal> {
     Cutting::new(pieces, workers).err()
 }

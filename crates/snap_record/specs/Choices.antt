@@ -1,11 +1,11 @@
--- Which steps of a script have a record: scans may be left out.
+-- Which steps of a script have a record: only scans may be left out.
 use Rattle.std.specs.Prelude.{◌≡◌, ℕ, Bool, false, cond, List, [], ◌∷◌, ◌++◌, ⊤, length, ◌==◌, slice_index_or}
 use Rattle.snap_core.specs.Sums.{total}
 use Rattle.snap_board.specs.Settled.{falling}
 use Rattle.snap_record.specs.declared.plan.Step.{Step}
 use Rattle.snap_record.specs.declared.plan.Step.TheVariants.{Store, View, Scan}
 
--- the steps that are kept; steps behind the choice's end are kept too
+-- the steps that are kept; steps after the end of the choices are kept too
 abbrev pub chosen : List Bool → List Step → List Step
 chosen bs [] = []
 chosen [] (s ∷ ss) = s ∷ chosen [] ss
@@ -27,7 +27,7 @@ IsScan (Store v) = ⊥
 IsScan View = ⊥
 IsScan (Scan tries) = ⊤
 
--- none but scans are left out
+-- only scans are left out
 abbrev pub LeavesScans : List Bool → List Step → Type 0
 LeavesScans bs [] = ⊤
 LeavesScans [] (s ∷ ss) = ⊤
@@ -38,7 +38,7 @@ one_view (Store v) = 0
 one_view View = 1
 one_view (Scan tries) = 0
 
--- how many collects a script has
+-- the number of collects of a script
 abbrev pub views_in : List Step → ℕ
 views_in steps = total one_view steps
 
@@ -47,7 +47,7 @@ one_scan (Store v) = 0
 one_scan View = 0
 one_scan (Scan tries) = 1
 
--- how many scans a script has
+-- the number of scans of a script
 abbrev pub scans_in : List Step → ℕ
 scans_in steps = total one_scan steps
 
@@ -56,10 +56,10 @@ one_store (Store v) = 1
 one_store View = 0
 one_store (Scan tries) = 0
 
--- how many stores a script has
+-- the number of stores of a script
 abbrev pub stores_in : List Step → ℕ
 stores_in steps = total one_store steps
 
--- how many stores the other scripts have
+-- the number of stores of the other scripts
 abbrev pub stores_but : ℕ → List (List Step) → ℕ
 stores_but w scripts = total (λ v. cond (v == w) 0 (stores_in (slice_index_or scripts v []))) (falling (length scripts))

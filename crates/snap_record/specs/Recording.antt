@@ -11,7 +11,8 @@ use Rattle.snap_core.specs.Calls.{calls_of}
 use Rattle.snap_core.specs.Orders.{IsAtomic}
 use Rattle.snap_board.specs.Scans.{scan_history}
 
--- the events are the begins and ends of the records of a closed board whose desks did these scripts, in the order of their ticks, and the stamps are these ticks
+-- The events are the begins and ends of the records of a closed board whose desks did these scripts, in the order of their ticks.
+-- The stamps are these ticks.
 pub record AreStamped (scripts : List (List Step)) (history : List Event) (stamps : List ℕ) : Type 0 where
   pub accounts : List Account
   pub closed : Settled (length scripts) accounts
@@ -19,9 +20,9 @@ pub record AreStamped (scripts : List (List Step)) (history : List Event) (stamp
   pub calls : (a : Account) → Mem a accounts → AreCallsOf (slice_index_or scripts a.desk []) a.calls
   -- each tick of the board, from 0 on, is a begin, a middle tick or an end of exactly one of these calls
   pub ticks : TicksSettled accounts
-  -- what holds of scans: each shows the board as it was at its last middle tick
+  -- what is true of scans: each shows the board as it was at its last middle tick
   pub scans : ScansSettled accounts
-  -- each scan that was left out had as many stores of other desks beside it as it has tries
+  -- at least as many stores of other desks overlap a scan that was left out as it has tries
   pub interfered : WereInterfered accounts
   -- the stores and scans alone are atomic
   pub atomic : IsAtomic (calls_of (scan_history accounts))
@@ -30,6 +31,6 @@ pub record AreStamped (scripts : List (List Step)) (history : List Event) (stamp
   pub events_are : history ≡ events_in timeline
   pub stamps_are : stamps ≡ event_stamps timeline
 
--- the number at each place is that of the place: 0, 1, 2 and so on
+-- the stamp at each place is the place: 0, 1, 2 and so on
 abbrev pub ArePlaces : List ℕ → Type 0
 ArePlaces stamps = (k : ℕ) → k < length stamps → slice_index stamps k ≡ k

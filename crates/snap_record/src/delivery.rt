@@ -4,23 +4,23 @@ use crossbeam_queue::{RuledSegQueue, SegPass};
 use snap_board::Record;
 use std::collections::LinkedList;
 
-/// A sender that was taken in again: its place, and what it sent. No value of it is made.
+/// A sender that was taken in again: its place, and what it sent. No program makes a value of this type.
 pub(crate) struct Ended {
     pub place: u64,
     pub sent: LinkedList<Record>,
 }
 
-/// What a pass knows. No value of it is made.
+/// What a pass knows. No program makes a value of this type.
 pub(crate) enum Role {
     /// A sender: its place, and what it sent.
     Sends(u64, LinkedList<Record>),
-    /// The taker: what it took, how many senders it made, and those that it took in again.
+    /// The taker: what it took, the number of senders that it made, and those that it took in again.
     Takes(LinkedList<Record>, u64, LinkedList<Ended>),
     /// A pass that was taken in.
     Spent,
 }
 
-/// What holds between any two steps on the queue.
+/// What is true between any two steps on the queue.
 pub(crate) struct InOrder;
 
 impl Protocol<Record, Role> for InOrder {
@@ -64,7 +64,7 @@ impl Outcome<Record, Role> for PushRecord {
     ghost then = { λ v x w. w ≡ after_push v x };
 }
 
-/// The record at the front leaves to the taker.
+/// The taker takes the record at the front.
 pub(crate) struct PopRecord;
 
 impl Outcome<Record, Role> for PopRecord {
@@ -80,7 +80,7 @@ impl Lesson<Record, Role> for PopRecord {
     ghost fact = { λ v items. ⊤ };
 }
 
-/// The taker learns what stands in the queue, beside what it took and what the senders sent.
+/// The taker learns what is in the queue, from what it took and what the senders sent.
 pub(crate) struct SumUp;
 
 impl Lesson<Record, Role> for SumUp {

@@ -1,4 +1,4 @@
-//! A recorder of what several threads did on a board, and a relay that carries the records of several threads to one.
+//! A recorder of what several threads do on a board, and a relay that carries the records of several threads to one.
 #![tactic(auto)]
 
 mod delivery;

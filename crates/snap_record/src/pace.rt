@@ -3,22 +3,23 @@ use snap_core::Gate;
 use std::sync::atomic::{AtomicU64, Ordering};
 use std::thread;
 
-/// How many steps a worker makes between two meetings.
+/// The number of steps that a worker makes between two meetings.
 const STRIDE: u32 = 16;
 
-/// How often a worker looks whether the others have come, before it goes on without them.
+/// How often a worker looks for the others before it goes on without them.
 const LOOKS: u32 = 100_000;
 
 /// How often it looks before it gives up its turn.
 const LOOKS_IN_A_TURN: u32 = 1_000;
 
-/// How many waits may be in vain, one after the other, before no worker waits.
+/// The number of vain waits in a row after which no worker waits.
 const WAITS_IN_VAIN: u64 = 64;
 
-/// A gate at which workers keep pace, so that their calls overlap: they meet before their first step, and again after each
-/// so many. A worker gives up its turn while it waits. Each wait is bounded, so that the run goes on where a worker can't be
-/// started. After so many waits in vain nobody waits, until some worker comes to a meeting as its last: so a worker that
-/// never comes costs no more than these, and one that is late is waited for again.
+/// A gate at which workers keep pace, so that their calls overlap. They meet before their first step, and again after every 16
+/// steps. A worker gives up its turn while it waits. Each wait is bounded, so that the run goes on if a worker can't be started.
+///
+/// After 64 vain waits in a row no worker waits, until the last worker comes to a meeting. So a worker that never comes costs no
+/// more than these waits, and the others wait again for one that is late.
 #[derive(Drop)]
 pub struct Pace {
     workers: u64,
@@ -27,7 +28,7 @@ pub struct Pace {
 }
 
 impl Pace {
-    /// A gate for so many workers, none of whom has come.
+    /// A gate for `workers` workers, none of whom has come.
     pub fn of(workers: u32) -> Pace {
         Pace {
             workers: u64::from(workers),
@@ -36,12 +37,12 @@ impl Pace {
         }
     }
 
-    // Whether so many have come in all.
+    // Whether workers have come at least `least` times in all.
     fn have_come(&self, least: u64) -> bool {
         self.came.load(Ordering::SeqCst) >= least
     }
 
-    // Waits until so many have come in all, and answers whether they have.
+    // Waits until workers have come `least` times in all, and answers whether they have.
     fn wait_for(&self, least: u64) -> bool {
         for look in 0..LOOKS {
             if self.have_come(least) {
@@ -54,7 +55,7 @@ impl Pace {
         false
     }
 
-    // The meeting to which so many come in all, those of earlier meetings counted.
+    // The meeting that is complete when workers have come `least` times in all, earlier meetings included.
     fn meet(&self, least: u64) {
         if self.have_come(least) {
             self.in_vain.store(0, Ordering::SeqCst);

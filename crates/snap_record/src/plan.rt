@@ -10,28 +10,28 @@ use snap_core::{EVENT_LIMIT, Limit};
 use std::alloc::{AllocError, Global};
 use std::marker::Model;
 
-/// How many workers a plan has at least.
+/// The least number of workers of a plan.
 pub const LEAST_WORKERS: u32 = 2;
 
-/// How many workers a plan has at most: each has a desk of the board.
+/// The greatest number of workers of a plan: each has a desk of the board.
 pub const WORKER_LIMIT: u32 = DESK_LIMIT as u32;
 
-/// How many tries a plan's scan has at most.
+/// The greatest number of tries of a plan's scan.
 pub const TRY_LIMIT: u32 = 1024;
 
-/// How many ticks a script may draw for each event that a plan may have.
+/// The number of ticks that a script may draw for each event of the plan's limit.
 const TICKS_AN_EVENT: u32 = TICK_LIMIT / EVENT_LIMIT as u32;
 
-/// How many events a round may have: those of two calls of each worker.
+/// The greatest number of events of a round: those of two calls of each worker.
 const ROUND_EVENTS: usize = 4 * DESK_LIMIT;
 
-/// How many rounds `rounds_plan` gives a worker at most.
+/// The greatest number of rounds of `rounds_plan`.
 pub const ROUND_LIMIT: u32 = (EVENT_LIMIT / ROUND_EVENTS) as u32;
 
-/// How many tries the scans of `rounds_plan` have.
+/// The number of tries of each scan of `rounds_plan`.
 const ROUND_TRIES: u32 = 64;
 
-/// The values that `rounds_plan` gives worker w begin behind w times this.
+/// The values that `rounds_plan` gives worker w begin after w times this.
 const VALUES_EACH: u32 = 65_536;
 
 /// One step of a worker's script.
@@ -41,7 +41,7 @@ pub enum Step {
     Store(u32),
     /// A collect.
     View,
-    /// A scan with so many tries.
+    /// A scan with this number of tries.
     Scan(u32),
 }
 
@@ -50,8 +50,8 @@ pub enum Step {
 pub enum PlanRefusal {
     /// There are not `LEAST_WORKERS` to `WORKER_LIMIT` lists.
     Workers,
-    /// The steps have more events than there may be, two for each step; or a script could draw more ticks than a desk may;
-    /// or a scan has not 1 to `TRY_LIMIT` tries; or there may not be so many rounds.
+    /// The steps have more events than the limit, two for each step. Or a script could draw more ticks than a desk may. Or a scan
+    /// does not have 1 to `TRY_LIMIT` tries. Or the number of rounds is 0 or too large.
     TooLong,
     /// Memory ran out.
     Memory,
@@ -75,7 +75,7 @@ impl Model for Plan {
     ghost invariant = { λ p. plan_refusal p.limit.events (ticks_within p.limit.events) (lists_of p.scripts.items) ≡ None };
 }
 
-// How many ticks a script may draw, where the scripts may have so many events together.
+// The number of ticks that a script may draw, by the limit of events of all scripts together.
 fn ticks_within(limit: Limit) -> TickLimit
     ensures { result.ticks ≡ ticks_within limit.events }
 {
@@ -85,14 +85,14 @@ fn ticks_within(limit: Limit) -> TickLimit
     ticks
 }
 
-// Whether a plan may have so many workers.
+// Whether a plan may have `count` workers.
 fn are_workers(count: usize) -> bool
     ensures { result ≡ are_workers count }
 {
     LEAST_WORKERS as usize <= count && count <= WORKER_LIMIT as usize
 }
 
-// Whether the scripts have together no more events than they may.
+// Whether the scripts together have no more events than the limit.
 fn are_short(scripts: &[Vec<Step>], limit: Limit) -> bool
     ensures { result ≡ nat_le (2 * steps_in (lists_of scripts.now)) limit.events }
 {
@@ -107,7 +107,7 @@ fn are_short(scripts: &[Vec<Step>], limit: Limit) -> bool
     true
 }
 
-// Whether the steps of a script draw no more than so many ticks, and its scans have 1 to `TRY_LIMIT` tries.
+// Whether the steps of a script draw at most `most` ticks, and its scans have 1 to `TRY_LIMIT` tries.
 fn draws_within(steps: &[Step], most: u32) -> bool
     ensures { result ≡ draws_within most steps.now }
 {
@@ -130,7 +130,7 @@ fn draws_within(steps: &[Step], most: u32) -> bool
     true
 }
 
-// Whether each script draws no more than so many ticks, and its scans have 1 to `TRY_LIMIT` tries.
+// Whether each script draws at most `most` ticks, and its scans have 1 to `TRY_LIMIT` tries.
 fn each_draws(scripts: &[Vec<Step>], most: u32) -> bool
     ensures { result ≡ each_draws most (lists_of scripts.now) }
 {
@@ -143,8 +143,8 @@ fn each_draws(scripts: &[Vec<Step>], most: u32) -> bool
 }
 
 impl Plan {
-    /// The plan of these scripts, the list at place w being worker w's. Together they have up to `EVENT_LIMIT` events, two
-    /// for each step, and each list draws up to `TICK_LIMIT` ticks. After a refusal the lists are dropped.
+    /// The plan of these scripts. The list at place w is worker w's. Together they have up to `EVENT_LIMIT` events, two for each
+    /// step, and each list draws up to `TICK_LIMIT` ticks. After a refusal the lists are dropped.
     pub fn new(scripts: Vec<Vec<Step>>) -> Result<Plan, PlanRefusal>
         ensures ok { IfOk result (λ plan. plan ≡ record { scripts = lists_of scripts.items; limit = event_limit }) }
         ensures accepted { OnOk result (plan_refusal event_limit tick_limit (lists_of scripts.items) ≡ None) }
@@ -169,7 +169,7 @@ impl Plan {
         Ok(Plan { scripts, limit })
     }
 
-    // How many events the recording may have.
+    // The limit of the recording's events.
     pub(crate) fn limit(&self) -> Limit
         ensures limit { result.events ≡ self.now.limit }
         ensures short { 2 * steps_in self.now.scripts ≤ self.now.limit }
@@ -177,14 +177,13 @@ impl Plan {
         self.limit
     }
 
-    // How many ticks each worker may draw.
+    // The number of ticks that each worker may draw.
     pub(crate) fn ticks(&self) -> TickLimit
         ensures { result.ticks ≡ ticks_within self.now.limit }
     {
         ticks_within(self.limit)
     }
 
-    // How many workers the plan has.
     pub(crate) fn workers(&self) -> u8
         ensures workers { result ≡ length self.now.scripts }
         ensures range { AreWorkers result }
@@ -193,7 +192,6 @@ impl Plan {
         self.scripts.len() as u8
     }
 
-    // The script of a worker.
     pub(crate) fn script(&self, worker: u16) -> &[Step]
         requires { worker < length self.now.scripts }
         ensures script { result.now ≡ slice_index_or self.now.scripts worker [] }
@@ -204,7 +202,7 @@ impl Plan {
     }
 }
 
-// What a worker does in so many rounds: a store and a collect or a scan in each.
+// What a worker does in `rounds` rounds: a store and a collect or a scan in each.
 fn round_steps(alloc: Global, worker: u32, rounds: u32, scan: bool) -> Result<Vec<Step>, AllocError>
     requires { (worker < worker_limit) × (rounds ≤ values_each) }
     ensures { IfOk result (λ steps. steps.items ≡ round_script scan worker rounds) }
@@ -221,14 +219,14 @@ fn round_steps(alloc: Global, worker: u32, rounds: u32, scan: bool) -> Result<Ve
     Ok(steps)
 }
 
-// Whether there may be so many rounds.
+// Whether there may be `rounds` rounds.
 fn are_rounds(rounds: u32, limit: Limit) -> bool
     ensures { IsTrue result ↔ AreRoundsWithin limit.events rounds }
 {
     0 < rounds && ROUND_EVENTS * rounds as usize <= limit.events()
 }
 
-// The scripts of so many workers in so many rounds.
+// The scripts of `workers` workers in `rounds` rounds.
 fn round_lists(
     alloc: Global,
     workers: u32,
@@ -245,8 +243,8 @@ fn round_lists(
     Ok(lists)
 }
 
-/// The plan of `LEAST_WORKERS` to `WORKER_LIMIT` workers in 1 to `ROUND_LIMIT` rounds, in each of which a worker makes two
-/// calls. In round i, counted from 1, worker w stores w * 65,536 + i and then collects, or scans with 64 tries.
+/// The plan of `LEAST_WORKERS` to `WORKER_LIMIT` workers in 1 to `ROUND_LIMIT` rounds. In each round a worker makes two calls. In
+/// round i, counted from 1, worker w stores w * 65,536 + i and then collects, or scans with 64 tries.
 pub fn rounds_plan(
     alloc: Global,
     workers: u32,
@@ -260,8 +258,8 @@ pub fn rounds_plan(
     rounds_plan_within(alloc, workers, rounds, scan, Limit::usual())
 }
 
-/// A plan as `rounds_plan` gives it, with another limit of events. There may be as many rounds as eight workers have in so
-/// many events: a 32nd of them.
+/// A plan as `rounds_plan` gives it, with another limit of events. It may have a 32nd as many rounds as events: the number that
+/// fits eight workers.
 pub fn rounds_plan_within(
     alloc: Global,
     workers: u32,

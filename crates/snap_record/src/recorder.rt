@@ -27,8 +27,8 @@ use std::alloc::{AllocError, Global};
 use std::sync::Wait;
 use std::thread::Threads;
 
-/// A history that was recorded, how many scans without a record were left out of it, and for each of its events the stamp
-/// that the board gave it.
+/// A recorded history, the number of scans that were left out because they have no record, and the stamps. The board gave each
+/// event of the history its stamp.
 #[derive(Drop)]
 pub struct Recording {
     pub history: History,
@@ -54,7 +54,7 @@ impl From<AllocError> for RecordRefusal {
     }
 }
 
-// A worker for each sender, the last sender's first, each at the highest desk that is in.
+// A worker for each sender, the last sender's first, each with the highest desk that is in.
 fn workers_of(
     alloc: Global,
     recorder: &Recorder,
@@ -78,8 +78,8 @@ fn workers_of(
     Ok(all)
 }
 
-// A board with pauses and a relay for this many workers, who may draw this many ticks each, the board's gathered desks, which
-// are none, a worker for each desk, the highest first, and the relay's taker.
+// A board with pauses and a relay for this many workers, each of whom may draw this many ticks. With them come the board's gathered
+// desks, of which none is left, a worker for each desk, the highest first, and the relay's taker.
 fn start_workers<R: Wait>(
     rt: &R,
     alloc: Global,
@@ -128,7 +128,7 @@ fn run_first<R: Wait, G: Gate>(
     (ran, taken)
 }
 
-// The workers that ran, one behind the others, and what was taken, unless memory was refused.
+// The workers that ran, one list after the other, and what was taken, unless memory was refused.
 fn all_done(
     others: Result<Vec<Ran>, AllocError>,
     own: Ran,
@@ -142,8 +142,7 @@ fn all_done(
     Ok((all, taken?))
 }
 
-// Runs the scripts of all workers at the same time, that of worker 0 on the calling thread, which then takes records until
-// none comes.
+// Runs the scripts of all workers at the same time. That of worker 0 runs on the calling thread, which then takes records until none comes.
 fn run_all<R: Threads + Wait + Sync, G: Gate>(
     rt: &R,
     alloc: Global,
@@ -183,8 +182,8 @@ fn run_all<R: Threads + Wait + Sync, G: Gate>(
     all_done(others, own, taken)
 }
 
-// All desks come in, and the board is closed. Gives the relay and its senders, the lowest first, and how many scans have
-// no record.
+// Gives all desks back, and closes the board. Answers the relay and its senders, the lowest first, and the number of scans without
+// a record.
 fn close_all(
     alloc: Global,
     recorder: Recorder,
@@ -216,7 +215,7 @@ fn close_all(
     Ok((relay, senders, interfered))
 }
 
-// Runs a plan on a new board, and gives the records of all its calls, and how many scans have none.
+// Runs a plan on a new board. Answers the records of all its calls, and the number of scans without a record.
 fn run_plan<R: Threads + Wait + Sync, G: Gate>(
     rt: &R,
     alloc: Global,
@@ -239,19 +238,21 @@ fn run_plan<R: Threads + Wait + Sync, G: Gate>(
     Ok((all, interfered))
 }
 
-/// Records what the workers of a plan do on a board with a desk for each, each the script of its number. Worker 0 runs on
-/// the calling thread, and so does each other that no thread can be started for. A worker gives up its turn within a collect,
-/// and within some stores, so that calls overlap. The gate is called as `at(w, t)` when t of worker w's calls have answered, for t
-/// from 0 to the script's length. A worker in which memory is refused ends its script there, and the answer is then
-/// `Memory`. The records come to the calling thread through a relay, so the call may wait for the relay's queue, as it
-/// waits for the workers.
+/// Records what the workers of a plan do on a board with a desk for each. Each does the script of its number. Worker 0 runs on the
+/// calling thread, and so does each other worker for which no thread can be started. A worker gives up its turn within a collect,
+/// and within some stores, so that calls overlap.
 ///
-/// The history is regular and monotone and has no pending call. Its stores and scans alone are atomic, so it is atomic where
-/// no script has a collect. Worker w is process w in it, with the calls of its script in their order, each once, and there is
-/// no other call; but scans that were interfered with are left out, as many in all as `interfered` says. The stamps are the board's: for each event that of
-/// its record's begin or end, strictly rising. Each tick of the board's clock, from 0 on, is a begin, a middle tick or an
-/// end of exactly one call of the scripts, scans that were left out among them. So each try of a scan leaves a gap, and
-/// where no script has a scan the stamps are 0, 1, 2 and so on. The history's limit of events is the plan's.
+/// The gate is called as `at(w, t)` when t of worker w's calls have answered, for t from 0 to the script's length. If memory is
+/// refused in a worker, it ends its script there, and the answer is then `Memory`. The records come to the calling thread through a
+/// relay. So the call may wait for the relay's queue, as it waits for the workers.
+///
+/// The history is regular and monotone and has no pending call. Its stores and scans alone are atomic, so it is atomic if no script
+/// has a collect. Worker w is process w in it, with the calls of its script in their order, each once. There is no other call. But
+/// interfered scans are left out, and `interfered` is their number. The history's limit of events is the plan's.
+///
+/// The stamps are the board's: the stamp of each event is that of its record's begin or end, and they rise strictly. Each tick of
+/// the board's clock, from 0 on, is a begin, a middle tick or an end of exactly one call of the scripts. Scans that were left out
+/// are among these calls. So each try of a scan leaves a gap. If no script has a scan, the stamps are 0, 1, 2 and so on.
 pub fn record_plan<R: Threads + Wait + Sync, G: Gate>(
     rt: &R,
     alloc: Global,

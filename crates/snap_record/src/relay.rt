@@ -14,7 +14,7 @@ use std::alloc::{AllocError, Global};
 use std::marker::Model;
 use std::sync::Wait;
 
-/// How many records a sender sends at most, and the taker takes.
+/// The greatest number of records that a sender sends, and that the taker takes.
 const RECORD_LIMIT: u64 = 1 << 62;
 
 /// A queue that carries the records of several workers to one taker.
@@ -38,7 +38,7 @@ impl Drop for Relay {
     }
 }
 
-/// The end of the worker at one place. It sends the records of the process of that number.
+/// The end of the worker of one place. It sends the records of the process of that number.
 #[derive(Drop)]
 pub struct Sender {
     pass: Pass,
@@ -65,7 +65,7 @@ impl Sender {
         self.place
     }
 
-    // How many records it sent.
+    // The number of records that it sent.
     fn count(&self) -> u64
         ensures { result ≡ length self.now.sent }
     {
@@ -95,7 +95,7 @@ impl Model for Taker {
 }
 
 impl Taker {
-    // How many records it took.
+    // The number of records that it took.
     pub(crate) fn count(&self) -> u64
         ensures { result ≡ length self.now.taken }
     {
@@ -103,7 +103,7 @@ impl Taker {
     }
 }
 
-// A sender for each place below `workers`, made by the taker's pass.
+// A sender for each place below `workers`, which the taker's pass makes.
 fn make_senders(
     alloc: Global,
     queue: &Queue,
@@ -127,8 +127,8 @@ fn make_senders(
 }
 
 impl Relay {
-    /// A relay of 1 to `WORKER_LIMIT` workers, with a sender for each, the one at place w being worker w's, and with a
-    /// taker. The queue is empty, and nothing was sent or taken.
+    /// A relay of 1 to `WORKER_LIMIT` workers, with a sender for each and with a taker. The sender at place w is worker w's. The
+    /// queue is empty, and nothing was sent or taken.
     pub fn start<R: Wait>(
         _rt: &R,
         alloc: Global,
@@ -150,15 +150,15 @@ impl Relay {
         Ok((relay, senders, taker))
     }
 
-    /// How many workers it was started for.
+    /// The number of workers that it was started for.
     pub(crate) fn workers(&self) -> u8
         ensures { result ≡ self.now.workers }
     {
         self.workers
     }
 
-    /// Puts a record of the sender's worker last into the queue. Where memory runs out, or after 2^62 records of the sender,
-    /// the record comes back, and the queue and the sender are unchanged.
+    /// Puts a record of the sender's worker at the end of the queue. If memory runs out, or after 2^62 records of the sender, the
+    /// record comes back. Then the queue and the sender are unchanged.
     pub fn send<R: Wait>(
         &self,
         rt: &R,
@@ -179,8 +179,8 @@ impl Relay {
         Ok(())
     }
 
-    /// Takes the first record of the queue. Where there is none the queue and the taker are unchanged: it may be so though
-    /// senders have more to send. After 2^62 records, more than the queue carries, it takes none.
+    /// Takes the first record of the queue. If there is none, the queue and the taker are unchanged, but senders may have more to
+    /// send. After 2^62 records, more than the queue carries, it takes none.
     pub fn next<R: Wait>(&self, rt: &R, taker: &mut Taker) -> Option<Record>
         requires { IsTakerOf self.now taker.old }
         ensures { MatchOption result (taker.new ≡ taker.old) (λ call. taker.new ≡ taken_more taker.old call) }
@@ -193,8 +193,8 @@ impl Relay {
         Some(call)
     }
 
-    /// Ends the relay where all its senders are there and as many records were taken as they sent. The taken records of each
-    /// worker are then those that it sent, in its order, each once, and there are no others. Otherwise the relay, the
+    /// Ends the relay if all its senders are there and the number of taken records is the number that they sent. The taken records
+    /// of each worker are then those that it sent, in its order, each once, and there are no others. Otherwise the relay, the
     /// senders and the taker come back unchanged.
     pub fn finish<R: Wait>(
         self,
@@ -216,7 +216,7 @@ impl Relay {
     }
 }
 
-// How many records the first sender at the place sent.
+// The number of records that the first sender of the place sent, or nothing if there is no such sender.
 fn count_at(senders: &[Sender], place: u8) -> Option<u64>
     ensures { result ≡ option_map (λ s. length s.sent) (sender_at senders.now place) }
 {
@@ -226,8 +226,8 @@ fn count_at(senders: &[Sender], place: u8) -> Option<u64>
         .map(|sender| sender.count())
 }
 
-// How many records the senders at the places below `workers` sent, or nothing where one of these is missing. The sum
-// may be beyond a u64.
+// The number of records that the senders of the places below `workers` sent, or nothing if one of these is missing. The sum may
+// exceed a u64.
 pub(crate) fn count_all(workers: u8, senders: &[Sender]) -> Option<u128>
     ensures { MatchOption result (¬ HasPlaces senders.now workers) (λ n. HasPlaces senders.now workers × (n ≡ count_sent senders.now workers)) }
 {

@@ -15,7 +15,7 @@ pub(crate) struct Taken {
     pub(crate) records: Vec<Record>,
 }
 
-// Takes one record, and tells whether there was one.
+// Takes one record, and answers whether there was one.
 fn take_one<R: Wait>(rt: &R, relay: &Relay, taken: &mut Taken) -> Result<bool, AllocError>
     requires { IsTakenOf relay.now taken.old }
     ensures { OnOk result (IsTakenOf relay.now taken.new) }
@@ -49,7 +49,7 @@ pub(crate) fn take_some<R: Wait>(
     Ok(taken)
 }
 
-// Takes records until there are so many.
+// Takes records until there are `count` in all.
 fn take_until<R: Wait>(
     rt: &R,
     relay: &Relay,
@@ -69,8 +69,8 @@ fn take_until<R: Wait>(
     unreachable!()
 }
 
-/// Takes what the workers sent and is not yet taken, and ends the relay. An answer of `next` that there is nothing would
-/// tell nothing of what they sent, so it goes by their counts.
+/// Takes what the workers sent and is not yet taken, and ends the relay. An empty answer of `next` does not show that all records
+/// were taken. So this goes by the senders' counts.
 pub(crate) fn take_all<R: Wait>(
     rt: &R,
     relay: Relay,

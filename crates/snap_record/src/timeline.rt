@@ -59,7 +59,6 @@ pub(crate) fn in_order(alloc: Global, all: Vec<Record>) -> Result<Vec<(u64, Even
     Ok(events)
 }
 
-/// The stamps of these events.
 pub(crate) fn stamps_of(alloc: Global, events: &[(u64, Event)]) -> Result<Vec<u64>, AllocError>
     ensures { IfOk result (λ stamps. stamps.items ≡ event_stamps events.now) }
 {
@@ -70,7 +69,7 @@ pub(crate) fn stamps_of(alloc: Global, events: &[(u64, Event)]) -> Result<Vec<u6
     Ok(stamps)
 }
 
-/// The history of these events, which may have so many.
+/// The history of these events, by a limit of events.
 pub(crate) fn history_of(
     alloc: Global,
     events: Vec<(u64, Event)>,

@@ -16,7 +16,7 @@ use snap_core::Gate;
 use std::alloc::{AllocError, Global};
 use std::sync::Wait;
 
-/// A board, and the relay for the records of what is done on it.
+/// A board, and the relay for the records of the calls on it.
 #[derive(Drop)]
 pub(crate) struct Recorder {
     pub(crate) board: Board,
@@ -30,7 +30,7 @@ pub(crate) struct Worker {
     pub(crate) sender: Sender,
 }
 
-/// A worker after its script, and how many of its scans have no record, or that memory was refused in it.
+/// A worker after its script, and the number of its scans without a record, or that memory was refused.
 #[derive(Drop)]
 pub(crate) struct Ran {
     pub(crate) worker: Worker,
@@ -75,8 +75,8 @@ fn run_step(
     }
 }
 
-// Makes the calls of a script one after the other, and sends the record of each when it has answered, until memory is
-// refused. Answers how many scans have no record. The gate is called before each step and at the end.
+// Makes the calls of a script in order, and sends the record of each when it has answered, until memory is refused. Answers the
+// number of scans without a record. The gate is called before each step and at the end.
 fn run_steps<R: Wait, G: Gate>(
     rt: &R,
     alloc: Global,
@@ -112,7 +112,7 @@ fn run_steps<R: Wait, G: Gate>(
     Ok(interfered)
 }
 
-/// Runs the script of a worker's number on its desk, and sends the records of its calls.
+/// Runs the script of the worker's number on its desk, and sends the records of its calls.
 pub(crate) fn run_script<R: Wait, G: Gate>(
     rt: &R,
     alloc: Global,

@@ -1,4 +1,4 @@
--- The lines of a history that is not atomic: one for each kind of fault that it has, with the number of its faults and the
+-- The lines of a history that is not atomic: one for each kind of fault that it has. It has the number of these faults and the
 -- first of them.
 use Rattle.std.specs.Prelude.{ℕ, List, [], ◌∷◌, ◌++◌, Option, Some, None, codes, decimal}
 use Rattle.snap_conditions.specs.declared.fault.IntegrityFault.{IntegrityFault}
@@ -41,7 +41,7 @@ abbrev pub line_of_first : {F : Type 0} → (F → Line) → Option F → List L
 line_of_first line None = []
 line_of_first line (Some fault) = line fault ∷ []
 
--- the line of one kind, where it has faults
+-- the line of one kind, if it has faults
 abbrev pub part_lines : {F : Type 0} → (ℕ → F → Line) → PartValue F → List Line
 part_lines line part = line_of_first (line part.count) part.first
 

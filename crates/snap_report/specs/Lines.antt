@@ -9,7 +9,7 @@ Word = List ℕ
 abbrev pub Line : Type 0
 Line = List Word
 
--- the words with one space between two, and a newline
+-- the words with one space between two of them, and a newline
 abbrev pub line_text : Line → List ℕ
 line_text words = join_by (λ word. word) (codes " ") words ++ codes "\n"
 

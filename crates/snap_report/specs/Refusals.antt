@@ -1,4 +1,4 @@
--- The line of a text that is no history.
+-- The line of a text that is not a history.
 use Rattle.std.specs.Prelude.{ℕ, [], ◌∷◌, ◌++◌, codes, decimal}
 use Rattle.snap_text.specs.declared.fault.TextFault.{TextFault}
 use Rattle.snap_text.specs.Words.{word_of}

@@ -31,12 +31,11 @@ call_line c = call_word c.number ∷ process_word c.process ∷ operation_words 
 abbrev pub order_lines : List Call → List Line
 order_lines order = (codes "order" ∷ decimal (length order) ∷ []) ∷ map call_line order
 
--- the three verdicts
 abbrev pub verdict_lines : Bool → Bool → Bool → List Line
 verdict_lines regular monotone atomic =
     verdict_line (codes "regular") regular ∷ verdict_line (codes "monotone") monotone ∷ verdict_line (codes "atomic") atomic ∷ []
 
--- the numbers of the history, the three verdicts, and what they stand on
+-- the counts of the history, the three verdicts, and what they rest on
 abbrev pub report_lines : List Event → Bool → Bool → Bool → List Line → List Line
 report_lines events regular monotone atomic findings = count_line events ∷ verdict_lines regular monotone atomic ++ findings
 
@@ -56,6 +55,6 @@ abbrev pub finding_lines : Tally → Option (List Call) → List Line
 finding_lines t (Some order) = order_lines order
 finding_lines t None = fault_lines t
 
--- the report of a history by a tally of its faults, and by an order of its calls where there is one
+-- the report of a history by a tally of its faults, and by an order of its calls if there is one
 abbrev pub report_text : List Event → Tally → Option (List Call) → List ℕ
 report_text events t order = text_of (report_lines events (has_no_local_fault t) (has_no_stale_view t) (has_no_fault t) (finding_lines t order))

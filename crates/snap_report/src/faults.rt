@@ -7,7 +7,7 @@ use crate::words::{put_call, put_entry, put_number, put_update};
 use snap_conditions::{IntegrityFault, Part, ProximityFault, ReadFault, Side, Tally, WriteFault};
 use std::alloc::AllocError;
 
-// A fault that has a line, which begins with how many faults of its kind there are.
+// A fault that has a line, which begins with the number of faults of its kind.
 trait Reported: Copy {
     ghost line: { ℕ → Self → Line };
 
@@ -15,7 +15,7 @@ trait Reported: Copy {
         ensures { OnOk result (out.new.items ≡ out.old.items ++ line_text (line count self.now)) };
 }
 
-// Adds how many faults there are of a kind, and the view of the first.
+// Adds the number of faults of a kind, and the view of the first.
 fn put_first(out: &mut Vec<u8>, kind: &[u8], count: u64, view: u32) -> Result<(), AllocError>
     ensures { OnOk result (out.new.items ≡ out.old.items ++ kind.now ++ decimal count ++ codes " first view " ++ call_word view) }
 {
@@ -23,7 +23,7 @@ fn put_first(out: &mut Vec<u8>, kind: &[u8], count: u64, view: u32) -> Result<()
     put_call(out, b" first view ", view)
 }
 
-// Adds the other view of a read fault, and of which component the first shows more.
+// Adds the other view of a read fault, and the component of which the first view shows more.
 fn put_other(out: &mut Vec<u8>, fault: &ReadFault) -> Result<(), AllocError>
     ensures { OnOk result (out.new.items ≡ out.old.items ++ codes " view " ++ call_word fault.now.other ++ codes " component " ++ decimal fault.now.component) }
 {
@@ -31,7 +31,7 @@ fn put_other(out: &mut Vec<u8>, fault: &ReadFault) -> Result<(), AllocError>
     put_number(out, b" component ", u64::from(fault.component))
 }
 
-// Adds the update that is missed, and the one that is shown and comes after it.
+// Adds the update that is missed, and the later one that is shown.
 fn put_missed(out: &mut Vec<u8>, fault: &WriteFault) -> Result<(), AllocError>
     ensures { OnOk result (out.new.items ≡ out.old.items ++ codes " misses " ++ update_word fault.now.missed_component fault.now.missed_number
         ++ codes " shows " ++ update_word fault.now.shown_component fault.now.shown_number) }
@@ -88,7 +88,7 @@ impl Reported for WriteFault {
     }
 }
 
-// Adds the line of one kind of fault, where there are such faults.
+// Adds the line of one kind of fault, if there are such faults.
 fn put_part<F: Reported>(out: &mut Vec<u8>, part: &Part<F>) -> Result<(), AllocError>
     ensures { OnOk result (out.new.items ≡ out.old.items ++ text_of (part_lines F.line part.now)) }
 {

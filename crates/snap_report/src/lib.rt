@@ -1,4 +1,4 @@
-//! The text of a report: lines of words, with the numbers of a history, the verdicts, and an order or the faults.
+//! The text of a report: lines of words, with the counts of a history, the verdicts, and an order or the faults.
 #![tactic(auto)]
 
 mod faults;

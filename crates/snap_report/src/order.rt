@@ -15,7 +15,7 @@ use snap_index::{CallOp, Index};
 use std::alloc::{AllocError, Global};
 use std::thread::Threads;
 
-// So many lines are worth a thread of their own: fewer are written in less time than its start takes.
+// This many lines are worth a thread of their own: fewer are written in less time than a thread takes to start.
 const LINES_A_THREAD: usize = 16_384;
 
 // What a completed view shows.
@@ -30,7 +30,6 @@ fn shown<'i>(index: &'i Index<'_>, call: u32) -> &'i [Entry]
     view.entries()
 }
 
-// Adds the line of a call.
 fn put_call_line(
     out: &mut Vec<u8>,
     known: &mut Vec<Group>,
@@ -49,7 +48,7 @@ fn put_call_line(
     }
 }
 
-// Adds the lines of calls, which are given by their numbers.
+// Adds the lines of the calls with these numbers.
 fn put_lines(out: &mut Vec<u8>, index: &Index<'_>, numbers: &[u32]) -> Result<(), AllocError>
     requires { All (HasLine (calls_of index.now)) numbers.now }
     ensures { OnOk result (out.new.items ≡ out.old.items ++ lines_text (calls_of index.now) numbers.now) }
@@ -61,7 +60,6 @@ fn put_lines(out: &mut Vec<u8>, index: &Index<'_>, numbers: &[u32]) -> Result<()
     Ok(())
 }
 
-// The lines of a block of calls.
 fn lines_of(alloc: Global, index: &Index<'_>, numbers: &[u32]) -> Result<Vec<u8>, AllocError>
     requires { All (HasLine (calls_of index.now)) numbers.now }
     ensures { IsTextOf (calls_of index.now) numbers.now result }
@@ -71,7 +69,7 @@ fn lines_of(alloc: Global, index: &Index<'_>, numbers: &[u32]) -> Result<Vec<u8>
     Ok(lines)
 }
 
-// The lines of each block of so many calls. The last block may be shorter, and each other one has a thread of its own.
+// The lines of each block of `size` calls, each in a thread of its own. The last block may be shorter.
 fn lines_of_blocks<R: Threads + Sync>(
     rt: &R,
     alloc: Global,
@@ -95,7 +93,7 @@ fn lines_of_blocks<R: Threads + Sync>(
         .collect(rt, alloc)
 }
 
-// Adds the lines of blocks of so many calls.
+// Adds the lines of blocks of `size` calls.
 fn put_blocks<R: Threads + Sync>(
     rt: &R,
     out: &mut Vec<u8>,
@@ -117,7 +115,6 @@ fn put_blocks<R: Threads + Sync>(
     Ok(())
 }
 
-// Adds the line with the number of calls in an order.
 fn put_head(out: &mut Vec<u8>, order: &[u32]) -> Result<(), AllocError>
     ensures { OnOk result (out.new.items ≡ out.old.items ++ line_text (codes "order" ∷ decimal (length order.now) ∷ [])) }
 {
@@ -138,7 +135,7 @@ pub(crate) fn put_order(
     put_lines(out, index, order)
 }
 
-/// Adds the lines of an order, where so many workers share them. Each has 16,384 or more, in a thread of its own.
+/// Adds the lines of an order, which at most `workers` threads share. Each has 16,384 lines or more.
 pub(crate) fn put_order_shared<R: Threads + Sync>(
     rt: &R,
     out: &mut Vec<u8>,

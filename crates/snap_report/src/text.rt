@@ -15,7 +15,7 @@ use snap_index::Index;
 use std::alloc::{AllocError, Global};
 use std::thread::Threads;
 
-// Adds the line with the numbers of a history.
+// Adds the line with the counts of a history.
 fn put_counts(out: &mut Vec<u8>, index: &Index<'_>) -> Result<(), AllocError>
     ensures { OnOk result (out.new.items ≡ out.old.items ++ line_text (count_line index.now)) }
 {
@@ -26,7 +26,6 @@ fn put_counts(out: &mut Vec<u8>, index: &Index<'_>) -> Result<(), AllocError>
     out.extend_from_slice(b"\n")
 }
 
-// Adds the line of a verdict.
 fn put_verdict(out: &mut Vec<u8>, word: &[u8], holds: bool) -> Result<(), AllocError>
     ensures { OnOk result (out.new.items ≡ out.old.items ++ line_text (verdict_line word.now holds)) }
 {
@@ -38,7 +37,6 @@ fn put_verdict(out: &mut Vec<u8>, word: &[u8], holds: bool) -> Result<(), AllocE
     }
 }
 
-// Adds the lines of the three verdicts.
 fn put_verdicts(out: &mut Vec<u8>, tally: &Tally) -> Result<(), AllocError>
     ensures { OnOk result (out.new.items ≡ out.old.items
         ++ line_text (verdict_line (codes "regular") (has_no_local_fault tally.now))
@@ -50,7 +48,7 @@ fn put_verdicts(out: &mut Vec<u8>, tally: &Tally) -> Result<(), AllocError>
     put_verdict(out, b"atomic", is_atomic(tally))
 }
 
-/// The lines of the three verdicts alone, by the tally of the faults of a history.
+/// The lines of the three verdicts alone, by the tally of a history's faults.
 pub fn verdict_text(alloc: Global, tally: &Tally) -> Result<Vec<u8>, AllocError>
     ensures { IfOk result (λ text. text.items ≡ text_of (verdict_lines (has_no_local_fault tally.now) (has_no_stale_view tally.now) (has_no_fault tally.now))) }
 {
@@ -59,7 +57,7 @@ pub fn verdict_text(alloc: Global, tally: &Tally) -> Result<Vec<u8>, AllocError>
     Ok(out)
 }
 
-// The lines that stand before the order or the faults, in the memory of a vector. What the vector had is lost.
+// The lines before the order or the faults, in the memory of a vector. What the vector had is lost.
 fn front_in(room: Vec<u8>, index: &Index<'_>, tally: &Tally) -> Result<Vec<u8>, AllocError>
     ensures { IfOk result (λ text. text.items ≡ front_text index.now tally.now) }
 {
@@ -70,8 +68,8 @@ fn front_in(room: Vec<u8>, index: &Index<'_>, tally: &Tally) -> Result<Vec<u8>, 
     Ok(out)
 }
 
-/// The report of a history by the tally of its faults, one line for each kind that has some, or by an order of its calls,
-/// which is given by their numbers.
+/// The report of a history by the tally of its faults and by an order of its calls, if there is one. The order is a list of the
+/// calls' numbers. Without an order, each kind that has faults has one line.
 pub fn report(
     alloc: Global,
     index: &Index<'_>,
@@ -86,7 +84,7 @@ pub fn report(
     report_in(Vec::new(alloc), index, tally, order)
 }
 
-/// The same report, in the memory of a vector. What the vector had is lost.
+/// The report of `report`, in the memory of a vector. What the vector had is lost.
 pub fn report_in(
     room: Vec<u8>,
     index: &Index<'_>,
@@ -106,7 +104,7 @@ pub fn report_in(
     Ok(out)
 }
 
-/// The report of `report_in`, where so many workers share the lines of an order. Each has 16,384 or more, in a thread of its own.
+/// The report of `report_in`. At most `workers` threads share the lines of an order, each of them 16,384 lines or more.
 pub fn report_shared<R: Threads + Sync>(
     rt: &R,
     room: Vec<u8>,

@@ -8,7 +8,7 @@ use snap_core::{Entry, are_same};
 use snap_text::{ENTRY_SIZE, write_entry, write_number, write_text};
 use std::alloc::{AllocError, Global};
 
-/// Adds a text, and behind it a number.
+/// Adds a text, and after it a number.
 pub fn put_number(out: &mut Vec<u8>, text: &[u8], number: u64) -> Result<(), AllocError>
     ensures { OnOk result (out.new.items ≡ out.old.items ++ text.now ++ decimal number) }
 {
@@ -18,14 +18,14 @@ pub fn put_number(out: &mut Vec<u8>, text: &[u8], number: u64) -> Result<(), All
     out.extend_from_slice(&digits[at..])
 }
 
-/// Adds a text, and behind it the number of a call, counted from 1.
+/// Adds a text, and after it the number of a call, counted from 1.
 pub fn put_call(out: &mut Vec<u8>, text: &[u8], call: u32) -> Result<(), AllocError>
     ensures { OnOk result (out.new.items ≡ out.old.items ++ text.now ++ call_word call) }
 {
     put_number(out, text, u64::from(call) + 1)
 }
 
-/// Adds a text, and behind it an update by its component and its number.
+/// Adds a text, and after it an update by its component and its number.
 pub fn put_update(
     out: &mut Vec<u8>,
     text: &[u8],
@@ -38,7 +38,7 @@ pub fn put_update(
     put_number(out, b":", u64::from(number))
 }
 
-/// Adds a text, and behind it an entry.
+/// Adds a text, and after it an entry as component, number and value.
 pub fn put_entry(out: &mut Vec<u8>, text: &[u8], entry: &Entry) -> Result<(), AllocError>
     ensures { OnOk result (out.new.items ≡ out.old.items ++ text.now ++ entry_word entry.now) }
 {
@@ -49,12 +49,12 @@ pub fn put_entry(out: &mut Vec<u8>, text: &[u8], entry: &Entry) -> Result<(), Al
 // The most entries that are put together.
 const GROUP: usize = 16;
 
-// The most bytes that a group takes, each entry behind a space.
+// The most bytes that a group takes, each entry after a space.
 const GROUP_SIZE: usize = GROUP * (1 + ENTRY_SIZE);
 
-// How many entries of a view are put together. A view mostly differs from the one before in one entry, and the whole
-// group of that entry is written anew. Where there are few entries, small groups leave more of them to be copied. Where
-// there are many, most are copied either way, and each group that is looked at costs.
+// The number of entries of a view that are put together. A view mostly differs from the one before in one entry, and the whole
+// group of that entry is written again. If there are few entries, small groups leave more of them to be copied. If there are many,
+// most are copied either way, and each comparison of a group costs time.
 fn group_length(entries: usize) -> usize
     ensures { (1 ≤ result) × (result ≤ GROUP) }
 {
@@ -73,7 +73,7 @@ pub(crate) struct Group {
     ghost spelled: { text.items ≡ flat_map (λ entry. codes " " ++ entry_word entry) entries.items },
 }
 
-// Writes entries, each behind a space, so that they end at a place, and says where they begin.
+// Writes entries, each after a space, so that the last ends at `end`. Answers the place of the first byte.
 fn write_entries(entries: &[Entry], buffer: &mut [u8], end: usize) -> usize
     requires room { 26 * length entries.now ≤ end }
     requires within { end ≤ length buffer.old }
@@ -91,7 +91,6 @@ fn write_entries(entries: &[Entry], buffer: &mut [u8], end: usize) -> usize
 }
 
 impl Group {
-    // A group of no entries.
     fn new(alloc: Global) -> Group {
         Group {
             entries: Vec::new(alloc),
@@ -99,8 +98,8 @@ impl Group {
         }
     }
 
-    // Makes it the group of other entries, in the memory that it has. The entries get their room before the text is put,
-    // so that an error of memory leaves a group of no entries.
+    // Makes it the group of other entries, in the memory that it has. The entries get their room before the text is put. So an
+    // error of memory leaves a group without entries.
     fn set(&mut self, entries: &[Entry]) -> Result<(), AllocError>
         requires { length entries.now ≤ GROUP }
         ensures { OnOk result (self.new.entries.items ≡ entries.now) }
@@ -115,8 +114,7 @@ impl Group {
     }
 }
 
-// Adds the entries of a group, each behind a space. The group that is known becomes theirs, where it is not already, and
-// its text is copied.
+// Adds the entries of a group, each after a space. The known group becomes theirs, if it is not already, and its text is copied.
 fn put_group(out: &mut Vec<u8>, known: &mut Group, entries: &[Entry]) -> Result<(), AllocError>
     requires { length entries.now ≤ GROUP }
     ensures { OnOk result (out.new.items ≡ out.old.items ++ flat_map (λ entry. codes " " ++ entry_word entry) entries.now) }
@@ -127,8 +125,8 @@ fn put_group(out: &mut Vec<u8>, known: &mut Group, entries: &[Entry]) -> Result<
     out.extend_from_slice(&known.text)
 }
 
-// Adds entries, each behind a space. Those of one view are often those of the view before it, so that groups of them are
-// compared with the groups that were added before.
+// Adds entries, each after a space. Those of one view are often those of the view before it. So groups of them are compared with
+// the groups that were added before.
 fn put_groups(
     out: &mut Vec<u8>,
     known: &mut Vec<Group>,
@@ -157,7 +155,7 @@ const FRONT_SIZE: usize = 25;
 // The most bytes of the line of an update.
 const UPDATE_SIZE: usize = FRONT_SIZE + ENTRY_SIZE + 1;
 
-// Writes the front of a call's line, up to what it does, so that it ends at a place, and says where it begins.
+// Writes the front of a call's line, up to the word of its operation, so that it ends at `end`. Answers the place of the first byte.
 fn write_front(number: u32, process: u16, does: &[u8], buffer: &mut [u8], end: usize) -> usize
     requires word { length does.now ≤ 8 }
     requires room { FRONT_SIZE ≤ end }
@@ -188,7 +186,6 @@ pub(crate) fn put_update_line(
     out.extend_from_slice(&line[at..])
 }
 
-// Adds the front of the line of a view.
 fn put_view_front(out: &mut Vec<u8>, number: u32, process: u16) -> Result<(), AllocError>
     ensures { OnOk result (out.new.items ≡ out.old.items ++ call_word number ++ codes " " ++ process_word process ++ codes " view") }
 {
@@ -197,7 +194,6 @@ fn put_view_front(out: &mut Vec<u8>, number: u32, process: u16) -> Result<(), Al
     out.extend_from_slice(&front[at..])
 }
 
-/// Adds the line of a view.
 pub(crate) fn put_view_line(
     out: &mut Vec<u8>,
     known: &mut Vec<Group>,

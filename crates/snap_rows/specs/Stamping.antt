@@ -12,7 +12,7 @@ use Rattle.snap_text.specs.Fields.{Fields}
 use Rattle.snap_format.specs.declared.stamped.Stamped.{Stamped}
 use Rattle.snap_format.specs.Stamps.{FirstOf, NoneOf, StampedFault, StampedRead, events_of, nothing, order_at, places_of, shape_fault, stamped_row, stamps_of}
 
--- what the stamps of some events are known by: a set that has them, and no two are equal
+-- a set has the stamps of some events, and no two of these are equal
 pub record HasSeen (seen : BTreeSet ℕ) (xs : List Stamped) : Type 0 where
   pub has : (q : ℕ) → contains nat_cmp seen q ≡ list_any (λ s. q == s) (stamps_of xs)
   pub distinct : IsDistinct (λ a b. a == b) (stamps_of xs)
@@ -52,7 +52,7 @@ pub record FirstRecords (limit : ℕ) (rows : List Fields) (xs : List Stamped) :
   pub within : length xs ≤ length rows
   pub each : (i : ℕ) → i < length xs → IsRecord limit i (slice_index_or rows i []) (slice_index_or xs i nothing)
 
--- behind so many records none is left, or the next one has a fault, repeated stamps aside
+-- after n records none is left, or the next one has a fault, repeated stamps aside
 abbrev pub RefusesNext : ℕ → List Fields → ℕ → ReadRefusal → Type 0
 RefusesNext limit rows n (refusals.Text place f) = (n < length rows) × (place ≡ n + 2) × (shape_fault limit n [] (slice_index_or rows n []) ≡ Some f)
 RefusesNext limit rows n refusals.Device = ⊥
@@ -76,7 +76,7 @@ abbrev pub TakesTurns : ℕ → List Stamped → Result LimitedEvents ReadRefusa
 TakesTurns limit xs (Ok h) = NoneOf (order_at limit xs) (length xs) × (h.events ≡ events_of xs) × (h.limit ≡ limit)
 TakesTurns limit xs (Err e) = RefusesTurns limit xs e
 
--- what an answer says of the records under the header of a text with stamps, the numbers of the events' records among them
+-- what an answer says of the records under the header of a text with stamps, and of the numbers of the events' records
 abbrev pub RefusesStamps : ℕ → List Fields → ReadRefusal → Type 0
 RefusesStamps limit rows (refusals.Text place f) = StampedFault limit rows place f
 RefusesStamps limit rows refusals.Device = ⊥

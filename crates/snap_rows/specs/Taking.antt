@@ -13,7 +13,7 @@ use Rattle.snap_format.specs.Faults.{events_in, fault_at, fault_with, row_fault}
 use Rattle.snap_format.specs.Texts.{RowsRead, RowsFault}
 use Rattle.snap_format.specs.Records.{RowsNumbered}
 
--- what an answer says of records, whose history may have so many events: a history that was read has this limit
+-- what an answer says of records whose history may have `limit` events: a history that was read has this limit
 abbrev pub RefusesRows : ℕ → List Fields → ReadRefusal → Type 0
 RefusesRows limit rows (refusals.Text place f) = RowsFault limit rows place f
 RefusesRows limit rows refusals.Device = ⊥
@@ -23,7 +23,7 @@ abbrev pub AnswersRows : ℕ → List Fields → Result LimitedEvents ReadRefusa
 AnswersRows limit rows (Ok h) = RowsRead limit rows h.events × (h.limit ≡ limit)
 AnswersRows limit rows (Err e) = RefusesRows limit rows e
 
--- the numbers of the events' records that were kept: none of records that stand one after the other
+-- the numbers of the events' records: those that were kept, or from 2 on if none were kept
 abbrev pub numbers_kept : ℕ → Option (Vec ℕ) → List ℕ
 numbers_kept count None = range_with_len 2 count
 numbers_kept count (Some kept) = kept.items
@@ -32,7 +32,7 @@ abbrev pub AnswersNumbered : ℕ → List Fields → Result (LimitedEvents × Op
 AnswersNumbered limit rows (Ok x) = AnswersRows limit rows (Ok x.0) × RowsNumbered rows (numbers_kept (length x.0.events) x.1)
 AnswersNumbered limit rows (Err e) = RefusesRows limit rows e
 
--- what a record with this fault is answered as
+-- the answer to a record with this fault
 abbrev pub RefusesFault : ℕ → Option TextFault → ReadRefusal → Type 0
 RefusesFault place fault (refusals.Text p f) = (p ≡ place) × (fault ≡ Some f)
 RefusesFault place fault refusals.Device = ⊥
@@ -46,7 +46,7 @@ abbrev pub TakesRow : ℕ → ℕ → List Event → List Event → Fields → R
 TakesRow limit place old new r (Ok u) = (row_fault limit old r ≡ None) × (x : Event) × (row_event r ≡ Ok x) × (new ≡ old ++ x ∷ [])
 TakesRow limit place old new r (Err e) = RefusesRow limit place old r e
 
--- what is left to be read is the records from place i under the header on, and the history is that of those before it
+-- the records from place i under the header on are left to be read, and the history is that of those before it
 pub record Midway (limit : ℕ) (rows : List Fields) (Left : List Fields → Type 0) (events : List Event) (i : ℕ) : Type 0 where
   pub head : Fields
   pub later : List Fields
@@ -64,7 +64,7 @@ abbrev pub TakesEvent : ℕ → ℕ → List Event → List Event → Event → 
 TakesEvent limit place old new x (Ok u) = (fault_with limit old (Ok x) ≡ None) × (new ≡ old ++ x ∷ [])
 TakesEvent limit place old new x (Err e) = RefusesFault place (fault_with limit old (Ok x)) e
 
--- what the event of four fields is answered as
+-- the answer for the event of four fields
 abbrev pub FailsEvent : ℕ → ReadRefusal → Result Event TextFault → Type 0
 FailsEvent place (refusals.Text p f) read = (p ≡ place) × (read ≡ Err f)
 FailsEvent place refusals.Device read = ⊥

@@ -1,5 +1,5 @@
-//! Stamps that repeat. Among sorted stamps a repeat stands beside the stamp that it repeats, so that no set of stamps is kept
-//! while a text is read.
+//! Stamps that repeat. Among sorted stamps a repeat is next to the stamp that it repeats. So no set of stamps is kept while a text
+//! is read.
 ghost use Rattle.std.specs.Prelude.{◌≡◌, ◌==◌, ◌↔◌, List, ℕ, IfOk, IsTrue};
 ghost use Rattle.std.specs.List.{IsDistinct};
 ghost use Rattle.std.specs.List.Sorted.{IsNonDecreasingBy, IsPermutation, IsStrictlyIncreasing};
@@ -11,7 +11,6 @@ use snap_format::Stamped;
 use std::alloc::{AllocError, Global};
 use std::collections::BTreeSet;
 
-/// Sorts events by their stamps.
 pub(crate) fn sort_by_stamp(stamped: &mut Vec<Stamped>)
     ensures same { IsPermutation stamped.old.items stamped.new.items }
     ensures rising { IsNonDecreasingBy (λ (x : Stamped). x.at) stamped.new.items }
@@ -47,7 +46,7 @@ pub(crate) fn are_rising(stamped: &[Stamped]) -> bool
     true
 }
 
-/// The number of the first record whose stamp an earlier one has, by the events in any order.
+/// The number of the first record whose stamp an earlier one has. The events may be in any order. The error is want of memory.
 pub(crate) fn repeated_place(alloc: Global, mut stamped: Vec<Stamped>) -> Result<u32, AllocError>
     requires { ¬ IsDistinct (λ (a : ℕ) (b : ℕ). a == b) (stamps_of stamped.items) }
     ensures { IfOk result (λ place. (xs : List Stamped) → IsPermutation xs stamped.items → IsStrictlyIncreasing (places_of xs) → FirstRepeat xs place) }

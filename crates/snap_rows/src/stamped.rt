@@ -12,7 +12,7 @@ use snap_format::{ReadRefusal, Stamped};
 use snap_text::{Known, TextFault, stamp_of};
 use std::alloc::{AllocError, Global};
 
-/// Adds the stamped event of a record to those before it, by the record's five fields. Whether its stamp is new is not asked.
+/// Adds the stamped event of a record to those before it, by the record's five fields. It does not check that the stamp is new.
 pub fn take_stamped(
     alloc: Global,
     known: &mut Known,
@@ -48,7 +48,7 @@ fn places_in(alloc: Global, stamped: &[Stamped]) -> Result<Vec<u32>, AllocError>
     stamped.iter().map(|event| event.place).collect(alloc)
 }
 
-// The history of events in this order.
+// The history of events in this order, or the first fault.
 fn take_turns(alloc: Global, stamped: Vec<Stamped>, limit: Limit) -> Result<History, ReadRefusal>
     ensures { TakesTurns limit.events stamped.items result }
 {

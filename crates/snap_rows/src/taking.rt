@@ -1,4 +1,4 @@
-//! Records that a history takes in their turn.
+//! Records that a history takes in order.
 ghost use Rattle.std.specs.Prelude.{◌≡◌, ◌≤◌, ◌+◌, ◌∷◌, [], Ok, MatchOption};
 ghost use Rattle.snap_core.specs.Events.{event_cap};
 ghost use Rattle.snap_format.specs.Faults.{fault_of};
@@ -11,7 +11,7 @@ use snap_format::{ReadRefusal, fault_for};
 use snap_text::{Known, TextFault};
 use std::alloc::Global;
 
-/// One record more than a history may have events: that one has a fault.
+/// The most records that are read: one more than a history may have events, since that one has a fault.
 pub fn row_limit(limit: Limit) -> u32
     ensures rows { result ≡ limit.events + 1 }
     ensures most { result ≤ event_cap + 1 }
@@ -19,7 +19,7 @@ pub fn row_limit(limit: Limit) -> u32
     limit.events() as u32 + 1
 }
 
-/// Adds the event of a record to a history, by the record's four fields.
+/// Adds the event of a record to a history, by the record's four fields. The refusal is the record's fault, or want of memory.
 #[inline(always)]
 pub fn take_fields(
     alloc: Global,
@@ -43,7 +43,7 @@ pub fn take_fields(
     }
 }
 
-/// Adds the event of a record to a history.
+/// Adds the event of a record to a history. The refusal is the record's fault, or want of memory.
 #[inline(always)]
 pub fn take_event(history: &mut History, place: u32, event: Event) -> Result<(), ReadRefusal>
     ensures takes { (r : Fields) → row_event r ≡ Ok event → TakesRow history.old.limit place history.old.events history.new.events r result }
@@ -55,7 +55,7 @@ pub fn take_event(history: &mut History, place: u32, event: Event) -> Result<(),
     Ok(())
 }
 
-/// Adds an event to a history.
+/// Adds an event to a history. The refusal is the event's fault, with this place, or want of memory.
 pub(crate) fn push_event(history: &mut History, place: u32, event: Event) -> Result<(), ReadRefusal>
     ensures takes { TakesEvent history.old.limit place history.old.events history.new.events event result }
     ensures limit { history.new.limit ≡ history.old.limit }
@@ -66,7 +66,7 @@ pub(crate) fn push_event(history: &mut History, place: u32, event: Event) -> Res
     Ok(())
 }
 
-// What the refused event of a record is answered as.
+// The answer to a record whose event a history refuses.
 fn refused_at(place: u32, refusal: EventRefusal) -> ReadRefusal
     ensures { MatchOption (fault_of refusal) (result ≡ ReadRefusal.Memory) (λ fault. result ≡ ReadRefusal.Text place fault) }
 {

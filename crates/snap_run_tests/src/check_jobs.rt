@@ -6,10 +6,10 @@ use snap_threads::Cutting;
 use snap_words::{Color, Job, Options, Windows};
 use std::test::Fail;
 
-// What is looked at of the check that a line asks for.
+// What is compared of the check that a line asks for.
 #[derive(Clone, Copy)]
 enum Asked {
-    // its pieces and workers, whether it is quiet, how many views it asks for, whether it answers with an object, and its limit of events
+    // its pieces and workers, whether it is quiet, its least number of views, whether it answers with an object, and its limit of events
     Judged(u32, u32, bool, u32, bool, usize),
     // whether it asks for sums and for no line of progress, and when its verdicts have colours
     Shown(bool, bool, Color),
@@ -17,7 +17,7 @@ enum Asked {
     Followed(u32, u32),
 }
 
-// Lines, and what is looked at of the check that each asks for.
+// Lines, and what is compared of the check that each asks for.
 const CHECKS: &[(&str, Asked)] = &[
     ("snapjudge check", Judged(8, 2, false, 0, false, 65536)),
     (
@@ -105,7 +105,7 @@ const CHECKS: &[(&str, Asked)] = &[
     ),
 ];
 
-// Whether this is asked of a check with such a cutting, limit and options.
+// Whether a check with such a cutting, limit and options is this one.
 fn is_asked(cutting: Cutting, limit: Limit, options: Options, asked: Asked) -> bool {
     match asked {
         Judged(pieces, workers, quiet, views, json, events) => {
@@ -125,7 +125,7 @@ fn is_asked(cutting: Cutting, limit: Limit, options: Options, asked: Asked) -> b
     }
 }
 
-// Whether this is asked of a recording with such windows.
+// Whether a recording that is followed with such windows is this one.
 fn is_followed(windows: Windows, asked: Asked) -> bool {
     match asked {
         Followed(least, idle) => windows.least == least && windows.idle == idle,
@@ -133,7 +133,6 @@ fn is_followed(windows: Windows, asked: Asked) -> bool {
     }
 }
 
-// Whether a job is one of which this is asked.
 fn is_check(job: &Job, asked: Asked) -> bool {
     match job {
         Job::Check {

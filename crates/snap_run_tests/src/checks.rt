@@ -1,4 +1,4 @@
-//! Checks of texts from memory against what is wanted of them.
+//! Checks of texts from memory, and their wanted answers.
 use snap_check::{RunFault, Status, check_run};
 use snap_core::{Counted, Gate, OpenGate};
 use snap_threads::Cutting;
@@ -9,7 +9,7 @@ use std::sync::Wait;
 use std::test::Fail;
 use std::thread::Threads;
 
-/// Records under the header, how the check of that text ends, and its report.
+/// Records after the header, how the check of that text ends, and its report.
 pub(super) type Worked = (&'static str, &'static str, &'static str);
 
 /// The records of a view that misses an update which had ended.
@@ -25,12 +25,12 @@ atomic no
 proximity 1 first view 2 entry 0:0 old
 ";
 
-/// The text of a history with these records under the header.
+/// The text of a history with these records after the header.
 pub(super) fn history(alloc: Global, records: &str) -> Result<String, AllocError> {
     format!(in alloc; "event,process,op,data\n{records}")
 }
 
-/// The same, with empty lines behind it up to so many bytes.
+/// The text of a history, with empty lines after it up to `bytes` bytes.
 pub(super) fn history_up_to(
     alloc: Global,
     records: &str,
@@ -67,12 +67,12 @@ pub(super) fn written(
     Ok((end_of(answer), out))
 }
 
-/// The cutting into so many pieces for so many workers.
+/// The cutting into `pieces` pieces for `workers` workers.
 pub(super) fn cutting(pieces: u32, workers: u32) -> Result<Cutting, Fail> {
     Ok(Cutting::new(pieces, workers)?)
 }
 
-/// How a run from a reader to a writer ends.
+/// How a run from a reader to a writer ended.
 pub(super) fn run<Rt: Threads + Wait + Sync, R: Read, W: Write>(
     rt: &Rt,
     alloc: Global,
@@ -97,7 +97,7 @@ fn check<Rt: Threads + Wait + Sync, G: Gate>(
     (end_of(answer), writer.into_inner())
 }
 
-/// The two are the same; else the failure tells both.
+/// The two are the same; otherwise the failure prints both.
 pub(super) fn same<T: PartialEq + Debug + Drop>(found: T, wanted: T) -> Result<(), Fail> {
     if found == wanted {
         return Ok(());
@@ -120,7 +120,7 @@ pub(super) fn expect<Rt: Threads + Wait + Sync, G: Gate>(
     same(str::from_utf8(&out)?, report)
 }
 
-/// The check of a worked history ends and reports as it is to.
+/// The check of a worked history ends and reports as it must.
 pub(super) fn expect_worked<Rt: Threads + Wait + Sync, G: Gate>(
     rt: &Rt,
     alloc: Global,

@@ -8,7 +8,7 @@ use std::sync::Wait;
 use std::test::Fail;
 use std::thread::Threads;
 
-// How a run over a text ends one read of which fails, the failures that the reader counts, and how many bytes are written.
+// How a run ends if one read of its text fails, the failures that the reader counts, and the number of bytes that are written.
 fn dripped<Rt: Threads + Wait + Sync>(
     rt: &Rt,
     alloc: Global,
@@ -38,7 +38,7 @@ fn any_read_that_fails_ends_the_run_before_anything_is_written(
     same(found, ("irregular", 0, STALE_REPORT.len()))
 }
 
-// How a run that writes into a cup ends, how many bytes are then in it, and whether they are a front of the report.
+// How a run that writes into a cup ends, the number of bytes in the cup, and whether they are a front of the report.
 fn poured<Rt: Threads + Wait + Sync>(
     rt: &Rt,
     alloc: Global,

@@ -1,4 +1,4 @@
-//! What worked texts are explained by.
+//! The explanations of worked texts.
 use super::checks::{end_of, history, same, written};
 use snap_core::{Counted, Limit};
 use snap_runs::explain_run;
@@ -51,7 +51,7 @@ fn an_atomic_history_is_explained_by_its_order(rt: HostRuntime) -> Result<(), Fa
     )
 }
 
-// Texts that are no history, and the explanation of each.
+// Texts that are not a history, and the explanation of each.
 const REFUSED: &[(&str, &str)] = &[
     (
         "",
@@ -103,7 +103,7 @@ fn a_text_that_is_no_history_gets_the_rule_that_it_breaks_and_the_record(
     Ok(())
 }
 
-// How a text from a reader is explained to a writer, and the failures that the two count.
+// How the explanation of a text ends, from a reader to a writer, and the failures that the two count.
 fn explain_over<Rt: Threads + Sync, R: Read + Drop, W: Write + Drop>(
     rt: &Rt,
     alloc: Global,

@@ -33,7 +33,7 @@ end,0,update,
 
 const BUSY: &str = "event,process,op,data\nbegin,0,view,\nbegin,0,view,\n";
 
-// Opens texts that are kept here: of `broken` the third read fails, and `locked` is not opened.
+// Opens texts that are kept here. The third read of `broken` fails, and `locked` is not opened.
 struct Shelf;
 
 impl Opener for Shelf {
@@ -99,7 +99,7 @@ fn check<Rt: Threads + Sync, W: Write>(
     Ok((answer, errors.into_inner()))
 }
 
-// Some names, how many views are asked for, the status, what is written, and what is said.
+// Some names, the number of views that is asked for, the status, what is written, and what is said.
 const CHECKS: &[(&[&[u8]], u32, u8, &str, &str)] = &[
     (&[], 0, 0, "", ""),
     (
@@ -169,7 +169,7 @@ fn reports_stand_in_the_order_of_the_names(rt: HostRuntime) -> Result<(), Fail> 
     Ok(())
 }
 
-// A text with its object, names that have no status among others, and what is said of them.
+// A text with its object, names without a status among others, and what is said about them.
 const OBJECTS: &str = "{\"name\":\"none\",\"status\":4,\"trouble\":\"no such file\"}\n\
     {\"name\":\"busy\",\"status\":3,\"refused\":{\"record\":3,\"fault\":\"busy\"}}\n\
     {\"name\":\"stale\",\"status\":3,\"too_few_views\":{\"views\":1,\"least\":2}}\n\
@@ -202,7 +202,7 @@ fn each_name_has_its_object(rt: HostRuntime) -> Result<(), Fail> {
     expect_checked(&rt, alloc, list, (Format::Json, 2), 4, written, said)
 }
 
-// In a report the bytes above 127 of a name that is not UTF-8 are escaped; in an object U+FFFD stands for them.
+// In a report the bytes above 127 of a name that is not UTF-8 are escaped. In an object U+FFFD replaces them.
 #[test]
 fn a_name_need_not_be_unicode(rt: HostRuntime) -> Result<(), Fail> {
     let alloc = rt.alloc();

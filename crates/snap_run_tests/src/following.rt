@@ -11,7 +11,7 @@ use std::sync::atomic::{AtomicU32, Ordering};
 use std::test::Fail;
 use std::time::{Clock, Duration};
 
-// Counts how often somebody sleeps, and lets nobody wait.
+// Counts the sleeps, and lets nobody wait.
 #[derive(Drop)]
 pub(crate) struct Naps {
     taken: AtomicU32,
@@ -67,7 +67,7 @@ pub(crate) fn end_of(answer: &Result<Followed, FollowFault>) -> (&'static str, O
     }
 }
 
-// How a recording is followed, and what is written then.
+// How following a recording ends, and what is written.
 fn followed<Rt: Wait, T: Texts>(
     rt: &Rt,
     alloc: Global,
@@ -81,8 +81,8 @@ fn followed<Rt: Wait, T: Texts>(
     (end, code, writer.into_inner())
 }
 
-// A recording: its text, from how many events on a window ends, how many it may have, the status, the lines of the windows, and the
-// sums.
+// A recording: its text, the number of events from which on a window ends, and the limit of events. Then the status, the lines of
+// the windows, and the sums.
 type Recording = (&'static str, u32, u32, u8, &'static str, &'static str);
 
 const LONG: &str = "\
@@ -134,7 +134,7 @@ const RECORDINGS: &[Recording] = &[
         "window 1 events 4 atomic from 2 to 5\nwindow 2 events 4 not-regular from 6 to 9 misses 9:1:5 in record 7\n",
         "windows 2 events 8 views 2\natomic 1 first 1\nonly-regular 0\nnot-regular 1 first 2\nrefused 0\nfailed 0\n",
     ),
-    // a new-old inversion, behind a quiet moment
+    // a new-old inversion, after a quiet moment
     (
         "event,process,op,data\nbegin,0,update,0:1:1\nend,0,update,\nbegin,0,update,0:2:2\nbegin,1,view,\nend,1,view,0:2:2\nbegin,2,view,\nend,2,view,0:1:1\nend,0,update,\n",
         2,
@@ -179,7 +179,7 @@ const RECORDINGS: &[Recording] = &[
         "window 1 events 2 atomic from 2 to 3\nwindow 2 refused record 4: number\n",
         "windows 2 events 2 views 0\natomic 1 first 1\nonly-regular 0\nnot-regular 0\nrefused 1 first 2\nfailed 0\n",
     ),
-    // no quiet moment in as many events as a window may have
+    // no quiet moment in the greatest number of events of a window
     (
         "event,process,op,data\nbegin,0,view,\nbegin,1,view,\nend,0,view,\n",
         1,
@@ -230,7 +230,7 @@ const RECORDINGS: &[Recording] = &[
     ),
 ];
 
-// Following what a reader has ends so, in a word and a status, and writes these lines.
+// Following a reader's text ends so, in a word and a status, and writes these lines.
 fn expect_followed<Rt: Wait, R: Read + Drop>(
     rt: &Rt,
     alloc: Global,

@@ -1,4 +1,4 @@
-//! Recordings whose texts stand below a folder, and come while they are followed.
+//! Recordings whose texts are below a folder, and come while they are followed.
 ghost use Rattle.std.specs.Prelude.{⊤};
 
 use super::checks::same;
@@ -11,11 +11,11 @@ use std::alloc::{AllocError, Global};
 use std::sync::atomic::{AtomicUsize, Ordering};
 use std::test::Fail;
 
-// A text of a folder: its name there, and what it says; none where it can't be opened.
+// A text of a folder: its name there, and its content, or nothing if it can't be opened.
 type Page = (&'static str, Option<&'static str>);
 
-// A folder `t` that shows so many texts more at every second listing. If they are two, the listing leaves out the first of them. Of one
-// text the length is another than what is read.
+// A folder `t` that shows `step` more texts at every second listing. If `step` is 2, each other listing leaves out the first of the
+// two. The length of one text differs from what is read.
 #[derive(Drop)]
 struct Binder {
     pages: &'static [Page],
@@ -25,7 +25,7 @@ struct Binder {
 }
 
 impl Binder {
-    // What the text of a path says, if it has one and can be opened.
+    // The content of the text of a path, if it has one and can be opened.
     fn text(&self, path: &[u8]) -> Option<&'static str> {
         for (name, text) in self.pages {
             if path.strip_prefix(b"t/") == Some(name.as_bytes()) {
@@ -92,8 +92,8 @@ begin,1,view,
 end,1,view,0:1:7
 ";
 
-// The texts of a folder, how many come at once, the one that changes, how the run ends, its status, and the lines of the windows with
-// the first of the sums.
+// The texts of a folder, the number that come at once, and the one that changes. Then how the run ends, its status, and the lines
+// of the windows with the first of the sums.
 type Recording = (
     &'static [Page],
     usize,
@@ -104,7 +104,7 @@ type Recording = (
 );
 
 const RECORDINGS: &[Recording] = &[
-    // a call is open at the end of each text, and what is no recording is left out
+    // a call is open at the end of each text, and what is not a recording is left out
     (
         &[
             (
@@ -150,7 +150,7 @@ const RECORDINGS: &[Recording] = &[
          window 2 events 2 not-regular from 2 of t/a\\nb.csv to 3 of t/a\\nb.csv misses 0:1:7 in record 3 of t/a\\nb.csv\n\
          windows 2 events 4 views 1\n",
     ),
-    // the last line of a text that is whole needs no end
+    // the last line of a whole text needs no line end
     (
         &[
             (

@@ -13,7 +13,7 @@ pub(crate) fn words(alloc: Global, line: &str) -> Result<Vec<String>, AllocError
     Ok(words)
 }
 
-// Whether the names are just these files.
+// Whether the names are exactly these files.
 fn are_named(names: &[Vec<u8>], files: &[&str]) -> bool {
     if names.len() != files.len() {
         return false;
@@ -26,7 +26,7 @@ fn are_named(names: &[Vec<u8>], files: &[&str]) -> bool {
     true
 }
 
-// Whether a name is the only one of these files, or absent where there is none.
+// Whether a name is the only one of these files, or absent if there is none.
 fn is_named(name: &Option<Vec<u8>>, files: &[&str]) -> bool {
     match (name, files) {
         (Some(name), [file]) => name.as_slice() == file.as_bytes(),
@@ -42,12 +42,13 @@ fn is_on(job: &Job, files: &[&str]) -> bool {
         Job::Follow { file, .. }
         | Job::Shrink { file, .. }
         | Job::Explain { file, .. }
-        | Job::Draw { file, .. } => is_named(file, files),
+        | Job::Draw { file, .. }
+        | Job::Stats { file, .. } => is_named(file, files),
         Job::Record { .. } => files.is_empty(),
     }
 }
 
-/// The job that a line asks for, of which each file is named in the list after it.
+/// The job that a line asks for, if the list after it names each of its files.
 pub(crate) fn job_on(alloc: Global, line: &str, files: &[&str]) -> Result<Job, Fail> {
     let Ok(job) = job_of(alloc, words(alloc, line)?) else {
         return Err(Fail::from(line));
@@ -78,6 +79,10 @@ const LINES_WITH_FILES: &[(&str, &[&str])] = &[
     ("snapjudge draw", &[]),
     ("snapjudge draw --svg -", &["-"]),
     ("snapjudge draw a.csv --text", &["a.csv"]),
+    ("snapjudge stats a.csv", &["a.csv"]),
+    ("snapjudge stats", &[]),
+    ("snapjudge stats --format json -", &["-"]),
+    ("snapjudge stats --events 1048576 a.csv", &["a.csv"]),
     ("snapjudge shrink --draw a.csv", &["a.csv"]),
     ("snapjudge explain - --draw", &["-"]),
     ("snapjudge shrink --events 1048576 a.csv", &["a.csv"]),
@@ -124,6 +129,11 @@ fn is_its_command(job: &Job, line: &str) -> bool {
         Job::Draw { form, limit, .. } => {
             line.contains(" draw")
                 && *form == form_named(line)
+                && limit.events() == events_named(line)
+        }
+        Job::Stats { json, limit, .. } => {
+            line.contains(" stats")
+                && *json == line.contains("json")
                 && limit.events() == events_named(line)
         }
         Job::Record { .. } => false,

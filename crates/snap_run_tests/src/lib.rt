@@ -1,11 +1,13 @@
-//! Tests of the runs from a reader to a writer: checks of worked histories and of several texts, what they are cut down to and explained by,
-//! recordings, and devices that fail.
+//! Tests of the runs from a reader to a writer: checks of worked histories and of several texts, witnesses, explanations,
+//! recordings, and failing devices.
 #![tactic(auto)]
 
 #[cfg(test)]
 mod check_jobs;
 #[cfg(test)]
 mod checks;
+#[cfg(test)]
+mod counting;
 #[cfg(test)]
 mod devices;
 #[cfg(test)]

@@ -1,4 +1,4 @@
-//! Long texts, of which workers draw pieces: their first fault is that of the text, wherever the pieces are cut.
+//! Long texts, of which workers draw pieces. Their first fault is that of the text, wherever it is cut.
 use super::checks::{cutting, expect, history};
 use snap_core::OpenGate;
 use snap_testing::{add_updates, updates_order};
@@ -7,10 +7,10 @@ use std::sync::Wait;
 use std::test::Fail;
 use std::thread::Threads;
 
-// So many updates make some 900,000 bytes, which are cut into 13 pieces.
+// This many updates make some 900,000 bytes, which are cut into 13 pieces.
 const UPDATES: u32 = 24_000;
 
-// Behind so many updates stands a record, whose fault is this.
+// The number of updates before a record, the record, and its fault.
 const FAULTS: &[(u32, &str, &str)] = &[
     (0, "begin,1,view", "fields"),
     (0, "end,0,update,", "idle"),
@@ -24,7 +24,7 @@ const FAULTS: &[(u32, &str, &str)] = &[
     (24_000, "begin,1,view,,", "fields"),
 ];
 
-// The text of all updates, with some lines behind so many of them, and other lines behind some more.
+// The text of all updates, with some lines after `first.0` of them, and other lines after `second.0`.
 fn text_with(alloc: Global, first: (u32, &str), second: (u32, &str)) -> Result<String, Fail> {
     let mut text = history(alloc, "")?;
     add_updates(alloc, &mut text, 0, first.0)?;
@@ -57,7 +57,7 @@ fn expect_all<Rt: Threads + Wait + Sync>(
     Ok(())
 }
 
-// The checks of a text with so many updates before its first fault name that fault.
+// The checks of a text name its first fault, which comes after this many updates.
 fn expect_fault<Rt: Threads + Wait + Sync>(
     rt: &Rt,
     alloc: Global,
@@ -97,7 +97,6 @@ fn of_two_faults_in_two_pieces_the_first_counts(rt: HostRuntime) -> Result<(), F
     Ok(())
 }
 
-// The report of all updates.
 fn updates_report(alloc: Global) -> Result<String, Fail> {
     let order = updates_order(alloc, UPDATES)?;
     let head = "regular yes\nmonotone yes\natomic yes\n";

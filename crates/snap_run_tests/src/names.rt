@@ -6,7 +6,7 @@ use snap_testing::Drip;
 use std::alloc::{AllocError, Global};
 use std::test::Fail;
 
-// Whether the names are just these.
+// Whether the names are exactly these.
 fn are(names: &[Vec<u8>], wanted: &[&[u8]]) -> bool {
     if names.len() != wanted.len() {
         return false;
@@ -48,7 +48,7 @@ fn a_list_is_cut_at_its_ends(rt: HostRuntime) -> Result<(), Fail> {
     Ok(())
 }
 
-// Lists with an empty name, and its number.
+// Lists with an empty name, and the number of its line.
 const LACKING: &[(&[u8], usize)] = &[
     (b"\n", 1),
     (b"\na", 1),

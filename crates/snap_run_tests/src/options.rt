@@ -18,12 +18,12 @@ end,2,view,
 end,0,update,
 ";
 
-// A view that is completed, and one that is pending.
+// A completed view and a pending view.
 const HALF_PENDING: &str = "begin,0,view,\nbegin,1,view,\nend,1,view,\n";
 
 const BUSY: &str = "begin,0,view,\nbegin,0,view,\n";
 
-// A check that is quiet, of a history of so many events at most.
+// A quiet check of a history within a limit of events.
 fn quiet(limit: Limit) -> CheckOptions {
     CheckOptions {
         quiet: true,
@@ -32,7 +32,7 @@ fn quiet(limit: Limit) -> CheckOptions {
     }
 }
 
-// Records under the header, whether the check is quiet and of how many views, how it ends, and what it writes.
+// Records after the header, whether the check is quiet, the number of views that it asks for, how it ends, and what it writes.
 const WORKED: &[(&str, bool, u32, &str, &str)] = &[
     (
         STALE_VIEW,
@@ -101,7 +101,7 @@ fn run_with<Rt: Threads + Sync, R: Read, W: Write>(
     Ok(end_with(answer))
 }
 
-// A check of what a reader has ends so, and writes this.
+// A check of a reader's text ends so, and writes this.
 fn expect_with<Rt: Threads + Sync, R: Read + Drop>(
     rt: &Rt,
     alloc: Global,
@@ -164,7 +164,7 @@ fn a_writer_that_fails_has_a_front_of_the_verdicts(rt: HostRuntime) -> Result<()
     )
 }
 
-// Limits of events, and how a quiet check of four events ends within them.
+// Limits of events, how a quiet check of four events within them ends, and what it writes.
 const LIMITS: &[(u32, &str, &str)] = &[
     (1, "refused", "refused record 3: toomany\n"),
     (3, "refused", "refused record 5: toomany\n"),
@@ -211,7 +211,7 @@ fn limits_are_1_to_1048576(rt: HostRuntime) {
     }
 }
 
-// With these options the check of a text of this many bytes has this many of two workers, who meet at their first pieces.
+// With these options the check of a text of this many bytes has `workers` workers, who meet at their first pieces.
 fn expect_workers<Rt: Threads + Sync>(
     rt: &Rt,
     alloc: Global,

@@ -71,7 +71,7 @@ const RECORDS: &[(&str, u32, u32, Flags)] = &[
     ("snapjudge record --events 1048576", 2, 16, NO_FLAGS),
 ];
 
-// Whether a job is a recording of so many workers and rounds, with these flags.
+// Whether a job is a recording of these numbers of workers and rounds, with these flags.
 fn is_recording(job: &Job, wanted: (u32, u32), flags: Flags) -> bool {
     match job {
         Job::Record {

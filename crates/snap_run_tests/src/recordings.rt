@@ -29,12 +29,11 @@ fn record<Rt: Threads + Wait + Sync, G: Gate>(
     (end_of(answer), writer.into_inner())
 }
 
-// Whether a line stands in a text.
 fn has_line(text: &str, line: &str) -> bool {
     text.lines().any(|found| found == line)
 }
 
-/// The text has the header, so many records under it, and each of these lines.
+/// The text has the header, this number of records after it, and each of these lines.
 pub(super) fn expect_text(text: &[u8], records: usize, wanted: &[&str]) -> Result<(), Fail> {
     let text = str::from_utf8(text)?;
     expect_head(text, "event,process,op,data", records)?;
@@ -46,13 +45,13 @@ pub(super) fn expect_text(text: &[u8], records: usize, wanted: &[&str]) -> Resul
     Ok(())
 }
 
-// The text has this header, and so many records under it.
+// The text has this header, and this number of records after it.
 fn expect_head(text: &str, header: &str, records: usize) -> Result<(), Fail> {
     same(text.lines().next(), Some(header))?;
     same(text.lines().skip(1).count(), records)
 }
 
-// How the recording of a plan with stamps ends, what is in the writer, and the failures that it counts.
+// How the recording of a plan with stamps ends, the text in the writer, and the failures that it counts.
 fn record_stamped<Rt: Threads + Wait + Sync>(
     rt: &Rt,
     alloc: Global,
@@ -65,7 +64,7 @@ fn record_stamped<Rt: Threads + Wait + Sync>(
     (end_of(answer), writer.into_inner().held, failures)
 }
 
-/// The text has the header of texts with stamps, and under it a record with each of these stamps, in this order.
+/// The text has the header of texts with stamps. The records after it have these stamps, in this order.
 pub(super) fn expect_stamps(text: &[u8], wanted: &[&str]) -> Result<(), Fail> {
     let text = str::from_utf8(text)?;
     expect_head(text, "at,event,process,op,data", wanted.len())?;
@@ -75,7 +74,7 @@ pub(super) fn expect_stamps(text: &[u8], wanted: &[&str]) -> Result<(), Fail> {
     Ok(())
 }
 
-// Whether the records under the header have these stamps, in this order.
+// Whether the records after the header have these stamps, in this order.
 fn has_stamps(text: &str, wanted: &[&str]) -> bool {
     for (line, stamp) in text.lines().skip(1).zip(wanted) {
         if line.split(',').next() != Some(*stamp) {
@@ -85,7 +84,7 @@ fn has_stamps(text: &str, wanted: &[&str]) -> bool {
     true
 }
 
-// The recording of a plan with stamps ends, and its records have these.
+// The recording of a plan with stamps ends, and its records have these stamps.
 fn expect_stamped<Rt: Threads + Wait + Sync>(
     rt: &Rt,
     alloc: Global,
@@ -108,8 +107,8 @@ fn lone_scan(alloc: Global, workers: usize) -> Result<Plan, Fail> {
     Ok(Plan::new(scripts)?)
 }
 
-// The first store draws 0 and 1. The scan begins at 2. Nobody stores beside it, so its first two collects read the same:
-// it draws 3 between them, which is no event's, and ends at 4. The second store draws 5 and 6.
+// The first store draws 0 and 1. The scan begins at 2. No store overlaps it, so its first two collects read the same. It draws 3
+// between them, which is not the stamp of an event, and ends at 4. The second store draws 5 and 6.
 #[test]
 fn a_lone_scan_leaves_the_stamp_between_its_collects_out(rt: HostRuntime) -> Result<(), Fail> {
     for workers in 2..9 {
@@ -133,14 +132,14 @@ fn a_recording_with_stamps_whose_writer_fails_has_a_front_of_its_text(
 pub(super) const ATOMIC_HEAD: &[u8] =
     b"events 8 calls 4 pending 0 views 2\nregular yes\nmonotone yes\natomic yes\norder 4\n";
 
-// The workers, their rounds, how many runs of them are judged, and how each report begins, where that is known.
+// The workers, their rounds, the number of runs that are judged, and how each report begins, if that is known.
 const SCANNED: &[(u32, u32, u32, &[u8])] = &[
     (2, 1, 20, ATOMIC_HEAD),
     (4, 1024, 20, b""),
     (8, 512, 5, b""),
 ];
 
-// The judged recording of a plan is atomic, and its report begins so.
+// The judged recording of a plan is atomic, and its report begins with `head`.
 fn expect_atomic<Rt: Threads + Wait + Sync>(
     rt: &Rt,
     alloc: Global,
@@ -164,8 +163,8 @@ fn a_judged_recording_of_scanning_workers_is_atomic_in_every_run(
     Ok(())
 }
 
-/// How many runs of racing workers there are at most, until one of them is not atomic. Workers that run at the same time need
-/// one or two; workers that take turns on one processor need more.
+/// The greatest number of runs of racing workers, until one of them is not atomic. Workers that run at the same time need one or
+/// two. Workers that take turns on one processor need more.
 const RACES: u32 = 2000;
 
 #[test]
@@ -183,7 +182,7 @@ fn judged_recordings_of_four_workers_are_not_all_atomic_without_scans(
     Err(Fail::from("each run was atomic"))
 }
 
-// The recording of a plan fails into each cup with room for less than these bytes, and a front of them is in the cup.
+// The recording of a plan fails in each cup with room for less than these bytes, and a front of them is in the cup.
 fn expect_front<Rt: Threads + Wait + Sync>(
     rt: &Rt,
     alloc: Global,

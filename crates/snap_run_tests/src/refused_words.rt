@@ -1,4 +1,4 @@
-//! Words that ask for no job, and what is said of them.
+//! Words that ask for no job, and what is said about them.
 use crate::checks::same;
 use crate::jobs::words;
 use snap_words::{JobFault, job_of};
@@ -44,6 +44,10 @@ const OTHER_LINES: &[&str] = &[
     "snapjudge shrink --events 0",
     "snapjudge explain --events x",
     "snapjudge draw --events 1048577",
+    "snapjudge stats --events 0",
+    "snapjudge stats --format xml",
+    "snapjudge stats --draw",
+    "snapjudge stats a.csv b.csv",
     "snapjudge check --views -1",
     "snapjudge check --quiet=yes",
     "snapjudge check --format",
@@ -111,8 +115,8 @@ fn other_words_get_the_usage(rt: HostRuntime) -> Result<(), Fail> {
     Ok(())
 }
 
-// Lines with a number beyond the limit of events, or with a limit that allows no round, and what is said of it: as of a number that
-// the parser refuses.
+// Lines with a number beyond the limit of events, or with a limit that allows no round, and what is said about it. It is what the
+// parser says about a number that it refuses.
 const BEYOND: &[(&str, &str)] = &[
     (
         "snapjudge record --rounds 2049",
@@ -156,7 +160,7 @@ const BEYOND: &[(&str, &str)] = &[
     ),
 ];
 
-// What is said of a line that asks for no job.
+// What is said about a line that asks for no job.
 fn said_of(alloc: Global, line: &str) -> Result<String, Fail> {
     match job_of(alloc, words(alloc, line)?) {
         Err(JobFault::Usage(said)) => Ok(said),
@@ -164,7 +168,7 @@ fn said_of(alloc: Global, line: &str) -> Result<String, Fail> {
     }
 }
 
-// Of each line this is said.
+// This is said about each line.
 fn expect_said(alloc: Global, known: &[(&str, &str)]) -> Result<(), Fail> {
     for (line, text) in known {
         same(said_of(alloc, line)?.as_str(), *text)?;
@@ -179,7 +183,7 @@ fn a_number_beyond_the_limit_of_events_is_refused_as_the_parser_does(
     expect_said(rt.alloc(), BEYOND)
 }
 
-// Lines with options that do not go together, or with one that needs another, and what is said of them.
+// Lines with options that do not go together, or with one that needs another, and what is said about them.
 const TOGETHER: &[(&str, &str)] = &[
     (
         "snapjudge check --quiet --format json",

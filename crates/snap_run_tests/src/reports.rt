@@ -37,7 +37,7 @@ const WORKED: &[Worked] = &[
         "events 6 calls 3 pending 0 views 1\nregular no\nmonotone yes\natomic no\n\
          proximity 2 first view 3 entry 2:0 old\n",
     ),
-    // entries that do not rise
+    // entries that are not in rising order
     (
         "begin,1,view,\nend,1,view,1:1:1 0:1:1\n",
         "refused",

@@ -9,7 +9,7 @@ use std::sync::Wait;
 use std::test::Fail;
 use std::thread::Threads;
 
-// How a recording into a cup ended, how many failures were counted, and the cup.
+// How a recording into a cup ended, the number of failures that were counted, and the cup.
 type Found = (&'static str, u64, Cup);
 
 // One round of two workers, each of whom stores one value and then takes a view, or scans.
@@ -26,7 +26,7 @@ fn rounds<Rt: Threads + Wait + Sync>(
     (end_of(answer), failures, writer.into_inner())
 }
 
-// The same with stamps.
+// One such round, written with stamps.
 fn stamped<Rt: Threads + Wait + Sync>(rt: &Rt, alloc: Global, scan: bool, cup: Cup) -> Found {
     let mut writer = Counted::new(cup);
     let answer = record_rounds_stamped(rt, alloc, 2, 1, scan, &mut writer);
@@ -34,12 +34,12 @@ fn stamped<Rt: Threads + Wait + Sync>(rt: &Rt, alloc: Global, scan: bool, cup: C
     (end_of(answer), failures, writer.into_inner())
 }
 
-// A cup that takes a byte a write until it is full. Every other one then takes nothing, in place of an error.
+// A cup that takes one byte for each write until it is full. If its room is even, it then fails; otherwise it takes nothing.
 fn small(alloc: Global, room: usize) -> Cup {
     Cup::new(alloc, room, 1, room % 2 == 0, false)
 }
 
-// The write fails, is counted once, and is the last call: what is in the cup is all of this, and nothing is flushed.
+// The write fails, is counted once, and is the last call. The cup has exactly this, and nothing is flushed.
 fn expect_front(found: Found, front: &[u8]) -> Result<(), Fail> {
     let (end, failures, cup) = found;
     same((end, failures, cup.flushes), ("write failed", 1, 0))?;
@@ -82,7 +82,7 @@ fn rounds_with_stamps_whose_writer_fails_leave_a_front(rt: HostRuntime) -> Resul
     Ok(())
 }
 
-// Cups with room for all, of few bytes a write and of many, and whose flush fails or not; how a recording ends.
+// Cups with room for everything, of few bytes for each write and of many, and whether their flush fails; then how a recording ends.
 const WIDE: &[(usize, bool, &str, u64)] = &[
     (3, false, "recorded", 0),
     (3, true, "write failed", 1),

@@ -1,4 +1,4 @@
-//! What worked histories are cut down to.
+//! The witnesses to which worked histories are cut down.
 use super::checks::{end_of, history, same, written};
 use snap_core::{Counted, Limit};
 use snap_runs::shrink_run;
@@ -8,7 +8,7 @@ use std::io::{Read, Write};
 use std::test::Fail;
 use std::thread::Threads;
 
-// Records under the header, how it ends, and the records of what is left.
+// Records after the header, how the run ends, and the records that are left.
 const CUT: &[(&str, &str, &str)] = &[
     // the view of a value that nobody wrote, and the update of that number; the stale view is left out
     (
@@ -23,20 +23,20 @@ const CUT: &[(&str, &str, &str)] = &[
         "irregular",
         "begin,0,update,0:1:8\nend,0,update,\nbegin,1,view,\nend,1,view,\n",
     ),
-    // a view that shows an update before it begins, behind others
+    // a view that shows an update before it begins, after others
     (
         "begin,1,update,1:1:4\nend,1,update,\nbegin,2,view,\nend,2,view,0:1:7 1:1:4\nbegin,0,update,0:1:7\n",
         "irregular",
         "begin,2,view,\nend,2,view,0:1:7\nbegin,0,update,0:1:7\n",
     ),
-    // a later view that shows less, behind an update that both show
+    // a later view that shows less, after an update that both show
     (
         "begin,0,update,0:1:7\nend,0,update,\nbegin,0,update,0:2:8\nbegin,1,view,\nend,1,view,0:2:8\n\
          begin,2,view,\nend,2,view,0:1:7\nend,0,update,\n",
         "regular",
         "begin,0,update,0:1:8\nbegin,1,view,\nend,1,view,0:1:8\nbegin,2,view,\nend,2,view,\nend,0,update,\n",
     ),
-    // an update that is missed before one that is shown, with two calls of another process round it
+    // an update that is missed before one that is shown, with two calls of another process around it
     (
         "begin,3,view,\nend,3,view,\nbegin,2,view,\nbegin,0,update,0:1:5\nend,0,update,\n\
          begin,1,update,1:1:6\nend,1,update,\nend,2,view,1:1:6\nbegin,3,view,\nend,3,view,0:1:5 1:1:6\n",
@@ -45,7 +45,7 @@ const CUT: &[(&str, &str, &str)] = &[
     ),
 ];
 
-// Atomic histories, and histories of no call that is not of their fault: nothing is left out.
+// Atomic histories, and histories all of whose calls belong to their fault: nothing is left out.
 const LEFT: &[(&str, &str)] = &[
     ("", "atomic"),
     (

@@ -1,8 +1,8 @@
 //! The objects of worked texts.
 use super::checks::{end_of, history, same, written};
 use snap_check::CheckOptions;
-use snap_core::{Counted, OpenGate};
-use snap_tell::tell_run;
+use snap_core::Counted;
+use snap_runs::tell_run;
 use snap_testing::{Cup, Drip};
 use snap_threads::Cutting;
 use std::alloc::Global;
@@ -10,7 +10,7 @@ use std::io::{Read, Write};
 use std::test::Fail;
 use std::thread::Threads;
 
-// How the answer on a text ends, and the object of it.
+// How the answer for a text ends, and its object.
 fn told<Rt: Threads + Sync>(
     rt: &Rt,
     alloc: Global,
@@ -25,16 +25,7 @@ fn told<Rt: Threads + Sync>(
         views: least,
         ..CheckOptions::plain()
     };
-    let answer = tell_run(
-        rt,
-        alloc,
-        name,
-        &mut reader,
-        &mut writer,
-        cutting,
-        &OpenGate,
-        options,
-    );
+    let answer = tell_run(rt, alloc, name, &mut reader, &mut writer, cutting, options);
     written(alloc, answer, writer)
 }
 
@@ -132,7 +123,6 @@ fn tell_over<Rt: Threads + Sync, R: Read + Drop, W: Write + Drop>(
         &mut reader,
         &mut writer,
         cutting,
-        &OpenGate,
         CheckOptions::plain(),
     ));
     (end, reader.failures(), writer.failures())

@@ -1,4 +1,4 @@
--- The explanation of a text that is a history, and of one that is none.
+-- The explanation of a text that is a history, and of one that is not.
 use Rattle.std.proofs.Common.{◌≡◌, ◌<◌, ◌∙◌, inl, inr, ℕ, zero, suc, List, Option, Some, None, refl, subst, arith}
 use Rattle.std.specs.Prelude.{IfSome}
 use Rattle.snap_core.specs.declared.event.Event.{Event}
@@ -16,7 +16,7 @@ pub explained_text : (limit : ℕ) (text : List ℕ) (es : List Event) (records 
 explained_text limit text es records given status out have same e =
     inr (record { events = es; records = records; history = have; explained = subst (λ rs. ExplainsHistory es rs status out) same e })
 
--- the record at a place is looked up in the room, which has the text wherever there may be such a record
+-- the record at a place is looked up in the room, which has the text if there may be such a record
 in_the_text : (limit : ℕ) (text room : List ℕ) (place : ℕ) (fault : TextFault) (out : List ℕ) → (0 < place → room ≡ text) → IsRefusalExplanation limit room place fault out → IsRefusalExplanation limit text place fault out
 unfolding refusal_explanation
 in_the_text limit text room zero fault out leaves e = e

@@ -1,4 +1,4 @@
--- What is written where a history is explained.
+-- What is written if a history is explained.
 use Rattle.std.specs.Prelude.{◌≡◌, ◌⊎◌, ℕ, List}
 use Rattle.snap_core.specs.declared.event.Event.{Event}
 use Rattle.snap_core.specs.Calls.{calls_of}
@@ -15,7 +15,7 @@ use Rattle.snap_explain.specs.Refusals.{IsRefusalExplanation}
 abbrev pub ExplainsHistory : List Event → List ℕ → Status → List ℕ → Type 0
 ExplainsHistory events records status out = HasStatus events status × IsExplanation records (calls_of events) out
 
--- the same of a text, where a history may have so many events
+-- the status and the explanation of a text that is a history, if a history may have up to limit events
 pub record IsExplainedText (limit : ℕ) (text : List ℕ) (status : Status) (out : List ℕ) : Type 0 where
   pub events : List Event
   pub records : List ℕ
@@ -30,6 +30,6 @@ pub record IsExplainedRefusal (limit : ℕ) (text : List ℕ) (status : Status) 
   pub answers : status ≡ Refused
   pub explained : IsRefusalExplanation limit text place fault out
 
--- the status and what is written, where a history may have so many events
+-- the status and what is written, if a history may have up to limit events
 abbrev pub IsExplained : ℕ → List ℕ → Status → List ℕ → Type 0
 IsExplained limit text status out = IsExplainedRefusal limit text status out ⊎ IsExplainedText limit text status out

@@ -21,9 +21,9 @@ use Rattle.snap_verdict.specs.declared.status.Status.{Status}
 use Rattle.snap_verdict.specs.declared.status.Status.TheVariants.{Atomic, Recorded, Regular}
 use Rattle.snap_verdict.specs.Reports.{IsReport}
 
--- a history that a board's run of these scripts has: regular and monotone, atomic where no script has a collect, without a pending call, and
--- with the calls of each worker's script but for scans that were interfered with, as the process of its number, in their order, each once,
--- and no other, so with two events for a step at most
+-- a history that a board's run of these scripts has: regular and monotone, without a pending call, and atomic if no script has a collect.
+-- The process of a worker's number has the calls of that worker's script, in their order, each once, and no other. Scans that were
+-- interfered with are left out. So there are at most two events for a step
 pub record IsRecordingOf (scripts : List (List Step)) (events : List Event) : Type 0 where
   pub kept : IsBoundedHistory events
   pub few : length events ≤ 2 * steps_in scripts
@@ -35,8 +35,8 @@ pub record IsRecordingOf (scripts : List (List Step)) (events : List Event) : Ty
   pub whole : HasNoScans scripts → HasWholeScripts scripts events
   pub atomic : HasNoViews scripts → IsAtomic (calls_of events)
 
--- the stamps that the board gave the events of a run of these scripts, one for each event, strictly rising, and 0, 1, 2 and so on where no script
--- has a scan
+-- the stamps that the board gave the events of a run of these scripts: one for each event, strictly rising. They are 0, 1, 2 and so on
+-- if no script has a scan
 pub record HasStamps (scripts : List (List Step)) (events : List Event) (stamps : List ℕ) : Type 0 where
   pub stamped : AreStamped scripts events stamps
   pub rising : IsStrictlyIncreasing stamps
@@ -66,12 +66,12 @@ pub record IsRecordingReport (scripts : List (List Step)) (status : Status) (out
   pub answers : (status ≡ Atomic) ⊎ (status ≡ Regular)
   pub report : (limit : ℕ) → 1 ≤ limit → 2 * steps_in scripts ≤ limit → IsReport limit (history_text events) status out
 
--- the status and the text of a recording, or where it is judged its status and report
+-- the status and the text of a recording, or its status and its report if it is judged
 abbrev pub IsRecorded : Bool → List (List Step) → Status → List ℕ → Type 0
 IsRecorded false scripts status out = IsRecordingText scripts status out
 IsRecorded true scripts status out = IsRecordingReport scripts status out
 
--- what a writer holds before and after a run without a reader: a whole text of that kind went out, a front of one, or nothing
+-- what a writer holds before and after a run without a reader. A whole text of that kind went out, a front of one, or nothing
 
 abbrev pub FailedAs : (Status → List ℕ → Type 0) → Option (List ℕ) → Option (List ℕ) → RunFault → Type 0
 FailedAs Is old new faults.Read = ⊥
@@ -82,7 +82,7 @@ abbrev pub WroteAs : (Status → List ℕ → Type 0) → Option (List ℕ) → 
 WroteAs Is old new (Ok status) = WroteWhole Is old new status
 WroteAs Is old new (Err fault) = FailedAs Is old new fault
 
--- the writer's count of failures before and after a run: it rose exactly where writing failed, or stands at its last value
+-- the writer's count of failures before and after a run: it rose exactly if writing failed, or is at its last value
 
 abbrev pub WriteFaultCounts : ℕ → ℕ → RunFault → Type 0
 WriteFaultCounts old new faults.Read = ⊥

@@ -22,18 +22,18 @@ pub record IsWitnessOf (events : List Event) (witness : List Event) : Type 0 whe
   pub not_atomic : IsAtomic (calls_of witness) → ⊥
   pub regular : IsRegular (calls_of witness) ↔ IsRegular (calls_of events)
 
--- the status of a history, and a witness exactly where it is not atomic
+-- the status of a history, and a witness exactly if it is not atomic
 abbrev pub IsFirstWitness : List Event → Status → Option LimitedEvents → Type 0
 IsFirstWitness events status (Some witness) = HasStatus events status × (IsAtomic (calls_of events) → ⊥) × IsWitnessOf events witness.events
 IsFirstWitness events status None = HasStatus events status × IsAtomic (calls_of events)
 
--- the status of a history, and the history itself where it is atomic, and a witness where it is not
+-- the status of a history, and what it is cut to: itself if it is atomic, and otherwise a witness
 pub record IsCutTo (events : List Event) (status : Status) (left : List Event) : Type 0 where
   pub answers : HasStatus events status
   pub atomic : IsAtomic (calls_of events) → left ≡ events
   pub not_atomic : (IsAtomic (calls_of events) → ⊥) → IsWitnessOf events left
 
--- the same of a text, where a history may have so many events
+-- the status of a text that is a history, and the text of what it is cut to. A history may have up to limit events
 pub record IsCutText (limit : ℕ) (text : List ℕ) (status : Status) (out : List ℕ) : Type 0 where
   pub events : List Event
   pub left : List Event

@@ -1,12 +1,23 @@
-//! The runs of the program beside the check, from a reader to a writer: a shrinking, an explanation, a recording.
+//! The runs of the program other than the plain check, from a reader to a writer. They write a JSON object, an explanation, a witness,
+//! a picture, counts, or a recording.
 #![tactic(auto)]
 
+mod draw;
+mod draw_witness;
 mod explain;
+mod markup;
 mod recording;
 mod rounds;
 mod shrink;
+mod stats;
+mod tell;
 
-pub use explain::explain_run;
+pub use draw::{draw_input, draw_run};
+pub use draw_witness::{draw_witness_input, draw_witness_run};
+pub use explain::{explain_input, explain_run};
+pub use markup::{Explained, Lines, Markup, Page, Svg};
 pub use recording::{record_run, record_run_stamped};
 pub use rounds::{record_rounds, record_rounds_stamped};
-pub use shrink::{cut, shrink_run};
+pub use shrink::{shrink_input, shrink_run};
+pub use stats::{stats_input, stats_run};
+pub use tell::{tell_input, tell_run};

@@ -43,7 +43,7 @@ fn recorded<Rt: Threads + Wait + Sync, G: Gate>(
 }
 
 // Writes the text of a history, and answers a status.
-pub(crate) fn write_text<W: Write>(
+fn write_text<W: Write>(
     alloc: Global,
     history: &History,
     status: Status,
@@ -98,17 +98,17 @@ fn write_report<Rt: Threads + Wait + Sync, W: Write>(
     }
 }
 
-/// Records a run of the plan on a board, and writes its history as text, with the status `Recorded`. Where it is to be
-/// judged, it writes the history's report in place of the text, and the status is that report's, `Atomic` or `Regular`. The
-/// workers call the gate; the judge has the cutting, and no gate.
+/// Records a run of the plan on a board, and writes its history as text, with the status `Recorded`. With `judge` it writes the
+/// history's report instead of the text, and the status is that report's, `Atomic` or `Regular`. The workers call the gate. The
+/// judge has the cutting, and no gate.
 ///
-/// The history is regular and monotone, has no pending call, and has for each worker, as the process of its number, the calls of
-/// its script in their order, each once, and no other; but scans that were interfered with are left out. It is one run's:
-/// another run may give another. Where no script has a collect it is atomic, and so is the verdict.
+/// The history is regular and monotone, and has no pending call. The process of a worker's number has the calls of that worker's
+/// script in their order, each once, and no other. Scans that were interfered with are left out. Another run may give another
+/// history. If no script has a collect, the history is atomic, and so is the verdict.
 ///
-/// Nothing is written until the whole text or report is built: after `Memory` nothing went out and the writer's count of
-/// failures is unchanged, after `Write` a front of it, perhaps all of it, and that count rose, or stood at its last value.
-/// `Read` is never answered. The writer is flushed once at the end. The run waits for its workers, and so for the gate.
+/// Nothing is written until the whole text or report is built. After `Memory` nothing went out, and the writer's count of failures
+/// is unchanged. After `Write` a prefix went out, perhaps all of it, and that count rose, or had saturated. `Read` is never
+/// answered. The writer is flushed once at the end. The run waits for its workers, and so for the gate.
 pub fn record_run<Rt: Threads + Wait + Sync, W: Write, G: Gate>(
     rt: &Rt,
     alloc: Global,
@@ -130,10 +130,9 @@ pub fn record_run<Rt: Threads + Wait + Sync, W: Write, G: Gate>(
     }
 }
 
-/// Records a run of the plan on a board, and writes its history as text with stamps, with the status `Recorded`: before
-/// each event the stamp that the board gave it, that of its record's begin or end. The stamps rise strictly, and where no
-/// script has a scan they are 0, 1, 2 and so on. Of the history, the refusals, the writer and the waiting the same is true
-/// as in `record_run`.
+/// Records a run of the plan on a board, and writes its history as text with stamps, with the status `Recorded`. Before each event
+/// is the stamp that the board gave it, that of its record's begin or end. The stamps rise strictly, and if no script has a scan they
+/// are 0, 1, 2 and so on. The history, the refusals, the writer and the waiting are as in `record_run`.
 pub fn record_run_stamped<Rt: Threads + Wait + Sync, W: Write, G: Gate>(
     rt: &Rt,
     alloc: Global,

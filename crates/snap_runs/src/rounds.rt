@@ -15,7 +15,7 @@ use std::io::Write;
 use std::sync::Wait;
 use std::thread::Threads;
 
-// So many workers in so many rounds of a store and a view each, or a scan in place of the view.
+// Workers in rounds of a store and a view each, or with `scan` a scan in place of the view.
 fn plan_of(alloc: Global, workers: u32, rounds: u32, scan: bool) -> Result<Plan, AllocError>
     requires { AreWorkers workers × AreRounds rounds }
     ensures { IfOk result (λ plan. plan.scripts ≡ rounds_scripts scan workers rounds) }
@@ -27,8 +27,8 @@ fn plan_of(alloc: Global, workers: u32, rounds: u32, scan: bool) -> Result<Plan,
     }
 }
 
-/// Records `LEAST_WORKERS` to `WORKER_LIMIT` workers of a plan in so many rounds of a store and a view each, or a scan in
-/// place of the view, and judges with the usual cutting where that is asked for. Otherwise as `record_run`.
+/// Records `LEAST_WORKERS` to `WORKER_LIMIT` workers in rounds of a store and a view each, or with `scan` a scan in place of the
+/// view. With `judge` it judges by the usual cutting. Otherwise as `record_run`.
 pub fn record_rounds<Rt: Threads + Wait + Sync, W: Write>(
     rt: &Rt,
     alloc: Global,
@@ -54,7 +54,7 @@ pub fn record_rounds<Rt: Threads + Wait + Sync, W: Write>(
     )
 }
 
-/// Records the same rounds, and writes their history with stamps, as `record_run_stamped`.
+/// Records the rounds of `record_rounds`, and writes their history with stamps, as `record_run_stamped` does.
 pub fn record_rounds_stamped<Rt: Threads + Wait + Sync, W: Write>(
     rt: &Rt,
     alloc: Global,

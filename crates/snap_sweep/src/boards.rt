@@ -1,4 +1,4 @@
-//! Desks of a board, which are as before where memory is refused.
+//! Desks of a board, which are as before if memory is refused.
 ghost use Rattle.std.specs.Prelude.{IfOk, IfSome};
 ghost use Rattle.snap_board.specs.Desks.{IsDeskOf, IsGatheredOf};
 
@@ -8,7 +8,7 @@ use snap_record::{Board, CollectRefusal, Desk, Gathered, Record, RecordedOp, Sca
 use snap_testing::entry;
 use std::alloc::{AllocError, Global};
 
-// The record has these stamps and is of a view that shows just this entry.
+// The record has these stamps and is of a view that shows only this entry.
 fn expect_view(record: &Record, begun: u64, ended: u64, shown: Entry) -> Result<(), Fault> {
     let shows = match &record.op {
         RecordedOp::Stored(_) => false,
@@ -17,7 +17,7 @@ fn expect_view(record: &Record, begun: u64, ended: u64, shown: Entry) -> Result<
     expect(record.begun == begun && record.ended == ended && shows)
 }
 
-// Takes a desk, and once more where that is refused.
+// Takes a desk, and once more if that is refused.
 fn take_desk(
     alloc: Global,
     board: &Board,
@@ -33,7 +33,7 @@ fn take_desk(
     }
 }
 
-// Stores, and then collects, and once more where that is refused, with the stamps that the refused collect would have had.
+// Stores, and then collects. If the collect is refused, it collects again, with the stamps that the refused collect would have had.
 fn store_and_collect(alloc: Global, board: &Board, desk: &mut Desk) -> Result<(), Fault>
     requires { IsDeskOf board.now desk.old }
     ensures { IsDeskOf board.now desk.new }
@@ -49,7 +49,7 @@ fn store_and_collect(alloc: Global, board: &Board, desk: &mut Desk) -> Result<()
     expect_view(&viewed, 2, 3, entry(1, 1, 9))
 }
 
-// A fresh board of two desks, what it gathers, and its highest desk.
+// A new board of two desks, its gathered desks, and its highest desk.
 fn opened(alloc: Global) -> Result<(Board, Gathered, Desk), Fault>
     ensures gathered { IfOk result (λ r. IsGatheredOf r.0 r.1) }
     ensures desk { IfOk result (λ r. IsDeskOf r.0 r.2) }
@@ -73,7 +73,7 @@ pub(crate) fn collect(alloc: Global) -> Result<(), Fault> {
     expect(closed.entry(1) == Some(entry(1, 1, 9)) && closed.entry(0).is_none())
 }
 
-// Stores, and then scans, and once more where that is refused, with the stamps that the refused scan would have had.
+// Stores, and then scans. If the scan is refused, it scans again, with the stamps that the refused scan would have had.
 fn store_and_scan(alloc: Global, board: &Board, desk: &mut Desk) -> Result<(), Fault>
     requires { IsDeskOf board.now desk.old }
     ensures { IsDeskOf board.now desk.new }

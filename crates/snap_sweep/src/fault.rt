@@ -5,21 +5,21 @@ use snap_record::{CollectRefusal, OpenRefusal, PlanRefusal, RecordRefusal, ScanR
 use snap_testing::Refused;
 use std::alloc::{AllocError, AllocFailed};
 
-/// Why a case has not its whole answer.
+/// Why a case does not have its whole answer.
 #[derive(Clone, Copy, PartialEq, Eq, Debug)]
 pub(crate) enum Fault {
     /// Memory was refused.
     Memory,
-    /// An answer is another than the worked one, or a refusal changed what it was to leave.
+    /// An answer differs from the worked one, or a refusal changed what it must leave.
     Wrong,
 }
 
-/// Something is as it is to be.
+/// Something is as it must be.
 pub(crate) fn expect(holds: bool) -> Result<(), Fault> {
     if holds { Ok(()) } else { Err(Fault::Wrong) }
 }
 
-// Memory, where a refusal is for want of it.
+// Memory, if a refusal is for lack of it.
 fn memory_if(is_memory: bool) -> Fault {
     if is_memory {
         Fault::Memory

@@ -1,6 +1,6 @@
 //! Histories, their calls, their faults and their orders.
 ghost use Rattle.snap_core.specs.Calls.{calls_of};
-ghost use Rattle.snap_pairs.specs.Claiming.{IsClaimOf};
+ghost use Rattle.snap_threads.specs.Claiming.{IsClaimOf};
 ghost use Rattle.snap_theory.specs.Faults.{HasNoFault};
 
 use crate::fault::{Fault, expect};
@@ -14,8 +14,7 @@ use snap_threads::{Cutting, PIECE_LIMIT, WORKER_LIMIT};
 use std::alloc::Global;
 use std::thread::Threads;
 
-// Pushes an event. Where memory is refused the history is as long as before and the same event comes back, and it is pushed
-// again.
+// Pushes an event. If memory is refused, the history is as long as before and the same event comes back, and it is pushed again.
 fn push_event(history: &mut History, event: Event) -> Result<(), Fault> {
     let length = history.len();
     let (process, is_begin) = (event.process(), event.is_begin());
@@ -46,7 +45,7 @@ fn push_begins(history: &mut History) -> Result<(), Fault> {
     Ok(())
 }
 
-// Ends a view.
+// Ends a view with one entry.
 fn push_end(alloc: Global, history: &mut History) -> Result<(), Fault> {
     match View::from_entries(vec![in alloc; LAST]?) {
         Ok(view) => push_event(history, Event::EndView { process: 7, view }),
@@ -78,7 +77,7 @@ pub(crate) fn push(alloc: Global) -> Result<(), Fault> {
     expect(history.len() == 22)
 }
 
-/// Of two pending updates one is shown by the view.
+/// The view shows one of two pending updates.
 pub(crate) fn index(alloc: Global) -> Result<(), Fault> {
     let history = history_of(alloc, SEEN_PENDING)?;
     let index = Index::build(alloc, &history)?;
@@ -93,7 +92,7 @@ fn printed<R: Threads + Sync>(rt: &R, alloc: Global, index: &Index<'_>) -> Resul
     Ok(build(rt, alloc, index)?)
 }
 
-// The order of an index is this one. Where memory is refused it is made once more.
+// The order of an index is this one. If memory is refused, it is made once more.
 fn expect_printed<R: Threads + Sync>(
     rt: &R,
     alloc: Global,
@@ -109,7 +108,7 @@ fn expect_printed<R: Threads + Sync>(
     expect(order.as_slice() == known)
 }
 
-// Of the orders of an index this one is legal, and printed, and its reverse is not.
+// This order of an index is legal, and printed, and its reverse is not.
 fn expect_order<R: Threads + Sync>(rt: &R, alloc: Global, index: &Index<'_>) -> Result<(), Fault> {
     expect(!check_order(alloc, index, &[2, 0])?)?;
     if !check_order(alloc, index, &[0, 2])? {
@@ -125,7 +124,7 @@ pub(crate) fn order<R: Threads + Sync>(rt: &R, alloc: Global) -> Result<(), Faul
     expect_order(rt, alloc, &index)
 }
 
-// The tally of an index that is cut so has so many read faults and no other.
+// The tally of an index by this cutting has this number of read faults and no other fault.
 fn expect_cut<R: Threads + Sync>(
     rt: &R,
     alloc: Global,
@@ -138,7 +137,7 @@ fn expect_cut<R: Threads + Sync>(
     expect(found.read.count() == count && found.write.count() == 0)
 }
 
-// The same of a history.
+// The tally of a history by this cutting has this number of read faults and no other fault.
 fn expect_read_faults<R: Threads + Sync>(
     rt: &R,
     alloc: Global,
@@ -151,7 +150,7 @@ fn expect_read_faults<R: Threads + Sync>(
     expect_cut(rt, alloc, &index, cutting, count)
 }
 
-/// Two views disagree, and as many workers as there may be see it.
+/// Two views disagree, and as many workers as there may be find it.
 pub(crate) fn tally_of_pieces<R: Threads + Sync>(rt: &R, alloc: Global) -> Result<(), Fault> {
     let Ok(cutting) = Cutting::new(PIECE_LIMIT, WORKER_LIMIT) else {
         return Err(Fault::Wrong);
@@ -159,13 +158,12 @@ pub(crate) fn tally_of_pieces<R: Threads + Sync>(rt: &R, alloc: Global) -> Resul
     expect_read_faults(rt, alloc, CROSSED_VIEWS, cutting, 2)
 }
 
-/// Four views disagree about components far from one another, whose numbers several threads take up.
+/// Four views disagree about components far from one another, whose numbers several threads read.
 pub(crate) fn tally_of_parts<R: Threads + Sync>(rt: &R, alloc: Global) -> Result<(), Fault> {
     expect_read_faults(rt, alloc, FOUR_WAYS, Cutting::usual(), 12)
 }
 
-// By two workers an index has so many read faults, and its views are a chain or not. Where memory is refused that is found
-// once more.
+// With two workers an index has this number of read faults, and its views are a chain or not. If memory is refused, it is judged once more.
 fn expect_by_two<R: Threads + Sync>(
     rt: &R,
     alloc: Global,
@@ -183,7 +181,7 @@ fn expect_by_two<R: Threads + Sync>(
     expect(found.read.count() == count && chain.is_some() == is_chain)
 }
 
-// The same of a history.
+// With two workers a history has this number of read faults, and its views are a chain or not.
 fn expect_tally_and_chain<R: Threads + Sync>(
     rt: &R,
     alloc: Global,
@@ -196,7 +194,7 @@ fn expect_tally_and_chain<R: Threads + Sync>(
     expect_by_two(rt, alloc, &index, count, is_chain)
 }
 
-/// Tallies by two workers, with a chain where there is no read fault.
+/// Tallies by two workers, with a chain if there is no read fault.
 pub(crate) fn tallies_and_chains<R: Threads + Sync>(rt: &R, alloc: Global) -> Result<(), Fault> {
     expect_tally_and_chain(rt, alloc, ATOMIC_RUN, 0, true)?;
     expect_tally_and_chain(rt, alloc, CROSSED_VIEWS, 2, false)
@@ -213,7 +211,7 @@ fn draw_three(counter: &Claims, first: &mut Claim, second: &mut Claim) -> Result
     expect(counter.draw(first) == Some(2) && counter.draw(second).is_none())
 }
 
-/// Of three pieces the first claim draws two, and both claims close the counter.
+/// The first claim draws two of three pieces, and both claims close the counter.
 pub(crate) fn claims(alloc: Global) -> Result<(), Fault> {
     let Ok(cutting) = Cutting::new(3, 2) else {
         return Err(Fault::Wrong);

@@ -1,6 +1,6 @@
-//! Makes each call that takes memory on a small worked case and says of each whether its answer is the whole one. Where memory
-//! is refused, as from outside, a call says so, what it leaves is as it promises, and the next line is whole again. No user runs
-//! it; a script refuses it each allocation in turn.
+//! Makes each call that takes memory on a small worked case, and says of each whether its answer is the whole one. If memory is
+//! refused, as from outside, a call says so, and what it leaves is as it promises. The next line is then whole again. No user runs
+//! this program; a script refuses it each allocation, one after the other.
 #![tactic(auto)]
 
 mod boards;
@@ -16,7 +16,7 @@ use std::sync::Wait;
 use std::thread::Threads;
 use texts::Made;
 
-// How a case ended, in words.
+// The outcome of a case, in words.
 fn outcome(seen: Result<(), Fault>) -> &'static str {
     match seen {
         Ok(()) => "whole",
@@ -25,7 +25,6 @@ fn outcome(seen: Result<(), Fault>) -> &'static str {
     }
 }
 
-// Says how a case ended.
 fn say(host: &HostRuntime, name: &str, seen: Result<(), Fault>) {
     let words = outcome(seen);
     let _ = println!(host; "{name}: {words}");

@@ -10,7 +10,7 @@ use std::alloc::Global;
 use std::sync::Wait;
 use std::thread::Threads;
 
-// Sends a record of a process. Where it is refused it comes back, and is sent again.
+// Sends a record of a process. If it is refused, it comes back, and is sent again.
 fn send<R: Wait>(
     rt: &R,
     alloc: Global,
@@ -76,7 +76,7 @@ pub(crate) fn relay<R: Wait>(rt: &R, alloc: Global) -> Result<(), Fault> {
     expect(relay.finish(rt, both, taker).is_ok())
 }
 
-// A recording has 24 events, of which two are missing for each scan that was interfered with, and a stamp for each that is there.
+// A recording has 24 events, but two fewer for each interfered scan, and a stamp for each event that is there.
 fn expect_rounds(recording: &Recording, has_scans: bool) -> Result<(), Fault> {
     let event_count = recording.history.len() as u64;
     expect(event_count + 2 * u64::from(recording.interfered) == 24)?;
@@ -84,8 +84,7 @@ fn expect_rounds(recording: &Recording, has_scans: bool) -> Result<(), Fault> {
     expect(recording.stamps.len() == recording.history.len())
 }
 
-/// Two workers in three rounds of a store and a view each make 24 events with as many stamps, and two fewer for each scan
-/// that was interfered with.
+/// Two workers in three rounds of a store and a view each make 24 events with as many stamps. Each interfered scan makes two fewer.
 pub(crate) fn recording<R: Threads + Wait + Sync>(
     rt: &R,
     alloc: Global,

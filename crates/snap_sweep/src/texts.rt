@@ -59,7 +59,7 @@ pub(crate) fn read(alloc: Global) -> Result<(), Fault> {
     expect_read(alloc, VIEW_BESIDE_UPDATE_STAMPED)
 }
 
-// The events of this text stand in the records from 2 to 5.
+// The events of this text are in the records from 2 to 5.
 fn expect_records(alloc: Global, text: &[u8]) -> Result<(), Fault> {
     let mut room = Vec::new(alloc);
     let mut reader = Counted::new(text);
@@ -73,7 +73,7 @@ pub(crate) fn read_with_records(alloc: Global) -> Result<(), Fault> {
     expect_records(alloc, VIEW_BESIDE_UPDATE_STAMPED)
 }
 
-/// The last record of a text has four fields, and there is none behind it.
+/// The last record of a text has four fields, and there is none after it.
 pub(crate) fn record(alloc: Global) -> Result<(), Fault> {
     expect(record_of(alloc, VIEW_BESIDE_UPDATE_TEXT, 6)?.is_none())?;
     match record_of(alloc, VIEW_BESIDE_UPDATE_TEXT, 5)? {
@@ -82,7 +82,7 @@ pub(crate) fn record(alloc: Global) -> Result<(), Fault> {
     }
 }
 
-// The history of this text has four events, read from a reader into a vector, which has the text then.
+// The history of this text has four events. It is read from a reader into a vector, which then has the text.
 fn expect_read_in<R: Threads + Sync>(rt: &R, alloc: Global, text: &[u8]) -> Result<(), Fault> {
     let mut room = vec![in alloc; b'x']?;
     let mut reader = Counted::new(text);
@@ -92,7 +92,7 @@ fn expect_read_in<R: Threads + Sync>(rt: &R, alloc: Global, text: &[u8]) -> Resu
     expect(answer?.len() == 4 && room.as_slice() == text)
 }
 
-// The same, after it was read from memory.
+// The history of this text has four events. It is read from memory, and then from a reader into a vector.
 fn expect_read_in_memory<R: Threads + Sync>(
     rt: &R,
     alloc: Global,
@@ -108,7 +108,7 @@ pub(crate) fn read_in_memory<R: Threads + Sync>(rt: &R, alloc: Global) -> Result
     expect_read_in_memory(rt, alloc, VIEW_BESIDE_UPDATE_STAMPED)
 }
 
-// A writer that has its memory already.
+// A writer that already has its memory.
 fn cup(alloc: Global) -> Result<Counted<Cup>, AllocError> {
     Ok(Counted::new(Cup {
         held: Vec::with_capacity(alloc, 256)?,
@@ -120,7 +120,7 @@ fn cup(alloc: Global) -> Result<Counted<Cup>, AllocError> {
     }))
 }
 
-// The text was written, or nothing, for want of memory, and no failure counted.
+// The text was written, or nothing for lack of memory, and no failure was counted.
 fn expect_written(
     answer: Result<(), WriteRefusal>,
     writer: Counted<Cup>,
@@ -144,7 +144,7 @@ pub(crate) fn write(alloc: Global) -> Result<(), Fault> {
     expect_text(alloc, &history, VIEW_BESIDE_UPDATE_TEXT)
 }
 
-/// The same with stamps.
+/// A text with stamps is written whole, or nothing of it.
 pub(crate) fn write_stamped(alloc: Global) -> Result<(), Fault> {
     let history = history_of(alloc, VIEW_BESIDE_UPDATE)?;
     if history.len() != 4 {
@@ -187,16 +187,16 @@ fn expect_verdict(
     expect(status == wanted && made.as_slice() == text)
 }
 
-/// What is made of a history with faults.
+/// What is made from a history with faults.
 #[derive(Clone, Copy)]
 pub(crate) enum Made {
     /// Its report.
     Report,
-    /// The same in the memory of a vector.
+    /// Its report in the memory of a vector.
     ReportInMemory,
     /// The lines of the verdicts alone.
     VerdictsAlone,
-    /// The same with the status.
+    /// The lines of the verdicts alone, with the status.
     BriefVerdict,
     /// Its witness.
     Witness,
@@ -212,7 +212,7 @@ fn expect_witness(alloc: Global, index: &Index<'_>, tally: &Tally, text: &[u8]) 
     }
 }
 
-// What is made of an index is as it is to be.
+// What is made from an index is as it must be.
 fn expect_made(alloc: Global, index: &Index<'_>, made: Made) -> Result<(), Fault> {
     let tally = tally_range(index, 0, index.view_count());
     if is_atomic(&tally) {
@@ -234,8 +234,8 @@ fn expect_made(alloc: Global, index: &Index<'_>, made: Made) -> Result<(), Fault
     }
 }
 
-/// A report or the verdicts of two views that disagree. The witness is that of a view that misses an update and one that shows a
-/// value that nobody wrote: the latter, with the update.
+/// A report or the verdicts of two views that disagree. The witness is of a view that misses an update and a view that shows a
+/// value that nobody wrote. It has the second view, and the update.
 pub(crate) fn text_made(alloc: Global, made: Made) -> Result<(), Fault> {
     let steps = match made {
         Made::Witness => STALE_AND_WRONG,
@@ -258,7 +258,7 @@ fn report_along_chain<R: Threads + Sync>(
     Ok(verdict_of_chain(rt, alloc, &index, &tally, chain, room, 2)?)
 }
 
-/// The status and the report along a chain. Where memory is refused both are made once more.
+/// The status and the report along a chain. If memory is refused, both are made once more.
 pub(crate) fn verdict_along_chain<R: Threads + Sync>(rt: &R, alloc: Global) -> Result<(), Fault> {
     let (status, report) = match report_along_chain(rt, alloc) {
         Err(Fault::Memory) => report_along_chain(rt, alloc)?,
@@ -267,7 +267,7 @@ pub(crate) fn verdict_along_chain<R: Threads + Sync>(rt: &R, alloc: Global) -> R
     expect(status == Status::Atomic && report.as_slice() == VIEW_BESIDE_UPDATE_REPORT)
 }
 
-// What is put behind a word.
+// What is put after a word.
 #[derive(Clone, Copy)]
 enum Put {
     Number,
@@ -276,7 +276,7 @@ enum Put {
     Entry,
 }
 
-// A word and what is put behind it, in a vector of its own.
+// A word and what is put after it, in a vector of its own.
 fn line_of(alloc: Global, what: Put) -> Result<Vec<u8>, AllocError> {
     let mut line = Vec::new(alloc);
     match what {
@@ -288,7 +288,7 @@ fn line_of(alloc: Global, what: Put) -> Result<Vec<u8>, AllocError> {
     Ok(line)
 }
 
-// The line is this one. Where memory is refused it is made once more.
+// The line is this one. If memory is refused, it is made once more.
 fn expect_line(alloc: Global, what: Put, known: &[u8]) -> Result<(), Fault> {
     let line = match line_of(alloc, what) {
         Ok(line) => line,
@@ -305,7 +305,7 @@ pub(crate) fn words(alloc: Global) -> Result<(), Fault> {
     expect_line(alloc, Put::Entry, b"entry 255:2:7")
 }
 
-/// The line of a text that is refused.
+/// The line of a refused text.
 pub(crate) fn refusal(alloc: Global) -> Result<(), Fault> {
     expect_bytes(
         refusal_text(alloc, 3, TextFault::Busy),
@@ -313,7 +313,7 @@ pub(crate) fn refusal(alloc: Global) -> Result<(), Fault> {
     )
 }
 
-/// The status and the report of a text, and of one that is no history.
+/// The status and the report of a text, and of one that is not a history.
 pub(crate) fn verdict(alloc: Global) -> Result<(), Fault> {
     let made = judge_text(alloc, VIEW_BESIDE_UPDATE_TEXT, Limit::usual());
     expect_verdict(made, Status::Atomic, VIEW_BESIDE_UPDATE_REPORT)?;

@@ -10,7 +10,7 @@ use snap_testing::{Step, history_of};
 use snap_views::{ViewOrder, chain, ordered, view_order, view_sums};
 use std::alloc::Global;
 
-// Beside an open update of component 1 seven views show it, one after another, and a later one does not.
+// During an open update of component 1 seven views show it, one after another, and a later one does not.
 const SEVEN_NEW_THEN_OLD: &[Step<'static>] = &[
     Update(0, (1, 1, 7)),
     View(1),
@@ -32,7 +32,7 @@ const SEVEN_NEW_THEN_OLD: &[Step<'static>] = &[
     Updated(0),
 ];
 
-// Beside two open updates two views disagree, and one of them shows a number that is far from all others.
+// During two open updates two views disagree, and one of them shows a number that is far from all others.
 const FAR_AND_CROSSED: &[Step<'static>] = &[
     Update(0, (0, 1, 1)),
     Update(1, (1, 1, 1)),
@@ -64,7 +64,7 @@ fn expect_sorted(
     expect_places(chain(alloc, index, &sums)?, known_chain)
 }
 
-// The views of an index are a chain or not, and in order or not. So their sums say, and so does how they compare.
+// The views of an index are a chain or not, and in order or not. Their sums say so, and so does their comparison.
 fn expect_order(
     alloc: Global,
     index: &Index<'_>,
@@ -80,7 +80,7 @@ fn expect_order(
     })
 }
 
-// The views of an index have these sums, this chain, and such an order.
+// The views of an index have these sums and this chain, and are in order or not.
 fn expect_views(
     alloc: Global,
     index: &Index<'_>,
@@ -92,7 +92,7 @@ fn expect_views(
     expect_order(alloc, index, known_chain.is_some(), is_ordered)
 }
 
-// The same of the views of a history.
+// The views of a history have these sums and this chain, and are in order or not.
 fn expect_chain(
     alloc: Global,
     steps: &[Step<'_>],
@@ -105,27 +105,27 @@ fn expect_chain(
     expect_views(alloc, &index, known_sums, known_chain, is_ordered)
 }
 
-/// Views that disagree are no chain, a view after a newer one is one out of order, and those of an atomic run are one in order.
+/// Views that disagree are not a chain. A view after a newer one makes a chain out of order. Those of an atomic run are a chain in order.
 pub(crate) fn chains(alloc: Global) -> Result<(), Fault> {
     expect_chain(alloc, CROSSED_VIEWS, &[1, 1], None, true)?;
     expect_chain(alloc, NEW_THEN_OLD, &[1, 0], Some(&[1, 0]), false)?;
     expect_chain(alloc, ATOMIC_RUN, &[1, 3], Some(&[0, 1]), true)
 }
 
-// A tally has so many read faults and stale views, and no other fault.
+// A tally has this number of read faults and stale views, and no other fault.
 fn expect_faults(found: &Tally, read: u64, stale: u64) -> Result<(), Fault> {
     expect(found.integrity.count() == 0 && found.proximity.count() == 0)?;
     expect(found.read.count() == read && found.write.count() == 0 && found.stale == stale)
 }
 
-// Which grid of its views a history is tallied by.
+// The grid by which a history is tallied.
 #[derive(Clone, Copy)]
 enum Way {
     // The grid of the views.
     Views,
-    // That of columns that are made before it.
+    // The grid of columns that are made before it.
     Columns,
-    // That of the chain of the views, of which some two are a read fault.
+    // The grid of the chain of the views, of which some two are a read fault.
     Chain,
 }
 
@@ -157,7 +157,7 @@ fn tally_by(alloc: Global, index: &Index<'_>, way: Way) -> Result<Tally, Fault> 
     }
 }
 
-// The same, and once more where memory is refused and the grid is of columns or of a chain.
+// The tally by such a grid. If memory is refused and the grid is of columns or of a chain, it is made once more.
 fn tally_again_by(alloc: Global, index: &Index<'_>, way: Way) -> Result<Tally, Fault> {
     match (tally_by(alloc, index, way), way) {
         (Err(Fault::Memory), Way::Columns | Way::Chain) => tally_by(alloc, index, way),
@@ -172,7 +172,7 @@ fn tally_of(alloc: Global, steps: &[Step<'_>], way: Way) -> Result<Tally, Fault>
     tally_again_by(alloc, &index, way)
 }
 
-// By such a grid a history has so many read faults and stale views.
+// By such a grid a history has this number of read faults and stale views.
 fn expect_tally(
     alloc: Global,
     steps: &[Step<'_>],
@@ -183,13 +183,13 @@ fn expect_tally(
     expect_faults(&tally_of(alloc, steps, way)?, read, stale)
 }
 
-// By the grid of its views a history has so many faults of numbers that were never written, and so many read faults.
+// By the grid of its views a history has this number of faults of numbers that were never written, and this number of read faults.
 fn expect_far(alloc: Global, steps: &[Step<'_>], integrity: u64, read: u64) -> Result<(), Fault> {
     let found = tally_of(alloc, steps, Way::Views)?;
     expect(found.integrity.count() == integrity && found.read.count() == read)
 }
 
-/// Grids of few views, of views most of which leave a component out, and of a number far off.
+/// Grids of few views, of views most of which leave a component out, and of a number far from the others.
 pub(crate) fn grids(alloc: Global) -> Result<(), Fault> {
     expect_tally(alloc, CROSSED_VIEWS, Way::Views, 2, 0)?;
     expect_tally(alloc, NEW_THEN_OLD, Way::Views, 1, 1)?;
@@ -198,18 +198,18 @@ pub(crate) fn grids(alloc: Global) -> Result<(), Fault> {
     expect_far(alloc, FAR_AND_CROSSED, 1, 2)
 }
 
-/// Columns, and a grid of them. Where memory is refused both are made once more.
+/// Columns, and a grid of them. If memory is refused, both are made once more.
 pub(crate) fn columns(alloc: Global) -> Result<(), Fault> {
     expect_tally(alloc, SEVEN_NEW_THEN_OLD, Way::Columns, 7, 7)
 }
 
-/// A grid of the chain of views. Where memory is refused it is made once more.
+/// A grid of the chain of views. If memory is refused, it is made once more.
 pub(crate) fn grid_of_chain(alloc: Global) -> Result<(), Fault> {
     expect_tally(alloc, SEVEN_NEW_THEN_OLD, Way::Chain, 7, 7)
 }
 
-// On one thread an index has so many read faults and stale views, and its views are a chain or not. Where memory is refused
-// that is found once more.
+// On one thread an index has this number of read faults and stale views, and its views are a chain or not. If memory is refused, it
+// is judged once more.
 fn expect_alone(
     alloc: Global,
     index: &Index<'_>,
@@ -225,7 +225,7 @@ fn expect_alone(
     expect_faults(&found, read, stale)
 }
 
-// The same of a history.
+// On one thread a history has this number of read faults and stale views, and its views are a chain or not.
 fn expect_tally_and_chain(
     alloc: Global,
     steps: &[Step<'_>],
@@ -238,7 +238,7 @@ fn expect_tally_and_chain(
     expect_alone(alloc, &index, read, stale, is_chain)
 }
 
-/// Tallies on one thread, with a chain where there is no read fault.
+/// Tallies on one thread, with a chain if there is no read fault.
 pub(crate) fn tallies_and_chains(alloc: Global) -> Result<(), Fault> {
     expect_tally_and_chain(alloc, ATOMIC_RUN, 0, 0, true)?;
     expect_tally_and_chain(alloc, SEVEN_NEW_THEN_OLD, 7, 7, false)

@@ -10,9 +10,9 @@ use crate::view_grid::ViewGrid;
 use snap_conditions::{Part, ReadFault, Tally, read_fault_of, tally_without_read};
 use std::alloc::{AllocError, Global};
 
-/// The read faults whose first view is one of the completed views from `from` to `to - 1`, counted from 0 in the order of call
-/// numbers, as they are reported, and how many views are stale to these. A grid compares 512 views at once, from `from` on, so that
-/// fewer take as long. The error is want of memory.
+/// The read faults whose first view is one of the completed views from `from` to `to - 1`, as they are reported. It also gives
+/// the number of views that are stale to these. Views are counted from 0 in the order of call numbers. A grid compares 512 views
+/// at once, from `from` on, so a smaller range takes as long. The error is lack of memory.
 pub fn read_faults_by_grid(
     alloc: Global,
     grid: &ViewGrid<'_, '_>,
@@ -33,8 +33,8 @@ pub fn read_faults_by_grid(
     Ok((faults, pairs.stale))
 }
 
-/// The faults whose first view is one of the completed views from `from` to `to - 1`, counted from 0 in the order of call
-/// numbers, as `tally_range` gives them, by the grid of all views. The error is want of memory.
+/// The faults whose first view is one of the completed views from `from` to `to - 1`, as `tally_range` gives them. Views are
+/// counted from 0 in the order of call numbers. The read faults come from the grid of all views. The error is lack of memory.
 pub fn tally_by_grid(
     alloc: Global,
     grid: &ViewGrid<'_, '_>,

@@ -14,7 +14,7 @@ use snap_index::Index;
 use snap_views::view_at;
 use std::alloc::{AllocError, Global};
 
-// The entries of the components from one to before another, which stand one after the other.
+// The entries of the components from `from` to before `to`, which are neighbours.
 fn entries_between(entries: &[Entry], from: usize, to: usize) -> &[Entry]
     requires entries { AreEntries entries.now }
     requires order { from ≤ to }
@@ -27,7 +27,7 @@ fn entries_between(entries: &[Entry], from: usize, to: usize) -> &[Entry]
     &entries[first..end]
 }
 
-// The numbers of all completed views, of the components from one to before another.
+// The numbers that all completed views show of the components from `from` to before `to`.
 fn numbers_between(
     alloc: Global,
     index: &Index<'_>,
@@ -47,8 +47,9 @@ fn numbers_between(
     Ok(table)
 }
 
-/// A column for each component from `from` to `to - 1` that some completed view lists: the numbers that all completed views show
-/// of it, in the order of call numbers. The columns of adjoining ranges are together those of both. The error is want of memory.
+/// A column for each component from `from` to `to - 1` that some completed view lists. It has the numbers that all completed
+/// views show of the component, in the order of call numbers. The columns of two adjoining ranges are together those of both. The
+/// error is lack of memory.
 pub fn columns_between(
     alloc: Global,
     index: &Index<'_>,
@@ -59,14 +60,14 @@ pub fn columns_between(
     requires within { to ≤ component_count }
     ensures { IfOk result (λ columns. AreColumnsOf (calls_of index.now) from to columns.items) }
 {
-    // what is known of the history that the index is of
+    // this call shows what is known of the index's history
     let _events = index.event_count();
     let mut table = numbers_between(alloc, index, from, to)?;
     let mut columns = Vec::new(alloc);
     for k in from..to {
         let numbers = table.take(alloc, k as u8);
         if !numbers.is_empty() {
-            // a view may show the update after the last, and be faulty
+            // a faulty view may show the update after the last
             let limit = index
                 .update_count(k as u8)
                 .saturating_add(1)

@@ -7,7 +7,7 @@ use snap_core::{COMPONENT_COUNT, Entry};
 use std::alloc::{AllocError, Global};
 use std::marker::Model;
 
-// The numbers that views show, component by component: of each that some view lists one for each view, of another none.
+// The numbers that views show, component by component: a number for each view if some view lists the component, else none.
 #[derive(Drop)]
 pub(crate) struct NumberTable {
     by_component: Vec<Vec<u32>>,
@@ -26,7 +26,7 @@ impl Model for NumberTable {
 }
 
 impl NumberTable {
-    // Of no view.
+    // The table without a view.
     pub(crate) fn new(alloc: Global) -> Result<NumberTable, AllocError>
         ensures { IfOk result (λ table. table ≡ replicate component_count []) }
     {
@@ -37,7 +37,7 @@ impl NumberTable {
         Ok(NumberTable { by_component })
     }
 
-    // Makes room for the numbers of so many views of component k, 0 each, where there is none.
+    // Makes room for the numbers of `count` views of component k, 0 each, if there is none.
     fn open(&mut self, alloc: Global, k: u8, count: usize) -> Result<(), AllocError>
         ensures { OnOk result (self.new ≡ slice_set self.old k (opened count (get_or self.old k []))) }
     {
@@ -47,7 +47,7 @@ impl NumberTable {
         Ok(())
     }
 
-    // Puts the number that a view of so many shows of component k.
+    // Puts the number that one of `count` views shows of component k.
     pub(crate) fn put(
         &mut self,
         alloc: Global,
@@ -65,7 +65,7 @@ impl NumberTable {
         Ok(())
     }
 
-    // Puts the numbers of the view at a place, of so many views.
+    // Puts the numbers of the view at a place, one of `count` views.
     pub(crate) fn put_view(
         &mut self,
         alloc: Global,

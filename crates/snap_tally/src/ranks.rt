@@ -9,7 +9,7 @@ use snap_index::Index;
 use snap_views::ViewChain;
 use std::alloc::{AllocError, Global};
 
-// The rank of the sum of each completed view, by call number: how many views have a lesser sum.
+// The rank of the sum of each completed view, by call number: the number of views with a smaller sum.
 pub(crate) fn ranks(
     alloc: Global,
     index: &Index<'_>,

@@ -22,15 +22,15 @@ use std::marker::Model;
 /// The read faults of a range of views.
 #[derive(Clone, Copy, Debug)]
 pub struct ReadPairs {
-    /// How many there are.
+    /// Their number.
     pub count: u64,
-    /// The places of the two views of the first one.
+    /// The places of the two views of the first read fault; none if there is none.
     pub first: Option<(u32, u32)>,
-    /// How many pairs of a view of the range and one that it precedes show less of some component at the second.
+    /// The number of pairs of a view of the range and a view that it precedes and that shows less of some component.
     pub stale: u64,
 }
 
-/// What the completed views of an index show, kept so that their read faults and stale views are soon counted.
+/// What the completed views of an index show, kept so that counting their read faults and stale views is fast.
 #[derive(Drop)]
 pub struct ViewGrid<'i, 'h> {
     index: &'i Index<'h>,
@@ -49,7 +49,7 @@ impl<'i, 'h> Model for ViewGrid<'i, 'h> {
     ghost invariant = { λ c. IsGridOf c.index.now c.grid };
 }
 
-// Where each completed view begins and where it ends.
+// The places at which each completed view begins and ends.
 fn places_of(alloc: Global, index: &Index<'_>) -> Result<(Vec<u32>, Vec<u32>), AllocError>
     requires { IsBoundedHistory index.now }
     ensures { IfOk result (λ places. ArePlacesOf (calls_of index.now) (length (views_of (calls_of index.now))) places.0.items places.1.items) }
@@ -66,7 +66,7 @@ fn places_of(alloc: Global, index: &Index<'_>) -> Result<(Vec<u32>, Vec<u32>), A
 }
 
 impl<'i, 'h> ViewGrid<'i, 'h> {
-    /// The grid of the completed views of an index, which it borrows. The error is want of memory.
+    /// The grid of the completed views of an index, which it borrows. The error is lack of memory.
     pub fn build(alloc: Global, index: &'i Index<'h>) -> Result<ViewGrid<'i, 'h>, AllocError>
         ensures { IfOk result (λ grid. grid ≡ index.now) }
     {
@@ -74,8 +74,7 @@ impl<'i, 'h> ViewGrid<'i, 'h> {
         ViewGrid::of_columns(alloc, index, columns)
     }
 
-    /// The same grid, where `columns` has the columns of all components, as `columns_between` gives them. The error is want of
-    /// memory.
+    /// The grid of `build`, from the columns of all components, as `columns_between` gives them. The error is lack of memory.
     pub fn of_columns(
         alloc: Global,
         index: &'i Index<'h>,
@@ -84,14 +83,14 @@ impl<'i, 'h> ViewGrid<'i, 'h> {
         requires { AreColumnsOf (calls_of index.now) 0 component_count columns.items }
         ensures { IfOk result (λ grid. grid ≡ index.now) }
     {
-        // what is known of the history that the index is of
+        // this call shows what is known of the index's history
         let _events = index.event_count();
         let keys = by_ranks(alloc, columns)?;
         ViewGrid::of_keys(alloc, index, keys)
     }
 
-    /// The same grid by one column, the ranks of the views, where of any two views one shows no component above the other's.
-    /// The error is want of memory.
+    /// The grid of `build` by one column, the ranks of the views. Of any two views, one must show no component above the other's.
+    /// The error is lack of memory.
     pub fn of_chain(
         alloc: Global,
         index: &'i Index<'h>,
@@ -101,14 +100,14 @@ impl<'i, 'h> ViewGrid<'i, 'h> {
         requires comparable { AreComparable (calls_of index.now) }
         ensures { IfOk result (λ grid. grid ≡ index.now) }
     {
-        // what is known of the history that the index is of
+        // this call shows what is known of the index's history
         let _events = index.event_count();
         let ranks = ranks(alloc, index, chain)?;
         let keys = vec![in alloc; Column::alone(alloc, ranks)?]?;
         ViewGrid::of_keys(alloc, index, keys)
     }
 
-    // The grid of columns that show of any two views whether one shows more of some component than the other.
+    // The grid of these columns. They must show, of any two views, whether one shows more of some component than the other.
     fn of_keys(
         alloc: Global,
         index: &'i Index<'h>,
@@ -144,8 +143,8 @@ impl<'i, 'h> ViewGrid<'i, 'h> {
         Ok(Some((place as u32, other as u32)))
     }
 
-    /// The read faults whose first view is one of the completed views from `from` to `to - 1`, counted from 0 in the order of
-    /// call numbers, and how many views are stale to these. The error is want of memory.
+    /// The read faults whose first view is one of the completed views from `from` to `to - 1`. It also gives the number of views that
+    /// are stale to these. Views are counted from 0 in the order of call numbers. The error is lack of memory.
     pub fn read_pairs(&self, alloc: Global, from: u32, to: u32) -> Result<ReadPairs, AllocError>
         requires order { from ≤ to }
         requires views { to ≤ length (views_of (calls_of self.now)) }

@@ -12,8 +12,8 @@ use snap_index::Index;
 use snap_views::{ViewChain, ViewOrder, view_order, view_sums};
 use std::alloc::{AllocError, Global};
 
-/// The tally of all completed views, and these as a chain exactly where no two of them are a read fault. Then no grid of the
-/// views is made. The error is want of memory.
+/// The tally of all completed views, and these as a chain exactly when no two of them are a read fault. No grid of the views is
+/// made then. The error is lack of memory.
 pub fn tally_and_chain_alone(
     alloc: Global,
     index: &Index<'_>,
@@ -36,7 +36,7 @@ pub fn tally_and_chain_alone(
     }
 }
 
-// The tally of all completed views, of which some two may cross.
+// The tally of all completed views, of which two may cross.
 fn tally_by_columns(alloc: Global, index: &Index<'_>) -> Result<Tally, AllocError>
     ensures { IfOk result (λ tally. tally ≡ tally_of (calls_of index.now) (views_of (calls_of index.now))) }
 {

@@ -1,39 +1,32 @@
 -- Painted texts one behind the other, and what goes out of them.
-use Rattle.std.proofs.Common.{◌≡◌, ◌≤◌, ◌+◌, ◌-◌, ◌++◌, ◌∷◌, [], ◌∙◌, inl, List, Option, Result, Ok, Err, OnErr, OnOk, ap, ap₂, append_assoc, arith, drop, length, length-append, refl, subst, sym, take, ℕ}
+use Rattle.std.proofs.Common.{◌≡◌, ◌≤◌, ◌+◌, ◌-◌, ◌++◌, ◌∷◌, [], ◌∙◌, List, None, Option, Result, Some, Ok, Err, OnErr, OnOk, ap, ap₂, arith, drop, length, length-append, subst, sym, take, ℕ}
 use Rattle.std.specs.Io.KnownBytes.{Appends}
 use Rattle.std.proofs.KnownBytes.{Appends-nil, Appends-trans}
 use Rattle.std.proofs.lemmas.List.{append-nil, drop-drop, take-append-drop, take-append-le}
 use Rattle.std.proofs.lemmas.List.Concat.{flat_map-append}
 use Rattle.std.proofs.Math.Seq.{take-add, take-append-add}
 use Rattle.snap_core.specs.Sending.{Sends, SendsFront}
-use Rattle.snap_terminal.specs.Painting.{CutsPainted, IsEscape, IsPainted, Piece, SendsPainted}
+use Rattle.snap_terminal.specs.Painting.{CutsPainted, IsColor, IsPainted, Piece, SendsPainted, plain, shown}
 
--- a part with an escape before it, and a part as it is
+-- a part in a colour, and a part as it is
 
-one_piece : (escape part : List ℕ) → IsEscape escape → IsPainted part (escape ++ part)
-one_piece escape part is =
-    record {
-      pieces = record { escape = escape; part = part; is_escape = is } ∷ [];
-      parts = sym (append-nil part);
-      all = sym (append-nil (escape ++ part));
-    }
+one_piece : (piece : Piece) → IsPainted piece.part (shown piece)
+one_piece piece = record { pieces = piece ∷ []; parts = sym (append-nil piece.part); all = sym (append-nil (shown piece)) }
 
 as_it_is : (part : List ℕ) → IsPainted part part
-as_it_is part = one_piece [] part (inl refl)
+as_it_is part = one_piece (record { color = None; part = part; is_color = tt })
 
 painted_both : (xs ys us vs : List ℕ) → IsPainted xs us → IsPainted ys vs → IsPainted (xs ++ ys) (us ++ vs)
 painted_both xs ys us vs a b =
     record {
       pieces = a.pieces ++ b.pieces;
       parts = ap₂ (λ (l m : List ℕ). l ++ m) a.parts b.parts ∙ sym (flat_map-append (λ (p : Piece). p.part) a.pieces b.pieces);
-      all = ap₂ (λ (l m : List ℕ). l ++ m) a.all b.all ∙ sym (flat_map-append (λ (p : Piece). p.escape ++ p.part) a.pieces b.pieces);
+      all = ap₂ (λ (l m : List ℕ). l ++ m) a.all b.all ∙ sym (flat_map-append shown a.pieces b.pieces);
     }
 
--- the front of a line between an escape and the one that ends the colour, and the rest of the line behind that
-pub colored : (escape front plain rest : List ℕ) → IsEscape escape → IsEscape plain → IsPainted (front ++ rest) (((escape ++ front) ++ plain) ++ rest)
-colored escape front plain rest is ends =
-    subst (λ (l : List ℕ). IsPainted (front ++ rest) l) (sym (append_assoc (escape ++ front) plain rest))
-    (painted_both front rest (escape ++ front) (plain ++ rest) (one_piece escape front is) (one_piece plain rest ends))
+-- the front of a line in a colour, and the rest of the line behind that
+pub colored : (color front rest : List ℕ) → IsColor color → IsPainted (front ++ rest) (((color ++ front) ++ plain) ++ rest)
+colored color front rest is = painted_both front rest ((color ++ front) ++ plain) rest (one_piece (record { color = Some color; part = front; is_color = is })) (as_it_is rest)
 
 -- what goes out behind what has gone out
 

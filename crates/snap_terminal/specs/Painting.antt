@@ -1,31 +1,44 @@
--- A text with escapes for colours between its parts.
-use Rattle.std.specs.Prelude.{◌≡◌, ◌++◌, ◌⊎◌, ℕ, List, [], ◌∷◌, Option, codes, flat_map}
+-- A text with colours on some of its parts.
+use Rattle.std.specs.Prelude.{◌≡◌, ◌≢◌, ◌++◌, ◌⊎◌, ℕ, List, ◌∷◌, Option, IfSome, codes, flat_map, length, take}
+use Rattle.std.specs.Option.{option_map_or}
 use Rattle.std.specs.Io.KnownBytes.{Appends}
 use Rattle.snap_core.specs.Sending.{SendsFront}
 
--- an escape that changes the colour: to green, red, or none; or nothing
-abbrev pub IsEscape : List ℕ → Type 0
-IsEscape escape = (escape ≡ []) ⊎ (escape ≡ 27 ∷ codes "[32m") ⊎ (escape ≡ 27 ∷ codes "[31m") ⊎ (escape ≡ 27 ∷ codes "[0m")
+-- an escape that begins a colour: green or red
+abbrev pub IsColor : List ℕ → Type 0
+IsColor color = (color ≡ 27 ∷ codes "[32m") ⊎ (color ≡ 27 ∷ codes "[31m")
 
--- a part of a text, with an escape before it
+-- the escape that ends a colour
+abbrev pub plain : List ℕ
+plain = 27 ∷ codes "[0m"
+
+-- a part of a text, as it is or in a colour
 pub record Piece : Type 0 where
-  pub escape : List ℕ
+  pub color : Option (List ℕ)
   pub part : List ℕ
-  pub is_escape : IsEscape escape
+  pub is_color : IfSome color IsColor
 
--- what is written is the text, with escapes between its parts and nothing else
+-- how a part is shown: after one in a colour, the colour ends
+abbrev pub shown : Piece → List ℕ
+shown piece = option_map_or (λ color. color ++ piece.part ++ plain) piece.color piece.part
+
+-- what is written is the text, with some parts in a colour and nothing else
 pub record IsPainted (text out : List ℕ) : Type 0 where
   pub pieces : List Piece
   pub parts : text ≡ flat_map (λ piece. piece.part) pieces
-  pub all : out ≡ flat_map (λ piece. piece.escape ++ piece.part) pieces
+  pub all : out ≡ flat_map shown pieces
 
--- a text went out with escapes between its parts: the whole of it
+-- the line feed of a line is at this place, or this is the end of a line without one
+abbrev pub IsEndOfLine : List ℕ → ℕ → Type 0
+IsEndOfLine line end = (line ≡ take end line ++ codes "\n") ⊎ ((end ≡ length line) × ((front : List ℕ) → line ≢ front ++ codes "\n"))
+
+-- the whole of a text went out, with some parts in colours
 pub record SendsPainted (old new : Option (List ℕ)) (text : List ℕ) : Type 0 where
   pub out : List ℕ
   pub painted : IsPainted text out
   pub sent : Appends old new out
 
--- or a front of it
+-- a front of a text with some parts in colours went out
 pub record CutsPainted (old new : Option (List ℕ)) (text : List ℕ) : Type 0 where
   pub out : List ℕ
   pub painted : IsPainted text out

@@ -1,4 +1,4 @@
-//! What is shown on a terminal besides the answers: colours of the verdicts, and how far a check of many texts is.
+//! What a terminal shows besides the answers: colours of the verdicts, and the progress of a check of many texts.
 #![tactic(auto)]
 
 mod outlet;

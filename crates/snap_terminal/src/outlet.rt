@@ -2,7 +2,7 @@
 use std::io;
 use std::io::{ErrorKind, Write};
 
-/// A writer that remembers whether its reader has gone, as that of a pipe may.
+/// A writer that remembers whether its reader has gone, as the reader of a pipe may.
 #[derive(Drop)]
 pub struct Outlet<W> {
     inner: W,
@@ -10,7 +10,7 @@ pub struct Outlet<W> {
 }
 
 impl<W> Outlet<W> {
-    /// The writer over another.
+    /// The writer over another, whose reader has not gone.
     pub fn new(inner: W) -> Outlet<W> {
         Outlet {
             inner,
@@ -18,7 +18,7 @@ impl<W> Outlet<W> {
         }
     }
 
-    /// Whether the last write that failed did so because nobody reads any more.
+    /// Whether the last failed write failed because nobody reads any more.
     pub fn is_closed(&self) -> bool {
         self.is_closed
     }

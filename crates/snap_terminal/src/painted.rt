@@ -23,7 +23,7 @@ impl<W> Painted<W> {
         }
     }
 
-    /// The writer below.
+    /// The writer that this one writes to.
     pub fn into_inner(self) -> W {
         self.inner.into_inner()
     }

@@ -1,20 +1,20 @@
-//! A line that shows how far a check of many texts is.
+//! A line that shows the progress of a check of many texts.
 use std::alloc::Global;
 use std::io::Write;
 use std::rt::Stderr;
 use std::sync::atomic::{AtomicU64, Ordering};
 use std::time::{Clock, Duration, Instant};
 
-// Of more files than these the line comes early.
+// With more files than this the line comes early.
 const MANY: u64 = 100;
 
-// After how many milliseconds the line comes for fewer files, and between two lines.
+// The milliseconds after which the line comes for fewer files, and the time between two lines.
 const LATE: u64 = 1000;
 
 const STEP: u64 = 100;
 
-/// A line on standard error that shows how many of some files were opened, and about how long the others take. It is drawn anew in its
-/// place, and several threads may do so.
+/// A line on standard error that shows how many of some files were opened, and about how long the others will take. Several threads
+/// may redraw it in its place.
 #[derive(Drop)]
 pub struct Progress<'a, R> {
     clock: &'a R,
@@ -23,7 +23,7 @@ pub struct Progress<'a, R> {
     files: u64,
     begun: Instant,
     opened: AtomicU64,
-    // The milliseconds from the begin to the last line, 0 where none stands on the terminal.
+    // The milliseconds from the begin to the last line, or 0 if no line is on the terminal.
     drawn: AtomicU64,
 }
 
@@ -32,7 +32,7 @@ fn millis(duration: Duration) -> u64 {
 }
 
 impl<'a, R: Clock> Progress<'a, R> {
-    /// No line yet, of so many files; none where the clock can't be read.
+    /// The line for `files` files, not drawn yet, or nothing if the clock can't be read.
     pub fn new(
         clock: &'a R,
         alloc: Global,
@@ -51,7 +51,6 @@ impl<'a, R: Clock> Progress<'a, R> {
         })
     }
 
-    // Draws the line.
     fn draw(&self, opened: u64, passed: u64) {
         let rest = self.files.saturating_sub(opened);
         let share = opened.saturating_mul(100) / self.files.max(1);
@@ -69,7 +68,7 @@ impl<'a, R: Clock> Progress<'a, R> {
         let _ = errors.write(text);
     }
 
-    /// One file more is opened: draws the line where it is time for it.
+    /// Counts one more opened file, and draws the line if it is time.
     pub fn next(&self) {
         let opened = self.opened.fetch_add(1, Ordering::SeqCst);
         let Ok(since) = self.begun.elapsed(self.clock) else {
@@ -88,7 +87,7 @@ impl<'a, R: Clock> Progress<'a, R> {
         }
     }
 
-    /// Takes the line away, where it stands on the terminal.
+    /// Removes the line, if it is on the terminal.
     pub fn clear(&self) {
         if self.drawn.swap(0, Ordering::SeqCst) > 0 {
             self.write(b"\r\x1b[K");

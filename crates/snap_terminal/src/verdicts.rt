@@ -1,7 +1,7 @@
 //! The lines of verdicts in colours.
 ghost use Rattle.std.specs.Prelude.{◌≤◌, ◌-◌, IfOk, IfSome, OnErr, OnOk, drop, length, take};
 ghost use Rattle.snap_core.specs.Counting.{inner_of};
-ghost use Rattle.snap_terminal.specs.Painting.{CutsPainted, IsEscape, SendsPainted};
+ghost use Rattle.snap_terminal.specs.Painting.{CutsPainted, IsColor, IsEndOfLine, SendsPainted};
 
 use snap_core::Counted;
 use std::io;
@@ -13,7 +13,7 @@ const RED: &[u8] = b"\x1b[31m";
 
 const PLAIN: &[u8] = b"\x1b[0m";
 
-// Whether a line of a report is this verdict, alone or behind the name of its text.
+// Whether a line of a report is this verdict, alone or after the name of its text.
 fn is_verdict(line: &[u8], verdict: &[u8]) -> bool {
     match line.strip_suffix(verdict) {
         Some(front) => front.is_empty() || front.ends_with(b": "),
@@ -21,9 +21,9 @@ fn is_verdict(line: &[u8], verdict: &[u8]) -> bool {
     }
 }
 
-// The colour of a line, with its end, if it is that of a verdict.
+// The colour of a line, with its line feed, if it is the line of a verdict.
 fn color_of(line: &[u8]) -> Option<&'static [u8]>
-    ensures { IfSome result (λ color. IsEscape color.now) }
+    ensures { IfSome result (λ color. IsColor color.now) }
 {
     if is_verdict(line, b"regular yes\n")
         || is_verdict(line, b"monotone yes\n")
@@ -40,9 +40,9 @@ fn color_of(line: &[u8]) -> Option<&'static [u8]>
     }
 }
 
-// Where the end of a line begins: at its line feed, if it has one.
+// The place of the line feed of a line, or the length of a line without one.
 fn end_of(line: &[u8]) -> usize
-    ensures { result ≤ length line.now }
+    ensures { IsEndOfLine line.now result × (result ≤ length line.now) }
 {
     match line.strip_suffix(b"\n") {
         Some(front) => front.len(),
@@ -50,9 +50,9 @@ fn end_of(line: &[u8]) -> usize
     }
 }
 
-// Sends a line in a colour, which ends before the line feed: whoever reads lines then has no colour left.
+// Sends a line in a colour, which ends before the line feed. So a reader of lines has no colour left over.
 fn send_colored<W: Write>(writer: &mut Counted<W>, color: &[u8], line: &[u8]) -> io::Result<()>
-    requires { IsEscape color.now }
+    requires { IsColor color.now }
     ensures sent { OnOk result (SendsPainted (W.contents (inner_of writer.old)) (W.contents (inner_of writer.new)) line.now) }
     ensures cut { OnErr result (CutsPainted (W.contents (inner_of writer.old)) (W.contents (inner_of writer.new)) line.now) }
 {
@@ -63,8 +63,8 @@ fn send_colored<W: Write>(writer: &mut Counted<W>, color: &[u8], line: &[u8]) ->
     writer.send(&line[end..])
 }
 
-// Sends a line of a text up to its end, if it has a colour, and before it what of the text is not sent yet. Answers how much of the
-// text is sent.
+// Sends a line of a text up to its end, if it has a colour. Before it, sends the part of the text that is not sent yet. Answers how
+// much of the text is sent.
 fn send_line<W: Write>(
     writer: &mut Counted<W>,
     text: &[u8],
@@ -88,8 +88,8 @@ fn send_line<W: Write>(
     Ok(end)
 }
 
-/// Sends a text with its verdicts in colours: a line that says yes is green, one that says no is red. The text is the same behind the
-/// escapes. It takes no memory, so that an error is always that of the writer.
+/// Sends a text with its verdicts in colours: a line that says yes is green, and one that says no is red. Without the escapes the
+/// text is the same. It takes no memory, so an error is always the writer's.
 pub fn send_painted<W: Write>(writer: &mut Counted<W>, text: &[u8]) -> io::Result<()>
     ensures sent { OnOk result (SendsPainted (W.contents (inner_of writer.old)) (W.contents (inner_of writer.new)) text.now) }
     ensures cut { OnErr result (CutsPainted (W.contents (inner_of writer.old)) (W.contents (inner_of writer.new)) text.now) }

@@ -1,4 +1,4 @@
-//! What opens the files, and what answers go to, with a line of progress between.
+//! An opener and a writer, with a line of progress.
 use crate::progress::Progress;
 use snap_core::Counted;
 use snap_names::{Opener, Trouble};
@@ -6,10 +6,10 @@ use std::io;
 use std::io::Write;
 use std::time::Clock;
 
-/// What opens texts as another does, and counts them for a line of progress.
+/// An opener that opens texts as another does, and counts them for a line of progress.
 #[derive(Drop)]
 pub struct Watched<'a, O, R> {
-    /// What opens them.
+    /// The opener that it uses.
     pub opener: O,
     /// The line, if there is one.
     pub progress: Option<&'a Progress<'a, R>>,
@@ -32,7 +32,7 @@ impl<O: Opener, R: Clock + Sync> Opener for Watched<'_, O, R> {
     }
 }
 
-/// A writer before which the line of progress is taken away.
+/// A writer that removes the line of progress before it writes.
 #[derive(Drop)]
 pub struct Cleared<'a, W, R> {
     /// The writer.

@@ -5,7 +5,7 @@ use std::alloc::Global;
 use std::io;
 use std::io::{ErrorKind, Read, Write};
 
-/// Gives one byte a read, and fails at the read with one number, counted from 1.
+/// Gives one byte for each read, and fails at the read with one number, counted from 1.
 #[derive(Drop)]
 pub struct Drip<'a> {
     pub bytes: &'a [u8],
@@ -14,7 +14,7 @@ pub struct Drip<'a> {
 }
 
 impl<'a> Drip<'a> {
-    /// Gives these bytes; at 0 no read fails.
+    /// Gives these bytes, and fails at read `fails_at`, or at no read if that is 0.
     pub fn new(bytes: &'a [u8], fails_at: u64) -> Drip<'a> {
         Drip {
             bytes,
@@ -56,7 +56,7 @@ impl Read for Newlines {
     }
 }
 
-/// Takes so many bytes a write until it is full, and counts its flushes. A full cup fails, or takes nothing.
+/// Takes a number of bytes for each write until it is full, and counts its flushes. A full cup fails, or takes nothing.
 #[derive(Drop)]
 pub struct Cup {
     pub held: Vec<u8>,

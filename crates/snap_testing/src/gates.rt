@@ -1,12 +1,12 @@
-//! What shows that threads run at the same time.
+//! Gates that show that threads run at the same time.
 use snap_core::Gate;
 use std::sync::atomic::{AtomicU64, Ordering};
 use std::thread;
 
-// How often a wait looks before it gives up.
+// The number of looks before a wait gives up.
 const TURNS: u32 = 100_000_000;
 
-/// Tells who came, and counts those who waited in vain for others to come.
+/// Records who came, and counts those who waited in vain for others to come.
 #[derive(Drop)]
 pub struct Arrivals {
     // a bit for each who came
@@ -28,12 +28,12 @@ impl Arrivals {
         self.came.fetch_or(1 << (number % 64), Ordering::SeqCst);
     }
 
-    // How many have come: who comes twice is counted once.
+    // The number of those who have come; who comes twice is counted once.
     fn count(&self) -> u32 {
         self.came.load(Ordering::SeqCst).count_ones()
     }
 
-    /// Waits until so many have come, for 100,000,000 turns at most.
+    /// Waits until `least` have come, for 100,000,000 turns at most.
     pub fn wait_for(&self, least: u32) {
         for _ in 0..TURNS {
             if self.count() >= least {
@@ -44,13 +44,13 @@ impl Arrivals {
         self.missed.fetch_add(1, Ordering::SeqCst);
     }
 
-    /// Whether just so many came, and no wait was in vain.
+    /// Whether exactly `number` came, and no wait was in vain.
     pub fn were(&self, number: u32) -> bool {
         self.count() == number && self.missed.load(Ordering::SeqCst) == 0
     }
 }
 
-/// A gate at one turn of which each worker waits until all have come, each another.
+/// A gate at which each worker waits at one turn until all have come.
 #[derive(Drop)]
 pub struct Meeting {
     pub workers: u32,
@@ -64,7 +64,7 @@ impl Meeting {
         Meeting::of(2, turn)
     }
 
-    /// A gate for so many workers who meet at a turn.
+    /// A gate for `workers` workers who meet at a turn.
     pub fn of(workers: u32, turn: u32) -> Meeting {
         Meeting {
             workers,
@@ -106,7 +106,7 @@ impl Held {
         }
     }
 
-    /// Whether the other came, and worker 0 did not wait in vain.
+    /// Whether the other worker came, and worker 0 did not wait in vain.
     pub fn was_left(&self) -> bool {
         self.arrivals.were(1)
     }

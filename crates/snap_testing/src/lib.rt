@@ -1,5 +1,5 @@
-//! What the tests of the other crates share: worked histories, readers and writers that fail, and a gate at which workers meet.
-//! No code but tests uses it.
+//! What the tests of the other crates share: worked histories, readers and writers that fail, and gates at which workers meet. Only
+//! tests use it.
 #![tactic(auto)]
 
 mod devices;

@@ -14,11 +14,11 @@ pub enum Step<'a> {
     Updated(u16),
     /// The process begins a view.
     View(u16),
-    /// Its view ends and shows this.
+    /// Its view ends and shows these entries.
     Viewed(u16, &'a [Shown]),
 }
 
-/// Why steps are no history.
+/// Why steps are not a history.
 #[derive(Drop, Debug)]
 pub enum Refused {
     View(ViewRefusal),

@@ -1,7 +1,7 @@
 //! Texts with many updates, and the lines of their reports.
 use std::alloc::{AllocError, Global};
 
-/// Adds updates of component 0 to a text, each ended at once: those from a number on, up to another.
+/// Adds updates of component 0 to a text, each ended at once: those from number `from` to before number `to`.
 pub fn add_updates(alloc: Global, text: &mut String, from: u32, to: u32) -> Result<(), AllocError> {
     for i in from..to {
         let records = format!(in alloc; "begin,0,update,0:{}:0\nend,0,update,\n", i + 1)?;
@@ -10,7 +10,7 @@ pub fn add_updates(alloc: Global, text: &mut String, from: u32, to: u32) -> Resu
     Ok(())
 }
 
-/// The lines of the order of so many updates.
+/// The lines of the order of this many updates.
 pub fn updates_order(alloc: Global, updates: u32) -> Result<String, AllocError> {
     let mut lines = String::new(alloc);
     for i in 0..updates {

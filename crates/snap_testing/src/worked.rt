@@ -1,4 +1,4 @@
-//! Small histories, each named by what it shows.
+//! Small histories, each named after what it shows.
 use crate::steps::Step;
 use crate::steps::Step::{Update, Updated, View, Viewed};
 
@@ -55,7 +55,7 @@ pub const STALE_AND_WRONG: &[Step<'static>] = &[
     Viewed(2, &[(0, 1, 9)]),
 ];
 
-/// Beside an open update one view shows it, and a later view does not.
+/// During an open update one view shows it, and a later view does not.
 pub const NEW_THEN_OLD: &[Step<'static>] = &[
     Update(0, (0, 1, 7)),
     View(1),
@@ -77,7 +77,7 @@ pub const CROSSED_VIEWS: &[Step<'static>] = &[
     Updated(1),
 ];
 
-/// Each of four views shows another one of four open updates, of components far from one another.
+/// Each of four views shows a different one of four open updates, of components far from one another.
 pub const FOUR_WAYS: &[Step<'static>] = &[
     Update(0, (0, 1, 1)),
     Update(1, (63, 1, 1)),
@@ -115,7 +115,7 @@ pub const ALL_PENDING: &[Step<'static>] = &[
     View(3),
 ];
 
-/// The same, with the last component and the last process that there are.
+/// Two updates and two views, none ended, with the last component and the last process that there are.
 pub const PENDING_AT_THE_LIMITS: &[Step<'static>] = &[
     Update(0, (0, 1, 1)),
     Update(1, (255, 1, 1)),
@@ -126,7 +126,7 @@ pub const PENDING_AT_THE_LIMITS: &[Step<'static>] = &[
 /// One view that does not end.
 pub const PENDING_VIEW: &[Step<'static>] = &[View(0)];
 
-/// Of two pending updates one is shown.
+/// A view shows one of two pending updates.
 pub const SEEN_PENDING: &[Step<'static>] = &[
     Update(0, (0, 1, 3)),
     Update(1, (1, 1, 4)),
@@ -134,7 +134,7 @@ pub const SEEN_PENDING: &[Step<'static>] = &[
     Viewed(2, &[(0, 1, 3)]),
 ];
 
-/// A view beside an update does not show it.
+/// A view during an update does not show it.
 pub const VIEW_BESIDE_UPDATE: &[Step<'static>] = &[
     Update(0, (0, 1, 3)),
     View(1),

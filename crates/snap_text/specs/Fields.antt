@@ -10,31 +10,31 @@ use Rattle.snap_core.specs.Entries.{view_refusal}
 use Rattle.snap_text.specs.declared.fault.TextFault.{TextFault}
 use Rattle.snap_text.specs.declared.fault.TextFault.TheVariants as faults
 
--- one test after the other: the first fault stands
+-- one test after the other: the first fault is the answer
 infixl 10 ◌>>=◌
 abbrev pub ◌>>=◌ : {A B : Type 0} → Result A TextFault → (A → Result B TextFault) → Result B TextFault
 (Ok x) >>= f = f x
 (Err e) >>= f = Err e
 
--- what is read, or a fault where nothing is
+-- what is read, or a fault if nothing is
 abbrev pub or_fault : {A : Type 0} → TextFault → Option A → Result A TextFault
 or_fault f None = Err f
 or_fault f (Some x) = Ok x
 
--- the number below a limit whose decimal a field is: no sign, no leading zero, and zero is `0`
+-- the number below a limit whose decimal form a field is: without a sign or a leading zero, and zero is `0`
 unfoldable pub number_at : ℕ → List ℕ → Option ℕ
 number_at limit f = if nat_lt (digits_value 10 f) limit && bytes_eq (decimal (digits_value 10 f)) f then Some (digits_value 10 f) else None
 
--- the parts of a text between marks
+-- the parts into which marks cut a text
 abbrev pub parts : ℕ → List ℕ → List (List ℕ)
 parts mark text = slice_split (λ b. b == mark) text
 
--- a list of three
+-- the three elements of a list of three
 abbrev pub three : List (List ℕ) → Option (List ℕ × List ℕ × List ℕ)
 three (a ∷ b ∷ c ∷ []) = Some (a, b, c)
 three others = None
 
--- component, number and value
+-- the entry of a component, a number and a value
 abbrev pub entry_from : List ℕ × List ℕ × List ℕ → Option Entry
 entry_from (k, n, v) =
     option_and_then (λ component. option_and_then (λ number. option_map (λ value.
@@ -44,7 +44,7 @@ entry_from (k, n, v) =
 unfoldable pub entry_at : List ℕ → Option Entry
 entry_at text = option_and_then entry_from (three (parts 58 text))
 
--- all of them, where each is there
+-- all the entries, if none is missing
 abbrev pub all_of : List (Option Entry) → Option (List Entry)
 all_of [] = Some []
 all_of (o ∷ os) = option_and_then (λ e. option_map (λ es. e ∷ es) (all_of os)) o
@@ -75,7 +75,7 @@ begins_at f = if bytes_eq f (codes "begin") then Ok true else if bytes_eq f (cod
 abbrev pub updates_at : List ℕ → Result Bool TextFault
 updates_at f = if bytes_eq f (codes "update") then Ok true else if bytes_eq f (codes "view") then Ok false else Err faults.BadOp
 
--- the event, where the fourth field is empty
+-- the event, if the fourth field is empty
 abbrev pub empty_at : Event → List ℕ → Result Event TextFault
 empty_at x d = if length d == 0 then Ok x else Err faults.BadData
 
@@ -94,7 +94,7 @@ event_of a p o d = do
   updates ← updates_at o
   event_with begins process updates d
 
--- a record, by its fields
+-- a record, as the list of its fields
 abbrev pub Fields : Type 0
 Fields = List (List ℕ)
 

@@ -6,7 +6,7 @@ use Rattle.snap_core.specs.Events.{EventFits}
 use Rattle.snap_text.specs.Fields.{Fields, row_event}
 use Rattle.snap_text.specs.Spelling.{spelled}
 
--- a record is read as an event only where it has the event's four fields
+-- a record is read as an event only if it has the event's four fields
 abbrev pub RecordsAreSpelled : Type 0
 RecordsAreSpelled = (record_fields : Fields) (event : Event) → row_event record_fields ≡ Ok event → record_fields ≡ spelled event
 
@@ -17,7 +17,7 @@ HasNumber (BeginView p) = Unit {0}
 HasNumber (EndUpdate p) = Unit {0}
 HasNumber (EndView p es) = Unit {0}
 
--- and every event whose parts fit their types is read from its four fields, also one that stands in no history
+-- each event whose parts fit their types is read from its four fields, even if no history has it
 abbrev pub FieldsReadBack : Type 0
 FieldsReadBack = (event : Event) → EventFits event → HasNumber event → row_event (spelled event) ≡ Ok event
 

@@ -13,12 +13,12 @@ entry_text e = join_with_byte 58 (decimal e.component ∷ decimal e.number ∷ d
 unfoldable pub entries_text : List Entry → List ℕ
 entries_text es = join_with_byte 32 (map entry_text es)
 
--- a text with one entry more, behind a space where it is not the first
+-- a text with one entry more; a space comes before it if it is not the first
 abbrev pub with_next : Bool → List ℕ → Entry → List ℕ
 with_next true text e = text ++ entry_text e
 with_next false text e = text ++ 32 ∷ entry_text e
 
--- the four fields
+-- the four fields of an event
 abbrev pub spelled : Event → List (List ℕ)
 spelled (BeginUpdate p e) = codes "begin" ∷ decimal p ∷ codes "update" ∷ entry_text e ∷ []
 spelled (BeginView p) = codes "begin" ∷ decimal p ∷ codes "view" ∷ [] ∷ []

@@ -1,2 +1,2 @@
--- What only the proofs of this crate need: no clause that a caller reads cites it.
+-- Definitions for the proofs of this crate alone: no clause that a caller reads cites them.
 pub mod Fronts

@@ -1,4 +1,4 @@
-//! Entries in a text. Those that the view before had are not read again.
+//! Entries in a text. Entries that the last view had too are not read again.
 ghost use Rattle.std.specs.Prelude.{◌≡◌, ◌≤◌, ◌<◌, ◌∷◌, [], ◌+◌, ℕ, List, MatchOption, IfOk, IfSome, drop, get_or, length, option_map, take};
 ghost use Rattle.snap_core.specs.declared.entry.Entry.{Entry};
 ghost use Rattle.snap_text.specs.Fields.{entries_at, entry_at};
@@ -9,7 +9,7 @@ use crate::number::number_first;
 use snap_core::Entry;
 use std::alloc::{AllocError, Global};
 
-// The number that a text begins with before a colon, and the text behind the colon.
+// The number that a text begins with before a colon, and the text after the colon.
 #[inline(always)]
 fn number_and_colon(text: &[u8]) -> Option<(u32, &[u8])>
     ensures { MatchOption result ((n : ℕ) (rest : List ℕ) → NumberThen n (58 ∷ rest) text.now → ⊥) (λ x. NumberThen x.0 (58 ∷ x.1.now) text.now) }
@@ -23,7 +23,7 @@ fn number_and_colon(text: &[u8]) -> Option<(u32, &[u8])>
     }
 }
 
-// The entry that a text begins with, and the text behind it: nothing, or a space and more.
+// The entry that a text begins with, and the text after it: nothing, or a space and more.
 #[inline(always)]
 fn entry_first(text: &[u8]) -> Option<(Entry, &[u8])>
     ensures { MatchOption result ((e : Entry) (rest : List ℕ) → EntryThen e rest text.now → ⊥) (λ x. EntryThen x.0 x.1.now text.now) }
@@ -46,7 +46,7 @@ fn entry_first(text: &[u8]) -> Option<(Entry, &[u8])>
     }
 }
 
-/// The entry that is spelled by its component, number and value, with colons between.
+/// The entry that a text spells by its component, number and value, with colons between.
 pub(crate) fn entry_of(text: &[u8]) -> Option<Entry>
     ensures { result ≡ entry_at text.now }
 {
@@ -54,7 +54,7 @@ pub(crate) fn entry_of(text: &[u8]) -> Option<Entry>
     if rest.is_empty() { Some(entry) } else { None }
 }
 
-// The entries that are all of a text, where it is the front of a text of such entries, as far as both are alike.
+// The entries that are all of `left`, if `left` is a front of the text of known entries. Their first `same` bytes are equal.
 fn whole_known<'k>(left: &[u8], old: &[u8], olds: &'k [Entry], same: usize) -> Option<&'k [Entry]>
     requires known { AreSpelled olds.now old.now }
     requires within { (same ≤ length left.now) × (same ≤ length old.now) }
@@ -73,7 +73,7 @@ fn whole_known<'k>(left: &[u8], old: &[u8], olds: &'k [Entry], same: usize) -> O
     Some(&olds[..spaces(left) + 1])
 }
 
-// Where the last space of a text stands.
+// The place of the last space of a text.
 fn last_space(text: &[u8]) -> Option<usize>
     ensures { IfSome result (λ at. (at < length text.now) × (get_or text.now at 0 ≡ 32)) }
 {
@@ -87,7 +87,7 @@ fn last_space(text: &[u8]) -> Option<usize>
     None
 }
 
-// Where the first space of a text stands.
+// The place of the first space of a text.
 fn first_space(text: &[u8]) -> Option<usize>
     ensures { IfSome result (λ at. (at < length text.now) × (get_or text.now at 0 ≡ 32)) }
 {
@@ -99,7 +99,7 @@ fn first_space(text: &[u8]) -> Option<usize>
     None
 }
 
-// Some entries, cut at a space of their text: those before it, the text behind it, and its entries.
+// Known entries, cut at a space of their text: those before it, the text after it, and its entries.
 fn cut_at<'k>(old: &'k [u8], olds: &'k [Entry], at: usize) -> (&'k [Entry], &'k [u8], &'k [Entry])
     requires known { AreSpelled olds.now old.now }
     requires place { at < length old.now }
@@ -113,7 +113,7 @@ fn cut_at<'k>(old: &'k [u8], olds: &'k [Entry], at: usize) -> (&'k [Entry], &'k 
     (front, &old[at + 1..], rest)
 }
 
-// What is behind the first of some entries, where its component is not above another.
+// What comes after the first of some entries, if its component is not greater than another.
 fn behind_first<'k>(old: &'k [u8], olds: &'k [Entry], component: u8) -> (&'k [u8], &'k [Entry])
     requires { AreSpelled olds.now old.now }
     ensures { AreSpelled result.1.now result.0.now }
@@ -130,7 +130,7 @@ fn behind_first<'k>(old: &'k [u8], olds: &'k [Entry], component: u8) -> (&'k [u8
     }
 }
 
-// Adds the entries that a text begins with, each with a space behind it, as far as it is like a text of known entries, and gives
+// Adds the entries that a text begins with, each followed by a space, as far as it equals the text of known entries. It gives
 // what is left of both texts and of the known entries.
 fn add_front<'a, 'k>(
     entries: &mut Vec<Entry>,
@@ -156,7 +156,7 @@ fn add_front<'a, 'k>(
     }
 }
 
-/// The entries that are spelled with one space between two, and what is left for looks at those of the view before.
+/// The entries that a text spells with one space between two, and the credits that are left for comparisons.
 pub(crate) fn entries_of(
     alloc: Global,
     known: &Known,
@@ -169,7 +169,7 @@ pub(crate) fn entries_of(
     if text.is_empty() {
         return Ok(Some((entries, looks)));
     }
-    // one more than the view before had, but no more than the text can have, of six bytes each
+    // one more than the last view had, but no more than the text can have at six bytes each
     entries.reserve(known.entries().len().min(text.len() / 6) + 1)?;
     let mut left = text;
     let mut old = known.text();

@@ -7,13 +7,13 @@ ghost use Rattle.snap_text.specs.Words.{word_of};
 pub enum TextFault {
     /// The first record is missing or is not the header.
     Header,
-    /// A later record has not four fields, or not five where records have stamps.
+    /// A later record does not have four fields, or five if records have stamps.
     Fields,
     /// The history is full.
     TooMany,
     /// The first field is not `begin` or `end`.
     BadEvent,
-    /// The second field is no process.
+    /// The second field is not a process.
     BadProcess,
     /// The third field is not `update` or `view`.
     BadOp,
@@ -31,14 +31,14 @@ pub enum TextFault {
     Number,
     /// The text has too many bytes.
     TooLong,
-    /// The stamp is no number below 2^64. It is tested before `BadEvent`.
+    /// The stamp is not a number below 2^64. It is tested before `BadEvent`.
     BadAt,
     /// An earlier record has the same stamp. It is tested after `BadData`.
     Repeated,
 }
 
 impl TextFault {
-    /// The word that stands for the fault in a refusal line.
+    /// The word for the fault in a refusal line.
     pub fn word(self) -> &'static str
         ensures { result.now ≡ word_of self }
     {

@@ -10,7 +10,7 @@ use crate::number::process_of;
 use snap_core::{Entry, Event, View};
 use std::alloc::{AllocError, Global};
 
-// Whether a field is a word. Where the length of the word is known, that takes a compare or two.
+// Whether a field is a word. If the length of the word is known to the compiler, this takes one or two comparisons.
 #[inline(always)]
 fn is_word(field: &[u8], word: &[u8]) -> bool
     ensures { result ≡ bytes_eq field.now word.now }
@@ -27,7 +27,7 @@ fn update_of(text: &[u8]) -> Option<Entry>
     if entry.number == 0 { None } else { Some(entry) }
 }
 
-/// The view whose entries are spelled.
+// The view whose entries a text spells.
 #[tactic(auto, unfolding(crate::specs::Fields::view_at))]
 fn view_of(alloc: Global, known: &mut Known, text: &[u8]) -> Result<Option<View>, AllocError>
     ensures { IfOk result (λ o. o ≡ view_at text.now) }
@@ -52,7 +52,7 @@ fn view_of(alloc: Global, known: &mut Known, text: &[u8]) -> Result<Option<View>
     }
 }
 
-/// The event that four fields spell, or the first fault in them.
+/// The event that four fields spell, or the first fault in them. `known` changes no answer, and keeps the last view.
 #[tactic(auto, unfolding(crate::specs::Fields::event_of))]
 pub fn event_of_fields(
     alloc: Global,

@@ -1,5 +1,5 @@
 //! What is kept of the view that was read last. A view mostly shows what the view before it showed, so a text is first compared
-//! with the one before it: where views have hundreds of entries, that spares nearly all of the reading.
+//! with the one before it. If views have hundreds of entries, that avoids nearly all of the reading.
 ghost use Rattle.std.specs.Prelude.{◌≡◌, ◌<◌, ◌≤◌, ◌==◌, IfOk, IfSome, IsTrue, Some, length, count_by, take};
 ghost use Rattle.std.specs.Option.{ForSome};
 ghost use Rattle.snap_text.specs.Fields.{entries_at, view_at};
@@ -9,18 +9,18 @@ use snap_core::{Entry, View};
 use std::alloc::{AllocError, Global};
 use std::simd::prelude::*;
 
-/// What a look for the next entries among those of the view before costs, where each entry that is found there gives 1.
+/// The credits that one comparison with the entries of the last view costs. Each entry that it finds there earns 1.
 pub(crate) const LOOK: usize = 4;
 
-// What comes in for looks with each view.
+// The credits that each view brings.
 const INCOME: usize = 2 * LOOK;
 
-// The most that there is for looks. Where there is less, a view is compared with the one before it at its front alone. So where
-// views have no entries in common, one of four is looked through.
+// The greatest number of credits. With fewer, only the fronts of a view and of the one before it are compared. So if views
+// have no entries in common, one of four is compared throughout.
 const LOOKS: usize = 32;
 
-/// The entries of the view that was read last, and their text. Where that text came twice or more, there is a view of them, whose
-/// entries the next ones with that text share.
+/// The entries of the view that was read last, and their text. If that text came at least twice, it also has a view of them, and
+/// the next views with that text share its entries.
 #[derive(Drop)]
 pub struct Known {
     text: Vec<u8>,
@@ -32,7 +32,7 @@ pub struct Known {
 }
 
 impl Known {
-    /// Of no view.
+    /// Without a view, and with all credits.
     pub fn new(alloc: Global) -> Known {
         Known {
             text: Vec::new(alloc),
@@ -42,19 +42,17 @@ impl Known {
         }
     }
 
-    /// What there is for looks at its entries.
+    /// The credits for comparisons with its entries.
     pub(crate) fn looks(&self) -> usize {
         if self.looks < LOOKS { 0 } else { LOOKS }
     }
 
-    /// The text.
     pub(crate) fn text(&self) -> &[u8]
         ensures { result.now ≡ self.now.text.items }
     {
         &self.text
     }
 
-    /// The entries.
     pub(crate) fn entries(&self) -> &[Entry]
         ensures entries { result.now ≡ self.now.entries.items }
         ensures spelled { AreSpelled self.now.entries.items self.now.text.items }
@@ -62,21 +60,21 @@ impl Known {
         &self.entries
     }
 
-    /// Whether a text is that of the view.
+    /// Whether a text is that of the last view.
     pub(crate) fn is_of(&self, text: &[u8]) -> bool
         ensures { IsTrue result → text.now ≡ self.now.text.items }
     {
         self.text.as_slice() == text
     }
 
-    /// The view, where its text came twice or more.
+    /// The view, if its text came at least twice.
     pub(crate) fn view(&self) -> Option<&View>
         ensures { IfSome result (λ v. view_at self.now.text.items ≡ Some v.now) }
     {
         self.view.as_ref()
     }
 
-    /// Keeps the view, whose text came again, and gives another one that shows the same.
+    /// Keeps the view, whose text came again, and gives another view that shows the same.
     pub(crate) fn keep_view(&mut self, view: View) -> Result<View, AllocError>
         requires { view_at self.old.text.items ≡ Some view }
         ensures { IfOk result (λ v. v ≡ view) }
@@ -87,7 +85,7 @@ impl Known {
         Ok(other)
     }
 
-    /// Keeps the entries of another view, and their text, with what its own looks left. Where memory runs out, nothing is kept.
+    /// Keeps the entries of another view, their text, and the credits that its reading left. If memory runs out, nothing is kept.
     pub(crate) fn keep(
         &mut self,
         text: &[u8],
@@ -110,7 +108,7 @@ impl Known {
     }
 }
 
-// How many pieces of so many bytes have both texts alike, one behind the other, from a place on: where they end.
+// The end of the pieces of `step` bytes, one after the other from a place on, that are equal in both texts.
 #[inline(always)]
 fn skip_same(a: &[u8], b: &[u8], from: usize, step: usize) -> usize
     requires from { (from ≤ length a.now) × (from ≤ length b.now) }
@@ -127,10 +125,10 @@ fn skip_same(a: &[u8], b: &[u8], from: usize, step: usize) -> usize
     at
 }
 
-// How many bytes are compared together.
+// The number of bytes that are compared together.
 const LANES: usize = 32;
 
-// How many bytes two texts have alike at their fronts, of as many as are compared together.
+// The number of equal bytes at the fronts of two texts, at most `LANES`.
 #[inline(always)]
 fn same_lanes(a: &[u8], b: &[u8]) -> usize
     requires { (32 ≤ length a.now) × (32 ≤ length b.now) }
@@ -147,7 +145,7 @@ fn same_lanes(a: &[u8], b: &[u8]) -> usize
     }
 }
 
-/// How many bytes two texts have alike at their fronts.
+/// The number of equal bytes at the fronts of two texts.
 pub(crate) fn same_front(a: &[u8], b: &[u8]) -> usize
     ensures within { (result ≤ length a.now) × (result ≤ length b.now) }
     ensures same { take result a.now ≡ take result b.now }
@@ -165,7 +163,7 @@ pub(crate) fn same_front(a: &[u8], b: &[u8]) -> usize
     skip_same(a, b, near, 1)
 }
 
-// How many spaces a text of at most 255 bytes has.
+// The number of spaces in a text of at most 255 bytes.
 fn few_spaces(text: &[u8]) -> u8
     requires { length text.now < 256 }
     ensures { result ≡ count_by (λ b. b == 32) text.now }
@@ -177,10 +175,10 @@ fn few_spaces(text: &[u8]) -> u8
     count
 }
 
-// How many bytes are counted at a time, in lanes of one byte.
+// The number of bytes that are counted at a time, in lanes of one byte.
 const PIECE: usize = 192;
 
-/// How many spaces a text has.
+/// The number of spaces in a text.
 pub(crate) fn spaces(text: &[u8]) -> usize
     ensures { result ≡ count_by (λ b. b == 32) text.now }
 {

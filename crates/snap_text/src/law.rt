@@ -11,7 +11,7 @@ pub fn fields_read_back()
     ensures { FieldsReadBack }
 {}
 
-/// A record is read as an event only where it has the event's four fields.
+/// A record is read as an event only if it has the event's four fields.
 pub fn records_are_spelled()
     ensures { RecordsAreSpelled }
 {}

@@ -8,7 +8,7 @@ use itoa::Buffer;
 // The greatest number below 2^32.
 const GREATEST: u64 = u32::MAX as u64;
 
-/// The number below 2^32 whose decimal a text begins with, and the text behind its last digit.
+/// The number below 2^32 whose decimal form a text begins with, and the text after its last digit.
 #[inline(always)]
 pub(crate) fn number_first(text: &[u8]) -> Option<(u32, &[u8])>
     ensures { MatchOption result ((n : ℕ) (rest : List ℕ) → NumberThen n rest text.now → ⊥) (λ x. NumberThen x.0 x.1.now text.now) }
@@ -22,7 +22,7 @@ pub(crate) fn number_first(text: &[u8]) -> Option<(u32, &[u8])>
         if !byte.is_ascii_digit() {
             break;
         }
-        // this digit stands behind a leading zero, or makes the number too great
+        // this digit comes after a leading zero, or makes the number too great
         if number == 0 || number > GREATEST / 10 {
             return None;
         }
@@ -35,7 +35,7 @@ pub(crate) fn number_first(text: &[u8]) -> Option<(u32, &[u8])>
     Some((number as u32, left))
 }
 
-/// The number below 2^32 whose decimal a field is.
+/// The number below 2^32 whose decimal form a field is.
 pub(crate) fn number_of(field: &[u8]) -> Option<u32>
     ensures { result ≡ number_at (2 ^ 32) field.now }
 {
@@ -53,7 +53,7 @@ pub(crate) fn process_of(field: &[u8]) -> Option<u16>
     }
 }
 
-// The stamp that a field is, with as many digits as may be.
+// The stamp that a field is, of whatever number of digits.
 fn long_stamp_of(field: &[u8]) -> Option<u64>
     ensures { result ≡ number_at (2 ^ 64) field.now }
 {
@@ -71,11 +71,11 @@ fn long_stamp_of(field: &[u8]) -> Option<u64>
     }
 }
 
-/// The stamp that a field is: a number below 2^64 by its decimal.
+/// The stamp that a field is: the decimal form of a number below 2^64. None if the field is something else.
 pub fn stamp_of(field: &[u8]) -> Option<u64>
     ensures { result ≡ number_at (2 ^ 64) field.now }
 {
-    // most stamps are counted, and so are small
+    // most stamps are counts, and so are small
     match number_of(field) {
         Some(stamp) => Some(u64::from(stamp)),
         None => long_stamp_of(field),

@@ -23,7 +23,7 @@ fn entry_field(alloc: Global, entry: &Entry) -> Result<Vec<u8>, AllocError>
     Ok(field)
 }
 
-// Adds an entry, behind a space where it is not the first.
+// Adds an entry, after a space if it is not the first.
 fn put_next(out: &mut Vec<u8>, entry: &Entry) -> Result<(), AllocError>
     ensures { OnOk result (out.new.items ≡ with_next (length out.old.items == 0) out.old.items entry.now) }
 {
@@ -34,7 +34,7 @@ fn put_next(out: &mut Vec<u8>, entry: &Entry) -> Result<(), AllocError>
     put_entry(out, entry)
 }
 
-// The entries of a view, with one space between two.
+// The text of the entries of a view, with one space between two.
 fn view_field(alloc: Global, entries: &[Entry]) -> Result<Vec<u8>, AllocError>
     ensures { IfOk result (λ field. field.items ≡ entries_text entries.now) }
 {
@@ -70,8 +70,8 @@ fn four_fields(
     ])
 }
 
-/// The four fields of an event's record: `begin` or `end`, the process, `update` or `view`, and the entry that is begun,
-/// the entries that are shown, or nothing. No other event has the same four.
+/// The four fields of an event's record: `begin` or `end`, the process, `update` or `view`, and data. The data are the entry
+/// that is begun, the entries that are shown, or nothing. No other event has the same four.
 pub fn fields_of(alloc: Global, event: &Event) -> Result<[Vec<u8>; 4], AllocError>
     ensures { IfOk result (λ fields. map (λ f. f.items) fields ≡ spelled event.now) }
 {

@@ -1,15 +1,15 @@
-//! Words that are written from their last byte to the first, as the digits of a number come: each ends at a place of a
-//! buffer, so that a whole line stands in one piece before it is copied.
+//! Words that are written from their last byte to the first, as the digits of a number come. Each ends at a place of a buffer,
+//! so that a whole line is one piece before it is copied.
 ghost use Rattle.std.specs.Prelude.{◌≡◌, ◌+◌, ◌≤◌, ◌++◌, decimal, drop, length};
 ghost use Rattle.snap_text.specs.Spelling.{entry_text};
 
 use itoa::write_digits;
 use snap_core::Entry;
 
-/// The most bytes that an entry takes: two colons, and three numbers of 3, 10 and 10 digits.
+/// The greatest number of bytes of an entry: two colons, and three numbers of 3, 10 and 10 digits.
 pub const ENTRY_SIZE: usize = 25;
 
-/// Writes a text so that it ends at a place, and says where it begins.
+/// Writes a text so that it ends at a place of the buffer, and gives the place of its first byte.
 #[inline(always)]
 pub fn write_text(text: &[u8], buffer: &mut [u8], end: usize) -> usize
     requires room { length text.now ≤ end }
@@ -23,7 +23,7 @@ pub fn write_text(text: &[u8], buffer: &mut [u8], end: usize) -> usize
     at
 }
 
-/// Writes a text and behind it a number, so that they end at a place, and says where they begin.
+/// Writes a text and then a number, so that they end at a place of the buffer, and gives the place of their first byte.
 #[inline(always)]
 pub fn write_number(text: &[u8], number: u64, buffer: &mut [u8], end: usize) -> usize
     requires room { length text.now + length (decimal number) ≤ end }
@@ -36,7 +36,7 @@ pub fn write_number(text: &[u8], number: u64, buffer: &mut [u8], end: usize) -> 
     write_text(text, buffer, at)
 }
 
-/// Writes a text and behind it an entry, so that they end at a place, and says where they begin.
+/// Writes a text and then an entry, so that they end at a place of the buffer, and gives the place of their first byte.
 #[inline(always)]
 pub fn write_entry(text: &[u8], entry: &Entry, buffer: &mut [u8], end: usize) -> usize
     requires room { length text.now + ENTRY_SIZE ≤ end }

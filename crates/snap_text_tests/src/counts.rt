@@ -10,7 +10,7 @@ fn cup(alloc: Global, room: usize, at_once: usize, fails_when_full: bool) -> Cup
     Cup::new(alloc, room, at_once, fails_when_full, false)
 }
 
-// Of three reads, whether each fails, and how many failures are counted then.
+// For each of three reads, whether it fails, and the count of failures after it.
 const READS: &[(bool, u64)] = &[(false, 0), (true, 1), (false, 1)];
 
 #[test]
@@ -39,7 +39,7 @@ fn a_failed_write_and_a_failed_flush_are_counted(rt: HostRuntime) {
     assert!(rt; writer.flush().is_err() && writer.failures() == 2);
 }
 
-// Whether so many bytes of the text go out to a cup. Where these are all, it is flushed once, and otherwise one failure is counted.
+// Whether `sent` bytes of the text go out to a cup. If these are all, it is flushed once, and otherwise one failure is counted.
 fn is_sent_so_far(cup: Cup, sent: usize) -> bool {
     let mut writer = Counted::new(cup);
     let is_whole = writer.send(TEXT).is_ok();
@@ -51,7 +51,7 @@ fn is_sent_so_far(cup: Cup, sent: usize) -> bool {
         && (failures, cup.flushes) == (u64::from(!is_whole), u64::from(is_whole))
 }
 
-// The room, the bytes a write, whether a full writer fails; the bytes that go out.
+// The room, the bytes for each write, and whether a full writer fails; then the bytes that go out.
 const SENT: &[(usize, usize, bool, usize)] = &[
     (12, 12, true, 12),
     (12, 1, true, 12),

@@ -1,4 +1,4 @@
-//! The explanations of worked histories, against texts written by hand.
+//! The explanations of worked histories, against texts that were written by hand.
 ghost use Rattle.std.specs.Prelude.{◌≡◌, length, IfOk};
 
 use snap_core::{History, Limit};
@@ -16,7 +16,7 @@ use snap_verdict::order_alone;
 use std::alloc::{AllocError, Global};
 use std::test::Fail;
 
-// The numbers of the records of a history's events, from one on.
+// The numbers of the records of a history's events, from `first` on.
 fn records_from(alloc: Global, history: &History, first: u16) -> Result<Vec<u32>, AllocError>
     ensures { IfOk result (λ records. length records.items ≡ length history.now.events) }
 {
@@ -27,7 +27,7 @@ fn records_from(alloc: Global, history: &History, first: u16) -> Result<Vec<u32>
     Ok(records)
 }
 
-// The explanation of an index whose events stand in these records.
+// The explanation of an index whose events are in these records.
 fn explained(alloc: Global, index: &Index<'_>, records: &[u32]) -> Result<Vec<u8>, AllocError>
     requires { length records.now ≡ length index.now }
 {
@@ -36,14 +36,14 @@ fn explained(alloc: Global, index: &Index<'_>, records: &[u32]) -> Result<Vec<u8
     explain(alloc, index, &tally, records, order.as_deref())
 }
 
-// The explanation of a history whose events stand in the records from one on.
+// The explanation of a history whose events are in the records from `first` on.
 fn explained_from(alloc: Global, history: &History, first: u16) -> Result<Vec<u8>, AllocError> {
     let records = records_from(alloc, history, first)?;
     let index = Index::build(alloc, history)?;
     explained(alloc, &index, &records)
 }
 
-// The same of the history of some steps.
+// The explanation of the history of some steps, whose events are in the records from `first` on.
 fn explanation_from(alloc: Global, steps: &[Step<'_>], first: u16) -> Result<Vec<u8>, Fail> {
     let history = history_of(alloc, steps)?;
     Ok(explained_from(alloc, &history, first)?)
@@ -162,7 +162,7 @@ fn each_worked_history_has_its_explanation_with_records_from_the_first_on(
     Ok(())
 }
 
-// Places, faults and what is said of them, of a text that has one record under its header.
+// Places, faults and what is said about them, for a text with one record after its header.
 const REFUSED: &[(u32, TextFault, &str)] = &[
     (
         0,
@@ -189,9 +189,11 @@ const REFUSED: &[(u32, TextFault, &str)] = &[
         2,
         TextFault::BadData,
         "refused record 2: data\n\
-        the field data is an entry at the begin of an update, entries of rising components with one space between two, \
-        or none, at the end of a view, and empty otherwise; an entry is COMPONENT:NUMBER:VALUE, from 0:1:0 to \
-        255:4294967295:4294967295, without signs or leading zeros\n\
+        entry 2 is empty: one space stands between two entries, and none before the first or after the last\n\
+        the begin of an update has one entry in the field data\n\
+        the end of a view has entries with rising components and one space between two, or none\n\
+        any other record has an empty field data\n\
+        an entry is COMPONENT:NUMBER:VALUE, from 0:1:0 to 255:4294967295:4294967295, without signs or leading zeros\n\
         \x20 record 2 has the fields \"end\" \"1\" \"view\" \"0:1:7  1:1:8\"\n",
     ),
 ];
@@ -235,7 +237,7 @@ const RULES: &[(u32, TextFault, &str)] = &[
     ),
 ];
 
-// Whether the rule is said of a fault of a text under a limit.
+// Whether the rule is said about a fault of a text under a limit.
 fn says(alloc: Global, fault: TextFault, limit: Limit, rule: &str) -> Result<bool, Fail> {
     let said = explain_refusal(alloc, b"", 0, fault, limit)?;
     Ok(str::from_utf8(&said)?.contains(rule))

@@ -6,7 +6,7 @@ use std::alloc::Global;
 use std::process::Abort;
 use std::test::Fail;
 
-// Why a history refuses a step, or nothing where it takes it.
+// Why a history refuses a step, or nothing if it takes it.
 fn refusal(
     alloc: Global,
     history: &mut History,
@@ -128,7 +128,7 @@ fn the_law_of_histories_is_a_call() {
     histories_grow();
 }
 
-// The worked histories, and how many events each has.
+// The worked histories, and the number of events of each.
 const WORKED: &[(&[Step<'static>], usize)] = &[
     (worked::NOTHING, 0),
     (worked::STALE_VIEW, 4),
@@ -148,7 +148,7 @@ const WORKED: &[(&[Step<'static>], usize)] = &[
     (worked::ATOMIC_RUN, 10),
 ];
 
-// How many events the history of some steps has.
+// The number of events of the history of some steps.
 fn length_of(alloc: Global, steps: &[Step<'_>]) -> Result<usize, Fail> {
     Ok(history_of(alloc, steps)?.len())
 }

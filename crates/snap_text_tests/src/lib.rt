@@ -8,6 +8,8 @@ mod explanations;
 #[cfg(test)]
 mod histories;
 #[cfg(test)]
+mod mistakes;
+#[cfg(test)]
 mod reports;
 #[cfg(test)]
 mod shapes;

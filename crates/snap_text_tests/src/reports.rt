@@ -1,4 +1,4 @@
-//! Lines of reports that no example has.
+//! Lines of reports that are in no example.
 use snap_conditions::{is_atomic, tally_range};
 use snap_index::Index;
 use snap_report::{report, verdict_text};
@@ -15,7 +15,7 @@ fn reported(alloc: Global, index: &Index<'_>) -> Result<Vec<u8>, Fail> {
     Ok(report(alloc, index, &tally, None)?)
 }
 
-// The text of a history: its report, where it is not atomic, or the lines of the verdicts alone.
+// The text of a history: its report, if it is not atomic, or the lines of the verdicts alone.
 fn text_of(alloc: Global, steps: &[Step<'_>], is_whole: bool) -> Result<Vec<u8>, Fail> {
     let history = history_of(alloc, steps)?;
     let index = Index::build(alloc, &history)?;

@@ -1,4 +1,4 @@
-//! What is drawn of worked histories, against shapes worked out by hand.
+//! The shapes that are drawn for worked histories, against shapes worked out by hand.
 use snap_draw::{Bar, Kind, LINE_CALLS, Mark, Shapes, shapes_of};
 use snap_index::Index;
 use snap_tally::tally_and_chain_alone;
@@ -12,7 +12,7 @@ use std::test::Fail;
 // A bar: the number of its call, its lane, the columns of its begin and its end, and its place in the printed order.
 type Drawn = (u32, usize, usize, Option<usize>, Option<usize>);
 
-// The shapes of a history: its lanes, its bars, how many columns there are, and its marks.
+// The shapes of a history: its lanes, its bars, the number of columns, and its marks.
 type Known = (
     &'static [u32],
     &'static [Drawn],
@@ -20,7 +20,7 @@ type Known = (
     &'static [(Kind, u32)],
 );
 
-// Histories, how many calls are drawn of each, and their shapes.
+// Histories, the number of calls that are drawn of each, and their shapes.
 const WORKED: &[(&[Step<'static>], usize, Known)] = &[
     (NOTHING, LINE_CALLS, (&[], &[], 0, &[])),
     (
@@ -78,7 +78,7 @@ const WORKED: &[(&[Step<'static>], usize, Known)] = &[
     ),
 ];
 
-// The shapes of an index of which so many calls are drawn.
+// The shapes of an index, of which at most `limit` calls are drawn.
 fn drawn(alloc: Global, index: &Index<'_>, limit: usize) -> Result<Shapes, AllocError> {
     let (tally, chain) = tally_and_chain_alone(alloc, index)?;
     let order = order_alone(alloc, index, &tally, chain)?;
@@ -114,7 +114,6 @@ fn are_marks(marks: &[Mark], known: &[(Kind, u32)]) -> bool {
             .all(|(mark, known)| is_mark(mark, known))
 }
 
-// The shapes are these.
 fn expect_shapes(rt: &impl Abort, shapes: &Shapes, known: &Known) {
     let (lanes, bars, columns, marks) = *known;
     assert!(rt; shapes.lanes.as_slice() == lanes && shapes.columns == columns);
@@ -134,7 +133,7 @@ fn expect_drawn(
     Ok(())
 }
 
-// The same of a history.
+// A history has these shapes.
 fn expect(
     rt: &impl Abort,
     alloc: Global,

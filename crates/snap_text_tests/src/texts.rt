@@ -172,7 +172,7 @@ fn tests_the_length_of_a_text_before_its_records(rt: HostRuntime) {
     assert!(rt; too_long == (0, "toolong") && longest == (1, "header"));
 }
 
-// Each text is of a history of so many events.
+// Each text is of a history of this number of events.
 fn expect_counts(rt: &impl Abort, alloc: Global, known: &[(&[u8], usize)]) {
     for (text, count) in known {
         assert_eq!(rt; count_of(alloc, text), Some(*count));
@@ -189,7 +189,7 @@ fn reads_the_header_alone(rt: HostRuntime) {
     expect_counts(&rt, rt.alloc(), HEADERS);
 }
 
-// A text of quoted fields, texts with each end of a line, and one that begins with a byte order mark.
+// A text of quoted fields, texts with each form of line end, and one that begins with a byte order mark.
 const SPELLINGS: &[(&[u8], usize)] = &[
     (
         b"\"event\",\"process\",\"op\",\"data\"\r\n\"begin\",\"0\",\"view\",\"\"\r\n",
@@ -208,7 +208,7 @@ fn reads_quoted_fields_and_every_end_of_a_line(rt: HostRuntime) {
     expect_counts(&rt, rt.alloc(), SPELLINGS);
 }
 
-// How many events are read of a text that comes a byte at a time, and how many failures the reader counts.
+// The number of events that are read from a text that comes a byte at a time, and the reader's count of failures.
 fn dripped(alloc: Global, text: &[u8], fails_at: u64) -> (Result<usize, ReadRefusal>, u64) {
     let mut reader = Counted::new(Drip::new(text, fails_at));
     let count = match read_history(alloc, &mut reader) {

@@ -8,7 +8,7 @@ use std::alloc::Global;
 use std::process::Abort;
 use std::test::Fail;
 
-// Texts, how each is judged, and its report.
+// Texts, the status of each, and its report.
 const WORKED: &[(&str, Status, &str)] = &[
     (
         "event,process,op,data\nbegin,0,update,0:1:3\nbegin,1,view,\nend,1,view,\nend,0,update,\n",
@@ -46,7 +46,7 @@ fn each_worked_text_has_its_status_and_report(rt: HostRuntime) -> Result<(), Fai
     Ok(())
 }
 
-// Texts of histories, how each is judged, and the lines of its verdicts.
+// Texts of histories, the status of each, and the lines of its verdicts.
 const VERDICTS: &[(&str, Status, &str)] = &[
     (
         "event,process,op,data\n",
@@ -66,7 +66,7 @@ const VERDICTS: &[(&str, Status, &str)] = &[
     ),
 ];
 
-// An index has this status alone, and then with these lines of its verdicts.
+// An index has this status alone, and then also with these lines of its verdicts.
 fn expect_verdicts(
     rt: &impl Abort,
     alloc: Global,
@@ -84,7 +84,7 @@ fn expect_verdicts(
     Ok(())
 }
 
-// The same of the history of a text.
+// The history of a text has this status alone, and then also with these lines of its verdicts.
 fn expect(
     rt: &impl Abort,
     alloc: Global,

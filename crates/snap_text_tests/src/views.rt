@@ -5,7 +5,7 @@ use std::alloc::{AllocError, Global};
 use std::process::Abort;
 use std::test::Fail;
 
-// Components, numbers and values of entries, and why they are no view.
+// Components, numbers and values of entries, and why they are not a view.
 const REFUSED: &[(&[Shown], ViewRefusal)] = &[
     (&[(1, 1, 1), (0, 0, 1)], ViewRefusal::NotRising),
     (&[(1, 1, 1), (1, 2, 1)], ViewRefusal::NotRising),
@@ -13,7 +13,7 @@ const REFUSED: &[(&[Shown], ViewRefusal)] = &[
     (&[(0, 0, 1)], ViewRefusal::ZeroNumber),
 ];
 
-// Why these entries are no view, or nothing where they are one.
+// Why these entries are not a view, or nothing if they are one.
 fn refusal_of(alloc: Global, shown: &[Shown]) -> Result<Option<ViewRefusal>, AllocError> {
     let mut entries = Vec::new(alloc);
     for &(component, number, value) in shown {
@@ -31,7 +31,6 @@ fn entries_that_do_not_rise_are_refused_before_zero_numbers(rt: HostRuntime) -> 
     Ok(())
 }
 
-// The view has these entries.
 fn expect_shown(rt: &impl Abort, view: &View, entries: &[Entry]) {
     assert!(rt; view.entries() == entries);
     for shown in entries {

@@ -47,3 +47,8 @@ pub mod Write
 pub mod Sizes
 pub mod First
 pub mod Legal
+mod SameEvents
+mod MappedLists
+mod AnyonesFaults
+mod Processes
+mod WorkedProcesses

@@ -1,4 +1,4 @@
--- What is proved of the history of some calls.
+-- What is proved of a choice of calls as a history.
 use Rattle.std.specs.Prelude.{ℕ, Bool, true, List, ◌≡◌, Some, Contains}
 use Rattle.snap_core.specs.declared.entry.Entry.{Entry}
 use Rattle.snap_core.specs.declared.event.Event.{Event}
@@ -7,12 +7,12 @@ use Rattle.snap_core.specs.Calls.{Call, Updates, calls_of, precedes}
 use Rattle.snap_core.specs.Regular.{IsUpdateOf}
 use Rattle.snap_theory.specs.Kept.{kept_from, kept_call}
 
--- a call is kept with its end or not at all, and of each component only the update with the component's number
+-- a call is kept with its end or not at all; of each component only the update with the component's number is kept
 pub record IsChoice (keeps : ℕ → Bool) (numbers : ℕ → ℕ) (calls : List Call) : Type 0 where
   pub whole : (c : Call) (place : ℕ) → Contains calls c → c.ended ≡ Some place → keeps place ≡ keeps c.begun
   pub one : (c : Call) (e : Entry) → IsUpdateOf calls c e → keeps c.begun ≡ true → e.number ≡ numbers e.component
 
--- what is kept of a history is a history, whose calls are those that are kept, with the precedence that they had
+-- what is kept of a history is a history; its calls are those that are kept, with the precedence that they had
 pub record KeepsCalls (keeps : ℕ → Bool) (numbers : ℕ → ℕ) (events : List Event) : Type 0 where
   pub history : IsHistory (kept_from keeps numbers 0 events)
   pub each : (c : Call) → Contains (calls_of events) c → keeps c.begun ≡ true → (n : ℕ) × Contains (calls_of (kept_from keeps numbers 0 events)) (kept_call keeps numbers n c)

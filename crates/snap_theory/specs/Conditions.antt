@@ -10,7 +10,7 @@ pub record MeetsConditions (calls : List Call) : Type 0 where
   -- a view that precedes an update shows less, and one that an update precedes shows no less
   pub proximity_early : (r c : Call) (e : Entry) → IsViewOf calls r → IsUpdateOf calls c e → precedes r c ≡ true → shown_number r e.component < e.number
   pub proximity_old : (r c : Call) (e : Entry) → IsViewOf calls r → IsUpdateOf calls c e → precedes c r ≡ true → e.number ≤ shown_number r e.component
-  -- where r precedes s, or shows less of some component, it shows no more of any
+  -- if r precedes s, or shows less of some component, it shows no more of any
   pub read : (r s : Call) → IsViewOf calls r → IsViewOf calls s → (precedes r s ≡ true) ⊎ ((k : ℕ) × (shown_number r k < shown_number s k)) → (j : ℕ) → shown_number r j ≤ shown_number s j
   -- a view that shows an update shows each that preceded it
   pub write : (r a b : Call) (d e : Entry) → IsViewOf calls r → IsUpdateOf calls a d → IsUpdateOf calls b e → precedes a b ≡ true → e.number ≤ shown_number r e.component → d.number ≤ shown_number r d.component

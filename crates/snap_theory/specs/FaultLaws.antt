@@ -8,15 +8,15 @@ use Rattle.snap_core.specs.Regular.{IsRegular}
 use Rattle.snap_theory.specs.Conditions.{MeetsConditions}
 use Rattle.snap_theory.specs.Faults.{HasNoLocalFault, HasNoFault, integrity_faults, proximity_faults, read_faults, write_faults, stale_count, read_fault, least_exceeding}
 
--- regular exactly where there is no fault of one view alone
+-- regular exactly when no view alone has a fault
 abbrev pub RegularExactly : Type 0
 RegularExactly = (events : List Event) → IsHistory events → HasByteComponents events → IsRegular (calls_of events) ↔ HasNoLocalFault (calls_of events)
 
--- the four conditions hold exactly where there is no fault
+-- the four conditions hold exactly when there is no fault
 abbrev pub ConditionsExactly : Type 0
 ConditionsExactly = (events : List Event) → IsHistory events → HasByteComponents events → MeetsConditions (calls_of events) ↔ HasNoFault (calls_of events)
 
--- the faults of two ranges of views are those of the one and then those of the other
+-- the faults of two ranges of views are those of the first, and then those of the second
 pub record FaultsJoin (calls rs ss : List Call) : Type 0 where
   pub integrity : integrity_faults calls (rs ++ ss) ≡ integrity_faults calls rs ++ integrity_faults calls ss
   pub proximity : proximity_faults calls (rs ++ ss) ≡ proximity_faults calls rs ++ proximity_faults calls ss
@@ -32,10 +32,10 @@ pub record IsLeastExceeding (r s : Call) (k : ℕ) : Type 0 where
 abbrev pub ReadFaultHasComponent : Type 0
 ReadFaultHasComponent = (events : List Event) → HasByteComponents events → (r s : Call) → Contains (calls_of events) r → read_fault r s ≡ true → (k : ℕ) × (least_exceeding r s ≡ Some k) × IsLeastExceeding r s k
 
--- monotone exactly where no completed view is stale to another
+-- monotone exactly when no completed view is stale to another
 abbrev pub MonotoneExactly : Type 0
 MonotoneExactly = (calls : List Call) → IsMonotone calls ↔ (stale_count calls (views_of calls) ≡ 0)
 
--- where there is no read fault the views do not go back
+-- if there is no read fault, the views do not go back
 abbrev pub MonotoneWithoutReadFault : Type 0
 MonotoneWithoutReadFault = (calls : List Call) → read_faults calls (views_of calls) ≡ [] → IsMonotone calls

@@ -10,7 +10,7 @@ use Rattle.snap_theory.specs.Kept.{is_place_of}
 use Rattle.snap_theory.specs.Choices.{KeepsCalls}
 use Rattle.snap_theory.specs.Witness.{numbers_of, witness_calls, witness_of, in_witness}
 
--- a fault is of one or two completed views, and of a component or two
+-- a fault is of one or two completed views, and of at most two components
 pub data Fault : Type 0 where
   Integrity : (view : Call) (component : ℕ) → Fault
   Old : (view : Call) (component : ℕ) → Fault
@@ -26,7 +26,7 @@ IsFaultOf calls (Early r k) = IsViewOf calls r × (early_fault calls r k ≡ tru
 IsFaultOf calls (Read r s) = IsViewOf calls r × IsViewOf calls s × (read_fault r s ≡ true)
 IsFaultOf calls (Write r j k) = IsViewOf calls r × (write_fault calls r j k ≡ true)
 
--- of one view alone
+-- a fault of one view alone
 abbrev pub is_local : Fault → Bool
 is_local (Integrity r k) = true
 is_local (Old r k) = true
@@ -42,12 +42,12 @@ fault_views (Early r k) = r ∷ []
 fault_views (Read r s) = r ∷ s ∷ []
 fault_views (Write r j k) = r ∷ []
 
--- what a view shows of a component, where one is found
+-- the component and the number that a view shows of it, if there is a component
 abbrev pub shown_update : Call → Option ℕ → List (ℕ × ℕ)
 shown_update r None = []
 shown_update r (Some k) = (k, shown_number r k) ∷ []
 
--- what r shows of the least component of which it shows more than s
+-- the least component of which r shows more than s, and what r shows of it
 abbrev pub excess_of : Call → Call → List (ℕ × ℕ)
 excess_of r s = shown_update r (least_exceeding r s)
 
@@ -66,7 +66,7 @@ fault_calls events f = witness_calls (calls_of events) (fault_views f) (fault_up
 abbrev pub fault_witness : List Event → Fault → List Event
 fault_witness events f = witness_of events (fault_views f) (fault_updates f)
 
--- how many calls show a fault of the kind
+-- the greatest number of calls that show a fault of the kind
 abbrev pub call_limit : Fault → ℕ
 call_limit (Integrity r k) = 2
 call_limit (Old r k) = 2
@@ -74,7 +74,7 @@ call_limit (Early r k) = 2
 call_limit (Read r s) = 4
 call_limit (Write r j k) = 3
 
--- the fault of the same components and of the same views as they are kept, with a number each
+-- the fault of the same components, and of the same views as they are kept; a kept view gets a number
 abbrev pub fault_kept : (ℕ → Call → Call) → ℕ → ℕ → Fault → Fault
 fault_kept kept m n (Integrity r k) = Integrity (kept m r) k
 fault_kept kept m n (Old r k) = Old (kept m r) k
@@ -82,11 +82,11 @@ fault_kept kept m n (Early r k) = Early (kept m r) k
 fault_kept kept m n (Read r s) = Read (kept m r) (kept n s)
 fault_kept kept m n (Write r j k) = Write (kept m r) j k
 
--- some calls have that fault
+-- some calls have that kept fault, for some numbers of its views
 abbrev pub HasFaultKept : List Call → (ℕ → Call → Call) → Fault → Type 0
 HasFaultKept calls kept f = (m : ℕ) × (n : ℕ) × IsFaultOf calls (fault_kept kept m n f)
 
--- the witness of a fault is one
+-- the witness of a fault shows it
 pub record IsWitness (events : List Event) (f : Fault) : Type 0 where
   -- whole calls of the history, with the precedence that they had
   pub calls : KeepsCalls (is_place_of (fault_calls events f)) (numbers_of (fault_updates f)) events
@@ -102,12 +102,12 @@ pub record IsWitness (events : List Event) (f : Fault) : Type 0 where
 abbrev pub EachFaultHasWitness : Type 0
 EachFaultHasWitness = (events : List Event) → IsBoundedHistory events → (f : Fault) → IsFaultOf (calls_of events) f → IsWitness events f
 
--- some fault of the history has a witness
+-- the history has a fault, and that fault has a witness
 pub record HasWitness (events : List Event) : Type 0 where
   pub fault : Fault
   pub is : IsFaultOf (calls_of events) fault
   pub shown : IsWitness events fault
 
--- a history is atomic exactly where it has no witness
+-- a history is atomic exactly when it has no witness
 abbrev pub AtomicWithoutWitness : Type 0
 AtomicWithoutWitness = (events : List Event) → IsBoundedHistory events → (HasWitness events → ⊥) ↔ IsAtomic (calls_of events)

@@ -25,7 +25,7 @@ old_fault calls r k = list_any (λ a. is_update_numbered k (suc (shown_number r 
 unfoldable pub early_fault : List Call → Call → ℕ → Bool
 early_fault calls r k = list_any (λ a. is_update_numbered k (shown_number r k) a && precedes r a) calls
 
--- r shows of some component a greater number than s
+-- r shows a greater number than s of some component
 unfoldable pub exceeds : Call → Call → Bool
 exceeds r s = list_any (λ e. nat_lt (shown_number s e.component) (shown_number r e.component)) (entries_of r.operation)
 
@@ -50,7 +50,7 @@ components = range_with_len 0 component_count
 abbrev pub listed : Call → List ℕ
 listed r = map (λ e. e.component) (entries_of r.operation)
 
--- the faults whose first view is one of rs, in order: by that view, then by component, other view, or both components
+-- the faults with the first view in rs, ordered by that view, then by component, other view, or both components
 unfoldable pub integrity_faults : List Call → List Call → List (Call × ℕ)
 integrity_faults calls rs = flat_map (λ r. map (λ k. (r, k)) (filter (integrity_fault calls r) (listed r))) rs
 
@@ -63,7 +63,7 @@ read_faults calls rs = flat_map (λ r. map (λ s. (r, s)) (filter (read_fault r)
 unfoldable pub write_faults : List Call → List Call → List (Call × ℕ × ℕ)
 write_faults calls rs = flat_map (λ r. flat_map (λ j. map (λ k. (r, j, k)) (filter (write_fault calls r j) (listed r))) components) rs
 
--- of each of rs the completed views that are stale to it, counted together
+-- for each view of rs, the number of completed views that are stale to it, added up
 unfoldable pub stale_count : List Call → List Call → ℕ
 stale_count calls rs = sum_by (λ r. count_by (is_stale r) (views_of calls)) rs
 
@@ -85,7 +85,7 @@ pub record HasNoFault (calls : List Call) : Type 0 where
 unfoldable pub least_exceeding : Call → Call → Option ℕ
 least_exceeding r s = find (λ k. nat_lt (shown_number s k) (shown_number r k)) components
 
--- a tally has the count of the faults of a kind and the least of them: the first in order
+-- a tally has the count of the faults of a kind and the first of them, which is the least
 abbrev pub first_of : {F : Type 0} → List F → Option F
 first_of [] = None
 first_of (f ∷ fs) = Some f

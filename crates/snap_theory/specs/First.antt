@@ -1,4 +1,4 @@
--- The first fault of a history, by which its witness is made.
+-- The first fault of a history, of which its witness is made.
 use Rattle.std.specs.Prelude.{ℕ, Bool, List, ◌≡◌, Option, Some, if◌then◌else◌}
 use Rattle.std.specs.Option.{option_map, option_or}
 use Rattle.snap_core.specs.declared.event.Event.{Event}
@@ -26,7 +26,7 @@ first_read calls = option_map (λ (f : Call × Call). Read f.0 f.1) (first_of (r
 unfoldable pub first_write : List Call → Option Fault
 first_write calls = option_map (λ (f : Call × ℕ × ℕ). Write f.0 f.1 f.2) (first_of (write_faults calls (views_of calls)))
 
--- of the first kind that the calls have a fault of: integrity, proximity, read, write
+-- the first fault of the first kind that the calls have a fault of: integrity, proximity, read, write
 abbrev pub first_fault : List Call → Option Fault
 first_fault calls = option_or (first_integrity calls) (option_or (first_proximity calls) (option_or (first_read calls) (first_write calls)))
 
@@ -37,7 +37,7 @@ pub record AreWholeCalls (events kept : List Event) : Type 0 where
   pub same : kept ≡ kept_from keeps numbers 0 events
   pub calls : KeepsCalls keeps numbers events
 
--- the first fault of a history is there among the calls that are kept, of the same views and components
+-- the calls that are kept have the first fault of the history, of the same views and components
 pub record HasFirstFault (events kept : List Event) : Type 0 where
   pub fault : Fault
   pub first : first_fault (calls_of events) ≡ Some fault

@@ -23,12 +23,12 @@ kept_event numbers (BeginView p) = BeginView p
 kept_event numbers (EndUpdate p) = EndUpdate p
 kept_event numbers (EndView p es) = EndView p (kept_entries numbers es)
 
--- the events at the places that are kept, of a list that begins at a place
+-- the events at the places that are kept, in a list whose first event is at `place`
 abbrev pub kept_from : (ℕ → Bool) → (ℕ → ℕ) → ℕ → List Event → List Event
 kept_from keeps numbers place [] = []
 kept_from keeps numbers place (e ∷ es) = if keeps place then kept_event numbers e ∷ kept_from keeps numbers (suc place) es else kept_from keeps numbers (suc place) es
 
--- how many places below one are kept: where the event at that place then stands
+-- the number of places below n that are kept: it is the place of event n among the kept events
 abbrev pub rank : (ℕ → Bool) → ℕ → ℕ
 rank keeps zero = 0
 rank keeps (suc n) = rank keeps n + (if keeps n then 1 else 0)
@@ -37,7 +37,7 @@ abbrev pub kept_operation : (ℕ → ℕ) → Operation → Operation
 kept_operation numbers (Updates e) = Updates (alone e)
 kept_operation numbers (Views answer) = Views (option_map (kept_entries numbers) answer)
 
--- a call that is kept, as it then is, with a number
+-- a kept call as it is among the kept events, with this number
 abbrev pub kept_call : (ℕ → Bool) → (ℕ → ℕ) → ℕ → Call → Call
 kept_call keeps numbers number c = record {
   number = number;
@@ -51,7 +51,7 @@ abbrev pub ends_at : Option ℕ → ℕ → Bool
 ends_at None place = false
 ends_at (Some end) place = end == place
 
--- the places where calls begin and end
+-- whether one of the calls begins or ends at a place
 abbrev pub is_place_of : List Call → ℕ → Bool
 is_place_of chosen place = list_any (λ c. (c.begun == place) || ends_at c.ended place) chosen
 
@@ -59,6 +59,6 @@ is_place_of chosen place = list_any (λ c. (c.begun == place) || ends_at c.ended
 unfoldable pub kept_events : List Call → (ℕ → ℕ) → List Event → List Event
 kept_events chosen numbers events = kept_from (is_place_of chosen) numbers 0 events
 
--- the places of a list
+-- whether a place is in a list of places
 abbrev pub is_among : List ℕ → ℕ → Bool
 is_among places place = list_any (λ p. p == place) places

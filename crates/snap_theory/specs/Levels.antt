@@ -5,11 +5,11 @@ use Rattle.snap_core.specs.declared.entry.Entry.{Entry}
 use Rattle.snap_core.specs.Calls.{Call, Operation, Updates, Views, is_view, shown_number}
 use Rattle.snap_theory.specs.Faults.{exceeds}
 
--- the completed views that do not show update e or a later one
+-- the number of completed views that do not show update e or a later one
 unfoldable pub update_level : List Call → Entry → ℕ
 update_level calls e = count_by (λ s. is_view s && nat_lt (shown_number s e.component) e.number) calls
 
--- the completed views with other numbers than r and no component above r's
+-- the number of completed views with other numbers than r, and with no component above r's
 unfoldable pub view_level : List Call → Call → ℕ
 view_level calls r = count_by (λ s. is_view s && (exceeds r s && not (exceeds s r))) calls
 

@@ -16,3 +16,4 @@ pub mod Choices
 pub mod Witness
 pub mod FaultWitnesses
 pub mod First
+pub mod Processes

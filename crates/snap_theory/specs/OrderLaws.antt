@@ -1,4 +1,4 @@
--- What the printed order and legal orders are to one another, whatever the length of the history.
+-- How the printed order and legal orders relate, whatever the length of the history.
 use Rattle.std.specs.Prelude.{ℕ, map, List, [], ◌∷◌, ◌++◌, ◌≡◌, ◌↔◌}
 use Rattle.snap_core.specs.declared.event.Event.{Event}
 use Rattle.snap_core.specs.Events.{IsHistory, HasByteComponents}
@@ -10,15 +10,15 @@ use Rattle.snap_theory.specs.Levels.{printed_order, IsPrintedOrder}
 use Rattle.snap_theory.specs.Keys.{AreSortedKeys}
 use Rattle.snap_theory.specs.Starts.{IsLegalStart, MayFollow}
 
--- where there is no fault, the printed order is legal
+-- if there is no fault, the printed order is legal
 abbrev pub PrintsLegalOrder : Type 0
 PrintsLegalOrder = (events : List Event) → IsHistory events → HasByteComponents events → HasNoFault (calls_of events) → IsLegalOrder (calls_of events) (printed_order (calls_of events))
 
--- where some order is legal, there is no fault
+-- if some order is legal, there is no fault
 abbrev pub LegalOrderHasNoFault : Type 0
 LegalOrderHasNoFault = (events : List Event) → IsHistory events → (order : List Call) → IsLegalOrder (calls_of events) order → HasNoFault (calls_of events)
 
--- atomic exactly where there is no fault
+-- atomic exactly when there is no fault
 abbrev pub AtomicExactly : Type 0
 AtomicExactly = (events : List Event) → IsHistory events → HasByteComponents events → IsAtomic (calls_of events) ↔ HasNoFault (calls_of events)
 
@@ -30,7 +30,7 @@ AtomicIsMonotone = (events : List Event) → IsHistory events → IsAtomic (call
 abbrev pub PrintedOrderAlone : Type 0
 PrintedOrderAlone = (events : List Event) → IsHistory events → (order : List Call) → IsPrintedOrder (calls_of events) order ↔ (order ≡ printed_order (calls_of events))
 
--- an order is legal from its front on
+-- how a legal order grows from its front on
 abbrev pub LegalStartGrows : Type 0
 LegalStartGrows = (calls before : List Call) (c : Call) → (IsLegalStart calls before × MayFollow calls before c) ↔ IsLegalStart calls (before ++ c ∷ [])
 

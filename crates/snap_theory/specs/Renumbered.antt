@@ -1,4 +1,4 @@
--- A history behind a quiet moment with numbers from 1, as one who begins to record there writes it.
+-- A history after a quiet moment with numbers from 1, as a recorder writes it that begins there.
 use Rattle.std.specs.Prelude.{ℕ, Bool, ◌-◌, ◌≡◌, ◌<◌, ◌⊎◌, List, map, filter, nat_lt, Option}
 use Rattle.snap_core.specs.declared.entry.Entry.{Entry}
 use Rattle.snap_core.specs.declared.event.Event.{Event}
@@ -7,7 +7,7 @@ use Rattle.snap_core.specs.Entries.{number_in}
 use Rattle.snap_core.specs.Calls.{Call, shown, shown_number}
 use Rattle.snap_core.specs.Regular.{IsViewOf}
 
--- an entry, with its number less that of what was left
+-- an entry with its number reduced by the number of what was left
 abbrev pub renumbered_entry : (ℕ → Option Entry) → Entry → Entry
 renumbered_entry left e = record { component = e.component; number = e.number - number_in (left e.component); value = e.value }
 
@@ -15,7 +15,7 @@ renumbered_entry left e = record { component = e.component; number = e.number - 
 abbrev pub is_later : (ℕ → Option Entry) → Entry → Bool
 is_later left e = nat_lt (number_in (left e.component)) e.number
 
--- of a view, what was left is not listed
+-- the entries of a view, without those of what was left
 abbrev pub renumbered_entries : (ℕ → Option Entry) → List Entry → List Entry
 renumbered_entries left es = map (renumbered_entry left) (filter (is_later left) es)
 

@@ -1,4 +1,4 @@
--- The faults of a history as sets: each kind in the order of a report, in which no fault stands twice.
+-- The faults of a history as sets: each kind in the order of a report, without a repeated fault.
 use Rattle.std.specs.Prelude.{ℕ, List, Some, ◌≡◌, ◌≢◌, ◌<◌, ◌⊎◌, All, AllPairs, Contains}
 use Rattle.snap_core.specs.declared.event.Event.{Event}
 use Rattle.snap_core.specs.Events.{IsHistory, EventFits}
@@ -18,7 +18,7 @@ ByOther f g = KeyLess (f.0.number, f.1.number) (g.0.number, g.1.number)
 abbrev pub ByComponents : Call × ℕ × ℕ → Call × ℕ × ℕ → Type 0
 ByComponents f g = (f.0.number < g.0.number) ⊎ ((f.0.number ≡ g.0.number) × KeyLess (f.1, f.2) (g.1, g.2))
 
--- faults that rise strictly: their count is the size of a set, and the first is the least of it
+-- faults that rise strictly: their count is the size of a set, and the first is its least
 pub record RiseStrictly {F : Type 0} (Less : F → F → Type 0) (faults : List F) : Type 0 where
   pub rising : AllPairs Less faults
   pub distinct : AllPairs (λ f g. f ≢ g) faults
@@ -31,6 +31,6 @@ pub record FaultsRise (calls : List Call) : Type 0 where
   pub read : RiseStrictly ByOther (read_faults calls (views_of calls))
   pub write : RiseStrictly ByComponents (write_faults calls (views_of calls))
 
--- of a history of any length whose fields fit their types
+-- for a history of any length whose fields fit their types
 abbrev pub FaultsRiseAlways : Type 0
 FaultsRiseAlways = (events : List Event) → IsHistory events → All EventFits events → FaultsRise (calls_of events)

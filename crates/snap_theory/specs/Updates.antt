@@ -8,6 +8,6 @@ use Rattle.snap_core.specs.Calls.{Call, calls_of, is_update_numbered}
 abbrev pub update_of : List Call → ℕ → ℕ → Option Call
 update_of calls k n = find (is_update_numbered k n) calls
 
--- an update of a component and a number is the only one
+-- at most one update has a given component and number
 abbrev pub UpdatesAreAlone : Type 0
 UpdatesAreAlone = (events : List Event) → IsHistory events → (k n : ℕ) (a b : Call) → Contains (calls_of events) a → Contains (calls_of events) b → is_update_numbered k n a ≡ true → is_update_numbered k n b ≡ true → a ≡ b

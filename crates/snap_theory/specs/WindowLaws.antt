@@ -12,26 +12,26 @@ use Rattle.snap_core.specs.Regular.{IsRegular}
 use Rattle.snap_theory.specs.Windows.{IsQuiet, left_by, nothing, IsRegularFrom, IsAtomicFrom}
 use Rattle.snap_theory.specs.Renumbered.{renumbered, ShowsNoLess}
 
--- where nothing was left, the words mean what they mean of a whole history
+-- if nothing was left, regular and atomic from that beginning are regular and atomic
 abbrev pub RegularFromNothing : Type 0
 RegularFromNothing = (calls : List Call) → IsRegularFrom nothing calls ↔ IsRegular calls
 
 abbrev pub AtomicFromNothing : Type 0
 AtomicFromNothing = (calls : List Call) → IsAtomicFrom nothing calls ↔ IsAtomic calls
 
--- regular exactly where both sides of a quiet moment are, the later one from what the earlier one left
+-- regular exactly when both sides of a quiet moment are, the later one from what the earlier one left
 abbrev pub RegularJoins : Type 0
 RegularJoins =
     (before after : List Event) → IsHistory (before ++ after) → IsQuiet before →
     IsRegular (calls_of (before ++ after)) ↔ (IsRegular (calls_of before) × IsRegularFrom (left_by before) (calls_of after))
 
--- a regular history is monotone exactly where both sides are
+-- a regular history is monotone exactly when both sides are
 abbrev pub MonotoneJoins : Type 0
 MonotoneJoins =
     (before after : List Event) → IsHistory (before ++ after) → IsQuiet before → IsRegular (calls_of (before ++ after)) →
     IsMonotone (calls_of (before ++ after)) ↔ (IsMonotone (calls_of before) × IsMonotone (calls_of after))
 
--- atomic exactly where both sides are, the later one from what the earlier one left
+-- atomic exactly when both sides are, the later one from what the earlier one left
 abbrev pub AtomicJoins : Type 0
 AtomicJoins =
     (before after : List Event) → IsHistory (before ++ after) → IsQuiet before →
@@ -43,30 +43,30 @@ SidesAreHistories =
     (before after : List Event) → IsHistory (before ++ after) → IsQuiet before →
     IsHistory before × IsHistory (renumbered (left_by before) after)
 
--- later updates go on: each has a greater number than what was left of its component, and the process of the earlier updates of that
+-- later updates go on: each has a greater number than what was left of its component, and the process of its earlier updates
 pub record GoesOn (before after : List Event) : Type 0 where
   pub numbers : (p : ℕ) (e : Entry) → Contains after (BeginUpdate p e) → number_in (left_by before e.component) < e.number
   pub writers : (p q : ℕ) (d e : Entry) → Contains before (BeginUpdate p d) → Contains after (BeginUpdate q e) → d.component ≡ e.component → p ≡ q
 
--- a history exactly where both sides are, the later one with numbers from 1, and later updates go on
+-- a history exactly when both sides are, the later one with numbers from 1, and later updates go on
 abbrev pub HistoriesJoin : Type 0
 HistoriesJoin =
     (before after : List Event) → IsQuiet before →
     IsHistory (before ++ after) ↔ (IsHistory before × IsHistory (renumbered (left_by before) after) × GoesOn before after)
 
--- regular from what was left exactly where each view shows that or more, and the history with numbers from 1 is regular
+-- regular from what was left exactly when each view shows that or more, and the history with numbers from 1 is regular
 abbrev pub RegularRenumbered : Type 0
 RegularRenumbered =
     (before after : List Event) → IsHistory (before ++ after) → All EventFits after → IsQuiet before →
     IsRegularFrom (left_by before) (calls_of after) ↔ (ShowsNoLess (left_by before) (calls_of after) × IsRegular (calls_of (renumbered (left_by before) after)))
 
--- where each view shows what was left or more, monotone exactly where the history with numbers from 1 is
+-- if each view shows what was left or more, monotone exactly when the history with numbers from 1 is
 abbrev pub MonotoneRenumbered : Type 0
 MonotoneRenumbered =
     (before after : List Event) → IsHistory (before ++ after) → All EventFits after → IsQuiet before → ShowsNoLess (left_by before) (calls_of after) →
     IsMonotone (calls_of after) ↔ IsMonotone (calls_of (renumbered (left_by before) after))
 
--- atomic from what was left exactly where each view shows that or more, and the history with numbers from 1 is atomic
+-- atomic from what was left exactly when each view shows that or more, and the history with numbers from 1 is atomic
 abbrev pub AtomicRenumbered : Type 0
 AtomicRenumbered =
     (before after : List Event) → IsHistory (before ++ after) → All EventFits after → IsQuiet before →

@@ -1,4 +1,4 @@
--- A history behind a quiet moment, with what was left there as its beginning.
+-- A history after a quiet moment, with what was left there as its beginning.
 use Rattle.std.specs.Prelude.{ℕ, true, false, List, ◌++◌, ◌∷◌, ◌≡◌, ◌≢◌, ◌≤◌, ◌<◌, ◌⊎◌, Option, Some, None, All, AllPairs, Contains}
 use Rattle.snap_core.specs.declared.entry.Entry.{Entry}
 use Rattle.snap_core.specs.Entries.{number_in}
@@ -7,7 +7,7 @@ use Rattle.snap_core.specs.Calls.{Call, calls_of, precedes, is_view, shown, show
 use Rattle.snap_core.specs.Orders.{is_completed, is_update, last_written}
 use Rattle.snap_core.specs.Regular.{IsViewOf, IsUpdateOf, IsBegunBeforeEnd}
 
--- no call is open behind these events
+-- no call is open after these events
 abbrev pub IsQuiet : List Event → Type 0
 IsQuiet before = All (λ c. is_completed c ≡ true) (calls_of before)
 
@@ -15,11 +15,11 @@ IsQuiet before = All (λ c. is_completed c ≡ true) (calls_of before)
 abbrev pub left_by : List Event → ℕ → Option Entry
 left_by before k = last_written k None (calls_of before)
 
--- the beginning of a history of its own: nothing was left of any component
+-- the beginning of a whole history: nothing was left of any component
 abbrev pub nothing : ℕ → Option Entry
 nothing k = None
 
--- regular, where something was left of the components
+-- regular, from what was left of the components
 pub record IsRegularFrom (left : ℕ → Option Entry) (calls : List Call) : Type 0 where
   pub not_old : (r c : Call) (e : Entry) → IsViewOf calls r → IsUpdateOf calls c e → shown_number r e.component < e.number → precedes c r ≡ false
   -- no view shows less than what was left
@@ -27,7 +27,7 @@ pub record IsRegularFrom (left : ℕ → Option Entry) (calls : List Call) : Typ
   -- each entry is what was left, or that of an update begun before the view ended
   pub not_early : (r : Call) (k : ℕ) (e : Entry) → IsViewOf calls r → shown r k ≡ Some e → (left k ≡ Some e) ⊎ ((c : Call) × IsUpdateOf calls c e × IsBegunBeforeEnd c r)
 
--- a legal order, where something was left: a view before the first update of a component shows that
+-- a legal order, from what was left: a view before the first update of a component shows what was left of it
 pub record IsLegalOrderFrom (left : ℕ → Option Entry) (calls order : List Call) : Type 0 where
   pub only : All (λ c. Contains calls c × ((is_completed c ≡ true) ⊎ (is_update c ≡ true))) order
   pub distinct : AllPairs (λ a b. a ≢ b) order
@@ -35,6 +35,6 @@ pub record IsLegalOrderFrom (left : ℕ → Option Entry) (calls order : List Ca
   pub precedence : AllPairs (λ a b. precedes b a ≡ false) order
   pub latest : (before after : List Call) (r : Call) → order ≡ before ++ r ∷ after → is_view r ≡ true → (k : ℕ) → shown r k ≡ last_written k (left k) before
 
--- atomic, where something was left
+-- atomic, from what was left
 abbrev pub IsAtomicFrom : (ℕ → Option Entry) → List Call → Type 0
 IsAtomicFrom left calls = (order : List Call) × IsLegalOrderFrom left calls order

@@ -5,17 +5,17 @@ ghost use Rattle.snap_theory.specs.FaultLaws.{RegularExactly, MonotoneExactly, C
 ghost use Rattle.snap_theory.specs.Rising.{FaultsRiseAlways};
 ghost use Rattle.snap_theory.specs.Updates.{UpdatesAreAlone};
 
-/// A history is regular exactly where no view has a fault of its own.
+/// A history is regular exactly when no view has a fault of its own.
 pub fn regular_by_local_faults()
     ensures { RegularExactly }
 {}
 
-/// A history is monotone exactly where no view is stale to another.
+/// A history is monotone exactly when no view is stale to another.
 pub fn monotone_by_stale_views()
     ensures { MonotoneExactly }
 {}
 
-/// The four conditions hold exactly where there is no fault.
+/// The four conditions hold exactly when there is no fault.
 pub fn conditions_by_faults()
     ensures { ConditionsExactly }
 {}
@@ -25,18 +25,18 @@ pub fn monotone_without_read_fault()
     ensures { MonotoneWithoutReadFault }
 {}
 
-/// The faults of two ranges of views are those of the one and then of the other; a read fault has a least component.
+/// The faults of two ranges of views are those of the first, and then those of the second. A read fault has a least component.
 pub fn faults_join()
     ensures join { (calls rs ss : List Call) → FaultsJoin calls rs ss }
     ensures component { ReadFaultHasComponent }
 {}
 
-/// The faults of each kind, in the order of a report, rise strictly: none stands twice, and the first is the least.
+/// The faults of each kind, in the order of a report, rise strictly: none repeats, and the first is the least.
 pub fn faults_rise()
     ensures { FaultsRiseAlways }
 {}
 
-/// An update of a component and a number is the only one.
+/// At most one update has a given component and number.
 pub fn updates_are_alone()
     ensures { UpdatesAreAlone }
 {}

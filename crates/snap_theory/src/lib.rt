@@ -1,8 +1,9 @@
-//! The law of the judge, apart from code: what faults say of a history, the printed order, witnesses, and what a cut keeps.
+//! The theory of the judge, without code: what faults say of a history, the printed order, witnesses, and what a cut keeps.
 #![tactic(auto)]
 
 mod fault_laws;
 mod order_laws;
+mod process_laws;
 mod window_laws;
 mod witness_laws;
 
@@ -14,5 +15,6 @@ pub use order_laws::{
     atomic_is_monotone, legal_orders_grow, printed_order_is_alone, shrinking_lemma,
     sorted_keys_give_the_order,
 };
+pub use process_laws::processes_do_not_matter;
 pub use window_laws::{beginnings_may_be_empty, windows_join, windows_may_be_renumbered};
 pub use witness_laws::{atomic_without_witness, choices_keep_calls, faults_have_witnesses};

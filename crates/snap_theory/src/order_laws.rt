@@ -1,7 +1,7 @@
 //! Laws of orders, the Shrinking Lemma among them.
 ghost use Rattle.snap_theory.specs.OrderLaws.{PrintsLegalOrder, LegalOrderHasNoFault, AtomicExactly, AtomicIsMonotone, PrintedOrderAlone, LegalStartGrows, KeysGiveOrder};
 
-/// The Shrinking Lemma: a history is atomic exactly where it has no fault, and then the printed order is a legal one.
+/// The Shrinking Lemma: a history is atomic exactly when it has no fault, and then the printed order is legal.
 pub fn shrinking_lemma()
     ensures printed { PrintsLegalOrder }
     ensures no_fault { LegalOrderHasNoFault }
@@ -13,7 +13,7 @@ pub fn atomic_is_monotone()
     ensures { AtomicIsMonotone }
 {}
 
-/// The printed order is the one sorted list of the printed calls.
+/// The printed order is the only sorted list of the printed calls.
 pub fn printed_order_is_alone()
     ensures { PrintedOrderAlone }
 {}
@@ -23,7 +23,7 @@ pub fn legal_orders_grow()
     ensures { LegalStartGrows }
 {}
 
-/// What a sort by level, kind and number gives.
+/// A sort of the printed calls by level, kind and number gives the printed order.
 pub fn sorted_keys_give_the_order()
     ensures { KeysGiveOrder }
 {}

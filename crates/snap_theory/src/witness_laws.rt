@@ -2,13 +2,13 @@
 ghost use Rattle.snap_theory.specs.Choices.{ChoiceKeepsCalls};
 ghost use Rattle.snap_theory.specs.FaultWitnesses.{EachFaultHasWitness, AtomicWithoutWitness};
 
-/// What is kept of a history is a history, with the calls that are kept and the precedence that they had.
+/// The kept events of a history are a history, with the calls that are kept and the precedence that they had.
 pub fn choices_keep_calls()
     ensures { ChoiceKeepsCalls }
 {}
 
-/// Each fault of a history has a witness of at most four of its calls: a history with a fault of the same kind, which is
-/// not atomic.
+/// Each fault of a history has a witness of at most four of its calls. The witness is a history with a fault of the same kind,
+/// and it is not atomic.
 pub fn faults_have_witnesses()
     ensures { EachFaultHasWitness }
 {}

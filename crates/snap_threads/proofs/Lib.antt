@@ -1,1 +1,5 @@
 mod Jobs
+mod Totals
+mod Keeps
+pub mod Finishing
+pub mod Closing

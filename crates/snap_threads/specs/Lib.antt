@@ -1,1 +1,5 @@
 pub mod Cuttings
+pub mod Claiming
+pub mod Draws
+pub mod Counters
+pub mod inside

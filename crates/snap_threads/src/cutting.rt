@@ -1,11 +1,11 @@
-//! Into how many pieces some work is cut, for how many workers.
+//! Cuttings: the number of pieces into which some work is cut, and the number of workers that share them.
 ghost use Rattle.std.specs.Prelude.{◌≡◌, IfOk, OnOk, IsErrOf};
 ghost use Rattle.snap_threads.specs.Cuttings.{IsPieces, IsWorkers};
 
-/// How many pieces a cutting has at most.
+/// The most pieces of a cutting.
 pub const PIECE_LIMIT: u32 = 1024;
 
-/// How many workers a cutting has at most.
+/// The most workers of a cutting.
 pub const WORKER_LIMIT: u32 = 8;
 
 /// Why there is no such cutting, in the order in which the reasons are tested.
@@ -17,7 +17,7 @@ pub enum CuttingRefusal {
     Workers,
 }
 
-/// Into how many pieces some work is cut, and how many workers share the pieces.
+/// The number of pieces into which some work is cut, and the number of workers that share them.
 #[derive(Clone, Copy, PartialEq, Eq, Debug)]
 pub struct Cutting {
     pieces: u32,
@@ -43,7 +43,7 @@ impl Cutting {
         Ok(Cutting { pieces, workers })
     }
 
-    /// The cutting where none is asked for.
+    /// The cutting if none is asked for: 8 pieces for 2 workers.
     pub fn usual() -> Cutting
         ensures { (result.pieces ≡ 8) × (result.workers ≡ 2) }
     {
@@ -53,14 +53,14 @@ impl Cutting {
         }
     }
 
-    /// How many pieces there are, 1 to `PIECE_LIMIT`.
+    /// The number of pieces, 1 to `PIECE_LIMIT`.
     pub fn pieces(&self) -> u32
         ensures { result ≡ self.now.pieces }
     {
         self.pieces
     }
 
-    /// How many workers there are, 1 to `WORKER_LIMIT`.
+    /// The number of workers, 1 to `WORKER_LIMIT`.
     pub fn workers(&self) -> u32
         ensures { result ≡ self.now.workers }
     {

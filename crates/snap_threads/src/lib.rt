@@ -1,4 +1,4 @@
-//! Jobs in threads that the calling thread starts, and how many workers share how many pieces of some work.
+//! Jobs in threads that the calling thread starts, and the pieces of some work that workers share.
 #![tactic(auto)]
 
 ghost use Rattle.std.specs.Prelude.{IfOk};
@@ -6,14 +6,17 @@ ghost use Rattle.std.specs.Thread.{IsSync, IsSend};
 ghost use Rattle.std.specs.Fork.{AcceptsJobs};
 ghost use Rattle.std.specs.Fork.Halves.{GivesFor};
 
+mod claims;
+mod counter;
 mod cutting;
 
+pub use claims::{Claim, Claims};
 pub use cutting::{Cutting, CuttingRefusal, PIECE_LIMIT, WORKER_LIMIT};
 use std::alloc::{AllocError, Global};
 use std::thread::{Threads, join};
 
-/// Calls `f` at each job, each in a thread of its own or on this thread where none can be made, and `own` on this thread.
-/// The answers stand in the order of the jobs.
+/// Calls `f` at each job, in a thread of its own, or on this thread if none can be made. It calls `own` on this thread. The answers
+/// are in the order of the jobs. The error is want of memory for their list: `own` is called even then.
 pub fn each_job_beside<
     R: Threads + Sync,
     J: Send + Drop,
@@ -48,8 +51,8 @@ pub fn each_job_beside<
     }
 }
 
-/// Calls `f` at each job: the last on this thread, and each other in a thread of its own, or on this thread where none can be
-/// made. The answers stand in the order of the jobs.
+/// Calls `f` at each job. The last runs on this thread. Each other runs in a thread of its own, or on this thread if none can be
+/// made. The answers are in the order of the jobs. The error is want of memory for their list.
 pub fn each_job<R: Threads + Sync, J: Send + Drop, X: Send + Drop, F: Fn(J) -> X + Sync>(
     rt: &R,
     alloc: Global,

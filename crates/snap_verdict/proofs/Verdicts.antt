@@ -59,18 +59,18 @@ no_fault_then es t whole h = (no_fault_by_tally (calls_of es)).0 (subst CountsNo
 bytes_in : (es : List Event) → IsBoundedHistory es → HasByteComponents es
 bytes_in es k = bytes_of_events es k.fit
 
-regular_is : (es : List Event) (t : Tally) → IsTallied es t → IsTrue (has_no_local_fault t) ↔ IsRegular (calls_of es)
+pub regular_is : (es : List Event) (t : Tally) → IsTallied es t → IsTrue (has_no_local_fault t) ↔ IsRegular (calls_of es)
 regular_is es t w =
     let law = regular_by_tally es w.kept.history (bytes_in es w.kept) in
     (λ e. law.0 (subst CountsNoLocalFault w.whole (local_from t e)), λ r. local_to t (subst CountsNoLocalFault (sym w.whole) (law.1 r)))
 
-monotone_is : (es : List Event) (t : Tally) → IsTallied es t → IsTrue (has_no_stale_view t) ↔ IsMonotone (calls_of es)
+pub monotone_is : (es : List Event) (t : Tally) → IsTallied es t → IsTrue (has_no_stale_view t) ↔ IsMonotone (calls_of es)
 monotone_is es t w =
     let law = monotone_by_tally (calls_of es) in
     let same = ap (λ (t : Tally). t.stale) w.whole in
     (λ e. law.0 (sym same ∙ eqb-true _ _ e), λ m. eq-eqb _ _ (same ∙ law.1 m))
 
-atomic_is : (es : List Event) (t : Tally) → IsTallied es t → IsTrue (has_no_fault t) ↔ IsAtomic (calls_of es)
+pub atomic_is : (es : List Event) (t : Tally) → IsTallied es t → IsTrue (has_no_fault t) ↔ IsAtomic (calls_of es)
 atomic_is es t w =
     let law = atomic_exactly es w.kept.history (bytes_in es w.kept) in (
       λ e. law.1 (no_fault_then es t w.whole (all_from t e)),

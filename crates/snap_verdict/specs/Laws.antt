@@ -8,7 +8,7 @@ use Rattle.snap_verdict.specs.Reports.{IsReport}
 abbrev pub EachTextHasAReport : Type 0
 EachTextHasAReport = (limit : ℕ) (text : List ℕ) → IsLimit limit → (status : Status) × (out : List ℕ) × IsReport limit text status out
 
--- within a limit of events a text has one status and one report
+-- within a limit of events, a text has at most one status and one report
 abbrev pub HasOneReport : Type 0
 HasOneReport =
     (limit : ℕ) (text : List ℕ) (status other : Status) (out others : List ℕ) → IsReport limit text status out →

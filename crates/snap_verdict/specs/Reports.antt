@@ -9,7 +9,7 @@ use Rattle.snap_verdict.specs.declared.status.Status.{Status}
 use Rattle.snap_verdict.specs.declared.status.Status.TheVariants.{Refused}
 use Rattle.snap_verdict.specs.Verdicts.{IsVerdict}
 
--- a text with a fault is refused, with the line of its first fault, where a history may have so many events
+-- a text with a fault is refused, with the line of its first fault in a history of at most `limit` events
 pub record IsRefused (limit : ℕ) (text : List ℕ) (status : Status) (out : List ℕ) : Type 0 where
   pub place : ℕ
   pub fault : TextFault

@@ -1,4 +1,4 @@
--- What is said of a history: the status and the report.
+-- The verdict on a history: its status and its report.
 use Rattle.std.specs.Prelude.{ℕ, Bool, true, false, List, ◌≡◌, ◌↔◌, IsTrue}
 use Rattle.snap_core.specs.declared.event.Event.{Event}
 use Rattle.snap_core.specs.Calls.{Call, calls_of, views_of}
@@ -13,7 +13,7 @@ use Rattle.snap_report.specs.Reports.{order_lines, report_lines, verdict_lines}
 use Rattle.snap_verdict.specs.declared.status.Status.{Status}
 use Rattle.snap_verdict.specs.Statuses.{status_of}
 
--- what a report ends with: the printed order of an atomic history, or else the faults of all completed views
+-- the end of a report: the printed order of an atomic history, or else the faults of all completed views
 abbrev pub findings : Bool → List Call → List Line
 findings true calls = order_lines (printed_order calls)
 findings false calls = fault_lines (tally_of calls (views_of calls))
@@ -23,24 +23,24 @@ pub record IsVerdict (events : List Event) (status : Status) (out : List ℕ) : 
   pub regular : Bool
   pub monotone : Bool
   pub atomic : Bool
-  -- regular exactly where each completed view gives each component a value neither older than its last update ended before the
-  -- view nor begun after it
+  -- regular exactly when each completed view shows of each component a value neither older than its last update that precedes
+  -- it, nor begun after it
   pub regular_exactly : IsTrue regular ↔ IsRegular (calls_of events)
-  -- monotone exactly where no completed view precedes one that shows an older number of some component
+  -- monotone exactly when no completed view precedes one that shows an older number of some component
   pub monotone_exactly : IsTrue monotone ↔ IsMonotone (calls_of events)
-  -- atomic exactly where some order of all completed calls and some pending updates keeps precedence and gives each view the
-  -- latest updates (Herlihy and Wing 1990)
+  -- atomic exactly when some order of all completed calls and some pending updates keeps precedence and gives each view the
+  -- latest updates. It is a linearization (Herlihy and Wing 1990)
   pub atomic_exactly : IsTrue atomic ↔ IsAtomic (calls_of events)
-  -- the order that is printed is such an order
+  -- the printed order is such an order
   pub legal : IsTrue atomic → IsLegalOrder (calls_of events) (printed_order (calls_of events))
   pub answers : status ≡ status_of regular atomic
   pub writes : out ≡ text_of (report_lines events regular monotone atomic (findings atomic (calls_of events)))
 
--- the status of a history, whatever is written of it
+-- the status of a history, whatever is written about it
 abbrev pub HasStatus : List Event → Status → Type 0
 HasStatus events status = (report : List ℕ) × IsVerdict events status report
 
--- the status of a history, and of its report the lines of the verdicts alone
+-- the status of a history, and only the lines of the verdicts of its report
 pub record IsBriefVerdict (events : List Event) (status : Status) (out : List ℕ) : Type 0 where
   pub report : List ℕ
   pub verdict : IsVerdict events status report

@@ -23,8 +23,8 @@ use std::alloc::{AllocError, Global};
 use std::thread::Threads;
 
 // The status and the report of a history, by its index, the tally of all its completed views, and the numbers of its printed
-// order, which is given exactly where the tally has no fault. So many workers share the lines of the order at most. The report takes
-// the memory of a vector; what the vector had is lost.
+// order. The order is given exactly when the tally has no fault. At most `workers` workers share its lines. The report takes the
+// memory of a vector; what the vector had is lost.
 fn verdict_of<R: Threads + Sync>(
     rt: &R,
     index: &Index<'_>,
@@ -38,13 +38,13 @@ fn verdict_of<R: Threads + Sync>(
     requires order { ForSome order (λ numbers. numbers.now ≡ map (λ c. c.number) (printed_order (calls_of index.now))) }
     ensures { IfOk result (λ answer. IsVerdict index.now answer.0 answer.1.items) }
 {
-    // what is known of the history that the index is of
+    // this call shows what is known of the index's history
     let _events = index.event_count();
     let text = report_shared(rt, room, index, tally, order, workers)?;
     Ok((status_by(tally), text))
 }
 
-// The status and the report of `verdict_of` on the calling thread, for who has no runtime.
+// The status and the report of `verdict_of` on the calling thread, for a caller without a runtime.
 fn verdict_alone(
     index: &Index<'_>,
     tally: &Tally,
@@ -56,15 +56,15 @@ fn verdict_alone(
     requires order { ForSome order (λ numbers. numbers.now ≡ map (λ c. c.number) (printed_order (calls_of index.now))) }
     ensures { IfOk result (λ answer. IsVerdict index.now answer.0 answer.1.items) }
 {
-    // what is known of the history that the index is of
+    // this call shows what is known of the index's history
     let _events = index.event_count();
     let text = report_in(room, index, tally, order)?;
     Ok((status_by(tally), text))
 }
 
-/// The numbers of a history's printed order, given exactly where it has no fault: by its index, the tally of all its completed
-/// views, and these as a chain, which is given where no two of them are a read fault. So many workers share the calls at most.
-/// The error is want of memory.
+/// The numbers of a history's printed order, given exactly when it has no fault. They come from its index, the tally of all its
+/// completed views, and these as a chain. The chain is given if no two of them are a read fault. At most `workers` workers share
+/// the calls. The error is lack of memory.
 pub fn order_by<R: Threads + Sync>(
     rt: &R,
     alloc: Global,
@@ -86,7 +86,7 @@ pub fn order_by<R: Threads + Sync>(
     Ok(Some(build_of_chain(rt, alloc, index, chain, workers)?))
 }
 
-/// The numbers of `order_by` on the calling thread, for who has no runtime.
+/// The numbers of `order_by` on the calling thread, for a caller without a runtime.
 pub fn order_alone(
     alloc: Global,
     index: &Index<'_>,
@@ -107,9 +107,9 @@ pub fn order_alone(
     Ok(Some(build_alone(alloc, index, chain)?))
 }
 
-/// The status and the report of a history, by its index, the tally of all its completed views, and these as a chain, which is given
-/// where no two of them are a read fault. So many workers share the calls and their lines at most. The report takes the memory of a
-/// vector; what the vector had is lost.
+/// The status and the report of a history, by its index, the tally of all its completed views, and these as a chain. The chain is
+/// given if no two of them are a read fault. At most `workers` workers share the calls and their lines. The report takes the
+/// memory of a vector; what the vector had is lost. The error is lack of memory.
 pub fn verdict_of_chain<R: Threads + Sync>(
     rt: &R,
     alloc: Global,
@@ -133,13 +133,13 @@ pub fn status_of(index: &Index<'_>, tally: &Tally) -> Status
     requires tally { tally.now ≡ tally_of (calls_of index.now) (views_of (calls_of index.now)) }
     ensures { HasStatus index.now result }
 {
-    // what is known of the history that the index is of
+    // this call shows what is known of the index's history
     let _events = index.event_count();
     status_by(tally)
 }
 
-/// The status of a history, and of its report the lines of the verdicts alone, by its index and the tally of all its completed
-/// views.
+/// The status of a history, and of its report only the lines of the verdicts. They come from its index and the tally of all its
+/// completed views. The error is lack of memory.
 pub fn brief_verdict_of(
     alloc: Global,
     index: &Index<'_>,
@@ -148,16 +148,16 @@ pub fn brief_verdict_of(
     requires tally { tally.now ≡ tally_of (calls_of index.now) (views_of (calls_of index.now)) }
     ensures { IfOk result (λ answer. IsBriefVerdict index.now answer.0 answer.1.items) }
 {
-    // what is known of the history that the index is of
+    // this call shows what is known of the index's history
     let _events = index.event_count();
     let text = verdict_text(alloc, tally)?;
     Ok((status_by(tally), text))
 }
 
-// More bytes than the lines of a report have that stand before its order.
+// More bytes than the lines of a report before its order have.
 const FRONT_SIZE: usize = 128;
 
-// The status and the report of a history, without a runtime. Of the report's memory so many bytes are reserved at once.
+// The status and the report of a history, without a runtime. `size` bytes are reserved at once for the report.
 fn verdict_in(
     alloc: Global,
     history: &History,
@@ -172,14 +172,14 @@ fn verdict_in(
     verdict_alone(&index, &tally, order.as_deref(), room)
 }
 
-/// The status and the report of a text in memory, without a runtime: on the calling thread alone. A history may have as many
-/// events as the limit says, and its text 1,024 times as many bytes. A text that is not a history is refused, with the line of its
-/// first fault.
+/// The status and the report of a text in memory, without a runtime, on the calling thread alone. A history may have as many
+/// events as the limit, and its text 1,024 bytes for each. A text that is not a history is refused, with the line of its first
+/// fault. The error is lack of memory.
 pub fn judge_text(alloc: Global, text: &[u8], limit: Limit) -> Result<(Status, Vec<u8>), AllocError>
     ensures { IfOk result (λ answer. IsReport limit.events text.now answer.0 answer.1.items) }
 {
     match read_text(alloc, text, limit) {
-        // a call's line is no longer than the records that it is read from
+        // a call's line is no longer than the records from which it is read
         Ok(history) => verdict_in(alloc, &history, text.len() + FRONT_SIZE),
         Err(ReadRefusal::Text { place, fault }) => {
             Ok((Status::Refused, refusal_text(alloc, place, fault)?))

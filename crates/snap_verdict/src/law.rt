@@ -1,4 +1,4 @@
-//! The laws of one report.
+//! The laws of reports.
 ghost use Rattle.snap_verdict.specs.Laws.{EachTextHasAReport, HasOneReport};
 
 /// Within each limit of events each text has a status and a report.
@@ -6,7 +6,7 @@ pub fn each_text_has_a_report()
     ensures { EachTextHasAReport }
 {}
 
-/// Within each limit of events a text has one status and one report: two programs that meet the contract answer the same.
+/// Within each limit of events a text has at most one status and one report: two programs that meet the contract answer the same.
 pub fn one_report()
     ensures { HasOneReport }
 {}

@@ -1,4 +1,4 @@
-//! What a text comes to.
+//! How a run ends.
 ghost use Rattle.std.specs.Prelude.{◌≡◌};
 ghost use Rattle.snap_report.specs.Reports.{has_no_fault, has_no_local_fault};
 ghost use Rattle.snap_verdict.specs.Statuses.{code_of, status_of};
@@ -14,14 +14,14 @@ pub enum Status {
     Regular,
     /// It is not regular.
     Irregular,
-    /// The text is no history.
+    /// The text is not a history.
     Refused,
     /// A history was recorded, and not judged.
     Recorded,
 }
 
 impl Status {
-    /// The exit status of the program.
+    /// The exit status of the program, 0 to 3.
     pub fn code(self) -> u8
         ensures { result ≡ code_of self }
     {

@@ -21,7 +21,7 @@ pub record IsChain (calls : List Call) (places : List ℕ) : Type 0 where
   pub views : IsPermutation (range_with_len 0 (length (views_of calls))) places
   pub sorted : AllPairs (λ a b. KeyLess (summed_at calls a) (summed_at calls b)) places
 
--- the same, and the sum of each view
+-- the chain of the completed views, and the sum of each view
 pub record IsViewChain (calls : List Call) (chain : ViewChain) : Type 0 where
   pub places : IsChain calls chain.places.items
   pub sums : AreViewSums calls chain.sums.items

@@ -12,11 +12,11 @@ use Rattle.snap_theory.specs.Faults.{components, exceeds, read_faults}
 unfoldable pub shown_sum : Call → ℕ
 shown_sum r = sum_by (shown_number r) components
 
--- the same, by its entries
+-- the sum of the numbers of some entries
 abbrev pub entry_sum : List Entry → ℕ
 entry_sum es = sum_by (λ e. e.number) es
 
--- of any two completed views one shows no component above the other's
+-- of any two completed views, one shows no component above the other's
 abbrev pub AreComparable : List Call → Type 0
 AreComparable calls = (r s : Call) → IsViewOf calls r → IsViewOf calls s → exceeds r s ≡ true → exceeds s r ≡ false
 
@@ -24,11 +24,11 @@ AreComparable calls = (r s : Call) → IsViewOf calls r → IsViewOf calls s →
 abbrev pub AreOrdered : List Call → Type 0
 AreOrdered calls = (r s : Call) → IsViewOf calls r → IsViewOf calls s → precedes r s ≡ true → shown_sum r ≤ shown_sum s
 
--- what is tested before pairs of views are
+-- the quick test, which comes before a comparison of pairs of views
 pub record PassesQuickTest (calls : List Call) : Type 0 where
   pub comparable : AreComparable calls
   pub ordered : AreOrdered calls
 
--- there is no read fault exactly where the quick test passes
+-- there is no read fault exactly when the quick test passes
 abbrev pub NoReadFaultExactly : Type 0
 NoReadFaultExactly = (events : List Event) → HasByteComponents events → (read_faults (calls_of events) (views_of (calls_of events)) ≡ []) ↔ PassesQuickTest (calls_of events)

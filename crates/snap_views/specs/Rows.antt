@@ -3,7 +3,7 @@ use Rattle.std.specs.Prelude.{ℕ, zero, suc, ◌+◌, ◌≡◌, ◌<◌, List,
 use Rattle.snap_core.specs.declared.entry.Entry.{Entry}
 use Rattle.snap_core.specs.Entries.{component_count, entry_of, number_in}
 
--- the number that entries show of a component, 0 where they list none
+-- the number that entries show of a component, 0 if they list none
 abbrev pub number_among : List Entry → ℕ → ℕ
 number_among es k = number_in (entry_of k es)
 
@@ -14,7 +14,7 @@ row_number numbers k = get_or numbers k 0
 abbrev pub AreNumbersOf : List Entry → List ℕ → Type 0
 AreNumbersOf es numbers = (k : ℕ) → k < component_count → row_number numbers k ≡ number_among es k
 
--- the first numbers are less than the second at some component
+-- the first numbers are less than the second for some component
 abbrev pub IsLessSomewhere : (ℕ → ℕ) → (ℕ → ℕ) → Type 0
 IsLessSomewhere f g = (k : ℕ) × (k < component_count) × (f k < g k)
 

@@ -1,4 +1,4 @@
--- What is read of a completed view.
+-- What the code reads of a completed view.
 use Rattle.std.specs.Prelude.{ℕ, ◌-◌, ◌<◌, ◌≡◌, List, length, take, drop, get_or, Option, unwrap_or}
 use Rattle.snap_core.specs.Entries.{AreEntries}
 use Rattle.snap_core.specs.Calls.{Call, entries_of, views_of, nobody}
@@ -15,11 +15,11 @@ pub record IsSeen (r : Call) (view : SeenView) : Type 0 where
 abbrev pub view_in : List Call → ℕ → Call
 view_in calls place = get_or (views_of calls) place nobody
 
--- the end of a call, or a place behind all begins
+-- the end of a call; a place after all begins if there is none
 abbrev pub end_or_never : Option ℕ → ℕ
 end_or_never ended = unwrap_or ended 4294967295
 
--- the completed views from one place to before another
+-- the completed views with places from `from` to before `to`
 abbrev pub views_between : List Call → ℕ → ℕ → List Call
 views_between calls from to = take (to - from) (drop from (views_of calls))
 

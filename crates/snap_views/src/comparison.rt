@@ -16,21 +16,21 @@ use std::alloc::{AllocError, Global};
 pub enum ViewOrder {
     /// No two views are a read fault.
     Faultless(ViewChain),
-    /// Of any two views one shows no component above the other's, but some two are a read fault.
+    /// Of any two views, one shows no component above the other's, but some two are a read fault.
     Comparable(ViewChain),
-    /// Of some two views each shows a component above the other's.
+    /// There are two views of which each shows a component above the other's.
     Crossing,
 }
 
 /// How the completed views compare: as a chain, unless two of them cross. `sums` has the sum of each completed view, by call
-/// number. The error is want of memory.
+/// number. The error is lack of memory.
 pub fn view_order(alloc: Global, index: &Index<'_>, sums: Vec<u64>) -> Result<ViewOrder, AllocError>
     requires { AreViewSums (calls_of index.now) sums.items }
     ensures chain { IfOk result (λ order. IfSome (chain_of order) (IsViewChain (calls_of index.now))) }
     ensures comparable { IfOk result (λ order. IsSome (chain_of order) ↔ AreComparable (calls_of index.now)) }
     ensures faultless { IfOk result (λ order. IsFaultless order ↔ (read_faults (calls_of index.now) (views_of (calls_of index.now)) ≡ [])) }
 {
-    // what is known of the history that the index is of
+    // this call shows what is known of the index's history
     let _events = index.event_count();
     let Some(places) = chain(alloc, index, &sums)? else {
         return Ok(ViewOrder::Crossing);

@@ -31,7 +31,7 @@ pub fn view_sum(index: &Index<'_>, i: u32) -> u64
     entries_sum(view_at(index, i).entries)
 }
 
-/// The sums of the numbers that the completed views show, by call number. The error is want of memory.
+/// The sums of the numbers that the completed views show, by call number. The error is lack of memory.
 pub fn view_sums(alloc: Global, index: &Index<'_>) -> Result<Vec<u64>, AllocError>
     ensures { IfOk result (λ sums. AreViewSums (calls_of index.now) sums.items) }
 {

@@ -9,7 +9,7 @@ use snap_index::{Call, Index};
 /// A completed view of an index.
 #[derive(Clone, Copy)]
 pub struct SeenView<'i> {
-    /// The number of its call.
+    /// The number of its call, from 0.
     pub call_number: u32,
     /// Its call.
     pub call: Call,
@@ -17,7 +17,7 @@ pub struct SeenView<'i> {
     pub entries: &'i [Entry],
 }
 
-/// The completed view at a place in the order of call numbers, counted from 0.
+/// The completed view at a place in the order of call numbers, counted from 0. There must be one.
 pub fn view_at<'i>(index: &'i Index<'_>, place: u32) -> SeenView<'i>
     requires { place < length (views_of (calls_of index.now)) }
     ensures { IsSeen (view_in (calls_of index.entry.now) place) result }

@@ -11,12 +11,12 @@ use snap_index::Index;
 use std::alloc::{AllocError, Global};
 
 /// Whether no completed view precedes one with a smaller sum of the numbers that it shows. `sums` has the sum of each
-/// completed view, by call number. The error is want of memory.
+/// completed view, by call number. The error is lack of memory.
 pub fn ordered(alloc: Global, index: &Index<'_>, sums: &[u64]) -> Result<bool, AllocError>
     requires { AreViewSums (calls_of index.now) sums.now }
     ensures { IfOk result (λ answer. IsTrue answer ↔ AreOrdered (calls_of index.now)) }
 {
-    // what is known of the history that the index is of
+    // this call shows what is known of the index's history
     let _events = index.event_count();
     let greatest = greatest_before(alloc, index, sums)?;
     for place in 0..index.view_count() {
@@ -28,7 +28,7 @@ pub fn ordered(alloc: Global, index: &Index<'_>, sums: &[u64]) -> Result<bool, A
     Ok(true)
 }
 
-// The greatest sum of the completed views that ended before each place, 0 where none did.
+// For each place the greatest sum of the completed views that ended before it, 0 if none did.
 fn greatest_before(alloc: Global, index: &Index<'_>, sums: &[u64]) -> Result<Vec<u64>, AllocError>
     requires kept { IsBoundedHistory index.now }
     requires sums { AreViewSums (calls_of index.now) sums.now }
@@ -42,7 +42,7 @@ fn greatest_before(alloc: Global, index: &Index<'_>, sums: &[u64]) -> Result<Vec
     Ok(greatest)
 }
 
-// The sum of each completed view at the place behind its end, 0 at every other place.
+// The sum of each completed view at the place after its end, 0 at every other place.
 fn sums_behind_ends(alloc: Global, index: &Index<'_>, sums: &[u64]) -> Result<Vec<u64>, AllocError>
     requires kept { IsBoundedHistory index.now }
     requires sums { AreViewSums (calls_of index.now) sums.now }

@@ -23,15 +23,15 @@ pub struct ViewChain {
     pub sums: Vec<u64>,
 }
 
-/// The places of the completed views by call number, counted from 0, sorted by the sums of the numbers that they show and
-/// then by place, where of any two of these views one shows no component above the other's; `None` exactly where two views
-/// are not so. `sums` has the sum of each completed view, by call number. The error is want of memory.
+/// The places of the completed views by call number, counted from 0. They are sorted by the sums of the numbers that the views
+/// show, and then by place. `None` exactly when two of these views cross: each shows a component above the other's. `sums` has the
+/// sum of each completed view, by call number. The error is lack of memory.
 pub fn chain(alloc: Global, index: &Index<'_>, sums: &[u64]) -> Result<Option<Vec<u32>>, AllocError>
     requires { AreViewSums (calls_of index.now) sums.now }
     ensures sorted { IfOk result (λ found. IfSome found (λ places. IsChain (calls_of index.now) places.items)) }
     ensures comparable { IfOk result (λ found. IsSome found ↔ AreComparable (calls_of index.now)) }
 {
-    // what is known of the history that the index is of
+    // this call shows what is known of the index's history
     let _events = index.event_count();
     let mut keys = keys(alloc, index, sums)?;
     if some_cross(index, &keys) {
@@ -44,10 +44,10 @@ pub fn chain(alloc: Global, index: &Index<'_>, sums: &[u64]) -> Result<Option<Ve
     Ok(Some(places(alloc, &keys)?))
 }
 
-// About so many pairs of neighbours by call number are compared before the views are sorted: few, since views of a chain gain nothing.
+// About this many pairs of neighbours by call number are compared before the views are sorted. Views of a chain gain nothing by it.
 const PAIRS_TRIED: usize = 16;
 
-// Whether some two views cross, of pairs of neighbours by call number that lie at even spaces. Then no chain is sorted in vain.
+// Whether two views cross, among pairs of neighbours by call number at even spaces. If so, no chain is sorted in vain.
 fn some_cross(index: &Index<'_>, keys: &[(u64, u32)]) -> bool
     requires kept { IsBoundedHistory index.now }
     requires keys { All (IsSummed (calls_of index.now)) keys.now }
@@ -98,7 +98,7 @@ fn places(alloc: Global, keys: &[(u64, u32)]) -> Result<Vec<u32>, AllocError>
     Ok(places)
 }
 
-// Whether each of these views shows no component above the next.
+// Whether each of these views shows no component above the next one's.
 fn climbs(index: &Index<'_>, keys: &[(u64, u32)]) -> bool
     requires kept { IsBoundedHistory index.now }
     requires keys { All (IsSummed (calls_of index.now)) keys.now }
@@ -116,8 +116,8 @@ fn climbs(index: &Index<'_>, keys: &[(u64, u32)]) -> bool
     true
 }
 
-// Takes the numbers of a view into a row, whose numbers have this sum. Whether the row showed no component above the view:
-// exactly then the lesser of both numbers of each component have the sum of the row. The row is the view's then.
+// Takes the numbers of a view into a row, whose numbers have this sum. It answers whether the row showed no component above the
+// view. That is so exactly when the smaller of both numbers of each component add up to that sum. The row is then the view's.
 fn climb(numbers: &mut [u32; COMPONENT_COUNT], sum: u64, entries: &[Entry]) -> bool
     requires entries { AreEntries entries.now }
     requires sum { sum ≡ sum_below (row_number numbers.old) component_count }

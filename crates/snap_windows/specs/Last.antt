@@ -5,14 +5,14 @@ use Rattle.snap_core.specs.declared.event.Event.{Event}
 use Rattle.snap_core.specs.declared.event.Event.TheVariants.{BeginUpdate, BeginView, EndUpdate, EndView}
 use Rattle.snap_windows.specs.declared.last.Wrote.{Wrote}
 
--- of component k the last update once an event has come
+-- the last update of component k after one more event
 abbrev pub wrote_by : ℕ → Event → Option Wrote → Option Wrote
 wrote_by k (BeginUpdate p e) last = if e.component == k then Some (record { process = p; entry = e }) else last
 wrote_by k (BeginView p) last = last
 wrote_by k (EndUpdate p) last = last
 wrote_by k (EndView p es) last = last
 
--- of component k the last update in a list, or what stood before the list
+-- the last update of component k in a list, or what was there before the list
 abbrev pub last_update : ℕ → Option Wrote → List Event → Option Wrote
 last_update k last [] = last
 last_update k last (e ∷ es) = last_update k (wrote_by k e last) es

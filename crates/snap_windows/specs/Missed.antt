@@ -5,22 +5,22 @@ use Rattle.snap_core.specs.declared.event.Event.{Event}
 use Rattle.snap_core.specs.declared.event.Event.TheVariants.{BeginUpdate, BeginView, EndUpdate, EndView}
 use Rattle.snap_core.specs.Entries.{entry_of, number_in}
 
--- entries have of component k what was left, or one of a later number
+-- entries have of component k what was left, or an entry of a later number
 abbrev pub ShowsAt : (ℕ → Option Entry) → List Entry → ℕ → Type 0
 ShowsAt left es k = (entry_of k es ≡ left k) ⊎ (number_in (left k) < number_in (entry_of k es))
 
--- so they have of each
+-- entries have this of each component
 abbrev pub ShowsNoLess : (ℕ → Option Entry) → List Entry → Type 0
 ShowsNoLess left es = (k : ℕ) → ShowsAt left es k
 
--- of a component an entry was left, and they have neither that nor one of a later number; of each lesser component they have
+-- the entry e was left of a component, and the entries have neither it nor a later number; of each lesser component they have
 pub record Misses (left : ℕ → Option Entry) (es : List Entry) (e : Entry) : Type 0 where
   pub component : ℕ
   pub left_there : left component ≡ Some e
   pub less : ¬ ShowsAt left es component
   pub first : (k : ℕ) → k < component → ShowsAt left es k
 
--- the same of the view that an event ends
+-- the view that an event ends shows no less than what was left
 abbrev pub EventShowsNoLess : (ℕ → Option Entry) → Event → Type 0
 EventShowsNoLess left (BeginUpdate p e) = ⊤
 EventShowsNoLess left (BeginView p) = ⊤

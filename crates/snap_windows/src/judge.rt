@@ -23,7 +23,7 @@ use snap_index::Index;
 use snap_tally::tally_and_chain_alone;
 use std::alloc::{AllocError, Global};
 
-/// Whether events are regular, and atomic: of a window, from what the windows before it left.
+/// Whether events are regular, and atomic. For a window, this is from what the windows before it left.
 #[derive(Clone, Copy, Debug, PartialEq, Eq)]
 pub struct Verdict {
     pub regular: bool,
@@ -31,16 +31,16 @@ pub struct Verdict {
 }
 
 /// A judge of a recording of any length. It takes the events one by one, and judges a window of them at a moment at which no call
-/// is open. It keeps the events of the window at hand alone.
+/// is open. It keeps only the events of the current window.
 #[derive(Drop)]
 pub struct WindowJudge {
-    // of the events of ended windows the last update of each component, and of all events
+    // the last update of each component in the ended windows, and in all events
     left: [Option<Wrote>; COMPONENT_COUNT],
     last: [Option<Wrote>; COMPONENT_COUNT],
-    // the events since then, with numbers from 1, and whether their views show what was left or more
+    // the events of the current window, with numbers from 1, and whether their views show what was left or more
     window: History,
     shows: bool,
-    // what the ended windows are together
+    // the verdicts on the ended windows together
     regular: bool,
     atomic: bool,
     most: Limit,
@@ -60,7 +60,7 @@ fn has_other_writer(left: &[Option<Wrote>; COMPONENT_COUNT], event: &Event) -> b
 }
 
 impl WindowJudge {
-    /// The judge that has taken nothing. A window has at most as many events as the limit says.
+    /// The judge that has taken nothing. A window has at most as many events as the limit `most`.
     pub fn new(alloc: Global, most: Limit) -> WindowJudge
         ensures taken { HasTaken result [] [] }
         ensures limit { result.most ≡ most }
@@ -76,7 +76,7 @@ impl WindowJudge {
         }
     }
 
-    // The first refusal that applies to an event, given with numbers from 1 too, want of memory aside.
+    // The first refusal that applies to an event, which is also given with numbers from 1. Lack of memory is left out.
     fn refusal(&self, renumbered: &Event, event: &Event) -> Option<EventRefusal>
         ensures { (before : List Event) → HasLast self.now.left before → IsSingleWriter before → result ≡ first_refusal self.now.window.limit self.now.window.events renumbered.now before event.now }
     {
@@ -93,9 +93,10 @@ impl WindowJudge {
         }
     }
 
-    /// Takes the next event of the recording. Where it ends a view that shows less than what the windows before left, the answer has
-    /// that of the first such component. An event that is refused is not taken: it makes no history of the recording, or
-    /// the window has as many events as it may have, or memory ran out.
+    /// Takes the next event of the recording. It may end a view that shows less of some component than what the earlier windows left.
+    /// Then the answer is the entry that was left of the first such component. A refused event is not taken, and the judge is
+    /// unchanged. There are three reasons: the recording would not be a history, the window has as many events as its limit, or
+    /// memory ran out.
     pub fn take(&mut self, alloc: Global, event: &Event) -> Result<Option<Entry>, EventRefusal>
         ensures taken { OnOk result ((before since : List Event) → HasTaken self.old before since → HasTaken self.new before (since ++ event.now ∷ [])) }
         ensures missed { IfOk result (λ found. (before since : List Event) → HasTaken self.old before since → MatchOption found (EventShowsNoLess (left_by before) event.now) (EventMisses (left_by before) event.now)) }
@@ -120,19 +121,19 @@ impl WindowJudge {
         Ok(missed)
     }
 
-    /// How many events the window at hand has.
+    /// The number of events of the current window.
     pub fn len(&self) -> usize
         ensures { (before since : List Event) → HasTaken self.now before since → result ≡ length since }
     {
         self.window.len()
     }
 
-    // What the window at hand is, and whether no call is open.
+    // The verdict on the current window, and whether no call is open.
     fn judge(&self, alloc: Global) -> Result<(Verdict, bool), AllocError>
         ensures window { IfOk result (λ x. (before since : List Event) → HasTaken self.now before since → IsVerdict x.0 before since) }
         ensures quiet { IfOk result (λ x. (before since : List Event) → HasTaken self.now before since → IsTrue x.1 ↔ IsQuiet (before ++ since)) }
     {
-        // what is known of the history of the window
+        // this call shows what is known of the window's history
         let _events = self.window.events();
         let index = Index::build(alloc, &self.window)?;
         let (tally, _chain) = tally_and_chain_alone(alloc, &index)?;
@@ -143,7 +144,8 @@ impl WindowJudge {
         Ok((verdict, index.pending_count() == 0))
     }
 
-    /// Ends the window at hand, and answers what it is: none where a call is open. The next window begins from what was left.
+    /// Ends the current window, and answers its verdict; none if a call is open, and then nothing changes. The next window begins
+    /// from what was left. The error is lack of memory, and then nothing changes.
     pub fn cut(&mut self, alloc: Global) -> Result<Option<Verdict>, AllocError>
         ensures cut { IfOk result (λ found. IfSome found (λ v. (before since : List Event) → HasTaken self.old before since → HasTaken self.new (before ++ since) [])) }
         ensures window { IfOk result (λ found. IfSome found (λ v. (before since : List Event) → HasTaken self.old before since → IsVerdict v before since)) }
@@ -164,7 +166,7 @@ impl WindowJudge {
         Ok(Some(verdict))
     }
 
-    /// Ends the recording, in which calls may be open: what its last window is, and what the whole is.
+    /// Ends the recording, in which calls may be open: the verdict on its last window, and the verdict on the whole.
     pub fn finish(self, alloc: Global) -> Result<(Verdict, Verdict), AllocError>
         ensures window { IfOk result (λ x. (before since : List Event) → HasTaken self before since → IsVerdict x.0 before since) }
         ensures regular { IfOk result (λ x. (before since : List Event) → HasTaken self before since → IsTrue x.1.regular ↔ IsRegular (calls_of (before ++ since))) }

@@ -12,14 +12,14 @@ pub(crate) struct Wrote {
     pub(crate) entry: Entry,
 }
 
-/// The last updates among no events.
+/// The last updates in an empty list of events.
 pub(crate) fn none() -> [Option<Wrote>; COMPONENT_COUNT]
     ensures { HasLast result [] }
 {
     [None; COMPONENT_COUNT]
 }
 
-/// Notes one event more.
+/// Notes one more event.
 pub(crate) fn note(last: &mut [Option<Wrote>; COMPONENT_COUNT], event: &Event)
     ensures { (es : List Event) → HasLast last.old es → HasLast last.new (es ++ event.now ∷ []) }
 {

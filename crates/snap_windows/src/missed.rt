@@ -12,7 +12,7 @@ use snap_core::{COMPONENT_COUNT, Entry, Event, View};
 fn shows(view: &View, component: u8, entry: Entry) -> bool
     ensures { IsTrue result ↔ ((entry_of component view.now ≡ Some entry) ⊎ (entry.number < number_in (entry_of component view.now))) }
 {
-    // what is known of a view
+    // this call shows what is known of a view
     let _entries = view.entries();
     let number = view.number(component);
     number > entry.number
@@ -26,11 +26,11 @@ fn shows(view: &View, component: u8, entry: Entry) -> bool
                 }
 }
 
-// What was left of the first component of which a view shows neither that nor a later number.
+// What was left of the first component of which a view shows neither that nor a later number; none if there is no such component.
 fn missed(left: &[Option<Wrote>; COMPONENT_COUNT], view: &View) -> Option<Entry>
     ensures { (f : ℕ → Option Entry) → HasLeft left.now f → MatchOption result (ShowsNoLess f view.now) (Misses f view.now) }
 {
-    // what is known of a view
+    // this call shows what is known of a view
     let _entries = view.entries();
     'each: for component in 0..COMPONENT_COUNT {
         if let Some(wrote) = left[component] {
@@ -42,7 +42,8 @@ fn missed(left: &[Option<Wrote>; COMPONENT_COUNT], view: &View) -> Option<Entry>
     None
 }
 
-/// What was left of the first component of which the view that an event ends shows neither that nor a later number.
+/// What was left of the first component of which the view that an event ends shows neither that nor a later number. None if there
+/// is no such component, or the event ends no view.
 pub(crate) fn missed_by(left: &[Option<Wrote>; COMPONENT_COUNT], event: &Event) -> Option<Entry>
     ensures { (f : ℕ → Option Entry) → HasLeft left.now f → MatchOption result (EventShowsNoLess f event.now) (EventMisses f event.now) }
 {

@@ -1,4 +1,4 @@
-//! Events with their numbers less those of what was left, as one who begins to record there writes them.
+//! Events with their numbers reduced by those of what was left, as a recorder writes them that begins there.
 ghost use Rattle.std.specs.Prelude.{◌≡◌, ◌-◌, ℕ, Option, IfOk};
 ghost use Rattle.snap_core.specs.declared.entry.Entry.{Entry};
 ghost use Rattle.snap_core.specs.Entries.{AreEntries, number_in};
@@ -9,7 +9,7 @@ use crate::last::Wrote;
 use snap_core::{COMPONENT_COUNT, Entry, Event, View};
 use std::alloc::{AllocError, Global};
 
-// The number of what was left of a component, or 0.
+// The number of what was left of a component, 0 if nothing was left.
 fn number_left(left: &[Option<Wrote>; COMPONENT_COUNT], component: u8) -> u32
     ensures { (f : ℕ → Option Entry) → HasLeft left.now f → result ≡ number_in (f component) }
 {
@@ -19,7 +19,7 @@ fn number_left(left: &[Option<Wrote>; COMPONENT_COUNT], component: u8) -> u32
     }
 }
 
-// An entry with its number less that of what was left.
+// An entry with its number reduced by the number of what was left.
 fn renumbered_entry(left: &[Option<Wrote>; COMPONENT_COUNT], entry: Entry) -> Entry
     ensures { (f : ℕ → Option Entry) → HasLeft left.now f → result ≡ renumbered_entry f entry }
 {
@@ -64,7 +64,7 @@ fn renumbered_view(
     }
 }
 
-/// The event, with numbers from 1 behind what was left.
+/// The event with its numbers counted from 1 after what was left.
 pub(crate) fn renumbered_event(
     alloc: Global,
     left: &[Option<Wrote>; COMPONENT_COUNT],

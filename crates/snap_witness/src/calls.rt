@@ -9,7 +9,7 @@ use snap_core::History;
 use snap_index::{Call, Index};
 use std::alloc::{AllocError, Global};
 
-// Appends the places of a call's begin and, where there is one, of its end.
+// Appends the places of a call's begin and, if there is one, of its end.
 fn push_call(call: &Call, places: &mut Vec<u32>) -> Result<(), AllocError>
     ensures { OnOk result (places.new.items ≡ places.old.items ++ begin_and_end call.now.begun call.now.ended) }
 {
@@ -34,7 +34,7 @@ fn push_views(index: &Index<'_>, views: &[u32], places: &mut Vec<u32>) -> Result
     Ok(())
 }
 
-// Appends the places of the updates of these components and numbers, where there are such.
+// Appends the places of the updates of these components and numbers, as far as there are such updates.
 fn push_updates(
     index: &Index<'_>,
     updates: &[(u8, u32)],
@@ -51,7 +51,7 @@ fn push_updates(
     Ok(())
 }
 
-// The history of some completed views, by call number, and of some components one update, by its number.
+// The history of some completed views, by their call numbers, and of one update for each of some components, by its number.
 pub(crate) fn keep_calls(
     alloc: Global,
     index: &Index<'_>,

@@ -57,7 +57,7 @@ fn proximity_witness(
     keep_calls(alloc, index, &[fault.view], &[update])
 }
 
-/// The least component of which a view shows more than another, where there is one.
+/// The least component of which a view shows more than another; none if there is no such component.
 pub fn least_exceeding(view: &View, other: &View) -> Option<u8>
     ensures { result ≡ first_less (λ k. number_in (entry_of k other.now)) (λ k. number_in (entry_of k view.now)) }
 {
@@ -70,7 +70,7 @@ pub fn least_exceeding(view: &View, other: &View) -> Option<u8>
     None
 }
 
-/// What the completed view of a call number shows.
+/// What the completed view of a call number shows. The number must be that of a completed view.
 pub fn view_numbered<'i>(index: &'i Index<'_>, c: u32) -> &'i View
     requires { IsViewAt (calls_of index.now) c }
     ensures { result.now ≡ entries_of (call_numbered (calls_of index.entry.now) c).operation }
@@ -81,7 +81,7 @@ pub fn view_numbered<'i>(index: &'i Index<'_>, c: u32) -> &'i View
     view
 }
 
-// Appends what a view shows of the least component of which it shows more than another, where there is one.
+// Appends what a view shows of the least component of which it shows more than another, if there is such a component.
 fn push_excess(
     index: &Index<'_>,
     view: u32,
@@ -139,7 +139,7 @@ fn write_witness(alloc: Global, index: &Index<'_>, fault: WriteFault) -> Result<
     keep_calls(alloc, index, &[fault.view], &[missed, shown])
 }
 
-// The witness of the first fault.
+// The witness of the first fault; none if there is no fault.
 fn first_witness(
     alloc: Global,
     index: &Index<'_>,
@@ -164,11 +164,13 @@ fn first_witness(
     Ok(None)
 }
 
-/// The witness of the first fault of a history, where it has one: of the first kind that the tally counts a fault of, in the
-/// order integrity, proximity, read, write, and of that kind the first that the tally has. It is a history of the views of
-/// the fault and of the updates that show it, at most four calls with at most eight events, in the order that they had. A
-/// call keeps its process and its value; an update is number 1, and a view shows of each component the update that is kept,
-/// if it showed it, and nothing else. The tally is that of all completed views. The error is want of memory.
+/// The witness of the first fault of a history; none if the history is atomic. The first fault is the first of its kind in the
+/// tally. Its kind is the first of integrity, proximity, read and write of which the tally counts a fault. The tally is that of
+/// all completed views.
+///
+/// A witness is a history of the views of the fault and of the updates that show it, in the order that they had. It has at most
+/// four calls and eight events. A call keeps its process and its value, and an update gets number 1. A view shows of each
+/// component the update that is kept, if it showed that, and nothing else. The error is lack of memory.
 pub fn witness(
     alloc: Global,
     index: &Index<'_>,
@@ -184,7 +186,7 @@ pub fn witness(
     ensures not_atomic { IfOk result (λ answer. IfSome answer (λ witness. IsAtomic (calls_of witness.events) → ⊥)) }
     ensures regular { IfOk result (λ answer. IfSome answer (λ witness. IsRegular (calls_of witness.events) ↔ IsRegular (calls_of index.now))) }
 {
-    // what is known of the history that the index is of
+    // this call shows what is known of the index's history
     let _events = index.event_count();
     first_witness(alloc, index, tally)
 }

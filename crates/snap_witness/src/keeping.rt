@@ -8,7 +8,7 @@ ghost use Rattle.snap_theory.specs.Witness.{numbers_of};
 use snap_core::{Entry, Event, EventRefusal, History, Limit, View};
 use std::alloc::{AllocError, Global};
 
-// The number that is paired with a component first, 0 where there is none.
+// The number in the first pair with a component, 0 if there is none.
 fn number_of(pairs: &[(u8, u32)], k: u8) -> u32
     ensures { result ≡ numbers_of pairs.now k }
 {
@@ -20,7 +20,7 @@ fn number_of(pairs: &[(u8, u32)], k: u8) -> u32
     0
 }
 
-// What is left of the entries of a view.
+// The entries of kept updates among those of a view.
 fn kept_entries(
     alloc: Global,
     entries: &[Entry],
@@ -42,7 +42,7 @@ fn kept_entries(
     Ok(kept)
 }
 
-// What is left of a view.
+// A view as the witness has it.
 pub(crate) fn kept_view(alloc: Global, view: &View, pairs: &[(u8, u32)]) -> Result<View, AllocError>
     ensures { IfOk result (λ kept. kept ≡ spec_kept_entries (numbers_of pairs.now) view.now) }
 {
@@ -53,7 +53,7 @@ pub(crate) fn kept_view(alloc: Global, view: &View, pairs: &[(u8, u32)]) -> Resu
     }
 }
 
-// What is left of an event that is kept.
+// A kept event as the witness has it.
 pub(crate) fn kept_event(
     alloc: Global,
     event: &Event,
@@ -103,9 +103,8 @@ fn append(history: &mut History, event: Event) -> Result<(), AllocError>
     }
 }
 
-// The history of the events at some places, where that is one. Of each component at most one update is among them, whose
-// number is paired with it; it becomes update 1, and a view shows what it showed of these updates. The error is want of
-// memory.
+// The history of the events at some places, if that is one. The places have at most one update of each component, whose number
+// is paired with the component. It becomes update 1, and a view shows what it showed of these updates. The error is lack of memory.
 pub(crate) fn keep(
     alloc: Global,
     events: &[Event],

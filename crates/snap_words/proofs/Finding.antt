@@ -34,6 +34,7 @@ gives_more command rows Gives More GivesNone MoreNone more none finds = record {
   shrink = λ events drawn is asks. more _ (finds.shrink events drawn is asks);
   explain = λ events drawn is asks. more _ (finds.explain events drawn is asks);
   draw = λ events form is asks. more _ (finds.draw events form is asks);
+  stats = λ events json is asks. more _ (finds.stats events json is asks);
   recording = λ events workers rounds flags is asks. more _ (finds.recording events workers rounds flags is asks);
   unfollowed = λ is asks. none (finds.unfollowed is asks);
   unheeded = λ is asks. none (finds.unheeded is asks);

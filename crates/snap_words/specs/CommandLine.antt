@@ -9,7 +9,7 @@ use Rattle.snap_record.specs.declared.plan.TheConstants.{LEAST_WORKERS}
 use Rattle.snap_threads.specs.declared.cutting.TheConstants.{PIECE_LIMIT, WORKER_LIMIT}
 use Rattle.snap_words.specs.declared.word.TheConstants.{NUMBER_LIMIT}
 use Rattle.snap_words.specs.declared.command.Kind.{Kind}
-use Rattle.snap_words.specs.declared.command.Kind.TheVariants.{Check, Draw, Explain, Record, Shrink}
+use Rattle.snap_words.specs.declared.command.Kind.TheVariants.{Check, Draw, Explain, Record, Shrink, Stats}
 use Rattle.snap_words.specs.Tables.{with_apps, with_rules}
 
 -- --pieces P
@@ -24,15 +24,15 @@ workers_rule = record (new_rule (codes "workers")) { long = Some (codes "workers
 abbrev pub quiet_rule : Rule
 quiet_rule = record (new_rule (codes "quiet")) { long = Some (codes "quiet"); short = Some 113; action = Some SetTrue }
 
--- --views N, 0 where it is not given; any number of 32 bits is taken here
+-- --views N, or 0 if it is not given; the parser takes any number of 32 bits
 abbrev pub views_rule : Rule
 views_rule = record (new_rule (codes "views")) { long = Some (codes "views"); value_names = 1; parser = Some (Signed (pos 0) (pos NUMBER_LIMIT)); defaults = codes "0" ∷ [] }
 
--- --events N, 65536 where it is not given
+-- --events N, or 65536 if it is not given
 abbrev pub events_rule : Rule
 events_rule = record (new_rule (codes "events")) { long = Some (codes "events"); value_names = 1; parser = Some (Signed (pos 1) (pos event_cap)); defaults = codes "65536" ∷ [] }
 
--- --format FORMAT, plain where it is not given; any text is taken here
+-- --format FORMAT, or plain if it is not given; the parser takes any text
 abbrev pub format_rule : Rule
 format_rule = record (new_rule (codes "format")) { long = Some (codes "format"); value_names = 1; defaults = codes "plain" ∷ [] }
 
@@ -48,7 +48,7 @@ follow_rule = record (new_rule (codes "follow")) { long = Some (codes "follow");
 abbrev pub window_rule : Rule
 window_rule = record (new_rule (codes "window")) { long = Some (codes "window"); value_names = 1; parser = Some (Signed (pos 1) (pos event_cap)) }
 
--- --idle SECONDS; any number of 32 bits is taken here
+-- --idle SECONDS; the parser takes any number of 32 bits
 abbrev pub idle_rule : Rule
 idle_rule = record (new_rule (codes "idle")) { long = Some (codes "idle"); value_names = 1; parser = Some (Signed (pos 0) (pos NUMBER_LIMIT)) }
 
@@ -56,11 +56,11 @@ idle_rule = record (new_rule (codes "idle")) { long = Some (codes "idle"); value
 abbrev pub no_progress_rule : Rule
 no_progress_rule = record (new_rule (codes "no-progress")) { long = Some (codes "no-progress"); action = Some SetTrue }
 
--- --color WHEN; any text is taken here
+-- --color WHEN; the parser takes any text
 abbrev pub color_rule : Rule
 color_rule = record (new_rule (codes "color")) { long = Some (codes "color"); value_names = 1 }
 
--- FILE .., of which there may be none
+-- FILE .., any number of them
 abbrev pub files_rule : Rule
 files_rule = record (new_rule (codes "file")) { value_names = 1; action = Some Append }
 
@@ -111,15 +111,19 @@ text_rule = record (new_rule (codes "text")) { long = Some (codes "text"); actio
 abbrev pub draw_app : App
 draw_app = with_rules (new_app (codes "draw")) (svg_rule ∷ text_rule ∷ events_rule ∷ file_rule ∷ [])
 
--- --workers W, 2 where it is not given
+-- stats [--format FORMAT] [--events N] [FILE]
+abbrev pub stats_app : App
+stats_app = with_rules (new_app (codes "stats")) (format_rule ∷ events_rule ∷ file_rule ∷ [])
+
+-- --workers W, or 2 if it is not given
 abbrev pub recorders_rule : Rule
 recorders_rule = record (new_rule (codes "workers")) { long = Some (codes "workers"); value_names = 1; parser = Some (Signed (pos LEAST_WORKERS) (pos worker_limit)); defaults = codes "2" ∷ [] }
 
--- --rounds R; any number of 32 bits is taken here
+-- --rounds R; the parser takes any number of 32 bits
 abbrev pub rounds_rule : Rule
 rounds_rule = record (new_rule (codes "rounds")) { long = Some (codes "rounds"); value_names = 1; parser = Some (Signed (pos 0) (pos NUMBER_LIMIT)) }
 
--- --events N of a recording, 65536 where it is not given: as many as a round of the most workers has, or more
+-- --events N of a recording, or 65536 if it is not given: at least as many as a round of the most workers has
 abbrev pub recorded_rule : Rule
 recorded_rule = record (new_rule (codes "events")) { long = Some (codes "events"); value_names = 1; parser = Some (Signed (pos (4 * worker_limit)) (pos event_cap)); defaults = codes "65536" ∷ [] }
 
@@ -145,12 +149,13 @@ app_for Check = check_app
 app_for Shrink = shrink_app
 app_for Explain = explain_app
 app_for Draw = draw_app
+app_for Stats = stats_app
 app_for Record = record_app
 
--- one of the commands has to be named
+-- one of the commands must be named
 abbrev pub needs_subcommand : App → App
 needs_subcommand app = record app { top = record app.top { subcommand_required = true } }
 
 -- the program, with its commands
 abbrev pub program_app : App
-program_app = with_apps (needs_subcommand (new_app (codes "snapjudge"))) (check_app ∷ shrink_app ∷ explain_app ∷ draw_app ∷ record_app ∷ [])
+program_app = with_apps (needs_subcommand (new_app (codes "snapjudge"))) (check_app ∷ shrink_app ∷ explain_app ∷ draw_app ∷ stats_app ∷ record_app ∷ [])

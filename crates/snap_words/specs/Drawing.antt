@@ -24,6 +24,6 @@ pub record AsksDrawWithin (events : ℕ) (rows : List Row) (form : Form) : Type 
   pub svg_is : one_of (codes "svg") rows ≡ Some (flag_text (asks_svg form))
   pub text_is : one_of (codes "text") rows ≡ Some (flag_text (asks_text form))
 
--- the same where no limit is chosen
+-- what `draw` asks for if no limit is chosen
 abbrev pub AsksDraw : List Row → Form → Type 0
 AsksDraw = AsksDrawWithin event_limit

@@ -10,27 +10,27 @@ use Rattle.snap_threads.specs.Cuttings.{IsPieces, IsWorkers}
 use Rattle.snap_words.specs.declared.drawing.Form.{Form}
 use Rattle.snap_words.specs.declared.input.Input.{Input}
 use Rattle.snap_words.specs.declared.job.Job.{Job}
-use Rattle.snap_words.specs.declared.job.Job.TheVariants.{Check, Follow, Shrink, Explain, Draw, Record}
+use Rattle.snap_words.specs.declared.job.Job.TheVariants.{Check, Follow, Shrink, Explain, Draw, Stats, Record}
 use Rattle.snap_words.specs.declared.color.Color.{Color}
 use Rattle.snap_words.specs.declared.color.Color.TheVariants.{Auto, Always, Never}
 use Rattle.snap_words.specs.declared.job.Options.{Options}
 use Rattle.snap_words.specs.declared.job.Windows.{Windows}
 use Rattle.snap_words.specs.declared.word.TheConstants.{NUMBER_LIMIT}
 
--- as many completed views, of two events each, as a history of so many events can have
+-- a history of `events` events can have this many completed views, of two events each
 abbrev pub AreViews : ℕ → ℕ → Type 0
 AreViews events n = 2 * n ≤ events
 
--- one form of answer is asked for: no object of the verdicts' lines alone, and no sums of either
+-- One form of answer is asked for. An object is not of the verdicts' lines alone, and sums are neither.
 pub record IsOneForm (options : Options) : Type 0 where
   pub object : options.json ≡ true → options.quiet ≡ false
   pub sums : options.summary ≡ true → (options.quiet ≡ false) × (options.json ≡ false)
 
--- the number of events from which on a window ends is a limit, and no more than a history may have
+-- the number of events from which on a window ends is a limit, and at most that of a history
 abbrev pub IsWindow : ℕ → ℕ → Type 0
 IsWindow events least = IsLimit least × (least ≤ events)
 
--- the numbers of a job are in their ranges; one form of answer is asked for, and no report with stamps
+-- the numbers of a job are in their ranges; it asks for one form of answer, and not for a report with stamps
 abbrev pub IsInRange : Job → Type 0
 IsInRange (Check cutting limit options input) =
     IsPieces cutting.pieces × IsWorkers cutting.workers × IsLimit limit.events × AreViews limit.events options.views × IsOneForm options
@@ -38,6 +38,7 @@ IsInRange (Follow limit windows file) = IsLimit limit.events × AreViews limit.e
 IsInRange (Shrink drawn limit file) = IsLimit limit.events
 IsInRange (Explain drawn limit file) = IsLimit limit.events
 IsInRange (Draw form limit file) = IsLimit limit.events
+IsInRange (Stats json limit file) = IsLimit limit.events
 IsInRange (Record workers rounds judge scan stamped) = AreWorkers workers × AreRounds rounds × (judge ≡ true → stamped ≡ false)
 
 -- the texts of some names, and of one that may be absent
@@ -47,25 +48,24 @@ texts_of names = map (λ name. name.items) names
 abbrev pub text_of : Option (Vec ℕ) → Option Text
 text_of name = option_map (λ name. name.items) name
 
--- the first of some names
 abbrev pub first_name : List Text → Option Text
 first_name [] = None
 first_name (name ∷ names) = Some name
 
--- how often some names are that of standard input
+-- whether a name is that of standard input
 abbrev pub is_input : Text → Bool
 is_input name = bytes_eq name (codes "-")
 
 abbrev pub inputs_in : List Text → ℕ
 inputs_in names = count_by is_input names
 
--- the same of a name that may be absent
+-- how often a name, which may be absent, is that of standard input
 abbrev pub inputs_at : Option Text → ℕ
 inputs_at None = 0
 inputs_at (Some name) = if is_input name then 1 else 0
 
--- what a check is asked for: its cutting, its limit of events and its options, and besides the words a list of names, whose names end
--- so, and a folder
+-- What a check is asked for: its cutting, its limit of events and its options. Besides the words there may be a list of names, and
+-- whether a zero byte ends each, and a folder.
 pub record Checking : Type 0 where
   pub pieces : ℕ
   pub workers : ℕ
@@ -79,11 +79,11 @@ pub record Checking : Type 0 where
 abbrev pub no_options : Options
 no_options = record { quiet = false; views = 0; json = false; summary = false; no_progress = false; color = Auto }
 
--- what is asked for where nothing is said
+-- what is asked for if no option is given
 abbrev pub plain_check : Checking
 plain_check = record { pieces = 8; workers = 2; events = event_limit; options = no_options; list = None; null = false; folder = None }
 
--- such a check of these files
+-- the job is such a check of these files
 abbrev pub IsCheck : Checking → List Text → Job → Type 0
 IsCheck asked files (Check cutting limit options input) =
     (cutting.pieces ≡ asked.pieces) × (cutting.workers ≡ asked.workers) × (limit.events ≡ asked.events) × (options ≡ asked.options)
@@ -92,43 +92,58 @@ IsCheck asked files (Follow limit windows file) = ⊥
 IsCheck asked files (Shrink drawn limit file) = ⊥
 IsCheck asked files (Explain drawn limit file) = ⊥
 IsCheck asked files (Draw form limit file) = ⊥
+IsCheck asked files (Stats json limit file) = ⊥
 IsCheck asked files (Record w rounds judge scan stamped) = ⊥
 
--- a recording that is judged while it grows: the only one of these files, with windows of so many events at most
+-- the job judges a recording while it grows: the only one of these files, with windows of at most `events` events
 abbrev pub IsFollow : ℕ → Windows → List Text → Job → Type 0
 IsFollow events windows files (Check cutting limit options input) = ⊥
 IsFollow events windows files (Follow limit asked file) = (limit.events ≡ events) × (asked ≡ windows) × (text_of file ≡ first_name files)
 IsFollow events windows files (Shrink drawn limit file) = ⊥
 IsFollow events windows files (Explain drawn limit file) = ⊥
 IsFollow events windows files (Draw form limit file) = ⊥
+IsFollow events windows files (Stats json limit file) = ⊥
 IsFollow events windows files (Record w rounds judge scan stamped) = ⊥
 
--- the history of so many events at most in the first of these files is to be cut down, to a text or to its picture
+-- the job cuts down the history in the first of these files, of at most `events` events, to a text or to its picture
 abbrev pub IsShrink : ℕ → Bool → List Text → Job → Type 0
 IsShrink events drawn files (Check cutting limit options input) = ⊥
 IsShrink events drawn files (Follow limit windows file) = ⊥
 IsShrink events drawn files (Shrink asked limit file) = (asked ≡ drawn) × (limit.events ≡ events) × (text_of file ≡ first_name files)
 IsShrink events drawn files (Explain asked limit file) = ⊥
 IsShrink events drawn files (Draw form limit file) = ⊥
+IsShrink events drawn files (Stats json limit file) = ⊥
 IsShrink events drawn files (Record w rounds judge scan stamped) = ⊥
 
--- it is to be explained, with a picture or without
+-- the job explains it, with a picture or without
 abbrev pub IsExplain : ℕ → Bool → List Text → Job → Type 0
 IsExplain events drawn files (Check cutting limit options input) = ⊥
 IsExplain events drawn files (Follow limit windows file) = ⊥
 IsExplain events drawn files (Shrink asked limit file) = ⊥
 IsExplain events drawn files (Explain asked limit file) = (asked ≡ drawn) × (limit.events ≡ events) × (text_of file ≡ first_name files)
 IsExplain events drawn files (Draw form limit file) = ⊥
+IsExplain events drawn files (Stats json limit file) = ⊥
 IsExplain events drawn files (Record w rounds judge scan stamped) = ⊥
 
--- it is to be drawn in a form
+-- the job draws it in a form
 abbrev pub IsDraw : ℕ → Form → List Text → Job → Type 0
 IsDraw events form files (Check cutting limit options input) = ⊥
 IsDraw events form files (Follow limit windows file) = ⊥
 IsDraw events form files (Shrink drawn limit file) = ⊥
 IsDraw events form files (Explain drawn limit file) = ⊥
 IsDraw events form files (Draw asked limit file) = (asked ≡ form) × (limit.events ≡ events) × (text_of file ≡ first_name files)
+IsDraw events form files (Stats json limit file) = ⊥
 IsDraw events form files (Record w rounds judge scan stamped) = ⊥
+
+-- the job counts what it has shown, as an object or as lines
+abbrev pub IsStats : ℕ → Bool → List Text → Job → Type 0
+IsStats events json files (Check cutting limit options input) = ⊥
+IsStats events json files (Follow limit windows file) = ⊥
+IsStats events json files (Shrink drawn limit file) = ⊥
+IsStats events json files (Explain drawn limit file) = ⊥
+IsStats events json files (Draw form limit file) = ⊥
+IsStats events json files (Stats asked limit file) = (asked ≡ json) × (limit.events ≡ events) × (text_of file ≡ first_name files)
+IsStats events json files (Record w rounds judge scan stamped) = ⊥
 
 -- the flags of a recording: its report in place of its history, scans in place of views, and the stamps of its events
 pub record Flags : Type 0 where
@@ -139,39 +154,48 @@ pub record Flags : Type 0 where
 abbrev pub no_flags : Flags
 no_flags = record { judge = false; scan = false; stamped = false }
 
--- a recording of so many workers and rounds with these flags
+-- the job is a recording of this many workers and rounds with these flags
 abbrev pub IsRecord : ℕ → ℕ → Flags → Job → Type 0
 IsRecord workers rounds flags (Check cutting limit options input) = ⊥
 IsRecord workers rounds flags (Follow limit windows file) = ⊥
 IsRecord workers rounds flags (Shrink drawn limit file) = ⊥
 IsRecord workers rounds flags (Explain drawn limit file) = ⊥
 IsRecord workers rounds flags (Draw form limit file) = ⊥
+IsRecord workers rounds flags (Stats json limit file) = ⊥
 IsRecord workers rounds flags (Record w r judge scan stamped) =
     (w ≡ workers) × (r ≡ rounds) × (judge ≡ flags.judge) × (scan ≡ flags.scan) × (stamped ≡ flags.stamped)
 
--- the text of a flag that was given or not
+-- the text of a flag that was given or not given
 abbrev pub flag_text : Bool → List ℕ
 flag_text true = codes "true"
 flag_text false = codes "false"
 
--- the limit of events that is chosen, by --events, or the usual one
+-- the limit of events that --events chooses, or the usual one
 pub record AsksLimit (events : ℕ) (rows : List Row) : Type 0 where
   pub events_fit : IsLimit events
   pub events_are : one_of (codes "events") rows ≡ Some (decimal events)
 
--- whether a picture is asked for, by --draw, and the limit of events
+-- whether --draw asks for a picture, and the limit of events
 pub record AsksPictureWithin (events : ℕ) (drawn : Bool) (rows : List Row) : Type 0 where
   pub drawn_is : one_of (codes "draw") rows ≡ Some (flag_text drawn)
   pub limit : AsksLimit events rows
 
--- the same where no limit is chosen
+-- what a picture asks for if no limit is chosen
 abbrev pub AsksPicture : Bool → List Row → Type 0
 AsksPicture = AsksPictureWithin event_limit
 
--- the word of a format
 abbrev pub format_text : Bool → List ℕ
 format_text true = codes "json"
 format_text false = codes "plain"
+
+-- whether --format asks for an object, and the limit of events
+pub record AsksStatsWithin (events : ℕ) (json : Bool) (rows : List Row) : Type 0 where
+  pub format_is : first_of (codes "format") rows ≡ Some (format_text json)
+  pub limit : AsksLimit events rows
+
+-- what `stats` asks for if no limit is chosen
+abbrev pub AsksStats : Bool → List Row → Type 0
+AsksStats = AsksStatsWithin event_limit
 
 -- the word that says when verdicts have colours
 abbrev pub color_text : Color → List ℕ
@@ -184,8 +208,8 @@ abbrev pub SaysColor : Option Text → Color → Type 0
 SaysColor None color = color ≡ Auto
 SaysColor (Some text) color = text ≡ color_text color
 
--- the number of events from which on a window ends where --window is not given: 1000, or half of those that a history may have, if
--- that is less
+-- The number of events from which on a window ends if --window is not given. It is 1000, or half of the events that a history may
+-- have, if that is less.
 abbrev pub usual_window : ℕ → ℕ
 usual_window events = min 1000 (events - events / 2)
 
@@ -203,19 +227,18 @@ pub record LacksFollow (rows : List Row) : Type 0 where
   pub no_follow : one_of (codes "follow") rows ≡ Some (flag_text false)
   pub windows_named : names_windows rows ≡ true
 
--- whether an option is given that a recording that is judged while it grows has no use for: --pieces, --workers, --color,
--- --files-from or --recursive
+-- Whether an option is given that has no use with --follow: --pieces, --workers, --color, --files-from or --recursive.
 abbrev pub names_unheeded : List Row → Bool
 names_unheeded rows =
     is_some (first_of (codes "pieces") rows) || is_some (first_of (codes "workers") rows) || is_some (first_of (codes "color") rows)
     || is_some (first_of (codes "list") rows) || is_some (first_of (codes "folder") rows)
 
--- --follow is given, and such an option: that asks for no job
+-- --follow is given, and such an option too: that asks for no job
 pub record FollowsUnheeding (rows : List Row) : Type 0 where
   pub followed : one_of (codes "follow") rows ≡ Some (flag_text true)
   pub unheeded_named : names_unheeded rows ≡ true
 
--- the files that are named, none where the word is absent
+-- the files that are named, or none if the word is absent
 abbrev pub given_or_none : Option (List Text) → List Text
 given_or_none None = []
 given_or_none (Some names) = names
@@ -223,9 +246,9 @@ given_or_none (Some names) = names
 abbrev pub files_of : List Row → List Text
 files_of rows = given_or_none (all_of (codes "file") rows)
 
--- the options of `check` have these numbers, which are in their ranges, each flag is given or not, and the format and the colours
--- have their words; one form of answer is asked for, and none by windows. Names end with a zero byte in a list alone, and standard
--- input is named once
+-- The options of `check` have these numbers, which are in their ranges. Each flag is given or not, and the format and the colours
+-- have their words. One form of answer is asked for, and none by windows. Names end with a zero byte only in a list, and standard
+-- input is named at most once.
 pub record AsksCheck (rows : List Row) (asked : Checking) : Type 0 where
   pub pieces_fit : IsPieces asked.pieces
   pub workers_fit : IsWorkers asked.workers
@@ -248,8 +271,8 @@ pub record AsksCheck (rows : List Row) (asked : Checking) : Type 0 where
   pub null_is : one_of (codes "null") rows ≡ Some (flag_text asked.null)
   pub folder_is : first_of (codes "folder") rows ≡ asked.folder
 
--- the options of `check` ask for windows with these numbers, which are in their ranges, of one recording, and for nothing that has no
--- use beside them
+-- The options of `check` ask for windows with these numbers, which are in their ranges, of one recording. They ask for nothing else
+-- that has no use with windows.
 pub record AsksFollow (events : ℕ) (rows : List Row) (windows : Windows) : Type 0 where
   pub limit : AsksLimit events rows
   pub views_fit : AreViews events windows.views
@@ -266,12 +289,12 @@ pub record AsksFollow (events : ℕ) (rows : List Row) (windows : Windows) : Typ
   pub window_is : SaysOr (usual_window events) (one_of (codes "window") rows) windows.least
   pub idle_is : SaysOr 0 (one_of (codes "idle") rows) windows.idle
 
--- the rounds where --rounds is not given: 16, or as many as the limit of events allows, if that is less
+-- the rounds if --rounds is not given: 16, or as many as the limit of events allows, if that is less
 abbrev pub usual_rounds : ℕ → ℕ
 usual_rounds events = min 16 (events / (4 * worker_limit))
 
--- the options of `record` have these numbers of workers and rounds, the rounds those of --rounds or the usual ones, which are in their
--- ranges for the limit of events, and each flag is given or not, but not a report with stamps
+-- The options of `record` have these numbers of workers and rounds. The rounds are those of --rounds or the usual ones, in their
+-- range for the limit of events. Each flag is given or not, but they do not ask for a report with stamps.
 pub record AsksRecordWithin (events : ℕ) (rows : List Row) (workers rounds : ℕ) (flags : Flags) : Type 0 where
   pub limit : AsksLimit events rows
   pub workers_fit : AreWorkers workers
@@ -292,6 +315,6 @@ pub record AsksTooManyRounds (rows : List Row) : Type 0 where
   pub is_number : rounds ≤ NUMBER_LIMIT
   pub too_many : events < 4 * worker_limit * rounds
 
--- the same where no limit of events is chosen
+-- what `record` asks for if no limit of events is chosen
 abbrev pub AsksRecord : List Row → ℕ → ℕ → Flags → Type 0
 AsksRecord = AsksRecordWithin event_limit

@@ -6,7 +6,7 @@ use Rattle.clap.specs.Words.{App, Rule}
 abbrev pub with_rules : App → List Rule → App
 with_rules app rules = record app { top = record app.top { rules = app.top.rules ++ rules } }
 
--- a command stays a leaf where it gets no commands
+-- a command stays a leaf if it gets no commands
 abbrev pub stays_leaf : Bool → List App → Bool
 stays_leaf leaf [] = leaf
 stays_leaf leaf (command ∷ commands) = false

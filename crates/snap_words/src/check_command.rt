@@ -5,7 +5,7 @@ ghost use Rattle.clap.specs.declared.builder.command.Command.TheViews.{out-Comma
 ghost use Rattle.snap_words.specs.CommandLine.{check_app};
 
 use crate::command::command_of;
-use crate::word::{EVENTS, NUMBER_LIMIT, Takes, Word};
+use crate::word::{EVENTS, FORMAT, NUMBER_LIMIT, Takes, Word};
 use clap::Command;
 use snap_core::EVENT_CAP;
 use snap_threads::{PIECE_LIMIT, WORKER_LIMIT};
@@ -140,16 +140,7 @@ const WORDS: &[Word<'static>] = &[
         help: "How many completed views the history must have, from 0 to half of its events: 32768",
     },
     EVENTS,
-    Word {
-        id: "format",
-        long: Some("format"),
-        short: None,
-        takes: Takes::TextOr {
-            name: "FORMAT",
-            usual: "plain",
-        },
-        help: "Write reports, or a JSON object for each history: plain or json",
-    },
+    FORMAT,
     Word {
         id: "summary",
         long: Some("summary"),
@@ -209,7 +200,6 @@ const WORDS: &[Word<'static>] = &[
     },
 ];
 
-/// The command `check` with its words.
 pub(crate) fn check_command<'a>(alloc: Global) -> Result<Command<'a>, AllocError>
     ensures { IfOk result (λ command. (app_of command ≡ check_app) × ((fields_of command).has_globals ≡ false)) }
 {

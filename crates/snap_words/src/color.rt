@@ -1,4 +1,4 @@
-//! When verdicts have colours, and the word that says so.
+//! The setting of colours of the verdicts, and the word for it.
 ghost use Rattle.std.specs.Prelude.{◌≡◌, Some, codes};
 ghost use Rattle.clap.specs.Words.{first_of, found_of, rows_of};
 ghost use Rattle.snap_words.specs.Jobs.{SaysColor, color_text};
@@ -9,7 +9,7 @@ use clap::ArgMatches;
 /// When the verdicts of reports have colours.
 #[derive(Clone, Copy, Debug, PartialEq, Eq)]
 pub enum Color {
-    /// Where standard output is a terminal, and the environment does not ask for none.
+    /// If standard output is a terminal, and the environment does not ask for none.
     Auto,
     /// Always.
     Always,
@@ -17,7 +17,7 @@ pub enum Color {
     Never,
 }
 
-// When verdicts are to have colours by a word; none where it is not known.
+// The setting that a word names, or nothing if it is not known.
 fn color_of(word: &str) -> Option<Color>
     ensures given { (color : Color) → word.now ≡ color_text color → result ≡ Some color }
 {
@@ -29,7 +29,7 @@ fn color_of(word: &str) -> Option<Color>
     }
 }
 
-/// When verdicts are to have colours; none where the word is not known.
+/// The setting of colours that the options name, or nothing if the word is not known.
 pub(crate) fn color_in(matches: &ArgMatches<'_>) -> Option<Color>
     ensures given { (color : Color) → SaysColor (first_of (codes "color") (rows_of (found_of matches.now))) color → result ≡ Some color }
 {

@@ -11,26 +11,28 @@ use crate::draw_command::draw_command;
 use crate::explain_command::explain_command;
 use crate::record_command::record_command;
 use crate::shrink_command::shrink_command;
+use crate::stats_command::stats_command;
 use crate::word::{Word, argument_of};
 use clap::Command;
 use std::alloc::{AllocError, Global};
 
-// The commands.
 #[derive(Clone, Copy)]
 enum Kind {
     Check,
     Shrink,
     Explain,
     Draw,
+    Stats,
     Record,
 }
 
-// All of them, in the order in which the help names them.
+// All commands, in the order in which the help names them.
 const KINDS: &[Kind] = &[
     Kind::Check,
     Kind::Shrink,
     Kind::Explain,
     Kind::Draw,
+    Kind::Stats,
     Kind::Record,
 ];
 
@@ -48,6 +50,7 @@ Examples:
     snapjudge shrink run.csv > witness.csv            cut it down to the calls of its first fault
     snapjudge explain run.csv                         say of its faults what happened, call by call
     snapjudge draw run.csv > run.html                 draw it as a page for a browser
+    snapjudge stats run.csv                           count what of it overlaps
 
     snapjudge --version, snapjudge -V                 print the version";
 
@@ -67,7 +70,7 @@ fn with_words<'a>(
     Ok(command)
 }
 
-/// A command with its name, what its help says before and behind its words, and these.
+/// A command with its name, what its help says before and after its words, and these words.
 pub(crate) fn command_of<'a>(
     alloc: Global,
     name: &'a str,
@@ -81,7 +84,6 @@ pub(crate) fn command_of<'a>(
     with_words(alloc, command, words)
 }
 
-// The command of a kind.
 fn command_for<'a>(alloc: Global, kind: Kind) -> Result<Command<'a>, AllocError>
     ensures { IfOk result (λ command. (app_of command ≡ app_for kind) × ((fields_of command).has_globals ≡ false)) }
 {
@@ -90,6 +92,7 @@ fn command_for<'a>(alloc: Global, kind: Kind) -> Result<Command<'a>, AllocError>
         Kind::Shrink => shrink_command(alloc),
         Kind::Explain => explain_command(alloc),
         Kind::Draw => draw_command(alloc),
+        Kind::Stats => stats_command(alloc),
         Kind::Record => record_command(alloc),
     }
 }

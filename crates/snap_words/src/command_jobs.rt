@@ -4,7 +4,7 @@ ghost use Rattle.clap.specs.Words.{Row, Text, found_of, rows_of};
 ghost use Rattle.snap_words.specs.Drawing.{AsksDrawWithin};
 ghost use Rattle.snap_words.specs.Inputs.{IsInputOf};
 ghost use Rattle.snap_words.specs.inside.Found.{FindsJob};
-ghost use Rattle.snap_words.specs.Jobs.{AsksCheck, AsksFollow, AsksPictureWithin, AsksRecordWithin, AsksTooManyRounds, Checking, Flags, FollowsUnheeding, IsCheck, IsDraw, IsExplain, IsFollow, IsInRange, IsRecord, IsShrink, LacksFollow, files_of, first_name, text_of};
+ghost use Rattle.snap_words.specs.Jobs.{AsksCheck, AsksFollow, AsksPictureWithin, AsksRecordWithin, AsksStatsWithin, AsksTooManyRounds, Checking, Flags, FollowsUnheeding, IsCheck, IsDraw, IsExplain, IsFollow, IsInRange, IsRecord, IsShrink, IsStats, LacksFollow, files_of, first_name, text_of};
 ghost use Rattle.snap_words.specs.declared.job.Windows.{Windows};
 
 use crate::color::color_in;
@@ -18,7 +18,7 @@ use clap::ArgMatches;
 use snap_record::{LEAST_WORKERS, WORKER_LIMIT};
 use snap_threads::Cutting;
 
-// How a check is cut where nothing is said.
+// How a check is cut if no option says it.
 const USUAL_PIECES: u32 = 8;
 
 const USUAL_WORKERS: u32 = 2;
@@ -77,7 +77,7 @@ fn check_in(matches: &ArgMatches<'_>, input: Input) -> Option<Job>
     })
 }
 
-// Whether the options of `check` have only what has a use where a recording is judged while it grows, and name at most one.
+// Whether the options of `check` are all of use with --follow, and name at most one recording.
 fn follows_alone(matches: &ArgMatches<'_>, input: &Input) -> bool
     requires named { IsInputOf (rows_of (found_of matches.now)) input.now }
     ensures asked { (events : ℕ) (windows : Windows) → AsksFollow events (rows_of (found_of matches.now)) windows → result ≡ true }
@@ -196,7 +196,17 @@ fn explain_in(matches: &ArgMatches<'_>, file: Option<Vec<u8>>) -> Option<Job>
     Some(Job::Explain { drawn, limit, file })
 }
 
-/// The job that a command asks for by its options, where each number is there and in its range.
+// The counts that the options of `stats` ask for.
+fn stats_in(matches: &ArgMatches<'_>, file: Option<Vec<u8>>) -> Option<Job>
+    ensures job { IfSome result IsInRange }
+    ensures asked { (events : ℕ) (json : Bool) (files : List Text) → text_of file ≡ first_name files → AsksStatsWithin events json (rows_of (found_of matches.now)) → IsSomeAnd result (IsStats events json files) }
+{
+    let json = json_in(matches)?;
+    let limit = limit_in(matches)?;
+    Some(Job::Stats { json, limit, file })
+}
+
+/// The job that a command asks for by its options, if each number is there and in its range.
 pub(crate) fn job_in(name: &str, matches: &ArgMatches<'_>, input: Input) -> Option<Job>
     requires named { IsInputOf (rows_of (found_of matches.now)) input }
     ensures job { IfSome result IsInRange }
@@ -207,6 +217,7 @@ pub(crate) fn job_in(name: &str, matches: &ArgMatches<'_>, input: Input) -> Opti
         "shrink" => shrink_in(matches, input.into_file()),
         "explain" => explain_in(matches, input.into_file()),
         "draw" => draw_in(matches, input.into_file()),
+        "stats" => stats_in(matches, input.into_file()),
         _ => record_in(matches),
     }
 }

@@ -59,7 +59,6 @@ const WORDS: &[Word<'static>] = &[
     FILE,
 ];
 
-/// The command `draw` with its words.
 pub(crate) fn draw_command<'a>(alloc: Global) -> Result<Command<'a>, AllocError>
     ensures { IfOk result (λ command. (app_of command ≡ draw_app) × ((fields_of command).has_globals ≡ false)) }
 {

@@ -18,7 +18,7 @@ pub enum Form {
     Lines,
 }
 
-/// The form that the flags of `draw` ask for; none where they ask for two.
+/// The form that the flags of `draw` ask for, or nothing if they ask for two.
 pub(crate) fn form_in(matches: &ArgMatches<'_>) -> Option<Form>
     ensures { (events : ℕ) (form : Form) → AsksDrawWithin events (rows_of (found_of matches.now)) form → result ≡ Some form }
 {

@@ -59,7 +59,6 @@ const WORDS: &[Word<'static>] = &[
     FILE,
 ];
 
-/// The command `explain` with its words.
 pub(crate) fn explain_command<'a>(alloc: Global) -> Result<Command<'a>, AllocError>
     ensures { IfOk result (λ command. (app_of command ≡ explain_app) × ((fields_of command).has_globals ≡ false)) }
 {

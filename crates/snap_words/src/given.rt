@@ -2,7 +2,7 @@
 ghost use Rattle.std.specs.Prelude.{◌≡◌, ℕ, Bool, List, [], codes, IfOk, IsErr, MatchResult, map, string_bytes};
 ghost use Rattle.clap.specs.Words.{Text};
 ghost use Rattle.snap_words.specs.Drawing.{AsksDrawWithin};
-ghost use Rattle.snap_words.specs.Jobs.{AsksCheck, AsksFollow, AsksPictureWithin, AsksRecordWithin, AsksTooManyRounds, Checking, Flags, FollowsUnheeding, IsCheck, IsDraw, IsExplain, IsFollow, IsInRange, IsRecord, IsShrink, LacksFollow};
+ghost use Rattle.snap_words.specs.Jobs.{AsksCheck, AsksFollow, AsksPictureWithin, AsksRecordWithin, AsksStatsWithin, AsksTooManyRounds, Checking, Flags, FollowsUnheeding, IsCheck, IsDraw, IsExplain, IsFollow, IsInRange, IsRecord, IsShrink, IsStats, LacksFollow};
 ghost use Rattle.snap_words.specs.Lines.{Means};
 ghost use Rattle.snap_words.specs.declared.drawing.Form.{Form};
 ghost use Rattle.snap_words.specs.declared.job.Windows.{Windows};
@@ -14,10 +14,11 @@ use std::env::FillError;
 use std::rt::Env;
 use std::str;
 
-// What stands in a text for the rest of a word from where it is not UTF-8 on; no word has a zero byte.
+// Replaces, in a text, the rest of a word from its first byte that is not UTF-8. No word has a zero byte.
 const MARK: char = '\0';
 
-/// The words, the program's name first. For the rest of a word that is not UTF-8 stands the mark, with its place among the others.
+/// The words, the program's name first. In a word that is not UTF-8 the mark replaces the rest, with the place of that rest among
+/// the others.
 #[derive(Drop)]
 pub struct Words {
     /// The words as texts.
@@ -26,7 +27,7 @@ pub struct Words {
     pub others: Vec<Vec<u8>>,
 }
 
-// A word of the command line, none where there are fewer.
+// A word of the command line, or nothing if there are fewer.
 fn word_at<Rt: Env>(rt: &Rt, alloc: Global, place: usize) -> Result<Option<Vec<u8>>, AllocError> {
     let mut word = Vec::new(alloc);
     for bits in 8..usize::BITS {
@@ -68,7 +69,7 @@ fn add_word(alloc: Global, words: &mut Words, word: &[u8]) -> Result<(), AllocEr
     }
 }
 
-/// The words that a program is given, the name of the program first. The error is want of memory.
+/// The words that a program is given, the name of the program first. The error is lack of memory.
 pub fn words_of<Rt: Env>(rt: &Rt, alloc: Global) -> Result<Words, AllocError> {
     let mut words = Words {
         texts: Vec::new(alloc),
@@ -83,7 +84,7 @@ pub fn words_of<Rt: Env>(rt: &Rt, alloc: Global) -> Result<Words, AllocError> {
     Ok(words)
 }
 
-// Where the mark stands in a name, and the rest of the word for which it stands.
+// The place of the mark in a name, and the rest of the word that it replaces.
 fn other_in<'a>(name: &[u8], others: &'a [Vec<u8>]) -> Option<(usize, &'a Vec<u8>)> {
     let at = name.iter().position(|byte| *byte == MARK as u8)?;
     let place = str::from_utf8(&name[at + 1..]).ok()?;
@@ -91,7 +92,7 @@ fn other_in<'a>(name: &[u8], others: &'a [Vec<u8>]) -> Option<(usize, &'a Vec<u8
     Some((at, others.get(place)?))
 }
 
-// Puts the rest of its word into a name in place of the mark.
+// Puts the rest of its word into a name, in place of the mark.
 fn make_whole(name: &mut Vec<u8>, others: &[Vec<u8>]) -> Result<(), AllocError> {
     if let Some((at, rest)) = other_in(name, others) {
         name.truncate(at);
@@ -100,7 +101,7 @@ fn make_whole(name: &mut Vec<u8>, others: &[Vec<u8>]) -> Result<(), AllocError> 
     Ok(())
 }
 
-// The same of a name that may be absent.
+// The whole name for a name that may be absent.
 fn whole_name(name: Option<Vec<u8>>, others: &[Vec<u8>]) -> Result<Option<Vec<u8>>, AllocError> {
     let Some(mut name) = name else {
         return Ok(None);
@@ -172,11 +173,16 @@ fn whole_job(job: Job, others: &[Vec<u8>]) -> Result<Job, AllocError>
             limit,
             file: whole_name(file, others)?,
         },
+        Job::Stats { json, limit, file } => Job::Stats {
+            json,
+            limit,
+            file: whole_name(file, others)?,
+        },
         job => job,
     })
 }
 
-// The fault that a text tells the user.
+// The fault with this text for the user.
 fn told(text: Result<String, AllocError>) -> JobFault {
     match text {
         Ok(text) => JobFault::Usage(text),
@@ -184,7 +190,7 @@ fn told(text: Result<String, AllocError>) -> JobFault {
     }
 }
 
-// The fault of a recording in place of a command, if there is one.
+// The fault of a command line with a recording in place of a command, if that is what it has.
 fn recording_fault(alloc: Global, texts: &[String]) -> Option<JobFault> {
     match texts.get(1) {
         Some(name) if name.ends_with(".csv") && !name.contains(MARK) => Some(told(format!(in alloc;
@@ -194,8 +200,7 @@ fn recording_fault(alloc: Global, texts: &[String]) -> Option<JobFault> {
     }
 }
 
-// Why there is no job, for the user. A word that is not UTF-8 is not quoted, and for a recording in place of a command there is a fault
-// of its own.
+// Why there is no job, for the user. It does not quote a word that is not UTF-8. A recording in place of a command has a fault of its own.
 fn readable(alloc: Global, fault: JobFault, recording: Option<JobFault>) -> JobFault
     ensures { fault ≡ JobFault.Memory → result ≡ JobFault.Memory }
 {
@@ -215,7 +220,7 @@ fn readable(alloc: Global, fault: JobFault, recording: Option<JobFault>) -> JobF
     JobFault::Usage(text)
 }
 
-/// The job that the words of the command line ask for, on the names that these words give. Where all words are UTF-8, it is the job
+/// The job that the words of the command line ask for, on the names that these words give. If all words are UTF-8, it is the job
 /// that `job_of` finds in them.
 pub fn wanted_by(alloc: Global, words: Words) -> Result<Job, JobFault>
     ensures job { IfOk result IsInRange }
@@ -236,6 +241,9 @@ pub fn wanted_by(alloc: Global, words: Words) -> Result<Job, JobFault>
     ensures draw { (events : ℕ) (form : Form) (files : List Text) → words.others.items ≡ []
         → Means (map string_bytes words.texts.items) (codes "draw") (λ rows. AsksDrawWithin events rows form) files
         → MatchResult result (IsDraw events form files) (λ fault. fault ≡ JobFault.Memory) }
+    ensures stats { (events : ℕ) (json : Bool) (files : List Text) → words.others.items ≡ []
+        → Means (map string_bytes words.texts.items) (codes "stats") (AsksStatsWithin events json) files
+        → MatchResult result (IsStats events json files) (λ fault. fault ≡ JobFault.Memory) }
     ensures recording { (events workers rounds : ℕ) (flags : Flags) (files : List Text) → words.others.items ≡ []
         → Means (map string_bytes words.texts.items) (codes "record") (λ rows. AsksRecordWithin events rows workers rounds flags) files
         → MatchResult result (IsRecord workers rounds flags) (λ fault. fault ≡ JobFault.Memory) }

@@ -8,20 +8,19 @@ use crate::option_values::flag_in;
 use clap::ArgMatches;
 use std::alloc::{AllocError, Global};
 
-/// The names of the texts of a check. Where there is none at all, it is standard input.
+/// The names of the texts of a check. If there are none at all, the text is standard input.
 #[derive(Debug, Drop)]
 pub struct Input {
     /// The files among the words; `-` is standard input.
     pub files: Vec<Vec<u8>>,
     /// A list of more names; `-` is standard input.
     pub list: Option<Vec<u8>>,
-    /// The names in the list end with a zero byte, and not with a line end.
+    /// Whether a zero byte, and not a line end, ends each name in the list.
     pub null: bool,
     /// A folder below which all recordings are judged too.
     pub folder: Option<Vec<u8>>,
 }
 
-// Whether a name is that of standard input.
 fn is_input_name(name: &[u8]) -> bool
     ensures { result ≡ is_input name.now }
 {
@@ -60,14 +59,14 @@ impl Input {
         self.list.is_some() || self.folder.is_some()
     }
 
-    // Whether all that is named can be read: names end with a zero byte in a list alone, and standard input is named once.
+    // Whether everything that is named can be read: a zero byte ends names only in a list, and standard input is named at most once.
     pub(crate) fn is_readable(&self) -> bool
         ensures { (self.now.null ≡ true → IsSome self.now.list) → inputs_in (texts_of self.now.files.items) + inputs_at (text_of self.now.list) ≤ 1 → result ≡ true }
     {
         (!self.null || self.list.is_some()) && !names_input_twice(&self.files, &self.list)
     }
 
-    /// The first file, if there is one.
+    /// The first file, or nothing if there is none.
     pub fn into_file(self) -> Option<Vec<u8>>
         ensures { text_of result ≡ first_name (texts_of self.files.items) }
     {
@@ -75,7 +74,7 @@ impl Input {
     }
 }
 
-// A copy of each of some texts.
+// A copy of each of some names.
 fn copies_of(alloc: Global, names: &[&str]) -> Result<Vec<Vec<u8>>, AllocError>
     ensures { IfOk result (λ copies. texts_of copies.items ≡ map (λ name. name.now) names.now) }
 {
@@ -86,7 +85,6 @@ fn copies_of(alloc: Global, names: &[&str]) -> Result<Vec<Vec<u8>>, AllocError>
     Ok(copies)
 }
 
-// The files that a command names.
 fn files_in(alloc: Global, matches: &ArgMatches<'_>) -> Result<Vec<Vec<u8>>, AllocError>
     ensures { IfOk result (λ files. texts_of files.items ≡ files_of (rows_of (found_of matches.now))) }
 {
@@ -96,7 +94,7 @@ fn files_in(alloc: Global, matches: &ArgMatches<'_>) -> Result<Vec<Vec<u8>>, All
     }
 }
 
-// The text that an option has.
+// The text that an option has, or nothing if it has none.
 fn text_in(alloc: Global, matches: &ArgMatches<'_>, id: &str) -> Result<Option<Vec<u8>>, AllocError>
     ensures { IfOk result (λ text. text_of text ≡ first_of id.now (rows_of (found_of matches.now))) }
 {

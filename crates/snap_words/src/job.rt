@@ -2,7 +2,7 @@
 ghost use Rattle.std.specs.Prelude.{◌≡◌, ℕ, Bool, List, Some, codes, IfOk, IsErr, MatchResult, map, string_bytes};
 ghost use Rattle.clap.specs.Words.{Row, Text, kind_of, subcommand_rows_of};
 ghost use Rattle.snap_words.specs.Drawing.{AsksDrawWithin};
-ghost use Rattle.snap_words.specs.Jobs.{AsksCheck, AsksFollow, AsksPictureWithin, AsksRecordWithin, AsksTooManyRounds, Checking, Flags, FollowsUnheeding, IsCheck, IsDraw, IsExplain, IsFollow, IsInRange, IsRecord, IsShrink, LacksFollow};
+ghost use Rattle.snap_words.specs.Jobs.{AsksCheck, AsksFollow, AsksPictureWithin, AsksRecordWithin, AsksStatsWithin, AsksTooManyRounds, Checking, Flags, FollowsUnheeding, IsCheck, IsDraw, IsExplain, IsFollow, IsInRange, IsRecord, IsShrink, IsStats, LacksFollow};
 ghost use Rattle.snap_words.specs.inside.Found.{FindsGiven};
 ghost use Rattle.snap_words.specs.Lines.{Means};
 
@@ -18,36 +18,36 @@ use snap_core::Limit;
 use snap_threads::Cutting;
 use std::alloc::{AllocError, Global};
 
-/// What a check is asked for besides its cutting and its limit.
+/// The options of a check besides its cutting and its limit.
 #[derive(Clone, Copy)]
 pub struct Options {
-    /// Of the report only the lines of the verdicts; not with `json`.
+    /// Whether only the lines of the verdicts are written of a report; not with `json`.
     pub quiet: bool,
-    /// How many completed views a history must have.
+    /// The least number of completed views of a history.
     pub views: u32,
-    /// A JSON object in place of the report.
+    /// Whether a JSON object takes the place of the report.
     pub json: bool,
-    /// The sums of all files in place of reports; not with `quiet` or `json`.
+    /// Whether the sums of all files take the place of reports; not with `quiet` or `json`.
     pub summary: bool,
-    /// No line on a terminal that shows how far it is.
+    /// Whether no line on a terminal shows the progress.
     pub no_progress: bool,
     /// When the verdicts have colours.
     pub color: Color,
 }
 
-/// How a recording is judged while it grows.
+/// The options of a check that judges a recording while it grows.
 #[derive(Clone, Copy)]
 pub struct Windows {
-    /// A window ends at the first moment without an open call from so many events on, 1 to the limit of events.
+    /// A window ends at the first moment without an open call after this many events: 1 to the limit of events.
     pub least: u32,
-    /// Seconds without anything new after which it ends; 0 for none.
+    /// The seconds without anything new after which it ends, or 0 if it does not end so.
     pub idle: u32,
-    /// How many completed views all windows together must have.
+    /// The least number of completed views of all windows together.
     pub views: u32,
 }
 
-/// What the program is asked to do, and on which texts. A history may have as many events as the limit says. Where a file is absent, it
-/// is standard input.
+/// What the program is asked to do, and on which texts. A history may have as many events as the limit says. An absent file is
+/// standard input.
 #[derive(Drop)]
 pub enum Job {
     /// Judge histories.
@@ -63,7 +63,7 @@ pub enum Job {
         windows: Windows,
         file: Option<Vec<u8>>,
     },
-    /// Cut a history down to a witness, or draw that.
+    /// Cut a history down to a witness, or draw the witness.
     Shrink {
         drawn: bool,
         limit: Limit,
@@ -81,8 +81,14 @@ pub enum Job {
         limit: Limit,
         file: Option<Vec<u8>>,
     },
-    /// Record so many workers in so many rounds of a store and a view, or a scan in place of the view, and judge the
-    /// history where that is asked for, or write it with the stamps of its events; not both.
+    /// Count what a history has shown, as lines or as a JSON object.
+    Stats {
+        json: bool,
+        limit: Limit,
+        file: Option<Vec<u8>>,
+    },
+    /// Record `workers` workers in `rounds` rounds of a store and a view, or a scan in place of the view. Judge the history if that
+    /// is asked for, or write it with the stamps of its events, but not both.
     Record {
         workers: u32,
         rounds: u32,
@@ -92,7 +98,7 @@ pub enum Job {
     },
 }
 
-/// Why the words name no job.
+/// Why the words ask for no job.
 #[derive(Debug, Drop)]
 pub enum JobFault {
     /// The words were not taken, or ask for help; the text is for the user.
@@ -111,7 +117,7 @@ impl From<AllocError> for JobFault {
     }
 }
 
-// What the parser says of `--json`. Its tip would take the word for a file.
+// What the parser says about `--json`. Its tip would take the word for a file.
 const UNKNOWN_JSON: &str = "error: unexpected argument '--json' found";
 
 const TIP_ON_JSON: &str = "error: unexpected argument '--json' found
@@ -119,7 +125,7 @@ const TIP_ON_JSON: &str = "error: unexpected argument '--json' found
   tip: '--format json' writes a JSON object for each history
 ";
 
-// What is said of words that the parser does not take.
+// What is said about words that the parser does not take.
 fn text_of(alloc: Global, error: &Error) -> Result<String, AllocError> {
     let text = error.to_string(alloc)?;
     if text.starts_with(UNKNOWN_JSON) {
@@ -128,7 +134,7 @@ fn text_of(alloc: Global, error: &Error) -> Result<String, AllocError> {
     Ok(text)
 }
 
-// Why there is no job where the parser does not take the words.
+// Why there is no job if the parser does not take the words.
 fn fault_of(alloc: Global, error: &Error) -> JobFault
     ensures { kind_of error.now ≡ ErrorKind.OutOfMemory → result ≡ JobFault.Memory }
 {
@@ -141,7 +147,7 @@ fn fault_of(alloc: Global, error: &Error) -> JobFault
     }
 }
 
-// The job that the command behind the program's name asks for.
+// The job that the command after the program's name asks for.
 fn asked_by(alloc: Global, matches: &ArgMatches<'_>) -> Result<Job, JobFault>
     ensures job { IfOk result IsInRange }
     ensures asked { (command : Text) (rows : List Row) → subcommand_rows_of matches.now ≡ Some (command, rows) → FindsGiven result command rows }
@@ -156,7 +162,7 @@ fn asked_by(alloc: Global, matches: &ArgMatches<'_>) -> Result<Job, JobFault>
     }
 }
 
-/// The job that the words of a command line ask for; the program's name comes first. What the parser makes of words is the kit's:
+/// The job that the words of a command line ask for. The program's name comes first. The kit defines how the parser reads words.
 /// `Means` says it of [`program`], and the laws of this crate say it of whole lines.
 pub fn job_of(alloc: Global, words: Vec<String>) -> Result<Job, JobFault>
     ensures job { IfOk result IsInRange }
@@ -177,6 +183,9 @@ pub fn job_of(alloc: Global, words: Vec<String>) -> Result<Job, JobFault>
     ensures draw { (events : ℕ) (form : Form) (files : List Text)
         → Means (map string_bytes words.items) (codes "draw") (λ rows. AsksDrawWithin events rows form) files
         → MatchResult result (IsDraw events form files) (λ fault. fault ≡ JobFault.Memory) }
+    ensures stats { (events : ℕ) (json : Bool) (files : List Text)
+        → Means (map string_bytes words.items) (codes "stats") (AsksStatsWithin events json) files
+        → MatchResult result (IsStats events json files) (λ fault. fault ≡ JobFault.Memory) }
     ensures recording { (events workers rounds : ℕ) (flags : Flags) (files : List Text)
         → Means (map string_bytes words.items) (codes "record") (λ rows. AsksRecordWithin events rows workers rounds flags) files
         → MatchResult result (IsRecord workers rounds flags) (λ fault. fault ≡ JobFault.Memory) }

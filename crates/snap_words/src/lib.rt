@@ -17,6 +17,7 @@ mod ranges;
 mod record_command;
 mod refusals;
 mod shrink_command;
+mod stats_command;
 mod word;
 
 pub use color::Color;
@@ -24,4 +25,4 @@ pub use drawing::Form;
 pub use given::{Words, wanted_by, words_of};
 pub use input::{Input, names_input_twice};
 pub use job::{Job, JobFault, Options, Windows, job_of};
-pub use lines::{check_lines, picture_lines, record_lines, source_lines};
+pub use lines::{check_lines, picture_lines, record_lines, source_lines, stats_lines};

@@ -1,15 +1,15 @@
-//! What whole lines of words mean. Each law names lines by their words behind the program's name, which may be any.
+//! What whole lines of words mean. Each law names lines by their words after the program's name, which may be any.
 ghost use Rattle.std.specs.Prelude.{◌∷◌, [], Some, codes, false, true};
 ghost use Rattle.clap.specs.Words.{Text};
 ghost use Rattle.snap_core.specs.Limits.{event_limit};
 ghost use Rattle.snap_words.specs.Drawing.{AsksDraw, AsksDrawWithin};
-ghost use Rattle.snap_words.specs.Jobs.{AsksCheck, AsksFollow, AsksPicture, AsksPictureWithin, AsksRecord, AsksRecordWithin, AsksTooManyRounds, FollowsUnheeding, LacksFollow, no_flags, no_options, plain_check};
+ghost use Rattle.snap_words.specs.Jobs.{AsksCheck, AsksFollow, AsksPicture, AsksPictureWithin, AsksRecord, AsksRecordWithin, AsksStats, AsksStatsWithin, AsksTooManyRounds, FollowsUnheeding, LacksFollow, no_flags, no_options, plain_check};
 ghost use Rattle.snap_words.specs.Lines.{Means};
 ghost use Rattle.snap_words.specs.declared.color.Color.TheVariants.{Never};
 ghost use Rattle.snap_words.specs.declared.drawing.Form.TheVariants.{Lines, Page, Svg};
 
-/// What lines of `check` ask for: 8 pieces and 2 workers where nothing else is said, and what each option says. A window alone asks
-/// for nothing, and no more does an option that has no use with `--follow`.
+/// What lines of `check` ask for: 8 pieces and 2 workers if nothing else is said, and what each option says. A window alone asks
+/// for no job. Neither does an option that has no use with `--follow`.
 pub fn check_lines()
     ensures alone { (name : Text) → Means (name ∷ codes "check" ∷ []) (codes "check") (λ rows. AsksCheck rows plain_check) [] }
     ensures cut { (name : Text) → Means (name ∷ codes "check" ∷ codes "--pieces" ∷ codes "3" ∷ codes "--workers" ∷ codes "4" ∷ []) (codes "check") (λ rows. AsksCheck rows (record plain_check { pieces = 3; workers = 4 })) [] }
@@ -46,8 +46,15 @@ pub fn picture_lines()
     ensures draw_events { (name : Text) → Means (name ∷ codes "draw" ∷ codes "--events" ∷ codes "1048576" ∷ []) (codes "draw") (λ rows. AsksDrawWithin 1048576 rows Page) [] }
 {}
 
-/// What lines of `record` ask for: 2 workers and 16 rounds of views where nothing else is said, and fewer rounds where the limit of
-/// events allows no more. More rounds than that are refused where they are asked for.
+/// What lines of `stats` ask for: lines, if nothing else is said.
+pub fn stats_lines()
+    ensures alone { (name : Text) → Means (name ∷ codes "stats" ∷ []) (codes "stats") (AsksStats false) [] }
+    ensures json { (name : Text) → Means (name ∷ codes "stats" ∷ codes "--format" ∷ codes "json" ∷ []) (codes "stats") (AsksStats true) [] }
+    ensures events { (name : Text) → Means (name ∷ codes "stats" ∷ codes "--events" ∷ codes "1048576" ∷ []) (codes "stats") (AsksStatsWithin 1048576 false) [] }
+{}
+
+/// What lines of `record` ask for. Without options they are 2 workers and 16 rounds of views, or fewer rounds if the limit of
+/// events allows no more. A line that asks for more rounds than that is refused.
 pub fn record_lines()
     ensures alone { (name : Text) → Means (name ∷ codes "record" ∷ []) (codes "record") (λ rows. AsksRecord rows 2 16 no_flags) [] }
     ensures judged { (name : Text) → Means (name ∷ codes "record" ∷ codes "--rounds" ∷ codes "5" ∷ codes "--judge" ∷ []) (codes "record") (λ rows. AsksRecord rows 2 5 (record no_flags { judge = true })) [] }

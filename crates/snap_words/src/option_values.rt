@@ -1,4 +1,4 @@
-//! What the options of a command say.
+//! The values of the options of a command.
 ghost use Rattle.std.specs.Prelude.{◌≡◌, ◌<◌, ◌^◌, ℕ, Bool, Some, None, false, true, codes, decimal, is_some, IfSome, IsSomeAnd};
 ghost use Rattle.clap.specs.Words.{first_of, found_of, one_of, rows_of};
 ghost use Rattle.snap_core.specs.Limits.{IsLimit};
@@ -7,7 +7,7 @@ ghost use Rattle.snap_words.specs.Jobs.{AsksLimit, SaysOr, flag_text, format_tex
 use clap::ArgMatches;
 use snap_core::Limit;
 
-/// The number that an option has.
+/// The number that an option has, or nothing if it has none.
 pub(crate) fn number_in(matches: &ArgMatches<'_>, id: &str) -> Option<u32>
     ensures given { (n : ℕ) → n < 2 ^ 32 → one_of id.now (rows_of (found_of matches.now)) ≡ Some (decimal n) → result ≡ Some n }
     ensures absent { one_of id.now (rows_of (found_of matches.now)) ≡ None → result ≡ None }
@@ -37,7 +37,7 @@ pub(crate) fn flag_in(matches: &ArgMatches<'_>, id: &str) -> bool
     matches.get_flag(id)
 }
 
-/// Whether a JSON object is asked for; none where the word is no format.
+/// Whether a JSON object is asked for, or nothing if the word is not a format.
 pub(crate) fn json_in(matches: &ArgMatches<'_>) -> Option<bool>
     ensures given { (json : Bool) → first_of (codes "format") (rows_of (found_of matches.now)) ≡ Some (format_text json) → result ≡ Some json }
 {

@@ -7,10 +7,10 @@ ghost use Rattle.snap_words.specs.Jobs.{AreViews, IsOneForm, IsWindow, usual_rou
 use crate::job::Options;
 use snap_record::WORKER_LIMIT;
 
-/// How many events a round may have: two calls of each worker.
+/// The greatest number of events of a round: two calls of each worker.
 pub(crate) const ROUND_EVENTS: u32 = 4 * WORKER_LIMIT;
 
-/// Whether a history of so many events can have so many completed views.
+/// Whether a history of `events` events can have `views` completed views.
 pub(crate) fn are_views(events: u32, views: u32) -> bool
     ensures one { result ≡ true → AreViews events views }
     ensures asked { AreViews events views → result ≡ true }
@@ -18,7 +18,7 @@ pub(crate) fn are_views(events: u32, views: u32) -> bool
     2 * u64::from(views) <= u64::from(events)
 }
 
-/// Whether a recording of so many events may have so many rounds, of two calls of each worker.
+/// Whether a recording of `events` events may have `rounds` rounds, of two calls of each worker.
 pub(crate) fn are_rounds(events: u32, rounds: u32) -> bool
     ensures one { result ≡ true → AreRoundsWithin events rounds }
     ensures asked { AreRoundsWithin events rounds → result ≡ true }
@@ -26,7 +26,7 @@ pub(crate) fn are_rounds(events: u32, rounds: u32) -> bool
     0 < rounds && u64::from(ROUND_EVENTS) * u64::from(rounds) <= u64::from(events)
 }
 
-/// How many rounds a recording has, where nothing is said of that: no more than so many events allow.
+/// The number of rounds of a recording if no option says it: at most as many as `events` events allow.
 pub(crate) fn rounds_for(events: u32) -> u32
     ensures { result ≡ usual_rounds events }
 {
@@ -45,14 +45,14 @@ pub(crate) fn is_one_form(options: Options) -> bool
     }
 }
 
-/// From how many events on windows end, where nothing is said of that: half of a history, or more, is left for them to end in.
+/// From how many events on windows end, if no option says it. Half of a history, or more, is left for them to end in.
 pub(crate) fn window_for(events: u32) -> u32
     ensures { result ≡ usual_window events }
 {
     (events - events / 2).min(1000)
 }
 
-/// Whether windows of so many events at most may end from so many on.
+/// Whether windows of at most `events` events may end from `least` events on.
 pub(crate) fn is_window(events: u32, least: u32) -> bool
     ensures one { result ≡ true → IsLimit events → IsWindow events least }
     ensures asked { IsWindow events least → result ≡ true }

@@ -110,7 +110,6 @@ const WORDS: &[Word<'static>] = &[
     },
 ];
 
-/// The command `record` with its words.
 pub(crate) fn record_command<'a>(alloc: Global) -> Result<Command<'a>, AllocError>
     ensures { IfOk result (λ command. (app_of command ≡ record_app) × ((fields_of command).has_globals ≡ false)) }
 {

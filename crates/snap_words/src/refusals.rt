@@ -1,4 +1,4 @@
-//! What is said of words that the parser takes, and that ask for no job.
+//! What is said about words that the parser takes but that ask for no job.
 ghost use Rattle.std.specs.Prelude.{◌≡◌};
 ghost use Rattle.clap.specs.Words.{found_of, rows_of};
 ghost use Rattle.snap_words.specs.Jobs.{names_unheeded, names_windows};
@@ -9,14 +9,14 @@ use crate::ranges::{ROUND_EVENTS, are_rounds, are_views};
 use clap::ArgMatches;
 use std::alloc::{AllocError, Global};
 
-/// Whether an option of windows is given.
+/// Whether an option of windows, --window or --idle, is given.
 pub(crate) fn names_windows(matches: &ArgMatches<'_>) -> bool
     ensures { result ≡ names_windows (rows_of (found_of matches.now)) }
 {
     is_given(matches, "window") || is_given(matches, "idle")
 }
 
-/// Whether an option is given that has no use where a recording is judged while it grows.
+/// Whether an option is given that has no use with --follow.
 pub(crate) fn names_unheeded(matches: &ArgMatches<'_>) -> bool
     ensures { result ≡ names_unheeded (rows_of (found_of matches.now)) }
 {
@@ -27,7 +27,7 @@ pub(crate) fn names_unheeded(matches: &ArgMatches<'_>) -> bool
         || is_given(matches, "folder")
 }
 
-// With which option a recording can't be judged while it grows.
+// The option that has no use with --follow.
 fn unheeded_refusal(matches: &ArgMatches<'_>) -> &'static str {
     if is_given(matches, "pieces") {
         "error: the argument '--follow' cannot be used with '--pieces <P>'\n"
@@ -42,7 +42,7 @@ fn unheeded_refusal(matches: &ArgMatches<'_>) -> &'static str {
     }
 }
 
-// Why a check that follows a recording asks for no job.
+// Why a check with --follow asks for no job.
 fn follow_refusal(matches: &ArgMatches<'_>, json: bool) -> &'static str {
     if flag_in(matches, "quiet") {
         "error: the argument '--follow' cannot be used with '--quiet'\n"
@@ -61,7 +61,10 @@ fn follow_refusal(matches: &ArgMatches<'_>, json: bool) -> &'static str {
 
 const NULL_ALONE: &str = "error: the argument '--null' needs '--files-from <LIST>'\n";
 
-// Why a check that follows nothing asks for no job.
+const UNKNOWN_FORMAT: &str =
+    "error: invalid value for '--format <FORMAT>'\n  [possible values: plain, json]\n\nFor more information, try '--help'.\n";
+
+// Why a check without --follow asks for no job.
 fn check_refusal(matches: &ArgMatches<'_>, json: bool) -> &'static str {
     let quiet = flag_in(matches, "quiet");
     if is_given(matches, "window") {
@@ -81,17 +84,20 @@ fn check_refusal(matches: &ArgMatches<'_>, json: bool) -> &'static str {
     }
 }
 
-// Why words that the parser takes ask for no job: it tests each number by itself, but no word of a format or of colours, and no two
-// options beside one another.
+// Why words that the parser takes ask for no job. The parser tests each number by itself. It does not test the word of a format or
+// of colours, nor whether two options go together.
 fn refusal_of(matches: &ArgMatches<'_>) -> &'static str {
     if matches.subcommand_matches("draw").is_some() {
         return "error: the argument '--svg' cannot be used with '--text'\n";
+    }
+    if matches.subcommand_matches("stats").is_some() {
+        return UNKNOWN_FORMAT;
     }
     let Some(inner) = matches.subcommand_matches("check") else {
         return "error: the argument '--judge' cannot be used with '--stamped'\n";
     };
     let Some(json) = json_in(inner) else {
-        return "error: invalid value for '--format <FORMAT>'\n  [possible values: plain, json]\n\nFor more information, try '--help'.\n";
+        return UNKNOWN_FORMAT;
     };
     if color_in(inner).is_none() {
         "error: invalid value for '--color <WHEN>'\n  [possible values: auto, always, never]\n\nFor more information, try '--help'.\n"
@@ -102,7 +108,7 @@ fn refusal_of(matches: &ArgMatches<'_>) -> &'static str {
     }
 }
 
-// That a number is not from the least to the most, as the parser says it.
+// Says that a number is not from the least to the most, as the parser says it.
 fn range_refusal(
     alloc: Global,
     option: &str,
@@ -120,7 +126,7 @@ fn number_and_events(matches: &ArgMatches<'_>, id: &str) -> Option<(u32, u32)> {
     Some((number_in(matches, id)?, number_in(matches, "events")?))
 }
 
-// That a check asks for more completed views than a history can have, or for windows that only a longer one can have.
+// Says that a check asks for more completed views than a history can have, or for windows that only a longer one can have.
 fn check_range_refusal(
     alloc: Global,
     matches: &ArgMatches<'_>,
@@ -141,7 +147,7 @@ fn check_range_refusal(
     }
 }
 
-// That a number is too great for the limit of events: the parser does not know that.
+// Says that a number is too great for the limit of events, which the parser does not know.
 fn number_refusal(alloc: Global, matches: &ArgMatches<'_>) -> Result<Option<String>, AllocError> {
     if let Some(inner) = matches.subcommand_matches("check") {
         return check_range_refusal(alloc, inner);

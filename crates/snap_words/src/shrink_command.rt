@@ -64,7 +64,6 @@ const WORDS: &[Word<'static>] = &[
     FILE,
 ];
 
-/// The command `shrink` with its words.
 pub(crate) fn shrink_command<'a>(alloc: Global) -> Result<Command<'a>, AllocError>
     ensures { IfOk result (λ command. (app_of command ≡ shrink_app) × ((fields_of command).has_globals ≡ false)) }
 {

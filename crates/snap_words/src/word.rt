@@ -8,7 +8,7 @@ use clap::{Arg, ArgAction};
 use snap_core::EVENT_CAP;
 use std::alloc::Global;
 
-/// What stands behind a word. The help has a name for it.
+/// What follows a word. The help has a name for it.
 #[derive(Clone, Copy)]
 pub(crate) enum Takes<'a> {
     /// Nothing: the word is a flag.
@@ -41,14 +41,14 @@ pub(crate) enum Takes<'a> {
     },
 }
 
-/// A word that a command takes. One that is neither long nor short is what stands behind it alone.
+/// A word that a command takes. One that is neither long nor short is only the text that follows.
 #[derive(Clone, Copy)]
 pub(crate) struct Word<'a> {
     /// The name by which a job asks for it.
     pub(crate) id: &'a str,
-    /// How it is spelled behind two hyphens.
+    /// Its spelling after two hyphens.
     pub(crate) long: Option<&'a str>,
-    /// How it is spelled behind one hyphen.
+    /// Its spelling after one hyphen.
     pub(crate) short: Option<char>,
     pub(crate) takes: Takes<'a>,
     pub(crate) help: &'a str,
@@ -71,6 +71,18 @@ pub(crate) const EVENTS: Word<'static> = Word {
     help: "How many events a history may have, from 1 to 1048576, of 1024 bytes of text each",
 };
 
+/// The format of a command that writes lines or objects.
+pub(crate) const FORMAT: Word<'static> = Word {
+    id: "format",
+    long: Some("format"),
+    short: None,
+    takes: Takes::TextOr {
+        name: "FORMAT",
+        usual: "plain",
+    },
+    help: "Write lines, or a JSON object for each history: plain or json",
+};
+
 /// The file of a command that takes one.
 pub(crate) const FILE: Word<'static> = Word {
     id: "file",
@@ -80,7 +92,7 @@ pub(crate) const FILE: Word<'static> = Word {
     help: "The history; without it, and of -, standard input is read",
 };
 
-// The argument of a word, but for what stands behind it.
+// The argument of a word, without what follows it.
 fn named_argument<'a>(alloc: Global, word: &Word<'a>) -> Arg<'a>
     ensures rule { rule_of result ≡ named_rule word.entry.now }
     ensures own { result.global ≡ false }
@@ -102,7 +114,6 @@ fn number_parser<'a>(least: i64, most: i64) -> ValueParser<'a>
     clap::value_parser!(u32).range(least..=most)
 }
 
-/// The argument of a word.
 pub(crate) fn argument_of<'a>(alloc: Global, word: &Word<'a>) -> Arg<'a>
     ensures rule { rule_of result ≡ rule_in word.entry.now }
     ensures own { result.global ≡ false }

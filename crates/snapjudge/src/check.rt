@@ -13,7 +13,6 @@ use std::fs::File;
 use std::io::Write;
 use std::thread::Threads;
 
-// The check of one text.
 fn check_text<Rt: Threads + Sync>(
     rt: &Rt,
     host: &HostRuntime,
@@ -79,7 +78,7 @@ fn answer_all<Rt: Threads + Sync, O: Opener, W: Write, E: Write>(
     }
 }
 
-// The check of some names. The line of progress is not on the terminal while an answer is written.
+// The check of some names. The line of progress is off the terminal while an answer is written.
 fn check_watched<Rt: Threads + Sync>(
     rt: &Rt,
     host: &HostRuntime,
@@ -137,20 +136,20 @@ fn check_names<Rt: Threads + Sync>(
     result
 }
 
-// Whether the answers of a check have the names of their texts: objects and sums always do, a report beside others, and one of a text
-// that a list or a folder names.
+// Whether the answers of a check have the names of their texts. Objects and sums always do. Reports do if there are several, or if
+// a list or a folder names the texts.
 fn has_names(input: &Input, asked: Options) -> bool {
     asked.json || asked.summary || input.has_sources() || input.files.len() > 1
 }
 
-// The name of standard input alone.
+// The name of standard input, alone.
 fn input_alone(alloc: Global) -> Result<Vec<Vec<u8>>, AllocError> {
     let mut names = Vec::new(alloc);
     names.push(Vec::from_slice(alloc, b"-")?)?;
     Ok(names)
 }
 
-/// The check of the texts that the words, a list and a folder name, or of standard input where there is none.
+/// The check of the texts that the words, a list and a folder name, or of standard input if there are none.
 pub(crate) fn check<Rt: Threads + Sync>(
     rt: &Rt,
     host: &HostRuntime,

@@ -2,12 +2,12 @@
 ghost use Rattle.snap_words.specs.Jobs.{IsInRange};
 
 use crate::check::check;
-use snap_commands::{Failure, draw, explain, follow, record, shrink};
+use snap_commands::{Failure, draw, explain, follow, record, shrink, stats};
 use snap_words::Job;
 use std::sync::Wait;
 use std::thread::Threads;
 
-/// Does a job, and gives its exit status. The threads are those of `rt`; all else is of the host.
+/// Does a job, and gives its exit status. The threads are those of `rt`; everything else is the host's.
 pub(crate) fn done<Rt: Threads + Wait + Sync>(
     rt: &Rt,
     host: &HostRuntime,
@@ -30,6 +30,7 @@ pub(crate) fn done<Rt: Threads + Wait + Sync>(
         Job::Shrink { drawn, limit, file } => shrink(rt, host, &file, drawn, limit),
         Job::Explain { drawn, limit, file } => explain(rt, host, &file, drawn, limit),
         Job::Draw { form, limit, file } => draw(rt, host, &file, form, limit),
+        Job::Stats { json, limit, file } => stats(rt, host, &file, json, limit),
         Job::Record {
             workers,
             rounds,

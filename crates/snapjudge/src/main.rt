@@ -20,7 +20,7 @@ use std::process::ExitCode;
 use std::sync::Wait;
 use std::thread::Threads;
 
-// The exit status where a run ended with a fault. That is said.
+// Says the fault with which a run ended, and gives its exit status.
 fn failed(rt: &HostRuntime, fault: &RunFault) -> u8
     ensures { result ≡ 4 }
 {
@@ -28,8 +28,7 @@ fn failed(rt: &HostRuntime, fault: &RunFault) -> u8
     4
 }
 
-// Does what the words of the command line ask for, and gives its exit status. The threads are those of `rt`; all else is of the
-// host.
+// Does what the words of the command line ask for, and gives the exit status. The threads are those of `rt`; everything else is the host's.
 fn run<Rt: Threads + Wait + Sync>(rt: &Rt, host: &HostRuntime) -> Result<u8, Failure> {
     let words = words_of(host, host.alloc())?;
     if asks_version(&words.texts) {
@@ -38,7 +37,7 @@ fn run<Rt: Threads + Wait + Sync>(rt: &Rt, host: &HostRuntime) -> Result<u8, Fai
     done(rt, host, wanted_by(host.alloc(), words)?)
 }
 
-// The exit status of a run. Why it has none of its own is said.
+// The exit status of a run. It says why a run has none of its own.
 fn code_of(host: &HostRuntime, ended: Result<u8, Failure>) -> u8
     ensures { MatchResult ended (λ code. result ≡ code) (λ why. result ≡ failure_code why) }
 {

@@ -1,4 +1,4 @@
-//! What the options of a check mean for each file.
+//! What the options of a check mean for each of its files.
 ghost use Rattle.std.specs.Prelude.{◌≡◌, MatchBool};
 ghost use Rattle.snap_files.specs.declared.format.Format.TheVariants.{Json, Plain};
 
@@ -6,7 +6,7 @@ use snap_core::Limit;
 use snap_files::FileOptions;
 use snap_words::Options;
 
-/// The check of each file that a check of these options asks for.
+/// The options for each file of a check with these options.
 pub(crate) fn file_options(limit: Limit, asked: Options) -> FileOptions
     ensures format { MatchBool asked.json (result.format ≡ Json) (result.format ≡ Plain) }
     ensures check { (result.check.quiet ≡ asked.quiet) × (result.check.views ≡ asked.views) × (result.check.limit ≡ limit) }

@@ -6,7 +6,7 @@ from snapjudge import STATUSES, report
 
 # How many bytes a history may have for each event that it may have.
 BYTES_AN_EVENT = 1024
-# The most events that a history may have, if not said.
+# The most events that a history may have by default.
 USUAL = 65_536
 # How many bytes are read at once.
 PIECE = 256 * 1024
@@ -45,7 +45,7 @@ def read_text(file, longest):
 
 
 def judge_text(text, limits):
-    """The answer for a text: its exit status, and why there is no verdict where the report does not say it."""
+    """The answer for a text: its exit status, and why there is no verdict if the report does not say it."""
     status, told = report(text, limits.events)
     code = STATUSES.index(status)
     if code != REFUSED and int(told.partition("\n")[0].rpartition(" ")[2]) < limits.views:

@@ -25,7 +25,7 @@ from snapjudge.bags import FAILED, UNOPENED, USUAL, Limits, judge_bag
 ESCAPES = {ord("\n"): b"\\n", ord("\r"): b"\\r", ord("\\"): b"\\\\"}
 # The lines of the sums, by the exit status.
 KINDS = ("atomic", "only-regular", "not-regular", "refused", "failed")
-# The exit status where the words of the command line are not taken, help among them.
+# The exit status if the words of the command line are not taken, help among them.
 USAGE = 5
 # The status that a shell gives to a program which an interrupt ended.
 INTERRUPTED = 128 + signal.SIGINT
@@ -44,7 +44,7 @@ PR_SET_PDEATHSIG = 1
 
 
 class Unable(Exception):
-    """There are no sums, and why."""
+    """Why there are no sums."""
 
 
 class Processes:
@@ -66,7 +66,7 @@ class Processes:
         self._idle[-1] = first
 
     def _start(self):
-        """A process of its own. It is no fork, since a library of this program may have threads."""
+        """A process of its own. It is not a fork, since a library of this program may have threads."""
         process = concurrent.futures.ProcessPoolExecutor(1, multiprocessing.get_context("spawn"), initializer=end_with_parent)
         self._started[process] = process.submit(os.getpid)
         return process
@@ -106,13 +106,13 @@ class Processes:
 
 
 def end_with_parent():
-    """Ends this process where the one that started it ends, or is interrupted."""
+    """Ends this process if the one that started it ends, or is interrupted."""
     signal.signal(signal.SIGINT, signal.SIG_DFL)
     ctypes.CDLL(None).prctl(PR_SET_PDEATHSIG, signal.SIGKILL)
 
 
 class Cluster:
-    """The workers of a Dask scheduler, which itself tries a bag again where a worker dies."""
+    """The workers of a Dask scheduler, which itself tries a bag again if a worker dies."""
 
     room = MOST_SENT
     tries = 1
@@ -139,7 +139,7 @@ class Cluster:
         return self.client.submit(judge_bag, paths, limits, pure=False)
 
     def answers(self, future):
-        """What a worker answered for a bag. Where that worker has died since, the bag is judged once more."""
+        """What a worker answered for a bag. If that worker has died since, the bag is judged once more."""
         return self.client.gather(future)
 
     def is_there(self):
@@ -155,7 +155,7 @@ def bag_size(files, workers):
 
 
 def judge_all(engine, paths, limits=Limits(), size=None, tell=lambda judged: None):
-    """The answer for each path, in their order: its exit status, and a reason or nothing. `tell` is told how many there are."""
+    """The answer for each path, in their order: its exit status, and a reason or nothing. `tell` is called with the number of answers."""
     size = size or bag_size(len(paths), engine.workers)
     answers, judged = [None] * len(paths), 0
     waiting = collections.deque((range(len(paths))[at : at + size], 0) for at in range(0, len(paths), size))
@@ -192,7 +192,7 @@ def next_of(ended, engine):
 
 
 def answers_of(future, engine, count):
-    """The answers for a bag, or none where its worker died."""
+    """The answers for a bag, or none if its worker died."""
     try:
         found = engine.answers(future)
     except engine.deaths:
@@ -207,14 +207,14 @@ def answers_of(future, engine, count):
 
 
 def again(places, deaths, tries):
-    """What is tried again of a bag whose worker died so often: the bag, then its files one by one, then nothing."""
+    """What is tried again of a bag whose worker has died this often: the bag, then its files one by one, then nothing."""
     if deaths < tries:
         return [(places, deaths)]
     return [(places[at : at + 1], 0) for at in range(len(places))] if len(places) > 1 else []
 
 
 def is_utf8(name):
-    """Whether a name is UTF-8, as the program has to have it."""
+    """Whether a name is UTF-8, as the program must have it."""
     try:
         name.decode("utf-8")
     except UnicodeDecodeError:
@@ -240,12 +240,12 @@ def sums(names, answers):
 
 
 def is_other(path):
-    """Whether a pipe, a socket or a device stands there, as no recording does."""
+    """Whether a pipe, a socket or a device is there, which no recording is."""
     return not os.path.isfile(path) and os.path.exists(path)
 
 
 def is_taken(path, is_folder):
-    """Whether an entry of a folder counts as a recording. Under a name that is not UTF-8 nothing is opened, so all that could be lost does."""
+    """Whether an entry of a folder counts as a recording. Under a name that is not UTF-8 nothing is opened: what could be lost counts."""
     is_named = path.endswith(b".csv")
     if is_utf8(path):
         return is_named and not is_folder and not is_other(path)
@@ -253,7 +253,7 @@ def is_taken(path, is_folder):
 
 
 def names_below(folder):
-    """The recordings below a folder, in the order of their names. A folder that can't be listed stands among them itself."""
+    """The recordings below a folder, in the order of their names. A folder that can't be listed is among them itself."""
     found = []
     for place, folders, files in os.walk(folder, onerror=lambda error: found.append(os.fsencode(error.filename))):
         entries = [(os.path.join(place, name), True) for name in folders] + [(os.path.join(place, name), False) for name in files]
@@ -281,14 +281,14 @@ def names_in(path, end):
 
 
 class Words(argparse.ArgumentParser):
-    """The words of the command line. No status of a verdict comes where they are not taken."""
+    """The words of the command line. No status of a verdict comes if they are not taken."""
 
     def exit(self, status=0, message=None):
         super().exit(USAGE, message)
 
 
 def whole(least, most=sys.maxsize):
-    """What reads a whole number of a range, and says the range where a word is none."""
+    """What reads a whole number of a range, and says the range if a word is none."""
 
     def read(word):
         is_number = word.isascii() and word.isdecimal() and len(word) < 20
@@ -341,7 +341,7 @@ class Progress:
 
 
 def say(text):
-    """Writes to standard error, where there is one."""
+    """Writes to standard error, if there is one."""
     data = text if isinstance(text, bytes) else os.fsencode(text)
     try:
         sys.stderr.flush()

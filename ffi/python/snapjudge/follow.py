@@ -19,7 +19,7 @@ from snapjudge.bags import BYTES_AN_EVENT, FAILED, PIECE, REFUSED, UNOPENED, USU
 from snapjudge.cluster import INTERRUPTED, KINDS, Unable, Words, is_utf8, limit, names_below, natural, positive, say, shown, write
 from snapjudge.windows import HEADER, PLAIN, RECORD, STAMPED, Cutter, Reader, Refusal, Waiting, require, window_of
 
-# Of how many events a window is at least, if not said.
+# Of how many events a window is at least by default.
 LEAST = 1000
 IRREGULAR = STATUSES.index("irregular")
 # No number of seconds on the command line is as great.
@@ -27,7 +27,7 @@ LONGEST = 1_000_000_000
 # How many of the last bytes are compared when a file has grown, to see that it is still the same.
 TAIL = 256
 
-# What a refusal means and what to do, where the word is of this module.
+# What a refusal means and what to do, if the word is of this module.
 TOO_LONG = "let the recorder work in rounds: a barrier, at which all threads wait until no call is open"
 ADVICE = {
     "toomany": f"more than {{most}} events without a moment at which no call is open; {TOO_LONG}",
@@ -38,7 +38,7 @@ ADVICE = {
 
 
 class Trouble(Exception):
-    """The recording can't be read further, and why, and of which file that is said."""
+    """Why the recording can't be read further, and the file that this concerns."""
 
     def __init__(self, reason, name):
         super().__init__(reason)
@@ -66,7 +66,7 @@ class File:
         self.has_ended, self._tail = False, b""
 
     def read(self):
-        """The next bytes, or none where there are none now. A pipe without a writer has ended."""
+        """The next bytes, or none if there are none now. A pipe without a writer has ended."""
         try:
             if self.is_plain:
                 self._expect_same()
@@ -103,7 +103,7 @@ class Files:
         self._lengths, self._next = {}, collections.deque(() if self.folder else [path])
 
     def following(self):
-        """The name of the file behind those that were read, or none as yet."""
+        """The name of the file after those that were read, or none as yet."""
         if not self._next and self.folder:
             self._list()
         return self._next[0] if self._next else None
@@ -112,7 +112,7 @@ class Files:
         shown = names_below(self.folder)
         # what comes while a folder is listed may be shown without what came before it, so the names up to the last are listed again
         names = [name for name in names_below(self.folder) if name <= shown[-1]] if shown else []
-        # a folder that can't be listed stands among the names itself
+        # a folder that can't be listed is among the names itself
         lost = [name for name in names if name == self.folder or not name.endswith(b".csv")]
         if lost:
             raise Trouble("can't be opened", lost[0])
@@ -129,7 +129,7 @@ class Files:
 
     @property
     def has_left(self):
-        """Whether a file stands before the one at hand."""
+        """Whether a file comes before the one at hand."""
         return len(self._lengths) > 1
 
     def open_next(self):
@@ -154,7 +154,7 @@ class Interrupts:
                 signal.signal(number, lambda *_: None)
 
     def wait(self, seconds, files=()):
-        """Waits so long, or until one of these files has something to read. Whether it is asked to end."""
+        """Waits this many seconds, or until one of these files has something to read. Answers whether it is asked to end."""
         return self._ear in select.select([self._ear, *files], [], [], seconds)[0]
 
 
@@ -189,7 +189,7 @@ class Follow:
         return max((code for code, count in enumerate(self._counts) if count), default=0)
 
     def take(self, seconds):
-        """Takes what is there now, for so many seconds at most. Whether there was something."""
+        """Takes what is there now, for this many seconds at most. Answers whether there was something."""
         ends, found, has_following = time.monotonic() + seconds, False, False
         while time.monotonic() < ends and not self._is_asked():
             piece = self._file.read() if self._file else b""
@@ -244,7 +244,7 @@ class Follow:
         self._cut_safe()
 
     def end(self, is_whole, is_asked):
-        """Ends the recording. A last record without an end counts where the file is whole. Where somebody asked to end, earlier
+        """Ends the recording. A last record without an end counts if the file is whole. If somebody asked to end, earlier
         stamps may still come."""
         if not self._file:
             raise Unable("there are no recordings")
@@ -306,7 +306,7 @@ class Follow:
         write(b"window %d %s\n" % (self._windows, line))
 
     def refuse(self, refusal):
-        """The rest of the recording is no window: a line names the record at fault."""
+        """The rest of the recording is not a window: a line names the record at fault."""
         self._count(REFUSED, b"refused record %s: %s" % (told_place(refusal.place), refusal.word.encode()))
         if refusal.word in ADVICE:
             call, more = refusal.call, ""
@@ -331,7 +331,7 @@ class Follow:
 
 
 def told_place(place):
-    """A record in a line: its number, and the name of its file where there are several."""
+    """A record in a line: its number, and the name of its file if there are several."""
     return b"%d" % place.record + (b"" if place.name is None else b" of " + shown(place.name))
 
 
@@ -378,7 +378,7 @@ def follow_to_the_end(follow, words, interrupts):
     """Takes what comes until the recording ends, or somebody asks to end. Answers whether somebody asked."""
     last = time.monotonic()
     while True:
-        # looked at first, so that all that it wrote is taken
+        # looked at first, so that everything that it wrote is taken
         is_gone = words.pid and not is_there(words.pid)
         found = follow.take(float("inf") if words.once else words.interval)
         is_asked, now = interrupts.wait(0), time.monotonic()
@@ -392,7 +392,7 @@ def follow_to_the_end(follow, words, interrupts):
 
 
 def is_there(process):
-    """Whether a process is there, of whomever."""
+    """Whether a process exists, whoever owns it."""
     try:
         os.kill(process, 0)
     except PermissionError:

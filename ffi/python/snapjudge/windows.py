@@ -2,7 +2,7 @@
 
 What the events before a window leave of a component is the entry of its last update. The text of a window is `renumbered` of
 crates/snap_theory/specs/Renumbered.antt, and each of its views is asked for `ShowsNoLess` of the same file. So the law of windows says
-that the recording is atomic, or regular, exactly where each window is. The law is proved. This file is not.
+that the recording is atomic, or regular, exactly if each window is. The law is proved. This file is not.
 """
 import collections
 import heapq
@@ -19,19 +19,19 @@ PROCESS, COMPONENT, GREATEST, STAMP = 2**16 - 1, 255, 2**32 - 1, 2**64 - 1
 # The most bytes of a record without its line end, which is far more than a record of a history can have.
 RECORD = 2**20
 
-# A byte order mark, which may stand at the begin of a text.
+# A byte order mark, which may begin a text.
 MARK = b"\xef\xbb\xbf"
 # A field with the byte that ends it. A quoted one is closed by a quote that no other follows.
 FIELD = re.compile(rb'(?:"([^"]*(?:""[^"]*)*)"(?!")([^,\r\n]*)|((?!")[^,\r\n]*))([,\r\n])')
 ENTRY = re.compile(rb"(0|[1-9][0-9]{0,2}):([1-9][0-9]{0,9}):(0|[1-9][0-9]{0,9})")
 
 Event = collections.namedtuple("Event", "is_begin op process data place size")
-# Records of the recording: the name of the file, or none where there is one file, and the number of the record.
+# Records of the recording: the name of the file, or none if there is one file, and the number of the record.
 Place = collections.namedtuple("Place", "name record")
 
 
 class Refusal(Exception):
-    """The recording is no history from this record on, or can't be cut there: a word says why, and which call is open."""
+    """The recording is not a history from this record on, or can't be cut there: a word says why, and which call is open."""
 
     def __init__(self, place, word, call=None):
         super().__init__(word)
@@ -106,7 +106,7 @@ def number(field, most):
 
 
 def entries_of(data):
-    """The entries that a field spells, or none where it has another form."""
+    """The entries that a field spells, or none if it has another form."""
     found, least = [], 0
     for part in data.split(b" ") if data else ():
         match = ENTRY.fullmatch(part)
@@ -149,7 +149,7 @@ class Reader:
 
     @property
     def place(self):
-        """The last record that was read, or the first where there is none."""
+        """The last record that was read, or the first if there is none."""
         return Place(self.name, max(1, self._count))
 
     def take(self, piece, is_end=False):
@@ -233,7 +233,7 @@ class Cutter:
     """Takes the events of a recording, and cuts them into windows at moments at which no call is open.
 
     A window ends at the first such moment from `least` events on. If it would have more than `most`, or more bytes than a history of
-    so many events may have, it ends at the last such moment in it. Each window goes to `emit`: its events, and what was left before
+    this many events may have, it ends at the last such moment in it. Each window goes to `emit`: its events, and what was left before
     it.
     """
 
@@ -278,7 +278,7 @@ class Cutter:
         self._cut(self._free)
 
     def _cut(self, count):
-        """Ends the window behind so many of its events."""
+        """Ends the window after this many of its events."""
         events, self._events = self._events[:count], self._events[count:]
         self._emit(events, dict(self._left))
         for event in events:
@@ -289,7 +289,7 @@ class Cutter:
         self._free = 0
 
     def end_round(self):
-        """Ends a window here, behind which numbers begin at 1 and what is not listed is what was left. No call may be open."""
+        """Ends a window here, after which numbers begin at 1 and what is not listed is what was left. No call may be open."""
         for call in self._open.values():
             raise Refusal(call.place, "open", call)
         self.end()

@@ -1,4 +1,5 @@
-/* Whether the driver leaves its caller alone: two threads run two objects at once, and the caller's alarm and its handler stay.
+/* Whether the driver leaves its caller alone: two threads run two objects at once, and the caller's alarm and its handlers stay. Meanwhile
+ * it gets SIGTERM and SIGSEGV, and its handlers are called and go on.
  *
  * SPDX-License-Identifier: 0BSD */
 #include "snapdrive.h"
@@ -8,6 +9,8 @@ static pthread_mutex_t locks[2] = {PTHREAD_MUTEX_INITIALIZER, PTHREAD_MUTEX_INIT
 static uint32_t boards[2][SNAPDRIVE_COMPONENTS], components;
 
 static void update(uint32_t board, uint32_t component, uint32_t value) {
+    static _Atomic bool is_signalled;
+    if (!atomic_exchange(&is_signalled, true)) raise(SIGTERM), raise(SIGSEGV);
     pthread_mutex_lock(&locks[board]);
     boards[board][component] = value;
     snapdrive_pause();
@@ -36,21 +39,33 @@ static void *run(void *object) {
     return is_atomic ? object : NULL;
 }
 
-static void ring(int signal) { (void)signal; }
+static const int signals[] = {SIGALRM, SIGTERM, SIGSEGV, SIGBUS, SIGFPE, SIGILL, SIGABRT};
+enum { SIGNALS = sizeof signals / sizeof *signals, HEARD = 3 };
+
+static _Atomic int heard;
+
+static void hear(int signal) { heard += signal; }
+
+/* Whether the first signals are heard by the caller, and the others by nobody. */
+static bool are_handlers_left(void) {
+    struct sigaction found;
+    for (int i = 0; i < SIGNALS; i++)
+        if (sigaction(signals[i], NULL, &found) || found.sa_handler != (i < HEARD ? hear : SIG_DFL)) return false;
+    return true;
+}
 
 int main(void) {
     static snapdrive_object one = {"one", begin_one, update_one, view_one}, other = {"other", begin_other, update_other, view_other};
-    struct sigaction mine = {.sa_handler = ring}, found;
+    struct sigaction mine = {.sa_handler = hear};
     pthread_t beside;
     void *is_other_atomic;
     components = (uint32_t)SNAPDRIVE_OPTIONS.components;
-    sigaction(SIGALRM, &mine, NULL);
+    for (int i = 0; i < HEARD; i++) sigaction(signals[i], &mine, NULL);
     alarm(100000);
     pthread_create(&beside, NULL, run, &other);
     bool is_one_atomic = run(&one);
     pthread_join(beside, &is_other_atomic);
-    sigaction(SIGALRM, NULL, &found);
-    bool is_left_alone = alarm(0) > 90000 && found.sa_handler == ring;
-    if (!is_left_alone) fprintf(stderr, "the alarm or its handler is gone\n");
+    bool is_left_alone = alarm(0) > 90000 && heard == SIGTERM + SIGSEGV && are_handlers_left();
+    if (!is_left_alone) fprintf(stderr, "the alarm or a handler is gone\n");
     return !(is_one_atomic && is_other_atomic && is_left_alone);
 }

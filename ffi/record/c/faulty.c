@@ -1,8 +1,8 @@
-/* Objects that a driver has to answer for: usage as that of own. `stale` shows nothing but the initial values, `gives-up` never has a
+/* Objects that test the answers of a driver: usage as that of own. `stale` shows nothing but the initial values, `gives-up` never has a
  * view, and a view of `hangs` does not end. `second` is stale from its second run on, and gives up before. `slow` pauses around what it
  * does, and is right with one component. `fails` is stale; of its updates the first had no effect, and of the third it is not known.
  * `retries` is slow, and right with one component: of five updates one has no effect, one is tried again, and the 13th comes late.
- * `crashes` is slow, and right with one component; its 30th update writes where there is no memory, and has its effect before. A view of
+ * `crashes` is slow, and right with one component; its 30th update writes outside of its memory, and has its effect before. A view of
  * `overflows` calls itself until the stack is full. The calls of `waits` wait for each other by a loop, and it is right. */
 #include "snapdrive.h"
 

@@ -3,7 +3,7 @@
 #include <stddef.h>
 #include <stdlib.h>
 
-/* The recorder gets so much memory, and then none; and how much of it it holds. */
+/* How many allocations the recorder gets before it gets none, and how many blocks it holds. */
 static unsigned scarce = 1000000;
 static int held;
 
@@ -79,7 +79,7 @@ static bool is_written(snaprecord *recorder, const char *name) {
     return written;
 }
 
-/* Whether so many views ended, and so many of them overlapped an update. */
+/* Whether this many views ended, and this many of them overlapped an update. */
 static bool has_views(snaprecord *recorder, uint32_t ended, uint32_t overlapping) {
     snaprecord_views views;
     return snaprecord_count_views(recorder, &views) && views.ended == ended && views.overlapping == overlapping;
@@ -178,7 +178,7 @@ static jmp_buf aborted;
 
 static void catch_abort(int signal) { longjmp(aborted, signal); }
 
-/* Whether the process would end where it asks for a log that there is not. */
+/* Whether the process would end if it asks for a log that does not exist. */
 static bool has_no_log(snaprecord *recorder, uint32_t thread) {
     signal(SIGABRT, catch_abort);
     if (setjmp(aborted)) return true;

@@ -1,18 +1,17 @@
 /* Drives a snapshot object of one's own: threads update and view it by a seeded schedule, and the judge judges each run.
- * Beside it stand snaprecord.h, snapsofar.h and snapverdict.h, gnu11 and POSIX threads: copy all four. docs/OWN-OBJECT.md of snapjudge shows
- * how.
+ * It needs snaprecord.h, snapsofar.h and snapverdict.h beside it, gnu11 and POSIX threads: copy all four. docs/OWN-OBJECT.md of
+ * snapjudge shows how.
  *
  *     static void begin(uint32_t components) { .. }                                      // a fresh object, 0 in each component
  *     static void update(uint32_t thread, uint32_t component, uint32_t value) { .. }
- *     static bool view(uint32_t thread, uint32_t *values) { .. }                         // false where it gave up
+ *     static bool view(uint32_t thread, uint32_t *values) { .. }                         // false if it gave up
  *
  *     static const snapdrive_object objects[] = {{"board", begin, update, view}, {0}};
  *     int main(int count, char **words) { return snapdrive_main(count, words, objects); }
  *
- * Where an object calls snapdrive_pause() between its steps, the other threads run in the middle of its calls. snapdrive_point() marks
- * such a place for the schedule pct alone. An update that
- * failed calls snapdrive_no_effect() or snapdrive_unknown() before it returns. In a test of one's own, snapdrive_run does the same
- * without a command line.
+ * If an object calls snapdrive_pause() between its steps, the other threads run in the middle of its calls. snapdrive_point() marks
+ * such a place for the schedule pct alone. An update that failed calls snapdrive_no_effect() or snapdrive_unknown() before it returns.
+ * In a test of one's own, snapdrive_run does the same without a command line.
  *
  * SPDX-License-Identifier: 0BSD
  * Copyright (C) 2026 by the authors of snapjudge
@@ -39,7 +38,7 @@ typedef struct {
     const char *name;
     void (*begin)(uint32_t components); /* makes a fresh object, with 0 in each component */
     void (*update)(uint32_t thread, uint32_t component, uint32_t value);
-    bool (*view)(uint32_t thread, uint32_t *values); /* one value for each component; false where it gave up */
+    bool (*view)(uint32_t thread, uint32_t *values); /* one value for each component; false if it gave up */
 } snapdrive_object;
 
 typedef struct {
@@ -72,7 +71,7 @@ typedef struct {
     "  --help           writes this"
 
 /* How many runs were atomic, only regular, or not regular; and which was the first that was not atomic, from 1, or 0. How many views
- * ended in all runs, how many of these overlapped an update, and how many runs have such a view. Where there is no verdict, `fault` is
+ * ended in all runs, how many of these overlapped an update, and how many runs have such a view. If there is no verdict, `fault` is
  * usage, limits, memory, few views, no overlap, no judge, no verdict, files, or a misuse of the recorder. A call that hangs ends the
  * process, with status 4. */
 typedef struct {
@@ -140,7 +139,7 @@ typedef struct {
     sem_t turn[SNAPDRIVE_THREADS];
 } snapdrive_turns;
 
-/* The turns of a thread, and its number; none where it runs freely. One for all files of a program. */
+/* The turns of a thread, and its number; none if it runs freely. One for all files of a program. */
 __attribute__((weak)) _Thread_local snapdrive_turns *snapdrive_turns_of_thread;
 __attribute__((weak)) _Thread_local uint32_t snapdrive_thread;
 
@@ -172,7 +171,7 @@ static inline void snapdrive_turns_pass(snapdrive_turns *turns, uint32_t from) {
 }
 
 /* A place between two steps. By the schedule pct the turn may change here; else nothing is done. A thread that comes to many points
- * without the end of a call may wait for another one, and goes behind all others. */
+ * without the end of a call may wait for another thread, and gets a priority below all others. */
 static inline void snapdrive_point(void) {
     snapdrive_turns *turns = snapdrive_turns_of_thread;
     if (!turns) return;
@@ -207,7 +206,7 @@ static inline void snapdrive_turns_leave(void) {
     snapdrive_turns_pass(turns, snapdrive_thread);
 }
 
-/* Lets the other threads run, and naps where the options ask for it. */
+/* Lets the other threads run, and naps if the options ask for it. */
 static inline void snapdrive_pause(void) {
     if (snapdrive_turns_of_thread) {
         snapdrive_point();
@@ -270,7 +269,7 @@ static inline void snapdrive_race_end(snapdrive_race *race) {
     pthread_mutex_unlock(&race->lock);
 }
 
-/* What a run that does not end made so far is written. */
+/* Writes the calls so far of a run that does not end. */
 static inline void snapdrive_race_keep(const snapdrive_race *race, const char *name) {
     int file = open(race->unfinished, O_WRONLY | O_CREAT | O_TRUNC, 0666);
     if (file >= 0 && snapsofar_write(race->recorder, file) && close(file) == 0)
@@ -298,14 +297,14 @@ typedef struct {
     const snapdrive_options *options;
     snaprecord_log *log;
     snapdrive_race *race;
-    snapdrive_turns *turns; /* NULL where threads run freely */
+    snapdrive_turns *turns; /* NULL if threads run freely */
     uint64_t seed;
 } snapdrive_worker;
 
 static inline void *snapdrive_work(void *argument) {
     snapdrive_worker worker = *(snapdrive_worker *)argument;
     uint32_t thread = worker.log->process, values[SNAPDRIVE_COMPONENTS] = {0};
-    char room[SNAPSOFAR_STACK]; /* the front of its stack, where that does not get full */
+    char room[SNAPSOFAR_STACK]; /* the front of its stack, if that does not get full */
     snapsofar_use_stack(room);
     pthread_barrier_wait(&worker.race->start);
     snapdrive_turns_enter(worker.turns, thread);
@@ -456,7 +455,7 @@ static inline bool snapdrive_has_looked(const snapdrive_options *options, snapdr
 }
 
 /* Runs fresh objects, and counts the verdicts. Of the first run that is not atomic it keeps NAME-caught.csv, the history,
- * NAME-witness.csv, the least of it that is not atomic, and NAME-explained.txt. False where there is no verdict. */
+ * NAME-witness.csv, the least of it that is not atomic, and NAME-explained.txt. False if there is no verdict. */
 static inline bool snapdrive_run(const snapdrive_object *object, const snapdrive_options *options, snapdrive_outcome *outcome) {
     snapverdict_judge judge;
     char front[PATH_MAX];
@@ -469,7 +468,8 @@ static inline bool snapdrive_run(const snapdrive_object *object, const snapdrive
         return snapdrive_failed(outcome, judge.fault, "%s", judge.message);
     if (snprintf(front, sizeof front, "%s/%s", options->out, object->name) >= PATH_MAX)
         return snapdrive_failed(outcome, "files", "the name of the folder is too long");
-    if (!snapverdict_can_keep(&judge, options->out)) return snapdrive_failed(outcome, judge.fault, "%s", judge.message);
+    if (!snapverdict_can_keep(&judge, options->out) || !snapverdict_tells(&judge, options->out))
+        return snapdrive_failed(outcome, judge.fault, "%s", judge.message);
     snapdrive_longest_nap = options->nap;
     atomic_store(&snapdrive_naps, options->seed);
     clock_gettime(CLOCK_MONOTONIC, &told);
@@ -568,15 +568,15 @@ static inline bool snapdrive_show_choices(const snapdrive_options *options, snap
     return true;
 }
 
-/* Whether all that was printed is written. */
+/* Whether everything that was printed is written. */
 static inline bool snapdrive_flush(snapdrive_outcome *outcome) {
     if (!fflush(stdout) && !ferror(stdout)) return true;
     return snapdrive_failed(outcome, "files", "standard output can't be written: %s", strerror(errno));
 }
 
-/* Runs the object that the command line names, or the first one; the last of the objects is {0}. The status is 0 where each run was
- * atomic, 1 where some were only regular, 2 where some were not regular, 3 where too little was seen for a verdict, and 4 where there
- * is none for another reason. */
+/* Runs the object that the command line names, or the first one; the last of the objects is {0}. The status is 0 if each run was
+ * atomic, 1 if some were only regular, and 2 if some were not regular. It is 3 if too little was seen for a verdict, and 4 if
+ * there is none for another reason. */
 static inline int snapdrive_main(int count, char **words, const snapdrive_object *objects) {
     const snapdrive_object *object = objects;
     snapdrive_options options = SNAPDRIVE_OPTIONS;

@@ -17,8 +17,8 @@
  *     if (!text) die(recorder.message);
  *     snaprecord_close(&recorder);
  *
- * What the record says: where call A ended before call B began, A happened before B in the sense of C11. Each stamp is a
- * fetch_add of one clock with acquire and release; that of a begin is taken last in begin_.., that of an end first in
+ * What the record says: if call A ended before call B began, A happened before B in the sense of C11. Each stamp is a
+ * fetch_add of one clock with acquire and release. A begin takes it last in begin_.., and an end takes it first in
  * end_... A thread writes to its own log alone. Nothing is locked or allocated while threads run.
  * What it cannot say: the clock orders more calls than the object may, so a fault that needs two calls without such an
  * order can hide.
@@ -55,7 +55,7 @@ typedef enum {
     SNAPRECORD_AFTER_FULL,  /* a call was made although its begin was refused */
     SNAPRECORD_COMPONENT,   /* a component is too high, or the entries of a view do not rise */
     SNAPRECORD_TWO_WRITERS, /* two threads updated one component */
-    SNAPRECORD_SAME_VALUE,  /* views tell values, and a component got one value twice, or its initial one */
+    SNAPRECORD_SAME_VALUE,  /* views have values alone, and a component got one value twice, or its initial one */
     SNAPRECORD_COPIED       /* a call was made of a copy of a log, or of the recorder: keep a pointer */
 } snaprecord_fault;
 
@@ -80,7 +80,7 @@ typedef struct {
 
 typedef enum { SNAPRECORD_IDLE, SNAPRECORD_REFUSED, SNAPRECORD_UPDATING, SNAPRECORD_VIEWING } snaprecord_state;
 
-/* What one thread recorded. A log stands alone in its lines of the cache. */
+/* What one thread recorded. A log shares no line of the cache with another one. */
 typedef struct {
     alignas(128) struct snaprecord *recorder;
     snaprecord_state state;
@@ -98,7 +98,7 @@ typedef struct snaprecord {
     alignas(128) uint32_t threads;
     uint32_t components, calls;
     uint32_t initial;         /* the value that each component has at first, 0 unless you set it before the threads start */
-    const uint32_t *initials; /* or the first value of each component, where you set it: yours until snaprecord_text is done */
+    const uint32_t *initials; /* or the first value of each component, if you set it: yours until snaprecord_text is done */
     snaprecord_log *logs;
     snaprecord_fault fault; /* why snaprecord_open or snaprecord_text failed, in a word and in a sentence */
     char message[200];
@@ -120,8 +120,8 @@ static inline void snaprecord_close(snaprecord *recorder) {
     recorder->logs = NULL;
 }
 
-/* A recorder for so many threads, components, and calls of each thread, at most SNAPRECORD_EVENTS / 2 calls in all.
- * False, with `fault` LIMITS or MEMORY, where there is none; then nothing is held. */
+/* Opens a recorder for this many threads, components, and calls of each thread, at most SNAPRECORD_EVENTS / 2 calls in all.
+ * False, with `fault` LIMITS or MEMORY, if there is none; then nothing is held. */
 static inline bool snaprecord_open(snaprecord *recorder, uint32_t threads, uint32_t components, uint32_t calls) {
     atomic_init(&recorder->clock, 0);
     atomic_init(&recorder->stopped, false);
@@ -166,7 +166,7 @@ static inline bool snaprecord_open(snaprecord *recorder, uint32_t threads, uint3
 /* Whether the recorder is a copy of the one that was opened. Its logs then belong to that one. */
 static inline bool snaprecord_is_copied(const snaprecord *recorder) { return recorder->logs && recorder->logs->recorder != recorder; }
 
-/* The log of a thread, which is the process of that number. Where there is none, or the recorder was copied since it was opened, the
+/* The log of a thread, which is the process of that number. If there is none, or the recorder was copied since it was opened, the
  * process ends and says so. */
 static inline snaprecord_log *snaprecord_log_of(snaprecord *recorder, uint32_t thread) {
     bool is_copied = snaprecord_is_copied(recorder);
@@ -267,8 +267,8 @@ static inline void snaprecord_end_view(snaprecord_log *log, const snaprecord_ent
     snaprecord_end(log, stamp, SNAPRECORD_END_VIEW, count);
 }
 
-/* The end of a view that shows these values, one for each component. snaprecord_text finds the number of each by its value,
- * so the updates of a component have to write values that differ from each other and from the one that it has at first. */
+/* The end of a view that shows these values, one for each component. snaprecord_text finds the number of each by its value.
+ * So the updates of a component must write values that differ from each other and from the one that it has at first. */
 static inline void snaprecord_end_view_values(snaprecord_log *log, const uint32_t *values) {
     uint64_t stamp = snaprecord_tick(log);
     if (!snaprecord_may_end(log, SNAPRECORD_VIEWING)) return;
@@ -286,11 +286,11 @@ static inline bool snaprecord_dropped(snaprecord_log *log, snaprecord_state stat
     return true;
 }
 
-/* In place of the end of a view that gave no answer, because it gave up: it is left out of the history. */
+/* Call this in place of the end of a view that gave no answer, because it gave up: the view is left out of the history. */
 static inline void snaprecord_drop_view(snaprecord_log *log) { snaprecord_dropped(log, SNAPRECORD_VIEWING); }
 
 /* In place of the end of an update that had no effect, and can have none any more: it is left out of the history, and the next
- * update of its component gets its number. Where that is not known, end nothing, and use this log no more. */
+ * update of its component gets its number. If that is not known, end nothing, and use this log no more. */
 static inline void snaprecord_drop_update(snaprecord_log *log) {
     if (snaprecord_dropped(log, SNAPRECORD_UPDATING)) log->begun[log->entries[--log->entry_count].component]--;
 }
@@ -308,12 +308,12 @@ static inline int snaprecord_compare(const void *left, const void *right) {
     return a->number < b->number ? -1 : a->number > b->number;
 }
 
-/* All updates, to look numbers up. Those of component k stand from first[k] on. */
+/* All updates, to look numbers up. Those of component k begin at first[k]. */
 typedef struct {
     uint32_t first[SNAPRECORD_COMPONENTS + 1];
     uint64_t *begun;             /* by component and number: the stamp of the begin */
     snaprecord_written *written; /* by component and value */
-    bool by_values;              /* some view tells values */
+    bool by_values;              /* some view has values alone */
     const snaprecord *recorder;
     size_t room;                 /* how long the text is at most */
 } snaprecord_table;
@@ -420,8 +420,8 @@ static inline char *snaprecord_write(const snaprecord_table *table, const snapre
     return to;
 }
 
-/* The history that all logs hold, a text of `*length` bytes with a zero behind it, to be given to free(); or NULL, and `fault`
- * and `message` say why. The logs stand one after the other: the judge puts the events in the order of their stamps. */
+/* The history that all logs hold, a text of `*length` bytes with a zero after it, to be given to free(). Or NULL: `fault` and
+ * `message` then say why. The logs follow one another: the judge puts the events in the order of their stamps. */
 static inline char *snaprecord_text(snaprecord *recorder, size_t *length) {
     static const char *const misuses[] = {
         [SNAPRECORD_NESTED] = "began a call before its last one had ended",
@@ -472,11 +472,11 @@ typedef struct {
     uint32_t ended, overlapping;
 } snaprecord_views;
 
-/* Counts the views, after the threads were joined. False, with `fault` MEMORY, where there is no memory. */
+/* Counts the views, after the threads were joined. False, with `fault` MEMORY, if there is no memory. */
 static inline bool snaprecord_count_views(snaprecord *recorder, snaprecord_views *views) {
     uint32_t total = 0, begins = 0, ends = 0;
     for (uint32_t t = 0; t < recorder->threads; t++) total += recorder->logs[t].length;
-    /* the begins of updates from the front on, and their ends behind them */
+    /* the begins of updates from the front on, and their ends after them */
     uint64_t *begun = malloc((2 * (size_t)total + 1) * sizeof *begun), *ended = begun + total;
     if (!begun) return snaprecord_failed(recorder, SNAPRECORD_MEMORY, "out of memory");
     for (uint32_t t = 0; t < recorder->threads; t++)

@@ -4,14 +4,15 @@
  *     snapsofar_write(&recorder, file);                     // at any time, from any thread, to an open file
  *
  *     snapsofar_keep(&recorder, "unfinished.csv");          // from now on, if the process dies by a signal
- *     snapsofar_use_stack(room);                            // in each thread: lets it write where its own stack is full
+ *     snapsofar_use_stack(room);                            // in each thread: lets it write if its own stack is full
  *     snapsofar_leave(&recorder);                           // no more
  *
  * What is written is a history. A call that is open, or ends meanwhile, has no end in it. An update whose begin is left out had not begun
- * before each view that is in it had ended. So a right run is never called wrong. All is written by write() alone, from what stands in
+ * before each view that is in it had ended. So a right run is never called wrong. All is written by write() alone, from what is in
  * memory, so a handler of signals may do it. Values that are written twice, and a component with two writers, are not looked for.
  *
- * The signals are SIGSEGV, SIGBUS, SIGFPE, SIGILL, SIGABRT and SIGTERM. What was to be done on them is done afterwards.
+ * The signals are SIGSEGV, SIGBUS, SIGFPE, SIGILL, SIGABRT and SIGTERM. After the write a signal does what it did before. A program that
+ * hears SIGTERM itself need not die of it, so there that signal is left alone.
  *
  * SPDX-License-Identifier: 0BSD; the terms are those of snaprecord.h. */
 #ifndef SNAPSOFAR_H
@@ -142,7 +143,7 @@ static inline void snapsofar_put_log(snapsofar_out *out, snapsofar_reader *reade
     }
 }
 
-/* Writes the history so far to an open file. False where it can't be written, or a call was misused; snaprecord_text tells of that. */
+/* Writes the history so far to an open file. False if it can't be written, or a call was misused; snaprecord_text tells of that. */
 static inline bool snapsofar_write(snaprecord *recorder, int file) {
     snapsofar_out out = {.file = file};
     snapsofar_reader reader = {.recorder = recorder, .now = atomic_load(&recorder->clock)};
@@ -164,8 +165,9 @@ enum { SNAPSOFAR_SIGNALS = sizeof snapsofar_signals / sizeof *snapsofar_signals,
 /* What is kept; one for all files of a program. */
 typedef struct {
     _Atomic bool is_taken, is_dying;
-    _Atomic(snaprecord *) recorder;
+    _Atomic(snaprecord *) owner, recorder; /* who keeps, and whose file is not yet written */
     char path[PATH_MAX];
+    void (*die)(int);
     struct sigaction before[SNAPSOFAR_SIGNALS];
 } snapsofar_kept;
 __attribute__((weak)) snapsofar_kept snapsofar_of_process;
@@ -193,7 +195,7 @@ static inline void snapsofar_die(int signal) {
     errno = error;
 }
 
-/* If the process dies by a signal from now on, the history so far is written into this file. One recorder at a time: false where
+/* If the process dies by a signal from now on, the history so far is written into this file. One recorder at a time: false if
  * another one is kept, or the path is too long. */
 static inline bool snapsofar_keep(snaprecord *recorder, const char *path) {
     snapsofar_kept *kept = &snapsofar_of_process;
@@ -202,16 +204,28 @@ static inline bool snapsofar_keep(snaprecord *recorder, const char *path) {
     strcpy(kept->path, path);
     sigemptyset(&action.sa_mask);
     for (int i = 0; i < SNAPSOFAR_SIGNALS; i++) sigaddset(&action.sa_mask, snapsofar_signals[i]);
-    for (int i = 0; i < SNAPSOFAR_SIGNALS; i++) sigaction(snapsofar_signals[i], &action, &kept->before[i]);
+    kept->die = snapsofar_die;
+    for (int i = 0; i < SNAPSOFAR_SIGNALS; i++) {
+        sigaction(snapsofar_signals[i], NULL, &kept->before[i]);
+        bool is_heard = snapsofar_signals[i] == SIGTERM && kept->before[i].sa_handler != SIG_DFL;
+        if (!is_heard) sigaction(snapsofar_signals[i], &action, NULL);
+    }
+    atomic_store(&kept->owner, recorder);
     atomic_store(&kept->recorder, recorder);
     return true;
 }
 
-/* Ends that for this recorder, if it is kept. */
+/* Ends that for this recorder, if it is kept. The signals then do what they did before. A handler that the program set meanwhile
+ * stays. */
 static inline void snapsofar_leave(snaprecord *recorder) {
     snapsofar_kept *kept = &snapsofar_of_process;
-    if (!atomic_compare_exchange_strong(&kept->recorder, &recorder, NULL)) return;
-    for (int i = 0; i < SNAPSOFAR_SIGNALS; i++) sigaction(snapsofar_signals[i], &kept->before[i], NULL);
+    struct sigaction now;
+    if (!atomic_compare_exchange_strong(&kept->owner, &recorder, NULL)) return;
+    atomic_store(&kept->recorder, NULL);
+    for (int i = 0; i < SNAPSOFAR_SIGNALS; i++) {
+        sigaction(snapsofar_signals[i], NULL, &now);
+        if (now.sa_handler == kept->die) sigaction(snapsofar_signals[i], &kept->before[i], NULL);
+    }
     atomic_store(&kept->is_taken, false);
 }
 

@@ -1,8 +1,8 @@
-/* Judges a recorded history: by the library of snapjudge where it is there, and else by the program.
+/* Judges a recorded history: by the library of snapjudge if it is there, and else by the program.
  * One file, gnu11 and POSIX, no dependencies; snapdrive.h uses it. Nothing is linked: the library is opened while the program runs.
  *
  *     snapverdict_judge judge;
- *     if (!snapverdict_open(&judge, NULL, 65536)) die(judge.message);  // so many events may a history have
+ *     if (!snapverdict_open(&judge, NULL, 65536)) die(judge.message);  // a history may have this many events
  *     int status = snapverdict_of(&judge, text, length, ".");      // 0 atomic, 1 only regular, 2 not regular, -1 no verdict
  *
  * SPDX-License-Identifier: 0BSD
@@ -30,9 +30,9 @@
 #include <unistd.h>
 
 typedef struct {
-    char program[PATH_MAX]; /* empty where there is none */
+    char program[PATH_MAX]; /* empty if there is none */
     uint32_t (*check)(const uint8_t *, size_t, uint32_t, uint8_t *, size_t, size_t *); /* of the library, or NULL */
-    uint32_t events; /* so many may a history have */
+    uint32_t events; /* how many a history may have */
     const char *fault; /* why there is no judge or no verdict: no judge, no verdict or files; and a sentence */
     char message[600];
 } snapverdict_judge;
@@ -61,7 +61,7 @@ static inline void snapverdict_find(const char *named, char *place) {
     }
 }
 
-/* Whether the program says its version. A program of another kind may end with 0 whatever it is given, which no verdict is. */
+/* Whether the program says its version. A program of another kind may end with 0 whatever it is given, and that is not a verdict. */
 static inline bool snapverdict_is_judge(const snapverdict_judge *judge) {
     extern char **environ;
     char *const words[] = {"snapjudge", "--version", NULL};
@@ -72,7 +72,7 @@ static inline bool snapverdict_is_judge(const snapverdict_judge *judge) {
     ssize_t taken = 0;
     if (pipe(ends)) return false;
     posix_spawn_file_actions_init(&files);
-    posix_spawn_file_actions_addclose(&files, ends[0]); /* first: where an input or output is closed, it has that number */
+    posix_spawn_file_actions_addclose(&files, ends[0]); /* first: if an input or output is closed, it has that number */
     posix_spawn_file_actions_addopen(&files, STDIN_FILENO, "/dev/null", O_RDONLY, 0);
     posix_spawn_file_actions_adddup2(&files, ends[1], STDOUT_FILENO);
     bool is_started = !posix_spawn(&process, judge->program, &files, NULL, words, environ);
@@ -175,6 +175,15 @@ static inline int snapverdict_of(snapverdict_judge *judge, const char *text, siz
     if (status < 3) return (int)status;
     snapverdict_failed(judge, "no verdict", "the judge ends with status %" PRIu32, status);
     return -1;
+}
+
+/* Whether the judge recognizes a history that is not regular: its view misses an update. A judge whose status is lost, as by a
+ * script with a pipe, would call every run atomic. It is asked before the first run. */
+static inline bool snapverdict_tells(snapverdict_judge *judge, const char *out) {
+    static const char stale[] = "event,process,op,data\nbegin,0,update,0:1:7\nend,0,update,\nbegin,1,view,\nend,1,view,\n";
+    int status = snapverdict_of(judge, stale, sizeof stale - 1, out);
+    if (status == 2 || status == -1) return status == 2;
+    return snapverdict_failed(judge, "no judge", "of a history that is not regular the judge tells status %d, and not 2", status);
 }
 
 /* Writes a history, its witness and its explanation. */

@@ -1,10 +1,10 @@
-// Objects that a driver has to answer for: usage as that of own. `stale` shows nothing but the initial values, `gives-up` never has a
-// view, a view of `hangs` does not end, one of `short` lacks a component, an update of `dies` throws, and
-// one of `odd` throws a number. `unmade` can't be made. `second` is stale from its
-// second run on, and gives up before. `slow` pauses around what it does, and is right with one component. `fails` is stale; of its
-// updates the first had no effect, and of the third it is not known. `retries` is slow, and right with one component: of five updates
-// one has no effect, one is tried again, and the 13th comes late. `crashes` is slow, and right with one component; its 30th update
-// writes where there is no memory, and has its effect before. A view of `overflows` calls itself until the stack is full.
+// Objects that test the answers of a driver: usage as that of own. `stale` shows nothing but the initial values, `gives-up` never has a
+// view, and a view of `hangs` does not end. A view of `short` lacks a component, an update of `dies` throws, and one of `odd` throws a
+// number. `unmade` can't be made. `second` is stale from its second run on, and gives up before. `slow` pauses around what it does, and
+// is right with one component. `fails` is stale; of its updates the first had no effect, and of the third it is not known. `retries` is
+// slow, and right with one component: of five updates one has no effect, one is tried again, and the 13th comes late. `crashes` is
+// slow, and right with one component; its 30th update writes outside of its memory, and has its effect before. A view of `overflows`
+// calls itself until the stack is full.
 #include "snapdrive.hpp"
 
 struct Stale {

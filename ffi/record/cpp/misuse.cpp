@@ -44,7 +44,7 @@ static void view(Log &log, const std::vector<std::uint32_t> &values) {
     if (log.begin_view()) log.end_view_values(values);
 }
 
-// Whether so many views ended, and so many of them overlapped an update.
+// Whether this many views ended, and this many of them overlapped an update.
 static bool has_views(const Recorder &recorder, std::size_t ended, std::size_t overlapping) {
     return recorder.views().ended == ended && recorder.views().overlapping == overlapping;
 }

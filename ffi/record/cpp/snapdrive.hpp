@@ -1,19 +1,18 @@
 // Drives a snapshot object of one's own: threads update and view it by a seeded schedule, and the judge judges each run.
-// Beside it stand snaprecord.hpp, snapsofar.hpp and snapverdict.hpp, C++17 and POSIX: copy all four. docs/OWN-OBJECT.md of snapjudge
+// It needs snaprecord.hpp, snapsofar.hpp and snapverdict.hpp beside it, C++17 and POSIX: copy all four. docs/OWN-OBJECT.md of snapjudge
 // shows how.
 //
 //     struct Board {                                            // a fresh one for each run, with 0 in each component
 //         explicit Board(std::uint32_t components);
 //         void update(std::uint32_t thread, std::uint32_t component, std::uint32_t value);
-//         std::vector<std::uint32_t> view(std::uint32_t thread);     // or an optional one, which is empty where it gave up
+//         std::vector<std::uint32_t> view(std::uint32_t thread);     // or an optional one, which is empty if it gave up
 //     };
 //
 //     int main(int count, char **words) { return snapdrive::main(count, words, {snapdrive::object<Board>("board")}); }
 //
-// Where an object calls snapdrive::pause() between its steps, the other threads run in the middle of its calls. snapdrive::point()
-// marks such a place for the schedule pct alone. An update that
-// failed throws snapdrive::NoEffect or snapdrive::Unknown. In a test of one's own, snapdrive::run<Board> does the same without a
-// command line; it throws snapdrive::Error and snaprecord::Error.
+// If an object calls snapdrive::pause() between its steps, the other threads run in the middle of its calls. snapdrive::point()
+// marks such a place for the schedule pct alone. An update that failed throws snapdrive::NoEffect or snapdrive::Unknown.
+// In a test of one's own, snapdrive::run<Board> does the same without a command line; it throws snapdrive::Error and snaprecord::Error.
 //
 // SPDX-License-Identifier: 0BSD
 // Copyright (C) 2026 by the authors of snapjudge
@@ -60,8 +59,8 @@ constexpr const char *usage =
     "  --choices        writes the calls that the seed chooses, and runs nothing\n"
     "  --help           writes this";
 
-// Why runs have no verdict; the name is usage, limits, view, died, few views or no overlap, or as of a judge no judge, no verdict or
-// files.
+// Why runs have no verdict. The name is usage, limits, view, died, few views or no overlap; or one of a judge: no judge, no verdict
+// or files.
 using snapverdict::Error;
 
 struct Options {
@@ -169,7 +168,7 @@ class Turns {
         pass();
     }
 
-    // The turns of this thread; none where it runs freely.
+    // The turns of this thread; none if it runs freely.
     static inline thread_local Turns *of_thread = nullptr;
     std::uint64_t points = 0;
     std::uint64_t spins = 0; // points since the last end of a call
@@ -181,7 +180,7 @@ class Turns {
         sem_t turn;
     };
 
-    // The thread that has the turn; or the number of threads, where all have ended.
+    // The thread that has the turn; or the number of threads, if all have ended.
     std::size_t first() const {
         std::size_t first = states.size();
         for (std::size_t t = 0; t < states.size(); t++)
@@ -201,7 +200,7 @@ class Turns {
         while (sem_wait(&states[thread].turn) != 0) {}
     }
 
-    // A thread that comes to so many points without the end of a call may wait for another one, and goes behind all others.
+    // A thread that comes to this many points within one call may wait for another one, and gets a priority below all others.
     static constexpr std::uint64_t most_spins = 10000;
     static inline thread_local std::size_t number = 0;
     std::vector<State> states;
@@ -217,7 +216,7 @@ inline void point() {
 inline std::atomic<std::uint64_t> naps{0};
 inline std::uint64_t longest_nap = 0;
 
-// Lets the other threads run, and naps where the options ask for it.
+// Lets the other threads run, and naps if the options ask for it.
 inline void pause() {
     if (Turns::of_thread) return point();
     if (longest_nap == 0) return std::this_thread::yield();
@@ -237,7 +236,7 @@ struct Unknown : std::runtime_error {
     Unknown() : std::runtime_error("an update of unknown fate") {}
 };
 
-// Makes an update that has begun; false where its fate is not known.
+// Makes an update that has begun; false if its fate is not known.
 template <class Board>
 bool update(Board &board, snaprecord::Log &log, std::uint32_t thread, std::uint32_t component, std::uint32_t value) {
     try {
@@ -412,7 +411,7 @@ inline void test(const Options &options) {
     if (options.schedule != "free" && options.schedule != "pct") throw Error("usage", "schedule is free or pct");
 }
 
-// Throws where the runs say nothing of the object: all were atomic, and too few views ended, or none of them overlapped an update.
+// Throws if the runs say nothing of the object: all were atomic, and too few views ended, or none of them overlapped an update.
 inline void test_looked(const Options &options, const Outcome &outcome) {
     const std::string runs = std::to_string(outcome.runs()) + " runs", views = std::to_string(outcome.views) + " views";
     if (outcome.first != 0 || options.views == 0) return;
@@ -429,6 +428,7 @@ template <class Board> Outcome run(const std::string &name, const Options &optio
     test(options);
     const snapverdict::Judge judge(options.program, static_cast<std::uint32_t>(options.events));
     judge.test_folder(options.out);
+    judge.test_verdict(options.out);
     const std::string front = options.out + "/" + name;
     Random seeds(options.seed);
     Pace pace(options);
@@ -477,7 +477,7 @@ inline void read_number(Options &options, const Range &range, const std::string 
     if (errno != 0) throw beyond(range);
 }
 
-// An option, and its value where there is one.
+// An option, and its value if there is one.
 inline void read_option(Options &options, const std::string &word, const std::string *value) {
     const auto has_name = [&word](const Range &it) { return "--" + std::string(it.name) == word; };
     const auto range = std::find_if(std::begin(ranges), std::end(ranges), has_name);
@@ -518,8 +518,9 @@ inline void show_usage(const std::vector<Object> &objects, std::ostream &to) {
     to << std::endl;
 }
 
-// Runs the object that the command line names, or the first one. The status is 0 where each run was atomic, 1 where some were only
-// regular, 2 where some were not regular, 3 where too little was seen for a verdict, and 4 where there is none for another reason.
+// Runs the object that the command line names, or the first one. The status is 0 if each run was atomic, 1 if some were only
+// regular, and 2 if some were not regular. It is 3 if too little was seen for a verdict, and 4 if there is none for another
+// reason.
 inline int main(int count, char **words, const std::vector<Object> &objects) {
     std::vector<std::string> rest(words + 1, words + count);
     std::string name = objects.front().name;

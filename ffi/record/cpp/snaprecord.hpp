@@ -14,8 +14,8 @@
 //     std::string text = recorder.text();                      // after the threads were joined; throws snaprecord::Error
 //                                                              // snapsofar.hpp writes one before
 //
-// What the record says: where call A ended before call B began, A happened before B in the sense of C++. Each stamp is a
-// fetch_add of one clock with acquire and release; that of a begin is taken last in begin_.., that of an end first in
+// What the record says: if call A ended before call B began, A happened before B in the sense of C++. Each stamp is a
+// fetch_add of one clock with acquire and release. A begin takes it last in begin_.., and an end takes it first in
 // end_... A thread writes to its own log alone. Nothing is locked or allocated, and nothing throws, while threads run.
 // What it cannot say: the clock orders more calls than the object may, so a fault that needs two calls without such an
 // order can hide.
@@ -56,8 +56,8 @@ enum class Fault : std::uint32_t {
     after_full,  // a call was made although its begin was refused
     component,   // a component is too high, or the entries of a view do not rise
     two_writers, // two threads updated one component
-    same_value,  // views tell values, and a component got one value twice, or its initial one
-    part,        // a view tells the values of fewer components than there are
+    same_value,  // views have values alone, and a component got one value twice, or its initial one
+    part,        // a view has values of fewer components than there are
     initials     // there are initial values, and not as many as components
 };
 
@@ -80,8 +80,8 @@ struct Views {
 
 class Recorder;
 
-// What one thread recorded. A log stands alone in its lines of the cache. It is neither copied nor moved: what a copy records would be
-// in no text.
+// What one thread recorded. A log shares no line of the cache with another one. It is neither copied nor moved: what a copy
+// records would be in no text.
 class alignas(128) Log {
   public:
     Log() = default;
@@ -100,15 +100,15 @@ class alignas(128) Log {
     void end_view(const std::vector<Entry> &shown) { end_view(shown.data(), shown.size()); }
 
     // The end of a view that shows these values, of component 0 and so on. Recorder::text finds the number of each by its
-    // value, so the updates of a component have to write values that differ from each other and from the one that it has at first.
+    // value. So the updates of a component must write values that differ from each other and from the one that it has at first.
     void end_view_values(const std::uint32_t *values, std::size_t count);
     void end_view_values(const std::vector<std::uint32_t> &values) { end_view_values(values.data(), values.size()); }
 
-    // In place of the end of a view that gave no answer, because it gave up: it is left out of the history.
+    // Call this in place of the end of a view that gave no answer, because it gave up: the view is left out of the history.
     void drop_view();
 
     // In place of the end of an update that had no effect, and can have none any more: it is left out of the history, and the
-    // next update of its component gets its number. Where that is not known, end nothing, and use this log no more.
+    // next update of its component gets its number. If that is not known, end nothing, and use this log no more.
     void drop_update();
 
   private:
@@ -142,7 +142,7 @@ class alignas(128) Log {
 
 class Recorder {
   public:
-    // For so many threads, components, and calls of each thread, at most event_limit / 2 calls in all. Throws Error of limits.
+    // A recorder for this many threads, components, and calls of each thread, at most event_limit / 2 calls in all. Throws Error of limits.
     Recorder(std::uint32_t threads, std::uint32_t components, std::uint32_t calls) : component_count(components) {
         const bool fits = threads >= 1 && threads <= process_limit && components <= component_limit;
         if (!fits || calls < 1 || calls > event_limit / 2 / threads)
@@ -168,7 +168,7 @@ class Recorder {
     // Or the first value of each component.
     std::vector<std::uint32_t> initials;
 
-    // The history that all logs hold, after the threads were joined. The logs stand one after the other: the judge puts the
+    // The history that all logs hold, after the threads were joined. The logs follow one another: the judge puts the
     // events in the order of their stamps. Throws Error of the first misuse, of initials, two_writers or same_value.
     std::string text() const {
         const std::uint32_t first = misuse.load();

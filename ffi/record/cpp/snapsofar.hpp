@@ -4,14 +4,14 @@
 //     snaprecord::write_so_far(recorder, file);                   // at any time, from any thread, to an open file
 //
 //     snaprecord::Kept kept(recorder, "unfinished.csv");          // as long as it lives, if the process dies by a signal
-//     snaprecord::Stack stack;                                    // in each thread: lets it write where its own stack is full
+//     snaprecord::Stack stack;                                    // in each thread: lets it write if its own stack is full
 //
 // What is written is a history. A call that is open, or ends meanwhile, has no end in it. An update whose begin is left out had not begun
-// before each view that is in it had ended. So a right run is never called wrong. All is written by write() alone, from what stands in
+// before each view that is in it had ended. So a right run is never called wrong. All is written by write() alone, from what is in
 // memory, so a handler of signals may do it. Values that are written twice, and a component with two writers, are not looked for.
 //
-// The signals are SIGSEGV, SIGBUS, SIGFPE, SIGILL, SIGABRT and SIGTERM. What was to be done on them is done afterwards. An exception that
-// nobody catches ends by SIGABRT.
+// The signals are SIGSEGV, SIGBUS, SIGFPE, SIGILL, SIGABRT and SIGTERM. After the write a signal does what it did before. A program that
+// hears SIGTERM itself need not die of it, so there that signal is left alone. An exception that nobody catches ends by SIGABRT.
 //
 // SPDX-License-Identifier: 0BSD; the terms are those of snaprecord.hpp.
 #ifndef SNAPSOFAR_HPP
@@ -160,7 +160,7 @@ class SoFar {
     std::array<std::uint32_t, component_limit> places{};
 };
 
-// Writes the history so far to an open file. False where it can't be written, or a call was misused; Recorder::text tells of that.
+// Writes the history so far to an open file. False if it can't be written, or a call was misused; Recorder::text tells of that.
 inline bool write_so_far(const Recorder &recorder, int file) { return SoFar(recorder).write(file); }
 
 // Writes it into a file of this path.
@@ -182,16 +182,27 @@ class Kept {
         action.sa_handler = die;
         action.sa_flags = SA_ONSTACK;
         for (int other : signals) ::sigaddset(&action.sa_mask, other);
-        for (std::size_t i = 0; i < signals.size(); i++) ::sigaction(signals[i], &action, &before[i]);
+        for (std::size_t i = 0; i < signals.size(); i++) {
+            ::sigaction(signals[i], nullptr, &before[i]);
+            // a program that hears SIGTERM itself need not die of it
+            if (signals[i] != SIGTERM || before[i].sa_handler == SIG_DFL) ::sigaction(signals[i], &action, nullptr);
+        }
+        owner = this;
         kept = recorder;
     }
     Kept(const Kept &) = delete;
     Kept &operator=(const Kept &) = delete;
 
     ~Kept() {
-        const Recorder *own = recorder;
-        if (!kept.compare_exchange_strong(own, nullptr)) return;
-        for (std::size_t i = 0; i < signals.size(); i++) ::sigaction(signals[i], &before[i], nullptr);
+        const Kept *own = this;
+        if (!owner.compare_exchange_strong(own, nullptr)) return;
+        kept = nullptr;
+        for (std::size_t i = 0; i < signals.size(); i++) {
+            struct sigaction now;
+            ::sigaction(signals[i], nullptr, &now);
+            // a handler that the program set meanwhile stays
+            if (now.sa_handler == die) ::sigaction(signals[i], &before[i], nullptr);
+        }
         is_taken = false;
     }
 
@@ -218,7 +229,8 @@ class Kept {
 
     static constexpr std::array<int, 6> signals{SIGSEGV, SIGBUS, SIGFPE, SIGILL, SIGABRT, SIGTERM};
     static inline std::atomic<bool> is_taken{false}, is_dying{false};
-    static inline std::atomic<const Recorder *> kept{nullptr};
+    static inline std::atomic<const Kept *> owner{nullptr};
+    static inline std::atomic<const Recorder *> kept{nullptr}; // whose file is not yet written
     static inline char file[PATH_MAX];
     static inline struct sigaction before[signals.size()];
     const Recorder *recorder;

@@ -1,4 +1,4 @@
-// Judges a recorded history: by the library of snapjudge where it is there, and else by the program.
+// Judges a recorded history: by the library of snapjudge if it is there, and else by the program.
 // One file, C++17 and POSIX, no dependencies; snapdrive.hpp uses it. Nothing is linked: the library is opened while the program runs.
 //
 //     const snapverdict::Judge judge;                          // throws snapverdict::Error
@@ -36,10 +36,10 @@ class Error : public std::runtime_error {
     const char *const name;
 };
 
-// The library where it is there, and else the program. SNAPJUDGE_LIBRARY names the library; it is empty for none.
+// The library if it is there, and else the program. SNAPJUDGE_LIBRARY names the library; it is empty for none.
 class Judge {
   public:
-    // The program is the one that is named, else that of SNAPJUDGE_PROGRAM, else snapjudge. So many events may a history have.
+    // The program is the one that is named, else that of SNAPJUDGE_PROGRAM, else snapjudge. A history may have this many events.
     explicit Judge(const std::string &named = "", std::uint32_t most_events = 65536) : events(most_events) {
         const char *library = std::getenv("SNAPJUDGE_LIBRARY"), *by_name = std::getenv("SNAPJUDGE_PROGRAM");
         const std::string wanted = !named.empty() ? named : by_name && *by_name ? by_name : "snapjudge";
@@ -67,6 +67,14 @@ class Judge {
         const int status = check ? by_library(text) : by_program(text, out);
         if (status > 2) throw Error("no verdict", "the judge ends with status " + std::to_string(status));
         return status;
+    }
+
+    // Tries, before the first run, whether the judge recognizes a history that is not regular: its view misses an update. A judge
+    // whose status is lost, as by a script with a pipe, would call every run atomic.
+    void test_verdict(const std::string &out) const {
+        const int told = status("event,process,op,data\nbegin,0,update,0:1:7\nend,0,update,\nbegin,1,view,\nend,1,view,\n", out);
+        if (told != 2)
+            throw Error("no judge", "of a history that is not regular the judge tells status " + std::to_string(told) + ", and not 2");
     }
 
     // Writes a history, its witness and its explanation.
@@ -156,13 +164,13 @@ class Judge {
         return end_of(start(words, files));
     }
 
-    // Whether the program says its version. A program of another kind may end with 0 whatever it is given, which no verdict is.
+    // Whether the program says its version. A program of another kind may end with 0 whatever it is given, and that is not a verdict.
     bool is_judge() const {
         int ends[2];
         if (pipe(ends) != 0) return false;
         posix_spawn_file_actions_t files;
         posix_spawn_file_actions_init(&files);
-        posix_spawn_file_actions_addclose(&files, ends[0]); // first: where an input or output is closed, it has that number
+        posix_spawn_file_actions_addclose(&files, ends[0]); // first: if an input or output is closed, it has that number
         posix_spawn_file_actions_addopen(&files, STDIN_FILENO, "/dev/null", O_RDONLY, 0);
         posix_spawn_file_actions_adddup2(&files, ends[1], STDOUT_FILENO);
         const pid_t process = start({"--version"}, files);
@@ -178,7 +186,7 @@ class Judge {
 
     using Check = std::uint32_t(const std::uint8_t *, std::size_t, std::uint32_t, std::uint8_t *, std::size_t, std::size_t *);
     std::uint32_t events;
-    std::string program; // empty where there is none
+    std::string program; // empty if there is none
     Check *check = nullptr;
 };
 

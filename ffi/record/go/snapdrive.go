@@ -32,14 +32,14 @@ const usage = `usage: [OBJECT] [OPTION VALUE ..]
   --choices        writes the calls that the seed chooses, and runs nothing
   --help           writes this`
 
-// A Board is an object under test; each component is 0 at first. A view has one value for each component, and is nil where it gave
-// up. Where an object calls Pause between its steps, the other goroutines run in the middle of its calls.
+// A Board is an object under test; each component is 0 at first. A view has one value for each component, and is nil if it gave
+// up. If an object calls Pause between its steps, the other goroutines run in the middle of its calls.
 type Board interface {
 	Update(thread, component int, value uint32)
 	View(thread int) []uint32
 }
 
-// A FallibleBoard is a board whose updates can fail. An update answers NoEffect, or an error that wraps it, where it had no effect and
+// A FallibleBoard is a board whose updates can fail. An update answers NoEffect, or an error that wraps it, if it had no effect and
 // can have none any more: it is left out of the history. With any other error nobody knows whether it had an effect, or will have one:
 // it stays pending, and its goroutine makes no more calls in this run.
 type FallibleBoard interface {
@@ -50,7 +50,7 @@ type FallibleBoard interface {
 // NoEffect is the error of an update that had no effect.
 var NoEffect = errors.New("the update had no effect")
 
-// An Object has a name, and makes a fresh board for each run. Where its updates can fail, it has MakeFallible in place of Make.
+// An Object has a name, and makes a fresh board for each run. If its updates can fail, it has MakeFallible in place of Make.
 type Object struct {
 	Name         string
 	Make         func(components int) Board
@@ -92,8 +92,8 @@ func DefaultOptions() Options {
 		Schedule: "free", Out: "."}
 }
 
-// An Outcome tells how many runs were atomic, only regular, or not regular; and which was the first that was not atomic, from 1, or 0.
-// Views ended in all runs, Overlapping of these overlapped an update, and Overlapped runs have such a view.
+// An Outcome says how many runs were atomic, only regular, or not regular. It says which was the first that was not atomic, from 1,
+// or 0. Views ended in all runs, Overlapping of these overlapped an update, and Overlapped runs have such a view.
 type Outcome struct {
 	Atomic, OnlyRegular, NotRegular, First uint64
 	Views, Overlapping, Overlapped         uint64
@@ -108,7 +108,7 @@ func (outcome Outcome) String() string {
 		outcome.Atomic, outcome.OnlyRegular, outcome.NotRegular, outcome.Overlapping, outcome.Views, outcome.Overlapped, outcome.runs())
 }
 
-// A DriveError is why runs have no verdict; its name is usage, limits, view, died, hangs, few views, no overlap, no judge, no verdict
+// A DriveError is why runs have no verdict. Its name is usage, limits, view, died, hangs, few views, no overlap, no judge, no verdict
 // or files.
 type DriveError struct{ Name, Message string }
 
@@ -175,7 +175,7 @@ func schedules(options Options) func() [][]int {
 
 var naps, longestNap atomic.Uint64
 
-// Pause lets the other goroutines run, and naps where the options ask for it.
+// Pause lets the other goroutines run, and naps if the options ask for it.
 func Pause() {
 	if Point() {
 		return
@@ -247,7 +247,7 @@ func keepUnfinished(name, out string, recorder *Recorder[uint32]) {
 	fmt.Fprintf(os.Stderr, "%s: its calls so far are in %s\n", name, file)
 }
 
-// The history of a fresh object under a schedule. Its views are counted. What a run made that did not end stands in
+// The history of a fresh object under a schedule. Its views are counted. What a run made that did not end is in
 // NAME-unfinished.csv.
 func record(object Object, options Options, schedule [][]int, pace *pace, outcome *Outcome) (string, error) {
 	recorder, err := New[uint32](int(options.Threads), int(options.Components), int(options.Calls))
@@ -343,7 +343,7 @@ func test(options Options) error {
 	return nil
 }
 
-// An error where the runs say nothing of the object: all were atomic, and too few views ended, or none of them overlapped an update.
+// An error if the runs say nothing of the object: all were atomic, and too few views ended, or none of them overlapped an update.
 func testLooked(options Options, outcome Outcome) error {
 	if outcome.First > 0 || options.Views == 0 {
 		return nil
@@ -370,6 +370,9 @@ func Run(object Object, options Options) (Outcome, error) {
 		return outcome, err
 	}
 	if err := testFolder(options.Out); err != nil {
+		return outcome, err
+	}
+	if err := judge.test(); err != nil {
 		return outcome, err
 	}
 	front, told, next, pace := options.Out+"/"+object.Name, time.Now(), schedules(options), newPace(options)
@@ -418,7 +421,7 @@ func (it number) read(word string) error {
 	return nil
 }
 
-// Takes the option that stands first among words.
+// Takes the option that comes first among words.
 func readOption(options *Options, words []string) error {
 	name := strings.TrimPrefix(words[0], "--")
 	text := map[string]*string{"order": &options.Order, "schedule": &options.Schedule, "out": &options.Out, "program": &options.Program}[name]
@@ -504,8 +507,9 @@ func showChoices(options Options) error {
 	return nil
 }
 
-// Main runs the object that the command line names, or the first one. The status is 0 where each run was atomic, 1 where some were
-// only regular, 2 where some were not regular, 3 where too little was seen for a verdict, and 4 where there is none for another reason.
+// Main runs the object that the command line names, or the first one. The status is 0 if each run was atomic, 1 if some were
+// only regular, and 2 if some were not regular. It is 3 if too little was seen for a verdict, and 4 if there is none for
+// another reason.
 func Main(objects ...Object) {
 	words, name := os.Args[1:], objects[0].Name
 	if len(words) > 0 && !strings.HasPrefix(words[0], "-") {
@@ -542,7 +546,7 @@ func Main(objects ...Object) {
 	}
 }
 
-// Tells why there is no verdict, and answers the status.
+// Says why there is no verdict, and answers the status.
 func tellError(name string, err error, objects []Object) int {
 	var why *DriveError
 	isNamed := errors.As(err, &why)

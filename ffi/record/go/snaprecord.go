@@ -14,12 +14,13 @@
 //	log.EndViewValues(values)                                // or EndView, of numbers; of a call that failed Drop..
 //
 //	text, err := recorder.Text()                             // after the goroutines have ended; TextSoFar gives one before
+//	defer recorder.Keep("unfinished.csv")                    // in each goroutine: writes what there is if it panics
 //
 // Values may be of any type that Go compares. Those of type uint32 stand for themselves, others are numbered by a table.
 //
-// What the record says: where call A ended before call B began, A happened before B. Each stamp is one atomic step of one clock;
-// that of a begin is taken last in Begin.., that of an end first in End... A goroutine writes to its own log alone. A call locks and
-// allocates nothing, but where it is misused, and all pages of a log are there before goroutines run.
+// What the record says: if call A ended before call B began, A happened before B. Each stamp is one atomic step of one clock. A
+// begin takes it last in Begin.., and an end takes it first in End... A goroutine writes to its own log alone. A call locks and
+// allocates nothing unless it is misused, and all pages of a log are there before goroutines run.
 // What it cannot say: the clock orders more calls than the object may, so a fault that needs two calls without such an order can
 // hide.
 //
@@ -54,8 +55,8 @@ const (
 	AfterFull                   // a call was made although its begin was refused
 	Component                   // a component is too high, or the entries of a view do not rise
 	TwoWriters                  // two goroutines updated one component
-	SameValue                   // views tell values, and a component got one value twice, or its initial one
-	Part                        // a view tells the values of fewer components than there are
+	SameValue                   // views have values alone, and a component got one value twice, or its initial one
+	Part                        // a view has values of fewer components than there are
 	Initials                    // there are first values, and not as many as components
 	Copied                      // a call was made of a copy of a log: keep what Log answers
 )
@@ -106,7 +107,7 @@ type event struct {
 	first, count int // its entries
 }
 
-// go vet tells of copies of what has one of these.
+// go vet warns of copies of what has one of these.
 type noCopy struct{}
 
 func (*noCopy) Lock()   {}
@@ -126,7 +127,7 @@ type Log[V comparable] struct {
 	recorder *Recorder[V]
 	thread   int
 	state    state
-	events   []event // both have room for all that they can get
+	events   []event // both have room for everything that they can get
 	entries  []Entry[V]
 	recorded recorded[V]
 	begun    [ComponentLimit]uint32
@@ -144,13 +145,13 @@ type Recorder[V comparable] struct {
 	logs       []Log[V]
 	table      []V
 
-	// Initial is the value that each component has at first, and Initials, where it is not nil, has the first value of each. Set
+	// Initial is the value that each component has at first, and Initials, if it is not nil, has the first value of each. Set
 	// them before the goroutines start.
 	Initial  V
 	Initials []V
 }
 
-// New makes a recorder for so many goroutines, components, and calls of each goroutine, at most EventLimit / 2 calls in all.
+// New makes a recorder for this many goroutines, components, and calls of each goroutine, at most EventLimit / 2 calls in all.
 func New[V comparable](threads, components, calls int) (*Recorder[V], error) {
 	fits := threads >= 1 && threads <= ProcessLimit && components >= 0 && components <= ComponentLimit && calls >= 1
 	if !fits || calls > EventLimit/2/threads {
@@ -167,7 +168,7 @@ func New[V comparable](threads, components, calls int) (*Recorder[V], error) {
 	return recorder, nil
 }
 
-// An empty list with room for so many, each of which was written once, so that no page is made while goroutines run. What is written
+// An empty list with room for this many, each of which was written once, so that no page is made while goroutines run. What is written
 // is not zero, since new pages have that.
 func touched[T any](room int, with T) []T {
 	list := make([]T, room)
@@ -261,7 +262,7 @@ func (log *Log[V]) EndUpdate() {
 	}
 }
 
-// BeginView answers false where a log is full, or a call was misused. Then make no further call.
+// BeginView answers false if a log is full, or a call was misused. Then make no further call.
 func (log *Log[V]) BeginView() bool {
 	may := log.mayBegin()
 	if may {
@@ -287,8 +288,8 @@ func (log *Log[V]) EndView(shown []Entry[V]) {
 	log.end(stamp, endView, first)
 }
 
-// EndViewValues is the end of a view that shows these values, of component 0 and so on. Text finds the number of each by its value,
-// so the updates of a component have to write values that differ from each other and from the one that it has at first.
+// EndViewValues is the end of a view that shows these values, of component 0 and so on. Text finds the number of each by its value.
+// So the updates of a component must write values that differ from each other and from the one that it has at first.
 func (log *Log[V]) EndViewValues(shown []V) {
 	stamp := log.tick()
 	if !log.mayEnd(viewing) {
@@ -320,11 +321,11 @@ func (log *Log[V]) dropped(expected state) bool {
 	return may
 }
 
-// DropView stands in place of the end of a view that gave no answer, because it gave up: it is left out of the history.
+// DropView takes the place of the end of a view that gave no answer, because it gave up: it is left out of the history.
 func (log *Log[V]) DropView() { log.dropped(viewing) }
 
-// DropUpdate stands in place of the end of an update that had no effect, and can have none any more: it is left out of the history,
-// and the next update of its component gets its number. Where that is not known, end nothing, and use this log no more.
+// DropUpdate takes the place of the end of an update that had no effect, and can have none any more: it is left out of the history,
+// and the next update of its component gets its number. If that is not known, end nothing, and use this log no more.
 func (log *Log[V]) DropUpdate() {
 	if log.dropped(updating) {
 		last := len(log.entries) - 1

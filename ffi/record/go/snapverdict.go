@@ -11,11 +11,11 @@ import (
 	"strings"
 )
 
-// The library where it is there, and else the program, which is empty where there is none.
+// The library if it is there, and else the program, which is empty if there is none.
 type judge struct {
 	program string
 	library library
-	events  uint64 // so many may a history have
+	events  uint64 // how many a history may have
 }
 
 // SNAPJUDGE_LIBRARY names the library; it is empty for none. Else it is sought beside the program.
@@ -58,7 +58,7 @@ func findJudge(named string, events uint64) (judge, error) {
 	return found, nil
 }
 
-// Whether the program says its version. A program of another kind may end with 0 whatever it is given, which no verdict is.
+// Whether the program says its version. A program of another kind may end with 0 whatever it is given, and that is not a verdict.
 func isJudge(program string) bool {
 	said, err := exec.Command(program, "--version").Output()
 	rest := strings.TrimPrefix(string(said), "snapjudge ")
@@ -89,6 +89,16 @@ func (judge judge) status(text string) (int, error) {
 		return 0, failed("no verdict", "the judge ends with status %d", status)
 	}
 	return status, nil
+}
+
+// Tries, before the first run, whether the judge recognizes a history that is not regular: its view misses an update. A judge whose
+// status is lost, as by a script with a pipe, would call every run atomic.
+func (judge judge) test() error {
+	status, err := judge.status("event,process,op,data\nbegin,0,update,0:1:7\nend,0,update,\nbegin,1,view,\nend,1,view,\n")
+	if err == nil && status != 2 {
+		err = failed("no judge", "of a history that is not regular the judge tells status %d, and not 2", status)
+	}
+	return err
 }
 
 // Tries whether files can be written into a folder, before the first run, so that none is lost.

@@ -4,6 +4,7 @@ package snaprecord
 
 import (
 	"fmt"
+	"os"
 	"sort"
 	"strings"
 )
@@ -16,7 +17,7 @@ type updates[V comparable] struct {
 	numbers map[V]uint32
 }
 
-// Text is the history that all logs hold. They stand one after the other: the judge puts the events in the order of their stamps.
+// Text is the history that all logs hold. They follow one another: the judge puts the events in the order of their stamps.
 // The error is the first misuse, or Initials, TwoWriters or SameValue.
 func (recorder *Recorder[V]) Text() (string, error) {
 	parts := make([][]event, len(recorder.logs))
@@ -26,14 +27,31 @@ func (recorder *Recorder[V]) Text() (string, error) {
 	return recorder.text(parts)
 }
 
-// TextSoFar is the same while goroutines run: a call that is open, or ends meanwhile, has no end in it. An update whose begin is left out
-// had not begun before each view that is in it had ended. So a right run is never called wrong.
+// TextSoFar is such a history while goroutines run: a call that is open, or ends meanwhile, has no end in it. An update whose begin is
+// left out had not begun before each view that is in it had ended. So a right run is never called wrong.
 func (recorder *Recorder[V]) TextSoFar() (string, error) {
 	now, parts := recorder.clock.Load(), make([][]event, len(recorder.logs))
 	for t := range recorder.logs {
 		parts[t] = recorder.logs[t].recorded.before(now)
 	}
 	return recorder.text(parts)
+}
+
+// Keep is deferred by a goroutine, first of all: if it panics, the history so far goes into a file of this path, and the panic goes on.
+// A process that dies otherwise writes nothing.
+func (recorder *Recorder[V]) Keep(path string) {
+	died := recover()
+	if died == nil {
+		return
+	}
+	text, err := recorder.TextSoFar()
+	if err == nil {
+		err = os.WriteFile(path, []byte(text), 0o666)
+	}
+	if err != nil {
+		fmt.Fprintf(os.Stderr, "%s can't be written: %v\n", path, err)
+	}
+	panic(died)
 }
 
 // The events that began or ended before this moment. A begin that is taken back meanwhile is read again.
@@ -68,7 +86,7 @@ func (recorder *Recorder[V]) text(parts [][]event) (string, error) {
 	return text.String(), nil
 }
 
-// Views tells how many views of the history ended, and how many of these overlapped an update: both calls were open at one moment.
+// Views says how many views of the history ended, and how many of these overlapped an update: both calls were open at one moment.
 type Views struct{ Ended, Overlapping int }
 
 // Views counts the views, after the goroutines have ended. A run in which none overlapped an update says nothing of calls at the same
@@ -109,7 +127,7 @@ func below(stamps []uint64, stamp uint64) int {
 	return sort.Search(len(stamps), func(i int) bool { return stamps[i] >= stamp })
 }
 
-// Table has the values by the numbers that stand for them in the last Text, from 0 on. It is empty where values are of type uint32.
+// Table has the values by the numbers that stand for them in the last Text, from 0 on. It is empty if values are of type uint32.
 func (recorder *Recorder[V]) Table() []V { return recorder.table }
 
 func (recorder *Recorder[V]) tabulate(parts [][]event) ([]updates[V], error) {

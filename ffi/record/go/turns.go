@@ -31,14 +31,14 @@ type turns struct {
 
 const (
 	hasEnded  = math.MinInt64
-	mostSpins = 10000 // a goroutine that comes to so many may wait for another one, and goes behind all others
+	mostSpins = 10000 // a goroutine that comes to this many may wait for another one, and gets a priority below all others
 )
 
-// The turns of the run, where it has some. A goroutine has no name, so it is told by the turn that it has: a goroutine that an object
+// The turns of the run, if it has some. A goroutine has no name, so the turn that it has identifies it: a goroutine that an object
 // starts itself must not call Pause or Point.
 var ofRun atomic.Pointer[turns]
 
-// The turns of a run; nothing where goroutines run freely.
+// The turns of a run; nothing if goroutines run freely.
 func newTurns(options Options, pace *pace) *turns {
 	if options.Schedule != "pct" {
 		return nil

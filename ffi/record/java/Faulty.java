@@ -7,15 +7,14 @@ import java.util.concurrent.atomic.AtomicLong;
 import java.util.function.IntFunction;
 
 /**
- * Objects that a driver has to answer for: usage as that of Own. "stale" shows nothing but the initial values, "gives-up" never has a
- * view, a view of "hangs" does not end, one of "short" lacks a component, an update of "dies" throws, and one
- * of "odd" throws an error. "unmade" can't be made. "second" is stale from its
- * second run on, and gives up before. "slow" pauses around what it does, and is right with one component. "fails" is stale; of its
- * updates the first had no effect, and of the third it is not known. "retries" is slow, and right with one component: of five updates
- * one has no effect, one is tried again, and the 13th comes late.
+ * Objects that test the answers of a driver: usage as that of Own. "stale" shows nothing but the initial values, "gives-up" never has a
+ * view, and a view of "hangs" does not end. A view of "short" lacks a component, an update of "dies" throws, and one of "odd" throws an
+ * error. "unmade" can't be made. "second" is stale from its second run on, and gives up before. "slow" pauses around what it does, and
+ * is right with one component. "fails" is stale; of its updates the first had no effect, and of the third it is not known. "retries" is
+ * slow, and right with one component: of five updates one has no effect, one is tried again, and the 13th comes late.
  *
  * <p>For runs that are judged in batches: "numbered" gives up in three runs, shows the number of the run in the next two, and throws
- * behind them. "slows" gives up, and from its second run on a view takes more than half a second.
+ * after them. "slows" gives up, and from its second run on a view takes more than half a second.
  */
 public final class Faulty implements SnapDriver.Board {
     final String name;

@@ -41,7 +41,7 @@ public final class Misuse {
         if (log.beginView()) log.endViewValues(values);
     }
 
-    /** Whether so many views ended, and so many of them overlapped an update. */
+    /** Whether this many views ended, and this many of them overlapped an update. */
     static boolean hasViews(SnapRecorder recorder, int ended, int overlapping) {
         return recorder.views().ended == ended && recorder.views().overlapping == overlapping;
     }
@@ -117,7 +117,7 @@ public final class Misuse {
         }
     }
 
-    /** Values of several classes: one is equal to another by equals, whole numbers where they are the same number. */
+    /** Values of several classes: one is equal to another by equals, whole numbers if they are the same number. */
     static void values() {
         SnapRecorder recorder = new SnapRecorder(1, 2, 8);
         SnapRecorder.Log log = recorder.log(0);

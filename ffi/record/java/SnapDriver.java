@@ -42,16 +42,15 @@ import java.util.stream.IntStream;
  * final class Mine implements SnapDriver.Board {
  *     Mine(int components) { .. }                                        // a fresh one for each run, with 0 in each component
  *     public void update(int thread, int component, long value) { .. }
- *     public long[] view(int thread) { .. }                              // one value for each component; null where it gave up
+ *     public long[] view(int thread) { .. }                              // one value for each component; null if it gave up
  * }
  *
  * SnapDriver.main(words, "mine", Mine::new);
  * </pre>
  *
- * <p>Where an object calls SnapDriver.pause() between its steps, the other threads run in the middle of its calls. SnapDriver.point()
- * marks such a place for the schedule pct alone. An update that
- * failed throws SnapDriver.NoEffect or SnapDriver.Unknown. In a test of one's own, SnapDriver.run does the same without a command
- * line; it throws DriveException and RecordException.
+ * <p>If an object calls SnapDriver.pause() between its steps, the other threads run in the middle of its calls. SnapDriver.point()
+ * marks such a place for the schedule pct alone. An update that failed throws SnapDriver.NoEffect or SnapDriver.Unknown.
+ * In a test of one's own, SnapDriver.run does the same without a command line; it throws DriveException and RecordException.
  */
 public final class SnapDriver {
     public static final String USAGE = String.join("\n",
@@ -78,7 +77,7 @@ public final class SnapDriver {
     public interface Board {
         void update(int thread, int component, long value) throws Exception;
 
-        /** One value for each component, or null where it gave up. */
+        /** One value for each component, or null if it gave up. */
         long[] view(int thread) throws Exception;
     }
 
@@ -197,7 +196,7 @@ public final class SnapDriver {
             return verdicts + "; " + seen;
         }
 
-        /** Throws where the runs say nothing of the object: all were atomic, and too few views ended, or none overlapped an update. */
+        /** Throws if the runs say nothing of the object: all were atomic, and too few views ended, or none overlapped an update. */
         private void test(int asked) {
             if (first > 0 || asked == 0) return;
             if (views < asked)
@@ -286,7 +285,7 @@ public final class SnapDriver {
      * which the running thread gets a priority below all of them. Only the running thread reads and writes the turns.
      */
     private static final class Turns {
-        /** A thread that comes to so many points without the end of a call may wait for another one, and goes behind all others. */
+        /** A thread that comes to this many points within one call may wait for another one, and gets a priority below all others. */
         private static final int MOST_SPINS = 10000;
         private static final long ENDED = Long.MIN_VALUE;
         private static final ThreadLocal<Turns> OF_THREAD = new ThreadLocal<>();
@@ -367,7 +366,7 @@ public final class SnapDriver {
     private static final AtomicLong naps = new AtomicLong();
     private static volatile long longestNap;
 
-    /** Lets the other threads run, and naps where the options ask for it. */
+    /** Lets the other threads run, and naps if the options ask for it. */
     public static void pause() {
         if (Turns.OF_THREAD.get() != null) point();
         else if (longestNap == 0) Thread.yield();
@@ -425,7 +424,7 @@ public final class SnapDriver {
             }
     }
 
-    /** The history of a fresh object. What a run made that did not end stands in FRONT-unfinished.csv. */
+    /** The history of a fresh object. What a run made that did not end is in FRONT-unfinished.csv. */
     private static Run record(IntFunction<? extends Board> make, Options options, Random seeds, Pace pace, Path front)
         throws InterruptedException {
         int count = options.get(Number.THREADS);
@@ -487,7 +486,7 @@ public final class SnapDriver {
         throw new DriveException("no judge", "there is no program " + name + ": install snapjudge, or name it by --program");
     }
 
-    /** The program, where it says its version. One of another kind may end with 0 whatever it is given, which no verdict is. */
+    /** The program, if it says its version. One of another kind may end with 0 whatever it is given, and that is not a verdict. */
     private static Path tested(Path program) {
         String said = "";
         try {
@@ -501,7 +500,7 @@ public final class SnapDriver {
         throw new DriveException("no judge", program + " is not snapjudge: it tells no version of it");
     }
 
-    /** Runs the program from a file to a file, for histories of so many events; its status. */
+    /** Runs the program from a file to a file, for histories of this many events; its status. */
     private static int call(Path program, String verb, int events, String from, String to) throws IOException, InterruptedException {
         return new ProcessBuilder(program.toString(), verb, "--events=" + events)
             .redirectInput(new File(from))
@@ -526,7 +525,7 @@ public final class SnapDriver {
         Runtime.getRuntime().addShutdownHook(new Thread(scratching::lock));
     }
 
-    /** The names of so many files that judge `number` of this process may write into a folder. */
+    /** The names of this many files that judge `number` of this process may write into a folder. */
     private static List<Path> scratch(String out, long number, int count) {
         String front = "run-" + ProcessHandle.current().pid() + "-" + number + "-";
         return IntStream.range(0, count).mapToObj(it -> Path.of(out, front + it + ".csv")).collect(Collectors.toList());
@@ -558,7 +557,7 @@ public final class SnapDriver {
 
     private static final Pattern VERDICTS = Pattern.compile("(?md)^.*: regular (yes|no)\n.*: monotone (?:yes|no)\n.*: atomic (yes|no)$");
 
-    /** Of each of several files 0 for atomic, 1 for only regular, 2 for not regular; or nothing where some have no verdict. */
+    /** Of each of several files 0 for atomic, 1 for only regular, 2 for not regular; or nothing if some have no verdict. */
     private static List<Integer> check(Path program, int events, List<Path> names) throws IOException, InterruptedException {
         List<String> words = new ArrayList<>(List.of(program.toString(), "check", "--quiet", "--no-progress", "--events=" + events, "--"));
         for (Path name : names) words.add(name.toString());
@@ -585,8 +584,8 @@ public final class SnapDriver {
         private final int runs, stop, events;
         private final Outcome outcome = new Outcome();
         private final List<Run> batch = new ArrayList<>(); // the histories of runs that are not yet judged
-        private int most = 1; // so many runs fill the batch
-        private long begun = System.nanoTime(), told = begun; // when the batch began, and when it was last told how far the runs are
+        private int most = 1; // this many runs fill the batch
+        private long begun = System.nanoTime(), told = begun; // when the batch began, and when progress was last reported
 
         private Judge(String name, Options options) {
             this.name = name;
@@ -612,6 +611,10 @@ public final class SnapDriver {
                 || batch.stream().mapToLong(run -> run.text.length()).sum() >= MOST_CHARACTERS;
         }
 
+        private static DriveException lost(IOException error) {
+            return new DriveException("files", "a file can't be written, or the program can't be run: " + error);
+        }
+
         private int judgeAlone(String text) throws IOException, InterruptedException {
             List<Path> names = scratch(out, number, 1);
             try {
@@ -624,7 +627,21 @@ public final class SnapDriver {
             }
         }
 
-        /** The status of each run of the batch; or nothing where each has to be judged alone, which then tells what is wrong. */
+        /**
+         * Tries, before the first run, whether the judge recognizes a history that is not regular: its view misses an update. A judge
+         * whose status is lost, as by a script with a pipe, would call every run atomic.
+         */
+        private void testVerdict() throws InterruptedException {
+            try {
+                int status = judgeAlone("event,process,op,data\nbegin,0,update,0:1:7\nend,0,update,\nbegin,1,view,\nend,1,view,\n");
+                if (status == 2) return;
+                throw new DriveException("no judge", "of a history that is not regular the judge tells status " + status + ", and not 2");
+            } catch (IOException error) {
+                throw lost(error);
+            }
+        }
+
+        /** The status of each run of the batch; or nothing if each must be judged alone, which then shows what is wrong. */
         private List<Integer> judgeTogether() throws IOException, InterruptedException {
             if (batch.size() == 1) return List.of();
             List<Path> names = scratch(out, number, batch.size());
@@ -658,7 +675,7 @@ public final class SnapDriver {
             System.err.println(name + ": run " + judged() + " of " + runs + ": " + outcome);
         }
 
-        /** Judges the batch. A run behind the one that ends all does not count. */
+        /** Judges the batch. A run after the one that ends all does not count. */
         private void judge() throws InterruptedException {
             if (batch.isEmpty()) return;
             try {
@@ -666,7 +683,7 @@ public final class SnapDriver {
                 for (int i = 0; i < batch.size() && !hasEnded(); i++)
                     count(batch.get(i), found.isEmpty() ? judgeAlone(batch.get(i).text) : found.get(i));
             } catch (IOException error) {
-                throw new DriveException("files", "a file can't be written, or the program can't be run: " + error);
+                throw lost(error);
             }
             tell();
             batch.clear();
@@ -684,6 +701,7 @@ public final class SnapDriver {
     public static Outcome run(String name, IntFunction<? extends Board> make, Options options) throws InterruptedException {
         options.test();
         Judge judge = new Judge(name, options);
+        judge.testVerdict();
         Random seeds = new Random(options.numbers[Number.SEED.ordinal()]);
         Pace pace = new Pace(options);
         longestNap = options.get(Number.NAP);
@@ -754,15 +772,15 @@ public final class SnapDriver {
         return outcome.notRegular > 0 ? 2 : outcome.onlyRegular > 0 ? 1 : 0;
     }
 
-    /** The same for one object. */
+    /** Runs what the words ask for with this one object, and answers the status of its verdicts. */
     public static void main(String[] words, String name, IntFunction<? extends Board> make) {
         main(words, Map.of(name, make));
     }
 
     /**
-     * Runs the object that the command line names, or the only one, and ends Java. The status is 0 where each run was atomic, 1 where
-     * some were only regular, 2 where some were not regular, 3 where too little was seen for a verdict, and 4 where there is none for
-     * another reason.
+     * Runs the object that the command line names, or the only one, and ends Java. The status is 0 if each run was atomic, 1 if
+     * some were only regular, and 2 if some were not regular. It is 3 if too little was seen for a verdict, and 4 if there is
+     * none for another reason.
      */
     public static void main(String[] words, Map<String, IntFunction<? extends Board>> objects) {
         List<String> rest = new ArrayList<>(List.of(words));

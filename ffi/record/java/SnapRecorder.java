@@ -44,15 +44,15 @@ import java.util.stream.IntStream;
  * log.endViewValues(values);                              // or endView, of numbers; of a call that failed drop..
  *
  * String text = recorder.text();                          // after the threads were joined; textSoFar() writes one before
- * Thread hook = recorder.keep(path);                      // or writes that where the process ends
+ * Thread hook = recorder.keep(path);                      // or writes that when the process ends
  * </pre>
  *
  * <p>Values may be of any class with equals and hashCode, as strings, lists and records are. A Byte, Short, Integer and Long are
- * equal where they are the same number. null in a view is the value that the component has at first.
+ * equal if they are the same number. null in a view is the value that the component has at first.
  *
- * <p>What the record says: where call A ended before call B began, A happened before B. Each stamp is one getAndIncrement of
- * one AtomicLong; that of a begin is taken last in begin.., that of an end first in end... A thread writes to its own log
- * alone. Nothing is locked, and nothing throws, while threads run. Nothing is allocated where values are of class long.
+ * <p>What the record says: if call A ended before call B began, A happened before B. Each stamp is one getAndIncrement of
+ * one AtomicLong. A begin takes it last in begin.., and an end takes it first in end... A thread writes to its own log
+ * alone. Nothing is locked, and nothing throws, while threads run. Nothing is allocated if values are of class long.
  *
  * <p>What it cannot say: the clock orders more calls than the object may, so a fault that needs two calls without such an
  * order can hide.
@@ -120,10 +120,10 @@ public final class SnapRecorder {
 
     /** The value that each component has at first; set it before the threads start. */
     public Object initial = 0;
-    /** Or, where it is not null, the first value of each component. */
+    /** Or, if it is not null, the first value of each component. */
     public Object[] initials;
 
-    /** For so many threads, components, and calls of each thread, at most EVENT_LIMIT / 2 calls in all. */
+    /** A recorder for this many threads, components, and calls of each thread, at most EVENT_LIMIT / 2 calls in all. */
     public SnapRecorder(int threads, int components, int calls) {
         boolean fits = threads >= 1 && threads <= PROCESS_LIMIT && components >= 0 && components <= COMPONENT_LIMIT && calls >= 1;
         if (!fits || calls > EVENT_LIMIT / 2 / threads) throw new RecordException(Fault.LIMITS, "");
@@ -149,7 +149,7 @@ public final class SnapRecorder {
         private final int[] shownComponents = new int[calls * Math.max(components, 1)];
         private final long[] shownNumbers = new long[shownComponents.length];
         private final long[] shownValues = new long[shownComponents.length];
-        private Object[] shownObjects; // null where there is none: then the value is in shownValues
+        private Object[] shownObjects; // null if there is none: then the value is in shownValues
         private final int[] begun = new int[COMPONENT_LIMIT];
         private int length;
         private int shown;
@@ -242,7 +242,7 @@ public final class SnapRecorder {
             return mayBegin() && show(component, 0, value) ? begun(component) : 0;
         }
 
-        /** The same of a value of any class. */
+        /** Begins an update with a value of any class, and answers as the call above. */
         public int beginUpdate(int component, Object value) {
             return mayBegin() && show(component, 0, value) ? begun(component) : 0;
         }
@@ -274,7 +274,7 @@ public final class SnapRecorder {
             end(stamp, END_VIEW);
         }
 
-        /** The same of values of any class; that of a number 0 may be null. */
+        /** The end of a view that shows values of any class; that of a number 0 may be null. */
         public void endView(long[] numbers, Object[] values) {
             long stamp = clock.getAndIncrement();
             if (!mayEndWith(numbers.length, values.length)) return;
@@ -283,8 +283,8 @@ public final class SnapRecorder {
         }
 
         /**
-         * The end of a view that shows these values, of component 0 and so on. text() finds the number of each by its value, so
-         * the updates of a component have to write values that differ from each other and from the initial one.
+         * The end of a view that shows these values, of component 0 and so on. text() finds the number of each by its value. So
+         * the updates of a component must write values that differ from each other and from the initial one.
          */
         public void endViewValues(long[] values) {
             long stamp = clock.getAndIncrement();
@@ -293,7 +293,7 @@ public final class SnapRecorder {
             end(stamp, END_VIEW_VALUES);
         }
 
-        /** The same of values of any class. null is the value that the component has at first. */
+        /** The end of a view that shows values of any class alone. null is the value that the component has at first. */
         public void endViewValues(Object[] values) {
             long stamp = clock.getAndIncrement();
             if (!mayEndViewOf(values.length)) return;
@@ -318,14 +318,14 @@ public final class SnapRecorder {
             return true;
         }
 
-        /** In place of the end of a view that gave no answer, because it gave up: it is left out of the history. */
+        /** Call this in place of the end of a view that gave no answer, because it gave up: the view is left out of the history. */
         public void dropView() {
             dropped(State.VIEWING);
         }
 
         /**
          * In place of the end of an update that had no effect, and can have none any more: it is left out of the history, and the
-         * next update of its component gets its number. Where that is not known, end nothing, and use this log no more.
+         * next update of its component gets its number. If that is not known, end nothing, and use this log no more.
          */
         public void dropUpdate() {
             if (dropped(State.UPDATING)) begun[shownComponents[--shown]]--;
@@ -333,7 +333,7 @@ public final class SnapRecorder {
     }
 
     /**
-     * The history that all logs hold, after the threads were joined. The logs stand one after the other: the judge puts the
+     * The history that all logs hold, after the threads were joined. The logs follow one another: the judge puts the
      * events in the order of their stamps. Throws RecordException of the first misuse, of INITIALS, TWO_WRITERS or SAME_VALUE.
      */
     public String text() {
@@ -341,7 +341,7 @@ public final class SnapRecorder {
     }
 
     /**
-     * The same while threads run: a call that is open, or ends meanwhile, has no end in it. An update whose begin is left out had not
+     * The history while threads run: a call that is open, or ends meanwhile, has no end in it. An update whose begin is left out had not
      * begun before each view that is in it had ended. So a right run is never called wrong.
      */
     public String textSoFar() {
@@ -350,7 +350,7 @@ public final class SnapRecorder {
     }
 
     /**
-     * If the process ends, the history so far is written into this file: at System.exit, where all threads have ended, or by SIGTERM or
+     * If the process ends, the history so far is written into this file: at System.exit, when all threads have ended, or by SIGTERM or
      * SIGINT. Runtime.removeShutdownHook of the answer ends that. A process that dies otherwise writes nothing.
      */
     public Thread keep(Path path) {
@@ -365,7 +365,7 @@ public final class SnapRecorder {
         return hook;
     }
 
-    /** The history of so many events of each log. */
+    /** The history of this many events of each log. */
     private String text(int[] lengths) {
         if (misuse.get() != null) throw misuse.get();
         if (initials != null && initials.length != components) throw new RecordException(Fault.INITIALS, "");
@@ -409,7 +409,7 @@ public final class SnapRecorder {
     }
 
     /**
-     * The values by the numbers that stand for them in the last text(), from 0 on. It is empty where all values are whole numbers
+     * The values by the numbers that stand for them in the last text(), from 0 on. It is empty if all values are whole numbers
      * of 32 bits without a sign: each then stands for itself.
      */
     public List<Object> table() {
@@ -446,7 +446,7 @@ public final class SnapRecorder {
         text.append('\n');
     }
 
-    /** Whole numbers are equal where they are the same number. */
+    /** Whole numbers are equal if they are the same number. */
     private static Object plain(Object value) {
         boolean isWhole = value instanceof Integer || value instanceof Short || value instanceof Byte;
         return isWhole ? (Object) ((Number) value).longValue() : value;
@@ -459,7 +459,7 @@ public final class SnapRecorder {
     /** All updates, to look numbers up. */
     private final class Updates {
         private final List<List<Long>> begun = new ArrayList<>(); // by component and number: the stamp of the begin
-        private final List<Map<Object, Integer>> numbers = new ArrayList<>(); // by component and value, where views tell values
+        private final List<Map<Object, Integer>> numbers = new ArrayList<>(); // by component and value, if views have values alone
 
         private Updates(int[] lengths) {
             boolean byValues = false;

@@ -22,7 +22,7 @@ THREADS, CALLS = 3, 60
 
 
 class Board:
-    """The components of a thread are its own and, behind those of all threads, a spare one."""
+    """The components of a thread are its own and, after those of all threads, a spare one."""
 
     def __init__(self):
         self.lock, self.values, self.late = threading.Lock(), [None] * 2 * THREADS, []

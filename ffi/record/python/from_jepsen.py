@@ -7,14 +7,14 @@ vector, or JSON with one operation a line. Each operation has `type`, `f`, `proc
 docs/JEPSEN.md of snapjudge says which operations are taken.
 
     --into DIR      writes each history into DIR: one for each set of keys that are read together, NAME.csv or NAME-1.csv, NAME-2.csv
-                    .. where a HISTORY has several such sets, with a file NAME.words beside it: lines KIND,NUMBER,WORD
+                    .. if a HISTORY has several such sets, with a file NAME.words beside it: lines KIND,NUMBER,WORD
     --initial WORD  what a read shows of a key that nobody has written; nil always counts as that too
     --versions      operations have `version`, by which the store orders the writes of a key: a number, or a map from keys to numbers
-    --events N      how many events a history may have, 65536 where it is not given; `snapjudge check` then needs the same
+    --events N      how many events a history may have, 65536 by default; `snapjudge check` then needs the same
 
-Without --into the one history goes to standard output. The status is 0 where all was written, and 1 where versions contradict time, so
-that the run is not atomic. It is 3 where a HISTORY is not taken: standard error then has the file, the line and a sentence. It is 4
-where reading or writing failed, and 5 where the words of the command line were not taken.
+Without --into the one history goes to standard output. The status is 0 if all was written, and 1 if versions contradict time, so
+that the run is not atomic. It is 3 if a HISTORY is not taken: standard error then has the file, the line and a sentence. It is 4
+if reading or writing failed, and 5 if the words of the command line were not taken.
 
 SPDX-License-Identifier: 0BSD
 Copyright (C) 2026 by the authors of snapjudge
@@ -273,7 +273,7 @@ def convert(name, text, has_versions=False):
 
 
 def histories(name, text, initial=None, has_versions=False, limit=EVENT_LIMIT):
-    """Of each set of keys that are read together its keys, its history, its words, and what is to be told of it."""
+    """Of each set of keys that are read together its keys, its history, its words, and what standard error is to say of it."""
     calls, keys = convert(name, text, has_versions)
     parts = sorted({tuple(sorted(call.shown)) for call in calls if call.op == "view" and call.ended is not None})
     for part in parts:

@@ -5,19 +5,19 @@
 One file, Python 3.8 or later, no dependencies: copy it into a harness. docs/RECORDING.md of snapjudge has the form of a log.
 The history goes to standard output.
 
-    --error NS       how far the clock of a host may be from the true time, in nanoseconds: 0 where all processes read one clock
-    --initial VALUE  the value that each component has at first, 0 where it is not given; or those of components 0, 1 and so on
+    --error NS       how far the clock of a host may be from the true time, in nanoseconds: 0 if all processes read one clock
+    --initial VALUE  the value that each component has at first, 0 by default; or those of components 0, 1 and so on
     --part K,..      takes these components alone, and the views that list each of them
     --table FILE     values may be any words, and FILE then has the number that stands for each: lines NUMBER,WORD
     --versions       the store numbers the updates of a component: ends of updates and entries of views have these versions
-    --events N       how many events the history may have, 65536 where it is not given; `snapjudge check` then needs the same
+    --events N       how many events the history may have, 65536 by default; `snapjudge check` then needs the same
 
-Where several processes update a component, its updates get a process of their own, and standard error says so. It also says which
+If several processes update a component, its updates get a process of their own, and standard error says so. It also says which
 updates were left out or cut short.
 
-The status is 0 where the history was written. It is 1 where the versions contradict time, so that the run is not atomic, and no
-history was written. It is 3 where the logs are not a history: standard error then has the log, the line, a word and a sentence. It
-is 4 where reading or writing failed, and 5 where the words of the command line were not taken.
+The status is 0 if the history was written. It is 1 if the versions contradict time, so that the run is not atomic, and no
+history was written. It is 3 if the logs are not a history: standard error then has the log, the line, a word and a sentence. It
+is 4 if reading or writing failed, and 5 if the words of the command line were not taken.
 
 SPDX-License-Identifier: 0BSD
 Copyright (C) 2026 by the authors of snapjudge
@@ -34,7 +34,7 @@ import re
 import sys
 
 HEADER = "ns,event,process,op,data"
-EVENT_LIMIT = 65536  # of a history, if not said; a call has two, its begin and its end
+EVENT_LIMIT = 65536  # of a history by default; a call has two, its begin and its end
 MOST_EVENTS = 1048576
 COMPONENT_LIMIT = 256
 PROCESS_LIMIT = 65536
@@ -71,8 +71,8 @@ FAULTS = {
 
 
 class LogError(Exception):
-    """Why the logs are not a history: `word` names what is wrong, and `place` is a log and a line, or empty; `other` is where the
-    other call stands that is part of it.
+    """Why the logs are not a history: `word` names what is wrong, and `place` is a log and a line, or empty; `other` is the place
+    of the other call that is part of it.
     """
 
     def __init__(self, word, *place, other=None):
@@ -94,7 +94,7 @@ class Contradiction(Exception):
 
 
 class Placed:
-    """What stands in a line of a log."""
+    """What is in a line of a log."""
 
     def require(self, holds, word, other=None):
         if not holds:
@@ -104,7 +104,7 @@ class Placed:
 @dataclasses.dataclass
 class Call(Placed):
     """A call without an end is pending. `shown` has, by components, what an update writes or a view shows; None is a first value.
-    `versions` has, by components, the versions that its lines tell.
+    `versions` has, by components, the versions that its lines have.
     """
 
     log: str
@@ -159,7 +159,7 @@ class Reader(Placed):
             self.leave(reading, event, op, shown, versions)
 
     def data(self, event, op, data):
-        """The values that stand in the field data, and the versions, each by components."""
+        """The values in the field data, and the versions, each by components."""
         if self.has_versions and (event, op) == ("end", "update"):
             # which component that is of, the begin of the call has told
             return {}, {None: self.version(data)} if data else {}
@@ -224,8 +224,8 @@ def read_log(log, text, error=0, has_words=False, has_versions=False):
 class Component:
     """The updates of one component, as the history has them: `updates` are in the order of their numbers, and none overlaps the next.
 
-    Without versions their begins tell that order. With them the versions do, and each update is cut to the times that the order
-    allows it: it stands after the begin of each update with a lower version, and before the end of each with a higher one. Then the
+    Without versions their begins give that order. With them the versions do, and each update is cut to the times that the order
+    allows it: it comes after the begin of each update with a lower version, and before the end of each with a higher one. Then the
     same orders of all calls explain the run. An update without an end that no view shows may be left out. One that a view shows took
     effect before the end of that view.
     """
@@ -253,7 +253,7 @@ class Component:
         return is_unknown and (self.has_versions or update is not self.updates[-1])
 
     def ended(self, update, is_last):
-        """The update with an end, where it has none and others come after it."""
+        """The update with an end, if it has none and others come after it."""
         view = self.first_shown.get((self.component, update.value()))
         if update.ended is not None or is_last or view is None or view.ended < update.begun:
             return update
@@ -378,7 +378,7 @@ def chosen(calls, part):
 
 
 def stamped(calls, limit):
-    """The events, by stamps that rise: at one reading the begins stand before the ends, so that such calls overlap."""
+    """The events, by stamps that rise: at one reading the begins come before the ends, so that such calls overlap."""
     places = {process: place for place, process in enumerate(sorted({call.process for call in calls}))}
     least = min((call.begun for call in calls), default=0)
 
@@ -396,7 +396,7 @@ def stamped(calls, limit):
 
 
 def merge(calls, initials=("0",), part=None, has_words=False, limit=EVENT_LIMIT, has_versions=False):
-    """The history of the calls of all logs, its table of words, and what is to be told of it."""
+    """The history of the calls of all logs, its table of words, and what standard error is to say of it."""
     board = Board(chosen(calls, part), initials, has_versions)
     lines, table = ["at,event,process,op,data"], {}
 
@@ -411,7 +411,7 @@ def merge(calls, initials=("0",), part=None, has_words=False, limit=EVENT_LIMIT,
 
 
 def read_logs(names, error=0, has_words=False, has_versions=False):
-    """The calls of all logs. What is left out of one is told on standard error."""
+    """The calls of all logs. Standard error says what is left out of one."""
     logs = {}
     for name in names:
         with open(name, encoding="utf-8-sig", errors="surrogateescape") as file:

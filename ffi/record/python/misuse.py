@@ -1,5 +1,6 @@
 """The recorder's texts of worked runs, and the fault of each misuse."""
 import os
+import signal
 import subprocess
 import sys
 import tempfile
@@ -72,11 +73,13 @@ class Misuse(unittest.TestCase):
     def test_what_is_kept(self):
         """A process that ends, by an exception or by SIGTERM, leaves what there is so far; by os._exit it leaves nothing."""
         begin = "from snaprecord import Recorder; import os, signal; r = Recorder(1, 1, 2); r.keep('kept.csv'); r.log(0).begin_view(); "
-        for end, status in (("0", 0), ("raise KeyError", 1), ("os.kill(os.getpid(), signal.SIGTERM)", 143), ("r.leave()", 0), ("os._exit(7)", 7)):
+        ends = "os.kill(os.getpid(), signal.SIGTERM)"
+        kept = {"0": 0, "raise KeyError": 1, ends: 143}
+        for end, status in {**kept, "r.leave()": 0, f"r.leave(); {ends}": -signal.SIGTERM, "os._exit(7)": 7}.items():
             with tempfile.TemporaryDirectory() as folder:
                 done = subprocess.run([sys.executable, "-B", "-c", begin + end], cwd=folder, env={"PYTHONPATH": HERE}, stderr=subprocess.DEVNULL)
                 self.assertEqual(done.returncode, status)
-                self.assertEqual(os.listdir(folder), ["kept.csv"] if end not in ("r.leave()", "os._exit(7)") else [])
+                self.assertEqual(os.listdir(folder), ["kept.csv"] if end in kept else [])
                 if os.listdir(folder):
                     with open(f"{folder}/kept.csv") as file:
                         self.assertEqual(file.read(), "at,event,process,op,data\n0,begin,0,view,\n")

@@ -127,7 +127,7 @@ class Logs(unittest.TestCase):
         self.assertEqual(judge(history, "--quiet")[0], 0)
 
     def test_right_runs(self):
-        """A right run is never called wrong, whatever the clocks are, where the error is that of the clocks and their step."""
+        """A right run is never called wrong, whatever the clocks are, if the error is that of the clocks and their step."""
         draw = random.Random(1)
         for skew, step in ((0, 1), (0, 25), (40, 1), (40, 25)):
             error = skew + step if skew else 0
@@ -244,7 +244,7 @@ class Logs(unittest.TestCase):
         self.assertRefused("1.log:2: ", "overlap", [log_of(unknown), other, log_of(*view(2, 4, 7, "5:1"))])
 
     def test_versions(self):
-        """The versions tell the order, and each update is cut to the times that it allows. The first one is shown before it ends."""
+        """The versions give the order, and each update is cut to the times that it allows. The first one is shown before it ends."""
         first = log_of("1,begin,0,update,5:1", "9,end,0,update,7")
         second = log_of("2,begin,1,update,5:2", "12,end,1,update,8")
         self.assertRefused("1.log:2: ", "overlap", [first, second, log_of(*view(2, 4, 8, "5:7:1"))], "--versions")

@@ -5,12 +5,12 @@ Two files, this one and snaprecord.py, Python 3.8 or later, no dependencies: cop
     class Board:                                        # a fresh one for each run, with 0 in each component
         def __init__(self, components): ..
         def update(self, thread, component, value): ..
-        def view(self, thread): ..                      # one value for each component, or None where it gave up
+        def view(self, thread): ..                      # one value for each component, or None if it gave up
 
     main({"board": Board})                              # takes options from the command line
     outcome = run(Board, runs=100, threads=3)           # or this, in a test of one's own; raises DriveError and RecordError
 
-Where an object calls pause() between its steps, the other threads run in the middle of its calls. An update that failed raises
+If an object calls pause() between its steps, the other threads run in the middle of its calls. An update that failed raises
 NoEffect or Unknown.
 
 SPDX-License-Identifier: 0BSD
@@ -126,7 +126,7 @@ class Outcome:
         self.overlapped += overlapping > 0
 
     def test_looked(self, asked):
-        """Raises where the runs say nothing of the object: all were atomic, and too few views ended, or none overlapped an update."""
+        """Raises if the runs say nothing of the object: all were atomic, and too few views ended, or none overlapped an update."""
         if self.first or not asked:
             return
         if self.views < asked:
@@ -196,7 +196,7 @@ class Turns:
     which the running thread gets a priority below all of them. Only the running thread reads and writes the turns.
     """
 
-    SPIN = 10000  # after so many points without the end of a call a thread may wait for another one, and goes behind all others
+    SPIN = 10000  # after this many points within one call a thread may wait for another one, and gets a priority below all others
     of_thread = threading.local()
 
     def __init__(self, options, random, points):
@@ -277,7 +277,7 @@ class _Naps:
 
 
 def pause():
-    """Lets the other threads run, and naps where the options ask for it."""
+    """Lets the other threads run, and naps if the options ask for it."""
     if point():
         return
     time.sleep(next(_Naps.random) % (_Naps.longest + 1) / 1e6 if _Naps.longest else 0)
@@ -348,7 +348,7 @@ def start_all(threads):
 
 
 def record(make, options, schedule, front, turns):
-    """The recorder of a fresh object under a schedule. What a run made that did not end stands in FRONT-unfinished.csv."""
+    """The recorder of a fresh object under a schedule. What a run made that did not end is in FRONT-unfinished.csv."""
     board, recorder = fresh(make, options), Recorder(options.threads, options.components, options.calls)
     recorder.keep(f"{front}-unfinished.csv")
     start, failed = threading.Barrier(options.threads), []
@@ -386,7 +386,7 @@ def keep_unfinished(recorder, front):
         with open(f"{front}-unfinished.csv", "w", encoding="ascii") as file:
             file.write(recorder.text_so_far())
     except (OSError, RecordError):
-        return  # what is told of the run matters more
+        return  # the message on the run matters more
     print(f"{os.path.basename(front)}: its calls so far are in {front}-unfinished.csv", file=sys.stderr)
 
 
@@ -394,7 +394,7 @@ def keep_unfinished(recorder, front):
 
 
 class Judge:
-    """The library where it is there, and else the program. SNAPJUDGE_LIBRARY names the library; it is empty for none."""
+    """The library if it is there, and else the program. SNAPJUDGE_LIBRARY names the library; it is empty for none."""
 
     def __init__(self, named, events):
         self.events = events
@@ -418,7 +418,7 @@ class Judge:
             return None
 
     def _is_judge(self):
-        """Whether the program says its version. One of another kind may end with 0 whatever it is given, which no verdict is."""
+        """Whether the program says its version. One of another kind may end with 0 whatever it is given, and that is not a verdict."""
         try:
             done = subprocess.run([self.program, "--version"], stdin=subprocess.DEVNULL, stdout=subprocess.PIPE)
         except OSError:
@@ -431,6 +431,13 @@ class Judge:
         if status not in range(3):
             raise DriveError("no verdict", f"the judge ends with status {status}")
         return status
+
+    def test_verdict(self):
+        """Tries, before the first run, whether the judge recognizes a history that is not regular: its view misses an update. A judge
+        whose status is lost, as by a script with a pipe, would call every run atomic."""
+        status = self.status("event,process,op,data\nbegin,0,update,0:1:7\nend,0,update,\nbegin,1,view,\nend,1,view,\n")
+        if status != 2:
+            raise DriveError("no judge", f"of a history that is not regular the judge tells status {status}, and not 2")
 
     def _by_library(self, text):
         room, length = ctypes.create_string_buffer(2 * len(text) + 256), ctypes.c_size_t()
@@ -478,6 +485,7 @@ def run(make, name="object", **words):
     judge, outcome, told = Judge(options.program, options.events), Outcome(), time.monotonic()
     front = os.path.join(options.out, name)
     test_folder(options.out)
+    judge.test_verdict()
     _Naps.longest, _Naps.random, pace = options.nap, splitmix64(options.seed), Pace(options)
     for number, schedule in enumerate(schedules(options), 1):
         turns = pace.turns()
@@ -542,7 +550,7 @@ def tell(lines):
 
 
 def answer(objects, name, words):
-    """Runs what the words ask for, and answers what was found, or nothing where nothing was run."""
+    """Runs what the words ask for, and answers what was found, or nothing if nothing was run."""
     if "--help" in words or "-h" in words:
         return tell([usage_of(objects)])
     if name not in objects:
@@ -560,8 +568,9 @@ def usage_of(objects):
 
 
 def main(objects):
-    """Runs the object that the command line names, or the first one. It ends with 0 where each run was atomic, 1 where some were
-    only regular, 2 where some were not regular, 3 where too little was seen for a verdict, and 4 where there is none for another reason.
+    """Runs the object that the command line names, or the first one. It ends with 0 if each run was atomic, 1 if some were only
+    regular, and 2 if some were not regular. It ends with 3 if too little was seen for a verdict, and with 4 if there is none
+    for another reason.
     """
     words = sys.argv[1:]
     name = words.pop(0) if words and not words[0].startswith("-") else next(iter(objects))

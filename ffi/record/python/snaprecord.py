@@ -15,13 +15,14 @@ One file, Python 3.8 or later, no dependencies: copy it into a harness. docs/OWN
     log.end_view_values(values)                     # or end_view, of numbers; of a call that failed drop_..
 
     text = recorder.text()                          # after the threads were joined; raises RecordError
-    recorder.keep("unfinished.csv")                 # before: writes what there is so far where the process ends
+    recorder.keep("unfinished.csv")                 # before: writes what there is so far when the process ends
 
-A value may be all that a dict takes as a key, but None. In a view None is the value that the component has at first.
+A value may be anything that a dict takes as a key, but None. In a view None is the value that the component has at first.
 
-What the record says: where call A ended before call B began, it was so. Each stamp is one step of one clock; that of a begin is
-taken last in begin_.., that of an end first in end_... A thread appends to its own log alone. There is no lock where the
-interpreter has its global one. No call of a log raises, whatever it is given, but where memory is missing: what is wrong is a misuse.
+What the record says: if call A ended before call B began in it, that was so in the run. Each stamp is one step of one clock.
+A begin takes it last in begin_.., and an end takes it first in end_... A thread appends to its own log alone. It takes no
+lock if the interpreter has its global one. No call of a log raises, whatever it is given, unless memory is missing: what is
+wrong is a misuse.
 What it cannot say: the clock orders more calls than the object may, so a fault that needs two calls without such an order can
 hide.
 
@@ -115,7 +116,7 @@ def _is_value(value):
 
 
 def _entries(shown):
-    """What a view shows as triples, or None where it is no list of them."""
+    """What a view shows as triples, or None if it is not a list of them."""
     try:
         return tuple((component, number, value) for component, number, value in shown)
     except Exception:
@@ -123,11 +124,19 @@ def _entries(shown):
 
 
 def _numbered(values):
-    """The values of components 0, 1 and so on as triples without numbers, or None where they are no list."""
+    """The values of components 0, 1 and so on as triples without numbers, or None if they are not a list."""
     try:
         return tuple((component, 0, value) for component, value in enumerate(values))
     except Exception:
         return None
+
+
+_kept = set()  # the recorders whose history is written if the process ends
+
+
+def _end(number, frame):
+    """Ends the process by a signal so that it writes what is kept."""
+    sys.exit(128 + number)
 
 
 class Log:
@@ -202,7 +211,7 @@ class Log:
     def end_view_values(self, values):
         """The end of a view that shows these values, of each component from 0 on; None is the one that it has at first.
 
-        Recorder.text finds the number of each by its value, so the updates of a component have to write values that differ from
+        Recorder.text finds the number of each by its value. So the updates of a component must write values that differ from
         each other and from the one that it has at first.
         """
         stamp = self._tick()
@@ -225,12 +234,12 @@ class Log:
             self._end(stamp, kind, data)
 
     def drop_view(self):
-        """In place of the end of a view that gave no answer, because it gave up: it is left out of the history."""
+        """Call this in place of the end of a view that gave no answer, because it gave up: the view is left out of the history."""
         self._drop(_State.VIEWING)
 
     def drop_update(self):
         """In place of the end of an update that had no effect, and can have none any more: it is left out of the history, and the
-        next update of its component gets its number. Where that is not known, end nothing, and use this log no more.
+        next update of its component gets its number. If that is not known, end nothing, and use this log no more.
         """
         for component, _, _ in self._drop(_State.UPDATING):
             self._begun[component] -= 1
@@ -244,7 +253,7 @@ class Log:
 
 
 class Recorder:
-    """For so many threads, components, and calls of each thread, at most EVENT_LIMIT / 2 calls in all.
+    """A recorder for this many threads, components, and calls of each thread, at most EVENT_LIMIT / 2 calls in all.
 
     `initial` is the value that each component has at first; or `initials` has the first value of each.
     """
@@ -265,15 +274,15 @@ class Recorder:
         return self.logs[thread]
 
     def text(self):
-        """The history that all logs hold. They stand one after the other: the judge puts the events in the order of their stamps.
+        """The history that all logs hold. They follow one another: the judge puts the events in the order of their stamps.
 
-        Whole numbers of 32 bits stand for themselves where all values are such. Else `table` then has the values, by the numbers
+        Whole numbers of 32 bits stand for themselves if all values are such. Else `table` then has the values, by the numbers
         that stand for them, from 0 on. Raises RecordError of the first misuse, of INITIALS, TWO_WRITERS or SAME_VALUE.
         """
         return self._text([log.events for log in self.logs])
 
     def text_so_far(self):
-        """The same while threads run: a call that is open, or ends meanwhile, has no end in it.
+        """The history while threads run: a call that is open, or ends meanwhile, has no end in it.
 
         An update whose begin is left out had not begun before each view that is in it had ended. So a right run is never called wrong.
         """
@@ -284,17 +293,21 @@ class Recorder:
     def keep(self, path):
         """If the process ends before the next call of `leave`, the history so far is written into a file of this path.
 
-        That is at the end of Python, also by an exception or sys.exit, and by SIGTERM where it is called by the main thread. A process
+        That is at the end of Python, also by an exception or sys.exit, and by SIGTERM if it is called by the main thread. A process
         that dies otherwise, as by os._exit or SIGKILL, writes nothing.
         """
         self._path = path
+        _kept.add(self)
         atexit.register(self._write)
         if threading.current_thread() is threading.main_thread() and signal.getsignal(signal.SIGTERM) is signal.SIG_DFL:
-            signal.signal(signal.SIGTERM, lambda number, frame: sys.exit(128 + number))
+            signal.signal(signal.SIGTERM, _end)
 
     def leave(self):
         """Ends what `keep` began."""
         atexit.unregister(self._write)
+        _kept.discard(self)
+        if not _kept and threading.current_thread() is threading.main_thread() and signal.getsignal(signal.SIGTERM) is _end:
+            signal.signal(signal.SIGTERM, signal.SIG_DFL)
 
     def _write(self):
         with open(self._path, "w", encoding="ascii") as file:
@@ -348,7 +361,7 @@ class Recorder:
         return self.initial if self.initials is None else self.initials[component]
 
     def _updates(self, logs):
-        """Of each component the stamps of its updates' begins; and by component and value the numbers, where some view tells values."""
+        """Of each component the stamps of its updates' begins; and by component and value the numbers, if some view has values alone."""
         by_values = any(kind is _Kind.END_VIEW_VALUES for events in logs for _, kind, _ in events)
         begun, numbers, writers = {}, {}, {}
         for thread, events in enumerate(logs):

@@ -44,7 +44,7 @@ def operation(kind, function, process, value, **more):
 
 class Store:
     """A store of keys, and clients that read all keys or write one. What a client asks for takes effect between its begin and its end,
-    but for the faults of the kind: `stale` reads what stood some writes ago, `lost` answers to a write that it forgets.
+    except for the faults of the kind: `stale` reads what stood some writes ago, `lost` answers to a write that it forgets.
     """
 
     def __init__(self, draw, kind, keys=3, clients=4):

@@ -2,8 +2,8 @@
 
 Each run has up to six calls on two components. Updates come from any process. The store orders the updates of a component, and each
 order of all calls is tried: one that keeps precedence and the store's order, leaves out pending updates alone, and gives each view the
-last updates before it. There is one exactly if the merged history is atomic by its definition, which is tried in the same way; and the
-program says so too. Versions that contradict time leave no order.
+last updates before it. There is one exactly if the merged history is atomic by its definition, which is tried in the same way. The
+program must say so too. Versions that contradict time leave no order.
 """
 import collections
 import json
@@ -18,7 +18,7 @@ from merge_logs import HEADER, Contradiction, LogError, merge, read_log
 
 PROGRAM = os.path.realpath(sys.argv[1])
 COUNT = int(sys.argv[2]) if len(sys.argv) > 2 else 20000
-JUDGED = 2000  # so many of the histories are given to the program too
+JUDGED = 2000  # this many of the histories are given to the program too
 COMPONENTS = 2
 NEVER = 10**6  # where a call without an end ends
 

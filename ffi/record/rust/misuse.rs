@@ -68,6 +68,27 @@ fn what_there_is_so_far() {
     assert_eq!(so_far.text(), r.text());
 }
 
+/// A process that dies by a panic leaves what it recorded.
+#[test]
+fn a_panic_keeps_what_there_is() {
+    let path = std::env::temp_dir().join(format!("snaprecord-{}.csv", std::process::id()));
+    let mut r = recorder(1, 1, 2);
+    r.so_far().keep(&path);
+    let died = std::thread::scope(|scope| {
+        let log = &mut r.logs[0];
+        let thread = scope.spawn(move || {
+            assert_eq!(log.begin_update(0, 7), Some(1));
+            panic!("the object dies");
+        });
+        thread.join().is_err()
+    });
+    let _ = std::panic::take_hook();
+    let text = std::fs::read_to_string(&path).expect("the file is there");
+    std::fs::remove_file(&path).expect("it can go");
+    assert!(died);
+    assert_eq!(text, "at,event,process,op,data\n0,begin,0,update,0:1:7\n");
+}
+
 #[test]
 fn a_dropped_update_that_was_seen_is_a_value_nobody_wrote() {
     let mut r = recorder(2, 1, 2);

@@ -1,6 +1,6 @@
 //! Whether calls are ordered as the recorder says: an end with an earlier stamp than a begin happened before it. Two threads write and
-//! read a plain word in calls that follow each other, and wait for each other by a relaxed flag, which orders nothing. So
-//! ThreadSanitizer tells a race exactly where the clock of the recorder does not order them.
+//! read a plain word in calls that follow each other. They wait for each other by a relaxed flag, which orders nothing. So
+//! ThreadSanitizer reports a race exactly when the clock of the recorder does not order them.
 //!
 //! SPDX-License-Identifier: 0BSD
 mod snaprecord;

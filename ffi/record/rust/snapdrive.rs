@@ -1,6 +1,6 @@
 //! Drives a snapshot object of one's own: threads update and view it by a seeded schedule, and the judge judges each run.
 //!
-//! Beside it stand `snaprecord.rs` and `snapverdict.rs`, Unix, no dependencies: copy all three. `docs/OWN-OBJECT.md` of
+//! It needs `snaprecord.rs` and `snapverdict.rs` beside it, Unix, no dependencies: copy all three. `docs/OWN-OBJECT.md` of
 //! snapjudge shows how.
 //!
 //! ```text
@@ -11,13 +11,13 @@
 //! impl snapdrive::Board for Mine {
 //!     fn new(components: usize) -> Self { .. }                            // a fresh one for each run, with 0 in each component
 //!     fn update(&self, thread: usize, component: usize, value: u32) { .. }
-//!     fn view(&self, thread: usize) -> Option<Vec<u32>> { .. }            // nothing where it gave up
+//!     fn view(&self, thread: usize) -> Option<Vec<u32>> { .. }            // nothing if it gave up
 //! }
 //!
 //! fn main() -> ExitCode { snapdrive::main(&[("mine", snapdrive::run::<Mine>)]) }
 //! ```
 //!
-//! Where an object calls `pause()` between its steps, the other threads run in the middle of its calls. An object whose updates can
+//! If an object calls `pause()` between its steps, the other threads run in the middle of its calls. An object whose updates can
 //! fail has the trait `FallibleBoard` in place of `Board`. In a test of one's own, `run::<Mine>("mine", &options)` does the same
 //! without a command line.
 //!
@@ -64,7 +64,7 @@ pub const USAGE: &str = "usage: [OBJECT] [OPTION VALUE ..]
 pub trait Board: Sync {
     fn new(components: usize) -> Self;
     fn update(&self, thread: usize, component: usize, value: u32);
-    /// One value for each component; nothing where it gave up.
+    /// One value for each component; nothing if it gave up.
     fn view(&self, thread: usize) -> Option<Vec<u32>>;
 }
 
@@ -155,7 +155,7 @@ impl Outcome {
         self.overlapped += u64::from(views.overlapping > 0);
     }
 
-    /// An error where the runs say nothing of the object: all were atomic, and too few views ended, or none of them overlapped an update.
+    /// An error if the runs say nothing of the object: all were atomic, and too few views ended, or none of them overlapped an update.
     fn test_looked(&self, options: &Options) -> Result<(), Error> {
         let (views, runs) = (self.views, self.runs());
         if self.first.is_some() || options.views == 0 {
@@ -277,7 +277,7 @@ impl Pace {
     }
 }
 
-/// Opens once for each time that it is told to.
+/// Lets one thread pass each time that it is opened.
 #[derive(Default)]
 struct Gate(Mutex<bool>, Condvar);
 
@@ -342,7 +342,7 @@ impl Order {
     }
 }
 
-/// A thread that comes to so many points without the end of a call may wait for another one, and goes behind all others.
+/// A thread that comes to this many points within one call may wait for another one, and gets a priority below all others.
 const MOST_SPINS: u64 = 10_000;
 
 /// Turns of the threads of a run: probabilistic concurrency testing, by Burckhardt, Kothari, Musuvathi and Nagarakatte (2010). One thread
@@ -389,7 +389,7 @@ impl Turns {
 }
 
 thread_local! {
-    /// The turns of this thread and its number; none where it runs freely.
+    /// The turns of this thread and its number; none if it runs freely.
     static TURNS: RefCell<Option<(Arc<Turns>, usize)>> = const { RefCell::new(None) };
 }
 
@@ -415,7 +415,7 @@ fn go_on(options: &Options) {
 static NAPS: AtomicU64 = AtomicU64::new(0);
 static LONGEST_NAP: AtomicU64 = AtomicU64::new(0);
 
-/// Lets the other threads run, and naps where the options ask for it.
+/// Lets the other threads run, and naps if the options ask for it.
 pub fn pause() {
     if point() {
         return;
@@ -475,7 +475,7 @@ fn keep_unfinished(name: &str, out: &str, so_far: &SoFar) {
     }
 }
 
-/// Ends the process where nobody sends or hangs up within so many seconds: a call that hangs can't be ended.
+/// Ends the process if nobody sends or hangs up within this many seconds: a call that hangs can't be ended.
 fn watch(ended: &mpsc::Receiver<()>, name: &str, options: &Options, so_far: &SoFar) {
     let limit = options.limit;
     if ended.recv_timeout(Duration::from_secs(limit)) == Err(mpsc::RecvTimeoutError::Timeout) {
@@ -485,7 +485,7 @@ fn watch(ended: &mpsc::Receiver<()>, name: &str, options: &Options, so_far: &SoF
     }
 }
 
-/// The history of a fresh object, and its views. What a run made that did not end stands in NAME-unfinished.csv.
+/// The history of a fresh object, and its views. What a run made that did not end is in NAME-unfinished.csv.
 fn record<B: FallibleBoard>(name: &str, options: &Options, seeds: &mut Random, pace: &mut Pace) -> Result<(String, Views), Error> {
     let mut recorder = Recorder::new(options.threads as usize, options.components as usize, options.calls as usize)?;
     let board = panic::catch_unwind(|| B::new(options.components as usize))
@@ -572,6 +572,7 @@ pub fn run<B: FallibleBoard>(name: &str, options: &Options) -> Result<Outcome, E
     test(options)?;
     let judge = Judge::find(options.program.as_deref(), options.events as u32)?;
     judge.test_folder(&options.out)?;
+    judge.test_verdict(&options.out)?;
     let front = format!("{}/{name}", options.out);
     let mut seeds = Random(options.seed);
     let mut pace = Pace::new(options);
@@ -604,7 +605,7 @@ pub fn run<B: FallibleBoard>(name: &str, options: &Options) -> Result<Outcome, E
 
 // ---- the command line
 
-/// Takes an option, and its value where there is one.
+/// Takes an option, and its value if there is one.
 fn read_option(options: &mut Options, word: &str, value: Option<&String>) -> Result<(), Error> {
     let name = word.strip_prefix("--").ok_or_else(|| Error::Usage(format!("{word} is not an option")))?;
     let is_known = ["order", "schedule", "out", "program"].contains(&name) || ranges(options).iter().any(|range| range.0 == name);
@@ -670,7 +671,7 @@ fn usage_of(objects: &[Object]) -> String {
     format!("{USAGE}\nobjects: {}\n", names.join(" "))
 }
 
-/// Runs what the words ask for. `None` is no run, but the list of options or of calls.
+/// Runs what the words ask for. `None` means that they asked for the list of options or of calls.
 fn answer(objects: &[Object], name: &str, mut words: Vec<String>) -> Result<Option<Outcome>, Error> {
     let (_, run) = objects.iter().find(|object| object.0 == name).ok_or_else(|| Error::Usage(format!("there is no object {name}")))?;
     if words.iter().any(|word| word == "--help" || word == "-h") {
@@ -685,8 +686,9 @@ fn answer(objects: &[Object], name: &str, mut words: Vec<String>) -> Result<Opti
     print(&format!("{name}: {outcome}\n")).map(|()| Some(outcome))
 }
 
-/// Runs the object that the command line names, or the first one. The status is 0 where each run was atomic, 1 where some were
-/// only regular, 2 where some were not regular, 3 where too little was seen for a verdict, and 4 where there is none for another reason.
+/// Runs the object that the command line names, or the first one. The status is 0 if each run was atomic, 1 if some were only
+/// regular, and 2 if some were not regular. It is 3 if too little was seen for a verdict, and 4 if there is none for another
+/// reason.
 pub fn main(objects: &[Object]) -> ExitCode {
     let mut words: Vec<String> = env::args().skip(1).collect();
     let is_named = words.first().is_some_and(|word| !word.starts_with('-'));

@@ -17,13 +17,13 @@
 //!
 //! let so_far = recorder.so_far();                                          // before they start
 //! let text = so_far.text()?;                                               // at any time, from any thread
+//! so_far.keep("unfinished.csv");                                           // or: whenever a thread panics
 //! ```
 //!
-//! What the record says: where call A ended before call B began, A happened before B. Each stamp is a `fetch_add` of one clock
-//! with acquire and release; that of a begin is taken last in `begin_..`, that of an end first in `end_..`. A thread writes
-//! to its own log alone. A call locks and allocates nothing, and does not panic, and all pages of a log are there before threads run.
-//! What it cannot say: the clock orders more calls than the object may, so a fault that needs two calls without such an
-//! order can hide.
+//! What the record says: if call A ended before call B began, A happened before B. Each stamp is a `fetch_add` of one clock with
+//! acquire and release. A begin takes it last in `begin_..`, and an end takes it first in `end_..`. A thread writes to its own log
+//! alone. A call locks and allocates nothing, and does not panic, and all pages of a log are there before threads run.
+//! What it cannot say: the clock orders more calls than the object may, so a fault that needs two calls without such an order can hide.
 //!
 //! SPDX-License-Identifier: 0BSD
 //! Copyright (C) 2026 by the authors of snapjudge
@@ -36,8 +36,10 @@
 
 use std::collections::HashMap;
 use std::fmt::{self, Write};
+use std::path::PathBuf;
 use std::sync::atomic::{fence, AtomicBool, AtomicU32, AtomicU64, AtomicUsize, Ordering};
-use std::sync::{Arc, OnceLock};
+use std::sync::{Arc, Mutex, OnceLock};
+use std::{fs, panic};
 
 /// How many events a history may have; a call has two. More than 65,536 the judge takes by `--events N`.
 pub const EVENT_LIMIT: usize = 1_048_576;
@@ -60,13 +62,13 @@ pub enum Fault {
     Component { thread: usize },
     /// Two threads updated one component.
     TwoWriters { component: u32 },
-    /// Views tell values, and a component got one value twice, or its initial one.
+    /// Views have values alone, and a component got one value twice, or its initial one.
     SameValue { component: u32, value: u32 },
-    /// A view tells the values of fewer components than there are.
+    /// A view has values of fewer components than there are.
     Part { thread: usize },
     /// There are initial values, and not as many as components.
     Initials,
-    /// `logs` has not each log of this recorder, at its place.
+    /// `logs` lacks a log of this recorder, or has one in the wrong place.
     LogMissing,
 }
 
@@ -109,7 +111,7 @@ pub struct Entry {
     pub value: u32,
 }
 
-/// Alone in its lines of the cache.
+/// Shares no line of the cache with anything else.
 #[repr(align(128))]
 #[derive(Default)]
 struct Clock(AtomicU64);
@@ -159,7 +161,7 @@ struct Event {
 /// An event as others may read it: its stamp, its kind, and the first of its entries and their number.
 struct Slot(AtomicU64, AtomicU32, AtomicU32, AtomicU32);
 
-/// What a log has recorded. Its thread writes it, and others read the events up to `whole`. `drops` tells how often a begin was taken
+/// What a log has recorded. Its thread writes it, and others read the events up to `whole`. `drops` counts how often a begin was taken
 /// back. The lists have room for all that they can get. Each place was written once, so that no page is made while threads run: what is
 /// written is not zero, since new pages have that.
 struct Recorded {
@@ -205,7 +207,7 @@ impl Recorded {
         Entry { component, number, value }
     }
 
-    /// Others may read so many events. What the object writes next does not come before that: no instruction on x86.
+    /// Others may read this many events. What the object writes next does not come before that: no instruction on x86.
     fn publish(&self, whole: usize) {
         self.whole.store(whole, Ordering::Release);
         fence(Ordering::Release);
@@ -348,7 +350,7 @@ impl Log {
     }
 
     /// The end of a view that shows these values, of component 0 and so on. `Recorder::text` finds the number of each by its
-    /// value, so the updates of a component have to write values that differ from each other and from the one that it has at first.
+    /// value. So the updates of a component must write values that differ from each other and from the one that it has at first.
     pub fn end_view_values(&mut self, shown: &[u32]) {
         let stamp = self.tick();
         if !self.may_end(State::Viewing) {
@@ -374,13 +376,13 @@ impl Log {
         may
     }
 
-    /// In place of the end of a view that gave no answer, because it gave up: it is left out of the history.
+    /// Call this in place of the end of a view that gave no answer, because it gave up: the view is left out of the history.
     pub fn drop_view(&mut self) {
         self.dropped(State::Viewing);
     }
 
     /// In place of the end of an update that had no effect, and can have none any more: it is left out of the history, and the
-    /// next update of its component gets its number. Where that is not known, end nothing, and use this log no more.
+    /// next update of its component gets its number. If that is not known, end nothing, and use this log no more.
     pub fn drop_update(&mut self) {
         if self.dropped(State::Updating) {
             self.entries -= 1;
@@ -394,7 +396,7 @@ pub struct Recorder {
     pub logs: Vec<Log>,
     /// The value that each component has at first.
     pub initial: u32,
-    /// Or, where it is not empty, the first value of each component.
+    /// Or, if it is not empty, the first value of each component.
     pub initials: Vec<u32>,
     shared: Arc<Shared>,
     threads: usize,
@@ -402,7 +404,7 @@ pub struct Recorder {
 }
 
 impl Recorder {
-    /// For so many threads, components, and calls of each thread, at most `EVENT_LIMIT / 2` calls in all.
+    /// A recorder for this many threads, components, and calls of each thread, at most `EVENT_LIMIT / 2` calls in all.
     pub fn new(threads: usize, components: usize, calls: usize) -> Result<Self, Fault> {
         let fits =
             (1..=PROCESS_LIMIT).contains(&threads) && components <= COMPONENT_LIMIT && (1..=EVENT_LIMIT / 2 / threads).contains(&calls);
@@ -426,7 +428,7 @@ impl Recorder {
         Ok(Recorder { logs, initial: 0, initials: Vec::new(), shared, threads, components })
     }
 
-    /// The history that all logs hold. The logs stand one after the other: the judge puts the events in the order of their
+    /// The history that all logs hold. The logs follow one another: the judge puts the events in the order of their
     /// stamps. The fault is the first misuse, or one of `LogMissing`, `Initials`, `TwoWriters` and `SameValue`.
     pub fn text(&self) -> Result<String, Fault> {
         if let Some(&misuse) = self.shared.misuse.get() {
@@ -501,6 +503,21 @@ impl SoFar {
         Ok(text)
     }
 
+    /// From now on each panic, of any thread, first writes the history so far into a file of this path. Then it does what panics did
+    /// before. So a process that aborts by a panic keeps its run. One that dies otherwise writes nothing.
+    pub fn keep(self, path: impl Into<PathBuf>) {
+        let (path, before, turn) = (path.into(), panic::take_hook(), Mutex::new(()));
+        panic::set_hook(Box::new(move |info| {
+            let _turn = turn.lock(); // threads that panic at once write one after the other
+            match self.text().map(|text| fs::write(&path, text)) {
+                Ok(Ok(())) => {}
+                Ok(Err(error)) => eprintln!("{} can't be written: {error}", path.display()),
+                Err(fault) => eprintln!("{} is not written: {fault}", path.display()),
+            }
+            before(info);
+        }));
+    }
+
     fn initial_of(&self, component: u32) -> u32 {
         self.initials.get(component as usize).copied().unwrap_or(self.initial)
     }
@@ -535,7 +552,7 @@ fn below(stamps: &[u64], stamp: u64) -> usize {
 struct Updates {
     /// By component and number: the stamp of the begin.
     begun: Vec<Vec<u64>>,
-    /// By component and value, where some view tells values.
+    /// By component and value, if some view has values alone.
     numbers: HashMap<(u32, u32), u32>,
 }
 

@@ -1,4 +1,4 @@
-//! Judges a recorded history: by the library of snapjudge where it is there, and else by the program.
+//! Judges a recorded history: by the library of snapjudge if it is there, and else by the program.
 //!
 //! One file, Unix, no dependencies; `snapdrive.rs` uses it. Nothing is linked: the library is opened while the program runs.
 //!
@@ -54,11 +54,11 @@ extern "C" {
 
 const RTLD_NOW: c_int = 2;
 
-/// The library where it is there, and else the program.
+/// The library if it is there, and else the program.
 pub struct Judge {
     program: Option<PathBuf>,
     check: Option<Check>,
-    /// So many may a history have.
+    /// How many events a history may have.
     events: u32,
     /// Of all judges of this process.
     number: u64,
@@ -72,7 +72,7 @@ fn find_program(named: &str) -> Option<PathBuf> {
     folders.iter().map(|folder| folder.join(named)).find(is_program)?.canonicalize().ok()
 }
 
-/// Whether the program says its version. A program of another kind may end with 0 whatever it is given, which no verdict is.
+/// Whether the program says its version. A program of another kind may end with 0 whatever it is given, and that is not a verdict.
 fn is_judge(program: &Path) -> bool {
     let said = Command::new(program).arg("--version").stdin(Stdio::null()).output();
     said.is_ok_and(|said| {
@@ -145,6 +145,16 @@ impl Judge {
             return Err(Error::NoVerdict(format!("the judge ends with status {status}")));
         }
         Ok(status)
+    }
+
+    /// Tries, before the first run, whether the judge recognizes a history that is not regular: its view misses an update. A judge
+    /// whose status is lost, as by a script with a pipe, would call every run atomic.
+    pub fn test_verdict(&self, out: &str) -> Result<(), Error> {
+        let stale = "event,process,op,data\nbegin,0,update,0:1:7\nend,0,update,\nbegin,1,view,\nend,1,view,\n";
+        match self.status(stale, out)? {
+            2 => Ok(()),
+            status => Err(Error::NoJudge(format!("of a history that is not regular the judge tells status {status}, and not 2"))),
+        }
     }
 
     fn by_program(&self, text: &str, out: &str) -> Result<u32, Error> {

@@ -1,4 +1,4 @@
--- What always holds of the fields of a board and of its desks.
+-- What is always true of the fields of a board and of its desks.
 use Rattle.std.specs.Prelude.{◌≡◌, ◌+◌, ◌<◌, ◌≤◌, [], ◌∷◌, map, length}
 use Rattle.snap_account.specs.Calls.{latest}
 use Rattle.snap_account.specs.Limits.{tick_cap}
@@ -18,13 +18,13 @@ pub record IsBoard (b : board.Inside) : Type 0 where
   pub limited : b.table.shared.key.limit.ticks ≡ b.limit.ticks
   pub few : (0 < b.desks) × (b.desks ≤ desk_limit)
 
--- the seat has the desk's account alone, with no open call, and what is kept is what the account says
+-- The seat has the desk's account alone, without an open call. What is kept is what the account says.
 pub record IsDesk (d : desk.Inside) : Type 0 where
   pub alone : d.seat.me ≡ (idle d.desk (answered_of d.seat.me.0) d.kept.ticks ∷ [], [])
   pub stored : latest (0, 0) (answered_of d.seat.me.0) ≡ (d.kept.stores, d.kept.value)
   pub small : (d.kept.stores ≤ d.kept.ticks) × (d.kept.ticks ≤ tick_cap)
 
--- the seat has the accounts of the desks that are in, and what is kept of each is what its account says
+-- The seat has the accounts of the desks that are in. What is kept of each is what its account says.
 pub record IsGathered (g : gathered.Inside) : Type 0 where
   pub bare : g.seat.me.1 ≡ []
   pub few : (g.desks ≤ desk_limit) × (length g.slots ≡ desk_limit)

@@ -1,4 +1,4 @@
--- Regular histories, said of the places of their events.
+-- Regular histories, defined by the places of their events.
 use Rattle.std.specs.Prelude.{◌≡◌, ℕ, ◌<◌, List, Some}
 use mathlib.Core.Option.{some}
 use lib.ListN.{get_elem?}
@@ -16,7 +16,7 @@ pub record IsSpan (es : List Event) (p i j : ℕ) : Type 0 where
   pub order : i < j
   pub quiet : (l : ℕ) (e : Event) → i < l → l < j → At es l e → process_of e ≡ p → ⊥
 
--- no update with a larger number ended before a view began, and what a view shows is an update that began before the view ended
+-- No update with a larger number ended before a view began. What a view shows is an update that began before the view ended.
 pub record IsRegularByPlaces (es : List Event) : Type 0 where
   pub fresh : (i j p : ℕ) (shown : List Entry) → At es i (BeginView p) → At es j (EndView p shown) → IsSpan es p i j
       → (f t q : ℕ) (e : Entry) → At es f (BeginUpdate q e) → At es t (EndUpdate q) → IsSpan es q f t → number_in (entry_of e.component shown) < e.number → t < i → ⊥

@@ -10,7 +10,7 @@ use std::process::Abort;
 use std::test::Fail;
 use std::thread::join;
 
-// A scan of so many tries has these stamps, and sees a 9 of desk 1 alone.
+// A scan of at most `tries` tries has these stamps, and shows only a 9 of desk 1.
 fn scan_nine(
     rt: &impl Abort,
     alloc: Global,
@@ -38,7 +38,7 @@ fn a_scan_ends_behind_its_middle_tick(rt: HostRuntime) -> Result<(), Fail> {
     scan_nine(&rt, alloc, &board, &mut zero, 1, (0, 5, 7))
 }
 
-// A scan of so many tries is refused.
+// A scan of `tries` tries is refused.
 fn expect_refused(rt: &impl Abort, alloc: Global, board: &Board, desk: &mut Desk, tries: u32)
     requires desk { IsDeskOf board.now desk.old }
     requires tries { 0 < tries }
@@ -74,7 +74,7 @@ fn a_scan_is_spent_by_its_tries(rt: HostRuntime) -> Result<(), Fail> {
     Ok(())
 }
 
-/// Stores 1 to 1,000, and tells whether each store has a record.
+/// Stores 1 to 1,000, and answers whether each store has a record.
 fn store_up(board: &Board, mut desk: Desk) -> (Desk, bool)
     requires { IsDeskOf board.now desk }
     ensures { IsDeskOf board.now result.0 }
@@ -86,7 +86,7 @@ fn store_up(board: &Board, mut desk: Desk) -> (Desk, bool)
     (desk, recorded)
 }
 
-/// Scans 1,000 times with one try, and tells whether each scan has a record or was interfered with.
+/// Scans 1,000 times with one try, and answers whether each scan has a record or was interfered with.
 fn scan_often(alloc: Global, board: &Board, mut desk: Desk) -> (Desk, bool)
     requires { IsDeskOf board.now desk }
     ensures { IsDeskOf board.now result.0 }
@@ -99,7 +99,7 @@ fn scan_often(alloc: Global, board: &Board, mut desk: Desk) -> (Desk, bool)
     (desk, answered)
 }
 
-// A collect sees the last of the 1,000 stores alone.
+// A collect shows only the last of the 1,000 stores.
 fn collect_last(rt: &impl Abort, alloc: Global, board: &Board, desk: &mut Desk) -> Result<(), Fail>
     requires { IsDeskOf board.now desk.old }
     ensures { IsDeskOf board.now desk.new }

@@ -6,7 +6,7 @@ use snap_testing::Meeting;
 use std::alloc::Global;
 use std::test::Fail;
 
-/// Two lists, the first of so many scans with so many tries, the second empty.
+/// Two lists: the first has `steps` scans of `tries` tries, and the second is empty.
 fn scans(alloc: Global, steps: usize, tries: u32) -> Result<Vec<Vec<Step>>, Fail> {
     Ok(vec![in alloc; vec![in alloc; Step::Scan(tries); steps]?, Vec::new(alloc)]?)
 }

@@ -4,5 +4,5 @@ use Rattle.snap_c.proofs.snapjudge_check.Goals as goal
 
 pub returns : goal.returns
 returns c =
-    subst (λ n. IsChecked n c.args.text.now c.args.report.now c.check_text.new.report c.check_text.new.length c.check_text.result)
-    c.usual.ensures c.check_text.ensures
+    subst (λ n. IsChecked n c.args.text.now c.args.report.now c.answer.new.out c.answer.new.length c.answer.result)
+    c.usual-usual.ensures c.answer.ensures

@@ -1,4 +1,4 @@
--- Below which components there are updates.
+-- The components that have updates are below a limit.
 use Rattle.std.specs.Prelude.{ℕ, ◌≡◌, ◌<◌, ◌≤◌, List, count_by}
 use Rattle.snap_core.specs.Calls.{Call}
 use Rattle.snap_core.specs.Entries.{component_count}

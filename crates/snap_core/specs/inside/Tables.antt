@@ -61,7 +61,7 @@ WriterHasRoom t None = ⊤
 abbrev pub HasRoom : Tables → ℕ → Option Begun → Type 0
 HasRoom t p b = (p < vec_len t.calls) × WriterHasRoom t b
 
--- the writer of component k once a process has begun something
+-- the writer of component k after a process has begun something
 abbrev pub writer_by : ℕ → Option Begun → ℕ → Option Writer → Option Writer
 writer_by p (Some (begun.Update e)) k old = if e.component == k then Some (record { process = p; count = e.number }) else old
 writer_by p (Some begun.View) k old = old

@@ -1,11 +1,11 @@
--- What becomes of a reader whose whole text is taken.
+-- What a reader gives when its whole text is taken.
 use Rattle.std.specs.Prelude.{◌≡◌, ◌≤◌, ◌<◌, ℕ, List, length, Option, IfSome, Result, Ok, Err}
 use Rattle.snap_text.specs.declared.fault.TextFault.TheVariants as faults
 use Rattle.snap_format.specs.declared.refusal.ReadRefusal.{ReadRefusal}
 use Rattle.snap_format.specs.declared.refusal.ReadRefusal.TheVariants as refusals
 use Rattle.snap_format.specs.Texts.{bytes_within}
 
--- all that a reader has left was taken as this text, or it is too long
+-- everything that a reader has left was taken as this text, or is too long
 abbrev pub RefusesIntake : ℕ → Option (List ℕ) → ReadRefusal → Type 0
 RefusesIntake limit known (refusals.Text place f) = (place ≡ 0) × (f ≡ faults.TooLong) × IfSome known (λ text. bytes_within limit < length text)
 RefusesIntake limit known refusals.Device = Unit {0}

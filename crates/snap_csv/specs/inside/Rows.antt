@@ -12,7 +12,7 @@ use Rattle.snap_format.specs.declared.refusal.ReadRefusal.{ReadRefusal}
 use Rattle.snap_format.specs.Records.{RowsNumbered}
 use Rattle.snap_rows.specs.Taking.{AnswersRows, RefusesRows}
 
--- a reader over memory stands before these records
+-- a reader over memory has these records left
 pub record Stands (r : Reader (Bor (List ℕ))) (rows : List Fields) : Type 0 where
   pub trim : r.trim ≡ trim.None
   pub ready : Ready r

@@ -11,22 +11,21 @@ use Rattle.snap_names.specs.declared.opener.Trouble.{Trouble}
 use Rattle.snap_names.specs.declared.opener.Trouble.TheVariants.{Memory}
 use Rattle.snap_files.specs.Files.{Answer, Opens, IsPage, Told, Page, written, said, greatest_code}
 
--- a run blames its reader only where the count of its failures rose
+-- a run blames its reader only if the count of its failures rose
 abbrev pub BlamesReader : {A : Type 0} → ℕ → ℕ → Result A RunFault → Type 0
 BlamesReader old new result = IfErr result (λ fault. fault ≡ faults.Read → Rose old new)
 
--- why a text that was opened has no status, by the fault of its check: of a failed read the opener says it, and what fails there as a
--- write is in memory
+-- Why an opened text has no status, by the fault of its check. The opener says it of a failed read. A failed write there is lack of memory.
 abbrev pub IsTroubleBy : Opens → List ℕ → RunFault → Trouble → Type 0
 IsTroubleBy opens name faults.Read trouble = opens name (Err trouble)
 IsTroubleBy opens name faults.Write trouble = trouble ≡ Memory
 IsTroubleBy opens name faults.Memory trouble = trouble ≡ Memory
 
--- what is answered and written of each of some names, in the order of the names
+-- what is answered and written for each of some names, in the order of the names
 abbrev pub AreAnswered : Opens → FileOptions → List (Vec ℕ) → List (Answer × Vec ℕ) → Type 0
 AreAnswered opens options names pages = AllZip (λ name page. IsPage opens options (name.items) page.0 page.1.items) names pages
 
--- the names with what is answered and written of each
+-- the names with what is answered and written for each
 abbrev pub paged : List (Vec ℕ) → List (Answer × Vec ℕ) → List Page
 paged [] pages = []
 paged (name ∷ names) [] = []

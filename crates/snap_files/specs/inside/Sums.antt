@@ -17,7 +17,7 @@ abbrev pub IsFirst : ℕ → List Judged → Option ℕ → Type 0
 IsFirst code files None = find (has_code code) files ≡ None
 IsFirst code files (Some place) = (first : Judged) × (find (has_code code) files ≡ Some first) × (slice_get files place ≡ Some first)
 
--- how many files have the status of a kind, and the first of them
+-- the number of files with the status of a kind, and the first of them
 pub record IsKind (code : ℕ) (files : List Judged) (kind : Kind) : Type 0 where
   pub code_is : kind.code ≡ code
   pub counts : kind.files ≡ count_by (has_code code) files
@@ -32,7 +32,7 @@ pub record AreSums (files : List Judged) (sums : Sums) : Type 0 where
   pub refused : IsKind 3 files sums.refused
   pub failed : IsKind 4 files sums.failed
 
--- the names that are counted so far
+-- the names that were counted so far
 pub record Summed (opens : Opens) (limit : Limit) (views : ℕ) (names : List (Vec ℕ)) (told_old told_new : Option (List ℕ)) (failures_old failures_new : ℕ) (sums : Sums) : Type 0 where
   pub pages : List Page
   pub each : ArePages opens (counting limit views) names pages

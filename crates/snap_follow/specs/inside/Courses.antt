@@ -1,5 +1,5 @@
 -- What the course of a recording has taken.
-use Rattle.std.specs.Prelude.{◌≡◌, ◌<◌, ◌++◌, ◌⊎◌, ℕ, List, [], ◌∷◌, flat_map, length}
+use Rattle.std.specs.Prelude.{◌≡◌, ◌≢◌, ◌<◌, ◌++◌, ◌⊎◌, ℕ, List, [], ◌∷◌, flat_map, length}
 use Rattle.snap_core.specs.declared.event.Event.{Event}
 use Rattle.snap_follow.specs.declared.course.Course.{Course}
 use Rattle.snap_follow.specs.declared.follow.Follow.{Follow}
@@ -33,10 +33,20 @@ abbrev pub TakesLast : Course → Course → Type 0
 TakesLast old new = (least most : ℕ) (texts : List (List (List ℕ))) (bytes : List ℕ) (events : List Event) → HasFollowed old least most texts bytes events →
     (lines : List (List ℕ)) × (more : List Event) × AreAllLines bytes lines × HasJudged new.follow least most texts lines (events ++ more)
 
--- and the next text begins
+-- the bytes of the text at hand have ended, and the next text begins
 abbrev pub EndsBytes : Course → Course → Type 0
 EndsBytes old new = (least most : ℕ) (texts : List (List (List ℕ))) (bytes : List ℕ) (events : List Event) → HasFollowed old least most texts bytes events →
     (lines : List (List ℕ)) × (more : List Event) × AreAllLines bytes lines × HasFollowed new least most (texts ++ lines ∷ []) [] (events ++ more)
+
+-- a record was read, of this text or of one before it
+abbrev pub IsBegun : Follow → Type 0
+IsBegun follow = (least most : ℕ) (texts : List (List (List ℕ))) (lines : List (List ℕ)) (events : List Event) → HasRead follow least most texts lines events →
+    (texts ≢ []) ⊎ (flat_map rows_of lines ≢ [])
+
+-- no record was read so far
+abbrev pub HasNoneSoFar : Follow → Type 0
+HasNoneSoFar follow = (least most : ℕ) (texts : List (List (List ℕ))) (lines : List (List ℕ)) (events : List Event) → HasRead follow least most texts lines events →
+    (texts ≡ []) × (flat_map rows_of lines ≡ [])
 
 -- a line has more bytes than a record may have
 abbrev pub IsTooLong : List ℕ → Type 0
@@ -47,8 +57,8 @@ abbrev pub BeginsWithEnd : List ℕ → Type 0
 BeginsWithEnd [] = ⊥
 BeginsWithEnd (b ∷ bytes) = EndsLine b
 
--- a piece stops a recording: some of its bytes were taken, and the line behind them has more bytes than a record may have, or has
--- its end in the piece and stops the recording
+-- a piece stops a recording: some of its bytes were taken. The line after them has more bytes than a record may have, or it ends in
+-- the piece and stops the recording
 pub record StopsIn (old : Course) (piece : List ℕ) : Type 0 where
   pub at : Course
   pub front : List ℕ

@@ -17,7 +17,7 @@ Reaches front s fields field = (rest : List ℕ) → next_record default_config 
 abbrev pub IsOutside : State → Type 0
 IsOutside s = (s ≡ st.StartRecord) ⊎ ((s ≡ st.StartField) ⊎ (s ≡ st.InField))
 
--- where the machine stands with the quotes, and where without them
+-- the states of the machine with the quotes and without them
 abbrev pub Stand : At → State → State → Type 0
 Stand Begin quoted bare = (quoted ≡ bare) × ((bare ≡ st.StartRecord) ⊎ (bare ≡ st.StartField))
 Stand Bare quoted bare = (quoted ≡ st.InField) × (bare ≡ st.InField)

@@ -1,4 +1,4 @@
--- What ends a recording where the judge refuses an event.
+-- What ends a recording if the judge refuses an event.
 use Rattle.std.specs.Prelude.{⊤, Option, Some, None}
 use Rattle.snap_core.specs.declared.history.EventRefusal.{EventRefusal}
 use Rattle.snap_format.specs.Faults.{fault_of}
@@ -12,7 +12,7 @@ abbrev pub ended_with : Place → Option TextFault → Ended
 ended_with place (Some fault) = Refused place fault
 ended_with place None = Memory
 
--- by a refusal of an event at a place
+-- what ends a recording, by the refusal of an event at a place
 abbrev pub ended_by : Place → EventRefusal → Ended
 ended_by place refusal = ended_with place (fault_of refusal)
 

@@ -11,20 +11,20 @@ use Rattle.snap_grid.specs.inside.Sweeps.{AreDropsOfOne}
 abbrev pub AreAlike : List (List ℕ) → ℕ → ℕ → Type 0
 AreAlike columns a b = (j : ℕ) → j < length columns → number (get_or columns j []) a ≡ number (get_or columns j []) b
 
--- what a function gives of a row is told by the row's numbers
+-- what a function gives for a row depends only on the row's numbers
 abbrev pub IsOfNumbers : List (List ℕ) → (ℕ → ℕ) → Type 0
 IsOfNumbers columns f = (a b : ℕ) → AreAlike columns a b → f a ≡ f b
 
--- what a function gives of the rows of all kinds, each as often as there are rows of it
+-- what a function gives for the rows of all kinds, each counted as often as there are rows of its kind
 abbrev pub sum_of_kinds : (ℕ → ℕ) → ℕ → List Kind → ℕ
 sum_of_kinds f first kinds = sum_by (λ kind. kind.times * f (first + kind.row)) kinds
 
--- the kinds of m rows from one on: whatever is told by a row's numbers adds up to as much over the kinds as over the rows
+-- the kinds of m rows from `first` on. What depends only on a row's numbers adds up to as much over the kinds as over the rows
 pub record AreKinds (columns : List (List ℕ)) (first m : ℕ) (kinds : List Kind) : Type 0 where
   pub within : (k : ℕ) (kind : Kind) → k < length kinds → (get_or kinds k kind).row < m
   pub sums : (f : ℕ → ℕ) → IsOfNumbers columns f → sum_by f (range_with_len first m) ≡ sum_of_kinds f first kinds
 
--- the kinds of each block of so many rows
+-- the kinds of each block, of `rows` rows in all
 pub record HaveKinds (columns : List (List ℕ)) (rows : ℕ) (kinds : List (List Kind)) : Type 0 where
   pub blocks : (block : ℕ) → block * 512 < rows → block < length kinds
   pub each : (block : ℕ) (some : List Kind) → block < length kinds → AreKinds columns (block * 512) (min 512 (rows - block * 512)) (get_or kinds block some)

@@ -13,7 +13,7 @@ use Rattle.snap_index.specs.declared.index.CompletedView.{CompletedView}
 use Rattle.snap_index.specs.IndexedCalls.{as_indexed, number_of, write_of, entries_shown}
 use Rattle.snap_index.specs.Updates.{updates_of, is_pending}
 
--- a list for each component, where none is kept for the last of them
+-- a list for each component; the last components may have none in `rows`
 abbrev pub padded : {A : Type 0} → List (List A) → List (List A)
 padded rows = rows ++ replicate (component_count - length rows) []
 
@@ -29,7 +29,7 @@ number_kept v = v.call
 abbrev pub entries_kept : CompletedView → List Entry
 entries_kept v = v.view.now
 
--- the call numbers of the views, what they show, what the updates of each component write, and how many calls are pending
+-- the call numbers of the views and what they show, what the updates of each component write, and the number of pending calls
 pub record AreTables (calls : List SpecCall) (views : List CompletedView) (updates : List (List Write)) (pending : ℕ) : Type 0 where
   pub size : length updates ≡ component_count
   pub of_views : map number_kept views ≡ map number_of (views_of calls)

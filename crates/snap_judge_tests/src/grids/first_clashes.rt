@@ -4,7 +4,7 @@ use std::alloc::Global;
 use std::process::Abort;
 use std::test::Fail;
 
-// Of a grid whose rows may each end before the next begins, the first row that each of some rows clashes with.
+// In a grid whose rows may each end before the next begins, the first row with which each of some rows clashes.
 fn expect_first(
     rt: &impl Abort,
     alloc: Global,

@@ -1,7 +1,7 @@
-//! The worked histories, and what is known of them from outside.
+//! The worked histories, and what is known about them from outside.
 use snap_testing::{Step, worked};
 
-/// Each by its name, with how many integrity, proximity, read and write faults and how many stale views it has.
+/// Each with its name, and its numbers of integrity, proximity, read and write faults and of stale views.
 pub(super) const WORKED: &[(&str, &[Step<'static>], [u64; 5])] = &[
     ("nothing", worked::NOTHING, [0, 0, 0, 0, 0]),
     ("stale view", worked::STALE_VIEW, [0, 1, 0, 0, 0]),

@@ -18,12 +18,12 @@ fn merged(rt: &impl Abort, first: &Tally, second: &Tally) -> Tally {
     merge(*first, *second)
 }
 
-// Merged, two tallies have these faults.
+// Two merged tallies have these faults.
 fn expect_merged(rt: &impl Abort, first: &Tally, second: &Tally, known: Known) {
     assert!(rt; found(&merged(rt, first, second)) == known);
 }
 
-// The tallies of the first and of the second view of an index, and that of both.
+// The tallies of the first and of the second view of an index, and of both.
 fn tallies_of_two(rt: &impl Abort, index: &Index<'_>) -> [Tally; 3] {
     assert!(rt; index.view_count() == 2);
     [
@@ -33,14 +33,14 @@ fn tallies_of_two(rt: &impl Abort, index: &Index<'_>) -> [Tally; 3] {
     ]
 }
 
-// The same of a history.
+// The tallies of the first and of the second view of a history, and of both.
 fn tallies(rt: &impl Abort, alloc: Global, steps: &[Step<'_>]) -> Result<[Tally; 3], Fail> {
     let history = history_of(alloc, steps)?;
     let index = Index::build(alloc, &history)?;
     Ok(tallies_of_two(rt, &index))
 }
 
-// The tallies of the two views of a history have its faults together, and its tally has them with no fault more.
+// The tallies of the two views of a history together have its faults, and its tally has those and no more.
 fn expect_parts_merged(rt: &impl Abort, alloc: Global, steps: &[Step<'_>]) -> Result<(), Fail> {
     let [first, second, all] = tallies(rt, alloc, steps)?;
     expect_merged(rt, &first, &second, found(&all));

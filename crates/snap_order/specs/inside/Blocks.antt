@@ -7,15 +7,15 @@ use Rattle.snap_core.specs.Calls.{Call}
 use Rattle.snap_theory.specs.Keys.{key_of}
 use Rattle.snap_theory.specs.Levels.{is_printed}
 
--- the keys of the printed calls from one number to before another
+-- the keys of the printed calls with numbers from `from` to before `to`
 abbrev pub keys_between : List Call → ℕ → ℕ → List (ℕ × ℕ)
 keys_between calls from to = map (key_of calls) (filter (is_printed calls) (take (to - from) (drop from calls)))
 
--- the first number of a block, where so many calls are cut into so many blocks
+-- the first number of a block, if `calls` calls are cut into `blocks` blocks
 abbrev pub block_start : ℕ → ℕ → ℕ → ℕ
 block_start blocks block calls = block * calls / blocks
 
--- the keys of a block, where memory did not run out
+-- the keys of a block, if memory did not run out
 abbrev pub IsBlock : List Call → ℕ → ℕ → Result (Vec (ℕ × ℕ) Global) AllocError → Type 0
 IsBlock calls blocks block made = IfOk made (λ keys. keys.items ≡ keys_between calls (block_start blocks block (length calls)) (block_start blocks (block + 1) (length calls)))
 

@@ -6,8 +6,8 @@ use Rattle.snap_core.specs.Calls.{calls_of}
 use Rattle.snap_views.specs.Chains.{AreViewSums, IsChain}
 use Rattle.snap_views.specs.Quick.{AreComparable}
 
--- the places of the completed views of a history in a chain, where none shows a component above one behind it, and the sum of
--- each view by its place
+-- the places of the completed views of a history in a chain, and the sum of each view by its place. Each view shows of each
+-- component no more than the views after it in the chain
 pub record IsSummedChain (events : List Event) (places sums : List ℕ) : Type 0 where
   pub kept : IsBoundedHistory events
   pub chain : IsChain (calls_of events) places

@@ -7,11 +7,11 @@ use Rattle.snap_core.specs.Entries.{component_count, entry_of}
 abbrev pub IsLast : List (Option Entry) → Entry → Type 0
 IsLast last e = get_or last e.component None ≡ Some e
 
--- the entries show of each component its last entry, or nothing where it has none
+-- the entries show of each component its last entry, or nothing if it has none
 abbrev pub ShowsLast : List Entry → List (Option Entry) → Type 0
 ShowsLast entries last = (k : ℕ) → k < component_count → entry_of k entries ≡ get_or last k None
 
--- the last entries of all components, of which so many have one
+-- the last entry of each component, and the number of components that have one
 pub record AreCounted (last : List (Option Entry)) (written : ℕ) : Type 0 where
   pub each : length last ≡ component_count
   pub count : written ≡ count_by is_some last

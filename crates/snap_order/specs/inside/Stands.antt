@@ -1,11 +1,11 @@
--- What is tested of a call before it is put behind others.
+-- What is tested of a call before it is put after others.
 use Rattle.std.specs.Prelude.{ℕ, Bool, true, false, List, Option, length, get_or, ◌≡◌, ◌<◌, ◌⊎◌}
 use Rattle.snap_core.specs.declared.entry.Entry.{Entry}
 use Rattle.snap_core.specs.Calls.{Call, call_numbered, is_before, is_view, entries_of}
 use Rattle.snap_core.specs.Orders.{is_completed, is_update}
 use Rattle.snap_order.specs.inside.Shown.{ShowsLast}
 
--- c may stand behind calls that left these last entries and of which this is the latest begin
+-- c may come after calls that left these last entries, with this as their latest begin
 pub record MayStand (c : Call) (last : List (Option Entry)) (latest : ℕ) : Type 0 where
   -- it precedes none of them
   pub precedes_none : is_before c.ended latest ≡ false

@@ -5,11 +5,11 @@ use Rattle.snap_core.specs.Calls.{Call, views_of}
 use Rattle.snap_conditions.specs.Tally.{tally_of}
 use Rattle.snap_views.specs.Seen.{views_between}
 use Rattle.snap_conditions.specs.declared.tally.Tally.{Tally}
-use Rattle.snap_pairs.specs.Claiming.{CounterView, IsClaimOf, IsFinished, pieces_of}
+use Rattle.snap_threads.specs.Claiming.{CounterView, IsClaimOf, IsFinished, pieces_of}
 use Rattle.snap_pairs.specs.declared.worker.Answer.{Answer}
 use Rattle.snap_pairs.specs.declared.worker.Drawn.{Drawn}
 
--- the place of the first view of piece p, where so many views are cut into pieces
+-- the place of the first view of piece p, if `views` views are cut into `pieces` pieces
 abbrev pub piece_start : ℕ → ℕ → ℕ → ℕ
 piece_start pieces p views = p * views / pieces
 
@@ -17,7 +17,7 @@ piece_start pieces p views = p * views / pieces
 abbrev pub views_in_piece : List Call → ℕ → ℕ → List Call
 views_in_piece calls pieces p = views_between calls (piece_start pieces p (length (views_of calls))) (piece_start pieces (p + 1) (length (views_of calls)))
 
--- views are compared with others in blocks of 512: the first view, at a place or behind it, with which a block begins
+-- views are compared with others in blocks of 512: the first view, at a place or after it, with which a block begins
 abbrev pub block_from : ℕ → ℕ → ℕ
 block_from place views = min ((place + 512 - 1) / 512 * 512) views
 
@@ -27,7 +27,7 @@ views_in_blocks calls pieces p =
     let views = length (views_of calls) in
     views_between calls (block_from (piece_start pieces p views) views) (block_from (piece_start pieces (p + 1) views) views)
 
--- the one tally, but the read faults and the stale views of the other
+-- the one tally, with the read faults and the stale views of the other
 abbrev pub with_reads : Tally → Tally → Tally
 with_reads t reads = record t { read = reads.read; stale = reads.stale }
 
@@ -45,7 +45,7 @@ pub record IsAnswer (calls : List Call) (counter : CounterView) (answer : Answer
   pub tallied : AreTallied calls counter.pieces answer.pairs.items
   pub covers : pieces_of answer.claim ≡ map (λ pair. pair.piece) answer.pairs.items
 
--- good answers, where memory did not run out
+-- each answer is good, or memory ran out
 abbrev pub AreAnswers : List Call → CounterView → List (Result Answer AllocError) → Type 0
 AreAnswers calls counter answers = All (λ answer. IfOk answer (IsAnswer calls counter)) answers
 

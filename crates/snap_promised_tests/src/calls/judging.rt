@@ -2,7 +2,7 @@
 ghost use Rattle.std.specs.Prelude.{◌<◌, ◌≤◌, length, All};
 ghost use Rattle.snap_core.specs.Calls.{calls_of, views_of};
 ghost use Rattle.snap_conditions.specs.Tally.{SumsFit};
-ghost use Rattle.snap_pairs.specs.Claiming.{IsClaimOf};
+ghost use Rattle.snap_threads.specs.Claiming.{IsClaimOf};
 ghost use Rattle.snap_theory.specs.Faults.{HasNoFault};
 ghost use Rattle.snap_views.specs.Chains.{AreViewSums};
 

@@ -17,7 +17,7 @@ one_made (Takes taken made ended) = Takes taken (made + 1) ended
 one_made (Sends place sent) = Sends place sent
 one_made Spent = Spent
 
--- and this is the sender
+-- the sender that the taker makes
 abbrev pub next_sender : Role → Role
 next_sender (Takes taken made ended) = Sends made []
 next_sender (Sends place sent) = Spent
@@ -44,21 +44,21 @@ after_pop (Takes taken made ended) x = Takes (taken ++ x ∷ []) made ended
 after_pop (Sends place sent) x = Sends place sent
 after_pop Spent x = Spent
 
--- `sent` says what each worker sent, and so what this one did
+-- `sent` says what each worker sent, and agrees with this one
 abbrev pub DidSend : (ℕ → List Record) → Ended → Type 0
 DidSend sent e = sent e.place ≡ e.sent
 
--- a sender that was taken in is out no more
+-- a sender that was taken in is no longer out
 abbrev pub HasEnded : (ℕ → Option ℕ) → (ℕ → List Record) → ℕ → Ended → Type 0
 HasEnded seat sent made e = (seat e.place ≡ None) × DidSend sent e × (e.place < made)
 
--- what pass k knows fits: `seat` says which pass the sender of each place has while it is out, and `taker` took `taken`
+-- What pass k knows agrees with these: `seat` says which pass the sender of each place has while it is out, and `taker` took `taken`.
 abbrev pub Fits : ℕ → (ℕ → Option ℕ) → (ℕ → List Record) → List Record → ℕ → Role → Type 0
 Fits taker seat sent taken k (Sends place list) = (seat place ≡ Some k) × (sent place ≡ list)
 Fits taker seat sent taken k (Takes list made ended) = (k ≡ taker) × (list ≡ taken) × ((p : ℕ) → made ≤ p → (seat p ≡ None) × (sent p ≡ [])) × All (HasEnded seat sent made) ended
 Fits taker seat sent taken k Spent = ⊤
 
--- the rule: what was taken and then what the queue holds are, of each worker, what it sent, in its order
+-- the rule: for each worker, the taken records and then those in the queue are what it sent, in its order
 pub record Delivers (items : List Record) (roles : List Role) : Type 0 where
   pub taker : ℕ
   pub seat : ℕ → Option ℕ
@@ -67,7 +67,7 @@ pub record Delivers (items : List Record) (roles : List Role) : Type 0 where
   pub order : (p : ℕ) → of_worker p (taken ++ items) ≡ sent p
   pub fits : (k : ℕ) (role : Role) → get_elem? roles k ≡ some role → Fits taker seat sent taken k role
 
--- what the taker learns at one moment: it took the front of all that was sent, and the queue holds the rest
+-- what the taker learns at one moment: it took the front of everything that was sent, and the queue holds the rest
 abbrev pub AddsUp : Role → List Record → Type 0
 AddsUp (Takes taken made ended) items = (sent : ℕ → List Record) × ((p : ℕ) → of_worker p (taken ++ items) ≡ sent p) × ((p : ℕ) → made ≤ p → sent p ≡ []) × All (DidSend sent) ended
 AddsUp (Sends place sent) items = ⊤

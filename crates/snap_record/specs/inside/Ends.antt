@@ -1,4 +1,4 @@
--- What always holds of the fields of a taker, and what it knows once it has taken the senders in.
+-- What is always true of the fields of a taker, and what it knows after it has taken the senders in.
 use Rattle.std.specs.Prelude.{◌≡◌, ℕ, List, [], None, All, length}
 use Rattle.snap_board.specs.declared.record.Record.{Record}
 use Rattle.snap_record.specs.declared.delivery.Ended.{Ended}
@@ -21,7 +21,7 @@ pub record IsTaker (t : taker.Inside) : Type 0 where
   pub spare : t.pass.me.spare ≡ None
   pub count : t.count ≡ length (taken_of t.pass.me.view.client)
 
--- the taker has taken the senders in but for `rest`, and knows what each sent
+-- the taker has taken in all senders except `rest`, and knows what each sent
 pub record TookIn (old : Role) (senders rest : List SenderView) (new : Role) : Type 0 where
   pub ended : List Ended
   pub role : new ≡ Takes (taken_of old) (made_of old) ended

@@ -1,4 +1,4 @@
--- What the workers of a plan did on a board that was closed.
+-- What the workers of a plan did on a closed board.
 use Rattle.std.specs.Prelude.{◌≡◌, ℕ, List, [], slice_index_or, length}
 use Rattle.snap_core.specs.Sums.{total}
 use Rattle.snap_account.specs.Calls.{Mem}
@@ -15,14 +15,14 @@ use Rattle.snap_board.specs.History.{events_in, stamped_events}
 use Rattle.snap_record.specs.Scripts.{AreCallsOf}
 use Rattle.snap_record.specs.inside.Scripts.{DidSome}
 
--- the calls of each desk are those of the script of its number, but for so many scans that have no record
+-- each desk made the calls of the script of its number; in all, `interfered` scans have no record
 pub record DidTheirs (scripts : List (List Step)) (accounts : List Account) (interfered : ℕ) : Type 0 where
   pub did : (a : Account) → Mem a accounts → DidSome a.desk (slice_index_or scripts a.desk []) (records_in a) (lost_in a.calls)
   pub views : (a : Account) → Mem a accounts → collects_in a.calls ≡ views_in (slice_index_or scripts a.desk [])
   pub left : total (λ (a : Account). length (lost_in a.calls)) accounts ≡ interfered
   pub calls : (a : Account) → Mem a accounts → AreCallsOf (slice_index_or scripts a.desk []) a.calls
 
--- each worker did its script on a board that was closed, its records are those of its number, and so many scans have none
+-- Each worker did its script on a closed board. Its records are those of its number, and `interfered` scans in all have none.
 pub record DidScripts (scripts : List (List Step)) (records : List Record) (interfered : ℕ) : Type 0 where
   pub accounts : List Account
   pub settled : Settled (length scripts) accounts

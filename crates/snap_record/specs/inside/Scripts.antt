@@ -1,4 +1,4 @@
--- The records of a worker, beside its script.
+-- The records of a worker, against its script.
 use Rattle.std.specs.Prelude.{◌≡◌, ℕ, List, [], ◌∷◌, ⊤, Bool, length}
 use Rattle.snap_record.specs.Choices.{chosen, left_out, LeavesScans}
 use Rattle.snap_record.specs.declared.plan.Step.{Step}
@@ -23,7 +23,7 @@ DidScript d [] [] = ⊤
 DidScript d (step ∷ steps) (r ∷ rs) = IsStepOf d step r × DidScript d steps rs
 DidScript d _ _ = ⊥
 
--- the records are those of the script's steps but for scans, whose tries are `lost`
+-- the records are those of the script's steps except scans, whose tries are `lost`
 pub record DidSome (d : ℕ) (steps : List Step) (rs : List Record) (lost : List ℕ) : Type 0 where
   pub choice : List Bool
   pub size : length choice ≡ length steps

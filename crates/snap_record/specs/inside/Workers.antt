@@ -1,4 +1,4 @@
--- The workers of a recorder, and what was taken of what they sent.
+-- The workers of a recorder, and what the taker took of what they sent.
 use Rattle.std.specs.Prelude.{◌≡◌, ℕ, ◌+◌, ◌<◌, List, [], OnOk, IfOk, vec_items, length, map, slice_index_or}
 use Rattle.snap_account.specs.declared.account.Account.{Account}
 use Rattle.snap_record.specs.declared.plan.Step.{Step}
@@ -16,7 +16,7 @@ use Rattle.snap_record.specs.inside.Scripts.{DidSome}
 use Rattle.snap_record.specs.Choices.{views_in}
 use Rattle.snap_record.specs.Plans.{PlanView, ticks_within}
 
--- the worker's desk and its sender are of this recorder, and have one place
+-- the worker's desk and its sender are of this recorder, and have the same place
 abbrev pub IsWorkerOf : Recorder → Worker → Type 0
 IsWorkerOf r w = IsDeskOf r.board w.desk × IsSenderOf r.relay w.sender × (w.sender.place ≡ w.desk.desk)
 
@@ -24,11 +24,11 @@ IsWorkerOf r w = IsDeskOf r.board w.desk × IsSenderOf r.relay w.sender × (w.se
 abbrev pub IsUnused : Worker → Type 0
 IsUnused w = (records w.desk ≡ []) × (ticks w.desk ≡ 0) × (lost w.desk ≡ []) × (collects w.desk ≡ 0) × (w.sender.sent ≡ []) × (w.desk.calls ≡ [])
 
--- the desks of the recorder's board may draw as many ticks as the plan's scripts
+-- each desk of the recorder's board may draw as many ticks as each of the plan's scripts
 abbrev pub HasTicksFor : PlanView → Recorder → Type 0
 HasTicksFor plan recorder = recorder.board.limit ≡ ticks_within plan.limit
 
--- the worker of desk d ran its script: where memory was not refused, it sent the records of its desk, and they are the script's
+-- The worker of desk d ran its script. If memory was not refused, it sent the records of its desk, and they are the script's.
 pub record HasRun (recorder : Recorder) (d : ℕ) (steps : List Step) (ran : Ran) : Type 0 where
   pub worker : IsWorkerOf recorder ran.worker
   pub desk : ran.worker.desk.desk ≡ d
@@ -38,7 +38,7 @@ pub record HasRun (recorder : Recorder) (d : ℕ) (steps : List Step) (ran : Ran
   pub views : OnOk ran.outcome (collects ran.worker.desk ≡ views_in steps)
   pub calls : OnOk ran.outcome (AreCallsOf steps ran.worker.desk.calls)
 
--- P holds of each element and its place
+-- P is true of each element and its place
 abbrev pub EachAt : {X : Type 0} → (ℕ → X → Type 0) → List X → Type 0
 EachAt {X} P xs = (k : ℕ) (other : X) → k < length xs → P k (slice_index_or xs k other)
 
@@ -57,7 +57,7 @@ pub record HaveDone (scripts : List (List Step)) (accounts : List Account) (send
   pub places : (w : ℕ) (other : SenderView) → w < length senders → (slice_index_or senders w other).place ≡ w
   pub sent : (a : Account) → Mem a accounts → (other : SenderView) → records_in a ≡ (slice_index_or senders a.desk other).sent
 
--- all workers did, and their board was closed
+-- all workers did their scripts, and their board was closed
 pub record HaveClosed (scripts : List (List Step)) (senders : List SenderView) (interfered : ℕ) : Type 0 where
   pub accounts : List Account
   pub settled : Settled (length scripts) accounts

@@ -10,14 +10,14 @@ use Rattle.snap_report.specs.Lines.{text_of}
 use Rattle.snap_report.specs.Orders.{calls_numbered}
 use Rattle.snap_report.specs.Reports.{call_line, count_line, has_no_fault, has_no_local_fault, has_no_stale_view, verdict_lines}
 
--- the lines that stand before an order or the faults
+-- the lines before an order or the faults
 abbrev pub front_text : List Event → Tally → List ℕ
 front_text events t = text_of (count_line events ∷ verdict_lines (has_no_local_fault t) (has_no_stale_view t) (has_no_fault t))
 
--- the lines of calls, which are given by their numbers
+-- the lines of the calls with these numbers
 abbrev pub lines_text : List Call → List ℕ → List ℕ
 lines_text calls numbers = text_of (map call_line (calls_numbered calls numbers))
 
--- the same lines, where memory did not run out
+-- the same lines, if memory did not run out
 abbrev pub IsTextOf : List Call → List ℕ → Result (Vec ℕ Global) AllocError → Type 0
 IsTextOf calls numbers made = IfOk made (λ text. text.items ≡ lines_text calls numbers)

@@ -12,24 +12,24 @@ pub record ShowAll (calls : List Call) (columns : List (List ℕ)) : Type 0 wher
   pub count : (j : ℕ) → j < length columns → length (get_or columns j []) ≡ length (views_of calls)
   pub exceed : (a b : ℕ) → a < length (views_of calls) → b < length (views_of calls) → exceeds (view_in calls a) (view_in calls b) ≡ any_passes true columns a b
 
--- the views of which the view at a place is a read fault
+-- the views with which the view at a place is a read fault
 abbrev pub faults_at : List Call → ℕ → List Call
 faults_at calls place = filter (read_fault (view_in calls place)) (views_of calls)
 
--- where the first completed views begin and end
+-- places of the begins and ends of the first n completed views: they compare as the views precede
 pub record ArePlacesOf (calls : List Call) (n : ℕ) (begins ends : List ℕ) : Type 0 where
   pub begun : length begins ≡ n
   pub ended : length ends ≡ n
   pub precede : (a b : ℕ) → a < n → b < n → precedes (view_in calls a) (view_in calls b) ≡ nat_lt (number ends a) (number begins b)
 
--- rows of the grid clash exactly where the views are a read fault, and one drops to another exactly where that view is stale
+-- rows of the grid clash exactly when the views are a read fault, and one drops to another exactly when that view is stale
 pub record IsGridOf (events : List Event) (grid : GridValue) : Type 0 where
   pub kept : IsBoundedHistory events
   pub rows : length grid.begins ≡ length (views_of (calls_of events))
   pub clash : (a b : ℕ) → a < length (views_of (calls_of events)) → b < length (views_of (calls_of events)) → clashes grid a b ≡ read_fault (view_in (calls_of events) a) (view_in (calls_of events) b)
   pub drop : (a b : ℕ) → a < length (views_of (calls_of events)) → b < length (views_of (calls_of events)) → drops grid a b ≡ is_stale (view_in (calls_of events) a) (view_in (calls_of events) b)
 
--- each of the first completed views begins and ends at the places that are listed
+-- the places at which the first n completed views begin and end
 pub record ArePlaced (calls : List Call) (n : ℕ) (begins ends : List ℕ) : Type 0 where
   pub begun : length begins ≡ n
   pub ended : length ends ≡ n

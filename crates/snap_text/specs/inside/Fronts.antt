@@ -5,12 +5,12 @@ use Rattle.snap_core.specs.declared.entry.Entry.{Entry}
 use Rattle.snap_core.specs.Entries.{EntryFits}
 use Rattle.snap_text.specs.Spelling.{entries_text, entry_text}
 
--- no digit comes first
+-- a text does not begin with a digit
 abbrev pub NoDigitFirst : List ℕ → Type 0
 NoDigitFirst [] = Unit {0}
 NoDigitFirst (b ∷ bs) = (b < 48) ⊎ (57 < b)
 
--- the decimal of a number, and then a rest that goes on with no digit
+-- the decimal form of a number, and then a rest that does not begin with a digit
 pub record NumberThen (n : ℕ) (rest text : List ℕ) : Type 0 where
   pub small : n < 2 ^ 32
   pub whole : text ≡ decimal n ++ rest
@@ -34,11 +34,11 @@ pub record EntriesThen (es : List Entry) (rest text : List ℕ) : Type 0 where
   pub whole : text ≡ entries_text es ++ rest
   pub ends : EndsEntry rest
 
--- entries and their text
+-- a text spells these entries
 pub record AreSpelled (es : List Entry) (text : List ℕ) : Type 0 where
   pub fit : All EntryFits es
   pub whole : text ≡ entries_text es
 
--- entries that a text begins with, with a space behind them, were added behind others, or none were
+-- either entries at the front of a text, and a space after them, were added after the old entries; or none were
 abbrev pub AddsFront : List Entry → List Entry → List ℕ → List ℕ → Type 0
 AddsFront old new rest text = ((new ≡ old) × (rest ≡ text)) ⊎ ((es : List Entry) × (new ≡ old ++ es) × EntriesThen es (32 ∷ rest) text)

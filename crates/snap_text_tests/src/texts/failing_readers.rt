@@ -6,10 +6,10 @@ use snap_testing::Drip;
 use std::alloc::Global;
 use std::process::Abort;
 
-// What a call answered, and how many failures and reads were counted then.
+// What a call answered, and the counts of failures and reads after it.
 type Found = (Result<usize, ReadRefusal>, u64, u64);
 
-// How many events are read from a text that comes a byte at a time.
+// The number of events that are read from a text that comes a byte at a time.
 fn history_in(alloc: Global, text: &[u8], fails_at: u64) -> Found {
     let mut reader = Counted::new(Drip::new(text, fails_at));
     let count = match read_history(alloc, &mut reader) {
@@ -19,7 +19,7 @@ fn history_in(alloc: Global, text: &[u8], fails_at: u64) -> Found {
     (count, reader.failures(), reader.into_inner().reads)
 }
 
-// The same with the numbers of the records, of which there are as many.
+// The same number, read with the numbers of the records, of which there are as many.
 fn records_in(alloc: Global, text: &[u8], fails_at: u64) -> Found {
     let mut reader = Counted::new(Drip::new(text, fails_at));
     let mut room = Vec::new(alloc);
@@ -30,10 +30,10 @@ fn records_in(alloc: Global, text: &[u8], fails_at: u64) -> Found {
     (count, reader.failures(), reader.into_inner().reads)
 }
 
-// Each text with its length. The header has 22 bytes, and 25 with stamps; the read behind the last byte finds the end.
+// Each text with its length. The header has 22 bytes, or 25 with stamps. The read after the last byte finds the end.
 const TEXTS: &[(&[u8], u64)] = &[(STALE_VIEW, 83), (stamps::STALE_VIEW_STAMPED, 94)];
 
-// The first read, one within the header, its last, the first behind it, and all others: none is tried again.
+// The failure of read `at` is the answer, and no read follows it.
 fn expect_device(rt: &impl Abort, at: u64, found: Found) {
     assert!(rt; found == (Err(ReadRefusal::Device), 1, at), "at {at}");
 }

@@ -20,7 +20,7 @@ fn records_in(alloc: Global, text: &[u8]) -> Result<Vec<u32>, Fail> {
     Ok(records)
 }
 
-// The fields of a record, each behind a bar, or nothing where there is no such record.
+// The fields of a record, each after a bar, or nothing if there is no such record.
 fn barred(alloc: Global, text: &[u8], place: u32) -> Result<Vec<u8>, AllocError> {
     let mut barred = Vec::new(alloc);
     if let Some(fields) = record_of(alloc, text, place)? {
@@ -32,7 +32,7 @@ fn barred(alloc: Global, text: &[u8], place: u32) -> Result<Vec<u8>, AllocError>
     Ok(barred)
 }
 
-// A record of a text has these fields, each behind a bar.
+// A record of a text has these fields, each after a bar.
 fn expect_barred(
     rt: &impl Abort,
     alloc: Global,

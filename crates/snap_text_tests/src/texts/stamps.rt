@@ -99,7 +99,7 @@ fn refuses_the_same_of_lines_with_cr_lf(rt: HostRuntime) -> Result<(), Fail> {
     Ok(())
 }
 
-// What write_history writes of the history of a text with stamps.
+// What `write_history` writes for the history of a text with stamps.
 fn plain_text_of(alloc: Global, text: &[u8]) -> Result<Vec<u8>, Fail> {
     let history = read_text(alloc, text, Limit::usual())
         .ok()
@@ -142,8 +142,7 @@ fn takes_the_greatest_stamp_and_the_header_alone(rt: HostRuntime) {
     expect_counts(&rt, rt.alloc(), GREATEST_AND_NONE);
 }
 
-// As many views as a history may have, one after the other: their records in the order of their stamps, without stamps, or
-// the last record first, with stamps from 14,465 to 80,000.
+// As many views as a history may have, one after the other, without stamps.
 fn views(alloc: Global) -> Result<Vec<u8>, AllocError> {
     let mut text = Vec::from_slice(alloc, b"event,process,op,data\n")?;
     for _ in 0..32768u32 {
@@ -152,6 +151,7 @@ fn views(alloc: Global) -> Result<Vec<u8>, AllocError> {
     Ok(text)
 }
 
+// The same views, with stamps from 14,465 to 80,000. The record with the last stamp comes first.
 fn views_in_reverse(alloc: Global) -> Result<Vec<u8>, AllocError> {
     let mut text = Vec::from_slice(alloc, b"at,event,process,op,data\n")?;
     for i in 0..32768u32 {

@@ -7,7 +7,7 @@ use Rattle.snap_views.specs.Quick.{shown_sum}
 use Rattle.snap_views.specs.Seen.{view_in}
 use Rattle.snap_views.specs.Chains.{summed_at}
 
--- each completed view by its sum and its place
+-- the sum and the place of each completed view
 abbrev pub summed_views : List Call → List (ℕ × ℕ)
 summed_views calls = map (summed_at calls) (range_with_len 0 (length (views_of calls)))
 
@@ -15,6 +15,6 @@ summed_views calls = map (summed_at calls) (range_with_len 0 (length (views_of c
 abbrev pub IsSummed : List Call → ℕ × ℕ → Type 0
 IsSummed calls key = (key.1 < length (views_of calls)) × (key.0 ≡ shown_sum (view_in calls key.1))
 
--- of the first keys each view shows no component above the next
+-- among the first n keys, each view shows no component above the next one's
 pub record Climbs (calls : List Call) (keys : List (ℕ × ℕ)) (n : ℕ) : Type 0 where
   pub each : (i : ℕ) (d : ℕ × ℕ) → suc i < n → exceeds (view_in calls (get_or keys i d).1) (view_in calls (get_or keys (suc i) d).1) ≡ false

@@ -13,8 +13,8 @@ pub record IsSumBefore (calls : List Call) (place sum : ℕ) : Type 0 where
   pub before : ended < place
   pub is : sum ≡ shown_sum (view_in calls view)
 
--- of the first n completed views no sum is above what stands at the places behind its end: at each of them before the place
--- that the sweep has reached, from there on at the first; and nothing stands there but sums of views that ended before
+-- each place has 0, or the sum of a view that ended before it. Before the place `reached`, each place after the end of one of the
+-- first n completed views has at least that view's sum. From there on, the first place after its end has
 pub record IsSwept (calls : List Call) (n reached : ℕ) (sums : List ℕ) : Type 0 where
   pub most : (view ended place : ℕ) → view < n → (view_in calls view).ended ≡ Some ended → ended < place → place < length sums → (reached ≤ place → suc ended ≡ place) → shown_sum (view_in calls view) ≤ get_or sums place 0
   pub some : (place : ℕ) → place < length sums → (get_or sums place 0 ≡ 0) ⊎ IsSumBefore calls place (get_or sums place 0)

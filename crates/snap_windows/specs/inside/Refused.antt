@@ -5,7 +5,7 @@ use Rattle.snap_core.specs.declared.history.EventRefusal.{EventRefusal}
 use Rattle.snap_core.specs.declared.history.EventRefusal.TheVariants.{TooMany, Busy, Idle, OtherOp, Writer, Number, Memory}
 use Rattle.snap_core.specs.Refusals.{refusal_of, has_other_writer}
 
--- a number that is not the next comes behind an other writer
+-- the refusal for another writer comes before the one for a wrong number, and after all others
 abbrev pub behind_writer : Bool → Option EventRefusal → Option EventRefusal
 behind_writer true None = Some Writer
 behind_writer true (Some Number) = Some Writer
@@ -17,6 +17,6 @@ behind_writer true (Some Writer) = Some Writer
 behind_writer true (Some Memory) = Some Memory
 behind_writer false found = found
 
--- the first refusal of an event, by the window with numbers from 1 and the events before the window
+-- the first refusal of an event, by the window with numbers from 1 and by the events before the window
 abbrev pub first_refusal : ℕ → List Event → Event → List Event → Event → Option EventRefusal
 first_refusal limit window renumbered before event = behind_writer (has_other_writer before event) (refusal_of limit window renumbered)

@@ -2,7 +2,7 @@
 use Rattle.std.specs.Prelude.{ℕ, List, [], ◌∷◌, Option, Some, None, map, flat_map}
 use Rattle.snap_core.specs.Calls.{Call, call_numbered}
 
--- the places of a begin and of the end, where there is one
+-- the places of a begin and of its end, if there is one
 abbrev pub begin_and_end : ℕ → Option ℕ → List ℕ
 begin_and_end begun None = begun ∷ []
 begin_and_end begun (Some ended) = begun ∷ ended ∷ []
@@ -14,6 +14,6 @@ call_places c = begin_and_end c.begun c.ended
 unfoldable pub places_of : List Call → List ℕ
 places_of chosen = flat_map call_places chosen
 
--- the calls of some call numbers
+-- the calls of these call numbers
 unfoldable pub calls_numbered : List Call → List ℕ → List Call
 calls_numbered calls numbers = map (call_numbered calls) numbers

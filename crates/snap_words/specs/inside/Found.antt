@@ -2,21 +2,21 @@
 use Rattle.std.specs.Prelude.{◌≡◌, ℕ, Bool, List, Option, Result, codes, IsErr, IsNone, IsSomeAnd, MatchResult}
 use Rattle.clap.specs.Words.{Row, Text}
 use Rattle.snap_words.specs.Drawing.{AsksDrawWithin}
-use Rattle.snap_words.specs.Jobs.{AsksCheck, AsksFollow, AsksPictureWithin, AsksRecordWithin, AsksTooManyRounds, Checking, Flags, FollowsUnheeding, IsCheck, IsDraw, IsExplain, IsFollow, IsRecord, IsShrink, LacksFollow, files_of}
+use Rattle.snap_words.specs.Jobs.{AsksCheck, AsksFollow, AsksPictureWithin, AsksRecordWithin, AsksStatsWithin, AsksTooManyRounds, Checking, Flags, FollowsUnheeding, IsCheck, IsDraw, IsExplain, IsFollow, IsRecord, IsShrink, IsStats, LacksFollow, files_of}
 use Rattle.snap_words.specs.declared.drawing.Form.{Form}
 use Rattle.snap_words.specs.declared.job.Job.{Job}
 use Rattle.snap_words.specs.declared.job.JobFault.{JobFault}
 use Rattle.snap_words.specs.declared.job.JobFault.TheVariants.{Memory}
 use Rattle.snap_words.specs.declared.job.Windows.{Windows}
 
--- where the rows of a command ask for a job, an answer gives one that is such, on the files of the rows;
--- where they ask for none, it gives none
+-- If the rows of a command ask for a job, an answer gives such a job, on the files of the rows. If they ask for none, it gives none.
 pub record Finds (command : Text) (rows : List Row) (Gives : (Job → Type 0) → Type 0) (GivesNone : Type 0) : Type 0 where
   pub check : (asked : Checking) → command ≡ codes "check" → AsksCheck rows asked → Gives (IsCheck asked (files_of rows))
   pub follow : (events : ℕ) (windows : Windows) → command ≡ codes "check" → AsksFollow events rows windows → Gives (IsFollow events windows (files_of rows))
   pub shrink : (events : ℕ) (drawn : Bool) → command ≡ codes "shrink" → AsksPictureWithin events drawn rows → Gives (IsShrink events drawn (files_of rows))
   pub explain : (events : ℕ) (drawn : Bool) → command ≡ codes "explain" → AsksPictureWithin events drawn rows → Gives (IsExplain events drawn (files_of rows))
   pub draw : (events : ℕ) (form : Form) → command ≡ codes "draw" → AsksDrawWithin events rows form → Gives (IsDraw events form (files_of rows))
+  pub stats : (events : ℕ) (json : Bool) → command ≡ codes "stats" → AsksStatsWithin events json rows → Gives (IsStats events json (files_of rows))
   pub recording : (events workers rounds : ℕ) (flags : Flags) → command ≡ codes "record" → AsksRecordWithin events rows workers rounds flags → Gives (IsRecord workers rounds flags)
   pub unfollowed : command ≡ codes "check" → LacksFollow rows → GivesNone
   pub unheeded : command ≡ codes "check" → FollowsUnheeding rows → GivesNone
@@ -26,6 +26,6 @@ pub record Finds (command : Text) (rows : List Row) (Gives : (Job → Type 0) �
 abbrev pub FindsJob : Option Job → Text → List Row → Type 0
 FindsJob found command rows = Finds command rows (IsSomeAnd found) (IsNone found)
 
--- a job is given, where memory serves
+-- a job is given, if memory suffices
 abbrev pub FindsGiven : Result Job JobFault → Text → List Row → Type 0
 FindsGiven result command rows = Finds command rows (λ Is. MatchResult result Is (λ fault. fault ≡ Memory)) (IsErr result)

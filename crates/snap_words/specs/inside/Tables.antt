@@ -8,7 +8,7 @@ use Rattle.snap_words.specs.declared.word.Takes.{Takes}
 use Rattle.snap_words.specs.declared.word.Takes.TheVariants.{Nothing, Text, TextOr, Texts, Number, NumberOr}
 use Rattle.snap_words.specs.declared.word.Word.{Word}
 
--- a word, but for what stands behind it
+-- a word, without what follows it
 abbrev pub named_rule : Word → Rule
 named_rule word = record (new_rule word.id.now) { long = option_map (λ long. long.now) word.long; short = word.short }
 

@@ -108,7 +108,7 @@ func (it *call) showsAll(components []int) bool {
 	return true
 }
 
-// Gives the writes the versions that reads tell of them.
+// Gives the writes the versions that reads have for them.
 func (board *board) tellVersions() error {
 	for _, read := range board.reads {
 		for _, component := range board.components {
@@ -209,7 +209,7 @@ func byVersions(component int, writes []*call) error {
 	return nil
 }
 
-// The write with an end, where it has none and others come after it: it took effect before the end of a read that shows it.
+// The write with an end, if it has none and others come after it: it took effect before the end of a read that shows it.
 func (board *board) ended(write *call, isLast bool) *call {
 	read := board.firstShown[write.written()]
 	if !write.isPending() || isLast || read == nil || read.ended < write.begun {
@@ -224,7 +224,7 @@ func (it *call) within(begun, ended int64) *call {
 	return &cut
 }
 
-// Cuts each write to what the order of versions allows: it stands after the begin of each with a lower version, and before the end of
+// Cuts each write to what the order of versions allows: it comes after the begin of each with a lower version, and before the end of
 // each with a higher one. The same orders of all calls explain the run.
 func cut(writes []*call) ([]*call, error) {
 	begins, ends := make([]*call, len(writes)), make([]*call, len(writes))
@@ -312,7 +312,7 @@ func (board *board) writer(component int) (int, bool) {
 	return writes[0].client, true
 }
 
-// Names the calls of a client; where these overlap, its reads alone, by as many processes as that needs.
+// Names the calls of a client; if these overlap, its reads alone, by as many processes as that needs.
 func (board *board) nameClient(client int, calls []*call) {
 	lanes := laned(calls)
 	if len(lanes) > 1 {
@@ -382,7 +382,7 @@ type moment struct {
 	call  *call
 }
 
-// The begins and ends of all calls in the order of time: at one moment the begins stand first, so that such calls overlap.
+// The begins and ends of all calls in the order of time: at one moment the begins come first, so that such calls overlap.
 func (board *board) moments() []moment {
 	calls := append([]*call(nil), board.reads...)
 	for _, component := range board.components {

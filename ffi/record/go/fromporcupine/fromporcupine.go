@@ -49,7 +49,7 @@ const (
 // An Entry is what a write writes, or a read shows, of one key. Keys and values are of any types that Go compares.
 type Entry struct {
 	Key, Value any
-	Version    uint64 // with Options.Versions, the number that the store gave to this write; 0 where nobody knows it
+	Version    uint64 // with Options.Versions, the number that the store gave to this write; 0 if nobody knows it
 }
 
 // A Step says what an operation did: its one entry if it wrote, and an entry for each key if it read.
@@ -63,7 +63,7 @@ type Step struct {
 type Options struct {
 	Initial  any  // what a read shows of a key that nobody has written; nil always means that too
 	Versions bool // the store orders the writes of a key by the versions of entries
-	Events   int  // how many events a history may have, EventLimit where it is 0; `snapjudge check --events` needs the same
+	Events   int  // how many events a history may have, EventLimit if it is 0; `snapjudge check --events` needs the same
 }
 
 // A History has the calls on keys that are read together.
@@ -111,7 +111,7 @@ type Event[Kind ~bool] interface {
 }
 
 // Histories makes a history of each set of keys that are read together. The error is a *Refusal, which says what to record instead;
-// or a *Contradiction, where the versions show that the run is not atomic.
+// or a *Contradiction, if the versions show that the run is not atomic.
 //
 // As in Porcupine, two operations overlap if one is called at the moment when the other one returns.
 func Histories[O Operation](operations []O, step func(input, output any) Step, options Options) ([]History, error) {

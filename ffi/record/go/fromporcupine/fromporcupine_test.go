@@ -1,5 +1,5 @@
-// Histories of simulated stores, of small runs beside all orders of their operations, and each refusal. The program that judges stands
-// in SNAPJUDGE_PROGRAM.
+// Histories of simulated stores, of small runs beside all orders of their operations, and each refusal. SNAPJUDGE_PROGRAM names the
+// program that judges.
 package fromporcupine
 
 import (
@@ -196,7 +196,7 @@ func hasRead(run []small) bool {
 	return false
 }
 
-// Whether the writes of each key that ended have numbers in the order of their begins, and so all that a history without versions shows.
+// Whether the writes of each key that ended have numbers in the order of their begins, which is what a history without versions shows.
 func inTurn(run []small) bool {
 	for _, it := range run {
 		for _, other := range run {
@@ -257,7 +257,7 @@ func TestSmallRunsBesideAllOrders(t *testing.T) {
 // ---- simulated stores
 
 // A store of three keys, and clients that read all keys or write one. Time is a counter. What a client asks for takes effect between
-// its call and its return, but for the faults of the kind: `stale` reads what stood some writes ago, and `lost` answers to a write
+// its call and its return, except for the faults of the kind: `stale` reads what stood some writes ago, and `lost` answers to a write
 // that it forgets.
 type store struct {
 	draw     *rand.Rand
@@ -444,7 +444,7 @@ func TestValueThatNobodyWrote(t *testing.T) {
 	}
 }
 
-// What is changed is told.
+// Told says what was changed.
 func TestTold(t *testing.T) {
 	x := func(value any) Entry { return Entry{Key: "x", Value: value} }
 	made, err := Histories([]porcupineOperation{

@@ -28,7 +28,7 @@ var sentences = map[string]string{
 	"processes":   "there is no number left for a process: number the clients from 0, and let fewer of them have calls that overlap",
 }
 
-// A Refusal is why operations are not taken. Operation and Other are places in the list, or -1 where there is none.
+// A Refusal is why operations are not taken. Operation and Other are places in the list, or -1 if there is none.
 type Refusal struct {
 	Word             string // names what is wrong
 	Operation, Other int

@@ -6,6 +6,7 @@ import (
 	"errors"
 	"fmt"
 	"os"
+	"path/filepath"
 	"reflect"
 	"strings"
 	"syscall"
@@ -30,7 +31,7 @@ func recorder(threads, components, calls int) *Recorder[uint32] {
 	return made
 }
 
-// The recorder has no text, for this reason; or it has one, where there is no reason.
+// The recorder has no text, for this reason; or it has one, if there is no reason.
 func expectFault[V comparable](name string, recorder *Recorder[V], fault error) {
 	_, err := recorder.Text()
 	expect(name, errors.Is(err, fault))
@@ -103,6 +104,22 @@ func soFar() string {
 	return text
 }
 
+// A goroutine that panics leaves what was recorded.
+func kept() string {
+	recorder, path := recorder(1, 1, 2), filepath.Join(os.TempDir(), fmt.Sprintf("snaprecord-%d.csv", os.Getpid()))
+	done := make(chan any)
+	go func() {
+		defer func() { done <- recover() }()
+		defer recorder.Keep(path)
+		recorder.Log(0).BeginUpdate(0, 7)
+		panic("the object dies")
+	}()
+	expect("the panic goes on", <-done == "the object dies")
+	text, err := os.ReadFile(path)
+	expect("the file is there", err == nil && os.Remove(path) == nil)
+	return string(text)
+}
+
 // The view shows what a dropped update wrote.
 func dirty() string {
 	recorder := recorder(2, 1, 2)
@@ -130,7 +147,7 @@ func tryPages() {
 	expect("all of them ended", recorder.Views() == Views{Ended: 16000})
 }
 
-// A copy of a log, of which go vet would tell if it were made by a plain assignment.
+// A copy of a log, of which go vet would warn if it were made by a plain assignment.
 func copyOf(log *Log[uint32]) *Log[uint32] {
 	copied := reflect.New(reflect.TypeOf(log).Elem())
 	copied.Elem().Set(reflect.ValueOf(log).Elem())
@@ -178,6 +195,7 @@ func main() {
 	recorder(16, 1, EventLimit/32)
 
 	header := "at,event,process,op,data\n"
+	expect("what a panic leaves", kept() == header+"0,begin,0,update,0:1:7\n")
 	expect("what there is so far", soFar() == header+"0,begin,0,update,0:1:7\n1,begin,1,view,\n2,end,1,view,0:1:7\n")
 	expect("a dropped update that was seen", dirty() == header+"1,begin,1,view,\n2,end,1,view,0:1:9\n")
 	expect("a history that goes on", goesOn() == header+"0,begin,0,view,\n1,end,0,view,\n2,begin,0,update,0:1:0\n"+

@@ -1,6 +1,6 @@
 // Whether calls are ordered as the recorder says: an end with an earlier stamp than a begin happened before it. Two goroutines write
-// and read a plain word in calls that follow each other, and wait for each other by a flag that the race detector does not see. So it
-// tells a race exactly where the clock of the recorder does not order them.
+// and read a plain word in calls that follow each other. They wait for each other by a flag that the race detector does not see. So
+// it reports a race exactly when the clock of the recorder does not order them.
 //
 // SPDX-License-Identifier: 0BSD
 package main

@@ -42,7 +42,7 @@ const (
 	ReturnEvent EventKind = true
 )
 
-// What a client asks for: to write a value into a key; or where isRead, to read all keys.
+// What a client asks for: to write a value into a key, or, if isRead, to read all keys.
 type input struct {
 	isRead bool
 	key    string
@@ -60,7 +60,7 @@ var keys = []string{"a", "b", "c"}
 // step says to fromporcupine what an operation did.
 func step(asked, answered any) fromporcupine.Step {
 	in := asked.(input)
-	out, _ := answered.(output) // nil where an event of a return is missing
+	out, _ := answered.(output) // nil if an event of a return is missing
 	if !in.isRead {
 		written := []fromporcupine.Entry{{Key: in.key, Value: in.value}}
 		if out.timedOut {
@@ -75,7 +75,7 @@ func step(asked, answered any) fromporcupine.Step {
 	return fromporcupine.Step{Kind: fromporcupine.Read, Entries: shown}
 }
 
-// A store keeps what stood behind each write.
+// A store keeps what stood after each write.
 type store struct {
 	kind   string
 	mutex  sync.Mutex

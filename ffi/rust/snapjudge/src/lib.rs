@@ -1,36 +1,32 @@
 //! Judges a recorded history of a single-writer board: is it atomic, only regular, or neither?
 //!
-//! [`check`] hands the text to the judge, whose answer is proved, and takes its report apart. What this crate adds, the call
-//! and the parser, is not proved; [`Judged::report`] is the report byte by byte. A call needs 128 KiB of stack, and is not to
-//! be made in the forked child of a process with threads.
+//! [`check`] gives the verdict as values. [`report`], [`explain`], [`shrink`], [`draw`] and [`json`] give what the commands of the
+//! program write, to the byte. [`stats`] counts what a run has shown. A history may be a `&str`, a `&[u8]`, or what stands for one. A [`Judge`] takes longer histories.
+//!
+//! What the library answers is proved. This crate, which calls it and makes values of its JSON, is not. It reads the JSON itself, and
+//! has no dependencies, so that it builds without a network.
+//!
+//! A call needs 128 KiB of stack, and is not to be made in the forked child of a process with threads. Threads may call at the same time.
+//!
+//! ```
+//! let text = "event,process,op,data\nbegin,0,update,0:1:7\nend,0,update,\nbegin,1,view,\nend,1,view,0:1:7\n";
+//! let judged = snapjudge::check(text)?;
+//! assert!(judged.is_atomic(), "{}", snapjudge::explain(text)?.text);
+//! # Ok::<(), snapjudge::Error>(())
+//! ```
 
-mod report;
+mod json;
+mod library;
+mod values;
 
-pub use report::{Counts, Entry, Fault, Op, Refusal, Side, Step};
+pub use values::{Call, ComponentStats, Counts, Entry, Fault, NamedUpdate, Op, Refusal, Side, Stats, Step};
 
+use json::Json;
+use library::Question;
 use std::fmt;
 
-/// The version of the library that this crate is for.
-const VERSION: u32 = 1;
-
-const NO_ROOM: u32 = 5;
-const NO_LIMIT: u32 = 6;
-
-/// How many events a history has at most, where a call does not say it.
+/// How many events a history has at most, unless a [`Judge`] says it.
 pub const USUAL_LIMIT: u32 = 65_536;
-
-extern "C" {
-    fn snapjudge_check_limit(
-        text: *const u8,
-        text_length: usize,
-        events: u32,
-        report: *mut u8,
-        room: usize,
-        report_length: *mut usize,
-    ) -> u32;
-
-    fn snapjudge_version() -> u32;
-}
 
 /// What a text is.
 #[derive(Clone, Copy, Debug, PartialEq, Eq)]
@@ -41,18 +37,36 @@ pub enum Status {
     Regular,
     /// A history that is not regular.
     Irregular,
-    /// No history.
+    /// A text that is not a history.
     Refused,
 }
 
-/// What was found of a history.
+/// A form of a picture.
+#[derive(Clone, Copy, Debug, PartialEq, Eq)]
+pub enum Form {
+    /// A page for a browser.
+    Page,
+    /// SVG alone.
+    Svg,
+    /// Characters.
+    Lines,
+}
+
+/// What a command of the program ends with, and what it writes.
+#[derive(Clone, Debug, PartialEq, Eq)]
+pub struct Answer {
+    pub status: Status,
+    pub text: String,
+}
+
+/// What was found of a history. The faults are the first of each kind, at most four.
 #[derive(Clone, Debug, PartialEq, Eq)]
 pub enum Verdict {
     /// An order of all completed calls and some pending updates explains every view.
     Atomic { order: Vec<Step> },
     /// Each view by itself is right, and no order explains all.
     Regular { faults: Vec<Fault> },
-    /// A view is too old, too new, or shows what nobody wrote.
+    /// A view is too old, too early, or shows what nobody wrote.
     Irregular { faults: Vec<Fault> },
 }
 
@@ -75,12 +89,27 @@ impl Judged {
     pub fn is_regular(&self) -> bool {
         !matches!(self.verdict, Verdict::Irregular { .. })
     }
+
+    /// The first fault of each kind. An atomic history has none.
+    ///
+    /// ```
+    /// let judged = snapjudge::check("event,process,op,data\nbegin,0,view,\nend,0,view,0:1:7\n")?;
+    /// let [snapjudge::Fault::Integrity { count: 1, view, entry, update: None }] = judged.faults() else { panic!() };
+    /// assert_eq!((view.call, view.begin, view.end, entry.value), (1, 2, Some(3), 7));
+    /// # Ok::<(), snapjudge::Error>(())
+    /// ```
+    pub fn faults(&self) -> &[Fault] {
+        match &self.verdict {
+            Verdict::Atomic { .. } => &[],
+            Verdict::Regular { faults } | Verdict::Irregular { faults } => faults,
+        }
+    }
 }
 
 /// Why a text was not judged.
 #[derive(Clone, Debug, PartialEq, Eq)]
 pub enum Error {
-    /// The text is no history.
+    /// The text is not a history. It is written as the sentences of `snapjudge explain`.
     Refused(Refusal),
     /// There is no such limit of events.
     NoLimit(u32),
@@ -91,7 +120,7 @@ pub enum Error {
 impl fmt::Display for Error {
     fn fmt(&self, f: &mut fmt::Formatter<'_>) -> fmt::Result {
         match self {
-            Error::Refused(refusal) => write!(f, "no history: record {}: {}", refusal.record, refusal.word),
+            Error::Refused(refusal) => f.write_str(refusal.sentences.trim_end_matches('\n')),
             Error::NoLimit(events) => write!(f, "a limit of events is from 1 to 1,048,576, and not {events}"),
             Error::OutOfMemory => f.write_str("out of memory"),
         }
@@ -111,80 +140,251 @@ pub enum RoomError {
     OutOfMemory,
 }
 
-/// The status of a text and the length of its report, which is written to the front of the room.
-pub fn report_into(text: &[u8], room: &mut [u8]) -> Result<(Status, usize), RoomError> {
-    report_into_within(text, USUAL_LIMIT, room)
+/// The calls of this crate with another limit of events.
+///
+/// ```
+/// use snapjudge::{Error, Judge};
+/// let text = "event,process,op,data\nbegin,0,view,\nend,0,view,\n";
+/// assert!(Judge::of(1_048_576).check(text)?.is_atomic());
+/// assert!(matches!(Judge::of(1).check(text), Err(Error::Refused(refusal)) if refusal.word == "toomany"));
+/// assert_eq!(Judge::of(0).check(text), Err(Error::NoLimit(0)));
+/// # Ok::<(), Error>(())
+/// ```
+#[derive(Clone, Copy, Debug, PartialEq, Eq)]
+pub struct Judge {
+    events: u32,
 }
 
-/// As [`report_into`], of a history of so many events at most, from 1 to 1,048,576.
-pub fn report_into_within(text: &[u8], events: u32, room: &mut [u8]) -> Result<(Status, usize), RoomError> {
-    let mut length = 0;
-    // SAFETY: the pointers and lengths are those of a `&[u8]`, a `&mut [u8]` and a `&mut usize`, which are never null, lie
-    // apart, are initialized, and are borrowed for the call. The library's memory is the C library's, as is Rust's `System`.
-    let (version, answer) = unsafe {
-        (
-            snapjudge_version(),
-            snapjudge_check_limit(text.as_ptr(), text.len(), events, room.as_mut_ptr(), room.len(), &mut length),
-        )
-    };
-    assert_eq!(version, VERSION, "libsnapjudge.a is of another version");
-    match answer {
-        0 => Ok((Status::Atomic, length)),
-        1 => Ok((Status::Regular, length)),
-        2 => Ok((Status::Irregular, length)),
-        3 => Ok((Status::Refused, length)),
-        NO_ROOM => Err(RoomError::TooLittle(length)),
-        NO_LIMIT => Err(RoomError::NoLimit(events)),
-        _ => Err(RoomError::OutOfMemory),
+impl Default for Judge {
+    fn default() -> Self {
+        Judge::of(USUAL_LIMIT)
     }
 }
 
-// Room for a report.
-fn room_of(size: usize) -> Result<Vec<u8>, Error> {
-    let mut room = Vec::new();
-    room.try_reserve_exact(size).map_err(|_| Error::OutOfMemory)?;
-    room.resize(size, 0);
-    Ok(room)
-}
+impl Judge {
+    /// The judge of histories of at most this many events, from 1 to 1,048,576. Other limits give [`Error::NoLimit`] when it judges.
+    pub const fn of(events: u32) -> Self {
+        Judge { events }
+    }
 
-/// The status and the report of a text.
-pub fn report(text: &[u8]) -> Result<(Status, String), Error> {
-    report_within(text, USUAL_LIMIT)
-}
+    fn ask(self, question: Question<'_>, text: &[u8]) -> Result<Answer, Error> {
+        library::answer(question, text, self.events)
+    }
 
-/// As [`report`], of a history of so many events at most, from 1 to 1,048,576.
-pub fn report_within(text: &[u8], events: u32) -> Result<(Status, String), Error> {
-    let mut size = text.len() + text.len() / 4 + 256;
-    loop {
-        let mut room = room_of(size)?;
-        match report_into_within(text, events, &mut room) {
-            Ok((status, length)) => {
-                room.truncate(length);
-                return Ok((status, String::from_utf8(room).expect("a report is ASCII")));
-            }
-            Err(RoomError::TooLittle(length)) => size = length,
-            Err(RoomError::NoLimit(events)) => return Err(Error::NoLimit(events)),
-            Err(RoomError::OutOfMemory) => return Err(Error::OutOfMemory),
+    /// The object of a history. A text that is not a history is an error.
+    fn history<'a>(self, text: &[u8], object: &'a Answer) -> Result<Json<'a>, Error> {
+        let json = Json::read(&object.text).expect("the object of the library");
+        if object.status != Status::Refused {
+            return Ok(json);
         }
+        let (record, word) = values::refused(&json).expect("the object of a refused text");
+        Err(Error::Refused(Refusal { record, word, sentences: self.explain(text)?.text }))
+    }
+
+    /// As [`check()`].
+    pub fn check(self, text: impl AsRef<[u8]>) -> Result<Judged, Error> {
+        let text = text.as_ref();
+        let object = self.json(text, "")?;
+        let json = self.history(text, &object)?;
+        let values::Found { counts, monotone, faults } = values::found(&json).expect("the object of a history");
+        let report = self.report(text)?.text;
+        let verdict = match object.status {
+            Status::Atomic => Verdict::Atomic { order: values::order(&report).expect("the order of the report") },
+            Status::Regular => Verdict::Regular { faults },
+            _ => Verdict::Irregular { faults },
+        };
+        Ok(Judged { counts, monotone, verdict, report })
+    }
+
+    /// As [`report()`].
+    pub fn report(self, text: impl AsRef<[u8]>) -> Result<Answer, Error> {
+        self.ask(Question::Report, text.as_ref())
+    }
+
+    /// As [`report_into()`].
+    pub fn report_into(self, text: impl AsRef<[u8]>, room: &mut [u8]) -> Result<(Status, usize), RoomError> {
+        library::answer_into(Question::Report, text.as_ref(), self.events, room)
+    }
+
+    /// As [`explain()`].
+    pub fn explain(self, text: impl AsRef<[u8]>) -> Result<Answer, Error> {
+        self.ask(Question::Explanation { drawn: false }, text.as_ref())
+    }
+
+    /// As [`explain_drawn()`].
+    pub fn explain_drawn(self, text: impl AsRef<[u8]>) -> Result<Answer, Error> {
+        self.ask(Question::Explanation { drawn: true }, text.as_ref())
+    }
+
+    /// As [`json()`].
+    pub fn json(self, text: impl AsRef<[u8]>, name: &str) -> Result<Answer, Error> {
+        self.ask(Question::Object { name }, text.as_ref())
+    }
+
+    /// As [`shrink()`].
+    pub fn shrink(self, text: impl AsRef<[u8]>) -> Result<Answer, Error> {
+        self.ask(Question::Witness { drawn: false }, text.as_ref())
+    }
+
+    /// As [`shrink_drawn()`].
+    pub fn shrink_drawn(self, text: impl AsRef<[u8]>) -> Result<Answer, Error> {
+        self.ask(Question::Witness { drawn: true }, text.as_ref())
+    }
+
+    /// As [`draw()`].
+    pub fn draw(self, text: impl AsRef<[u8]>, form: Form) -> Result<Answer, Error> {
+        self.ask(Question::Picture(form), text.as_ref())
+    }
+
+    /// As [`stats()`].
+    pub fn stats(self, text: impl AsRef<[u8]>) -> Result<Stats, Error> {
+        let object = self.ask(Question::Stats { object: true }, text.as_ref())?;
+        let json = self.history(text.as_ref(), &object)?;
+        Ok(values::stats(&json).expect("the counts of a history"))
+    }
+
+    /// As [`stats_lines()`].
+    pub fn stats_lines(self, text: impl AsRef<[u8]>) -> Result<String, Error> {
+        Ok(self.ask(Question::Stats { object: false }, text.as_ref())?.text)
     }
 }
 
-/// Judges a history, in the format of `snapjudge check`.
-pub fn check(text: &str) -> Result<Judged, Error> {
-    check_within(text, USUAL_LIMIT)
+/// Judges a history, in the format of `snapjudge check`. The library judges twice: only the report has the order.
+///
+/// ```
+/// use snapjudge::{Error, Fault};
+/// let text = "event,process,op,data\nbegin,0,update,0:1:7\nend,0,update,\nbegin,1,view,\nend,1,view,\n";
+/// let judged = snapjudge::check(text)?;
+/// let Fault::Proximity { view, update: Some(missed), .. } = &judged.faults()[0] else { panic!() };
+/// assert_eq!((view.call, view.begin, missed.call, missed.end), (2, 4, 1, Some(3)));
+///
+/// let error = snapjudge::check("event,process,op,data\nbegin,0,update,0:2:7\n").unwrap_err();
+/// assert!(error.to_string().starts_with("refused record 2: number\nan update has the next number of its component"));
+/// # Ok::<(), Error>(())
+/// ```
+///
+/// # Errors
+///
+/// [`Error::Refused`] if the text is not a history, and [`Error::OutOfMemory`].
+pub fn check(text: impl AsRef<[u8]>) -> Result<Judged, Error> {
+    Judge::default().check(text)
 }
 
-/// As [`check`], of a history of so many events at most, from 1 to 1,048,576.
-pub fn check_within(text: &str, events: u32) -> Result<Judged, Error> {
-    let (status, report) = report_within(text.as_bytes(), events)?;
-    if status == Status::Refused {
-        return Err(Error::Refused(report::refusal(&report).expect("the report of a refused text")));
-    }
-    let found = report::read(&report).expect("the report of a history");
-    let verdict = match status {
-        Status::Atomic => Verdict::Atomic { order: found.order },
-        Status::Regular => Verdict::Regular { faults: found.faults },
-        _ => Verdict::Irregular { faults: found.faults },
-    };
-    Ok(Judged { counts: found.counts, monotone: found.monotone, verdict, report })
+/// The status and the report of a text, as `snapjudge check` writes it. A text that is not a history is not an error here, nor in the
+/// calls below: the answer says so.
+///
+/// ```
+/// let report = snapjudge::report(b"event,process,op,data\n")?;
+/// assert_eq!(report.text, "events 0 calls 0 pending 0 views 0\nregular yes\nmonotone yes\natomic yes\norder 0\n");
+/// # Ok::<(), snapjudge::Error>(())
+/// ```
+pub fn report(text: impl AsRef<[u8]>) -> Result<Answer, Error> {
+    Judge::default().report(text)
+}
+
+/// The status of a text and the length of its report, which is written to the front of the room. Of an error the room is unchanged.
+///
+/// ```
+/// use snapjudge::{RoomError, Status};
+/// let mut room = [0; 64];
+/// assert_eq!(snapjudge::report_into("no header\n", &mut room), Ok((Status::Refused, 25)));
+/// assert_eq!(&room[..25], b"refused record 1: header\n");
+/// assert_eq!(snapjudge::report_into("no header\n", &mut room[..24]), Err(RoomError::TooLittle(25)));
+/// ```
+pub fn report_into(text: impl AsRef<[u8]>, room: &mut [u8]) -> Result<(Status, usize), RoomError> {
+    Judge::default().report_into(text, room)
+}
+
+/// What `snapjudge explain` writes: why the history is not atomic, an order if it is, or why the text is not a history.
+///
+/// ```
+/// let why = snapjudge::explain("event,process,op,data\nbegin,0,view,\nend,0,view,0:1:7\n")?;
+/// assert!(why.text.starts_with("not regular"));
+/// # Ok::<(), snapjudge::Error>(())
+/// ```
+pub fn explain(text: impl AsRef<[u8]>) -> Result<Answer, Error> {
+    Judge::default().explain(text)
+}
+
+/// What `snapjudge explain --draw` writes: the sentences of [`explain`], and below them a picture in characters.
+///
+/// ```
+/// let text = "event,process,op,data\nbegin,0,view,\nend,0,view,0:1:7\n";
+/// assert!(snapjudge::explain_drawn(text)?.text.starts_with(&snapjudge::explain(text)?.text));
+/// # Ok::<(), snapjudge::Error>(())
+/// ```
+pub fn explain_drawn(text: impl AsRef<[u8]>) -> Result<Answer, Error> {
+    Judge::default().explain_drawn(text)
+}
+
+/// What `snapjudge check --format json` writes of a file with this name: an object on a line.
+///
+/// ```
+/// let object = snapjudge::json("no header\n", "run.csv")?;
+/// assert_eq!(object.text, "{\"name\":\"run.csv\",\"status\":3,\"refused\":{\"record\":1,\"fault\":\"header\"}}\n");
+/// # Ok::<(), snapjudge::Error>(())
+/// ```
+pub fn json(text: impl AsRef<[u8]>, name: &str) -> Result<Answer, Error> {
+    Judge::default().json(text, name)
+}
+
+/// What `snapjudge shrink` writes: a history of at most four of the calls, which has the first fault.
+///
+/// ```
+/// let view = "begin,0,view,\nend,0,view,0:1:7\n";
+/// let text = format!("event,process,op,data\n{view}begin,0,view,\nend,0,view,\n");
+/// assert_eq!(snapjudge::shrink(text)?.text, format!("event,process,op,data\n{view}"));
+/// # Ok::<(), snapjudge::Error>(())
+/// ```
+pub fn shrink(text: impl AsRef<[u8]>) -> Result<Answer, Error> {
+    Judge::default().shrink(text)
+}
+
+/// What `snapjudge shrink --draw` writes: the picture of that history in characters.
+///
+/// ```
+/// let witness = snapjudge::shrink_drawn("event,process,op,data\nbegin,0,view,\nend,0,view,0:1:7\n")?;
+/// assert!(witness.text.contains("0:1:7"));
+/// # Ok::<(), snapjudge::Error>(())
+/// ```
+pub fn shrink_drawn(text: impl AsRef<[u8]>) -> Result<Answer, Error> {
+    Judge::default().shrink_drawn(text)
+}
+
+/// What `snapjudge draw` writes, or with a form `snapjudge draw --svg` or `snapjudge draw --text`.
+///
+/// ```
+/// let picture = snapjudge::draw("event,process,op,data\nbegin,0,view,\nend,0,view,\n", snapjudge::Form::Svg)?;
+/// assert!(picture.text.ends_with("</svg>\n"));
+/// # Ok::<(), snapjudge::Error>(())
+/// ```
+pub fn draw(text: impl AsRef<[u8]>, form: Form) -> Result<Answer, Error> {
+    Judge::default().draw(text, form)
+}
+
+/// What a run has shown, such as how many views overlap an update. It is not a verdict.
+///
+/// ```
+/// let text = "event,process,op,data\nbegin,0,update,0:1:7\nbegin,1,view,\nend,1,view,\nend,0,update,\n";
+/// let shown = snapjudge::stats(text)?;
+/// assert!(shown.shows_concurrency);
+/// assert_eq!((shown.overlap_update, shown.unshown, shown.by_component[0].updates), (1, 1, 1));
+/// # Ok::<(), snapjudge::Error>(())
+/// ```
+///
+/// # Errors
+///
+/// Those of [`check`].
+pub fn stats(text: impl AsRef<[u8]>) -> Result<Stats, Error> {
+    Judge::default().stats(text)
+}
+
+/// What `snapjudge stats` writes.
+///
+/// ```
+/// assert!(snapjudge::stats_lines("event,process,op,data\n")?.starts_with("events 0\ncalls 0\n"));
+/// # Ok::<(), snapjudge::Error>(())
+/// ```
+pub fn stats_lines(text: impl AsRef<[u8]>) -> Result<String, Error> {
+    Judge::default().stats_lines(text)
 }

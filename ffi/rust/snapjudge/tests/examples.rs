@@ -1,6 +1,6 @@
 //! The examples of the project, by their reports.
-use snapjudge::{check, check_within, report, report_into, report_into_within};
-use snapjudge::{Counts, Entry, Error, Fault, Op, Refusal, RoomError, Side, Status, Step, Verdict};
+use snapjudge::{check, report, report_into, Answer, Call, Counts, Entry, Error, Fault, Judge, NamedUpdate};
+use snapjudge::{Op, Refusal, RoomError, Side, Status, Step, Verdict};
 use std::path::Path;
 use std::{fs, thread};
 
@@ -42,7 +42,7 @@ fn status_of(report: &str) -> Status {
 fn judge(example: &Example) {
     let name = &example.name;
     let wanted = status_of(&example.report);
-    assert_eq!(report(example.text.as_bytes()).unwrap(), (wanted, example.report.clone()), "{name}");
+    assert_eq!(report(&example.text).unwrap(), Answer { status: wanted, text: example.report.clone() }, "{name}");
     match check(&example.text) {
         Err(Error::Refused(refusal)) => {
             assert_eq!(example.report, format!("refused record {}: {}\n", refusal.record, refusal.word), "{name}");
@@ -83,25 +83,33 @@ fn too_little_room_is_told_and_stays_as_it_was() {
     }
 }
 
+// The record and the word of a text that is not a history.
+fn refused(judge: Judge, text: &str) -> (u32, String) {
+    match judge.check(text) {
+        Err(Error::Refused(Refusal { record, word, .. })) => (record, word),
+        other => panic!("{other:?}"),
+    }
+}
+
 #[test]
 fn the_caller_chooses_the_limit_of_events() {
     let view = "event,process,op,data\nbegin,0,view,\nend,0,view,\n";
-    assert_eq!(check_within(view, 1), Err(Error::Refused(Refusal { record: 3, word: "toomany".into() })));
-    assert_eq!(check_within(view, 2).unwrap().counts, Counts { events: 2, calls: 1, pending: 0, views: 1 });
+    assert_eq!(refused(Judge::of(1), view), (3, "toomany".to_owned()));
+    assert_eq!(Judge::of(2).check(view).unwrap().counts, Counts { events: 2, calls: 1, pending: 0, views: 1 });
     let updates: String = (1..=32_769).map(|n| format!("begin,0,update,0:{n}:0\nend,0,update,\n")).collect();
     let updates = format!("event,process,op,data\n{updates}");
-    assert_eq!(check(&updates), Err(Error::Refused(Refusal { record: 65_538, word: "toomany".into() })));
-    assert_eq!(check_within(&updates, 65_538).unwrap().counts.events, 65_538);
+    assert_eq!(refused(Judge::default(), &updates), (65_538, "toomany".to_owned()));
+    assert_eq!(Judge::of(65_538).check(&updates).unwrap().counts.events, 65_538);
 }
 
 #[test]
 fn a_limit_that_there_is_not_is_told_and_the_room_stays_as_it_was() {
     for events in [0, (1 << 20) + 1, u32::MAX] {
         let mut room = [0xEE; 100];
-        let found = report_into_within(b"event,process,op,data\n", events, &mut room);
+        let found = Judge::of(events).report_into("event,process,op,data\n", &mut room);
         assert_eq!(found, Err(RoomError::NoLimit(events)));
         assert_eq!(room, [0xEE; 100]);
-        assert_eq!(check_within("event,process,op,data\n", events), Err(Error::NoLimit(events)));
+        assert_eq!(Judge::of(events).check("event,process,op,data\n"), Err(Error::NoLimit(events)));
     }
 }
 
@@ -109,39 +117,95 @@ fn a_limit_that_there_is_not_is_told_and_the_room_stays_as_it_was() {
 fn an_order_is_taken_apart() {
     let text = "event,process,op,data\nbegin,0,update,0:1:3\nbegin,1,view,\nend,1,view,\nend,0,update,\n";
     let entry = Entry { component: 0, number: 1, value: 3 };
-    let order = vec![
-        Step { call: 2, process: 1, op: Op::View(vec![]) },
-        Step { call: 1, process: 0, op: Op::Update(entry) },
-    ];
+    let order =
+        vec![Step { call: 2, process: 1, op: Op::View(vec![]) }, Step { call: 1, process: 0, op: Op::Update(entry) }];
     assert_eq!(check(text).unwrap().verdict, Verdict::Atomic { order });
 }
 
 #[test]
-fn each_kind_of_fault_is_taken_apart() {
-    let faults_of = |records: &str| match check(&format!("event,process,op,data\n{records}")).unwrap().verdict {
-        Verdict::Regular { faults } | Verdict::Irregular { faults } => faults,
-        Verdict::Atomic { .. } => vec![],
-    };
+fn a_text_that_is_not_a_history_is_an_error_with_the_sentences() {
+    let error = check("event,process,op,data\nbegin,0,update,0:2:7\n").unwrap_err();
+    let sentences = [
+        "refused record 2: number",
+        "an update has the next number of its component, which is one more than the updates of it that began before",
+        "  record 2 has the fields \"begin\" \"0\" \"update\" \"0:2:7\"",
+    ];
+    assert_eq!(error.to_string(), sentences.join("\n"));
+    let boxed: Box<dyn std::error::Error> = error.into();
+    assert!(boxed.source().is_none());
+}
+
+// A call that has ended.
+fn call(call: u32, process: u16, records: (u32, u32), op: Op) -> Call {
+    Call { call, process, op, begin: records.0, end: Some(records.1) }
+}
+
+fn faults_of(records: &str) -> Vec<Fault> {
+    check(format!("event,process,op,data\n{records}")).unwrap().faults().to_vec()
+}
+
+#[test]
+fn local_faults_are_taken_apart() {
     let entry = Entry { component: 0, number: 1, value: 9 };
+    let written = Entry { component: 0, number: 1, value: 7 };
+    let update = call(1, 0, (2, 3), Op::Update(written));
     assert_eq!(
         faults_of("begin,0,update,0:1:7\nend,0,update,\nbegin,1,view,\nend,1,view,\nbegin,2,view,\nend,2,view,0:1:9\n"),
         [
-            Fault::Integrity { count: 1, view: 3, entry },
-            Fault::Proximity { count: 1, view: 2, component: 0, number: 0, side: Side::Old },
+            Fault::Integrity {
+                count: 1,
+                view: call(3, 2, (6, 7), Op::View(vec![entry])),
+                entry,
+                update: Some(update.clone())
+            },
+            Fault::Proximity {
+                count: 1,
+                view: call(2, 1, (4, 5), Op::View(vec![])),
+                component: 0,
+                number: 0,
+                side: Side::Old,
+                update: Some(update),
+            },
         ]
     );
     assert_eq!(
-        faults_of("begin,1,view,\nend,1,view,0:1:3\nbegin,0,update,0:1:3\nend,0,update,\n"),
-        [Fault::Proximity { count: 1, view: 1, component: 0, number: 1, side: Side::Early }]
+        faults_of("begin,1,view,\nend,1,view,0:1:7\nbegin,0,update,0:1:7\n"),
+        [Fault::Proximity {
+            count: 1,
+            view: call(1, 1, (2, 3), Op::View(vec![written])),
+            component: 0,
+            number: 1,
+            side: Side::Early,
+            update: Some(Call { end: None, ..call(2, 0, (4, 0), Op::Update(written)) }),
+        }]
     );
+    assert_eq!(
+        faults_of("begin,2,view,\nend,2,view,0:1:9\n"),
+        [Fault::Integrity { count: 1, view: call(1, 2, (2, 3), Op::View(vec![entry])), entry, update: None }]
+    );
+}
+
+#[test]
+fn faults_of_several_calls_are_taken_apart() {
+    let entry = |component, value| Entry { component, number: 1, value };
     assert_eq!(
         faults_of("begin,0,update,0:1:7\nbegin,1,view,\nend,1,view,0:1:7\nbegin,2,view,\nend,2,view,\nend,0,update,\n"),
-        [Fault::Read { count: 1, view: 2, other: 3, component: 0 }]
+        [Fault::Read {
+            count: 1,
+            view: call(2, 1, (3, 4), Op::View(vec![entry(0, 7)])),
+            other: call(3, 2, (5, 6), Op::View(vec![])),
+            component: 0,
+        }]
     );
+    let misses = call(2, 0, (3, 4), Op::Update(entry(0, 7)));
+    let shows = call(3, 1, (5, 6), Op::Update(entry(1, 8)));
     assert_eq!(
-        faults_of(
-            "begin,2,view,\nbegin,0,update,0:1:7\nend,0,update,\nbegin,1,update,1:1:8\nend,1,update,\nend,2,view,1:1:8\n"
-        ),
-        [Fault::Write { count: 1, view: 1, misses: (0, 1), shows: (1, 1) }]
+        faults_of("begin,2,view,\nbegin,0,update,0:1:7\nend,0,update,\nbegin,1,update,1:1:8\nend,1,update,\nend,2,view,1:1:8\n"),
+        [Fault::Write {
+            count: 1,
+            view: call(1, 2, (2, 7), Op::View(vec![entry(1, 8)])),
+            misses: NamedUpdate { component: 0, number: 1, call: Some(misses) },
+            shows: NamedUpdate { component: 1, number: 1, call: Some(shows) },
+        }]
     );
 }

@@ -1,8 +1,6 @@
-use Rattle.std.proofs.Common.{◌≡◌, ◌++◌, ◌∙◌, Some, ap, sym, codes, decimal, map}
+use Rattle.std.proofs.Common.{◌≡◌, ◌++◌, Some, ap, codes, decimal, map}
+use Rattle.std.specs.Prelude.{option_map}
 use Rattle.std.specs.List.{flat_map}
-use Rattle.std.specs.Option.{option_map}
-use Rattle.snap_format.specs.Records.{record_at}
-use Rattle.snap_format.specs.Rows.{rows_of}
 use Rattle.snap_report.proofs.Pieces.{piece_added}
 use Rattle.snap_explain.specs.Refusals.{quoted, record_text}
 use Rattle.snap_explain.proofs.Pieces.{five_pieces}
@@ -12,10 +10,10 @@ pub returns : goal.returns
 returns c =
     let out = c.args.out.now.items in
     let place = c.args.place in
-    let record_there = record_at (rows_of c.args.text.now) place in
-    let fields = map (λ f. f.items) c.in-Some.fields.items in
-    let same : record_there ≡ Some fields = sym c.in_ok-fields.ensures ∙ ap (option_map (λ fs. map (λ f. f.items) fs.items)) c.in-Some.is in
+    let found = option_map (λ fields. map (λ f. f.items) fields.now) c.args.found in
+    let fields = map (λ f. f.items) c.in-Some.fields.now in
+    let same : found ≡ Some fields = ap (option_map (λ fields. map (λ f. f.items) fields.now)) c.in-Some.is in
     piece_added c.extend_from_slice-3.result c.extend_from_slice-3.new.self.items c.put_fields.new.out.items (codes "\n")
-    (out ++ record_text place record_there) c.extend_from_slice-3.ensures.items
-    (rw (c.in_ok-put_fields.ensures, c.in_ok-extend_from_slice.ensures.items, c.in_ok-put_number.ensures, c.deref.ensures.value, c.from.ensures, same)
+    (out ++ record_text place found) c.extend_from_slice-3.ensures.items
+    (rw (c.in_ok-put_fields.ensures, c.in_ok-extend_from_slice.ensures.items, c.in_ok-put_number.ensures, c.from.ensures, same)
     (five_pieces out (codes "  record ") (decimal place) (codes " has the fields") (flat_map quoted fields) (codes "\n")))

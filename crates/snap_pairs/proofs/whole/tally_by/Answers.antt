@@ -1,6 +1,6 @@
 use Rattle.std.proofs.Common.{◌≡◌, ◌<◌, ◌+◌, ◌∙◌, List, length, get_or, sym, ap, subst, arith, true≢false, Option, rules}
 use Rattle.std.proofs.lemmas.List.FromFn.{length-map-range_with_len, get_or-map-range_with_len}
-use Rattle.snap_pairs.specs.Claiming.{ClaimView, new_claim}
+use Rattle.snap_threads.specs.Claiming.{ClaimView, new_claim}
 use Rattle.snap_conditions.specs.declared.tally.Tally.{Tally}
 use Rattle.snap_pairs.specs.inside.Pieces.{IsFull}
 use Rattle.snap_pairs.proofs.Gathering.{drawn_full, some_of_all}

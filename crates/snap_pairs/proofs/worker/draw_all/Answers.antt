@@ -2,10 +2,10 @@ use Rattle.std.proofs.Common.{◌≡◌, ◌++◌, ◌∷◌, [], All, rules, ar
 use Rattle.std.proofs.lemmas.List.{map_push, length-map}
 use Rattle.snap_core.specs.Calls.{calls_of}
 use Rattle.std.proofs.lemmas.List.Elements.{All-push}
-use Rattle.snap_pairs.specs.Claiming.{ClaimView, pieces_of}
+use Rattle.snap_threads.specs.Claiming.{ClaimView, pieces_of}
 use Rattle.snap_pairs.specs.inside.Pieces.{IsPieceTally}
 use Rattle.snap_pairs.specs.declared.worker.Drawn.{Drawn}
-use Rattle.snap_pairs.proofs.Finishing.{few_pieces, pieces_more}
+use Rattle.snap_threads.proofs.Finishing.{few_pieces, pieces_more}
 use Rattle.snap_pairs.proofs.worker.draw_all.Goals as goal
 
 pub overflow_cast-len : goal.overflow_cast-len

@@ -1,6 +1,6 @@
 use Rattle.std.proofs.Common.{◌≡◌, ◌≤◌, ◌-◌, length, vec_items, map}
 use Rattle.snap_core.specs.Calls.{calls_of}
-use Rattle.snap_pairs.specs.Claiming.{IsClaimOf, pieces_of}
+use Rattle.snap_threads.specs.Claiming.{IsClaimOf, pieces_of}
 use Rattle.snap_pairs.specs.inside.Pieces.{AreTallied}
 use Rattle.snap_pairs.proofs.worker.draw_all.Given as goal
 

@@ -1,7 +1,8 @@
-use Rattle.std.proofs.Common.{◌≡◌, All, List}
+use Rattle.std.proofs.Common.{◌≡◌, ◌-◌, All, List, length}
 use Rattle.snap_plain.specs.Ahead.{IsAhead}
 use Rattle.snap_plain.specs.Turns.{HasTaken}
 use Rattle.snap_text.specs.Fields.{Fields}
+use Rattle.snap_threads.specs.Claiming.{IsClaimOf}
 use Rattle.snap_plain.proofs.beside.take_drawn.Given as goal
 
 abbrev pub invariant-each : goal.invariant-each
@@ -9,4 +10,8 @@ invariant-each g l = record {
   taken : (rows : List Fields) → HasTaken l.fn.limit.events l.lines l.lines l.fn.history.events rows → HasTaken l.fn.limit.events l.lines l.behind l.history.events rows;
   limit : l.history.limit ≡ l.fn.limit.events;
   waiting : All (IsAhead l.lines) l.waiting.items;
+  of_counter : IsClaimOf l.counter l.claim;
 }
+
+abbrev pub decreases-each : goal.decreases-each
+decreases-each g l = l.counter.pieces - length l.claim.drawn

@@ -1,4 +1,4 @@
-use Rattle.std.proofs.Common.{◌≡◌, ◌++◌, ◌≤◌, ◌-◌, ◌∷◌, [], arith, rules}
+use Rattle.std.proofs.Common.{◌≡◌, ◌++◌, ◌≤◌, ◌-◌, ◌∷◌, [], ap, arith, length, length-append, rules}
 use Rattle.std.proofs.lemmas.List.Elements.{All-push}
 use Rattle.snap_plain.specs.Ahead.{IsPieceOf}
 use Rattle.snap_plain.proofs.AheadFacts.{piece_more}
@@ -16,7 +16,12 @@ loop-before-preserved c =
     record {
       pieces = rw pushed (All-push (IsPieceOf lines) before record { from = from; to = to } c.loop-before.invariant.pieces (order, size.within));
       all = rw pushed (piece_more lines 0 from to before c.loop-before.invariant.all order size.ends);
+      count = omega (arith, c.loop-before.invariant.count, ap length pushed, length-append before (record { from = from; to = to } ∷ []));
       from = size.within;
       last = λ e.
           let one : c.min-count.result - c.loop-before.before ≡ 1 = omega (arith, e) in let after = rw one at size.after in omega (arith, after, size.within, c.loop-before.invariant.from);
     }
+
+pub returns-clause-few : goal.returns-clause-few
+returns-clause-few c =
+    omega (arith, c.loop-before.invariant.count, c.loop-before.auto.before-end, c.min-count.ensures, c.workers-workers.ensures, c.args.cutting.workers_fit.1)

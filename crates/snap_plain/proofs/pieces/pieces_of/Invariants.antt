@@ -6,6 +6,7 @@ abbrev pub invariant-loop-before : goal.invariant-loop-before
 invariant-loop-before l = record {
   pieces : All (IsPieceOf l.lines) l.pieces.items;
   all : ArePieces l.lines 0 l.from l.pieces.items;
+  count : length l.pieces.items ≡ l.before;
   from : l.from ≤ length l.lines;
   last : l.before ≡ l.count → l.from ≡ length l.lines;
 }

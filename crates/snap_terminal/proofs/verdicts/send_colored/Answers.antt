@@ -1,21 +1,17 @@
-use Rattle.std.proofs.Common.{◌≡◌, ◌-◌, ◌++◌, List, arith, drop, inr, length, length-drop, refl, subst, take, ℕ}
+use Rattle.std.proofs.Common.{◌≡◌, ◌-◌, ◌++◌, List, arith, drop, length, length-drop, subst, take, ℕ}
 use Rattle.std.proofs.KnownBytes.{Appends-trans}
 use Rattle.std.proofs.lemmas.List.{take-append-drop, take_all}
-use Rattle.snap_terminal.specs.Painting.{IsEscape, IsPainted}
-use Rattle.snap_terminal.specs.declared.verdicts.TheConstants.{PLAIN}
+use Rattle.snap_terminal.specs.Painting.{IsColor, IsPainted, plain}
 use Rattle.snap_terminal.proofs.Pieces.{colored, front_longer, front_more, front_sent, sends_more, whatever_error, whole_sent}
 use Rattle.snap_terminal.proofs.verdicts.send_colored.Goals as goal
 
-plain_is : IsEscape PLAIN.now
-plain_is = inr (inr (inr refl))
-
 -- a line in a colour up to an end, as it is sent
 abbrev in_color : List ℕ → List ℕ → ℕ → List ℕ
-in_color color line end = (color ++ take end line) ++ PLAIN.now
+in_color color line end = (color ++ take end line) ++ plain
 
-painted : (color line : List ℕ) (end : ℕ) → IsEscape color → IsPainted line (in_color color line end ++ drop end line)
+painted : (color line : List ℕ) (end : ℕ) → IsColor color → IsPainted line (in_color color line end ++ drop end line)
 painted color line end is =
-    subst (λ (l : List ℕ). IsPainted l (in_color color line end ++ drop end line)) (take-append-drop end line) (colored color (take end line) PLAIN.now (drop end line) is plain_is)
+    subst (λ (l : List ℕ). IsPainted l (in_color color line end ++ drop end line)) (take-append-drop end line) (colored color (take end line) (drop end line) is)
 
 -- the rest of a line as the code cuts it off
 rest_is : (line : List ℕ) (end : ℕ) → take (length line - end) (drop end line) ≡ drop end line
@@ -31,7 +27,7 @@ returns-in_err-send-clause-cut g c =
       out = in_color color line end ++ drop end line;
       painted = painted color line end c.requires;
       sent = front_longer _ _ (in_color color line end) (drop end line)
-          (front_longer _ _ (color ++ take end line) PLAIN.now (front_longer _ _ color (take end line) c.in_err-send.ensures.bytes));
+          (front_longer _ _ (color ++ take end line) plain (front_longer _ _ color (take end line) c.in_err-send.ensures.bytes));
     })
 
 pub returns-in_err-send-2-clause-cut : goal.returns-in_err-send-2-clause-cut
@@ -44,7 +40,7 @@ returns-in_err-send-2-clause-cut g c =
       out = in_color color line end ++ drop end line;
       painted = painted color line end c.requires;
       sent = front_longer _ _ (in_color color line end) (drop end line)
-          (front_longer _ _ (color ++ take end line) PLAIN.now (front_more _ _ _ color (take end line) c.in_ok-send.ensures.bytes c.in_err-send-2.ensures.bytes));
+          (front_longer _ _ (color ++ take end line) plain (front_more _ _ _ color (take end line) c.in_ok-send.ensures.bytes c.in_err-send-2.ensures.bytes));
     })
 
 pub returns-in_err-send-3-clause-cut : goal.returns-in_err-send-3-clause-cut
@@ -57,7 +53,7 @@ returns-in_err-send-3-clause-cut g c =
     (record {
       out = in_color color line end ++ drop end line;
       painted = painted color line end c.requires;
-      sent = front_longer _ _ (in_color color line end) (drop end line) (front_more _ _ _ (color ++ take end line) PLAIN.now both c.in_err-send-3.ensures.bytes);
+      sent = front_longer _ _ (in_color color line end) (drop end line) (front_more _ _ _ (color ++ take end line) plain both c.in_err-send-3.ensures.bytes);
     })
 
 pub returns-clause-sent : goal.returns-clause-sent
@@ -66,7 +62,7 @@ returns-clause-sent g c =
     let line = c.args.line.now in
     let end = c.end_of-end.result in
     let both = Appends-trans _ _ _ color (take end line) c.in_ok-send.ensures.bytes c.in_ok-send-2.ensures.bytes in
-    let colors = Appends-trans _ _ _ (color ++ take end line) PLAIN.now both c.in_ok-send-3.ensures.bytes in
+    let colors = Appends-trans _ _ _ (color ++ take end line) plain both c.in_ok-send-3.ensures.bytes in
     let rest = rw (rest_is line end) at c.send-4.ensures.bytes in
     whole_sent _ _ line (in_color color line end ++ drop end line) c.send-4.result (painted color line end c.requires)
     (sends_more _ _ _ (in_color color line end) (drop end line) c.send-4.result colors rest)
@@ -77,7 +73,7 @@ returns-clause-cut g c =
     let line = c.args.line.now in
     let end = c.end_of-end.result in
     let both = Appends-trans _ _ _ color (take end line) c.in_ok-send.ensures.bytes c.in_ok-send-2.ensures.bytes in
-    let colors = Appends-trans _ _ _ (color ++ take end line) PLAIN.now both c.in_ok-send-3.ensures.bytes in
+    let colors = Appends-trans _ _ _ (color ++ take end line) plain both c.in_ok-send-3.ensures.bytes in
     let rest = rw (rest_is line end) at c.send-4.ensures.bytes in
     front_sent _ _ line (in_color color line end ++ drop end line) c.send-4.result (painted color line end c.requires)
     (sends_more _ _ _ (in_color color line end) (drop end line) c.send-4.result colors rest)

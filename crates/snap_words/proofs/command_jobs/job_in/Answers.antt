@@ -10,6 +10,7 @@ returns-in-check-clause-asked c = record {
   shrink = λ events drawn other _. absurd (has_name _ _ (codes "shrink") c.in-check.is refl refl other);
   explain = λ events drawn other _. absurd (has_name _ _ (codes "explain") c.in-check.is refl refl other);
   draw = λ events form other _. absurd (has_name _ _ (codes "draw") c.in-check.is refl refl other);
+  stats = λ events json other _. absurd (has_name _ _ (codes "stats") c.in-check.is refl refl other);
   recording = λ events workers rounds flags other _. absurd (has_name _ _ (codes "record") c.in-check.is refl refl other);
   unfollowed = λ _ asks. c.judged_in.ensures.unfollowed asks;
   unheeded = λ _ asks. c.judged_in.ensures.unheeded asks;
@@ -23,6 +24,7 @@ returns-in-shrink-clause-asked c = record {
   shrink = λ events drawn _ asks. c.shrink_in.ensures.asked events drawn _ (c.into_file.ensures ∙ ap first_name c.requires.named.files_are) asks;
   explain = λ events drawn other _. absurd (has_name _ _ (codes "explain") c.in-shrink.is refl refl other);
   draw = λ events form other _. absurd (has_name _ _ (codes "draw") c.in-shrink.is refl refl other);
+  stats = λ events json other _. absurd (has_name _ _ (codes "stats") c.in-shrink.is refl refl other);
   recording = λ events workers rounds flags other _. absurd (has_name _ _ (codes "record") c.in-shrink.is refl refl other);
   unfollowed = λ other _. absurd (has_name _ _ (codes "check") c.in-shrink.is refl refl other);
   unheeded = λ other _. absurd (has_name _ _ (codes "check") c.in-shrink.is refl refl other);
@@ -36,6 +38,7 @@ returns-in-explain-clause-asked c = record {
   shrink = λ events drawn other _. absurd (has_name _ _ (codes "shrink") c.in-explain.is refl refl other);
   explain = λ events drawn _ asks. c.explain_in.ensures.asked events drawn _ (c.into_file-in-explain.ensures ∙ ap first_name c.requires.named.files_are) asks;
   draw = λ events form other _. absurd (has_name _ _ (codes "draw") c.in-explain.is refl refl other);
+  stats = λ events json other _. absurd (has_name _ _ (codes "stats") c.in-explain.is refl refl other);
   recording = λ events workers rounds flags other _. absurd (has_name _ _ (codes "record") c.in-explain.is refl refl other);
   unfollowed = λ other _. absurd (has_name _ _ (codes "check") c.in-explain.is refl refl other);
   unheeded = λ other _. absurd (has_name _ _ (codes "check") c.in-explain.is refl refl other);
@@ -49,10 +52,25 @@ returns-in-draw-clause-asked c = record {
   shrink = λ events drawn other _. absurd (has_name _ _ (codes "shrink") c.in-draw.is refl refl other);
   explain = λ events drawn other _. absurd (has_name _ _ (codes "explain") c.in-draw.is refl refl other);
   draw = λ events form _ asks. c.draw_in.ensures.asked events form _ (c.into_file-in-draw.ensures ∙ ap first_name c.requires.named.files_are) asks;
+  stats = λ events json other _. absurd (has_name _ _ (codes "stats") c.in-draw.is refl refl other);
   recording = λ events workers rounds flags other _. absurd (has_name _ _ (codes "record") c.in-draw.is refl refl other);
   unfollowed = λ other _. absurd (has_name _ _ (codes "check") c.in-draw.is refl refl other);
   unheeded = λ other _. absurd (has_name _ _ (codes "check") c.in-draw.is refl refl other);
   overfull = λ other _. absurd (has_name _ _ (codes "record") c.in-draw.is refl refl other);
+}
+
+pub returns-in-stats-clause-asked : goal.returns-in-stats-clause-asked
+returns-in-stats-clause-asked c = record {
+  check = λ asked other _. absurd (has_name _ _ (codes "check") c.in-stats.is refl refl other);
+  follow = λ events windows other _. absurd (has_name _ _ (codes "check") c.in-stats.is refl refl other);
+  shrink = λ events drawn other _. absurd (has_name _ _ (codes "shrink") c.in-stats.is refl refl other);
+  explain = λ events drawn other _. absurd (has_name _ _ (codes "explain") c.in-stats.is refl refl other);
+  draw = λ events form other _. absurd (has_name _ _ (codes "draw") c.in-stats.is refl refl other);
+  stats = λ events json _ asks. c.stats_in.ensures.asked events json _ (c.into_file-in-stats.ensures ∙ ap first_name c.requires.named.files_are) asks;
+  recording = λ events workers rounds flags other _. absurd (has_name _ _ (codes "record") c.in-stats.is refl refl other);
+  unfollowed = λ other _. absurd (has_name _ _ (codes "check") c.in-stats.is refl refl other);
+  unheeded = λ other _. absurd (has_name _ _ (codes "check") c.in-stats.is refl refl other);
+  overfull = λ other _. absurd (has_name _ _ (codes "record") c.in-stats.is refl refl other);
 }
 
 pub returns-in_default-clause-asked : goal.returns-in_default-clause-asked
@@ -62,6 +80,7 @@ returns-in_default-clause-asked c = record {
   shrink = λ events drawn other _. absurd (c.in_default.not-shrink other);
   explain = λ events drawn other _. absurd (c.in_default.not-explain other);
   draw = λ events form other _. absurd (c.in_default.not-draw other);
+  stats = λ events json other _. absurd (c.in_default.not-stats other);
   recording = λ events workers rounds flags _ asks. c.record_in.ensures.asked events workers rounds flags asks;
   unfollowed = λ other _. absurd (c.in_default.not-check other);
   unheeded = λ other _. absurd (c.in_default.not-check other);

@@ -1,5 +1,5 @@
 use Rattle.std.proofs.Common.{◌∙◌, subst, sym}
-use Rattle.snap_words.specs.Jobs.{IsCheck, IsDraw, IsExplain, IsFollow, IsRecord, IsShrink}
+use Rattle.snap_words.specs.Jobs.{IsCheck, IsDraw, IsExplain, IsFollow, IsRecord, IsShrink, IsStats}
 use Rattle.snap_words.proofs.given.wanted_by.Goals as goal
 
 -- the job is the one that `job_of` gives, and so is want of memory
@@ -37,6 +37,13 @@ returns-in-Ok-clause-draw c = λ events form files whole means.
 
 pub returns-clause-draw : goal.returns-clause-draw
 returns-clause-draw c = λ events form files whole means. c.readable.ensures (c.in-Err.ensures.draw events form files means)
+
+pub returns-in-Ok-clause-stats : goal.returns-in-Ok-clause-stats
+returns-in-Ok-clause-stats c = λ events json files whole means.
+    subst (IsStats events json files) (sym (c.in_ok-whole_job-in-Ok.ensures.same (c.deref-in-Ok.ensures.value ∙ whole))) (c.in-Ok.ensures.stats events json files means)
+
+pub returns-clause-stats : goal.returns-clause-stats
+returns-clause-stats c = λ events json files whole means. c.readable.ensures (c.in-Err.ensures.stats events json files means)
 
 pub returns-in-Ok-clause-recording : goal.returns-in-Ok-clause-recording
 returns-in-Ok-clause-recording c = λ events workers rounds flags files whole means.

@@ -2,7 +2,7 @@ use Rattle.std.proofs.Common.{◌≡◌, ◌∙◌, List, Option, ap, ap₂, cod
 use Rattle.std.specs.Prelude.{string_bytes}
 use Rattle.clap.specs.Words.{Row, Text, is_simple, subcommand_of, subcommand_rows_of, takes}
 use Rattle.snap_words.specs.CommandLine.{program_app}
-use Rattle.snap_words.specs.Jobs.{IsCheck, IsDraw, IsExplain, IsFollow, IsShrink}
+use Rattle.snap_words.specs.Jobs.{IsCheck, IsDraw, IsExplain, IsFollow, IsShrink, IsStats}
 use Rattle.snap_words.specs.declared.job.JobFault.TheVariants.{Memory}
 use Rattle.snap_words.proofs.Finding.{on_files}
 use Rattle.snap_words.proofs.Rows.{program_is_simple}
@@ -53,6 +53,13 @@ returns-in-Err-clause-draw c = λ events form files means. memory c means.taken
 pub returns-clause-draw : goal.returns-clause-draw
 returns-clause-draw c = λ events form files means.
     on_files means.rows files (IsDraw events form) c.asked_by.result means.files_are ((c.asked_by.ensures.asked (codes "draw") means.rows (found c _ means.rows_are)).draw events form refl means.asks)
+
+pub returns-in-Err-clause-stats : goal.returns-in-Err-clause-stats
+returns-in-Err-clause-stats c = λ events json files means. memory c means.taken
+
+pub returns-clause-stats : goal.returns-clause-stats
+returns-clause-stats c = λ events json files means.
+    on_files means.rows files (IsStats events json) c.asked_by.result means.files_are ((c.asked_by.ensures.asked (codes "stats") means.rows (found c _ means.rows_are)).stats events json refl means.asks)
 
 pub returns-in-Err-clause-recording : goal.returns-in-Err-clause-recording
 returns-in-Err-clause-recording c = λ events workers rounds flags files means. memory c means.taken

@@ -15,4 +15,5 @@ returns c = record {
   parts = refl;
   texts_say = refl;
   lines_say = inl (refl, refl, refl);
+  place_is = record { text_is = refl; record_is = refl };
 }

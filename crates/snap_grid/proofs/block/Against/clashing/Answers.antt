@@ -12,7 +12,7 @@ always false = refl
 pub returns-then-apart : goal.returns-then-apart
 returns-then-apart c =
     let me = c.args.self.now in
-    c.passing-passing.ensures.more
+    c.greater.ensures
     ∙ mask_below_same (λ a. faces true me.more me.near.items me.far.items a c.args.row) (λ a. faces true me.more me.near.items me.far.items a c.args.row && (c.args.apart || faces false me.less me.near.items me.far.items a c.args.row)) me.ours
     (λ a l. sym (ap (λ z. faces true me.more me.near.items me.far.items a c.args.row && (z || faces false me.less me.near.items me.far.items a c.args.row)) c.if-apart.true ∙ always (faces true me.more me.near.items me.far.items a c.args.row)))
 

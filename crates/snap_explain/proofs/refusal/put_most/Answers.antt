@@ -1,9 +1,0 @@
-use Rattle.std.proofs.Common.{◌++◌, append-nil, append_assoc, decimal}
-use Rattle.snap_report.proofs.Pieces.{piece_added}
-use Rattle.snap_explain.proofs.refusal.put_most.Goals as goal
-
-pub returns : goal.returns
-returns c =
-    piece_added c.extend_from_slice.result c.extend_from_slice.new.self.items c.put_number.new.out.items c.args.words.now
-    (c.args.out.now.items ++ (decimal c.args.number ++ c.args.words.now)) c.extend_from_slice.ensures.items
-    (rw c.in_ok-put_number.ensures (simp (append-nil, append_assoc)))

@@ -1,0 +1,10 @@
+use Rattle.std.proofs.Common.{None, false, refl}
+use Rattle.snap_follow.specs.Recordings.{CanBeFollowed}
+use Rattle.snap_follow.proofs.Ending.{from_the_begin, if_err_then, on_refusal}
+use Rattle.snap_follow.proofs.pieces.read_all.Goals as goal
+
+pub returns-clause-refused : goal.returns-clause-refused
+returns-clause-refused g c =
+    if_err_then c.read_pieces.result _ _ c.read_pieces.ensures.refused
+    (λ stop refused. on_refusal stop _ _
+    (λ stops least most h. from_the_begin g.T.Text.Read.remaining c.args.course.now record { text = None; read = 0; has_next = false } (g.T.Texts.left c.args.texts.now) least most (λ all. ¬ CanBeFollowed most c.args.until all) refl refl h (λ all. stops least most all)) refused)

@@ -1,0 +1,72 @@
+-- What whole texts are when they are followed to their end.
+use Rattle.std.specs.Prelude.{ℕ, Bool, List, [], ◌∷◌, ◌++◌, ◌≡◌, ◌≢◌, ◌≤◌, ◌⊎◌, ◌↔◌, IsTrue, IfSome, None, All, flat_map, length}
+use Rattle.std.specs.List.{AllZip}
+use Rattle.snap_core.specs.declared.event.Event.{Event}
+use Rattle.snap_core.specs.Events.{IsHistory}
+use Rattle.snap_format.specs.Rows.{rows_of}
+use Rattle.snap_follow.specs.Bytes.{AreAllLines, AreLinesOf}
+use Rattle.snap_follow.specs.Followed.{AllSpell, IsStatusOf, Spells}
+use Rattle.snap_follow.specs.declared.course.TheConstants.{RECORD_LIMIT}
+use Rattle.snap_follow.specs.declared.run.FollowOptions.{FollowOptions}
+use Rattle.snap_follow.specs.declared.run.Followed.{Followed}
+use Rattle.snap_follow.specs.declared.run.Until.{Until}
+use Rattle.snap_follow.specs.declared.run.Until.TheVariants.{Ever, Idle, End}
+
+-- the lines of the last text, and what is left out. That is nothing if the text is followed to its end, and otherwise a line without an
+-- end
+abbrev pub AreLastLines : Until → List ℕ → List (List ℕ) → List ℕ → Type 0
+AreLastLines End bytes lines rest = AreAllLines bytes lines × (rest ≡ [])
+AreLastLines Ever bytes lines rest = AreLinesOf bytes lines rest
+AreLastLines (Idle seconds) bytes lines rest = AreLinesOf bytes lines rest
+
+-- the lines of texts: all of each that is not the last
+pub record AreCut (until : Until) (texts : List (List ℕ)) (earlier : List (List (List ℕ))) (last : List (List ℕ)) (rest : List ℕ) : Type 0 where
+  pub before : List (List ℕ)
+  pub text : List ℕ
+  pub texts_are : texts ≡ before ++ text ∷ []
+  pub whole : AllZip AreAllLines before earlier
+  pub lines : AreLastLines until text last rest
+
+-- the records of these lines spell the events. A text after others may have no record so far
+pub record AllSay (earlier : List (List (List ℕ))) (last : List (List ℕ)) (events : List Event) : Type 0 where
+  pub before : List Event
+  pub here : List Event
+  pub parts : events ≡ before ++ here
+  pub texts_say : AllSpell earlier before
+  pub last_says : Spells (flat_map rows_of last) here ⊎ ((earlier ≢ []) × (flat_map rows_of last ≡ []) × (here ≡ []))
+
+-- texts are a recording of these events, and a rest of them is left out or not
+pub record IsRecording (until : Until) (texts : List (List ℕ)) (has_rest : Bool) (events : List Event) : Type 0 where
+  pub earlier : List (List (List ℕ))
+  pub last : List (List ℕ)
+  pub rest : List ℕ
+  pub cut : AreCut until texts earlier last rest
+  pub say : AllSay earlier last events
+  pub left_out : IsTrue has_rest ↔ (rest ≢ [])
+
+-- a line may be a record
+abbrev pub IsShort : List ℕ → Type 0
+IsShort line = length line ≤ RECORD_LIMIT
+
+-- texts are a recording of a history of at most as many events as a window may have, in lines that may be records
+pub record CanBeFollowed (most : ℕ) (until : Until) (texts : List (List ℕ)) : Type 0 where
+  pub earlier : List (List (List ℕ))
+  pub last : List (List ℕ)
+  pub rest : List ℕ
+  pub events : List Event
+  pub cut : AreCut until texts earlier last rest
+  pub say : AllSay earlier last events
+  pub history : IsHistory events
+  pub few : length events ≤ most
+  pub short_before : All (All IsShort) earlier
+  pub short : All IsShort last
+  pub short_rest : IsShort rest
+
+-- the exit status is that of the events of a recording, or 3 if it can't be followed
+abbrev pub IsCodeOf : FollowOptions → List (List ℕ) → Bool → ℕ → Type 0
+IsCodeOf asked texts has_rest code =
+    ((events : List Event) × IsRecording asked.until texts has_rest events × IsStatusOf events code) ⊎ ((code ≡ 3) × ¬ CanBeFollowed asked.most.events asked.until texts)
+
+-- texts were followed, and all of them were there
+abbrev pub AreFollowed : FollowOptions → List (List ℕ) → Followed → Type 0
+AreFollowed asked texts followed = followed.lost ≡ None → IfSome followed.code (IsCodeOf asked texts followed.has_rest)

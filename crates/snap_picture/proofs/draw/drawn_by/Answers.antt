@@ -1,7 +1,0 @@
-use Rattle.snap_picture.proofs.draw.drawn_by.Goals as goal
-
-pub picture_of-requires-clause-each : goal.picture_of-requires-clause-each
-picture_of-requires-clause-each g c = c.requires
-
-pub returns : goal.returns
-returns g c = (c.status_of.ensures, c.in_ok-text.ensures)

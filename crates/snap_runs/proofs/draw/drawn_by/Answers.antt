@@ -1,0 +1,7 @@
+use Rattle.snap_runs.proofs.draw.drawn_by.Goals as goal
+
+pub picture_of-requires-clause-each : goal.picture_of-requires-clause-each
+picture_of-requires-clause-each g c = c.requires.each
+
+pub returns : goal.returns
+returns g c = (c.status_of.ensures, c.in_ok-text.ensures)

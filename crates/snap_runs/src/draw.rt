@@ -1,0 +1,156 @@
+//! The run that draws a history.
+ghost use Rattle.std.specs.Prelude.{◌≡◌, [], IfOk, is_some, length, map};
+ghost use Rattle.std.specs.Option.{ForSome, option_map_or};
+ghost use Rattle.snap_core.specs.Calls.{calls_of, views_of};
+ghost use Rattle.snap_core.specs.Counting.{failures_in, inner_of};
+ghost use Rattle.snap_conditions.specs.Tally.{tally_of};
+ghost use Rattle.snap_theory.specs.Levels.{printed_order};
+ghost use Rattle.snap_report.specs.Reports.{has_no_fault};
+ghost use Rattle.snap_check.specs.Runs.{JudgeCounts, JudgesBy, RunCounts, WroteBy};
+ghost use Rattle.snap_runs.specs.Drawing.{DrawsHistory, IsDrawing, IsDrawn};
+
+use crate::markup::Markup;
+use snap_check::{Judging, RunFault, Workers, workers_of};
+use snap_conditions::Tally;
+use snap_core::{Counted, History, Limit};
+use snap_csv::{ReadRefusal, read_records};
+use snap_draw::{Picture, shapes_of};
+use snap_explain::{explain, explain_refusal};
+use snap_index::Index;
+use snap_threads::Cutting;
+use snap_verdict::{Status, status_of};
+use std::alloc::{AllocError, Global};
+use std::io::{Read, Write};
+use std::thread::Threads;
+
+// The numbers of an order, none if there is no order.
+fn numbers_of<'x>(order: Option<&'x [u32]>) -> &'x [u32]
+    ensures { result.now ≡ option_map_or (λ numbers. numbers.now) order.entry [] }
+{
+    match order {
+        Some(numbers) => numbers,
+        None => &[],
+    }
+}
+
+// The picture of a history by its index, the tally of all its completed views, the records of its events, and its printed order. The
+// numbers of that order are given exactly if the tally has no fault.
+fn picture_of<'x, M: Markup>(
+    alloc: Global,
+    markup: &M,
+    index: &'x Index<'_>,
+    tally: &Tally,
+    records: &'x [u32],
+    order: Option<&'x [u32]>,
+) -> Result<Vec<u8>, AllocError>
+    requires tally { tally.now ≡ tally_of (calls_of index.now) (views_of (calls_of index.now)) }
+    requires each { length records.now ≡ length index.now }
+    requires given { is_some order ≡ has_no_fault tally.now }
+    requires order { ForSome order (λ numbers. numbers.now ≡ map (λ c. c.number) (printed_order (calls_of index.now))) }
+    ensures { IfOk result (λ text. IsDrawing M.calls M.writes index.now records.now text.items) }
+{
+    let said = explain(alloc, index, tally, records, order)?;
+    let order = numbers_of(order);
+    let shapes = shapes_of(alloc, index, tally, order, markup.call_limit())?;
+    markup.text(
+        alloc,
+        &Picture {
+            shapes: &shapes,
+            index,
+            records,
+            order,
+            said: &said,
+        },
+    )
+}
+
+/// The workers that look for the faults of a picture. A picture is usually made alone, so more workers share the pieces of a long text.
+pub(crate) fn workers<Rt: Threads + Sync>(rt: &Rt) -> Workers<'_, Rt> {
+    workers_of(rt, Cutting::new(8, 4).unwrap_or(Cutting::usual()))
+}
+
+// The status of a history, and its picture by its index and the records of its events.
+fn drawn_by<J: Judging, M: Markup>(
+    judging: &J,
+    alloc: Global,
+    markup: &M,
+    index: &Index<'_>,
+    records: &[u32],
+    bytes: usize,
+) -> Result<(Status, Vec<u8>), AllocError>
+    requires ready { J.ready }
+    requires each { length records.now ≡ length index.now }
+    ensures { IfOk result (λ answer. DrawsHistory M.calls M.writes index.now records.now answer.0 answer.1.items) }
+{
+    let (tally, chain) = judging.tally_and_chain(alloc, index, bytes)?;
+    let order = judging.order(alloc, index, &tally, chain, bytes)?;
+    let text = picture_of(alloc, markup, &*index, &tally, records, order.as_deref())?;
+    Ok((status_of(index, &tally), text))
+}
+
+/// The status of the history of a text with this number of bytes, and its picture by the records of its events.
+pub(crate) fn drawn<J: Judging, M: Markup>(
+    judging: &J,
+    alloc: Global,
+    markup: &M,
+    history: &History,
+    records: &[u32],
+    bytes: usize,
+) -> Result<(Status, Vec<u8>), AllocError>
+    requires ready { J.ready }
+    requires each { length records.now ≡ length history.now.events }
+    ensures { IfOk result (λ answer. DrawsHistory M.calls M.writes history.now.events records.now answer.0 answer.1.items) }
+{
+    let index = Index::build(alloc, history)?;
+    drawn_by(judging, alloc, markup, &index, records, bytes)
+}
+
+/// The status of the text that a reader has, and its picture, or why it is not a history: what `draw_run` answers and writes.
+pub fn draw_input<J: Judging, R: Read, M: Markup>(
+    judging: &J,
+    alloc: Global,
+    markup: &M,
+    reader: &mut Counted<R>,
+    limit: Limit,
+) -> Result<(Status, Vec<u8>), RunFault>
+    requires ready { J.ready }
+    ensures answer { JudgesBy (IsDrawn limit.events M.calls M.writes) (R.remaining (inner_of reader.old)) result }
+    ensures counts { JudgeCounts (failures_in reader.old) (failures_in reader.new) result }
+{
+    let mut room = Vec::new(alloc);
+    match read_records(alloc, reader, &mut room, limit) {
+        Ok((history, records)) => {
+            let bytes = room.len();
+            Ok(drawn(judging, alloc, markup, &history, &records, bytes)?)
+        }
+        Err(ReadRefusal::Text { place, fault }) => {
+            let text = explain_refusal(alloc, &room, place, fault, limit)?;
+            Ok((Status::Refused, text))
+        }
+        Err(ReadRefusal::Device) => Err(RunFault::Read),
+        Err(ReadRefusal::Memory) => Err(RunFault::Memory),
+    }
+}
+
+/// Reads a history, and writes its picture in a markup. For a text that is not a history, the explanation of its first fault goes out.
+/// The status is that of `check_run`. A history may have as many events as the limit says, and its text 1,024 times as many bytes.
+///
+/// Nothing is written until the whole text is built. After `Read` or `Memory` nothing went out. After `Write` a prefix of the text
+/// went out, perhaps all of it. The writer is flushed once at the end. The run returns if the reader and the writer do.
+pub fn draw_run<Rt: Threads + Sync, R: Read, W: Write, M: Markup>(
+    rt: &Rt,
+    alloc: Global,
+    markup: &M,
+    reader: &mut Counted<R>,
+    writer: &mut Counted<W>,
+    limit: Limit,
+) -> Result<Status, RunFault>
+    ensures wrote { WroteBy (IsDrawn limit.events M.calls M.writes) (R.remaining (inner_of reader.old)) (W.contents (inner_of writer.old)) (W.contents (inner_of writer.new)) result }
+    ensures counts { RunCounts (failures_in reader.old) (failures_in reader.new) (failures_in writer.old) (failures_in writer.new) result }
+{
+    let (status, text) = draw_input(&workers(rt), alloc, markup, reader, limit)?;
+    match writer.send(&text) {
+        Ok(()) => Ok(status),
+        Err(_) => Err(RunFault::Write),
+    }
+}

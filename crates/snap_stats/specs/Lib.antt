@@ -1,0 +1,5 @@
+pub mod Overlaps
+pub mod Shown
+pub mod Stats
+pub mod Lines
+pub mod inside

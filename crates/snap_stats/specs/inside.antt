@@ -1,0 +1,3 @@
+-- What only the proofs of this crate need: no clause that a caller reads cites it.
+pub mod Spans
+pub mod Marks

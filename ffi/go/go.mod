@@ -1,0 +1,3 @@
+module wovencliff.example/snapjudge
+
+go 1.19

@@ -1,0 +1,80 @@
+package snapjudge
+
+/*
+#cgo CFLAGS: -I${SRCDIR}/../c
+#cgo LDFLAGS: -L${SRCDIR}/../build -l:libsnapjudge.a
+#include "snapjudge.h"
+*/
+import "C"
+
+type command int
+
+const (
+	report command = iota
+	explain
+	object
+	shrink
+	draw
+	stats
+)
+
+// What is asked of a text: by which command, with which option, and the JSON object with which name.
+type question struct {
+	command command
+	option  uint32
+	name    []byte
+}
+
+// The first byte of a text, or another byte if it has none: the library takes no null pointer.
+func first(text []byte) *C.uint8_t {
+	if len(text) == 0 {
+		return new(C.uint8_t)
+	}
+	return (*C.uint8_t)(&text[0])
+}
+
+// The status of the library, and how many bytes its answer has. From 0 to 3 the answer is at the front of the room.
+func (asked question) into(room, text []byte, events uint32) (C.uint32_t, int) {
+	var written C.size_t
+	in, length, most := first(text), C.size_t(len(text)), C.uint32_t(events)
+	option, out, size := C.uint32_t(asked.option), first(room), C.size_t(len(room))
+	var status C.uint32_t
+	switch asked.command {
+	case explain:
+		status = C.snapjudge_explain(in, length, most, option, out, size, &written)
+	case object:
+		status = C.snapjudge_json(in, length, most, first(asked.name), C.size_t(len(asked.name)), out, size, &written)
+	case shrink:
+		status = C.snapjudge_shrink(in, length, most, option, out, size, &written)
+	case draw:
+		status = C.snapjudge_draw(in, length, most, option, out, size, &written)
+	case stats:
+		status = C.snapjudge_stats(in, length, most, option, out, size, &written)
+	default:
+		status = C.snapjudge_check_limit(in, length, most, out, size, &written)
+	}
+	return status, int(written)
+}
+
+// The answer to a question. It is asked again if the first room is too small.
+func ask(asked question, text []byte, events uint32) (Answer, error) {
+	if C.snapjudge_version() != C.SNAPJUDGE_VERSION {
+		return Answer{}, ErrVersion
+	}
+	for size := len(text) + len(text)/4 + 4096; ; {
+		room := make([]byte, size)
+		status, length := asked.into(room, text, events)
+		switch status {
+		case C.SNAPJUDGE_ATOMIC, C.SNAPJUDGE_REGULAR, C.SNAPJUDGE_IRREGULAR, C.SNAPJUDGE_REFUSED:
+			return Answer{Status(status), string(room[:length])}, nil
+		case C.SNAPJUDGE_NO_ROOM:
+			size = length
+		case C.SNAPJUDGE_NO_LIMIT:
+			return Answer{}, &LimitError{events}
+		case C.SNAPJUDGE_NO_OPTION:
+			return Answer{}, ErrOption
+		default:
+			return Answer{}, ErrMemory
+		}
+	}
+}

@@ -1,0 +1,147 @@
+//! The calls of libsnapjudge.a. What they answer is proved; this file is not.
+use crate::{Answer, Error, Form, RoomError, Status};
+
+/// The version of the library that this crate is for.
+const VERSION: u32 = 1;
+
+const NO_ROOM: u32 = 5;
+const NO_LIMIT: u32 = 6;
+
+extern "C" {
+    fn snapjudge_check_limit(
+        text: *const u8,
+        text_length: usize,
+        events: u32,
+        report: *mut u8,
+        room: usize,
+        report_length: *mut usize,
+    ) -> u32;
+
+    fn snapjudge_explain(
+        text: *const u8,
+        text_length: usize,
+        events: u32,
+        drawn: u32,
+        out: *mut u8,
+        room: usize,
+        length: *mut usize,
+    ) -> u32;
+
+    fn snapjudge_json(
+        text: *const u8,
+        text_length: usize,
+        events: u32,
+        name: *const u8,
+        name_length: usize,
+        out: *mut u8,
+        room: usize,
+        length: *mut usize,
+    ) -> u32;
+
+    fn snapjudge_shrink(
+        text: *const u8,
+        text_length: usize,
+        events: u32,
+        drawn: u32,
+        out: *mut u8,
+        room: usize,
+        length: *mut usize,
+    ) -> u32;
+
+    fn snapjudge_draw(
+        text: *const u8,
+        text_length: usize,
+        events: u32,
+        form: u32,
+        out: *mut u8,
+        room: usize,
+        length: *mut usize,
+    ) -> u32;
+
+    fn snapjudge_stats(
+        text: *const u8,
+        text_length: usize,
+        events: u32,
+        object: u32,
+        out: *mut u8,
+        room: usize,
+        length: *mut usize,
+    ) -> u32;
+
+    fn snapjudge_version() -> u32;
+}
+
+/// What is asked of a text.
+#[derive(Clone, Copy)]
+pub(crate) enum Question<'a> {
+    Report,
+    Explanation { drawn: bool },
+    Object { name: &'a str },
+    Witness { drawn: bool },
+    Picture(Form),
+    Stats { object: bool },
+}
+
+/// What the library answers, and the length of what it writes.
+fn call(question: Question<'_>, text: &[u8], events: u32, room: &mut [u8]) -> (u32, usize) {
+    let mut length = 0;
+    let (from, bytes, to, most, end) = (text.as_ptr(), text.len(), room.as_mut_ptr(), room.len(), &mut length);
+    // SAFETY: the pointers and lengths are those of a `&[u8]` or `&str`, a `&mut [u8]` and a `&mut usize`. They are never null, lie
+    // apart, are initialized, and are borrowed for the call. The library's memory is the C library's, as is Rust's `System`.
+    let answer = unsafe {
+        assert_eq!(snapjudge_version(), VERSION, "libsnapjudge.a is of another version");
+        match question {
+            Question::Report => snapjudge_check_limit(from, bytes, events, to, most, end),
+            Question::Explanation { drawn } => snapjudge_explain(from, bytes, events, drawn.into(), to, most, end),
+            Question::Object { name } => snapjudge_json(from, bytes, events, name.as_ptr(), name.len(), to, most, end),
+            Question::Witness { drawn } => snapjudge_shrink(from, bytes, events, drawn.into(), to, most, end),
+            Question::Picture(form) => snapjudge_draw(from, bytes, events, form as u32, to, most, end),
+            Question::Stats { object } => snapjudge_stats(from, bytes, events, object.into(), to, most, end),
+        }
+    };
+    (answer, length)
+}
+
+/// The status of a text and the length of the answer, which is written to the front of the room.
+pub(crate) fn answer_into(
+    question: Question<'_>,
+    text: &[u8],
+    events: u32,
+    room: &mut [u8],
+) -> Result<(Status, usize), RoomError> {
+    let (answer, length) = call(question, text, events, room);
+    match answer {
+        0 => Ok((Status::Atomic, length)),
+        1 => Ok((Status::Regular, length)),
+        2 => Ok((Status::Irregular, length)),
+        3 => Ok((Status::Refused, length)),
+        NO_ROOM => Err(RoomError::TooLittle(length)),
+        NO_LIMIT => Err(RoomError::NoLimit(events)),
+        _ => Err(RoomError::OutOfMemory),
+    }
+}
+
+// Room for an answer.
+fn room_of(size: usize) -> Result<Vec<u8>, Error> {
+    let mut room = Vec::new();
+    room.try_reserve_exact(size).map_err(|_| Error::OutOfMemory)?;
+    room.resize(size, 0);
+    Ok(room)
+}
+
+/// The answer to a question, in room of its own. It is asked again if the first room is too small.
+pub(crate) fn answer(question: Question<'_>, text: &[u8], events: u32) -> Result<Answer, Error> {
+    let mut size = text.len() + text.len() / 4 + 1024;
+    loop {
+        let mut room = room_of(size)?;
+        match answer_into(question, text, events, &mut room) {
+            Ok((status, length)) => {
+                room.truncate(length);
+                return Ok(Answer { status, text: String::from_utf8(room).expect("an answer is UTF-8") });
+            }
+            Err(RoomError::TooLittle(length)) => size = length,
+            Err(RoomError::NoLimit(events)) => return Err(Error::NoLimit(events)),
+            Err(RoomError::OutOfMemory) => return Err(Error::OutOfMemory),
+        }
+    }
+}

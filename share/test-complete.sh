@@ -1,0 +1,44 @@
+# What three shells complete. share/test.sh reads this file: it works in the room there, with its functions and its files.
+
+# Expects these completions of the words, in a shell that is here: each word of the completions is between blanks.
+completes() {
+  wanted=$2
+  case $shell in
+    bash) expect "bash: $1" 0 "$wanted " bash -c '. "$1"
+      read -r -a COMP_WORDS <<<"$2"
+      [[ $2 != *" " ]] || COMP_WORDS+=("")
+      COMP_CWORD=$((${#COMP_WORDS[@]} - 1))
+      _snapjudge
+      printf "%s\n" "${COMPREPLY[@]}" | LC_ALL=C sort | tr "\n" " "' bash "$top/share/snapjudge.bash" "$1" ;;
+    zsh) expect "zsh: $1" 0 "$wanted " sh -c 'zsh -f "$1/complete.zsh" "$1" "$2" "$3" | sed "/^$/d" | LC_ALL=C sort | tr "\n" " "' \
+      sh "$top/share" "$room/zsh" "$1" ;;
+    fish) expect "fish: $1" 0 "$wanted " sh -c 'fish --no-config -c "source \$argv[1]; complete -C \$argv[2]" "$1" "$2" | cut -f 1 |
+      LC_ALL=C sort | tr "\n" " "' sh "$top/share/snapjudge.fish" "$1" ;;
+  esac
+}
+mkdir -p complete zsh
+cd complete || exit 1
+touch one.csv two.csv
+for shell in bash zsh fish; do
+  has "$shell" "completions of $shell" || continue
+  completes "snapjudge sh" shrink
+  completes "snapjudge --v" --version
+  completes "snapjudge check --" "--color --events --files-from --follow --format --help --idle --no-progress --null --pieces --quiet --recursive --summary --views --window --workers"
+  completes "snapjudge check --format " "json plain"
+  completes "snapjudge check --color " "always auto never"
+  completes "snapjudge check --files-from t" two.csv
+  completes "snapjudge check --quiet --pi" --pieces
+  completes "snapjudge record --" "--events --help --judge --rounds --scan --stamped --workers"
+  completes "snapjudge record --scan --r" --rounds
+  completes "snapjudge draw --" "--events --help --svg --text"
+  completes "snapjudge shrink --" "--draw --events --help"
+  completes "snapjudge explain --d" --draw
+  completes "snapjudge stats --" "--events --format --help"
+  completes "snapjudge stats --format " "json plain"
+  for command in check shrink explain draw stats; do
+    completes "snapjudge $command " "one.csv two.csv"
+    completes "snapjudge $command t" two.csv
+  done
+  completes "snapjudge check one.csv t" two.csv
+done
+cd ..
