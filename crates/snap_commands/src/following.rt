@@ -2,6 +2,7 @@
 use crate::failure::Failure;
 use crate::files::{say_trouble, system};
 use crate::names::{say, say_none};
+use crate::outlet::Outlet;
 use crate::refusal::too_few_views;
 use snap_check::RunFault;
 use snap_core::{Counted, Limit};
@@ -10,7 +11,6 @@ use snap_follow::{
     Until, follow_run,
 };
 use snap_names::{Opener, SystemFolders, Trouble};
-use snap_terminal::Outlet;
 use snap_words::Windows;
 use std::io::Read;
 use std::sync::Wait;

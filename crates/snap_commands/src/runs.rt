@@ -11,13 +11,13 @@ ghost use Rattle.snap_verdict.specs.Statuses.{code_of};
 
 use crate::failure::Failure;
 use crate::files::open_only;
+use crate::outlet::Outlet;
 use snap_check::{RunFault, Status};
 use snap_core::{Counted, Limit};
 use snap_runs::{
     Explained, Lines, Page, Svg, draw_run, draw_witness_run, explain_run, record_rounds,
     record_rounds_stamped, shrink_run, stats_run,
 };
-use snap_terminal::Outlet;
 use snap_words::Form;
 use std::alloc::Global;
 use std::io::{Read, Write};

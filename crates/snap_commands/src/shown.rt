@@ -1,5 +1,6 @@
 //! Whether the answers of a check have colours, and whether a line shows the progress.
-use snap_terminal::Progress;
+use crate::progress::Progress;
+
 use snap_words::{Color, Options};
 use std::env;
 use std::env::VarError;

@@ -1,11 +1,13 @@
 //! The checks of one text and of several files.
 use crate::options::file_options;
 use snap_check::{RunFault, check_run_with};
-use snap_commands::{Failure, in_colors, names_of, open_only, progress_of, system, too_few_views};
+use snap_commands::{
+    Cleared, Failure, Outlet, Painted, Progress, Watched, in_colors, names_of, open_only,
+    progress_of, system, too_few_views,
+};
 use snap_core::{Counted, Limit, OpenGate};
 use snap_files::{check_all, sum_all};
 use snap_names::{Opener, SystemText};
-use snap_terminal::{Cleared, Outlet, Painted, Progress, Watched};
 use snap_threads::Cutting;
 use snap_words::{Input, Options};
 use std::alloc::{AllocError, Global};

@@ -6,7 +6,7 @@ use Rattle.std.proofs.lemmas.List.{append-nil, drop-drop, take-append-drop, take
 use Rattle.std.proofs.lemmas.List.Concat.{flat_map-append}
 use Rattle.std.proofs.Math.Seq.{take-add, take-append-add}
 use Rattle.snap_core.specs.Sending.{Sends, SendsFront}
-use Rattle.snap_terminal.specs.Painting.{CutsPainted, IsColor, IsPainted, Piece, SendsPainted, plain, shown}
+use Rattle.snap_commands.specs.Painting.{CutsPainted, IsColor, IsPainted, Piece, SendsPainted, plain, shown}
 
 -- a part in a colour, and a part as it is
 

@@ -1,7 +1,7 @@
 use Rattle.std.proofs.Common.{◌≡◌, ◌-◌, ◌++◌, ◌∙◌, inl, ap, arith, codes, drop, length, sym, take}
 use Rattle.std.proofs.lemmas.List.{take-append-drop}
 use lib.Pointwise.{bytes_decides}
-use Rattle.snap_terminal.proofs.verdicts.end_of.Goals as goal
+use Rattle.snap_commands.proofs.verdicts.end_of.Goals as goal
 
 pub returns-in-Some : goal.returns-in-Some
 returns-in-Some c =

@@ -1,7 +1,7 @@
 //! The lines of verdicts in colours.
 ghost use Rattle.std.specs.Prelude.{◌≤◌, ◌-◌, IfOk, IfSome, OnErr, OnOk, drop, length, take};
 ghost use Rattle.snap_core.specs.Counting.{inner_of};
-ghost use Rattle.snap_terminal.specs.Painting.{CutsPainted, IsColor, IsEndOfLine, SendsPainted};
+ghost use Rattle.snap_commands.specs.Painting.{CutsPainted, IsColor, IsEndOfLine, SendsPainted};
 
 use snap_core::Counted;
 use std::io;

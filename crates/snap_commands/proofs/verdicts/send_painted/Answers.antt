@@ -2,10 +2,10 @@ use Rattle.std.proofs.Common.{◌≡◌, ◌≤◌, ◌+◌, ◌-◌, ◌++◌, 
 use Rattle.std.proofs.lemmas.List.{take-append-drop, take_all}
 use Rattle.snap_core.specs.Counting.{inner_of}
 use Rattle.snap_core.specs.declared.counted.Counted.{Counted}
-use Rattle.snap_terminal.specs.Painting.{CutsPainted, SendsPainted}
-use Rattle.snap_terminal.proofs.Pieces.{cut_before, cut_behind, front_joined, front_sent, none_sent, rest_painted, sends_more, sent_both, whatever_error, whole_sent}
-use Rattle.snap_terminal.proofs.verdicts.send_painted.Goals.{then-text-at-eq10+in_ok-sent, else-text-at-eq10}
-use Rattle.snap_terminal.proofs.verdicts.send_painted.Goals as goal
+use Rattle.snap_commands.specs.Painting.{CutsPainted, SendsPainted}
+use Rattle.snap_commands.proofs.Pieces.{cut_before, cut_behind, front_joined, front_sent, none_sent, rest_painted, sends_more, sent_both, whatever_error, whole_sent}
+use Rattle.snap_commands.proofs.verdicts.send_painted.Goals.{then-text-at-eq10+in_ok-sent, else-text-at-eq10}
+use Rattle.snap_commands.proofs.verdicts.send_painted.Goals as goal
 
 pub loop-at-init : goal.loop-at-init
 loop-at-init g c = record { begins = omega arith; ends = omega arith; painted = none_sent _ }

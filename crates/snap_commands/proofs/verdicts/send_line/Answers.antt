@@ -1,8 +1,8 @@
 use Rattle.std.proofs.Common.{◌-◌, List, drop, subst, take, ℕ}
 use Rattle.snap_core.specs.Counting.{inner_of}
-use Rattle.snap_terminal.specs.Painting.{CutsPainted, SendsPainted}
-use Rattle.snap_terminal.proofs.Pieces.{cut_behind, part_cut, part_sent, parts_joined, sent_both, whatever_error}
-use Rattle.snap_terminal.proofs.verdicts.send_line.Goals as goal
+use Rattle.snap_commands.specs.Painting.{CutsPainted, SendsPainted}
+use Rattle.snap_commands.proofs.Pieces.{cut_behind, part_cut, part_sent, parts_joined, sent_both, whatever_error}
+use Rattle.snap_commands.proofs.verdicts.send_line.Goals as goal
 
 pub returns-in_err-send-clause-cut : goal.returns-in_err-send-clause-cut
 returns-in_err-send-clause-cut g c =

@@ -1,9 +1,9 @@
 use Rattle.std.proofs.Common.{◌≡◌, ◌-◌, ◌++◌, List, arith, drop, length, length-drop, subst, take, ℕ}
 use Rattle.std.proofs.KnownBytes.{Appends-trans}
 use Rattle.std.proofs.lemmas.List.{take-append-drop, take_all}
-use Rattle.snap_terminal.specs.Painting.{IsColor, IsPainted, plain}
-use Rattle.snap_terminal.proofs.Pieces.{colored, front_longer, front_more, front_sent, sends_more, whatever_error, whole_sent}
-use Rattle.snap_terminal.proofs.verdicts.send_colored.Goals as goal
+use Rattle.snap_commands.specs.Painting.{IsColor, IsPainted, plain}
+use Rattle.snap_commands.proofs.Pieces.{colored, front_longer, front_more, front_sent, sends_more, whatever_error, whole_sent}
+use Rattle.snap_commands.proofs.verdicts.send_colored.Goals as goal
 
 -- a line in a colour up to an end, as it is sent
 abbrev in_color : List ℕ → List ℕ → ℕ → List ℕ

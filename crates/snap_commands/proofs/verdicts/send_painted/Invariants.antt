@@ -1,7 +1,7 @@
 use Rattle.std.proofs.Common.{◌≤◌, take}
 use Rattle.snap_core.specs.Counting.{inner_of}
-use Rattle.snap_terminal.specs.Painting.{SendsPainted}
-use Rattle.snap_terminal.proofs.verdicts.send_painted.Given as goal
+use Rattle.snap_commands.specs.Painting.{SendsPainted}
+use Rattle.snap_commands.proofs.verdicts.send_painted.Given as goal
 
 abbrev pub invariant-loop-at : goal.invariant-loop-at
 invariant-loop-at g l = record {
