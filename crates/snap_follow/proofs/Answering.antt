@@ -1,18 +1,26 @@
 -- What is answered of whole texts.
-use Rattle.std.proofs.Common.{◌≡◌, ◌≢◌, ◌⊎◌, ℕ, Bool, true, false, List, [], Option, Some, None, Result, Ok, Err, flat_map, subst, sym, refl, inl, inr}
+use Rattle.std.proofs.Common.{◌≡◌, ◌≢◌, ◌⊎◌, ◌++◌, ◌∙◌, ap, append_assoc, ℕ, Bool, true, false, List, [], Option, Some, None, Result, Ok, Err, flat_map, subst, sym, refl, inl, inr}
 use Rattle.std.specs.Prelude.{IfOk, IfSome, IsTrue, ◌↔◌}
 use Rattle.std.specs.Bool.{then_some}
 use Rattle.snap_core.specs.declared.event.Event.{Event}
 use Rattle.snap_format.specs.Rows.{rows_of}
+use Rattle.std.specs.Io.KnownBytes.{Appends}
+use Rattle.std.proofs.KnownBytes.{Appends-trans}
+use Rattle.snap_follow.specs.declared.answers.Answers.{Answers}
 use Rattle.snap_follow.specs.declared.course.Course.{Course}
 use Rattle.snap_follow.specs.declared.follow.Follow.{Follow}
 use Rattle.snap_follow.specs.declared.pieces.Stop.{Stop}
 use Rattle.snap_follow.specs.declared.pieces.Stop.TheVariants.{Refused}
 use Rattle.snap_follow.specs.declared.run.FollowOptions.{FollowOptions}
 use Rattle.snap_follow.specs.declared.run.Followed.{Followed}
+use Rattle.snap_follow.specs.declared.run.Until.{Until}
 use Rattle.snap_follow.specs.Followed.{HasRead, IsStatusOf, SaysSoFar, Spells}
-use Rattle.snap_follow.specs.Recordings.{AllSay, AreFollowed, CanBeFollowed, IsCodeOf}
+use Rattle.snap_follow.specs.Recordings.{AllSay, AreFollowed, AreWritten, CanBeFollowed, IsCodeOf, IsRecording}
+use Rattle.snap_follow.specs.Windows.{Told, sums_text}
+use Rattle.snap_follow.specs.inside.Courses.{HasJudged}
 use Rattle.snap_follow.specs.inside.Runs.{IsDone, OnRefusal}
+use Rattle.snap_follow.specs.inside.Stops.{TellsRest}
+use Rattle.snap_follow.specs.inside.Sums.{AreSums, HasToldAll}
 
 -- what was read says the events
 says_all : (f : Follow) {least most : ℕ} {earlier : List (List (List ℕ))} {last : List (List ℕ)} {events : List Event} → HasRead f least most earlier last events → (earlier ≢ []) ⊎ (flat_map rows_of last ≢ []) → AllSay earlier last events
@@ -32,24 +40,49 @@ if_then_some P false x p = tt
 abbrev pub IsStatusBy : Course → ℕ → Type 0
 IsStatusBy course code = (least most : ℕ) (texts : List (List (List ℕ))) (lines : List (List ℕ)) (events : List Event) → HasRead course.follow least most texts lines events → IsStatusOf events code
 
-code_by : (asked : FollowOptions) (course : Course) (all : List (List ℕ)) (has_rest : Bool) (code : Option ℕ) → IsDone course asked.until asked.least asked.most.events all → (IsTrue has_rest ↔ (course.rest.items ≢ [])) → IfSome code (IsStatusBy course) → IfSome code (IsCodeOf asked all has_rest)
-code_by asked course all has_rest None done rest status = tt
-code_by asked course all has_rest (Some code) done rest status = inl (
+recording_of : (course : Course) (until : Until) (gone : List ℕ) (least most : ℕ) (all : List (List ℕ)) (has_rest : Bool) → (done : IsDone course until gone least most all) → (IsTrue has_rest ↔ (course.rest.items ≢ [])) → IsRecording until all has_rest done.events
+recording_of course until gone least most all has_rest done rest = record { earlier = done.earlier; last = done.last; rest = course.rest.items; cut = done.cut; say = says_all course.follow done.judged.read done.begun; left_out = rest }
+
+code_by : (asked : FollowOptions) (course : Course) (gone : List ℕ) (all : List (List ℕ)) (has_rest : Bool) (code : Option ℕ) → IsDone course asked.until gone asked.least asked.most.events all → (IsTrue has_rest ↔ (course.rest.items ≢ [])) → IfSome code (IsStatusBy course) → IfSome code (IsCodeOf asked all has_rest)
+code_by asked course gone all has_rest None done rest status = tt
+code_by asked course gone all has_rest (Some code) done rest status = inl (
   done.events,
-  record { earlier = done.earlier; last = done.last; rest = course.rest.items; cut = done.cut; say = says_all course.follow done.read done.begun; left_out = rest },
-  status asked.least asked.most.events done.earlier done.last done.events done.read,
+  recording_of course asked.until gone asked.least asked.most.events all has_rest done rest,
+  status asked.least asked.most.events done.earlier done.last done.events done.judged.read,
 )
 
 -- all texts were taken
-whole_by : (asked : FollowOptions) (left : Option (List (List ℕ))) (course : Course) (followed : Followed) → IfSome left (IsDone course asked.until asked.least asked.most.events) → (IsTrue followed.has_rest ↔ (course.rest.items ≢ [])) → IfSome followed.code (IsStatusBy course) →
+whole_by : (asked : FollowOptions) (left : Option (List (List ℕ))) (course : Course) (gone : List ℕ) (followed : Followed) → IfSome left (IsDone course asked.until gone asked.least asked.most.events) → (IsTrue followed.has_rest ↔ (course.rest.items ≢ [])) → IfSome followed.code (IsStatusBy course) →
     IfSome left (λ all. AreFollowed asked all followed)
-whole_by asked None course followed done rest status = tt
-whole_by asked (Some all) course followed done rest status = λ _. code_by asked course all followed.has_rest followed.code done rest status
+whole_by asked None course gone followed done rest status = tt
+whole_by asked (Some all) course gone followed done rest status = λ _. code_by asked course gone all followed.has_rest followed.code done rest status
 
-pub whole_answer : {E : Type 0} (asked : FollowOptions) (left : Option (List (List ℕ))) (course : Course) (result : Result Followed E) → IfSome left (IsDone course asked.until asked.least asked.most.events) →
+pub whole_answer : {E : Type 0} (asked : FollowOptions) (left : Option (List (List ℕ))) (course : Course) (gone : List ℕ) (result : Result Followed E) → IfSome left (IsDone course asked.until gone asked.least asked.most.events) →
     IfOk result (λ followed. IsTrue followed.has_rest ↔ (course.rest.items ≢ [])) → IfOk result (λ followed. IfSome followed.code (IsStatusBy course)) → IfOk result (λ followed. IfSome left (λ all. AreFollowed asked all followed))
-whole_answer asked left course (Ok followed) done rest status = whole_by asked left course followed done rest status
-whole_answer asked left course (Err e) done rest status = tt
+whole_answer asked left course gone (Ok followed) done rest status = whole_by asked left course gone followed done rest status
+whole_answer asked left course gone (Err e) done rest status = tt
+
+-- the lines of all windows were written, and the sums
+abbrev pub TellsAfter : Course → Option (List ℕ) → Option (List ℕ) → Type 0
+TellsAfter course old new = (gone : List ℕ) (least most : ℕ) (texts : List (List (List ℕ))) (lines : List (List ℕ)) (events : List Event) → HasJudged course.follow course.answers gone least most texts lines events → TellsRest old new gone least events
+
+written_by : (asked : FollowOptions) (left : Option (List (List ℕ))) (course : Course) (gone : List ℕ) (followed : Followed) (old mid new : Option (List ℕ)) → Appends old mid gone → IfSome left (IsDone course asked.until gone asked.least asked.most.events) →
+    (IsTrue followed.has_rest ↔ (course.rest.items ≢ [])) → TellsAfter course mid new → IfSome left (λ all. AreWritten asked all followed old new)
+written_by asked None course gone followed old mid new sent done rest tells = tt
+written_by asked (Some all) course gone followed old mid new sent done rest tells = λ _.
+    let last = tells gone asked.least asked.most.events done.earlier done.last done.events done.judged in
+    inl (record {
+      events = done.events;
+      recording = recording_of course asked.until gone asked.least asked.most.events all followed.has_rest done rest;
+      told = last.told;
+      windows = last.windows;
+      wrote = subst (Appends old new) last.all (Appends-trans old mid new gone last.out sent last.sent);
+    })
+
+pub written_answer : {E : Type 0} (asked : FollowOptions) (left : Option (List (List ℕ))) (course : Course) (gone : List ℕ) (result : Result Followed E) (old mid new : Option (List ℕ)) → Appends old mid gone → IfSome left (IsDone course asked.until gone asked.least asked.most.events) →
+    IfOk result (λ followed. IsTrue followed.has_rest ↔ (course.rest.items ≢ [])) → IfOk result (λ _. TellsAfter course mid new) → IfOk result (λ followed. IfSome left (λ all. AreWritten asked all followed old new))
+written_answer asked left course gone (Ok followed) old mid new sent done rest tells = written_by asked left course gone followed old mid new sent done rest tells
+written_answer asked left course gone (Err e) old mid new sent done rest tells = tt
 
 -- a line was refused
 refused_code : (asked : FollowOptions) (all : List (List ℕ)) (has_rest : Bool) (code : Option ℕ) → (CanBeFollowed asked.most.events asked.until all → ⊥) → code ≡ Some 3 → IfSome code (IsCodeOf asked all has_rest)
@@ -64,3 +97,24 @@ pub refused_answer : {E : Type 0} (asked : FollowOptions) (left : Option (List (
     IfOk result (λ followed. followed.lost ≡ None → (stop ≡ Refused) × (followed.code ≡ Some 3)) → IfOk result (λ followed. IfSome left (λ all. AreFollowed asked all followed))
 refused_answer asked left stop (Ok followed) stops is = refused_by asked left stop followed stops is
 refused_answer asked left stop (Err e) stops is = tt
+
+unwritten_by : (asked : FollowOptions) (left : Option (List (List ℕ))) (stop : Stop) (followed : Followed) (old new : Option (List ℕ)) → OnRefusal stop (IfSome left (λ all. ¬ CanBeFollowed asked.most.events asked.until all)) →
+    (followed.lost ≡ None → (stop ≡ Refused) × (followed.code ≡ Some 3)) → IfSome left (λ all. AreWritten asked all followed old new)
+unwritten_by asked None stop followed old new stops is = tt
+unwritten_by asked (Some all) stop followed old new stops is = λ lost. inr ((is lost).1, subst (λ z. OnRefusal z (¬ CanBeFollowed asked.most.events asked.until all)) (is lost).0 stops)
+
+pub unwritten_answer : {E : Type 0} (asked : FollowOptions) (left : Option (List (List ℕ))) (stop : Stop) (result : Result Followed E) (old new : Option (List ℕ)) → OnRefusal stop (IfSome left (λ all. ¬ CanBeFollowed asked.most.events asked.until all)) →
+    IfOk result (λ followed. followed.lost ≡ None → (stop ≡ Refused) × (followed.code ≡ Some 3)) → IfOk result (λ followed. IfSome left (λ all. AreWritten asked all followed old new))
+unwritten_answer asked left stop (Ok followed) old new stops is = unwritten_by asked left stop followed old new stops is
+unwritten_answer asked left stop (Err e) old new stops is = tt
+
+-- what was to be written, and the sums
+pub rest_told : (answers : Answers) (old new : Option (List ℕ)) (gone : List ℕ) (least : ℕ) (events : List Event) → HasToldAll answers gone least events →
+    ((told : List Told) → AreSums told answers.sums → Appends old new (answers.lines ++ sums_text told)) → TellsRest old new gone least events
+rest_told answers old new gone least events h wrote = record {
+  told = h.told;
+  windows = h.windows;
+  out = answers.lines ++ sums_text h.told;
+  sent = wrote h.told h.answered.sums_are;
+  all = sym (append_assoc gone answers.lines (sums_text h.told)) ∙ ap (λ z. z ++ sums_text h.told) h.answered.written;
+}

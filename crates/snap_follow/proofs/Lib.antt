@@ -10,4 +10,6 @@ pub mod Saying
 pub mod Sending
 pub mod Statuses
 pub mod Stopping
+pub mod Summing
 pub mod Taking
+pub mod Telling

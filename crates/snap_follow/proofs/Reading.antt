@@ -1,8 +1,9 @@
 -- What a recording says with one line more, or with one text more.
-use Rattle.std.proofs.Common.{◌≡◌, ◌≤◌, ◌+◌, ◌-◌, ◌^◌, min, ℕ, true, false, List, [], ◌∷◌, ◌++◌, length, length-append, arith, append_assoc, append-nil, map, flat_map, Result, Ok, Err, refl, sym, ap, ◌∙◌, subst, inl, inr}
-use Rattle.std.specs.Prelude.{OnOk}
+use Rattle.std.proofs.Common.{◌≡◌, ◌≤◌, ◌+◌, ◌-◌, ◌^◌, min, ℕ, Bool, true, false, cond, if◌then◌else◌, List, [], ◌∷◌, ◌++◌, length, length-append, arith, append_assoc, append-nil, map, flat_map, Result, Ok, Err, refl, sym, ap, ◌∙◌, subst, inl, inr}
+use Rattle.std.specs.Prelude.{OnOk, count_by}
 use Rattle.std.proofs.lemmas.Bool.{false≢true}
 use Rattle.std.proofs.lemmas.List.{map-append}
+use Rattle.std.proofs.lemmas.List.Sums.{sum_by_push}
 use Rattle.std.proofs.lemmas.Grind.{flat_map-append}
 use Rattle.snap_core.specs.declared.event.Event.{Event}
 use Rattle.snap_core.specs.Events.{IsHistory}
@@ -12,6 +13,7 @@ use Rattle.snap_text.specs.Fields.{Fields, row_event}
 use Rattle.snap_windows.specs.Taken.{HasTaken}
 use Rattle.snap_follow.specs.declared.follow.Follow.{Follow}
 use Rattle.snap_follow.specs.Followed.{AllSpell, EndsText, HasRead, IsNext, IsPlaceOf, ReadsLine, SaysSoFar, Spells, open_after}
+use Rattle.snap_follow.specs.Spans.{HasOneMore, IsSpanOf, ends_view}
 use Rattle.snap_follow.specs.inside.Counts.{CountsOpen}
 use Rattle.snap_follow.proofs.Opening.{open_more}
 
@@ -45,21 +47,45 @@ same_open f g events same opened = rw (append-nil events, same) opened
 
 -- what was read, with another state of the same judge, one line more, and what all lines of the text then say
 with_line : (f g : Follow) (least most : ℕ) (texts : List (List (List ℕ))) (lines : List (List ℕ)) (line : List ℕ) (events more : List Event) (h : HasRead f least most texts lines events) →
-    KeepsRule f g → g.open_calls ≤ open_after (events ++ more) → HasTaken g.judge h.before (h.since ++ more) → SaysSoFar g (lines ++ line ∷ []) (h.here ++ more) → IsPlaceOf g.place texts (lines ++ line ∷ []) → HasRead g least most texts (lines ++ line ∷ []) (events ++ more)
-with_line f g least most texts lines line events more h keeps opened taken says place = record {
-  least_is = keeps.0 ∙ h.least_is;
-  most_is = ap (λ z. z.events) keeps.1 ∙ h.most_is;
-  opened = opened;
-  before = h.before;
-  since = h.since ++ more;
-  taken = taken;
-  windows = ap (λ z. z ++ more) h.windows ∙ append_assoc h.before h.since more;
-  earlier = h.earlier;
-  here = h.here ++ more;
-  parts = ap (λ z. z ++ more) h.parts ∙ append_assoc h.earlier h.here more;
-  texts_say = h.texts_say;
-  lines_say = says;
-  place_is = place;
+    KeepsRule f g → IsSpanOf g.span (h.since ++ more) → g.open_calls ≤ open_after (events ++ more) → HasTaken g.judge h.before (h.since ++ more) → SaysSoFar g (lines ++ line ∷ []) (h.here ++ more) → IsPlaceOf g.place texts (lines ++ line ∷ []) →
+    (n : HasRead g least most texts (lines ++ line ∷ []) (events ++ more)) × (n.before ≡ h.before) × (n.since ≡ h.since ++ more)
+with_line f g least most texts lines line events more h keeps span opened taken says place = (
+  record {
+    least_is = keeps.0 ∙ h.least_is;
+    most_is = ap (λ z. z.events) keeps.1 ∙ h.most_is;
+    opened = opened;
+    before = h.before;
+    since = h.since ++ more;
+    taken = taken;
+    windows = ap (λ z. z ++ more) h.windows ∙ append_assoc h.before h.since more;
+    span_is = span;
+    earlier = h.earlier;
+    here = h.here ++ more;
+    parts = ap (λ z. z ++ more) h.parts ∙ append_assoc h.earlier h.here more;
+    texts_say = h.texts_say;
+    lines_say = says;
+    place_is = place;
+  },
+  refl,
+  refl,
+)
+
+-- the span of the window at hand, with no event more and with one
+same_span : (f g : Follow) (since : List Event) → g.span ≡ f.span → IsSpanOf f.span since → IsSpanOf g.span (since ++ [])
+same_span f g since same h = subst (λ z. IsSpanOf z (since ++ [])) (sym same) (subst (IsSpanOf f.span) (sym (append-nil since)) h)
+
+count_more : (a b n m k : ℕ) → b ≡ min (a + k) (2 ^ 64 - 1) → a ≡ min n (2 ^ 64 - 1) → m ≡ n + k → b ≡ min m (2 ^ 64 - 1)
+count_more a b n m k next was more = omega (arith, next, was, more)
+
+one_view : (b : Bool) → ◌≡◌ {A = ℕ} (cond b 1 0) (if b then 1 else 0)
+one_view true = refl
+one_view false = refl
+
+span_more : (f g : Follow) (since : List Event) (x : Event) → HasOneMore f.span x g.span → IsSpanOf f.span since → IsSpanOf g.span (since ++ x ∷ [])
+span_more f g since x next h = record {
+  events_are = count_more f.span.events g.span.events (length since) (length (since ++ x ∷ [])) 1 next.0 h.events_are (length-append since (x ∷ []));
+  views_are = count_more f.span.views g.span.views (count_by ends_view since) (count_by ends_view (since ++ x ∷ [])) (if ends_view x then 1 else 0) next.1 h.views_are
+      (sum_by_push (λ e. cond (ends_view e) 1 0) since x ∙ ap (λ z. count_by ends_view since + z) (one_view (ends_view x)));
 }
 
 -- the same judge has taken no event more
@@ -67,8 +93,8 @@ same_judge : (f g : Follow) (before since : List Event) → g.judge ≡ f.judge 
 same_judge f g before since same taken = subst (λ z. HasTaken z before (since ++ [])) (sym same) (subst (λ z. HasTaken f.judge before z) (sym (append-nil since)) taken)
 
 -- a line without a record
-pub nothing_more : (f g : Follow) (line : List ℕ) → g.judge ≡ f.judge → g.least ≡ f.least → g.open_calls ≡ f.open_calls → g.headed ≡ f.headed → g.place ≡ f.place → rows_of line ≡ [] → ReadsLine f g line
-nothing_more f g line same least_same calls_same headed place_same none least most texts lines events h = ([], with_line f g least most texts lines line events [] h (least_same, ap (λ z. z.most) same) (same_open f g events calls_same h.opened) (same_judge f g h.before h.since same h.taken) (go h.lines_say) (place_stays f g texts lines line place_same none h.place_is))
+pub nothing_more : (f g : Follow) (line : List ℕ) → g.judge ≡ f.judge → g.span ≡ f.span → g.least ≡ f.least → g.open_calls ≡ f.open_calls → g.headed ≡ f.headed → g.place ≡ f.place → rows_of line ≡ [] → ReadsLine f g line
+nothing_more f g line same span_same least_same calls_same headed place_same none least most texts lines events h = let n = with_line f g least most texts lines line events [] h (least_same, ap (λ z. z.most) same) (same_span f g h.since span_same h.span_is) (same_open f g events calls_same h.opened) (same_judge f g h.before h.since same h.taken) (go h.lines_say) (place_stays f g texts lines line place_same none h.place_is) in ([], omega arith, n.0, n.1, n.2)
   where
     rows : flat_map rows_of (lines ++ line ∷ []) ≡ flat_map rows_of lines
     rows = rows_more lines line ∙ ap (λ z. flat_map rows_of lines ++ z) none ∙ append-nil (flat_map rows_of lines)
@@ -78,8 +104,8 @@ nothing_more f g line same least_same calls_same headed place_same none least mo
     go (inr q) = inr (headed ∙ q.0, record { head = q.1.head; later = q.1.later; whole = rows ∙ q.1.whole; header = q.1.header; spelled = q.1.spelled ∙ ap (map Ok) (sym (append-nil h.here)) })
 
 -- the header
-pub header_read : (f g : Follow) (line : List ℕ) (first : Fields) → f.headed ≡ false → g.headed ≡ true → g.judge ≡ f.judge → g.least ≡ f.least → g.open_calls ≡ f.open_calls → IsNext f.place g.place → rows_of line ≡ first ∷ [] → is_header_row first ≡ true → ReadsLine f g line
-header_read f g line first old new same least_same calls_same next rows header least most texts lines events h = ([], with_line f g least most texts lines line events [] h (least_same, ap (λ z. z.most) same) (same_open f g events calls_same h.opened) (same_judge f g h.before h.since same h.taken) (go h.lines_say) (place_next f g texts lines line first next rows h.place_is))
+pub header_read : (f g : Follow) (line : List ℕ) (first : Fields) → f.headed ≡ false → g.headed ≡ true → g.judge ≡ f.judge → g.span ≡ f.span → g.least ≡ f.least → g.open_calls ≡ f.open_calls → IsNext f.place g.place → rows_of line ≡ first ∷ [] → is_header_row first ≡ true → ReadsLine f g line
+header_read f g line first old new same span_same least_same calls_same next rows header least most texts lines events h = let n = with_line f g least most texts lines line events [] h (least_same, ap (λ z. z.most) same) (same_span f g h.since span_same h.span_is) (same_open f g events calls_same h.opened) (same_judge f g h.before h.since same h.taken) (go h.lines_say) (place_next f g texts lines line first next rows h.place_is) in ([], omega arith, n.0, n.1, n.2)
   where
     go : SaysSoFar f lines h.here → SaysSoFar g (lines ++ line ∷ []) (h.here ++ [])
     go (inl p) = inr (
@@ -100,8 +126,8 @@ read_history f h = subst IsHistory (sym h.windows) h.taken.history
 
 -- an event
 pub event_read : (f g : Follow) (line : List ℕ) (row : Fields) (x : Event) → f.headed ≡ true → g.headed ≡ f.headed → rows_of line ≡ row ∷ [] → row_event row ≡ Ok x →
-    KeepsRule f g → IsNext f.place g.place → CountsOpen f.open_calls x g.open_calls → ((before since : List Event) → HasTaken f.judge before since → HasTaken g.judge before (since ++ x ∷ [])) → ReadsLine f g line
-event_read f g line row x old headed rows event keeps next counts taken least most texts lines events h = (x ∷ [], with_line f g least most texts lines line events (x ∷ []) h keeps (open_more events x f.open_calls g.open_calls (read_history f h) h.opened counts) (taken h.before h.since h.taken) (go h.lines_say) (place_next f g texts lines line row next rows h.place_is))
+    KeepsRule f g → IsNext f.place g.place → CountsOpen f.open_calls x g.open_calls → HasOneMore f.span x g.span → ((before since : List Event) → HasTaken f.judge before since → HasTaken g.judge before (since ++ x ∷ [])) → ReadsLine f g line
+event_read f g line row x old headed rows event keeps next counts one taken least most texts lines events h = let n = with_line f g least most texts lines line events (x ∷ []) h keeps (span_more f g h.since x one h.span_is) (open_more events x f.open_calls g.open_calls (read_history f h) h.opened counts) (taken h.before h.since h.taken) (go h.lines_say) (place_next f g texts lines line row next rows h.place_is) in (x ∷ [], omega arith, n.0, n.1, n.2)
   where
     go : SaysSoFar f lines h.here → SaysSoFar g (lines ++ line ∷ []) (h.here ++ x ∷ [])
     go (inl p) = absurd (false≢true (sym p.0 ∙ old))
@@ -123,8 +149,8 @@ text_more (t ∷ texts) text earlier here (first, later, parts, says, all) spell
     (first, later ++ here, ap (λ z. z ++ here) parts ∙ append_assoc first later here, says, text_more texts text later here all spells)
 
 -- a text that has a header, and ends
-pub text_ended : (f g : Follow) → f.headed ≡ true → g.headed ≡ false → g.judge ≡ f.judge → g.least ≡ f.least → g.open_calls ≡ f.open_calls → g.place.text ≡ min (f.place.text + 1) (2 ^ 64 - 1) → g.place.record ≡ 0 → EndsText f g
-text_ended f g old new same least_same calls_same next none least most texts lines events h = (
+pub text_ended : (f g : Follow) → f.headed ≡ true → g.headed ≡ false → g.judge ≡ f.judge → g.span ≡ f.span → g.least ≡ f.least → g.open_calls ≡ f.open_calls → g.place.text ≡ min (f.place.text + 1) (2 ^ 64 - 1) → g.place.record ≡ 0 → EndsText f g
+text_ended f g old new same span_same least_same calls_same next none least most texts lines events h = (
   record {
     least_is = least_same ∙ h.least_is;
     most_is = ap (λ z. z.most.events) same ∙ h.most_is;
@@ -133,6 +159,7 @@ text_ended f g old new same least_same calls_same next none least most texts lin
     since = h.since;
     taken = subst (λ z. HasTaken z h.before h.since) (sym same) h.taken;
     windows = h.windows;
+    span_is = subst (λ z. IsSpanOf z h.since) (sym span_same) h.span_is;
     earlier = h.earlier ++ h.here;
     here = [];
     parts = h.parts ∙ sym (append-nil (h.earlier ++ h.here));
@@ -144,6 +171,7 @@ text_ended f g old new same least_same calls_same next none least most texts lin
     };
   },
   refl,
+  refl,
 )
   where
     go : SaysSoFar f lines h.here → Spells (flat_map rows_of lines) h.here
@@ -151,10 +179,10 @@ text_ended f g old new same least_same calls_same next none least most texts lin
     go (inr q) = q.1
 
 -- a window has ended
-pub window_ended : (f g : Follow) → g.headed ≡ f.headed → g.place ≡ f.place → KeepsRule f g → g.open_calls ≡ f.open_calls → ((before since : List Event) → HasTaken f.judge before since → HasTaken g.judge (before ++ since) []) →
-    (least most : ℕ) (texts : List (List (List ℕ))) (lines : List (List ℕ)) (events : List Event) → HasRead f least most texts lines events →
-    (n : HasRead g least most texts lines events) × (n.since ≡ [])
-window_ended f g headed place_same keeps calls_same ends least most texts lines events h = (
+pub window_ended : (f g : Follow) → g.headed ≡ f.headed → g.place ≡ f.place → IsSpanOf g.span [] → KeepsRule f g → g.open_calls ≡ f.open_calls → ((before since : List Event) → HasTaken f.judge before since → HasTaken g.judge (before ++ since) []) →
+    (least most : ℕ) (texts : List (List (List ℕ))) (lines : List (List ℕ)) (events : List Event) (h : HasRead f least most texts lines events) →
+    (n : HasRead g least most texts lines events) × (n.before ≡ h.before ++ h.since) × (n.since ≡ [])
+window_ended f g headed place_same span keeps calls_same ends least most texts lines events h = (
   record {
     least_is = keeps.0 ∙ h.least_is;
     most_is = ap (λ z. z.events) keeps.1 ∙ h.most_is;
@@ -163,6 +191,7 @@ window_ended f g headed place_same keeps calls_same ends least most texts lines 
     since = [];
     taken = ends h.before h.since h.taken;
     windows = h.windows ∙ sym (append-nil (h.before ++ h.since));
+    span_is = span;
     earlier = h.earlier;
     here = h.here;
     parts = h.parts;
@@ -171,13 +200,14 @@ window_ended f g headed place_same keeps calls_same ends least most texts lines 
     place_is = subst (λ z. IsPlaceOf z texts lines) (sym place_same) h.place_is;
   },
   refl,
+  refl,
 )
   where
     says : SaysSoFar f lines h.here → SaysSoFar g lines h.here
     says (inl p) = inl (headed ∙ p.0, p.1, p.2)
     says (inr q) = inr (headed ∙ q.0, q.1)
 
--- what an answer that is given says twice
-pub on_both : {X E : Type 0} (r : Result X E) (A B C : Type 0) → OnOk r A → OnOk r B → (A → B → C) → OnOk r C
-on_both (Ok x) A B C a b f = f a b
-on_both (Err e) A B C a b f = tt
+-- what an answer that is given says three times
+pub on_all : {X E : Type 0} (r : Result X E) (A B C D : Type 0) → OnOk r A → OnOk r B → OnOk r C → (A → B → C → D) → OnOk r D
+on_all (Ok x) A B C D a b c f = f a b c
+on_all (Err e) A B C D a b c f = tt

@@ -26,13 +26,13 @@ pub added_whole : {T E : Type 0} (added : Result T E) (xs ys : List ℕ) → Are
 added_whole (Ok u) xs ys x y = both_whole xs ys x y
 added_whole (Err e) xs ys x y = x
 
-nothing_more : (known : Option (List ℕ)) → Appends known known []
-nothing_more None = tt
-nothing_more (Some xs) = sym (append-nil xs)
+pub nothing_sent : (known : Option (List ℕ)) → Appends known known []
+nothing_sent None = tt
+nothing_sent (Some xs) = sym (append-nil xs)
 
 -- nothing went out
 pub sent_nothing : {W : Type 0} (contents : W → Option (List ℕ)) (w : Counted W) → HasSent contents w w
-sent_nothing contents w = record { out = []; whole = inl refl; sent = nothing_more (contents (inner_of w)); counts = refl }
+sent_nothing contents w = record { out = []; whole = inl refl; sent = nothing_sent (contents (inner_of w)); counts = refl }
 
 -- some lines went out, and then others
 pub sent_both : {W : Type 0} (contents : W → Option (List ℕ)) (a b c : Counted W) → HasSent contents a b → HasSent contents b c → HasSent contents a c

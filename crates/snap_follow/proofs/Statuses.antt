@@ -7,7 +7,7 @@ use Rattle.snap_core.specs.Calls.{calls_of}
 use Rattle.snap_core.specs.Orders.{IsAtomic}
 use Rattle.snap_core.specs.Regular.{IsRegular}
 use Rattle.snap_follow.specs.Followed.{IsStatusOf}
-use Rattle.snap_follow.specs.inside.Statuses.{verdict_code}
+use Rattle.snap_follow.specs.Windows.{verdict_code}
 use Rattle.snap_windows.specs.declared.judge.Verdict.{Verdict}
 
 by_code : (events : List Event) (code : ℕ) (r a : Bool) → code ≡ (if a then 0 else if r then 1 else 2) → (IsTrue r ↔ IsRegular (calls_of events)) → (IsTrue a ↔ IsAtomic (calls_of events)) → IsStatusOf events code

@@ -170,9 +170,9 @@ ends_of most until earlier text later a = go a.cut
 
 -- a line of the text at hand does not stop texts that can be followed
 
-line_in : (at : Course) (least most : ℕ) (until : Until) (earlier : List (List (List ℕ))) (text front line behind rest : List ℕ) (later : List (List ℕ)) (events : List Event) → text ≡ front ++ (line ++ behind) → HasNoEnd line →
-    HasFollowed at least most earlier front events → HasLines most until earlier text later → IsTooLong (at.rest.items ++ line) ⊎ (BeginsWithEnd behind × StopsAt at.follow (at.rest.items ++ line)) → ⊥
-line_in at least most until earlier text front line behind rest later events parts within h a stops = go behind parts next.2 stops
+line_in : (at : Course) (gone : List ℕ) (least most : ℕ) (until : Until) (earlier : List (List (List ℕ))) (text front line behind rest : List ℕ) (later : List (List ℕ)) (events : List Event) → text ≡ front ++ (line ++ behind) → HasNoEnd line →
+    HasFollowed at gone least most earlier front events → HasLines most until earlier text later → IsTooLong (at.rest.items ++ line) ⊎ (BeginsWithEnd behind × StopsAt at.follow (at.rest.items ++ line)) → ⊥
+line_in at gone least most until earlier text front line behind rest later events parts within h a stops = go behind parts next.2 stops
   where
     ends : HasEnds text a.lines
     ends = ends_of most until earlier text later a
@@ -196,15 +196,15 @@ line_in at least most until earlier text front line behind rest later events par
         let lines_are : a.lines ≡ h.lines ++ (whole ∷ (line_is.0 ++ ends.more)) =
         ends.lines_are ∙ ap (λ z. z ++ ends.more) next.1 ∙ append_assoc h.lines next.0 ends.more ∙ ap (λ z. h.lines ++ (z ++ ends.more)) line_is.1 in
         does_not_stop at.follow least most earlier h.lines a.lines whole (flat_map rows_of (line_is.0 ++ ends.more)) events (later ≡ [])
-        (ap (flat_map rows_of) lines_are ∙ flat_map-append rows_of h.lines (whole ∷ (line_is.0 ++ ends.more))) (row_of_line whole no_end) h.read.0 a.among at_line
+        (ap (flat_map rows_of) lines_are ∙ flat_map-append rows_of h.lines (whole ∷ (line_is.0 ++ ends.more))) (row_of_line whole no_end) h.read.read a.among at_line
 
 -- a piece stops a recording
-pub piece_stops : (c : Course) (piece behind rest : List ℕ) (later : List (List ℕ)) (least most : ℕ) (until : Until) (all : List (List ℕ)) → rest ≡ piece ++ behind → StopsIn c piece → HasBegun c rest later least most all → CanBeFollowed most until all → ⊥
-piece_stops c piece behind rest later least most until all parts s h can =
-    let next = s.taken least most h.lines h.bytes h.events h.followed in
+pub piece_stops : (c : Course) (piece behind rest : List ℕ) (later : List (List ℕ)) (gone : List ℕ) (least most : ℕ) (until : Until) (all : List (List ℕ)) → rest ≡ piece ++ behind → StopsIn c piece → HasBegun c rest later gone least most all → CanBeFollowed most until all → ⊥
+piece_stops c piece behind rest later gone least most until all parts s h can =
+    let next = s.taken gone least most h.lines h.bytes h.events h.followed in
     let text_is : h.bytes ++ rest ≡ (h.bytes ++ s.front) ++ (s.line ++ (s.behind ++ behind)) =
     ap (λ z. h.bytes ++ z) (parts ∙ ap (λ z. z ++ behind) s.parts ∙ append_assoc s.front (s.line ++ s.behind) behind ∙ ap (λ z. s.front ++ z) (append_assoc s.line s.behind behind)) ∙ sym (append_assoc h.bytes s.front (s.line ++ (s.behind ++ behind))) in
-    line_in s.at least most until h.lines (h.bytes ++ rest) (h.bytes ++ s.front) s.line (s.behind ++ behind) rest later (h.events ++ next.0) text_is s.within next.1
+    line_in s.at gone least most until h.lines (h.bytes ++ rest) (h.bytes ++ s.front) s.line (s.behind ++ behind) rest later (h.events ++ next.0) text_is s.within next.1
     (has_lines most until h.done h.lines (h.bytes ++ rest) later all h.texts_are h.whole can) (stops_on s.behind s.stops)
   where
     begins_on : (tail : List ℕ) → BeginsWithEnd tail → BeginsWithEnd (tail ++ behind)
@@ -216,9 +216,9 @@ piece_stops c piece behind rest later least most until all parts s h can =
     stops_on tail (inr (begins, at)) = inr (begins_on tail begins, at)
 
 -- the last line of a whole text does not stop texts that can be followed
-last_in : (c : Course) (least most : ℕ) (earlier : List (List (List ℕ))) (text : List ℕ) (lines : List (List ℕ)) (events : List Event) (IsLast : Type 0) →
-    HasFollowed c least most earlier text events → AreAllLines text lines → IsAmong most earlier lines IsLast → StopsAt c.follow c.rest.items → ⊥
-last_in c least most earlier text lines events IsLast h whole among stops = go whole.all
+last_in : (c : Course) (gone : List ℕ) (least most : ℕ) (earlier : List (List (List ℕ))) (text : List ℕ) (lines : List (List ℕ)) (events : List Event) (IsLast : Type 0) →
+    HasFollowed c gone least most earlier text events → AreAllLines text lines → IsAmong most earlier lines IsLast → StopsAt c.follow c.rest.items → ⊥
+last_in c gone least most earlier text lines events IsLast h whole among stops = go whole.all
   where
     same : (whole.ended ≡ h.lines) × (whole.rest ≡ c.rest.items)
     same = one_cut text whole.rest c.rest.items whole.ended h.lines whole.cut h.cut
@@ -227,10 +227,10 @@ last_in c least most earlier text lines events IsLast h whole among stops = go w
     go (inl (none, is)) =
         let empty : rows_of c.rest.items ≡ [] = subst (λ z. rows_of z ≡ []) (sym none ∙ same.1) (no_rows [] refl) in
         does_not_stop c.follow least most earlier h.lines lines c.rest.items [] events IsLast
-        (ap (flat_map rows_of) (is ∙ same.0) ∙ sym (append-nil (flat_map rows_of h.lines)) ∙ ap (λ z. flat_map rows_of h.lines ++ (z ++ [])) (sym empty)) (inl empty) h.read.0 among stops
+        (ap (flat_map rows_of) (is ∙ same.0) ∙ sym (append-nil (flat_map rows_of h.lines)) ∙ ap (λ z. flat_map rows_of h.lines ++ (z ++ [])) (sym empty)) (inl empty) h.read.read among stops
     go (inr (some, is)) =
         does_not_stop c.follow least most earlier h.lines lines c.rest.items [] events IsLast
-        (ap (flat_map rows_of) (is ∙ ap (λ z. z ++ whole.rest ∷ []) same.0 ∙ ap (λ z. h.lines ++ z ∷ []) same.1) ∙ flat_map-append rows_of h.lines (c.rest.items ∷ [])) (row_of_line c.rest.items h.cut.unended) h.read.0 among stops
+        (ap (flat_map rows_of) (is ∙ ap (λ z. z ++ whole.rest ∷ []) same.0 ∙ ap (λ z. h.lines ++ z ∷ []) same.1) ∙ flat_map-append rows_of h.lines (c.rest.items ∷ [])) (row_of_line c.rest.items h.cut.unended) h.read.read among stops
 
 -- lines without a record are none of a text that can be followed, but where it is the last of several
 no_record_in : (most : ℕ) (earlier : List (List (List ℕ))) (lines : List (List ℕ)) (IsLast : Type 0) → IsAmong most earlier lines IsLast → flat_map rows_of lines ≡ [] → (earlier ≢ []) × IsLast
@@ -244,17 +244,17 @@ text_whole : (bytes rest : List ℕ) → rest ≡ [] → bytes ++ rest ≡ bytes
 text_whole bytes rest none = ap (λ z. bytes ++ z) none ∙ append-nil bytes
 
 -- the end of a text that is not the last one stops a recording
-pub end_stops : (c : Course) (rest : List ℕ) (later : List (List ℕ)) (least most : ℕ) (until : Until) (all : List (List ℕ)) → rest ≡ [] → later ≢ [] → StopsLast c → HasBegun c rest later least most all → CanBeFollowed most until all → ⊥
-end_stops c rest later least most until all none some stops h can = go a.cut stops
+pub end_stops : (c : Course) (rest : List ℕ) (later : List (List ℕ)) (gone : List ℕ) (least most : ℕ) (until : Until) (all : List (List ℕ)) → rest ≡ [] → later ≢ [] → StopsLast c → HasBegun c rest later gone least most all → CanBeFollowed most until all → ⊥
+end_stops c rest later gone least most until all none some stops h can = go a.cut stops
   where
     a : HasLines most until h.lines (h.bytes ++ rest) later
     a = has_lines most until h.done h.lines (h.bytes ++ rest) later all h.texts_are h.whole can
 
     go : ((later ≢ []) × AreAllLines (h.bytes ++ rest) a.lines) ⊎ ((later ≡ []) × AreLastLines until (h.bytes ++ rest) a.lines a.rest) → StopsLast c → ⊥
     go (inr (last, cut)) stops = some last
-    go (inl (more, whole)) (inl at) = last_in c least most h.lines h.bytes a.lines h.events (later ≡ []) h.followed (subst (λ z. AreAllLines z a.lines) (text_whole h.bytes rest none) whole) a.among at
+    go (inl (more, whole)) (inl at) = last_in c gone least most h.lines h.bytes a.lines h.events (later ≡ []) h.followed (subst (λ z. AreAllLines z a.lines) (text_whole h.bytes rest none) whole) a.among at
     go (inl (more, whole)) (inr nothing) =
-        let empty = nothing least most h.lines h.bytes h.events h.followed in
+        let empty = nothing gone least most h.lines h.bytes h.events h.followed in
         some (no_record_in most h.lines a.lines (later ≡ []) a.among
         (ap (flat_map rows_of) (one_whole h.bytes a.lines empty.0 (subst (λ z. AreAllLines z a.lines) (text_whole h.bytes rest none) whole) empty.1) ∙ empty.2)).1
 
@@ -264,22 +264,22 @@ one_last End text r s l m one two = one_whole text l m one.0 two.0
 one_last Ever text r s l m one two = (one_cut text r s l m one two).0
 one_last (Idle seconds) text r s l m one two = (one_cut text r s l m one two).0
 
-rest_in : (until : Until) (c : Course) (least most : ℕ) (earlier : List (List (List ℕ))) (text : List ℕ) (lines : List (List ℕ)) (rest : List ℕ) (events : List Event) (IsLast : Type 0) →
-    HasFollowed c least most earlier text events → AreLastLines until text lines rest → IsAmong most earlier lines IsLast → StopsInRest until c → ⊥
-rest_in End c least most earlier text lines rest events IsLast h cut among stops = last_in c least most earlier text lines events IsLast h cut.0 among stops
-rest_in Ever c least most earlier text lines rest events IsLast h cut among stops = stops
-rest_in (Idle seconds) c least most earlier text lines rest events IsLast h cut among stops = stops
+rest_in : (until : Until) (c : Course) (gone : List ℕ) (least most : ℕ) (earlier : List (List (List ℕ))) (text : List ℕ) (lines : List (List ℕ)) (rest : List ℕ) (events : List Event) (IsLast : Type 0) →
+    HasFollowed c gone least most earlier text events → AreLastLines until text lines rest → IsAmong most earlier lines IsLast → StopsInRest until c → ⊥
+rest_in End c gone least most earlier text lines rest events IsLast h cut among stops = last_in c gone least most earlier text lines events IsLast h cut.0 among stops
+rest_in Ever c gone least most earlier text lines rest events IsLast h cut among stops = stops
+rest_in (Idle seconds) c gone least most earlier text lines rest events IsLast h cut among stops = stops
 
-pub last_stops : (c : Course) (rest : List ℕ) (later : List (List ℕ)) (least most : ℕ) (until : Until) (all : List (List ℕ)) → rest ≡ [] → later ≡ [] → StopsEnd until c → HasBegun c rest later least most all → CanBeFollowed most until all → ⊥
-last_stops c rest later least most until all none last stops h can = go a.cut stops
+pub last_stops : (c : Course) (rest : List ℕ) (later : List (List ℕ)) (gone : List ℕ) (least most : ℕ) (until : Until) (all : List (List ℕ)) → rest ≡ [] → later ≡ [] → StopsEnd until c → HasBegun c rest later gone least most all → CanBeFollowed most until all → ⊥
+last_stops c rest later gone least most until all none last stops h can = go a.cut stops
   where
     a : HasLines most until h.lines (h.bytes ++ rest) later
     a = has_lines most until h.done h.lines (h.bytes ++ rest) later all h.texts_are h.whole can
 
     go : ((later ≢ []) × AreAllLines (h.bytes ++ rest) a.lines) ⊎ ((later ≡ []) × AreLastLines until (h.bytes ++ rest) a.lines a.rest) → StopsEnd until c → ⊥
     go (inl (some, whole)) stops = some last
-    go (inr (is, cut)) (inl at) = rest_in until c least most h.lines h.bytes a.lines a.rest h.events (later ≡ []) h.followed (subst (λ z. AreLastLines until z a.lines a.rest) (text_whole h.bytes rest none) cut) a.among at
+    go (inr (is, cut)) (inl at) = rest_in until c gone least most h.lines h.bytes a.lines a.rest h.events (later ≡ []) h.followed (subst (λ z. AreLastLines until z a.lines a.rest) (text_whole h.bytes rest none) cut) a.among at
     go (inr (is, cut)) (inr nothing) =
-        let empty = nothing least most h.lines h.bytes h.events h.followed in
+        let empty = nothing gone least most h.lines h.bytes h.events h.followed in
         (no_record_in most h.lines a.lines (later ≡ []) a.among
         (ap (flat_map rows_of) (one_last until h.bytes a.rest empty.1 a.lines empty.0 (subst (λ z. AreLastLines until z a.lines a.rest) (text_whole h.bytes rest none) cut) empty.2) ∙ empty.3)).0 empty.4

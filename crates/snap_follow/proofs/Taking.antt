@@ -8,29 +8,32 @@ use Rattle.std.proofs.lemmas.List.Elements.{All-append, All-from_get_or}
 use Rattle.std.proofs.lemmas.List.Concat.{flat_map-append}
 use Rattle.memchr.specs.Find.{IsFirstByte, is_byte2}
 use Rattle.snap_core.specs.declared.event.Event.{Event}
-use Rattle.snap_theory.specs.Windows.{IsQuiet}
+use Rattle.snap_follow.specs.declared.answers.Answers.{Answers}
 use Rattle.snap_follow.specs.declared.course.Course.{Course}
 use Rattle.snap_follow.specs.Bytes.{AreLinesOf, Ended, EndsLine, HasNoEnd}
 use Rattle.snap_follow.specs.declared.follow.Follow.{Follow}
-use Rattle.snap_follow.specs.Followed.{EndsText, HasNoRecord, HasRead, ReadsLine, StopsAt}
+use Rattle.snap_follow.specs.Followed.{EndsText, HasNoRecord, HasRead, StopsAt}
+use Rattle.snap_follow.specs.Windows.{EndsFirst}
 use Rattle.snap_follow.specs.inside.Courses.{BeginsWithEnd, EndsBytes, HasFollowed, HasJudged, HasNothing, IsTooLong, StopsIn, TakesBytes, TakesLast, TakesLine}
+use Rattle.snap_follow.specs.inside.Sums.{HasAnswered, HasTold}
+use Rattle.snap_follow.proofs.Telling.{none_first, none_told}
 
 -- nothing
 pub takes_nothing : (c : Course) → TakesBytes c c []
-takes_nothing c least most texts bytes events h = ([], subst (λ z. HasFollowed c least most texts z (events ++ [])) (sym (append-nil bytes)) (subst (HasFollowed c least most texts bytes) (sym (append-nil events)) h))
+takes_nothing c gone least most texts bytes events h = ([], subst (λ z. HasFollowed c gone least most texts z (events ++ [])) (sym (append-nil bytes)) (subst (HasFollowed c gone least most texts bytes) (sym (append-nil events)) h))
 
 -- some bytes, and then others
 pub takes_both : (a b c : Course) (x y : List ℕ) → TakesBytes a b x → TakesBytes b c y → TakesBytes a c (x ++ y)
-takes_both a b c x y first second least most texts bytes events h =
-    let one = first least most texts bytes events h in
-    let two = second least most texts (bytes ++ x) (events ++ one.0) one.1 in
-    (one.0 ++ two.0, subst (λ z. HasFollowed c least most texts z (events ++ (one.0 ++ two.0))) (append_assoc bytes x y) (subst (HasFollowed c least most texts ((bytes ++ x) ++ y)) (append_assoc events one.0 two.0) two.1))
+takes_both a b c x y first second gone least most texts bytes events h =
+    let one = first gone least most texts bytes events h in
+    let two = second gone least most texts (bytes ++ x) (events ++ one.0) one.1 in
+    (one.0 ++ two.0, subst (λ z. HasFollowed c gone least most texts z (events ++ (one.0 ++ two.0))) (append_assoc bytes x y) (subst (HasFollowed c gone least most texts ((bytes ++ x) ++ y)) (append_assoc events one.0 two.0) two.1))
 
 -- the end of a line: the rest and these bytes are the line
-pub takes_line : (c d : Course) (front : List ℕ) (end : ℕ) → HasNoEnd front → EndsLine end → d.rest.items ≡ [] → TakesLine c.follow d.follow (c.rest.items ++ front) → TakesBytes c d (front ++ end ∷ [])
-takes_line c d front end within ends none reads least most texts bytes events h =
+pub takes_line : (c d : Course) (front : List ℕ) (end : ℕ) → HasNoEnd front → EndsLine end → d.rest.items ≡ [] → TakesLine c d (c.rest.items ++ front) → TakesBytes c d (front ++ end ∷ [])
+takes_line c d front end within ends none reads gone least most texts bytes events h =
     let line = c.rest.items ++ front in
-    let read = reads least most texts h.lines events h.read.0 in (
+    let read = reads gone least most texts h.lines events h.read in (
       read.0,
       record {
         lines = h.lines ++ line ∷ [];
@@ -58,9 +61,13 @@ takes_line c d front end within ends none reads least most texts bytes events h 
         ∙ sym (flat_map-append (λ l. l.line ++ l.end ∷ []) h.cut.each (one ∷ []) ∙ ap (λ z. before ++ z) (append-nil ((c.rest.items ++ front) ++ end ∷ [])))
         ∙ sym (append-nil (flat_map (λ l. l.line ++ l.end ∷ []) (h.cut.each ++ one ∷ [])))
 
+-- what was judged of one course, another one with the same answers has judged
+pub judged_as : (f g : Follow) (a b : Answers) {gone : List ℕ} {least most : ℕ} {texts : List (List (List ℕ))} {lines : List (List ℕ)} {events : List Event} → g ≡ f → b ≡ a → HasJudged f a gone least most texts lines events → HasJudged g b gone least most texts lines events
+judged_as f g a b {gone} {least} {most} {texts} {lines} {events} same kept h = subst (λ z. HasJudged z b gone least most texts lines events) (sym same) (subst (λ z. HasJudged f z gone least most texts lines events) (sym kept) h)
+
 -- bytes within which no line ends
-pub takes_rest : (c d : Course) (bytes : List ℕ) → HasNoEnd bytes → d.rest.items ≡ c.rest.items ++ bytes → d.follow ≡ c.follow → TakesBytes c d bytes
-takes_rest c d piece within rest same least most texts bytes events h = (
+pub takes_rest : (c d : Course) (bytes : List ℕ) → HasNoEnd bytes → d.rest.items ≡ c.rest.items ++ bytes → d.follow ≡ c.follow → d.answers ≡ c.answers → TakesBytes c d bytes
+takes_rest c d piece within rest same kept gone least most texts bytes events h = (
   [],
   record {
     lines = h.lines;
@@ -70,7 +77,7 @@ takes_rest c d piece within rest same least most texts bytes events h = (
       spelled = ap (λ z. z ++ piece) h.cut.spelled ∙ append_assoc (flat_map (λ l. l.line ++ l.end ∷ []) h.cut.each) c.rest.items piece;
       unended = All-append (λ b. ¬ EndsLine b) c.rest.items piece h.cut.unended within;
     });
-    read = subst (λ z. HasJudged z least most texts h.lines (events ++ [])) (sym same) (subst (HasJudged c.follow least most texts h.lines) (sym (append-nil events)) h.read);
+    read = judged_as c.follow d.follow c.answers d.answers same kept (subst (HasJudged c.follow c.answers gone least most texts h.lines) (sym (append-nil events)) h.read);
   },
 )
 
@@ -90,7 +97,7 @@ cut_at k bytes high = sym (take-append-drop k bytes) ∙ ap (λ rest. take k byt
 
 -- of a piece one line more was taken, up to its end
 pub line_more : (c d e : Course) (piece front left : List ℕ) (k : ℕ) → piece ≡ front ++ left → TakesBytes c d front → IsFirstByte (is_byte2 10 13) left (Some k) →
-    e.rest.items ≡ [] → TakesLine d.follow e.follow (d.rest.items ++ take k left) → (more : List ℕ) × (piece ≡ more ++ drop (k + 1) left) × TakesBytes c e more
+    e.rest.items ≡ [] → TakesLine d e (d.rest.items ++ take k left) → (more : List ℕ) × (piece ≡ more ++ drop (k + 1) left) × TakesBytes c e more
 line_more c d e piece front left k parts taken found none reads =
     let end = get_or left k 0 in
     let line = take k left ++ end ∷ [] in (
@@ -101,8 +108,8 @@ line_more c d e piece front left k parts taken found none reads =
 
 -- a piece was taken whole, whose last bytes end no line
 pub all_taken : (c d e : Course) (piece front left : List ℕ) → piece ≡ front ++ left → TakesBytes c d front → IsFirstByte (is_byte2 10 13) left None →
-    e.rest.items ≡ d.rest.items ++ left → e.follow ≡ d.follow → TakesBytes c e piece
-all_taken c d e piece front left parts taken found rest same = subst (TakesBytes c e) (sym parts) (takes_both c d e front left taken (takes_rest d e left (has_no_end left found) rest same))
+    e.rest.items ≡ d.rest.items ++ left → e.follow ≡ d.follow → e.answers ≡ d.answers → TakesBytes c e piece
+all_taken c d e piece front left parts taken found rest same kept = subst (TakesBytes c e) (sym parts) (takes_both c d e front left taken (takes_rest d e left (has_no_end left found) rest same kept))
 
 -- the next line of a piece stops the recording, or the begin of it does
 pub line_stops : (c d : Course) (piece front left : List ℕ) (k : ℕ) → piece ≡ front ++ left → TakesBytes c d front → IsFirstByte (is_byte2 10 13) left (Some k) →
@@ -134,49 +141,43 @@ rest_stops c d piece front left parts taken found long = record {
   stops = inl long;
 }
 
--- a line was read, and a window ended behind it
-pub cut_then : (f g h : Follow) (line : List ℕ) → ReadsLine f g line →
-    ((least most : ℕ) (texts : List (List (List ℕ))) (lines : List (List ℕ)) (events : List Event) → HasRead g least most texts lines events → (n : HasRead h least most texts lines events) × (n.since ≡ [])) → TakesLine f h line
-cut_then f g h line reads ends least most texts lines events r =
-    let read = reads least most texts lines events r in
-    let next = ends least most texts (lines ++ line ∷ []) (events ++ read.0) read.1 in
-    (read.0, (next.0, λ quiet. inr next.1))
-
--- or none could end there
-pub none_then : (f g h : Follow) (line : List ℕ) → ReadsLine f g line → h ≡ g →
-    ((least most : ℕ) (texts : List (List (List ℕ))) (lines : List (List ℕ)) (events : List Event) (r : HasRead g least most texts lines events) → IsQuiet events → length r.since < least) → TakesLine f h line
-none_then f g h line reads same short = subst (λ z. TakesLine f z line) (sym same) (λ least most texts lines events r.
-    let read = reads least most texts lines events r in
-    (read.0, (read.1, λ quiet. inl (short least most texts (lines ++ line ∷ []) (events ++ read.0) read.1 quiet))))
-
 -- the bytes have ended, behind the end of a line or within one
 pub last_none : (c : Course) → c.rest.items ≡ [] → TakesLast c c
-last_none c none least most texts bytes events h = (h.lines, [], record { ended = h.lines; rest = c.rest.items; cut = h.cut; all = inl (none, refl) }, subst (HasJudged c.follow least most texts h.lines) (sym (append-nil events)) h.read)
+last_none c none gone least most texts bytes events h = (h.lines, [], record { ended = h.lines; rest = c.rest.items; cut = h.cut; all = inl (none, refl) }, subst (HasJudged c.follow c.answers gone least most texts h.lines) (sym (append-nil events)) h.read)
 
-pub last_line : (c d : Course) → (c.rest.items ≡ [] → ⊥) → TakesLine c.follow d.follow c.rest.items → TakesLast c d
-last_line c d some reads least most texts bytes events h =
-    let read = reads least most texts h.lines events h.read.0 in
+pub last_line : (c d : Course) → (c.rest.items ≡ [] → ⊥) → TakesLine c d c.rest.items → TakesLast c d
+last_line c d some reads gone least most texts bytes events h =
+    let read = reads gone least most texts h.lines events h.read in
     (h.lines ++ c.rest.items ∷ [], read.0, record { ended = h.lines; rest = c.rest.items; cut = h.cut; all = inr (some, refl) }, read.1)
 
 -- the text has no record to its end
 pub no_record : (c d : Course) → TakesLast c d → HasNoRecord d.follow → HasNothing c
-no_record c d last none least most texts bytes events h =
-    let all = last least most texts bytes events h in
-    (all.0, all.2, none least most texts all.0 (events ++ all.1) all.3.0)
+no_record c d last none gone least most texts bytes events h =
+    let all = last gone least most texts bytes events h in
+    (all.0, all.2, none least most texts all.0 (events ++ all.1) all.3.read)
 
 -- no bytes have no lines
 no_lines : (c : Course) → c.rest.items ≡ [] → AreLinesOf [] [] c.rest.items
 no_lines c none = subst (AreLinesOf [] []) (sym none) (record { each = []; lines_are = refl; spelled = refl; unended = λ k d l. absurd (omega (arith, l)) })
 
 -- a text has ended, and the next one begins
-pub text_done : (c d e : Course) → TakesLast c d → EndsText d.follow e.follow → e.rest.items ≡ [] → EndsBytes c e
-text_done c d e last ends none least most texts bytes events h =
-    let all = last least most texts bytes events h in
-    let next = ends least most texts all.0 (events ++ all.1) all.3.0 in (
+pub text_done : (c d e : Course) → TakesLast c d → EndsText d.follow e.follow → e.rest.items ≡ [] → e.answers ≡ d.answers → EndsBytes c e
+text_done c d e last ends none kept gone least most texts bytes events h =
+    let all = last gone least most texts bytes events h in
+    let next = ends least most texts all.0 (events ++ all.1) all.3.read in (
       all.0,
       all.1,
       all.2,
-      record { lines = []; cut = no_lines e none; read = (next.0, λ quiet. subst (λ z. (length z < least) ⊎ (z ≡ [])) (sym next.1) (all.3.1 quiet)) },
+      record {
+        lines = [];
+        cut = no_lines e none;
+        read = record {
+          read = next.0;
+          in_time = λ quiet. subst (λ z. (length z < least) ⊎ (z ≡ [])) (sym next.2) (all.3.in_time quiet);
+          first = subst (λ z. EndsFirst least z next.0.since) (sym next.1) (subst (EndsFirst least all.3.read.before) (sym next.2) all.3.first);
+          told = subst (λ z. HasTold z gone least next.0.before) (sym kept) (subst (HasTold d.answers gone least) (sym next.1) all.3.told);
+        };
+      },
     )
 
 -- a recording of which nothing was read
@@ -184,8 +185,21 @@ nothing_since : (before since : List Event) → [] ≡ before ++ since → since
 nothing_since [] since none = sym none
 nothing_since (x ∷ before) since none = absurd (omega (arith, ap length none))
 
-pub none_followed : (c : Course) (least most : ℕ) → c.rest.items ≡ [] → HasRead c.follow least most [] [] [] → HasFollowed c least most [] [] []
-none_followed c least most none read = record { lines = []; cut = no_lines c none; read = (read, λ quiet. inr (nothing_since read.before read.since read.windows)) }
+nothing_before : (before since : List Event) → [] ≡ before ++ since → before ≡ []
+nothing_before [] since none = refl
+nothing_before (x ∷ before) since none = absurd (omega (arith, ap length none))
+
+pub none_followed : (c : Course) (least most : ℕ) → c.rest.items ≡ [] → HasRead c.follow least most [] [] [] → HasAnswered c.answers [] [] → HasFollowed c [] least most [] [] []
+none_followed c least most none read answered = record {
+  lines = [];
+  cut = no_lines c none;
+  read = record {
+    read = read;
+    in_time = λ quiet. inr (nothing_since read.before read.since read.windows);
+    first = subst (EndsFirst least read.before) (sym (nothing_since read.before read.since read.windows)) (none_first least read.before);
+    told = subst (HasTold c.answers [] least) (sym (nothing_before read.before read.since read.windows)) (none_told c.answers least answered);
+  };
+}
 
 -- an answer of which one thing is so is one of which another is so
 pub if_ok_then : {X E : Type 0} (r : Result X E) (P Q : X → Type 0) → IfOk r P → ((x : X) → P x → Q x) → IfOk r Q

@@ -123,3 +123,8 @@ pub no_rows : (line : List ℕ) → (length line == 0) ≡ true → rows_of line
 unfolding strip_bom records_from next_record
 no_rows [] none = refl
 no_rows (b ∷ line) none = let some : length (b ∷ line) ≡ 0 → ⊥ = λ e. omega (arith, e) in absurd (some (grind (arith, nat_tests, none)))
+
+-- bytes without length are none
+pub no_elements : (bytes : List ℕ) → (length bytes == 0) ≡ true → bytes ≡ []
+no_elements [] none = refl
+no_elements (b ∷ bytes) none = let some : length (b ∷ bytes) ≡ 0 → ⊥ = λ e. omega (arith, e) in absurd (some (grind (arith, nat_tests, none)))

@@ -9,6 +9,7 @@ use Rattle.snap_core.specs.Regular.{IsRegular}
 use Rattle.snap_format.specs.Layout.{is_header_row}
 use Rattle.snap_format.specs.Rows.{rows_of}
 use Rattle.snap_text.specs.Fields.{Fields, row_event}
+use Rattle.snap_follow.specs.Spans.{IsSpanOf}
 use Rattle.snap_follow.specs.declared.follow.Ended.{Ended}
 use Rattle.snap_follow.specs.declared.follow.Ended.TheVariants.{Refused, Memory}
 use Rattle.snap_follow.specs.declared.follow.Follow.{Follow}
@@ -60,6 +61,7 @@ pub record HasRead (follow : Follow) (least most : ℕ) (texts : List (List (Lis
   pub since : List Event
   pub taken : HasTaken follow.judge before since
   pub windows : events ≡ before ++ since
+  pub span_is : IsSpanOf follow.span since
   pub earlier : List Event
   pub here : List Event
   pub parts : events ≡ earlier ++ here
@@ -67,10 +69,10 @@ pub record HasRead (follow : Follow) (least most : ℕ) (texts : List (List (Lis
   pub lines_say : SaysSoFar follow lines here
   pub place_is : IsPlaceOf follow.place texts lines
 
--- a line more was read: it says nothing more, or one event
+-- a line more was read: it says nothing more, or one event of the window at hand
 abbrev pub ReadsLine : Follow → Follow → List ℕ → Type 0
-ReadsLine old new line = (least most : ℕ) (texts : List (List (List ℕ))) (lines : List (List ℕ)) (events : List Event) → HasRead old least most texts lines events →
-    (more : List Event) × HasRead new least most texts (lines ++ line ∷ []) (events ++ more)
+ReadsLine old new line = (least most : ℕ) (texts : List (List (List ℕ))) (lines : List (List ℕ)) (events : List Event) (h : HasRead old least most texts lines events) →
+    (more : List Event) × (length more ≤ 1) × (n : HasRead new least most texts (lines ++ line ∷ []) (events ++ more)) × (n.before ≡ h.before) × (n.since ≡ h.since ++ more)
 
 -- records that go on with a recording of these events. There are none, or they are the header alone if none was read. If one was, they
 -- are one record that spells an event with which the events are a history
@@ -108,7 +110,7 @@ IsInTime least events since = IsQuiet events → (length since < least) ⊎ (sin
 -- the text at hand has ended, and the next one begins, in the same window
 abbrev pub EndsText : Follow → Follow → Type 0
 EndsText old new = (least most : ℕ) (texts : List (List (List ℕ))) (lines : List (List ℕ)) (events : List Event) (h : HasRead old least most texts lines events) →
-    (n : HasRead new least most (texts ++ lines ∷ []) [] events) × (n.since ≡ h.since)
+    (n : HasRead new least most (texts ++ lines ∷ []) [] events) × (n.before ≡ h.before) × (n.since ≡ h.since)
 
 -- the exit status of a recording of these events
 pub record IsStatusOf (events : List Event) (code : ℕ) : Type 0 where

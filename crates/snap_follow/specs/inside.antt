@@ -6,3 +6,4 @@ pub mod Refusals
 pub mod Runs
 pub mod Statuses
 pub mod Stops
+pub mod Sums

@@ -1,5 +1,8 @@
 //! What is answered of a recording: the lines of its windows, and their sums.
+ghost use Rattle.std.specs.Prelude.{◌≡◌, ◌++◌, [], List, OnOk};
 ghost use Rattle.snap_follow.specs.Bytes.{AreWholeLines};
+ghost use Rattle.snap_follow.specs.Windows.{Told, sums_text};
+ghost use Rattle.snap_follow.specs.inside.Sums.{AddsLast, AddsWindow, AreSums, HasAnswered};
 
 use crate::follow::{Place, Window};
 use crate::lines::{Lines, put_failure, put_refusal, put_window};
@@ -20,7 +23,9 @@ pub(crate) struct Answers {
 }
 
 impl Answers {
-    pub(crate) fn new(alloc: Global) -> Answers {
+    pub(crate) fn new(alloc: Global) -> Answers
+        ensures { HasAnswered result [] [] }
+    {
         Answers {
             sums: Sums::new(),
             names: Vec::new(alloc),
@@ -36,29 +41,46 @@ impl Answers {
 
     /// The lines that are still to be written.
     pub(crate) fn lines(&self) -> &[u8]
-        ensures { AreWholeLines result.now }
+        ensures same { result.now ≡ self.now.lines }
+        ensures whole { AreWholeLines result.now }
     {
         self.lines.bytes()
     }
 
     /// Forgets the lines, which were written.
-    pub(crate) fn clear_lines(&mut self) {
+    pub(crate) fn clear_lines(&mut self)
+        ensures none { self.new.lines ≡ [] }
+        ensures sums { self.new.sums ≡ self.old.sums }
+    {
         self.lines.clear();
     }
 
     /// Notes the name of a text that begins.
-    pub(crate) fn add_name(&mut self, name: Vec<u8>) -> Result<(), AllocError> {
+    pub(crate) fn add_name(&mut self, name: Vec<u8>) -> Result<(), AllocError>
+        ensures { (self.new.lines ≡ self.old.lines) × (self.new.sums ≡ self.old.sums) }
+    {
         Ok(self.names.push(name)?)
     }
 
     /// Adds the line of a window that has ended, and counts it.
-    pub(crate) fn add_window(&mut self, window: &Window) -> Result<(), AllocError> {
+    pub(crate) fn add_window(&mut self, window: &Window) -> Result<(), AllocError>
+        ensures { OnOk result (AddsWindow self.old self.new window.now) }
+    {
         self.made.clear();
         put_window(&mut self.made, self.sums.next(), window, &self.names)?;
         self.lines.add(&self.made)?;
-        self.sums.add_span(window.span);
-        self.sums.add(Kind::of(window.verdict));
+        self.sums.add_window(window);
         Ok(())
+    }
+
+    /// Adds the line of the last window, if it has events, and counts it.
+    pub(crate) fn add_last(&mut self, window: &Window) -> Result<(), AllocError>
+        ensures { OnOk result (AddsLast self.old self.new window.now) }
+    {
+        if window.span.events == 0 {
+            return Ok(());
+        }
+        self.add_window(window)
     }
 
     /// Adds the line of a window that is refused at a record, and counts it.
@@ -79,7 +101,10 @@ impl Answers {
         Ok(())
     }
 
-    pub(crate) fn add_sums(&mut self) -> Result<(), AllocError> {
+    /// Adds the lines of the sums.
+    pub(crate) fn add_sums(&mut self) -> Result<(), AllocError>
+        ensures { (told : List Told) → AreSums told self.old.sums → OnOk result (self.new.lines ≡ self.old.lines ++ sums_text told) }
+    {
         self.made.clear();
         self.sums.put(&mut self.made)?;
         self.lines.add(&self.made)

@@ -2,8 +2,9 @@
 ghost use Rattle.std.specs.Prelude.{◌≡◌, ◌≢◌, ◌↔◌, ◌⊎◌, ◌++◌, [], ℕ, List, false, true, IfOk, IsTrue, OnOk};
 ghost use Rattle.snap_core.specs.declared.event.Event.{Event};
 ghost use Rattle.snap_follow.specs.Followed.{HasRead, IsStatusOf, StopsAt};
-ghost use Rattle.snap_follow.specs.inside.Courses.{EndsBytes, HasFollowed, HasNoneSoFar, IsBegun, IsTooLong, StopsIn, StopsLast, TakesBytes, TakesLast, TakesLine};
+ghost use Rattle.snap_follow.specs.inside.Courses.{EndsBytes, HasFollowed, HasJudged, HasNoneSoFar, IsBegun, IsTooLong, StopsIn, StopsLast, TakesBytes, TakesLast, TakesLine};
 ghost use Rattle.snap_follow.specs.inside.Refusals.{IsRefusal};
+ghost use Rattle.snap_follow.specs.inside.Sums.{HasToldAll};
 
 use crate::answers::Answers;
 use crate::follow::{Ended, Follow};
@@ -29,7 +30,7 @@ pub(crate) struct Course {
 impl Course {
     /// A recording of which nothing was read.
     pub(crate) fn new(alloc: Global, least: u32, most: Limit) -> Course
-        ensures { HasFollowed result least most.events [] [] [] }
+        ensures { HasFollowed result [] least most.events [] [] [] }
     {
         Course {
             follow: Follow::new(alloc, least, most),
@@ -59,7 +60,7 @@ impl Course {
     // Takes a line, and ends a window if one may end there. Answers whether the recording is followed further.
     fn take_line(&mut self, alloc: Global, line: &[u8]) -> Result<bool, AllocError>
         ensures rest { self.new.rest ≡ self.old.rest }
-        ensures read { IfOk result (λ goes_on. goes_on ≡ true → TakesLine self.old.follow self.new.follow line.now) }
+        ensures read { IfOk result (λ goes_on. goes_on ≡ true → TakesLine self.old self.new line.now) }
         ensures refused { IfOk result (λ goes_on. goes_on ≡ false → StopsAt self.old.follow line.now) }
     {
         if let Err(ended) = self.follow.take_line(alloc, line) {
@@ -75,7 +76,7 @@ impl Course {
     // Takes the rest as a line. Answers whether the recording is followed further.
     fn take_rest(&mut self, alloc: Global) -> Result<bool, AllocError>
         ensures rest { self.new.rest.items ≡ [] }
-        ensures read { IfOk result (λ goes_on. goes_on ≡ true → TakesLine self.old.follow self.new.follow self.old.rest.items) }
+        ensures read { IfOk result (λ goes_on. goes_on ≡ true → TakesLine self.old self.new self.old.rest.items) }
         ensures refused { IfOk result (λ goes_on. goes_on ≡ false → StopsAt self.old.follow self.old.rest.items) }
     {
         let line = mem::replace(&mut self.rest, Vec::new(alloc));
@@ -97,6 +98,7 @@ impl Course {
     // Refuses the next record if it has begun with more bytes than a record may have. Answers whether the recording is followed further.
     fn check_length(&mut self) -> Result<bool, AllocError>
         ensures same { (self.new.rest ≡ self.old.rest) × (self.new.follow ≡ self.old.follow) }
+        ensures kept { IfOk result (λ goes_on. goes_on ≡ true → self.new.answers ≡ self.old.answers) }
         ensures refused { IfOk result (λ goes_on. goes_on ≡ false → IsTooLong self.old.rest.items) }
     {
         if self.rest.len() <= RECORD_LIMIT {
@@ -110,7 +112,7 @@ impl Course {
     // Takes the line that begins with the rest and ends with these bytes. Answers whether the recording is followed further.
     fn take_joined(&mut self, alloc: Global, bytes: &[u8]) -> Result<bool, AllocError>
         ensures rest { IfOk result (λ goes_on. goes_on ≡ true → self.new.rest.items ≡ []) }
-        ensures read { IfOk result (λ goes_on. goes_on ≡ true → TakesLine self.old.follow self.new.follow (self.old.rest.items ++ bytes.now)) }
+        ensures read { IfOk result (λ goes_on. goes_on ≡ true → TakesLine self.old self.new (self.old.rest.items ++ bytes.now)) }
         ensures refused { IfOk result (λ goes_on. goes_on ≡ false → IsTooLong (self.old.rest.items ++ bytes.now) ⊎ StopsAt self.old.follow (self.old.rest.items ++ bytes.now)) }
     {
         if self.rest.is_empty() {
@@ -154,6 +156,7 @@ impl Course {
     /// Refuses a recording without any record. Answers whether it has one.
     pub(crate) fn check_begun(&mut self) -> Result<bool, AllocError>
         ensures same { (self.new.rest ≡ self.old.rest) × (self.new.follow ≡ self.old.follow) }
+        ensures kept { IfOk result (λ goes_on. goes_on ≡ true → self.new.answers ≡ self.old.answers) }
         ensures begun { IfOk result (λ goes_on. goes_on ≡ true → IsBegun self.old.follow) }
         ensures refused { IfOk result (λ goes_on. goes_on ≡ false → HasNoneSoFar self.old.follow) }
     {
@@ -168,7 +171,8 @@ impl Course {
 
     /// Ends the recording, in which calls may be open. It answers the exit status of the whole.
     pub(crate) fn finish(self, alloc: Global) -> Result<(u8, Answers), AllocError>
-        ensures { IfOk result (λ x. (least most : ℕ) (texts : List (List (List ℕ))) (lines : List (List ℕ)) (events : List Event) → HasRead self.follow least most texts lines events → IsStatusOf events x.0) }
+        ensures status { IfOk result (λ x. (least most : ℕ) (texts : List (List (List ℕ))) (lines : List (List ℕ)) (events : List Event) → HasRead self.follow least most texts lines events → IsStatusOf events x.0) }
+        ensures told { IfOk result (λ x. (gone : List ℕ) (least most : ℕ) (texts : List (List (List ℕ))) (lines : List (List ℕ)) (events : List Event) → HasJudged self.follow self.answers gone least most texts lines events → HasToldAll x.1 gone least events) }
     {
         let Course {
             follow,
@@ -176,9 +180,7 @@ impl Course {
             rest: _,
         } = self;
         let (window, whole) = follow.finish(alloc)?;
-        if window.span.events > 0 {
-            answers.add_window(&window)?;
-        }
+        answers.add_last(&window)?;
         Ok((status_of(whole), answers))
     }
 }

@@ -13,6 +13,7 @@ ghost use Rattle.snap_format.specs.Rows.{rows_of};
 ghost use Rattle.snap_theory.specs.Windows.{IsQuiet};
 ghost use Rattle.snap_windows.specs.Taken.{HasTaken};
 ghost use Rattle.snap_windows.specs.Verdicts.{IsVerdict};
+ghost use Rattle.snap_follow.specs.Spans.{HasOneMore, IsSpanOf, ends_view as spec_ends_view};
 ghost use Rattle.snap_follow.specs.Followed.{EndsText, HasNoRecord, HasRead, IsLack, IsNext, ReadsLine, RefusesLine};
 
 use crate::quotes::unquote;
@@ -97,7 +98,9 @@ fn open_behind(before: u64, event: &Event) -> u64
 
 impl Span {
     // A window without events, after a record.
-    fn behind(place: Place) -> Span {
+    fn behind(place: Place) -> Span
+        ensures { IsSpanOf result [] }
+    {
         Span {
             events: 0,
             views: 0,
@@ -108,7 +111,9 @@ impl Span {
     }
 
     // The window with one event more, which is at this place and misses this entry.
-    fn with(self, event: &Event, place: Place, missed: Option<Entry>) -> Span {
+    fn with(self, event: &Event, place: Place, missed: Option<Entry>) -> Span
+        ensures { HasOneMore self event.now result }
+    {
         Span {
             events: self.events.saturating_add(1),
             views: self.views.saturating_add(u64::from(ends_view(event))),
@@ -132,7 +137,9 @@ fn first_missed(
 }
 
 // Whether an event completes a view.
-fn ends_view(event: &Event) -> bool {
+fn ends_view(event: &Event) -> bool
+    ensures { result ≡ spec_ends_view event.now }
+{
     matches!(event, Event::EndView { .. })
 }
 
@@ -222,6 +229,7 @@ impl Follow {
         ensures place { self.new.place ≡ self.old.place }
         ensures rule { (self.new.least ≡ self.old.least) × (self.new.judge.most ≡ self.old.judge.most) }
         ensures counted { OnOk result (CountsOpen self.old.open_calls event.now self.new.open_calls) }
+        ensures span { OnOk result (HasOneMore self.old.span event.now self.new.span) }
         ensures refused { IfErr result (λ why. (before since : List Event) → HasTaken self.old.judge before since → IsHistory (before ++ (since ++ event.now ∷ [])) → IsLack self.old.judge since why) }
     {
         let missed = match self.judge.take(alloc, event) {
@@ -236,7 +244,7 @@ impl Follow {
     // The event of a line under the header. Quotes that no field needs are taken off first, since a reader of `csv` costs much more.
     fn read_event(&mut self, alloc: Global, line: &[u8]) -> Result<Option<Event>, ReadRefusal>
         ensures event { AnswersLine 0 (rows_of line.now) result }
-        ensures same { (self.new.judge ≡ self.old.judge) × (self.new.headed ≡ self.old.headed) × (self.new.least ≡ self.old.least) × (self.new.open_calls ≡ self.old.open_calls) × (self.new.place ≡ self.old.place) }
+        ensures same { (self.new.judge ≡ self.old.judge) × (self.new.headed ≡ self.old.headed) × (self.new.least ≡ self.old.least) × (self.new.open_calls ≡ self.old.open_calls) × (self.new.place ≡ self.old.place) × (self.new.span ≡ self.old.span) }
     {
         if unquote(line, &mut self.bare)? {
             return read_line(alloc, &mut self.known, &self.bare, 0);
@@ -288,7 +296,8 @@ impl Follow {
         ensures same { OnOk result ((least most : ℕ) (texts : List (List (List ℕ))) (lines : List (List ℕ)) (events : List Event) → HasRead self.old least most texts lines events → HasRead self.new least most texts lines events) }
         ensures window { IfOk result (λ found. IfSome found (λ window. (least most : ℕ) (texts : List (List (List ℕ))) (lines : List (List ℕ)) (events : List Event) (h : HasRead self.old least most texts lines events) → IsVerdict window.verdict h.before h.since)) }
         ensures enough { IfOk result (λ found. IfSome found (λ window. (least most : ℕ) (texts : List (List (List ℕ))) (lines : List (List ℕ)) (events : List Event) (h : HasRead self.old least most texts lines events) → least ≤ length h.since)) }
-        ensures begun { IfOk result (λ found. IfSome found (λ window. (least most : ℕ) (texts : List (List (List ℕ))) (lines : List (List ℕ)) (events : List Event) → HasRead self.old least most texts lines events → (n : HasRead self.new least most texts lines events) × (n.since ≡ []))) }
+        ensures begun { IfOk result (λ found. IfSome found (λ window. (least most : ℕ) (texts : List (List (List ℕ))) (lines : List (List ℕ)) (events : List Event) (h : HasRead self.old least most texts lines events) → (n : HasRead self.new least most texts lines events) × (n.before ≡ h.before ++ h.since) × (n.since ≡ []))) }
+        ensures span { IfOk result (λ found. IfSome found (λ window. window.span ≡ self.old.span)) }
         ensures kept { IfOk result (λ found. IfNone found (self.new ≡ self.old)) }
         ensures ends { IfOk result (λ found. IfNone found ((least most : ℕ) (texts : List (List (List ℕ))) (lines : List (List ℕ)) (events : List Event) (h : HasRead self.old least most texts lines events) → IsQuiet events → length h.since < least)) }
     {
@@ -305,6 +314,7 @@ impl Follow {
 
     /// Ends the recording, in which calls may be open: its last window, and what the whole is. The error is want of memory.
     pub fn finish(self, alloc: Global) -> Result<(Window, Verdict), AllocError>
+        ensures span { IfOk result (λ x. x.0.span ≡ self.span) }
         ensures window { IfOk result (λ x. (least most : ℕ) (texts : List (List (List ℕ))) (lines : List (List ℕ)) (events : List Event) (h : HasRead self least most texts lines events) → IsVerdict x.0.verdict h.before h.since) }
         ensures regular { IfOk result (λ x. (least most : ℕ) (texts : List (List (List ℕ))) (lines : List (List ℕ)) (events : List Event) → HasRead self least most texts lines events → IsTrue x.1.regular ↔ IsRegular (calls_of events)) }
         ensures atomic { IfOk result (λ x. (least most : ℕ) (texts : List (List (List ℕ))) (lines : List (List ℕ)) (events : List Event) → HasRead self least most texts lines events → IsTrue x.1.atomic ↔ IsAtomic (calls_of events)) }

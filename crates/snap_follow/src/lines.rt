@@ -1,6 +1,7 @@
 //! The lines of windows.
 ghost use Rattle.std.specs.Prelude.{◌≡◌, ◌++◌, [], OnOk};
 ghost use Rattle.snap_follow.specs.Bytes.{AreWholeLines};
+ghost use Rattle.snap_follow.specs.Windows.{missed_text, place_text, window_text};
 
 use crate::follow::{Place, Window};
 use crate::sums::Kind;
@@ -66,7 +67,9 @@ fn put_place(
     text: &[u8],
     place: Place,
     names: &[Vec<u8>],
-) -> Result<(), AllocError> {
+) -> Result<(), AllocError>
+    ensures { OnOk result (out.new.items ≡ out.old.items ++ text.now ++ place_text names.now place) }
+{
     put_number(out, text, place.record)?;
     match names.get(place.text) {
         Some(name) => {
@@ -82,7 +85,9 @@ fn put_missed(
     out: &mut Vec<u8>,
     missed: Option<(Entry, Place)>,
     names: &[Vec<u8>],
-) -> Result<(), AllocError> {
+) -> Result<(), AllocError>
+    ensures { OnOk result (out.new.items ≡ out.old.items ++ missed_text names.now missed) }
+{
     match missed {
         Some((entry, place)) => {
             put_entry(out, b" misses ", &entry)?;
@@ -99,7 +104,8 @@ pub(crate) fn put_window(
     window: &Window,
     names: &[Vec<u8>],
 ) -> Result<(), AllocError>
-    ensures { OnOk result (AreWholeLines out.new.items) }
+    ensures text { OnOk result (out.new.items ≡ out.old.items ++ window_text number window.now names.now) }
+    ensures whole { OnOk result (AreWholeLines out.new.items) }
 {
     put_number(out, b"window ", number)?;
     put_number(out, b" events ", window.span.events)?;

@@ -1,9 +1,10 @@
 //! The texts of a recording, piece by piece.
 ghost use Rattle.std.specs.Prelude.{◌≡◌, ◌≢◌, ◌≤◌, ◌<◌, ℕ, List, [], true, false, length, IsSome, Some, IfOk, IfErr, IfSome, OnOk};
 ghost use Rattle.snap_follow.specs.Recordings.{CanBeFollowed};
-ghost use Rattle.snap_follow.specs.inside.Courses.{HasFollowed, StopsIn, StopsLast, TakesBytes};
+ghost use Rattle.snap_follow.specs.inside.Courses.{HasFollowed, StopsIn, StopsLast, TakesBytesFor};
 ghost use Rattle.snap_follow.specs.inside.Runs.{EndsAll, EndsAtHand, EndsLast, GoesOnFrom, IsDone, IsReadOut, IsUnderWay, OnRefusal, ReadsText, StopsEnd, StopsInRest};
 ghost use Rattle.snap_follow.specs.inside.Stops.{IsNoWrite, StopLeaves};
+ghost use Rattle.snap_follow.specs.inside.Sums.{WritesLines};
 ghost use Rattle.snap_follow.specs.Written.{HasSent, Leaves};
 ghost use Rattle.snap_follow.specs.declared.run.FollowFault.TheVariants as faults;
 ghost use Rattle.snap_follow.specs.declared.pieces.Stop.TheVariants as stops;
@@ -87,7 +88,8 @@ pub(crate) fn write_lines<W: Write>(
     writer: &mut Counted<W>,
     answers: &mut Answers,
 ) -> Result<(), FollowFault>
-    ensures { Leaves W.contents writer.old writer.new result }
+    ensures wrote { Leaves W.contents writer.old writer.new result }
+    ensures all { OnOk result ((sent : HasSent W.contents writer.old writer.new) × WritesLines answers.old answers.new sent.out) }
 {
     if answers.lines().is_empty() {
         return Ok(());
@@ -117,9 +119,8 @@ fn take_piece<W: Write>(
     writer: &mut Counted<W>,
     piece: &[u8],
 ) -> Result<(), Stop>
-    ensures taken { OnOk result (TakesBytes course.old course.new piece.now) }
+    ensures taken { OnOk result ((sent : HasSent W.contents writer.old writer.new) × TakesBytesFor sent.out course.old course.new piece.now) }
     ensures refused { IfErr result (λ stop. OnRefusal stop (StopsIn course.old piece.now)) }
-    ensures sent { OnOk result (HasSent W.contents writer.old writer.new) }
     ensures stopped { IfErr result (λ stop. StopLeaves W.contents writer.old writer.new stop) }
 {
     let goes_on = course.take_piece(alloc, piece)?;
@@ -149,6 +150,7 @@ fn take_opened<R: Drop>(
     ensures text { at_hand.new.text ≡ Some opened.text }
     ensures next { at_hand.new.has_next ≡ false }
     ensures same { (course.new.rest ≡ course.old.rest) × (course.new.follow ≡ course.old.follow) }
+    ensures kept { (course.new.answers.lines ≡ course.old.answers.lines) × (course.new.answers.sums ≡ course.old.answers.sums) }
 {
     let Opened { text, name } = opened;
     *at_hand = AtHand {
@@ -292,9 +294,8 @@ fn read_pieces<Rt: Wait, T: Texts, W: Write, C: Clock>(
     piece: &mut [u8],
 ) -> Result<(), Stop>
     requires { 0 < length piece.old }
-    ensures done { OnOk result ((least most : ℕ) (all : List (List ℕ)) → IsUnderWay T.Text.remaining course.old at_hand.old (T.left texts.old) least most all → IsDone course.new until least most all) }
-    ensures refused { IfErr result (λ stop. OnRefusal stop ((least most : ℕ) (all : List (List ℕ)) → IsUnderWay T.Text.remaining course.old at_hand.old (T.left texts.old) least most all → ¬ CanBeFollowed most until all)) }
-    ensures sent { OnOk result (HasSent W.contents writer.old writer.new) }
+    ensures done { OnOk result ((sent : HasSent W.contents writer.old writer.new) × ((least most : ℕ) (all : List (List ℕ)) → IsUnderWay T.Text.remaining course.old at_hand.old (T.left texts.old) [] least most all → IsDone course.new until sent.out least most all)) }
+    ensures refused { IfErr result (λ stop. OnRefusal stop ((least most : ℕ) (all : List (List ℕ)) → IsUnderWay T.Text.remaining course.old at_hand.old (T.left texts.old) [] least most all → ¬ CanBeFollowed most until all)) }
     ensures stopped { IfErr result (λ stop. StopLeaves W.contents writer.old writer.new stop) }
 {
     let mut pauses = Pauses {
@@ -324,9 +325,8 @@ pub(crate) fn read_all<Rt: Wait, T: Texts, W: Write, C: Clock>(
     course: &mut Course,
     until: Until,
 ) -> Result<(), Stop>
-    ensures done { OnOk result ((least most : ℕ) → HasFollowed course.old least most [] [] [] → IfSome (T.left texts.old) (IsDone course.new until least most)) }
-    ensures refused { IfErr result (λ stop. OnRefusal stop ((least most : ℕ) → HasFollowed course.old least most [] [] [] → IfSome (T.left texts.old) (λ all. ¬ CanBeFollowed most until all))) }
-    ensures sent { OnOk result (HasSent W.contents writer.old writer.new) }
+    ensures done { OnOk result ((sent : HasSent W.contents writer.old writer.new) × ((least most : ℕ) → HasFollowed course.old [] least most [] [] [] → IfSome (T.left texts.old) (IsDone course.new until sent.out least most))) }
+    ensures refused { IfErr result (λ stop. OnRefusal stop ((least most : ℕ) → HasFollowed course.old [] least most [] [] [] → IfSome (T.left texts.old) (λ all. ¬ CanBeFollowed most until all))) }
     ensures stopped { IfErr result (λ stop. StopLeaves W.contents writer.old writer.new stop) }
 {
     let mut piece = Vec::new(alloc);

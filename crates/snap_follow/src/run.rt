@@ -1,11 +1,16 @@
 //! The run that follows a recording, from its texts to a writer.
-ghost use Rattle.std.specs.Prelude.{◌≡◌, ◌≢◌, ◌↔◌, ℕ, List, [], IsTrue, IsSome, Some, None, IfOk, IfSome};
+ghost use Rattle.std.specs.Prelude.{◌≡◌, ◌≢◌, ◌↔◌, ◌++◌, ℕ, List, [], IsTrue, IsSome, Some, None, IfOk, IfSome, OnOk};
+ghost use Rattle.std.specs.Io.KnownBytes.{Appends};
+ghost use Rattle.snap_core.specs.Counting.{inner_of};
 ghost use Rattle.snap_core.specs.declared.counted.Counted.{Counted};
 ghost use Rattle.snap_core.specs.declared.event.Event.{Event};
 ghost use Rattle.snap_follow.specs.Followed.{HasRead, IsStatusOf};
-ghost use Rattle.snap_follow.specs.Recordings.{AreFollowed};
+ghost use Rattle.snap_follow.specs.Recordings.{AreFollowed, AreWritten};
+ghost use Rattle.snap_follow.specs.Windows.{Told, sums_text};
 ghost use Rattle.snap_follow.specs.Written.{Leaves};
-ghost use Rattle.snap_follow.specs.inside.Stops.{StopLeaves};
+ghost use Rattle.snap_follow.specs.inside.Courses.{HasJudged};
+ghost use Rattle.snap_follow.specs.inside.Stops.{StopLeaves, TellsRest};
+ghost use Rattle.snap_follow.specs.inside.Sums.{AreSums};
 ghost use Rattle.snap_follow.specs.declared.pieces.Stop.TheVariants as stops;
 ghost use Rattle.snap_follow.specs.declared.run.FollowFault.TheVariants as faults;
 
@@ -85,7 +90,8 @@ impl From<AllocError> for FollowFault {
 
 // Writes the last lines, and the sums.
 fn write_end<W: Write>(writer: &mut Counted<W>, answers: &mut Answers) -> Result<(), FollowFault>
-    ensures { Leaves W.contents writer.old writer.new result }
+    ensures wrote { Leaves W.contents writer.old writer.new result }
+    ensures told { OnOk result ((told : List Told) → AreSums told answers.old.sums → Appends (W.contents (inner_of writer.old)) (W.contents (inner_of writer.new)) (answers.old.lines ++ sums_text told)) }
 {
     answers.add_sums()?;
     write_lines(writer, answers)
@@ -101,6 +107,8 @@ fn end_whole<W: Write>(
     ensures lost { IfOk result (λ followed. followed.lost ≡ None) }
     ensures rest { IfOk result (λ followed. IsTrue followed.has_rest ↔ (course.rest.items ≢ [])) }
     ensures code { IfOk result (λ followed. IfSome followed.code (λ code. (least most : ℕ) (texts : List (List (List ℕ))) (lines : List (List ℕ)) (events : List Event) → HasRead course.follow least most texts lines events → IsStatusOf events code)) }
+    ensures told { IfOk result (λ _. (gone : List ℕ) (least most : ℕ) (texts : List (List (List ℕ))) (lines : List (List ℕ)) (events : List Event) → HasJudged course.follow course.answers gone least most texts lines events
+        → TellsRest (W.contents (inner_of writer.old)) (W.contents (inner_of writer.new)) gone least events) }
     ensures wrote { Leaves W.contents writer.old writer.new result }
 {
     let has_rest = course.has_rest();
@@ -154,6 +162,7 @@ pub fn follow_run<Rt: Wait, T: Texts, W: Write, C: Clock>(
     asked: FollowOptions,
 ) -> Result<Followed, FollowFault>
     ensures whole { IfOk result (λ followed. IfSome (T.left texts.old) (λ all. AreFollowed asked all followed)) }
+    ensures told { IfOk result (λ followed. IfSome (T.left texts.old) (λ all. AreWritten asked all followed (W.contents (inner_of writer.old)) (W.contents (inner_of writer.new)))) }
     ensures lost { IfOk result (λ followed. IsSome followed.lost → followed.code ≡ Some 4) }
     ensures wrote { Leaves W.contents writer.old writer.new result }
 {

@@ -1,42 +1,54 @@
 -- What the course of a recording has taken.
 use Rattle.std.specs.Prelude.{◌≡◌, ◌≢◌, ◌<◌, ◌++◌, ◌⊎◌, ℕ, List, [], ◌∷◌, flat_map, length}
 use Rattle.snap_core.specs.declared.event.Event.{Event}
+use Rattle.snap_follow.specs.declared.answers.Answers.{Answers}
 use Rattle.snap_follow.specs.declared.course.Course.{Course}
 use Rattle.snap_follow.specs.declared.follow.Follow.{Follow}
 use Rattle.snap_format.specs.Rows.{rows_of}
 use Rattle.snap_follow.specs.Bytes.{AreAllLines, AreLinesOf, EndsLine, HasNoEnd}
 use Rattle.snap_follow.specs.Followed.{HasRead, IsInTime, StopsAt}
+use Rattle.snap_follow.specs.Windows.{EndsFirst}
+use Rattle.snap_follow.specs.inside.Sums.{HasTold}
 use Rattle.snap_follow.specs.declared.course.TheConstants.{RECORD_LIMIT}
 
--- some lines of a recording were read, and no window is overdue
-abbrev pub HasJudged : Follow → ℕ → ℕ → List (List (List ℕ)) → List (List ℕ) → List Event → Type 0
-HasJudged follow least most texts lines events = (read : HasRead follow least most texts lines events) × IsInTime least events read.since
+-- some lines of a recording were read, and its windows that have ended were answered: these bytes of their lines have gone out. No window
+-- is overdue, and the one at hand could not have ended before
+pub record HasJudged (follow : Follow) (answers : Answers) (gone : List ℕ) (least most : ℕ) (texts : List (List (List ℕ))) (lines : List (List ℕ)) (events : List Event) : Type 0 where
+  pub read : HasRead follow least most texts lines events
+  pub in_time : IsInTime least events read.since
+  pub first : EndsFirst least read.before read.since
+  pub told : HasTold answers gone least read.before
 
 -- a line was taken
-abbrev pub TakesLine : Follow → Follow → List ℕ → Type 0
-TakesLine old new line = (least most : ℕ) (texts : List (List (List ℕ))) (lines : List (List ℕ)) (events : List Event) → HasRead old least most texts lines events →
-    (more : List Event) × HasJudged new least most texts (lines ++ line ∷ []) (events ++ more)
+abbrev pub TakesLine : Course → Course → List ℕ → Type 0
+TakesLine old new line = (gone : List ℕ) (least most : ℕ) (texts : List (List (List ℕ))) (lines : List (List ℕ)) (events : List Event) → HasJudged old.follow old.answers gone least most texts lines events →
+    (more : List Event) × HasJudged new.follow new.answers gone least most texts (lines ++ line ∷ []) (events ++ more)
 
 -- a recording was followed so far: the lines of some whole texts, and of the bytes of the text at hand, say these events
-pub record HasFollowed (course : Course) (least most : ℕ) (texts : List (List (List ℕ))) (bytes : List ℕ) (events : List Event) : Type 0 where
+pub record HasFollowed (course : Course) (gone : List ℕ) (least most : ℕ) (texts : List (List (List ℕ))) (bytes : List ℕ) (events : List Event) : Type 0 where
   pub lines : List (List ℕ)
   pub cut : AreLinesOf bytes lines course.rest.items
-  pub read : HasJudged course.follow least most texts lines events
+  pub read : HasJudged course.follow course.answers gone least most texts lines events
+
+-- bytes were taken, and these bytes went out
+abbrev pub TakesBytesFor : List ℕ → Course → Course → List ℕ → Type 0
+TakesBytesFor out old new piece = (gone : List ℕ) (least most : ℕ) (texts : List (List (List ℕ))) (bytes : List ℕ) (events : List Event) → HasFollowed old gone least most texts bytes events →
+    (more : List Event) × HasFollowed new (gone ++ out) least most texts (bytes ++ piece) (events ++ more)
 
 -- bytes were taken
 abbrev pub TakesBytes : Course → Course → List ℕ → Type 0
-TakesBytes old new piece = (least most : ℕ) (texts : List (List (List ℕ))) (bytes : List ℕ) (events : List Event) → HasFollowed old least most texts bytes events →
-    (more : List Event) × HasFollowed new least most texts (bytes ++ piece) (events ++ more)
+TakesBytes old new piece = (gone : List ℕ) (least most : ℕ) (texts : List (List (List ℕ))) (bytes : List ℕ) (events : List Event) → HasFollowed old gone least most texts bytes events →
+    (more : List Event) × HasFollowed new gone least most texts (bytes ++ piece) (events ++ more)
 
 -- the bytes of the text at hand have ended: all their lines were taken
 abbrev pub TakesLast : Course → Course → Type 0
-TakesLast old new = (least most : ℕ) (texts : List (List (List ℕ))) (bytes : List ℕ) (events : List Event) → HasFollowed old least most texts bytes events →
-    (lines : List (List ℕ)) × (more : List Event) × AreAllLines bytes lines × HasJudged new.follow least most texts lines (events ++ more)
+TakesLast old new = (gone : List ℕ) (least most : ℕ) (texts : List (List (List ℕ))) (bytes : List ℕ) (events : List Event) → HasFollowed old gone least most texts bytes events →
+    (lines : List (List ℕ)) × (more : List Event) × AreAllLines bytes lines × HasJudged new.follow new.answers gone least most texts lines (events ++ more)
 
 -- the bytes of the text at hand have ended, and the next text begins
 abbrev pub EndsBytes : Course → Course → Type 0
-EndsBytes old new = (least most : ℕ) (texts : List (List (List ℕ))) (bytes : List ℕ) (events : List Event) → HasFollowed old least most texts bytes events →
-    (lines : List (List ℕ)) × (more : List Event) × AreAllLines bytes lines × HasFollowed new least most (texts ++ lines ∷ []) [] (events ++ more)
+EndsBytes old new = (gone : List ℕ) (least most : ℕ) (texts : List (List (List ℕ))) (bytes : List ℕ) (events : List Event) → HasFollowed old gone least most texts bytes events →
+    (lines : List (List ℕ)) × (more : List Event) × AreAllLines bytes lines × HasFollowed new gone least most (texts ++ lines ∷ []) [] (events ++ more)
 
 -- a record was read, of this text or of one before it
 abbrev pub IsBegun : Follow → Type 0
@@ -71,7 +83,7 @@ pub record StopsIn (old : Course) (piece : List ℕ) : Type 0 where
 
 -- the text at hand ends without any record
 abbrev pub HasNothing : Course → Type 0
-HasNothing old = (least most : ℕ) (texts : List (List (List ℕ))) (bytes : List ℕ) (events : List Event) → HasFollowed old least most texts bytes events →
+HasNothing old = (gone : List ℕ) (least most : ℕ) (texts : List (List (List ℕ))) (bytes : List ℕ) (events : List Event) → HasFollowed old gone least most texts bytes events →
     (lines : List (List ℕ)) × AreAllLines bytes lines × (flat_map rows_of lines ≡ [])
 
 -- the end of the text at hand stops a recording: its last line does, which need not end, or the text has no record

@@ -11,9 +11,11 @@ use Rattle.snap_follow.specs.declared.pieces.Stop.TheVariants.{Refused, Lost, Fa
 use Rattle.snap_follow.specs.declared.run.Until.{Until}
 use Rattle.snap_follow.specs.declared.run.Until.TheVariants.{Ever, Idle, End}
 use Rattle.snap_follow.specs.Bytes.{AreAllLines}
-use Rattle.snap_follow.specs.Followed.{HasRead, StopsAt}
+use Rattle.snap_follow.specs.Followed.{StopsAt}
+use Rattle.snap_core.specs.declared.counted.Counted.{Counted}
+use Rattle.snap_follow.specs.Written.{HasSent}
 use Rattle.snap_follow.specs.Recordings.{AreCut, AreLastLines}
-use Rattle.snap_follow.specs.inside.Courses.{EndsBytes, HasFollowed}
+use Rattle.snap_follow.specs.inside.Courses.{EndsBytes, HasFollowed, HasJudged}
 
 -- if a recording is refused, this holds
 abbrev pub OnRefusal : Stop → Type 0 → Type 0
@@ -37,45 +39,55 @@ EndsAtHand None old new = new ≡ old
 EndsAtHand (Some text) old new = EndsBytes old new
 
 -- of these texts some were taken whole, and of the next one all but a rest
-pub record HasBegun (course : Course) (rest : List ℕ) (later : List (List ℕ)) (least most : ℕ) (all : List (List ℕ)) : Type 0 where
+pub record HasBegun (course : Course) (rest : List ℕ) (later : List (List ℕ)) (gone : List ℕ) (least most : ℕ) (all : List (List ℕ)) : Type 0 where
   pub done : List (List ℕ)
   pub bytes : List ℕ
   pub texts_are : all ≡ done ++ (bytes ++ rest) ∷ later
   pub lines : List (List (List ℕ))
   pub whole : AllZip AreAllLines done lines
   pub events : List Event
-  pub followed : HasFollowed course least most lines bytes events
+  pub followed : HasFollowed course gone least most lines bytes events
 
 -- what was taken, by the text at hand: nothing if there is none
-abbrev pub HasCome : {R : Type 0} → (R → Option (List ℕ)) → Course → Option R → List (List ℕ) → ℕ → ℕ → List (List ℕ) → Type 0
-HasCome remaining course None later least most all = (later ≡ all) × HasFollowed course least most [] [] []
-HasCome remaining course (Some text) later least most all = (rest : List ℕ) × (remaining text ≡ Some rest) × HasBegun course rest later least most all
+abbrev pub HasCome : {R : Type 0} → (R → Option (List ℕ)) → Course → Option R → List (List ℕ) → List ℕ → ℕ → ℕ → List (List ℕ) → Type 0
+HasCome remaining course None later gone least most all = (later ≡ all) × HasFollowed course gone least most [] [] []
+HasCome remaining course (Some text) later gone least most all = (rest : List ℕ) × (remaining text ≡ Some rest) × HasBegun course rest later gone least most all
 
 -- what was taken, by the text at hand and by the texts that are left
-pub record IsUnderWay {R : Type 0} (remaining : R → Option (List ℕ)) (course : Course) (hand : AtHand R) (left : Option (List (List ℕ))) (least most : ℕ) (all : List (List ℕ)) : Type 0 where
+pub record IsUnderWay {R : Type 0} (remaining : R → Option (List ℕ)) (course : Course) (hand : AtHand R) (left : Option (List (List ℕ))) (gone : List ℕ) (least most : ℕ) (all : List (List ℕ)) : Type 0 where
   pub later : List (List ℕ)
   pub left_is : left ≡ Some later
   pub next : hand.has_next ≡ true → later ≢ []
-  pub come : HasCome remaining course hand.text later least most all
+  pub come : HasCome remaining course hand.text later gone least most all
 
 -- a step keeps `IsUnderWay`
 abbrev pub GoesOnFrom : {R : Type 0} → (R → Option (List ℕ)) → Course → AtHand R → Option (List (List ℕ)) → Course → AtHand R → Option (List (List ℕ)) → Type 0
 GoesOnFrom remaining course hand left new_course new_hand new_left =
-    (least most : ℕ) (all : List (List ℕ)) → IsUnderWay remaining course hand left least most all → IsUnderWay remaining new_course new_hand new_left least most all
+    (gone : List ℕ) (least most : ℕ) (all : List (List ℕ)) → IsUnderWay remaining course hand left gone least most all → IsUnderWay remaining new_course new_hand new_left gone least most all
+
+-- so do steps in which these bytes went out
+abbrev pub GoesOnFor : {R : Type 0} → List ℕ → (R → Option (List ℕ)) → Course → AtHand R → Option (List (List ℕ)) → Course → AtHand R → Option (List (List ℕ)) → Type 0
+GoesOnFor out remaining course hand left new_course new_hand new_left =
+    (gone : List ℕ) (least most : ℕ) (all : List (List ℕ)) → IsUnderWay remaining course hand left gone least most all → IsUnderWay remaining new_course new_hand new_left (gone ++ out) least most all
+
+-- what went out since the run began, and what was taken since then
+abbrev pub IsTellingFrom : {R W : Type 0} → (W → Option (List ℕ)) → (R → Option (List ℕ)) → Counted W → Counted W → Course → AtHand R → Option (List (List ℕ)) → Course → AtHand R → Option (List (List ℕ)) → Type 0
+IsTellingFrom contents remaining first now course hand left new_course new_hand new_left =
+    (sent : HasSent contents first now) × ((least most : ℕ) (all : List (List ℕ)) → IsUnderWay remaining course hand left [] least most all → IsUnderWay remaining new_course new_hand new_left sent.out least most all)
 
 -- the last text has ended
 abbrev pub EndsLast : Until → Course → Course → Type 0
-EndsLast until old new = (least most : ℕ) (texts : List (List (List ℕ))) (bytes : List ℕ) (events : List Event) → HasFollowed old least most texts bytes events →
-    (lines : List (List ℕ)) × (more : List Event) × AreLastLines until bytes lines new.rest.items × HasRead new.follow least most texts lines (events ++ more)
+EndsLast until old new = (gone : List ℕ) (least most : ℕ) (texts : List (List (List ℕ))) (bytes : List ℕ) (events : List Event) → HasFollowed old gone least most texts bytes events →
+    (lines : List (List ℕ)) × (more : List Event) × AreLastLines until bytes lines new.rest.items × HasJudged new.follow new.answers gone least most texts lines (events ++ more)
 
 -- the last text has ended, and there was a record
 abbrev pub EndsAll : Until → Course → Course → Type 0
-EndsAll until old new = (least most : ℕ) (texts : List (List (List ℕ))) (bytes : List ℕ) (events : List Event) → HasFollowed old least most texts bytes events →
-    (lines : List (List ℕ)) × (more : List Event) × AreLastLines until bytes lines new.rest.items × HasRead new.follow least most texts lines (events ++ more) × ((texts ≢ []) ⊎ (flat_map rows_of lines ≢ []))
+EndsAll until old new = (gone : List ℕ) (least most : ℕ) (texts : List (List (List ℕ))) (bytes : List ℕ) (events : List Event) → HasFollowed old gone least most texts bytes events →
+    (lines : List (List ℕ)) × (more : List Event) × AreLastLines until bytes lines new.rest.items × HasJudged new.follow new.answers gone least most texts lines (events ++ more) × ((texts ≢ []) ⊎ (flat_map rows_of lines ≢ []))
 
 -- the recording has no record
 abbrev pub HasNoneAtAll : Until → Course → Type 0
-HasNoneAtAll until old = (least most : ℕ) (texts : List (List (List ℕ))) (bytes : List ℕ) (events : List Event) → HasFollowed old least most texts bytes events →
+HasNoneAtAll until old = (gone : List ℕ) (least most : ℕ) (texts : List (List (List ℕ))) (bytes : List ℕ) (events : List Event) → HasFollowed old gone least most texts bytes events →
     (lines : List (List ℕ)) × (rest : List ℕ) × AreLastLines until bytes lines rest × (flat_map rows_of lines ≡ []) × (texts ≡ [])
 
 -- the last line of a recording that ends stops it
@@ -89,10 +101,10 @@ abbrev pub StopsEnd : Until → Course → Type 0
 StopsEnd until old = StopsInRest until old ⊎ HasNoneAtAll until old
 
 -- all of these texts were taken
-pub record IsDone (course : Course) (until : Until) (least most : ℕ) (all : List (List ℕ)) : Type 0 where
+pub record IsDone (course : Course) (until : Until) (gone : List ℕ) (least most : ℕ) (all : List (List ℕ)) : Type 0 where
   pub earlier : List (List (List ℕ))
   pub last : List (List ℕ)
   pub cut : AreCut until all earlier last course.rest.items
   pub events : List Event
-  pub read : HasRead course.follow least most earlier last events
+  pub judged : HasJudged course.follow course.answers gone least most earlier last events
   pub begun : (earlier ≢ []) ⊎ (flat_map rows_of last ≢ [])

@@ -1,9 +1,12 @@
 -- What the writer of a recording has once it is read no further.
-use Rattle.std.specs.Prelude.{ℕ, List, ◌≢◌, Option}
+use Rattle.std.specs.Prelude.{ℕ, List, ◌≡◌, ◌≢◌, ◌++◌, Option, flat_map}
+use Rattle.std.specs.Io.KnownBytes.{Appends}
+use Rattle.snap_core.specs.declared.event.Event.{Event}
 use Rattle.snap_core.specs.declared.counted.Counted.{Counted}
 use Rattle.snap_follow.specs.declared.pieces.Stop.{Stop}
 use Rattle.snap_follow.specs.declared.pieces.Stop.TheVariants.{Refused, Lost, Fault}
 use Rattle.snap_follow.specs.declared.run.FollowFault.TheVariants as faults
+use Rattle.snap_follow.specs.Windows.{AreWindowsOf, Told, line_of, sums_text}
 use Rattle.snap_follow.specs.Written.{FaultLeaves, HasSent}
 
 -- what the writer has, by what has stopped the reading
@@ -15,3 +18,11 @@ StopLeaves contents old new (Fault fault) = FaultLeaves contents old new fault
 -- no write has stopped the reading
 abbrev pub IsNoWrite : Stop → Type 0
 IsNoWrite stop = stop ≢ Fault faults.Write
+
+-- the rest of what is told of a recording was written, after these bytes had gone out
+pub record TellsRest (old new : Option (List ℕ)) (gone : List ℕ) (least : ℕ) (events : List Event) : Type 0 where
+  pub told : List Told
+  pub windows : AreWindowsOf least events told
+  pub out : List ℕ
+  pub sent : Appends old new out
+  pub all : gone ++ out ≡ flat_map line_of told ++ sums_text told

@@ -4,7 +4,7 @@ use Rattle.snap_follow.proofs.pieces.end_course.Goals as goal
 
 pub returns-in_ok-check_begun-clause-ended : goal.returns-in_ok-check_begun-clause-ended
 returns-in_ok-check_begun-clause-ended c =
-    λ goes_on. all_ended c.args.until c.args.course.now c.end_last.new.course c.check_begun.new.self (c.in_ok-end_last.ensures.ended c.if-branch.true) c.in_ok-check_begun.ensures.same.0 c.in_ok-check_begun.ensures.same.1 (c.in_ok-check_begun.ensures.begun goes_on)
+    λ goes_on. all_ended c.args.until c.args.course.now c.end_last.new.course c.check_begun.new.self (c.in_ok-end_last.ensures.ended c.if-branch.true) c.in_ok-check_begun.ensures.same.0 c.in_ok-check_begun.ensures.same.1 (c.in_ok-check_begun.ensures.kept goes_on) (c.in_ok-check_begun.ensures.begun goes_on)
 
 pub returns-in_ok-check_begun-clause-refused : goal.returns-in_ok-check_begun-clause-refused
 returns-in_ok-check_begun-clause-refused c = λ none. inr (none_at_all c.args.until c.args.course.now c.end_last.new.course (c.in_ok-end_last.ensures.ended c.if-branch.true) (c.in_ok-check_begun.ensures.refused none))

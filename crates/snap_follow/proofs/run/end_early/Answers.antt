@@ -24,7 +24,7 @@ returns-in_err-write_end-clause-wrote g c =
       | in-Lost+in_ok-add_failure-in-Lost w ↦ subst (StopLeaves contents first writer) w.in-Lost.is leaves
     ] in
     fault_leaves contents first c.write_end.new.writer c.from_residual-in_err-write_end.result fault c.from_residual-in_err-write_end.ensures.1
-    (fault_after contents first writer c.write_end.new.writer fault sent c.in_err-write_end.ensures)
+    (fault_after contents first writer c.write_end.new.writer fault sent c.in_err-write_end.ensures.wrote)
 
 pub returns-clause-wrote : goal.returns-clause-wrote
 returns-clause-wrote g c =
@@ -36,4 +36,4 @@ returns-clause-wrote g c =
       | in-Refused w ↦ subst (StopLeaves contents first writer) w.in-Refused.is leaves
       | in-Lost+in_ok-add_failure-in-Lost w ↦ subst (StopLeaves contents first writer) w.in-Lost.is leaves
     ] in
-    sent_both contents first writer c.write_end.new.writer sent c.in_ok-write_end.ensures
+    sent_both contents first writer c.write_end.new.writer sent c.in_ok-write_end.ensures.wrote

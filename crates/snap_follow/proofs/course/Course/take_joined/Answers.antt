@@ -7,10 +7,10 @@ use Rattle.snap_follow.proofs.course.Course.take_joined.Goals as goal
 
 pub returns-then-is_empty-clause-read : goal.returns-then-is_empty-clause-read
 returns-then-is_empty-clause-read c =
-    subst (λ z. IfOk c.take_line.result (λ goes_on. goes_on ≡ true → TakesLine c.args.self.now.follow c.take_line.new.self.follow (z ++ c.args.bytes.now))) (sym (no_bytes c.args.self.now.rest c.if-is_empty.ensures)) c.take_line.ensures.read
+    subst (λ z. IfOk c.take_line.result (λ goes_on. goes_on ≡ true → TakesLine c.args.self.now c.take_line.new.self (z ++ c.args.bytes.now))) (sym (no_bytes c.args.self.now.rest c.if-is_empty.ensures)) c.take_line.ensures.read
 
 pub returns-in_ok-take_rest-clause-read : goal.returns-in_ok-take_rest-clause-read
-returns-in_ok-take_rest-clause-read c = λ goes_on. rw (← c.in_ok-extend_from_slice.ensures.items, ← c.in_ok-check_length.ensures.same.0, ← c.in_ok-check_length.ensures.same.1) (c.in_ok-take_rest.ensures.read goes_on)
+returns-in_ok-take_rest-clause-read c = λ goes_on. rw (← c.in_ok-extend_from_slice.ensures.items, ← c.in_ok-check_length.ensures.same.0, ← c.in_ok-check_length.ensures.same.1, ← c.in_ok-check_length.ensures.kept c.if-branch.true) (c.in_ok-take_rest.ensures.read goes_on)
 
 pub returns-then-is_empty-clause-refused : goal.returns-then-is_empty-clause-refused
 returns-then-is_empty-clause-refused c =

@@ -1,7 +1,7 @@
 use Rattle.std.proofs.Common.{◌+◌, [], refl, subst}
 use Rattle.std.proofs.lemmas.List.{take_rest}
 use Rattle.snap_follow.specs.inside.Courses.{IsTooLong}
-use Rattle.snap_follow.proofs.Taking.{all_taken, if_ok, if_ok_then, line_more, line_stops, rest_stops, takes_nothing}
+use Rattle.snap_follow.proofs.Taking.{all_taken, if_ok_then, line_more, line_stops, rest_stops, takes_nothing}
 use Rattle.snap_follow.proofs.course.Course.take_piece.Goals as goal
 
 pub loop-at-init : goal.loop-at-init
@@ -15,8 +15,8 @@ loop-at-preserved c =
 
 pub returns-clause-taken : goal.returns-clause-taken
 returns-clause-taken c =
-    if_ok c.check_length.result _ (λ goes_on is. all_taken c.args.self.now c.loop-at.self c.check_length.new.self c.args.piece.now c.loop-at.invariant.0 c.loop-at.left.now
-    c.loop-at.invariant.1 c.loop-at.invariant.2 c.in_default.ensures (rw c.check_length.ensures.same.0 c.in_ok-extend_from_slice.ensures.items) c.check_length.ensures.same.1)
+    if_ok_then c.check_length.result _ _ c.check_length.ensures.kept (λ goes_on kept is. all_taken c.args.self.now c.loop-at.self c.check_length.new.self c.args.piece.now c.loop-at.invariant.0 c.loop-at.left.now
+    c.loop-at.invariant.1 c.loop-at.invariant.2 c.in_default.ensures (rw c.check_length.ensures.same.0 c.in_ok-extend_from_slice.ensures.items) c.check_length.ensures.same.1 (kept is))
 
 pub returns-then-not-branch-clause-refused : goal.returns-then-not-branch-clause-refused
 returns-then-not-branch-clause-refused c =

@@ -10,6 +10,7 @@ returns c = record {
   since = [];
   taken = c.new.ensures.taken;
   windows = refl;
+  span_is = c.behind.ensures;
   earlier = [];
   here = [];
   parts = refl;

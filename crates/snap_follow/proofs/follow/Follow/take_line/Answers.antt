@@ -2,19 +2,20 @@ use Rattle.std.proofs.Common.{◌∙◌, ◌++◌, ◌∷◌, [], List, ap, refl
 use Rattle.snap_core.specs.declared.event.Event.{Event}
 use Rattle.snap_windows.specs.Taken.{HasTaken}
 use Rattle.snap_follow.specs.Followed.{IsNext}
+use Rattle.snap_follow.specs.Spans.{HasOneMore}
 use Rattle.snap_follow.specs.inside.Counts.{CountsOpen}
-use Rattle.snap_follow.proofs.Reading.{event_read, nothing_more, on_both}
+use Rattle.snap_follow.proofs.Reading.{event_read, nothing_more, on_all}
 use Rattle.snap_follow.proofs.Refusing.{event_refused, on_err}
 use Rattle.snap_follow.proofs.Unquoting.{no_rows}
 use Rattle.snap_follow.proofs.follow.Follow.take_line.Goals as goal
 
 pub returns-then-is_empty-clause-read : goal.returns-then-is_empty-clause-read
-returns-then-is_empty-clause-read c = nothing_more c.args.self.now c.args.self.now c.args.line.now refl refl refl refl refl (no_rows c.args.line.now (sym c.if-is_empty.ensures))
+returns-then-is_empty-clause-read c = nothing_more c.args.self.now c.args.self.now c.args.line.now refl refl refl refl refl refl (no_rows c.args.line.now (sym c.if-is_empty.ensures))
 
 pub returns-in-Ok-None-clause-read : goal.returns-in-Ok-None-clause-read
 returns-in-Ok-None-clause-read c =
     let same = c.read_event.ensures.same in
-    nothing_more c.args.self.now _ c.args.line.now same.0 same.2 same.3 same.1 same.4 (rw c.in-Ok-None.field-0-is at c.in-Ok-None.ensures.event)
+    nothing_more c.args.self.now _ c.args.line.now same.0 same.5 same.2 same.3 same.1 same.4 (rw c.in-Ok-None.field-0-is at c.in-Ok-None.ensures.event)
 
 pub returns-clause-read : goal.returns-clause-read
 returns-clause-read c =
@@ -24,9 +25,9 @@ returns-clause-read c =
     let x = c.in-Ok-Some.event in
     let place = c.take_event.ensures.place in
     let next = subst (λ p. IsNext p c.take_event.new.self.place) same.4 (subst (IsNext c.read_event.new.self.place) (sym place) c.next_place-self.ensures) in
-    on_both c.take_event.result _ _ _ c.take_event.ensures.taken c.take_event.ensures.counted
-    (λ taken counts. event_read c.args.self.now c.take_event.new.self c.args.line.now found.0 x c.if-not-self.false (c.take_event.ensures.headed ∙ same.1) found.1 found.2
-    (rule.0 ∙ same.2, rule.1 ∙ ap (λ z. z.most) same.0) next (subst (λ z. CountsOpen z x c.take_event.new.self.open_calls) same.3 counts)
+    on_all c.take_event.result _ _ _ _ c.take_event.ensures.taken c.take_event.ensures.counted c.take_event.ensures.span
+    (λ taken counts one. event_read c.args.self.now c.take_event.new.self c.args.line.now found.0 x c.if-not-self.false (c.take_event.ensures.headed ∙ same.1) found.1 found.2
+    (rule.0 ∙ same.2, rule.1 ∙ ap (λ z. z.most) same.0) next (subst (λ z. CountsOpen z x c.take_event.new.self.open_calls) same.3 counts) (subst (λ z. HasOneMore z x c.take_event.new.self.span) same.5 one)
     (subst (λ z. (before since : List Event) → HasTaken z before since → HasTaken c.take_event.new.self.judge before (since ++ x ∷ [])) same.0 taken))
 
 pub returns-clause-refused : goal.returns-clause-refused
