@@ -233,13 +233,18 @@ wrong_on_path() {
   misused "slow: no judge: " slow
 }
 
-# helps: the list of options goes to standard output, with everything that the guide has and the objects
+# helps: the list of options goes to standard output, each with the words of the guide, and after it the objects
 helps() {
   local word
   for word in --help -h; do
     ended 0 "${own[@]}" "$word" && [[ $(tail -n 1 said) =~ ^"objects: "(naive double|double naive)$ ]] &&
-      diff <(sed -n 's/^  \(--[a-z]*\).*/\1/p' said | sort) <(sed -n 's/^| `\(--[a-z]*\)[ `].*/\1/p' "$guide" | sort) || return 1
+      diff <(sed -n '/^  --/ { s/^  \(--.\{15\}\)/\1: /; s/ *: /: /p; }' said) <(options_of_guide) || return 1
   done
+}
+
+# The rows of the guide's table of options, without marks, links and commas in numbers.
+options_of_guide() {
+  sed -n 's/^| `\(--[^`]*\)` | \(.*\) |$/\1: \2/p' "$guide" | sed -e 's/`//g' -e 's/\[\([^]]*\)\]([^)]*)/\1/g' -e 's/\([0-9]\),\([0-9]\)/\1\2/g'
 }
 
 # lists_objects: a name that is no object's is answered with those of all

@@ -50,25 +50,25 @@ typedef struct {
     ((snapdrive_options){.threads = 4, .components = 4, .calls = 200, .runs = 20, .seed = 1, .limit = 60, .views = 1,      \
                          .events = 65536, .depth = 3, .order = "choice", .schedule = "free", .out = "."})
 
-#define SNAPDRIVE_USAGE                                                                                \
-    "usage: [OBJECT] [OPTION VALUE ..]\n"                                                              \
-    "  --threads 4      how many threads, at most 64\n"                                                \
-    "  --components 4   how many components, at most 64; thread t updates t, t + threads and so on\n"  \
-    "  --calls 200      how many calls each thread makes; all threads make at most half of --events\n" \
-    "  --events 65536   how many events a run may have, at most 1048576; a call has two\n"             \
-    "  --runs 20        how many runs, each of a fresh object\n"                                       \
-    "  --seed 1         what the choice of the calls begins with\n"                                    \
-    "  --order choice   each call is chosen by the seed; or turn: updates and a view in turn\n"        \
-    "  --schedule free  threads run freely; or pct: in turns that the seed chooses, the same in each try\n" \
-    "  --depth 3        by pct the turns change at so many moments less one, at most 64\n"               \
-    "  --nap 0          where not 0, pauses and the gaps between calls last up to so many microseconds\n" \
-    "  --stop 0         where not 0, ends after so many runs that were not atomic\n"                   \
-    "  --limit 60       how many seconds a run may take\n"                                             \
-    "  --views 1        how many views have to end in all runs together; 0 asks for none\n"            \
-    "  --out .          the folder for the first run that was not atomic\n"                            \
-    "  --program FILE   the program snapjudge; else SNAPJUDGE_PROGRAM names it, else it is on the PATH\n" \
-    "  --choices        writes the calls that the seed chooses, and runs nothing\n"                    \
-    "  --help           writes this"
+#define SNAPDRIVE_USAGE                                                                                         \
+    "usage: [OBJECT] [OPTION VALUE ..]\n"                                                                       \
+    "  --threads 4      how many threads, at most 64\n"                                                         \
+    "  --components 4   how many components, at most 64; thread t updates t, t + threads and so on\n"           \
+    "  --calls 200      how many calls each thread makes; all threads together make at most half of --events\n" \
+    "  --events 65536   how many events a run may have, at most 1048576; a call has two\n"                      \
+    "  --runs 20        how many runs, each of a fresh object\n"                                                \
+    "  --seed 1         the seed of the random choice of calls\n"                                               \
+    "  --order choice   the seed chooses each call; or turn: updates and a view in turn\n"                      \
+    "  --schedule free  threads run freely; or pct: in turns that the seed chooses, the same in each try\n"     \
+    "  --depth 3        by pct the turns change at this many moments, less one; at most 64\n"                   \
+    "  --nap 0          if not 0, pauses and the gaps between calls last up to that many microseconds\n"        \
+    "  --stop 0         if not 0, ends after that many runs that were not atomic\n"                             \
+    "  --limit 60       how many seconds a run may take\n"                                                      \
+    "  --views 1        how many views must end in all runs together; 0 asks for none\n"                        \
+    "  --out .          the folder for the first run that was not atomic\n"                                     \
+    "  --program FILE   the program snapjudge; else SNAPJUDGE_PROGRAM names it, else it is on the PATH\n"       \
+    "  --choices        writes the calls that the seed chooses, and runs nothing\n"                             \
+    "  --help           writes the options and the objects, with status 0"
 
 /* How many runs were atomic, only regular, or not regular; and which was the first that was not atomic, from 1, or 0. How many views
  * ended in all runs, how many of these overlapped an update, and how many runs have such a view. If there is no verdict, `fault` is

@@ -43,21 +43,21 @@ constexpr const char *usage =
     "usage: [OBJECT] [OPTION VALUE ..]\n"
     "  --threads 4      how many threads, at most 64\n"
     "  --components 4   how many components, at most 64; thread t updates t, t + threads and so on\n"
-    "  --calls 200      how many calls each thread makes; all threads make at most half of --events\n"
+    "  --calls 200      how many calls each thread makes; all threads together make at most half of --events\n"
     "  --events 65536   how many events a run may have, at most 1048576; a call has two\n"
     "  --runs 20        how many runs, each of a fresh object\n"
-    "  --seed 1         what the choice of the calls begins with\n"
-    "  --order choice   each call is chosen by the seed; or turn: updates and a view in turn\n"
+    "  --seed 1         the seed of the random choice of calls\n"
+    "  --order choice   the seed chooses each call; or turn: updates and a view in turn\n"
     "  --schedule free  threads run freely; or pct: in turns that the seed chooses, the same in each try\n"
-    "  --depth 3        by pct the turns change at so many moments less one, at most 64\n"
-    "  --nap 0          where not 0, pauses and the gaps between calls last up to so many microseconds\n"
-    "  --stop 0         where not 0, ends after so many runs that were not atomic\n"
+    "  --depth 3        by pct the turns change at this many moments, less one; at most 64\n"
+    "  --nap 0          if not 0, pauses and the gaps between calls last up to that many microseconds\n"
+    "  --stop 0         if not 0, ends after that many runs that were not atomic\n"
     "  --limit 60       how many seconds a run may take\n"
-    "  --views 1        how many views have to end in all runs together; 0 asks for none\n"
+    "  --views 1        how many views must end in all runs together; 0 asks for none\n"
     "  --out .          the folder for the first run that was not atomic\n"
     "  --program FILE   the program snapjudge; else SNAPJUDGE_PROGRAM names it, else it is on the PATH\n"
     "  --choices        writes the calls that the seed chooses, and runs nothing\n"
-    "  --help           writes this";
+    "  --help           writes the options and the objects, with status 0";
 
 // Why runs have no verdict. The name is usage, limits, view, died, few views or no overlap; or one of a judge: no judge, no verdict
 // or files.

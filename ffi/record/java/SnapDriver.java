@@ -57,21 +57,21 @@ public final class SnapDriver {
         "usage: [OBJECT] [OPTION VALUE ..]",
         "  --threads 4      how many threads, at most 64",
         "  --components 4   how many components, at most 64; thread t updates t, t + threads and so on",
-        "  --calls 200      how many calls each thread makes; all threads make at most half of --events",
+        "  --calls 200      how many calls each thread makes; all threads together make at most half of --events",
         "  --events 65536   how many events a run may have, at most 1048576; a call has two",
         "  --runs 20        how many runs, each of a fresh object",
-        "  --seed 1         what the choice of the calls begins with",
-        "  --order choice   each call is chosen by the seed; or turn: updates and a view in turn",
+        "  --seed 1         the seed of the random choice of calls",
+        "  --order choice   the seed chooses each call; or turn: updates and a view in turn",
         "  --schedule free  threads run freely; or pct: in turns that the seed chooses, the same in each try",
-        "  --depth 3        by pct the turns change at so many moments less one, at most 64",
-        "  --nap 0          where not 0, pauses and the gaps between calls last up to so many microseconds",
-        "  --stop 0         where not 0, ends after so many runs that were not atomic",
+        "  --depth 3        by pct the turns change at this many moments, less one; at most 64",
+        "  --nap 0          if not 0, pauses and the gaps between calls last up to that many microseconds",
+        "  --stop 0         if not 0, ends after that many runs that were not atomic",
         "  --limit 60       how many seconds a run may take",
-        "  --views 1        how many views have to end in all runs together; 0 asks for none",
+        "  --views 1        how many views must end in all runs together; 0 asks for none",
         "  --out .          the folder for the first run that was not atomic",
         "  --program FILE   the program snapjudge; else SNAPJUDGE_PROGRAM names it, else it is on the PATH",
         "  --choices        writes the calls that the seed chooses, and runs nothing",
-        "  --help           writes this");
+        "  --help           writes the options and the objects, with status 0");
 
     /** An object under test. */
     public interface Board {
