@@ -9,12 +9,14 @@ docs/JEPSEN.md of snapjudge says which operations are taken.
     --into DIR      writes each history into DIR: one for each set of keys that are read together, NAME.csv or NAME-1.csv, NAME-2.csv
                     .. if a HISTORY has several such sets, with a file NAME.words beside it: lines KIND,NUMBER,WORD
     --initial WORD  what a read shows of a key that nobody has written; nil always counts as that too
-    --versions      operations have `version`, by which the store orders the writes of a key: a number, or a map from keys to numbers
+    --versions      operations have `version`, by which the store orders the writes of a key: a number, or a map from keys to numbers;
+                    a HISTORY in which no operation has one is taken without
     --events N      how many events a history may have, 65536 by default; `snapjudge check` then needs the same
 
-Without --into the one history goes to standard output. The status is 0 if all was written, and 1 if versions contradict time, so
-that the run is not atomic. It is 3 if a HISTORY is not taken: standard error then has the file, the line and a sentence. It is 4
-if reading or writing failed, and 5 if the words of the command line were not taken.
+Without --into the one history goes to standard output. Each HISTORY is taken by itself, and the status is the greatest of all. It
+is 0 if all was written, and 1 if versions contradict time, so that the run is not atomic. It is 3 if a HISTORY is not taken:
+standard error then has the file, the line and a sentence, and nothing of it is written. It is 4 if reading or writing failed, and
+5 if the words of the command line were not taken.
 
 SPDX-License-Identifier: 0BSD
 Copyright (C) 2026 by the authors of snapjudge
@@ -121,14 +123,16 @@ def frozen(form):
 
 def operations(name, text):
     """The operations of a text in EDN or in lines of JSON, each with its line."""
-    if text.lstrip().startswith('{"'):
+    if re.match(r'\s*\[\s*\{\s*"', text):
+        raise NotTaken(name, 1, "JSON has one operation a line here, and no list: `jq -c '.[]' FILE` writes such lines")
+    if re.match(r'\s*\{\s*"', text):
         try:
             for line, written in enumerate(text.split("\n"), 1):
                 if written.strip():
                     yield line, json.loads(written)
             return
         except ValueError:
-            raise NotTaken(name, line, "this line is not JSON") from None
+            raise NotTaken(name, line, "this line is not JSON: put each operation on one line, as `jq -c . FILE` does") from None
     yield from Edn(name, text).forms()
 
 
@@ -256,12 +260,13 @@ def is_pair(value):
 
 
 def convert(name, text, has_versions=False):
-    """The calls of a history, and its keys in the order of their components."""
+    """The calls of a history, its keys in the order of their components, and whether some operation of it has a version to be used."""
     taken = []
     for line, operation in operations(name, text):
         if not isinstance(operation, dict):
             raise NotTaken(name, line, "an operation is a map")
         taken.append((line, operation))
+    has_versions = has_versions and any(it.get("version") is not None for _, it in taken)
     plain = [it["value"] for _, it in taken if isinstance(it.get("process"), int) and it.get("f") in ("read", "write") and it.get("value") is not None]
     has_keys = bool(plain) and all(map(is_pair, plain))
     converter = Converter(name, has_versions)
@@ -269,12 +274,12 @@ def convert(name, text, has_versions=False):
         if has_keys and operation.get("f") in ("read", "write") and not is_pair(operation.get("value")):
             raise NotTaken(name, line, "the other reads and writes have a key and a value, and this one has none")
         converter.take(line, operation, has_keys)
-    return converter.calls, list(converter.keys)
+    return converter.calls, list(converter.keys), has_versions
 
 
 def histories(name, text, initial=None, has_versions=False, limit=EVENT_LIMIT):
     """Of each set of keys that are read together its keys, its history, its words, and what standard error is to say of it."""
-    calls, keys = convert(name, text, has_versions)
+    calls, keys, has_versions = convert(name, text, has_versions)
     parts = sorted({tuple(sorted(call.shown)) for call in calls if call.op == "view" and call.ended is not None})
     for part in parts:
         if len(part) > COMPONENT_LIMIT:
@@ -297,13 +302,22 @@ def words_of_command():
         number = number_below(MOST_EVENTS + 1, word)
         return number or parser.error(f"{word} is not a number from 1 to {MOST_EVENTS}")
 
+    def first_value(word):
+        try:
+            return spelled(next(Edn("--initial", word).forms())[1])
+        except (NotTaken, StopIteration):
+            return parser.error(f"{word!r} is not a value in EDN")
+
     parser = Parser(description="Makes histories for snapjudge of histories that Jepsen recorded.")
     parser.add_argument("--into", metavar="DIR", help="writes each history into DIR")
-    parser.add_argument("--initial", metavar="WORD", help="what a read shows of a key that nobody has written, else nil")
+    parser.add_argument("--initial", metavar="WORD", type=first_value, help="what a read shows of a key that nobody has written, else nil")
     parser.add_argument("--versions", action="store_true", help="operations have `version`, by which the store orders writes")
     parser.add_argument("--events", metavar="N", type=events, default=EVENT_LIMIT, help=f"how many events a history may have, else {EVENT_LIMIT}")
     parser.add_argument("histories", metavar="HISTORY", nargs="+", help="a history in EDN or lines of JSON")
-    return parser.parse_args()
+    words = parser.parse_args()
+    if words.into is None and len(words.histories) > 1:
+        parser.error(f"{len(words.histories)} histories can't go to standard output: give --into DIR")
+    return words
 
 
 def write(path, text):
@@ -311,33 +325,32 @@ def write(path, text):
         file.write(text)
 
 
-def run(words):
-    initial = None if words.initial is None else spelled(next(Edn("--initial", words.initial).forms())[1])
-    for name in words.histories:
-        with open(name, encoding="utf-8-sig", errors="surrogateescape") as file:
-            made = list(histories(name, file.read(), initial, words.versions, words.events))
-        if not made:
-            raise NotTaken(name, 1, "no read has ended, so there is nothing to judge")
-        if words.into is None and (len(made) > 1 or len(words.histories) > 1):
-            raise NotTaken(name, 1, f"{len(made)} histories can't go to standard output: give --into DIR")
-        for at, (keys, history, table, told) in enumerate(made, 1):
-            for line in told:
-                print(f"{name}: {line}", file=sys.stderr)
-            if words.into is None:
-                sys.stdout.write(history)
-                continue
-            stem = os.path.splitext(os.path.relpath(name).replace("../", ""))[0].replace(os.sep, "-")
-            path = os.path.join(words.into, stem + (f"-{at}" if len(made) > 1 else ""))
-            os.makedirs(words.into, exist_ok=True)
-            write(f"{path}.csv", history)
-            lines = [f"key,{number},{json.dumps(key)}\n" for number, key in enumerate(keys)]
-            write(f"{path}.words", "".join(lines + [f"value,{number},{word}\n" for word, number in table.items()]))
-    sys.stdout.flush()
+def take(name, words):
+    """Writes the histories of one file."""
+    with open(name, encoding="utf-8-sig", errors="surrogateescape") as file:
+        made = list(histories(name, file.read(), words.initial, words.versions, words.events))
+    if not made:
+        raise NotTaken(name, 1, "no read has ended, so there is nothing to judge: let clients read too")
+    if words.into is None and len(made) > 1:
+        raise NotTaken(name, 1, f"{len(made)} histories can't go to standard output: give --into DIR")
+    for at, (keys, history, table, told) in enumerate(made, 1):
+        for line in told:
+            print(f"{name}: {line}", file=sys.stderr)
+        if words.into is None:
+            sys.stdout.write(history)
+            continue
+        stem = os.path.splitext(os.path.relpath(name).replace("../", ""))[0].replace(os.sep, "-")
+        path = os.path.join(words.into, stem + (f"-{at}" if len(made) > 1 else ""))
+        os.makedirs(words.into, exist_ok=True)
+        write(f"{path}.csv", history)
+        lines = [f"key,{number},{json.dumps(key)}\n" for number, key in enumerate(keys)]
+        write(f"{path}.words", "".join(lines + [f"value,{number},{word}\n" for word, number in table.items()]))
 
 
-def main():
+def status_of(step, *of):
+    """The status of a step, after standard error said why it failed."""
     try:
-        run(words_of_command())
+        step(*of)
     except Contradiction as found:
         print(found, file=sys.stderr)
         return 1
@@ -348,6 +361,12 @@ def main():
         print(f"from_jepsen.py: {error.filename or 'standard output'}: {error.strerror or error}", file=sys.stderr)
         return 4
     return 0
+
+
+def main():
+    words = words_of_command()
+    statuses = [status_of(take, name, words) for name in words.histories]
+    return max(*statuses, status_of(sys.stdout.flush))
 
 
 if __name__ == "__main__":

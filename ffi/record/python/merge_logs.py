@@ -41,7 +41,7 @@ PROCESS_LIMIT = 65536
 HAVE_DATA = (("begin", "update"), ("end", "view"))
 
 FAULTS = {
-    "header": f"the first line is {HEADER}",
+    "header": f"the first line must be {HEADER}",
     "fields": "a line has five fields",
     "ns": "a reading of the clock is a number from 0 to 18446744073709551615, without a sign or leading zeros",
     "event": "the field event is begin, end or drop",
@@ -51,21 +51,22 @@ FAULTS = {
     "have nothing; a component is at most 255, and a value has 32 bits, or with --table is a word",
     "version": "with --versions the end of an update has its VERSION or nothing, and an entry of a view is COMPONENT:VERSION:VALUE or "
     "COMPONENT::VALUE; a version is a number of at most 64 bits, and each line says the same one of an update",
-    "another": "a log has one process, and this line names another",
-    "back": "the clock went back: the line before has a later reading",
+    "another": "a log has one process, and this line names another: give each process a log of its own",
+    "back": "the clock went back, since the line before has a later reading: read a monotonic clock",
     "busy": "a call begins, and the last one has not ended: one whose fate is unknown is the last of its process",
-    "idle": "a call ends, and none is open",
+    "idle": "a call ends, and none is open: write the begin before the call",
     "otherop": "a call ends, and the open one is of the other kind",
     "close": "a call begins too soon after the last one: more than twice the clocks' error has to lie between them",
-    "twice": "another log has this process",
-    "overlap": "two updates of one component overlap, with --versions also where they are cut to what their order allows",
-    "unversioned": "no line tells the version of this update",
-    "versions": "two updates of one component have this version",
+    "twice": "another log has this process: give each process a number of its own",
+    "overlap": "two updates of one component overlap: let one process at a time write it; if one of them has no end, record versions for --versions",
+    "ordered": "two updates of one component overlap, even as they are cut to what their versions allow: let fewer processes write it",
+    "unversioned": "no line tells the version of this update: record it at its end, or with a view that shows it",
+    "versions": "two updates of one component have this version: record what the store gives to one update alone",
     "same": "a component gets one value twice, or the one that it has at first: make its values differ",
-    "initial": "--initial has no value for this component",
+    "initial": "--initial has no value for this component: give one for all, or one for each",
     "part": "the view does not list each component: choose a part by --part",
     "process-limit": "there is no number left for a process that has the updates of a component",
-    "toomany": f"the logs have more events than --events allows, or than {EVENT_LIMIT} where it is not given",
+    "toomany": f"there are more events than {EVENT_LIMIT}, or than --events allows: give it, up to {MOST_EVENTS}, here and to snapjudge check",
     "span": "the readings lie too far apart for a stamp of 64 bits",
 }
 
@@ -245,7 +246,7 @@ class Component:
         self.updates = self.cut([self.ended(update, update is kept[-1]) for update in kept])
         self.cut_short = sum(after != before for after, before in zip(self.updates, kept))
         for update, later in zip(self.updates, self.updates[1:]):
-            later.require(update.ended is not None and update.ended < later.begun, "overlap", update)
+            later.require(update.ended is not None and update.ended < later.begun, "ordered" if has_versions else "overlap", update)
 
     def may_go(self, update):
         """Whether the update has no end and no view shows it; without versions the last one of the component stays pending."""

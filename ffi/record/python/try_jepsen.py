@@ -151,7 +151,7 @@ class Jepsen(unittest.TestCase):
                 self.assertFalse(has_order(calls))
                 continue
             except LogError as error:
-                self.assertIn(error.word, ("overlap", "unversioned"))
+                self.assertIn(error.word, ("ordered", "unversioned"))
                 continue
             is_atomic = has_order(calls)
             found[is_atomic] += 1
@@ -257,9 +257,10 @@ class Jepsen(unittest.TestCase):
             with open(f"{folder}/out/right.csv") as file:
                 self.assertEqual((one.returncode, one.stdout), (0, file.read()))
             both = command("right.edn", "stale.edn")
-            self.assertEqual((both.returncode, both.stdout), (3, ""))
+            self.assertEqual((both.returncode, both.stdout), (5, ""))
             self.assertIn("give --into DIR", both.stderr)
             self.assertEqual(command("none.edn").returncode, 4)
+            self.assertEqual(command("--initial", "]", "right.edn").returncode, 5)
             self.assertEqual(command("--events", "0", "right.edn").returncode, 5)
             self.assertEqual(command("--events", "4", "right.edn").returncode, 3)
             with open(f"{folder}/writes.edn", "w") as file:

@@ -146,7 +146,7 @@ class Orders(unittest.TestCase):
                 found["contradiction"] += 1
                 continue
             except LogError as error:
-                self.assertIn(error.word, ("overlap", "unversioned"))
+                self.assertIn(error.word, ("ordered", "unversioned") if has_versions else ("overlap",))
                 found[error.word] += 1
                 continue
             self.assertEqual(has_order(calls_of(history)), is_atomic, (calls, history))
@@ -158,7 +158,7 @@ class Orders(unittest.TestCase):
 
     def test_versions(self):
         found = self.compare(True, 5)
-        self.assertEqual(set(found), {"atomic", "not atomic", "contradiction", "overlap"})
+        self.assertEqual(set(found), {"atomic", "not atomic", "contradiction", "ordered"})
         self.assertGreater(min(found.values()), COUNT // 100)
 
     def test_updates_in_turn(self):

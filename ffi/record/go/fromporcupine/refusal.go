@@ -18,7 +18,7 @@ var sentences = map[string]string{
 	"twice":       "a read shows one key twice: record one entry for each key",
 	"many":        "it reads more than 256 keys: record reads of fewer keys",
 	"same":        "two writes of a key have one value: give each write a value of its own, such as the client and a counter",
-	"overlap":     "two writes of a key overlap, so nobody knows their order: let one client at a time write a key, or record the version that the store gives to each write, and set Options.Versions",
+	"overlap":     "two writes of a key overlap: let one client at a time write a key; if one of the two has no outcome, record the version that the store gives to each write, and set Options.Versions",
 	"ordered":     "two writes of a key overlap, even if they are cut to what their versions allow: let fewer clients write a key",
 	"unversioned": "no operation tells the version of this write: record it with the write, or with each read",
 	"versions":    "two writes of a key have one version: record the number that the store gave to each write, such as a revision",
