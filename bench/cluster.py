@@ -9,6 +9,7 @@ sums must be those of the lines that the program writes of each file, which are 
 one of which is killed when half of the files are judged. Each run is made once, with the files in memory. The load is that of the last
 minute.
 """
+import asked  # answers --help
 import os
 import sys
 import tempfile

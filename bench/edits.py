@@ -5,6 +5,7 @@ usage: edits.py CRATE ..        (after ./build, which leaves the libraries below
 
 The crate is proved once, and each of its edits is tried over a copy of what that has kept. The gate tries many edits in one check.
 """
+import asked  # answers --help
 import os
 import resource
 import shutil

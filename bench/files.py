@@ -8,6 +8,7 @@ does the library in one process: one thread reads the files and judges them one 
 made in turn, 5 times by default. The table has the least and the median of the seconds of wall time, and the peak
 memory of a program in millions of bytes. All reports of a set must be the same byte for byte. The load is that of the last minute.
 """
+import asked  # answers --help
 import hashlib
 import multiprocessing
 import os

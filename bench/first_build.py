@@ -5,6 +5,7 @@ usage: first_build.py [RUNS [PROCESSORS]]        (one run on all processors by d
 
 The last run's seconds and memory by crate go to share/proof-times.txt, by which a build estimates how long it will still take.
 """
+import asked  # answers --help
 import os
 import resource
 import shutil

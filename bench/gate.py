@@ -3,6 +3,7 @@
 
 usage: gate.py LOG        as after `./test --anew | tee LOG`
 """
+import asked  # answers --help
 import re
 import sys
 

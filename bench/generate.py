@@ -13,6 +13,7 @@ writes       views that stay open while updates follow one another, and show a l
 random       calls of which each view shows any numbers: faults of all kinds
 newlines     EVENTS newlines and nothing else (COMPONENTS is not used)
 """
+import asked  # answers --help
 import random
 import sys
 

@@ -5,6 +5,7 @@ usage: least.py [RUNS]        (one run by default; each crate's least time is pr
 
 The first is what a crate takes before its own functions. The difference is what a function takes that does next to nothing.
 """
+import asked  # answers --help
 import os
 import resource
 import shutil

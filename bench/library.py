@@ -5,6 +5,7 @@ usage: library.py        (build first: ffi/build.sh and ./snapjudge)
 
 Each history is made by generate.py from the number 1. Each rate is the best of REPEATS runs of SECONDS.
 """
+import asked  # answers --help
 import os
 import subprocess
 import sys

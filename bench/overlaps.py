@@ -10,6 +10,7 @@ share of each component: in write faults the component of the later update, in r
 faults are all counted, and read faults of views that begin within eight of each other. Then come the runs that `check` calls atomic, and
 the medians of the wall time and the processor time of a run in milliseconds.
 """
+import asked  # answers --help
 import collections
 import os
 import resource

@@ -6,6 +6,7 @@ usage: proofs.py [MOST]        (after a first `./build --keep`; MOST functions a
 The prover writes a file for each part of a proof as soon as it has checked it. The span between two files that come one after the
 other is counted to the later. If a crate was proved by several jobs, what they did at the same time is so counted once.
 """
+import asked  # answers --help
 import collections
 import os
 import re

@@ -7,6 +7,7 @@ of them one start of the program judges. Each time is the least of three, taken 
 
 The objects are those of recorders/objects.c, and those of ffi/record in each language. A language whose compiler is missing is left out.
 """
+import asked  # answers --help
 import os
 import re
 import shutil

@@ -6,6 +6,7 @@ usage: results.py SCRIPT [WORD ..]        as in `results.py stamped 5`, which ru
 The page bench/results/SCRIPT.md has a part for each command. A part takes the place of an earlier one of the same command. If the
 script fails, the page stays as it is.
 """
+import asked  # answers --help
 import datetime
 import os
 import pathlib

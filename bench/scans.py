@@ -9,6 +9,7 @@ record, so their number is that of the calls that the text lacks. The text lacks
 of them: its begin, its tries and its end. The others are one for each try of the scans that answered. Stamps that a scan draws
 after the last record are not seen. So the mean may be a little too low if a run ends with a scan that was interfered with.
 """
+import asked  # answers --help
 import os
 import subprocess
 import sys

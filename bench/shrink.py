@@ -8,6 +8,7 @@ A history has up to EVENTS events of 4 components. Those of the kinds integrity 
 view. Those of the kind read have updates that stay open while views show any of them. Those of the kind write have updates, and
 one view that is open all the while. What comes out with another kind of first fault is left out.
 """
+import asked  # answers --help
 import os
 import random
 import subprocess

@@ -5,6 +5,7 @@ turn.
 
 usage: stamped.py [RUNS]
 """
+import asked  # answers --help
 import os
 import subprocess
 import sys

@@ -10,6 +10,7 @@ the median. Lines after it say how long a second thread of a C program takes to 
 They also say how long the first one takes to start it: when the system chooses its processor, when another one is named for
 it, and with the priority of real time if that is allowed. The last line has the load before it.
 """
+import asked  # answers --help
 import contextlib
 import os
 import statistics

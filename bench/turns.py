@@ -6,6 +6,7 @@ usage: turns.py [SEEDS [RUNS [PROGRAM]]]: the seeds of each row, 10 by default, 
 The objects are those of recorders/objects.c, all wrong. A cell has the median of the runs until one was not atomic, over all seeds, and
 how many seeds found one. With a median over RUNS fewer than half of the seeds did.
 """
+import asked  # answers --help
 import os
 import re
 import statistics

@@ -61,8 +61,9 @@ def run(answer):
     """Writes the lines that answer the text of a file or of standard input, and ends with their status."""
     program, name = sys.argv[0].replace("\\", "/").split("/")[-1], sys.argv[1] if len(sys.argv) == 2 else 0
     if len(sys.argv) > 2 or sys.argv[-1].startswith("-"):
-        print(f"usage: {program} [FILE]", file=sys.stderr)
-        sys.exit(5)
+        is_asked = sys.argv[1:] in (["-h"], ["--help"])
+        print(f"usage: {program} [FILE]", file=sys.stdout if is_asked else sys.stderr)
+        sys.exit(0 if is_asked else 5)
     try:
         with open(name, "rb") as file:
             text = file.read()

@@ -15,6 +15,10 @@ case $# in
   *) set -- - ;;
 esac
 case ${1-} in
+  -h | --help)
+    sed -n 's/^# usage: /usage: /p' "$0"
+    exit 0
+    ;;
   -*)
     sed -n 's/^# usage: /usage: /p' "$0" >&2
     exit 5

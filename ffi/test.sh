@@ -5,10 +5,10 @@
 # usage: test.sh [--built BEGUN], as build.sh
 unset CDPATH
 set -u
+part=ffi
+. "$(dirname "${BASH_SOURCE[0]}")/../share/lib.sh"
 cd "$(dirname "${BASH_SOURCE[0]}")" || exit 1
 build=$PWD/build
-part=ffi
-. ../share/lib.sh
 
 has_pip() {
   python3 -m pip --version >/dev/null 2>&1 && return 0

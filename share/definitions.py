@@ -174,4 +174,6 @@ def main(asked):
 
 
 if __name__ == "__main__":
+    if sys.argv[1:] in (["-h"], ["--help"]):
+        sys.exit(print(__doc__.strip()))
     main(sys.argv[1:])

@@ -1,6 +1,14 @@
 # What the scripts of tests share; each reads this file. It counts what passes, fails and is skipped, and ends by `end_tests`. Its own
 # name in the gate is in `part`. It has the folder $room, which goes at its end, even if a signal ends it.
 
+# A script that is asked for help writes its own head, and does nothing else.
+case ${1-} in
+  -h | --help)
+    sed -n '2,/^[^#]/ s/^# \{0,1\}//p' "$0"
+    exit 0
+    ;;
+esac
+
 passed=0
 failed=0
 skipped=0

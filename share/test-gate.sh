@@ -1,6 +1,12 @@
 #!/usr/bin/env bash
 # Tries the gate itself over a tree whose parts do what a file says: each part in turn fails, dies or is not there, and each
 # must make the gate red. The last line is 'N passed, M failed'.
+case ${1-} in
+  -h | --help)
+    sed -n '2,/^[^#]/ s/^# \{0,1\}//p' "$0"
+    exit 0
+    ;;
+esac
 set -u
 top=$(cd "$(dirname "${BASH_SOURCE[0]}")/.." && pwd)
 room=$(mktemp -d) || exit 1

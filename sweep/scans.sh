@@ -3,6 +3,12 @@
 # some run is not atomic: it is looked for until it comes, since on a machine with few processors many runs may be atomic by chance.
 # The last line is 'N passed, M failed'.
 # usage: scans.sh [PROGRAM]; it is built/snapjudge by default
+case ${1-} in
+  -h | --help)
+    sed -n '2,/^[^#]/ s/^# \{0,1\}//p' "$0"
+    exit 0
+    ;;
+esac
 set -u
 here=$(cd "$(dirname "${BASH_SOURCE[0]}")" && pwd)
 program=$(realpath -m "${1:-$here/../built/snapjudge}")

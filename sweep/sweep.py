@@ -599,6 +599,8 @@ def main(folder):
     return passed < len(TESTS.tests)
 
 
+if sys.argv[1:] in (["-h"], ["--help"]):
+    sys.exit(print(__doc__.strip()))
 PROGRAM = os.path.abspath(sys.argv[2])
 TESTS = Tests()
 with tempfile.TemporaryDirectory() as FOLDER:

@@ -3,6 +3,12 @@
 # memory the same, if the crate snap_sweep is built. The last line is 'N passed, M failed', with ', K skipped' after it if
 # something is missing, which a line before it names.
 # usage: test.sh [PROGRAM], the program itself and not its launcher; it is built/snapjudge by default
+case ${1-} in
+  -h | --help)
+    sed -n '2,/^[^#]/ s/^# \{0,1\}//p' "$0"
+    exit 0
+    ;;
+esac
 unset CDPATH
 set -u
 here=$(cd "$(dirname "${BASH_SOURCE[0]}")" && pwd)

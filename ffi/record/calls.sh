@@ -1,6 +1,10 @@
 #!/bin/sh
 # Lists the completed calls of a stamped history by the numbers that a report gives them: number, process, kind, its first and
 # last stamp, and what it wrote or showed. usage: calls.sh < caught.csv
+if [ "${1-}" = --help ]; then
+  echo "usage: calls.sh < caught.csv"
+  exit 0
+fi
 if [ $# -gt 0 ]; then
   echo "usage: calls.sh < caught.csv" >&2
   exit 5
