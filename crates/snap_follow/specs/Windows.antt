@@ -27,11 +27,11 @@ events_of told = flat_map (λ t. t.events) told
 abbrev pub EndsFirst : ℕ → List Event → List Event → Type 0
 EndsFirst least before window = (front rest : List Event) → window ≡ front ++ rest → front ≢ [] → rest ≢ [] → IsQuiet (before ++ front) → length front < least
 
--- a window that has ended: it has `least` events, and no call is open behind it
+-- a window that has ended: it has `least` events, and no call is open after it
 abbrev pub HasEnded : ℕ → List Event → List Event → Type 0
 HasEnded least before window = (least ≤ length window) × IsQuiet (before ++ window)
 
--- a window behind others has their number and one more, the counts of its own events, and the verdict on them from what the others left
+-- a window after others has their number and one more, the counts of its own events, and the verdict on them from what the others left
 pub record IsToldAfter (least : ℕ) (front : List Told) (t : Told) : Type 0 where
   pub number : t.number ≡ stop (length front + 1)
   pub span : IsSpanOf t.window.span t.events
