@@ -2,8 +2,7 @@
 ghost use Rattle.std.specs.Prelude.{◌≡◌, IfOk};
 
 use snap_check::RunFault;
-use snap_commands::Failure;
-use snap_terminal::Outlet;
+use snap_commands::{Failure, Outlet};
 use std::io::Write;
 
 /// The number, which the file VERSION of the repository has too.
