@@ -30,6 +30,7 @@ CONTRACT, NEGLIGENCE OR OTHER TORTIOUS ACTION, ARISING OUT OF OR IN CONNECTION W
 import argparse
 import bisect
 import dataclasses
+import heapq
 import re
 import sys
 
@@ -58,8 +59,7 @@ FAULTS = {
     "otherop": "a call ends, and the open one is of the other kind",
     "close": "a call begins too soon after the last one: more than twice the clocks' error has to lie between them",
     "twice": "another log has this process: give each process a number of its own",
-    "overlap": "two updates of one component overlap: let one process at a time write it; if one of them has no end, record versions for --versions",
-    "ordered": "two updates of one component overlap, even as they are cut to what their versions allow: let fewer processes write it",
+    "overlap": "two updates of one component overlap: let one process at a time write it, or record the versions of the store for --versions",
     "unversioned": "no line tells the version of this update: record it at its end, or with a view that shows it",
     "versions": "two updates of one component have this version: record what the store gives to one update alone",
     "same": "a component gets one value twice, or the one that it has at first: make its values differ",
@@ -105,7 +105,7 @@ class Placed:
 @dataclasses.dataclass
 class Call(Placed):
     """A call without an end is pending. `shown` has, by components, what an update writes or a view shows; None is a first value.
-    `versions` has, by components, the versions that its lines have.
+    `versions` has, by components, the versions that its lines have. A cut comes after the begins at its reading, and before the ends.
     """
 
     log: str
@@ -116,6 +116,8 @@ class Call(Placed):
     shown: dict
     ended: "int | None" = None
     versions: dict = dataclasses.field(default_factory=dict)
+    begun_in_turn: "int | None" = None  # of an update that was cut: its turn among the cuts at that reading
+    ended_in_turn: "int | None" = None
 
     def component(self):
         """The component of an update."""
@@ -223,7 +225,8 @@ def read_log(log, text, error=0, has_words=False, has_versions=False):
 
 
 class Component:
-    """The updates of one component, as the history has them: `updates` are in the order of their numbers, and none overlaps the next.
+    """The updates of one component, as the history has them: `updates` are in the order of their numbers. Once those that overlap are
+    parted, none overlaps the next.
 
     Without versions their begins give that order. With them the versions do, and each update is cut to the times that the order
     allows it: it comes after the begin of each update with a lower version, and before the end of each with a higher one. Then the
@@ -244,9 +247,22 @@ class Component:
             for update, later in zip(kept, kept[1:]):
                 later.require(update.versions[component] != later.versions[component], "versions", update)
         self.updates = self.cut([self.ended(update, update is kept[-1]) for update in kept])
-        self.cut_short = sum(after != before for after, before in zip(self.updates, kept))
+        self.kept = kept
         for update, later in zip(self.updates, self.updates[1:]):
-            later.require(update.ended is not None and update.ended < later.begun, "ordered" if has_versions else "overlap", update)
+            later.require(has_versions or not overlap(update, later), "overlap", update)
+
+    @property
+    def cut_short(self):
+        return sum(after != before for after, before in zip(self.updates, self.kept))
+
+    def part(self, moments):
+        """Cuts updates that overlap the next one, at the moment of that one and in its turn."""
+        for place, (moment, turn) in enumerate(moments[1:], 1):
+            update, later = self.updates[place - 1 : place + 1]
+            if overlap(update, later):
+                if update.ended is None or update.ended >= moment:
+                    self.updates[place - 1] = dataclasses.replace(update, ended=moment, ended_in_turn=turn)
+                self.updates[place] = dataclasses.replace(later, begun=moment, begun_in_turn=turn)
 
     def may_go(self, update):
         """Whether the update has no end and no view shows it; without versions the last one of the component stays pending."""
@@ -287,6 +303,57 @@ class Component:
             yield f"component {self.component}: updates cut short: {self.cut_short}; atomic stays as it is, regular may become stricter"
 
 
+def overlap(update, later):
+    """Whether an update overlaps the next one of its component."""
+    return update.ended is None or update.ended >= later.begun
+
+
+def moments_of(updates, views):
+    """By component, a moment of each update and its turn among all: if some order of all calls explains the views, one in which the
+    updates take effect at these moments. Each call takes effect at its begin, or when the last call takes effect that must come before
+    it. Those are the update that a view shows, the view that misses an update, and the update before of the component.
+    """
+    calls = [update for of in updates.values() for update in of] + views
+    places = {(k, update.value()): at for k, of in updates.items() for at, update in enumerate(of)}
+    first, later, waits = {}, [[] for _ in calls], [0] * len(calls)
+    for k, of in updates.items():
+        first[k] = sum(map(len, list(updates.values())[: len(first)]))
+
+    def must_follow(after, before):
+        later[before].append(after)
+        waits[after] += 1
+
+    for k, of in updates.items():
+        for at in range(first[k] + 1, first[k] + len(of)):
+            must_follow(at, at - 1)
+    for at, view in enumerate(views, len(calls) - len(views)):
+        for k, of in updates.items():
+            shown = places.get((k, view.shown.get(k)), -1)
+            if shown >= 0:
+                must_follow(at, first[k] + shown)
+            if shown + 1 < len(of):
+                must_follow(first[k] + shown + 1, at)
+    moments, turns = [call.begun for call in calls], [None] * len(calls)
+    ready = [(moments[at], at) for at, count in enumerate(waits) if not count]
+    heapq.heapify(ready)
+    for turn in range(len(calls)):
+        if not ready:
+            break
+        moment, at = heapq.heappop(ready)
+        if calls[at].ended is not None and calls[at].ended < moment:
+            break
+        turns[at] = turn
+        for after in later[at]:
+            moments[after] = max(moments[after], moment)
+            waits[after] -= 1
+            if not waits[after]:
+                heapq.heappush(ready, (moments[after], after))
+    if None in turns:  # no order explains the views, and then any will do
+        moments = [call.begun for call in calls]
+        turns = range(len(calls))
+    return {k: [(moments[at], turns[at]) for at in range(first[k], first[k] + len(of))] for k, of in updates.items()}
+
+
 class Board:
     """All calls, as the history has them, and the updates of each component, numbered from 1 on."""
 
@@ -304,8 +371,12 @@ class Board:
             updates.setdefault(k, []).append(update)
         free = self.free_processes(calls)
         self.calls = [call for call in calls if call.op == "view"]
-        for k in sorted(updates):
-            component = Component(k, updates[k], first_shown, has_versions)
+        components = {k: Component(k, updates[k], first_shown, has_versions) for k in sorted(updates)}
+        if has_versions:
+            moments = moments_of({k: component.updates for k, component in components.items()}, views)
+            for k, component in components.items():
+                component.part(moments[k])
+        for k, component in components.items():
             process = None
             if len(component.writers) > 1:
                 process = next(free, None)
@@ -386,9 +457,17 @@ def stamped(calls, limit):
     def stamp(call, reading, is_end):
         return (2 * (reading - least) + is_end) * len(places) + places[call.process]
 
-    begins = [(stamp(call, call.begun, False), "begin", call) for call in calls]
-    ends = [(stamp(call, call.ended, True), "end", call) for call in calls if call.ended is not None]
+    def place(reading, turn, call, is_end):
+        """Cuts at a reading come after its begins and before its ends, in their turn."""
+        return (reading, 2 * is_end, places[call.process]) if turn is None else (reading, 1, 2 * turn + (not is_end))
+
+    begins = [(place(call.begun, call.begun_in_turn, call, False), "begin", call) for call in calls]
+    ends = [(place(call.ended, call.ended_in_turn, call, True), "end", call) for call in calls if call.ended is not None]
     events = sorted(begins + ends, key=lambda event: event[0])
+    if any(call.begun_in_turn is not None for call in calls):
+        events = [(at, event, call) for at, (_, event, call) in enumerate(events)]
+    else:
+        events = [(stamp(call, reading, event == "end"), event, call) for (reading, _, _), event, call in events]
     if len(events) > limit:
         raise LogError("toomany")
     if events and events[-1][0] >= 1 << 64:

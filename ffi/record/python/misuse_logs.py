@@ -247,7 +247,12 @@ class Logs(unittest.TestCase):
         """The versions give the order, and each update is cut to the times that it allows. The first one is shown before it ends."""
         first = log_of("1,begin,0,update,5:1", "9,end,0,update,7")
         second = log_of("2,begin,1,update,5:2", "12,end,1,update,8")
-        self.assertRefused("1.log:2: ", "ordered", [first, second, log_of(*view(2, 4, 8, "5:7:1"))], "--versions")
+        told = "component 5: processes 0 and 1 update it; in the history its updates have process 3\n"
+        told += "component 5: updates cut short: 2; atomic stays as it is, regular may become stricter\n"
+        for shown, is_atomic in (("5:7:1", True), ("5:8:2", True), ("5:", True), ("5:7:1 6:7:9", False)):
+            status, history, said = self.merge([first, second, log_of(*view(2, 4, 8, shown))], "--versions")
+            self.assertEqual((status, said), (0, told))
+            self.assertEqual(judge(history, "--quiet")[0] == 0, is_atomic)
         later = log_of("10,begin,1,update,5:2", "12,end,1,update,8")
         history = self.merged([first, later, log_of(*view(2, 4, 8, "5:7:1"))][:1], "--versions")
         self.assertEqual(history, f"{STAMPED}\n0,begin,0,update,5:1:1\n17,end,0,update,\n")
@@ -334,7 +339,7 @@ class Logs(unittest.TestCase):
         self.assertRefused("1.log:4: ", "overlap", logs)
         self.assertTrue(self.merge(logs)[2].endswith(": the other one is 0.log:2\n"))
         versions = [log_of("1,begin,0,update,5:1", "8,end,0,update,1"), log_of("7,begin,1,update,5:2", "9,end,1,update,2")]
-        self.assertRefused("1.log:2: ", "ordered", versions, "--versions")
+        self.assertEqual(self.merge(versions, "--versions")[0], 0)
 
     def test_versions_that_are_wrong(self):
         first = log_of("1,begin,0,update,5:1", "2,end,0,update,4")

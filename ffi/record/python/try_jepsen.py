@@ -151,8 +151,7 @@ class Jepsen(unittest.TestCase):
                 self.assertFalse(has_order(calls))
                 continue
             except LogError as error:
-                self.assertIn(error.word, ("ordered", "unversioned"))
-                continue
+                self.fail(error)
             is_atomic = has_order(calls)
             found[is_atomic] += 1
             self.assertEqual(has_order(calls_of(history)), is_atomic)

@@ -26,9 +26,10 @@ NEVER = 10**6  # where a call without an end ends
 Call = collections.namedtuple("Call", "op begun ended component number")
 
 
-def random_calls(draw):
+def random_calls(draw, step=1):
+    """Calls by a clock of this step: if it is coarse, some readings are equal."""
     count = draw.randint(3, 6)
-    times, calls, updates = list(range(2 * count)), [], [0] * COMPONENTS
+    times, calls, updates = [time // step for time in range(2 * count)], [], [0] * COMPONENTS
     draw.shuffle(times)
     for at in range(count):
         begun, ended = sorted(times[2 * at : 2 * at + 2])
@@ -135,7 +136,7 @@ class Orders(unittest.TestCase):
         """How the runs ended, by words."""
         draw, found, judged = random.Random(seed), collections.Counter(), []
         for _ in range(COUNT // 2):
-            calls = random_calls(draw)
+            calls = random_calls(draw, draw.choice((1, 1, 3)))
             if not has_versions and not in_turn(calls):
                 continue
             is_atomic = has_order(calls)
@@ -146,7 +147,7 @@ class Orders(unittest.TestCase):
                 found["contradiction"] += 1
                 continue
             except LogError as error:
-                self.assertIn(error.word, ("ordered", "unversioned") if has_versions else ("overlap",))
+                self.assertEqual((error.word, has_versions), ("overlap", False))
                 found[error.word] += 1
                 continue
             self.assertEqual(has_order(calls_of(history)), is_atomic, (calls, history))
@@ -158,7 +159,7 @@ class Orders(unittest.TestCase):
 
     def test_versions(self):
         found = self.compare(True, 5)
-        self.assertEqual(set(found), {"atomic", "not atomic", "contradiction", "ordered"})
+        self.assertEqual(set(found), {"atomic", "not atomic", "contradiction"})
         self.assertGreater(min(found.values()), COUNT // 100)
 
     def test_updates_in_turn(self):
