@@ -16,6 +16,7 @@ type board struct {
 	firstShown map[entry]*call // the read that ended first of those that show it
 	numbers    map[entry]int
 	inOrder    map[int][]*call // the writes of a component, by their numbers
+	whole      map[int][]*call // the same before they were cut
 	reads      []*call
 	processes  map[*call]int
 	free       int // no process has this number, nor one above it
@@ -53,7 +54,7 @@ func (reader *reader) parts() [][]int {
 
 func (reader *reader) history(components []int) (History, error) {
 	made := &board{reader: reader, components: components, writes: map[entry]*call{}, firstShown: map[entry]*call{},
-		numbers: map[entry]int{}, inOrder: map[int][]*call{}, processes: map[*call]int{}}
+		numbers: map[entry]int{}, inOrder: map[int][]*call{}, whole: map[int][]*call{}, processes: map[*call]int{}}
 	for _, fill := range []func() error{made.fill, made.tellVersions, made.order, made.name} {
 		if err := fill(); err != nil {
 			return History{}, err
@@ -125,7 +126,7 @@ func (board *board) tellVersions() error {
 	return nil
 }
 
-// Puts the writes of each component in order, so that none overlaps the next, and numbers them.
+// Puts the writes of each component in order, numbers them, and parts those that overlap.
 func (board *board) order() error {
 	for _, it := range board.writes {
 		board.inOrder[it.components[0]] = append(board.inOrder[it.components[0]], it)
@@ -138,6 +139,14 @@ func (board *board) order() error {
 			board.numbers[write.written()] = at + 1
 		}
 	}
+	if board.reader.options.Versions {
+		board.part()
+	}
+	for _, component := range board.components {
+		if count := countCut(board.whole[component], board.inOrder[component]); count > 0 {
+			board.tell("key %v: writes cut short: %d; atomic stays as it is, regular may become stricter", board.reader.keys[component], count)
+		}
+	}
 	return nil
 }
 
@@ -148,9 +157,7 @@ func (board *board) orderOne(component int) error {
 	if left := len(writes) - len(kept); left > 0 {
 		board.tell("key %v: writes of unknown outcome that no read shows, left out: %d", board.reader.keys[component], left)
 	}
-	word := "overlap"
 	if board.reader.options.Versions {
-		word = "ordered"
 		if err := byVersions(component, kept); err != nil {
 			return err
 		}
@@ -166,15 +173,12 @@ func (board *board) orderOne(component int) error {
 		}
 		ended = cut
 	}
-	if count := countCut(kept, ended); count > 0 {
-		board.tell("key %v: writes cut short: %d; atomic stays as it is, regular may become stricter", board.reader.keys[component], count)
-	}
-	for at := 1; at < len(ended); at++ {
-		if ended[at-1].ended >= ended[at].begun {
-			return refusal(word, ended[at].place, ended[at-1].place)
+	for at := 1; at < len(ended) && !board.reader.options.Versions; at++ {
+		if overlap(ended[at-1], ended[at]) {
+			return refusal("overlap", ended[at].place, ended[at-1].place)
 		}
 	}
-	board.inOrder[component] = ended
+	board.inOrder[component], board.whole[component] = ended, kept
 	return nil
 }
 
@@ -253,7 +257,7 @@ func cut(writes []*call) ([]*call, error) {
 func countCut(before, after []*call) int {
 	count := 0
 	for at := range before {
-		if before[at].begun != after[at].begun || before[at].ended != after[at].ended {
+		if before[at].begun != after[at].begun || before[at].ended != after[at].ended || after[at].begunTurn+after[at].endedTurn > 0 {
 			count++
 		}
 	}
@@ -375,14 +379,29 @@ func (board *board) nameWrites(component int) {
 	}
 }
 
-// A moment is the begin or the end of a call.
+// A moment is the begin or the end of a call. One at which writes are parted has a turn.
 type moment struct {
 	at    int64
 	isEnd bool
+	turn  int
 	call  *call
 }
 
-// The begins and ends of all calls in the order of time: at one moment the begins come first, so that such calls overlap.
+// At one moment begins come first, so that such calls overlap. Then writes are parted, each in its turn.
+func (it moment) before(other moment) bool {
+	if it.at != other.at {
+		return it.at < other.at
+	}
+	if it.turn > 0 && it.turn == other.turn {
+		return it.isEnd && !other.isEnd
+	}
+	if it.turn > 0 && other.turn > 0 {
+		return it.turn < other.turn
+	}
+	return !it.isEnd && it.turn == 0 && (other.isEnd || other.turn > 0) || it.turn > 0 && other.isEnd && other.turn == 0
+}
+
+// The begins and ends of all calls in the order of time.
 func (board *board) moments() []moment {
 	calls := append([]*call(nil), board.reads...)
 	for _, component := range board.components {
@@ -391,15 +410,12 @@ func (board *board) moments() []moment {
 	sort.Slice(calls, func(i, j int) bool { return calls[i].before(calls[j]) })
 	var moments []moment
 	for _, it := range calls {
-		moments = append(moments, moment{it.begun, false, it})
+		moments = append(moments, moment{it.begun, false, it.begunTurn, it})
 		if !it.isPending() {
-			moments = append(moments, moment{it.ended, true, it})
+			moments = append(moments, moment{it.ended, true, it.endedTurn, it})
 		}
 	}
-	sort.SliceStable(moments, func(i, j int) bool {
-		a, b := moments[i], moments[j]
-		return a.at < b.at || a.at == b.at && !a.isEnd && b.isEnd
-	})
+	sort.SliceStable(moments, func(i, j int) bool { return moments[i].before(moments[j]) })
 	return moments
 }
 

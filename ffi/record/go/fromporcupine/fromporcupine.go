@@ -167,6 +167,8 @@ type call struct {
 	components    []int
 	values        map[int]any // by components; nil is the first value
 	versions      map[int]uint64
+	begunTurn     int // of a write that was parted from the one before: its turn at that moment
+	endedTurn     int // of one that was parted from the next
 }
 
 const never = math.MaxInt64

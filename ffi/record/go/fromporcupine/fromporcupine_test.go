@@ -246,7 +246,7 @@ func TestSmallRunsBesideAllOrders(t *testing.T) {
 			}
 		}
 		t.Log(versions, found)
-		for _, word := range map[bool][]string{true: {"true", "false", "contradiction", "ordered"}, false: {"true", "false", "overlap"}}[versions] {
+		for _, word := range map[bool][]string{true: {"true", "false", "contradiction"}, false: {"true", "false", "overlap"}}[versions] {
 			if found[word] < 50 {
 				t.Errorf("%d runs ended as %s", found[word], word)
 			}
@@ -500,7 +500,6 @@ func TestRefusals(t *testing.T) {
 		"many":        {done(0, 1, 2, read(manyEntries(ComponentLimit+1)...))},
 		"same":        {first, done(0, 5, 6, write("x", 1, 8)), done(0, 7, 8, x(1, 7))},
 		"overlap":     {first, done(1, 4, 6, write("x", 2, 8)), done(0, 7, 8, x(1, 7))},
-		"ordered":     {first, done(1, 2, 3, write("x", 2, 8)), done(0, 7, 8, x(1, 7))},
 		"unversioned": {first, done(1, 5, 6, write("x", 2, 0)), done(0, 7, 8, x(1, 7))},
 		"versions":    {first, done(1, 5, 6, write("x", 2, 7)), done(0, 7, 8, x(1, 7))},
 		"version":     {first, done(0, 7, 8, x(1, 9))},
